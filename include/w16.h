@@ -11,7 +11,7 @@
  * - One call at a time for each machine.
  * - Each pointer is valid, and so is each buffer for so many bytes as are given with it; none overlaps another one or the struct w16.
  * - The program has rattle_alloc, rattle_realloc and rattle_dealloc, by which the library takes memory of it (examples/c/heap.c has them over malloc).
- *   It does so in w16_new and w16_local_init alone.
+ *   It does so in w16_new, w16_add_file, w16_local_init, w16_builtin, w16_load_module and w16_load_library alone.
  */
 #ifndef W16_H
 #define W16_H
@@ -42,7 +42,12 @@ enum {
     W16_FAULT_READ_ONLY = 5,   /* the object's bytes are code, which can't be written */
     W16_FAULT_NOT_PRESENT = 6, /* the object has no bytes */
     W16_FAULT_LIMIT = 7,       /* the access goes past the object's end */
-    W16_END = 8                /* no part of the heap begins at the address or above it */
+    W16_END = 8,               /* no part of the heap begins at the address or above it */
+    W16_FAULT_ROOM = 9,        /* there is no room for the bytes of a module's object */
+    W16_FAULT_STORE = 10,      /* a module's file can't be read */
+    W16_FAULT_DAMAGED = 11,    /* a module's file reads otherwise than it did at the load */
+    W16_EXISTS = 12,           /* a file has the name already: nothing was done */
+    W16_NONE_MISSING = 13      /* no file is known to be missing */
 };
 
 /* A new machine of so many bytes of memory, a multiple of 32 from 32 to 16,777,216, and so many selectors, from 1 to 8,160. It replaces one that is
@@ -90,6 +95,53 @@ uint8_t w16_read(w16 *machine, uint32_t pointer, uint8_t *into, size_t count);
 uint8_t w16_write(w16 *machine, uint32_t pointer, const uint8_t *bytes, size_t count);
 /* So many times the same byte to a far pointer; W16_BAD_SIZE for more than 65,536. */
 uint8_t w16_fill(w16 *machine, uint32_t pointer, uint32_t count, uint8_t byte);
+
+/* Module files. They are kept in memory, and named by so many bytes of text, in any case of the letters of ASCII. */
+
+/* Adds a file, whose name and bytes are copied. W16_EXISTS: a file has that name, and stays as it is, since a module may be loaded from it. */
+uint8_t w16_add_file(w16 *machine, const char *name, size_t length, const uint8_t *bytes, size_t count);
+/* The name of the file that a load missed: ask behind one that answered 2 or 20, add the file, and load again. It is the last name, of at most
+ * W16_MOST_NAME bytes, by which no file was found; W16_NONE_MISSING where a file was found or added since. W16_BAD_SIZE: the buffer is shorter. */
+uint8_t w16_missing_file(w16 *machine, char *name, size_t room, size_t *length);
+
+/* The longest name that w16_missing_file tells, in bytes; no zero ends it. */
+#define W16_MOST_NAME 259
+
+/* Modules. Far accesses and calls on resources fetch bytes from their files, and may meet W16_FAULT_ROOM, _STORE and _DAMAGED. */
+
+/* What names an entry of a module, a resource or a type: three arguments at once, a text and its length, or no text and a number. */
+#define W16_TEXT(text) (text), sizeof(text) - 1, 0
+#define W16_NUMBER(number) "", 0, (number)
+
+/* A module of a name without a file: its handle, or 0. */
+uint8_t w16_builtin(w16 *machine, const char *name, size_t length, uint16_t *handle);
+/* Loads a module by the name of its file, and all that it refers to: its handle, or why it is refused, a number of at most 32. */
+uint8_t w16_load_module(w16 *machine, const char *file, size_t length, uint16_t *handle);
+/* The same, and of an application that is there one use more. */
+uint8_t w16_load_library(w16 *machine, const char *file, size_t length, uint16_t *handle);
+/* One use less; then modules go that have no use and no importer: 1 where the handle still names a module, else 0. */
+uint8_t w16_free_library(w16 *machine, uint16_t handle, uint16_t *left);
+uint8_t w16_free_module(w16 *machine, uint16_t handle, uint16_t *left);
+/* The handle of the module of a name, or 0. */
+uint8_t w16_get_module_handle(w16 *machine, const char *name, size_t length, uint16_t *handle);
+/* Its uses and importers together, or 0. */
+uint8_t w16_get_module_usage(w16 *machine, uint16_t handle, uint16_t *uses);
+/* A far pointer to an entry, by W16_TEXT(name) or W16_NUMBER(ordinal); or 0. */
+uint8_t w16_get_proc_address(w16 *machine, uint16_t handle, const char *name, size_t length, uint16_t ordinal, uint32_t *pointer);
+
+/* Resources. Name and type are each a W16_TEXT or a W16_NUMBER. */
+
+/* The place of a resource in its module's table, from 1, or 0. */
+uint8_t w16_find_resource(w16 *machine, uint16_t handle, const char *name, size_t length, uint16_t number, const char *type, size_t type_length,
+                          uint16_t type_number, uint16_t *place);
+/* Loads the resource at a place: its object's handle, or 0. One that is there has a load more. */
+uint8_t w16_load_resource(w16 *machine, uint16_t handle, uint16_t place, uint16_t *object);
+/* As w16_global_lock, once the object has its bytes again. */
+uint8_t w16_lock_resource(w16 *machine, uint16_t object, uint32_t *pointer);
+/* One load less; the last frees the object, if it isn't locked: 0, or 1 where it is refused. */
+uint8_t w16_free_resource(w16 *machine, uint16_t object, uint16_t *refused);
+/* How many bytes it has in its file, or 0. */
+uint8_t w16_sizeof_resource(w16 *machine, uint16_t handle, uint16_t place, uint32_t *size);
 
 /* The heap as it stands. */
 

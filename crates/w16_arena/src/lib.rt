@@ -6,6 +6,7 @@
 #![tactic(auto)]
 
 ghost use Rattle.std.specs.Prelude.{◌≡◌, ◌≢◌, ◌<◌, ◌≤◌, ◌⊎◌, ℕ, [], length, replicate, slice_get, Some, None, IfOk, IfSome, IfNone};
+ghost use Rattle.w16_model.specs.Changes.{without};
 ghost use Rattle.w16_model.specs.Heap.{IsMultiple};
 ghost use Rattle.w16_model.specs.Table.{block_with, entry_at, IsSound};
 ghost use Rattle.w16_holes.specs.Holes.{add_span};
@@ -122,6 +123,13 @@ impl<H: HoleList> Arena<H> {
         ensures { result ≡ slice_get self.now.table.order i }
     {
         self.order.nth(i)
+    }
+
+    /// How many objects the order of use has beside one, which needn't be in it.
+    pub fn order_len_without(&self, id: u32) -> usize
+        ensures { result ≡ length (without id self.now.table.order) }
+    {
+        self.order.len_without(id)
     }
 
     /// What is known of an object beside its bytes, if it is there.

@@ -22,3 +22,4 @@ pub mod Lifting
 pub mod Rising
 pub mod RunHoles
 pub mod RunKept
+pub mod Ending

@@ -1,6 +1,7 @@
 -- The blocks from an address on, one after another.
-use Rattle.w16_blocks.proofs.Common.{ℕ, zero, suc, ◌≡◌, ◌<◌, ◌≤◌, List, [], ◌∷◌, drop, Some, None, is_some, arith, refl, sym, ap, ◌∙◌, subst, inl, inr, slice_get, cases_lt, false≢true, AllByRecursion, Block, IsLaid, block_end, Each-map, laid_each, Layout, IsOrdered, rank, from_address}
+use Rattle.w16_blocks.proofs.Common.{ℕ, zero, suc, ◌≡◌, ◌<◌, ◌≤◌, List, [], ◌∷◌, drop, Some, None, is_some, arith, refl, sym, ap, ◌∙◌, subst, inl, inr, slice_get, cases_lt, false≢true, AllByRecursion, Block, IsLaid, block_end, Each-map, laid_each, Layout, IsOrdered, rank, from_address, block_with, eqb_tells}
 use Rattle.w16_blocks.proofs.Next.{rank_none, rank_more, rank_same}
+use Rattle.w16_blocks.proofs.Remove.{each_with, with_other}
 
 pub none_left : (bs : List Block) (k : ℕ) → None ≡ slice_get bs k → drop k bs ≡ []
 none_left [] zero e = refl
@@ -36,3 +37,15 @@ one_more lo hi at x (b ∷ bs) laid e =
 -- it ends below the largest number
 pub ends_small : (l : Layout) (at : ℕ) (x : Block) → IsOrdered l → Some x ≡ slice_get l.blocks (rank at l.blocks) → block_end x ≤ l.hi
 ends_small l at x ordered e = (each_got (λ y. (l.lo ≤ y.at) × (0 < y.size) × (block_end y ≤ l.hi)) l.blocks (rank at l.blocks) x e (laid_each l.lo l.hi l.blocks ordered.laid)).2
+
+-- a block is the first from where it begins
+pub first_at : (lo hi : ℕ) (x : Block) (bs : List Block) → IsLaid lo hi bs → block_with bs x.id ≡ Some x → slice_get bs (rank x.at bs) ≡ Some x
+first_at lo hi x [] laid known = absurd (false≢true (ap is_some known))
+first_at lo hi x (b ∷ bs) laid known = elim (eqb_tells b.id x.id) [
+  | inl same ↦ let own : Some b ≡ Some x = rw same.0 at known in let is : b ≡ x = cc in
+      ap (slice_get (b ∷ bs)) (rank_same x.at b bs (let at = ap (λ (c : Block). c.at) is in omega arith)) ∙ own
+  | inr other ↦
+      let rest = sym (with_other x.id b bs other.0) ∙ known in
+      let behind = each_with (λ y. (block_end b ≤ y.at) × (0 < y.size) × (block_end y ≤ hi)) x.id x bs rest (laid_each (block_end b) hi bs laid.2) in
+      let size = laid.1 in ap (slice_get (b ∷ bs)) (rank_more x.at b bs (omega arith)) ∙ first_at (block_end b) hi x bs laid.2 rest
+]

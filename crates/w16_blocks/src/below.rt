@@ -4,6 +4,7 @@ ghost use Rattle.std.specs.List.{AllByRecursion};
 ghost use Rattle.w16_blocks.specs.Below.{IsLastBelow};
 ghost use Rattle.w16_blocks.specs.Kept.{blocks_in, AreTables};
 
+use crate::ends::noted;
 use crate::{Block, Blocks, Span};
 use w16_holes::HoleList;
 
@@ -34,10 +35,11 @@ fn last_filled(begins: &[u32], below: usize) -> usize
     end
 }
 
-/// The last block that the cells tell below a place.
+/// The last block that the cells tell below a place. It takes one step where a block ends at the place.
 pub(crate) fn block_below(
     slots: &[Block],
     begins: &[u32],
+    ends: &[u16],
     bounds: Span,
     grain: u32,
     place: u32,
@@ -46,6 +48,9 @@ pub(crate) fn block_below(
     ensures { let blocks = blocks_in slots.now begins.now in
         MatchOption result (AllByRecursion (λ b. place ≤ b.at) blocks) (IsLastBelow blocks place) }
 {
+    if let Some(block) = noted(slots, ends, bounds.from, grain, place) {
+        return Some(block);
+    }
     let below = place.saturating_sub(bounds.from).div_ceil(grain) as usize;
     for unit in (0..last_filled(begins, below.min(begins.len()))).rev() {
         let begin = begins[unit] as usize;
@@ -59,12 +64,19 @@ pub(crate) fn block_below(
 impl<H: HoleList> Blocks<H> {
     ghost use Rattle.w16_blocks.specs.Layout.{IsOrdered};
 
-    /// The last block that begins below an address, none where none does. It looks at each unit of grain from there down, so a walk asks
-    /// from where the block before began.
+    /// The last block that begins below an address, none where none does. It takes one step where a block
+    /// ends at the address, and else looks at each unit of grain from there down, so a walk asks from where the block before began.
     pub fn last_below(&self, at: u32) -> Option<Block>
         ensures value { MatchOption result (AllByRecursion (λ b. at ≤ b.at) self.now.blocks) (IsLastBelow self.now.blocks at) }
         ensures ordered { IsOrdered self.now }
     {
-        block_below(&self.slots, &self.begins, self.bounds(), self.grain, at)
+        block_below(
+            &self.slots,
+            &self.begins,
+            &self.ends,
+            self.bounds(),
+            self.grain,
+            at,
+        )
     }
 }

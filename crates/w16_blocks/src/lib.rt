@@ -11,11 +11,13 @@ ghost use Rattle.w16_blocks.specs.Stay.{IsBeyond};
 
 mod below;
 mod by_address;
+mod ends;
 mod lifts;
 mod parts;
 mod runs;
 
 pub use by_address::ByAddress;
+use ends::note_end;
 pub use parts::Part;
 use std::alloc::AllocError;
 use std::marker::Model;
@@ -38,6 +40,9 @@ pub struct Blocks<H: HoleList> {
     slots: Vec<Block, H::Alloc>,
     /// By unit of grain from `lo` on: one more than the id of the block that begins there, or 0.
     begins: Vec<u32, H::Alloc>,
+    /// By unit of grain from `lo` on: the id of the block that was the last to be placed so that it ended there. It may end elsewhere by
+    /// now, so who reads a note looks at the block.
+    ends: Vec<u16, H::Alloc>,
     /// The bytes that no block has.
     free: u32,
     /// How many blocks are pinned.
@@ -133,9 +138,11 @@ impl<H: HoleList> Blocks<H> {
         let units = ((hi - lo) / grain) as usize + 1;
         let slots = vec![in alloc; NO_BLOCK; cap as usize]?;
         let begins = vec![in alloc; 0; units]?;
+        let ends = vec![in alloc; 0; units]?;
         Ok(Blocks {
             slots,
             begins,
+            ends,
             free: hi - lo,
             pinned: 0,
             holes,
@@ -182,6 +189,7 @@ impl<H: HoleList> Blocks<H> {
         self.holes.take(space, block.at, block.size);
         self.slots[block.id as usize] = block;
         self.begins[unit] = block.id + 1;
+        note_end(&mut self.ends, self.lo, self.grain, block);
         self.free -= block.size;
         self.pinned += pins_of(block.hold);
     }
@@ -254,6 +262,7 @@ impl<H: HoleList> Blocks<H> {
         self.holes.take(space, block.at + block.size, more);
         self.free -= more;
         self.slots[block.id as usize] = Block { size, ..block };
+        note_end(&mut self.ends, self.lo, self.grain, Block { size, ..block });
     }
 
     /// Gives a block a smaller size.
@@ -276,6 +285,7 @@ impl<H: HoleList> Blocks<H> {
         self.holes.put(space, block.at + size, less);
         self.free += less;
         self.slots[block.id as usize] = Block { size, ..block };
+        note_end(&mut self.ends, self.lo, self.grain, Block { size, ..block });
     }
 
     /// Moves an id's block to a place that meets no other block, its bytes with it: what the new place has beyond the old one is taken from
@@ -331,6 +341,12 @@ impl<H: HoleList> Blocks<H> {
         self.begins[from_unit] = 0;
         self.begins[to_unit] = block.id + 1;
         self.slots[block.id as usize] = Block { at: to, ..block };
+        note_end(
+            &mut self.ends,
+            self.lo,
+            self.grain,
+            Block { at: to, ..block },
+        );
     }
 
     /// Pins an id's block or lets it loose. Its place and size stay.
@@ -382,9 +398,24 @@ impl<H: HoleList> Blocks<H> {
         self.holes.at(space, block.at + block.size)
     }
 
-    /// The first block that begins at an address or above, none where none does. It takes a few steps where a block or a hole begins at the
-    /// address, and else goes on unit by unit.
+    /// The first block that begins at an address or above, none where none does. It takes one step where a block begins at the address, a few
+    /// where a hole does, and else it goes on unit by unit.
+    #[inline(always)]
     pub fn next_from<S: Space>(&self, space: &S, at: u32) -> Option<Block>
+    where
+        H: Holes<S>,
+        requires { H.are_in (holes_of self.now) (S.bytes space.now) }
+        ensures value { result ≡ slice_get self.now.blocks (rank at self.now.blocks) }
+        ensures ordered { IsOrdered self.now }
+    {
+        match self.beginning_at(at) {
+            Some(block) => Some(block),
+            None => self.first_from(space, at),
+        }
+    }
+
+    /// The same, looked for hole by hole.
+    fn first_from<S: Space>(&self, space: &S, at: u32) -> Option<Block>
     where
         H: Holes<S>,
         requires { H.are_in (holes_of self.now) (S.bytes space.now) }

@@ -16,6 +16,7 @@ use w16_region::Space;
 fn retag_run_up(
     slots: &mut [Block],
     begins: &mut [u32],
+    ends: &mut [u16],
     bounds: Span,
     grain: u32,
     run: Span,
@@ -33,11 +34,19 @@ fn retag_run_up(
 {
     let mut at = run.to;
     while run.from < at {
-        let Some(block) = block_below(slots, begins, bounds, grain, at) else {
+        let Some(block) = block_below(slots, begins, ends, bounds, grain, at) else {
             unreachable!();
         };
         at = block.at;
-        retag(slots, begins, bounds, grain, block, to + (at - run.from));
+        retag(
+            slots,
+            begins,
+            ends,
+            bounds,
+            grain,
+            block,
+            to + (at - run.from),
+        );
     }
 }
 
@@ -104,6 +113,7 @@ impl<H: HoleList> Blocks<H> {
         retag_run_up(
             &mut self.slots,
             &mut self.begins,
+            &mut self.ends,
             bounds,
             self.grain,
             run,

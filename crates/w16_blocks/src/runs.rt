@@ -7,6 +7,7 @@ ghost use Rattle.w16_blocks.specs.Layout.{FitsFor, replaced};
 ghost use Rattle.w16_blocks.specs.Kept.{blocks_in, layout_in, AreTables};
 ghost use Rattle.w16_blocks.specs.Runs.{IsRun, IsBare, slid_with};
 
+use crate::ends::note_end;
 use crate::{Block, Blocks, Span, unit_of};
 use w16_holes::{HoleList, Holes};
 use w16_region::Space;
@@ -28,10 +29,11 @@ fn block_at(slots: &[Block], begins: &[u32], bounds: Span, grain: u32, place: u3
     Some(slots[begin - 1])
 }
 
-/// The table and the cells, with a block at another place.
+/// The table, the cells and the notes of ends, with a block at another place.
 pub(crate) fn retag(
     slots: &mut [Block],
     begins: &mut [u32],
+    ends: &mut [u16],
     bounds: Span,
     grain: u32,
     block: Block,
@@ -48,10 +50,19 @@ pub(crate) fn retag(
     begins[unit_of(block.at, bounds.from, grain)] = 0;
     begins[unit_of(to, bounds.from, grain)] = block.id + 1;
     slots[block.id as usize] = Block { at: to, ..block };
+    note_end(ends, bounds.from, grain, Block { at: to, ..block });
 }
 
 /// The table and the cells, where the blocks of a run have slid to a place, one after another.
-fn retag_run(slots: &mut [Block], begins: &mut [u32], bounds: Span, grain: u32, run: Span, to: u32)
+fn retag_run(
+    slots: &mut [Block],
+    begins: &mut [u32],
+    ends: &mut [u16],
+    bounds: Span,
+    grain: u32,
+    run: Span,
+    to: u32,
+)
     requires tables { AreTables (length slots.old) bounds.from bounds.to grain slots.old begins.old }
     requires run { IsRun (layout_in (length slots.old) bounds.from bounds.to grain slots.old begins.old) run }
     requires grained { IsMultiple grain to }
@@ -67,7 +78,15 @@ fn retag_run(slots: &mut [Block], begins: &mut [u32], bounds: Span, grain: u32, 
         let Some(block) = block_at(slots, begins, bounds, grain, at) else {
             unreachable!();
         };
-        retag(slots, begins, bounds, grain, block, to + (at - run.from));
+        retag(
+            slots,
+            begins,
+            ends,
+            bounds,
+            grain,
+            block,
+            to + (at - run.from),
+        );
         at += block.size;
     }
 }
@@ -149,6 +168,7 @@ impl<H: HoleList> Blocks<H> {
         retag_run(
             &mut self.slots,
             &mut self.begins,
+            &mut self.ends,
             bounds,
             self.grain,
             run,

@@ -1,9 +1,21 @@
 -- A step's reply has the kind that its command's has.
 use Rattle.w16_c.proofs.Common.{◌≡◌, ℕ, ◌+◌, Bool, true, false, MatchBool, MatchOption, cond, nat_lt, if◌then◌else◌, List, [], length, Option, Some, None, unwrap_or, Result, Ok, Err, refl, sym, subst, ltb-false, Refusal, FarFault, BadSelector, ReadOnly, NotPresent, Limit, part, repeated, Heap, bytes_at, after_free, after_lock, after_unlock, after_newest, after_oldest, after_touch, Handles, slot_of_handle, slot_of_selector, selector_of, selector_in, offset_in, far_pointer, owns, refuses_write, length-part, HandleCommand, Answer, HandleStep, free_own, global_free, global_lock, global_unlock, handle_or_0, locks_at, GlobalAlloc, GlobalFree, GlobalLock, GlobalUnlock, GlobalSize, GlobalFlags, GlobalHandle, GetSelectorBase, GetSelectorLimit, GlobalCompact, GlobalLRUNewest, GlobalLRUOldest, Moved, FarAnswer, far_fault, far_slot, after_write, Read, Write, Fill, FetchFault, AnyFetches, Fetching, Accesses, gives, needs_fetch, reply_of_far, LoadingWorld, OfHandles, OfResizes, OfFar, ResizeCommand, ResizeStep, GlobalReAlloc, GlobalDiscard, Reply, HandleReplies, ResizeReplies, Word, Dword, Done, Failed, Walked, LocalCommand, LocalStep, DS, World, Command, OfLoading, OfLocals, KernelStep, AnswersWord, AnswersDword, IsWrite, IsWord, IsDword, IsDoneOrFault, IsBytes}
 use Rattle.std.specs.FinMap as finmap
-use Rattle.std.proofs.Common.{inl, inr}
+use Rattle.std.proofs.Common.{◌⊎◌, ap, inl, inr}
 use Rattle.w16_loading.specs.Replies.Reply.{Bytes, Fault}
-use Rattle.w16_c.specs.Makes.{FarCalls, IsRead, Makes}
+use Rattle.w16_loading.specs.Families as families
+use Rattle.w16_loading.specs.Families.LoadingCommand.{OfModules, OfResources}
+use Rattle.w16_loading.specs.Families.ModuleCommand.{Builtin, FreeLibrary, FreeModule, GetModuleHandle, GetModuleUsage, GetProcAddress, LoadLibrary, LoadModule}
+use Rattle.w16_loading.specs.Families.ResourceCommand.{FindResource, FreeResource, LoadResource, LockResource, SizeofResource}
+use Rattle.w16_loading.specs.File.{Resource}
+use Rattle.w16_loading.specs.Load as load
+use Rattle.w16_loading.specs.Load.Answer.{Says, StoreFails}
+use Rattle.w16_loading.specs.Resource.{AnswersNone, LoadsNewResource, LoadsResource, LocksResource, is_too_long, load_of, lock_outcome, reply_of_call, resource_at, resource_outcome, slot_of_resource}
+use Rattle.w16_loading.specs.declared.FetchFault.TheVariants as fetch
+use Rattle.w16_loading.specs.declared.TheConstants.{MOST_USES}
+use Rattle.w16_model.specs.Handles.{IsFreeSlot}
+use Rattle.w16_c.specs.Kinds.{FetchesWord, IsOrFailure}
+use Rattle.w16_c.specs.Makes.{FarCalls, FetchCalls, IsRead, Makes, Stays, Tells}
 use Rattle.w16_c.specs.declared.held.Held.{Held}
 use Rattle.w16_model.specs.declared.Refusal.TheVariants as refusals
 use Rattle.w16_model.specs.Calls as calls
@@ -28,7 +40,7 @@ by_name P w bad refused done step b r d (Some slot) = turn (step slot)
     turn (Ok heap) = d slot heap
     turn (Err e) = r
 
-if_both : (P : Answer → Type 0) (b : Bool) (x y : Answer × Handles) → P x.0 → P y.0 → P (cond b x y).0
+if_both : {A B : Type 0} (P : A → Type 0) (b : Bool) (x y : A × B) → P x.0 → P y.0 → P (cond b x y).0
 if_both P true x y h k = h
 if_both P false x y h k = k
 
@@ -122,17 +134,87 @@ pub word_reply : (old : World) (command : Command) (reply : Reply) (new : World)
 word_reply old (OfLoading (OfHandles command)) reply new k step = let h = step.step.0.any.step in handles_word old.loading.handles command reply h.0 k h.1
 word_reply old (OfLoading (OfResizes command)) reply new k step = let h = step.step.0.any.step in resizes_word old.loading.handles command reply h.0 h.1
 word_reply old (OfLocals command) reply new k step = local_word old new command reply k step.step
+word_reply old (OfLoading (OfModules (Builtin name))) reply new k step = subst IsWord (sym step.step.0.any.step.1) tt
+word_reply old (OfLoading (OfModules (FreeLibrary handle))) reply new k step = subst IsWord (sym step.step.0.any.step.1) tt
+word_reply old (OfLoading (OfModules (FreeModule handle))) reply new k step = subst IsWord (sym step.step.0.any.step.1) tt
+word_reply old (OfLoading (OfModules (GetModuleHandle name))) reply new k step = subst IsWord (sym step.step.0.any.step.0) tt
+word_reply old (OfLoading (OfModules (GetModuleUsage handle))) reply new k step = subst IsWord (sym step.step.0.any.step.0) tt
+word_reply old (OfLoading (OfResources (FindResource handle name kind))) reply new k step = subst IsWord (sym step.step.0.any.step.0) tt
+word_reply old (OfLoading (OfResources (FreeResource handle))) reply new k step = subst IsWord (sym step.step.0.any.step.0) tt
 word_reply old command reply new k step = absurd k
 
 pub dword_reply : (old : World) (command : Command) (reply : Reply) (new : World) → AnswersDword command → KernelStep (Unit {0}) old command reply new → IsDword reply
 dword_reply old (OfLoading (OfHandles command)) reply new k step = let h = step.step.0.any.step in handles_dword old.loading.handles command reply h.0 k h.1
+dword_reply old (OfLoading (OfModules (GetProcAddress handle label))) reply new k step = subst IsDword (sym step.step.0.any.step.0) tt
+dword_reply old (OfLoading (OfResources (SizeofResource handle place))) reply new k step = subst IsDword (sym step.step.0.any.step.0) tt
 dword_reply old command reply new k step = absurd k
 
--- Far accesses.
+-- Loads, and locks of resources.
+
+load_answer : (answer : load.Answer) → IsOrFailure IsWord (families.reply_of answer)
+load_answer (Says n) = tt
+load_answer StoreFails = tt
 
 either : (b : Bool) (A B P : Type 0) → (A → P) → (B → P) → MatchBool b A B → P
 either true A B P f g h = f h
 either false A B P f g h = g h
+
+by_option : {A : Type 0} (p : Option A) (N : Type 0) (S : A → Type 0) (P : Type 0) → (N → P) → ((x : A) → S x → P) → MatchOption p N S → P
+by_option None N S P f g h = f h
+by_option (Some x) N S P f g h = g x h
+
+module _ (old : LoadingWorld) (reply : Reply) (new : LoadingWorld) where
+  -- the reply of an outcome has the kind that the outcome has
+  of_outcome : (P : Reply → Type 0) (x : Reply × LoadingWorld) → (reply, new) ≡ x → P x.0 → P reply
+  of_outcome P x e h = subst P (sym (ap (λ p. p.0) e)) h
+
+  none_word : AnswersNone old reply new → IsOrFailure IsWord reply
+  none_word h = subst (IsOrFailure IsWord) (sym h.0) tt
+
+  outcome_word : (fault : Option FetchFault) (handle : ℕ) (next : LoadingWorld) → IsOrFailure IsWord (resource_outcome fault handle next old).0
+  outcome_word None handle next = tt
+  outcome_word (Some fetch.NoRoom) handle next = tt
+  outcome_word (Some fault) handle next = tt
+
+  load_word : (handle place : ℕ) → LoadsResource AnyFetches old handle place reply new → IsOrFailure IsWord reply
+  load_word handle place =
+      by_option (resource_at old handle place) _ _ _ none_word (λ r. either (is_too_long r) _ _ _ none_word (by_option (load_of old handle place) _ _ _ (fresh r)
+      (λ x e. of_outcome (IsOrFailure IsWord) _ e (if_both (IsOrFailure IsWord) (nat_lt x.1.loads MOST_USES) _ _ tt tt))))
+    where
+      fresh : (r : Resource) → (((slot : ℕ) → IsFreeSlot old.handles slot → ⊥) × AnswersNone old reply new) ⊎ LoadsNewResource AnyFetches old handle place r reply new → IsOrFailure IsWord reply
+      fresh r (inl h) = none_word h.1
+      fresh r (inr l) = of_outcome (IsOrFailure IsWord) _ l.outcome (outcome_word l.fault _ l.next)
+
+  told_dword : (answer : Answer) → DwordAnswer answer → IsOrFailure IsDword (reply_of_call answer)
+  told_dword (calls.Answer.Dword n) h = tt
+  told_dword answer h = absurd h
+
+  outcome_dword : (fault : Option FetchFault) (handle : ℕ) (next : LoadingWorld) → IsOrFailure IsDword (lock_outcome fault handle next).0
+  outcome_dword None handle next = told_dword (global_lock next.handles handle).0 (lock_dword next.handles handle)
+  outcome_dword (Some fetch.NoRoom) handle next = tt
+  outcome_dword (Some fault) handle next = tt
+
+  locked_dword : (handle : ℕ) → LocksResource AnyFetches old handle reply new → IsOrFailure IsDword reply
+  locked_dword handle =
+      by_option (slot_of_resource old handle) _ _ _ (λ h. subst (IsOrFailure IsDword) (sym h.0) tt) (λ x. by_option (bytes_at old.handles.heap x.0) _ _ _
+      (λ h. of_outcome (IsOrFailure IsDword) _ h.3 (outcome_dword h.0 handle h.1)) (λ b e. of_outcome (IsOrFailure IsDword) _ e (told_dword (global_lock old.handles handle).0 (lock_dword old.handles handle))))
+
+pub fetched_reply : (old : World) (command : Command) (reply : Reply) (new : World) → FetchesWord command → KernelStep (Unit {0}) old command reply new → IsOrFailure IsWord reply
+fetched_reply old (OfLoading (OfModules (LoadModule file))) reply new k step = let h = step.step.0.any.step in subst (IsOrFailure IsWord) (sym h.1) (load_answer h.0)
+fetched_reply old (OfLoading (OfModules (LoadLibrary file))) reply new k step = let h = step.step.0.any.step in subst (IsOrFailure IsWord) (sym h.1) (load_answer h.0)
+fetched_reply old (OfLoading (OfResources (LoadResource handle place))) reply new k step = load_word old.loading reply _ handle place step.step.0.any.step
+fetched_reply old command reply new k step = absurd k
+
+pub locked_reply : (old : World) (handle : ℕ) (reply : Reply) (new : World) → KernelStep (Unit {0}) old (OfLoading (OfResources (LockResource handle))) reply new → IsOrFailure IsDword reply
+locked_reply old handle reply new step = locked_dword old.loading reply _ handle step.step.0.any.step
+
+-- what is told of such a reply is what the call answers
+pub fetches : (made : ℕ → Reply) (old : Held) (command : Command) (status : ℕ) (reply : Reply) (before answer : ℕ) (new : Held) → Tells made status reply before answer → Makes old command reply new
+    → FetchCalls old command status (made answer) new × Stays status before answer
+fetches made old command status (Failed fault) before answer new tells makes = (inr (fault, tells.0, makes), inr tells.1)
+fetches made old command status reply before answer new tells makes = (inl (inl (tells.0, subst (λ r. Makes old command r new) tells.1 makes)), inl tells.0)
+
+-- Far accesses.
 
 -- what is true of each answer of an access, and of each fault of a fetch, is true of what is replied
 accessed : (P : Reply → Type 0) (fetches : Fetching) (access : LoadingWorld → FarAnswer × LoadingWorld) (old : LoadingWorld) (selector : ℕ) (reply : Reply) (new : LoadingWorld)

@@ -16,9 +16,9 @@ use Rattle.std_heap.specs.contracts.Global as Heap
 use Rattle.std_heap.specs.contracts.GlobalAllocator.TheImpl.{ghosts, dict}
 use Rattle.std_heap.proofs.Global.TheLaws as heap
 use Rattle.w16_kernel.proofs.kernel.Kernel.TheLaws as lots
-use Rattle.w16_store.specs.contracts.memory.MemStore as store
-use Rattle.w16_store.proofs.memory.MemStore.TheLaws as store_laws
-use Rattle.w16_store.specs.contracts.memory.MemStoreStore.TheImpl as stores
+use Rattle.w16_kernel.specs.contracts.growing.GrowingStore as store
+use Rattle.w16_kernel.proofs.growing.GrowingStore.TheLaws as store_laws
+use Rattle.w16_kernel.specs.contracts.growing.GrowingStoreStore.TheImpl as stores
 use denote.Signature.{Slot, plain}
 use Rattle.w16_c.specs.contracts.parts.Parts as Parts
 use Rattle.w16_c.specs.contracts.held.Held as held

@@ -1,8 +1,10 @@
--- Which commands are answered by a word, and which by a double word.
+-- Which commands are answered by a word, which by a double word, and which by a fault.
 use Rattle.std.specs.Prelude.{◌≡◌, ℕ, length}
 use Rattle.w16_model.specs.Calls.HandleCommand.{GlobalAlloc, GlobalFree, GlobalLock, GlobalUnlock, GlobalSize, GlobalFlags, GlobalHandle, GetSelectorBase, GetSelectorLimit, GlobalCompact, GlobalLRUNewest, GlobalLRUOldest, Moved}
 use Rattle.w16_model.specs.Far.FarCommand.{Write, Fill}
-use Rattle.w16_loading.specs.Families.LoadingCommand.{OfHandles, OfResizes, OfFar}
+use Rattle.w16_loading.specs.Families.LoadingCommand.{OfHandles, OfResizes, OfFar, OfModules, OfResources}
+use Rattle.w16_loading.specs.Families.ModuleCommand.{Builtin, LoadModule, LoadLibrary, FreeLibrary, FreeModule, GetModuleHandle, GetModuleUsage, GetProcAddress}
+use Rattle.w16_loading.specs.Families.ResourceCommand.{FindResource, LoadResource, FreeResource, SizeofResource}
 use Rattle.w16_loading.specs.Replies.{Reply}
 use Rattle.w16_loading.specs.Replies.Reply.{Word, Dword, Bytes, Done, Fault, Failed}
 use Rattle.w16_machine.specs.LocalCalls.LocalCommand.{DS}
@@ -18,6 +20,13 @@ AnswersWord (OfLoading (OfHandles (GlobalFlags handle))) = Unit {0}
 AnswersWord (OfLoading (OfHandles (GlobalLRUNewest handle))) = Unit {0}
 AnswersWord (OfLoading (OfHandles (GlobalLRUOldest handle))) = Unit {0}
 AnswersWord (OfLoading (OfResizes command)) = Unit {0}
+AnswersWord (OfLoading (OfModules (Builtin name))) = Unit {0}
+AnswersWord (OfLoading (OfModules (FreeLibrary handle))) = Unit {0}
+AnswersWord (OfLoading (OfModules (FreeModule handle))) = Unit {0}
+AnswersWord (OfLoading (OfModules (GetModuleHandle name))) = Unit {0}
+AnswersWord (OfLoading (OfModules (GetModuleUsage handle))) = Unit {0}
+AnswersWord (OfLoading (OfResources (FindResource handle name kind))) = Unit {0}
+AnswersWord (OfLoading (OfResources (FreeResource handle))) = Unit {0}
 AnswersWord (OfLocals (DS selector)) = ⊥
 AnswersWord (OfLocals command) = Unit {0}
 AnswersWord command = ⊥
@@ -31,7 +40,16 @@ AnswersDword (OfLoading (OfHandles (GetSelectorBase selector))) = Unit {0}
 AnswersDword (OfLoading (OfHandles (GetSelectorLimit selector))) = Unit {0}
 AnswersDword (OfLoading (OfHandles (GlobalCompact size))) = Unit {0}
 AnswersDword (OfLoading (OfHandles Moved)) = Unit {0}
+AnswersDword (OfLoading (OfModules (GetProcAddress handle label))) = Unit {0}
+AnswersDword (OfLoading (OfResources (SizeofResource handle place))) = Unit {0}
 AnswersDword command = ⊥
+
+-- by a word, unless a read of a file fails
+abbrev pub FetchesWord : Command → Type 0
+FetchesWord (OfLoading (OfModules (LoadModule file))) = Unit {0}
+FetchesWord (OfLoading (OfModules (LoadLibrary file))) = Unit {0}
+FetchesWord (OfLoading (OfResources (LoadResource handle place))) = Unit {0}
+FetchesWord command = ⊥
 
 -- the replies
 abbrev pub IsWord : Reply → Type 0
@@ -41,6 +59,11 @@ IsWord reply = ⊥
 abbrev pub IsDword : Reply → Type 0
 IsDword (Dword n) = Unit {0}
 IsDword reply = ⊥
+
+-- such a one, or why a read of a file failed
+abbrev pub IsOrFailure : (Reply → Type 0) → Reply → Type 0
+IsOrFailure Is (Failed f) = Unit {0}
+IsOrFailure Is reply = Is reply
 
 -- so many bytes, or why there are none
 abbrev pub IsBytes : ℕ → Reply → Type 0

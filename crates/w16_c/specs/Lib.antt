@@ -3,3 +3,4 @@ pub mod Ownership
 pub mod Makes
 pub mod Kinds
 pub mod Walks
+pub mod Files

@@ -77,6 +77,23 @@ FarCalls old command status reply new =
     ⊎ ((f : FarFault) × (status ≡ fault_status f) × Makes old command (Fault f) new)
     ⊎ ((f : FetchFault) × (status ≡ fetch_status f) × Makes old command (Failed f) new)
 
+-- a call that reads files: it may be answered by why a read failed
+abbrev pub FetchCalls : Held → Command → ℕ → Reply → Held → Type 0
+FetchCalls old command status reply new =
+    Calls old command status reply new ⊎ ((f : FetchFault) × (status ≡ fetch_status f) × Makes old command (Failed f) new)
+
+-- one that else answers a word, and one that else answers a double word
+abbrev pub WordFetches : Held → Command → ℕ → ℕ → ℕ → Held → Type 0
+WordFetches old command status before answer new = FetchCalls old command status (Word answer) new × Stays status before answer
+
+abbrev pub DwordFetches : Held → Command → ℕ → ℕ → ℕ → Held → Type 0
+DwordFetches old command status before answer new = FetchCalls old command status (Dword answer) new × Stays status before answer
+
+-- the status of such a call's reply, which is made of the answer, or has none
+abbrev pub Tells : (ℕ → Reply) → ℕ → Reply → ℕ → ℕ → Type 0
+Tells made status (Failed f) before answer = (status ≡ fetch_status f) × (answer ≡ before)
+Tells made status reply before answer = (status ≡ DONE) × (reply ≡ made answer)
+
 -- the status of a reply that has no more to tell
 abbrev pub IsStatus : ℕ → Reply → Type 0
 IsStatus status Done = status ≡ DONE

@@ -10,8 +10,8 @@ use Rattle.std.specs.Vec.Ownership.{owns_if}
 use Rattle.std_heap.specs.contracts.Global as Heap
 use Rattle.std_heap.specs.contracts.GlobalAllocator.TheImpl.{ghosts}
 use Rattle.core.specs.declared.clone.Clone as Clone
-use Rattle.w16_store.specs.contracts.memory.MemStore as store
-use Rattle.w16_store.specs.contracts.memory.MemStoreStore.TheImpl as stores
+use Rattle.w16_kernel.specs.contracts.growing.GrowingStore as store
+use Rattle.w16_kernel.specs.contracts.growing.GrowingStoreStore.TheImpl as stores
 use Rattle.w16_kernel.specs.contracts.kernel.Kernel as kernel
 
 -- the allocator, of which there is one

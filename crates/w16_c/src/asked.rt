@@ -2,8 +2,8 @@
 ghost use Rattle.std.specs.Prelude.{◌≡◌, IfOk, IfErr};
 ghost use Rattle.w16_loading.specs.Replies as replies;
 ghost use Rattle.w16_kernel.specs.Runs.{command_of, reply_of, IsCall};
-ghost use Rattle.w16_c.specs.Makes.{Makes, Refuses, WordCalls, DwordCalls, FarCalls, IsStatus};
-ghost use Rattle.w16_c.specs.Kinds.{AnswersWord, AnswersDword, IsWrite, IsWord, IsDword, IsDoneOrFault};
+ghost use Rattle.w16_c.specs.Makes.{Makes, Refuses, WordCalls, DwordCalls, WordFetches, FarCalls, IsStatus, Tells};
+ghost use Rattle.w16_c.specs.Kinds.{AnswersWord, AnswersDword, FetchesWord, IsWrite, IsWord, IsDword, IsOrFailure, IsDoneOrFault};
 
 use crate::held::Held;
 use crate::life::{put_back, taken};
@@ -90,6 +90,35 @@ pub fn dword(alloc: Global, held: &mut Held, call: &Call<'_>, answer: &mut u32) 
             *answer = dword_in(reply);
             DONE
         }
+        Err(Refusal::NoMachine) => NO_MACHINE,
+        Err(Refusal::NoMemory) => NO_MEMORY,
+    }
+}
+
+/// The status of a reply that has a word, or says why a fetch failed. A word goes where the answer goes.
+fn word_told(reply: Reply<'_>, answer: &mut u16) -> u8
+    requires { IsOrFailure IsWord (reply_of reply) }
+    ensures { Tells replies.Reply.Word result (reply_of reply.entry) answer.old answer.new }
+{
+    match reply {
+        Reply::Word(word) => {
+            *answer = word;
+            DONE
+        }
+        Reply::Failed(fault) => status_of_fetch(fault),
+        _ => DONE,
+    }
+}
+
+/// A call that reads files, and answers a word where the reads don't fail.
+pub fn fetched_word(alloc: Global, held: &mut Held, call: &Call<'_>, answer: &mut u16) -> u8
+    requires call { IsCall call.now }
+    requires kind { FetchesWord (command_of call.now) }
+    ensures { WordFetches held.old (command_of call.now) result answer.old answer.new held.new }
+{
+    let mut room = [0; MOST_READ];
+    match asked(alloc, held, call, &mut room) {
+        Ok(reply) => word_told(reply, answer),
         Err(Refusal::NoMachine) => NO_MACHINE,
         Err(Refusal::NoMemory) => NO_MEMORY,
     }

@@ -7,8 +7,7 @@ use crate::parts::Parts;
 use std::alloc::Global;
 use std::marker::Model;
 use std::ptr::null_mut;
-use w16_kernel::Kernel;
-use w16_store::MemStore;
+use w16_kernel::{GrowingStore, Kernel};
 
 /// A machine, or none.
 #[repr(C)]
@@ -34,7 +33,7 @@ impl Held {
     }
 
     /// A machine.
-    pub fn of(parts: Parts<Kernel<MemStore>, Global>) -> Held
+    pub fn of(parts: Parts<Kernel<GrowingStore>, Global>) -> Held
         ensures held { result.is_held ≡ true }
         ensures same { result.world ≡ parts.value }
     {
@@ -46,14 +45,14 @@ impl Held {
     }
 
     /// What it holds.
-    pub fn into_parts(self, alloc: Global) -> Option<Parts<Kernel<MemStore>, Global>>
+    pub fn into_parts(self, alloc: Global) -> Option<Parts<Kernel<GrowingStore>, Global>>
         ensures some { is_some result ≡ self.is_held }
         ensures same { IfSome result (λ parts. parts.value ≡ self.world) }
     {
         let Held { at, is_held } = self;
         if is_held {
             return Some(Parts {
-                ptr: at as *mut Kernel<MemStore>,
+                ptr: at as *mut Kernel<GrowingStore>,
                 alloc,
             });
         }

@@ -3,15 +3,19 @@
 
 mod asked;
 mod far;
+mod files;
 mod global;
 mod held;
 mod life;
 mod local;
+mod modules;
 mod part;
 mod parts;
+mod resources;
 mod status;
 
 pub use far::{w16_fill, w16_read, w16_write};
+pub use files::{w16_add_file, w16_missing_file};
 pub use global::{
     w16_get_selector_base, w16_get_selector_limit, w16_global_alloc, w16_global_compact,
     w16_global_discard, w16_global_flags, w16_global_free, w16_global_handle, w16_global_lock,
@@ -25,10 +29,17 @@ pub use local::{
     w16_local_handle, w16_local_init, w16_local_lock, w16_local_realloc, w16_local_size,
     w16_local_unlock,
 };
+pub use modules::{
+    w16_builtin, w16_free_library, w16_free_module, w16_get_module_handle, w16_get_module_usage,
+    w16_get_proc_address, w16_load_library, w16_load_module,
+};
 pub use part::{Part, w16_walk_from};
+pub use resources::{
+    w16_find_resource, w16_free_resource, w16_load_resource, w16_lock_resource, w16_sizeof_resource,
+};
 pub use status::{
-    BAD_SIZE, DONE, END, FAULT_DAMAGED, FAULT_LIMIT, FAULT_NOT_PRESENT, FAULT_READ_ONLY,
-    FAULT_ROOM, FAULT_SELECTOR, FAULT_STORE, NO_MACHINE, NO_MEMORY,
+    BAD_SIZE, DONE, END, EXISTS, FAULT_DAMAGED, FAULT_LIMIT, FAULT_NOT_PRESENT, FAULT_READ_ONLY,
+    FAULT_ROOM, FAULT_SELECTOR, FAULT_STORE, NO_MACHINE, NO_MEMORY, NONE_MISSING,
 };
 
 #[cfg(test)]

@@ -8,11 +8,10 @@ use crate::parts::Parts;
 use crate::status::{BAD_SIZE, DONE, NO_MEMORY};
 use std::alloc::{AllocError, Global};
 use std::mem::replace;
-use w16_kernel::{Kernel, check_sizes};
-use w16_store::MemStore;
+use w16_kernel::{GrowingStore, Kernel, check_sizes};
 
 /// What the holder has, which then has none.
-pub fn taken(held: &mut Held, alloc: Global) -> Option<Box<Kernel<MemStore>>>
+pub fn taken(held: &mut Held, alloc: Global) -> Option<Box<Kernel<GrowingStore>>>
     ensures some { is_some result ≡ held.old.is_held }
     ensures same { IfSome result (λ kernel. kernel.value ≡ held.old.world) }
     ensures none { held.new.is_held ≡ false }
@@ -22,7 +21,7 @@ pub fn taken(held: &mut Held, alloc: Global) -> Option<Box<Kernel<MemStore>>>
 }
 
 /// Puts a machine into a holder, and frees what it had.
-pub fn put_back(held: &mut Held, alloc: Global, kernel: Box<Kernel<MemStore>>)
+pub fn put_back(held: &mut Held, alloc: Global, kernel: Box<Kernel<GrowingStore>>)
     ensures held { held.new.is_held ≡ true }
     ensures same { held.new.world ≡ kernel.value }
 {
@@ -31,12 +30,12 @@ pub fn put_back(held: &mut Held, alloc: Global, kernel: Box<Kernel<MemStore>>)
     }
 }
 
-/// A machine in a box, in which nothing is allocated, over no module files. An error is want of memory.
-fn made(alloc: Global, memory: u32, selectors: u32) -> Result<Box<Kernel<MemStore>>, AllocError>
+/// A machine in a box, in which nothing is allocated, over no module files as yet. An error is want of memory.
+fn made(alloc: Global, memory: u32, selectors: u32) -> Result<Box<Kernel<GrowingStore>>, AllocError>
     requires { IsMemorySize memory × IsSelectorCount selectors }
     ensures { IfOk result (λ kernel. kernel.value ≡ empty_world memory selectors [] 0) }
 {
-    let kernel = Kernel::new(alloc, alloc, memory, selectors, MemStore::new(alloc))?;
+    let kernel = Kernel::new(alloc, alloc, memory, selectors, GrowingStore::new(alloc))?;
     Ok(Box::new(alloc, kernel)?)
 }
 

@@ -41,6 +41,12 @@ pub const FAULT_STORE: u8 = 10;
 /// The file of a module reads otherwise than it did when the module was loaded.
 pub const FAULT_DAMAGED: u8 = 11;
 
+/// A file has the name already. Nothing changed.
+pub const EXISTS: u8 = 12;
+
+/// No file is known to be missing.
+pub const NONE_MISSING: u8 = 13;
+
 /// A fault of a far access, as a status.
 pub fn status_of(fault: FarFault) -> u8
     ensures { result ≡ fault_status fault }

@@ -1,144 +1,5 @@
 use super::*;
 use std::alloc::Global;
-use w16_kernel::Call;
-
-/// What a call says: its answer, or a status.
-#[derive(Clone, Copy, PartialEq, Eq, Debug)]
-enum Said {
-    Word(u16),
-    Dword(u32),
-    Status(u8),
-}
-
-use Said::{Dword, Status, Word};
-
-fn said_word(status: u8, word: u16) -> Said {
-    if status == DONE {
-        return Word(word);
-    }
-    Status(status)
-}
-
-fn said_dword(status: u8, dword: u32) -> Said {
-    if status == DONE {
-        return Dword(dword);
-    }
-    Status(status)
-}
-
-/// A call on the global heap that answers a word.
-fn global_word(alloc: Global, held: &mut Held, call: &Call<'_>) -> Said {
-    let mut word = 0;
-    let status = match *call {
-        Call::GlobalAlloc { flags, size } => w16_global_alloc(alloc, held, flags, size, &mut word),
-        Call::GlobalFree { handle } => w16_global_free(alloc, held, handle, &mut word),
-        Call::GlobalUnlock { handle } => w16_global_unlock(alloc, held, handle, &mut word),
-        Call::GlobalReAlloc {
-            handle,
-            size,
-            flags,
-        } => w16_global_realloc(alloc, held, handle, size, flags, &mut word),
-        Call::GlobalDiscard { handle } => w16_global_discard(alloc, held, handle, &mut word),
-        Call::GlobalLRUNewest { handle } => w16_global_lru_newest(alloc, held, handle, &mut word),
-        Call::GlobalLRUOldest { handle } => w16_global_lru_oldest(alloc, held, handle, &mut word),
-        Call::GlobalFlags { handle } => w16_global_flags(alloc, held, handle, &mut word),
-        _ => END,
-    };
-    said_word(status, word)
-}
-
-/// A call on the global heap that answers a double word.
-fn global_dword(alloc: Global, held: &mut Held, call: &Call<'_>) -> Said {
-    let mut dword = 0;
-    let status = match *call {
-        Call::GlobalLock { handle } => w16_global_lock(alloc, held, handle, &mut dword),
-        Call::GlobalCompact { size } => w16_global_compact(alloc, held, size, &mut dword),
-        Call::GlobalSize { handle } => w16_global_size(alloc, held, handle, &mut dword),
-        Call::GlobalHandle { selector } => w16_global_handle(alloc, held, selector, &mut dword),
-        Call::GetSelectorBase { selector } => {
-            w16_get_selector_base(alloc, held, selector, &mut dword)
-        }
-        Call::GetSelectorLimit { selector } => {
-            w16_get_selector_limit(alloc, held, selector, &mut dword)
-        }
-        Call::Moved => w16_moved(alloc, held, &mut dword),
-        _ => END,
-    };
-    said_dword(status, dword)
-}
-
-/// A call on a local heap that answers a word.
-fn local_word(alloc: Global, held: &mut Held, call: &Call<'_>) -> Said {
-    let mut word = 0;
-    let status = match *call {
-        Call::LocalInit {
-            selector,
-            start,
-            end,
-        } => w16_local_init(alloc, held, selector, start, end, &mut word),
-        Call::LocalAlloc { flags, size } => w16_local_alloc(alloc, held, flags, size, &mut word),
-        Call::LocalReAlloc { name, size, flags } => {
-            w16_local_realloc(alloc, held, name, size, flags, &mut word)
-        }
-        Call::LocalDiscard { name } => w16_local_discard(alloc, held, name, &mut word),
-        Call::LocalFree { name } => w16_local_free(alloc, held, name, &mut word),
-        Call::LocalLock { name } => w16_local_lock(alloc, held, name, &mut word),
-        Call::LocalUnlock { name } => w16_local_unlock(alloc, held, name, &mut word),
-        Call::LocalSize { name } => w16_local_size(alloc, held, name, &mut word),
-        Call::LocalFlags { name } => w16_local_flags(alloc, held, name, &mut word),
-        Call::LocalHandle { pointer } => w16_local_handle(alloc, held, pointer, &mut word),
-        Call::LocalCompact { size } => w16_local_compact(alloc, held, size, &mut word),
-        _ => END,
-    };
-    said_word(status, word)
-}
-
-/// Two bytes that are read, the lower one first.
-fn read(alloc: Global, held: &mut Held, pointer: u32) -> Said {
-    let mut bytes = [0; 2];
-    let status = w16_read(alloc, held, pointer, &mut bytes);
-    said_word(status, u16::from_le_bytes(bytes))
-}
-
-/// A call whose answer is its status, or two bytes that are read.
-fn far(alloc: Global, held: &mut Held, call: &Call<'_>) -> Said {
-    match *call {
-        Call::Read { pointer, .. } => read(alloc, held, pointer),
-        Call::Write { pointer, bytes } => Status(w16_write(alloc, held, pointer, bytes)),
-        Call::Fill {
-            pointer,
-            count,
-            byte,
-        } => Status(w16_fill(alloc, held, pointer, count, byte)),
-        Call::DS { selector } => Status(w16_ds(alloc, held, selector)),
-        _ => Status(END),
-    }
-}
-
-/// A call by the exported function that makes it: the first that knows it.
-fn answer_to(alloc: Global, held: &mut Held, call: &Call<'_>) -> Said {
-    let mut said = global_word(alloc, held, call);
-    if said == Status(END) {
-        said = global_dword(alloc, held, call);
-    }
-    if said == Status(END) {
-        said = local_word(alloc, held, call);
-    }
-    if said == Status(END) {
-        said = far(alloc, held, call);
-    }
-    said
-}
-
-/// Whether calls one after another say what is wanted.
-fn say(alloc: Global, held: &mut Held, rows: &[(Call<'static>, Said)]) -> bool {
-    for (call, wanted) in rows {
-        if answer_to(alloc, held, call) != *wanted {
-            return false;
-        }
-    }
-    true
-}
 
 /// Frees what is held, which is then none.
 fn is_freed(alloc: Global, mut held: Held) -> bool {
@@ -152,207 +13,109 @@ fn is_freed(alloc: Global, mut held: Held) -> bool {
     }
 }
 
-/// Whether a new machine says what is wanted, and can be freed.
-fn says(alloc: Global, memory: u32, rows: &[(Call<'static>, Said)]) -> bool {
+/// A new machine of so many bytes for 16 objects, and whether there is one.
+fn begun(alloc: Global, memory: u32) -> (Held, bool) {
     let mut held = Held::none();
-    let begun = w16_new(alloc, &mut held, memory, 16) == DONE;
-    let good = say(alloc, &mut held, rows);
-    is_freed(alloc, held) && begun && good
+    let status = w16_new(alloc, &mut held, memory, 16);
+    (held, status == DONE)
 }
 
-static ON_THE_GLOBAL_HEAP: &[(Call<'static>, Said)] = &[
-    (
-        Call::GlobalAlloc {
-            flags: 2,
-            size: 128,
-        },
-        Word(0x0106),
-    ),
-    (
-        Call::GlobalAlloc {
-            flags: 2,
-            size: 128,
-        },
-        Word(0x010e),
-    ),
-    (
-        Call::GlobalAlloc {
-            flags: 0x102,
-            size: 128,
-        },
-        Word(0x0116),
-    ),
-    (Call::GlobalLock { handle: 0x010e }, Dword(0x010f_0000)),
-    (
-        Call::Write {
-            pointer: 0x010f_0000,
-            bytes: b"hi",
-        },
-        Status(DONE),
-    ),
-    (Call::GlobalUnlock { handle: 0x010e }, Word(0)),
-    (Call::GlobalFree { handle: 0x0106 }, Word(0)),
-    (
-        Call::GlobalAlloc {
-            flags: 2,
-            size: 256,
-        },
-        Word(0x0106),
-    ),
-    (Call::Moved, Dword(0x100)),
-    (
-        Call::Read {
-            pointer: 0x010f_0000,
-            count: 2,
-        },
-        Word(0x6968),
-    ),
-    (
-        Call::GlobalAlloc {
-            flags: 2,
-            size: 128,
-        },
-        Word(0x011e),
-    ),
-    (Call::GlobalFlags { handle: 0x0116 }, Word(0x4100)),
-    (Call::GlobalAlloc { flags: 2, size: 32 }, Word(0)),
-    (Call::GlobalSize { handle: 0x010e }, Dword(128)),
-    (Call::GlobalHandle { selector: 0x010f }, Dword(0x010f_010e)),
-    (Call::GetSelectorBase { selector: 0x010f }, Dword(0)),
-    (Call::GetSelectorLimit { selector: 0x010f }, Dword(127)),
-    (Call::GlobalCompact { size: 0 }, Dword(0)),
-    (
-        Call::GlobalReAlloc {
-            handle: 0x0106,
-            size: 128,
-            flags: 0,
-        },
-        Word(0x0106),
-    ),
-    (Call::GlobalCompact { size: 0 }, Dword(128)),
-    (
-        Call::GlobalAlloc {
-            flags: 0x102,
-            size: 128,
-        },
-        Word(0x0126),
-    ),
-    (Call::GlobalLRUOldest { handle: 0x0126 }, Word(0x0126)),
-    (Call::GlobalLRUNewest { handle: 0x0126 }, Word(0x0126)),
-    (Call::GlobalDiscard { handle: 0x0126 }, Word(0x0126)),
-    (
-        Call::Fill {
-            pointer: 0x010f_0000,
-            count: 128,
-            byte: 0x61,
-        },
-        Status(DONE),
-    ),
-    (
-        Call::Read {
-            pointer: 0x010f_007e,
-            count: 2,
-        },
-        Word(0x6161),
-    ),
-    (
-        Call::Read {
-            pointer: 0x010f_007f,
-            count: 2,
-        },
-        Status(FAULT_LIMIT),
-    ),
-    (
-        Call::Read {
-            pointer: 0x0127_0000,
-            count: 2,
-        },
-        Status(FAULT_NOT_PRESENT),
-    ),
-    (
-        Call::Write {
-            pointer: 0x0999_0000,
-            bytes: b"hi",
-        },
-        Status(FAULT_SELECTOR),
-    ),
-    (
-        Call::Fill {
-            pointer: 0x010f_0000,
-            count: 65_537,
-            byte: 0,
-        },
-        Status(BAD_SIZE),
-    ),
-];
+/// Whether objects are allocated, locked, moved and discarded as they should, in a heap of 512 bytes.
+fn objects_answer(alloc: Global, held: &mut Held) -> bool {
+    let mut words = [0; 9];
+    let mut dwords = [0; 7];
+    let mut bytes = [0; 2];
+    let statuses = [
+        w16_global_alloc(alloc, held, 2, 128, &mut words[0]),
+        w16_global_alloc(alloc, held, 2, 128, &mut words[1]),
+        w16_global_alloc(alloc, held, 0x102, 128, &mut words[2]),
+        w16_global_lock(alloc, held, 0x010e, &mut dwords[0]),
+        w16_write(alloc, held, 0x010f_0000, b"hi"),
+        w16_global_unlock(alloc, held, 0x010e, &mut words[3]),
+        w16_global_free(alloc, held, 0x0106, &mut words[4]),
+        w16_global_alloc(alloc, held, 2, 256, &mut words[5]),
+        w16_moved(alloc, held, &mut dwords[1]),
+        w16_read(alloc, held, 0x010f_0000, &mut bytes),
+        w16_global_alloc(alloc, held, 2, 128, &mut words[6]),
+        w16_global_flags(alloc, held, 0x0116, &mut words[7]),
+        w16_global_alloc(alloc, held, 2, 32, &mut words[8]),
+        w16_global_size(alloc, held, 0x010e, &mut dwords[2]),
+        w16_global_handle(alloc, held, 0x010f, &mut dwords[3]),
+        w16_get_selector_base(alloc, held, 0x010f, &mut dwords[4]),
+        w16_get_selector_limit(alloc, held, 0x010f, &mut dwords[5]),
+        w16_global_compact(alloc, held, 0, &mut dwords[6]),
+    ];
+    statuses == [DONE; 18]
+        && words == [0x0106, 0x010e, 0x0116, 0, 0, 0x0106, 0x011e, 0x4100, 0]
+        && dwords == [0x010f_0000, 0x100, 128, 0x010f_010e, 0, 127, 0]
+        && bytes == *b"hi"
+}
 
-static ON_A_LOCAL_HEAP: &[(Call<'static>, Said)] = &[
-    (Call::GlobalAlloc { flags: 2, size: 32 }, Word(0x0106)),
-    (
-        Call::GlobalAlloc {
-            flags: 0x42,
-            size: 128,
-        },
-        Word(0x010e),
-    ),
-    (
-        Call::LocalInit {
-            selector: 0x010f,
-            start: 16,
-            end: 128,
-        },
-        Word(1),
-    ),
-    (Call::DS { selector: 0x010f }, Status(DONE)),
-    (
-        Call::LocalAlloc {
-            flags: 0x42,
-            size: 10,
-        },
-        Word(2),
-    ),
-    (
-        Call::LocalAlloc {
-            flags: 0x42,
-            size: 8,
-        },
-        Word(6),
-    ),
-    (
-        Call::LocalAlloc {
-            flags: 0x42,
-            size: 8,
-        },
-        Word(10),
-    ),
-    (Call::LocalFree { name: 2 }, Word(0)),
-    (Call::LocalLock { name: 6 }, Word(0x1c)),
-    (Call::LocalCompact { size: 96 }, Word(84)),
-    (Call::LocalUnlock { name: 6 }, Word(0)),
-    (Call::LocalCompact { size: 96 }, Word(96)),
-    (Call::LocalHandle { pointer: 0x18 }, Word(10)),
-    (Call::LocalSize { name: 6 }, Word(8)),
-    (
-        Call::LocalReAlloc {
-            name: 6,
-            size: 0,
-            flags: 0x180,
-        },
-        Word(6),
-    ),
-    (Call::LocalFlags { name: 6 }, Word(0x0f00)),
-    (Call::LocalDiscard { name: 6 }, Word(6)),
-    (Call::LocalFlags { name: 6 }, Word(0x4f00)),
-];
+/// Whether the same heap answers as it should once an object is cut, and far accesses their faults.
+fn bytes_answer(alloc: Global, held: &mut Held) -> bool {
+    let mut words = [0; 5];
+    let mut longest = 0;
+    let mut bytes = [0; 2];
+    let statuses = [
+        w16_global_realloc(alloc, held, 0x0106, 128, 0, &mut words[0]),
+        w16_global_compact(alloc, held, 0, &mut longest),
+        w16_global_alloc(alloc, held, 0x102, 128, &mut words[1]),
+        w16_global_lru_oldest(alloc, held, 0x0126, &mut words[2]),
+        w16_global_lru_newest(alloc, held, 0x0126, &mut words[3]),
+        w16_global_discard(alloc, held, 0x0126, &mut words[4]),
+        w16_fill(alloc, held, 0x010f_0000, 128, 0x61),
+        w16_read(alloc, held, 0x010f_007e, &mut bytes),
+        w16_read(alloc, held, 0x010f_007f, &mut bytes),
+        w16_read(alloc, held, 0x0127_0000, &mut bytes),
+        w16_write(alloc, held, 0x0999_0000, b"hi"),
+        w16_fill(alloc, held, 0x010f_0000, 65_537, 0),
+    ];
+    statuses[..8] == [DONE; 8]
+        && statuses[8..] == [FAULT_LIMIT, FAULT_NOT_PRESENT, FAULT_SELECTOR, BAD_SIZE]
+        && words == [0x0106, 0x0126, 0x0126, 0x0126, 0x0126]
+        && (longest, bytes) == (128, *b"aa")
+}
 
 #[test]
 fn calls_on_the_global_heap_are_made(rt: HostRuntime) {
-    assert!(rt; says(rt.alloc(), 512, ON_THE_GLOBAL_HEAP));
+    let (mut held, is_begun) = begun(rt.alloc(), 512);
+    let good = objects_answer(rt.alloc(), &mut held) && bytes_answer(rt.alloc(), &mut held);
+    assert!(rt; is_freed(rt.alloc(), held) && is_begun && good);
+}
+
+/// Whether a local heap in the second of two objects answers as it should.
+fn local_heap_answers(alloc: Global, held: &mut Held) -> bool {
+    let mut words = [0; 17];
+    let statuses = [
+        w16_global_alloc(alloc, held, 2, 32, &mut words[0]),
+        w16_global_alloc(alloc, held, 0x42, 128, &mut words[1]),
+        w16_local_init(alloc, held, 0x010f, 16, 128, &mut words[2]),
+        w16_ds(alloc, held, 0x010f),
+        w16_local_alloc(alloc, held, 0x42, 10, &mut words[3]),
+        w16_local_alloc(alloc, held, 0x42, 8, &mut words[4]),
+        w16_local_alloc(alloc, held, 0x42, 8, &mut words[5]),
+        w16_local_free(alloc, held, 2, &mut words[6]),
+        w16_local_lock(alloc, held, 6, &mut words[7]),
+        w16_local_compact(alloc, held, 96, &mut words[8]),
+        w16_local_unlock(alloc, held, 6, &mut words[9]),
+        w16_local_compact(alloc, held, 96, &mut words[10]),
+        w16_local_handle(alloc, held, 0x18, &mut words[11]),
+        w16_local_size(alloc, held, 6, &mut words[12]),
+        w16_local_realloc(alloc, held, 6, 0, 0x180, &mut words[13]),
+        w16_local_flags(alloc, held, 6, &mut words[14]),
+        w16_local_discard(alloc, held, 6, &mut words[15]),
+        w16_local_flags(alloc, held, 6, &mut words[16]),
+    ];
+    statuses == [DONE; 18]
+        && words[..9] == [0x0106, 0x010e, 1, 2, 6, 10, 0, 0x1c, 84]
+        && words[9..] == [0, 96, 10, 8, 6, 0x0f00, 6, 0x4f00]
 }
 
 #[test]
 fn calls_on_a_local_heap_are_made(rt: HostRuntime) {
-    assert!(rt; says(rt.alloc(), 256, ON_A_LOCAL_HEAP));
+    let (mut held, is_begun) = begun(rt.alloc(), 256);
+    let good = local_heap_answers(rt.alloc(), &mut held);
+    assert!(rt; is_freed(rt.alloc(), held) && is_begun && good);
 }
 
 /// Whether a new machine of 64 bytes has the parts that it should, an object before a hole.
@@ -387,6 +150,108 @@ fn an_empty_holder_has_a_status_of_its_own(rt: HostRuntime) {
     let bad = w16_new(rt.alloc(), &mut held, 33, 16) == BAD_SIZE;
     let mut handle = 7;
     let refused = w16_global_alloc(rt.alloc(), &mut held, 2, 20, &mut handle) == NO_MACHINE;
+    let fileless = w16_add_file(rt.alloc(), &mut held, b"A", b"") == NO_MACHINE
+        && misses(rt.alloc(), &mut held, NO_MACHINE, b"");
     w16_free(rt.alloc(), &mut held);
-    assert!(rt; is_freed(rt.alloc(), held) && bad && refused && handle == 7);
+    assert!(rt; is_freed(rt.alloc(), held) && bad && refused && fileless && handle == 7);
+}
+
+/// A library of one resource, number 1 of type 10, as examples/make-modules.py writes it.
+static TRES: &[u8] =
+    b"MZ\0\0\0\0\0\0\0\0\0\0\0\0\0\0\0\0\0\0\0\0\0\0\0\0\0\0\0\0\0\0\0\0\0\0\0\0\0\0\0\0\0\0\0\0\0\0\0\0\0\0\0\0\0\0\
+    \0\0\0\0@\0\0\0NE\x05\x0a`\0\x01\0\0\0\0\0\0\x80\0\0\0\0\0\0\0\0\0\0\0\0\0\0\0\0\0\0\0\0@\0@\0X\0`\0`\0\0\0\0\
+    \0\0\0\x04\0\0\0\x02\0\0\0\0\0\0\0\x0a\x03\x04\0\x0a\x80\x01\0\0\0\0\0\x0b\0\x01\00\x10\x01\x80\0\0\0\0\0\0\
+    \x04TRES\0\0\0\0\0\0\0\0\0\0\0\0\0\0\0\0\0\0\0Hello, resource!";
+
+/// A library without segments that refers to TRES.
+static TTOP: &[u8] =
+    b"MZ\0\0\0\0\0\0\0\0\0\0\0\0\0\0\0\0\0\0\0\0\0\0\0\0\0\0\0\0\0\0\0\0\0\0\0\0\0\0\0\0\0\0\0\0\0\0\0\0\0\0\0\0\0\0\
+    \0\0\0\0@\0\0\0NE\x05\x0aP\0\x01\0\0\0\0\0\0\x80\0\0\0\0\0\0\0\0\0\0\0\0\0\0\0\0\x01\0\0\0@\0@\0@\0H\0J\0\0\0\
+    \0\0\0\0\x04\0\0\0\x02\0\0\0\0\0\0\0\x0a\x03\x04TTOP\0\0\0\x01\0\0\x04TRES\0";
+
+/// Whether calls on modules, one after another, answer as they should.
+fn modules_answer(alloc: Global, held: &mut Held) -> bool {
+    let mut words = [0; 6];
+    let mut far = [0; 2];
+    let statuses = [
+        w16_load_library(alloc, held, b"TTOP.DLL", &mut words[0]),
+        w16_load_module(alloc, held, b"TTOP.DLL", &mut words[1]),
+        w16_get_module_usage(alloc, held, 0x21, &mut words[2]),
+        w16_free_library(alloc, held, 0x21, &mut words[3]),
+        w16_get_module_handle(alloc, held, b"tres", &mut words[4]),
+        w16_builtin(alloc, held, b"KERNEL", &mut words[5]),
+        w16_get_proc_address(alloc, held, 0x23, b"", 5, &mut far[0]),
+        w16_get_proc_address(alloc, held, 0x23, b"GETA", 5, &mut far[1]),
+    ];
+    statuses == [DONE; 8] && words == [0x21, 0x21, 2, 1, 0x22, 0x23] && far == [0x0023_0005, 0]
+}
+
+/// Whether calls on a resource answer as they should, and the module that has it goes at the end.
+fn resources_answer(alloc: Global, held: &mut Held) -> bool {
+    let mut words = [0; 8];
+    let mut dwords = [0; 3];
+    let mut bytes = [0; 5];
+    let statuses = [
+        w16_find_resource(alloc, held, 0x22, b"A", 1, b"", 10, &mut words[0]),
+        w16_find_resource(alloc, held, 0x22, b"", 1, b"", 10, &mut words[1]),
+        w16_sizeof_resource(alloc, held, 0x22, 1, &mut dwords[0]),
+        w16_load_resource(alloc, held, 0x22, 1, &mut words[2]),
+        w16_global_compact(alloc, held, 4096, &mut dwords[1]),
+        w16_lock_resource(alloc, held, 0x0106, &mut dwords[2]),
+        w16_read(alloc, held, 0x0107_0000, &mut bytes),
+        w16_free_resource(alloc, held, 0x0106, &mut words[3]),
+        w16_global_unlock(alloc, held, 0x0106, &mut words[4]),
+        w16_free_resource(alloc, held, 0x0106, &mut words[5]),
+        w16_free_module(alloc, held, 0x21, &mut words[6]),
+        w16_get_module_handle(alloc, held, b"TRES", &mut words[7]),
+    ];
+    statuses == [DONE; 12]
+        && words == [0, 1, 0x0106, 1, 0, 0, 0, 0]
+        && dwords == [16, 4096, 0x0107_0000]
+        && bytes == *b"Hello"
+}
+
+/// What a load of TTOP.DLL answers, once it is made.
+fn loaded(alloc: Global, held: &mut Held) -> Option<u16> {
+    let mut word = 0;
+    if w16_load_library(alloc, held, b"TTOP.DLL", &mut word) != DONE {
+        return None;
+    }
+    Some(word)
+}
+
+/// Whether the machine says of a missing file what is wanted.
+fn misses(alloc: Global, held: &mut Held, wanted: u8, name: &[u8]) -> bool {
+    let mut room = [0; 259];
+    let mut length = 0;
+    w16_missing_file(alloc, held, &mut room, &mut length) == wanted
+        && length <= 259
+        && &room[..length] == name
+}
+
+#[test]
+fn a_file_is_never_replaced(rt: HostRuntime) {
+    let alloc = rt.alloc();
+    let (mut held, is_begun) = begun(alloc, 4096);
+    let first = w16_add_file(alloc, &mut held, b"TTOP.DLL", b"") == DONE;
+    let second = w16_add_file(alloc, &mut held, b"ttop.dll", TTOP) == EXISTS;
+    let kept = loaded(alloc, &mut held) == Some(11) && misses(alloc, &mut held, NONE_MISSING, b"");
+    assert!(rt; is_freed(alloc, held) && is_begun && first && second && kept);
+}
+
+#[test]
+fn a_load_tells_which_file_it_misses(rt: HostRuntime) {
+    let alloc = rt.alloc();
+    let (mut held, is_begun) = begun(alloc, 4096);
+    let mut length = 7;
+    let first = loaded(alloc, &mut held) == Some(2)
+        && misses(alloc, &mut held, DONE, b"TTOP.DLL")
+        && w16_add_file(alloc, &mut held, b"TTOP.DLL", TTOP) == DONE;
+    let second = loaded(alloc, &mut held) == Some(20)
+        && misses(alloc, &mut held, DONE, b"TRES.DLL")
+        && w16_missing_file(alloc, &mut held, &mut [0; 7], &mut length) == BAD_SIZE
+        && w16_add_file(alloc, &mut held, b"tres.dll", TRES) == DONE
+        && misses(alloc, &mut held, NONE_MISSING, b"");
+    let good = modules_answer(alloc, &mut held) && resources_answer(alloc, &mut held);
+    assert!(rt; is_freed(alloc, held) && is_begun && first && second && good && length == 7);
 }

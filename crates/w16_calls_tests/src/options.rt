@@ -1,82 +1,42 @@
 //! Command lines, what is read of them, and which are refused.
-use clap::error::ErrorKind;
+use clap::error::ErrorKind::{self, *};
 use std::alloc::Global;
 use w16_options::{Options, parse};
 
+macro_rules! options {
+    ($memory:expr, $selectors:expr, $dir:expr, $script:expr) => {
+        Options { memory: $memory, selectors: $selectors, dir: $dir, script: $script }
+    };
+}
+
 /// Command lines, and what is read of them. The sizes where none is asked for are those that the help tells.
 const READ: &[(&[&str], Options<'static>)] = &[
-    (
-        &["w16heap"],
-        Options {
-            memory: 1_048_576,
-            selectors: 1024,
-            dir: ".",
-            script: None,
-        },
-    ),
+    (&["w16heap"], options!(1_048_576, 1024, ".", None)),
     (
         &["w16heap", "--memory", "4096"],
-        Options {
-            memory: 4096,
-            selectors: 1024,
-            dir: ".",
-            script: None,
-        },
+        options!(4096, 1024, ".", None),
     ),
     (
         &["w16heap", "--memory=4096"],
-        Options {
-            memory: 4096,
-            selectors: 1024,
-            dir: ".",
-            script: None,
-        },
+        options!(4096, 1024, ".", None),
     ),
     (
         &["w16heap", "--selectors", "16"],
-        Options {
-            memory: 1_048_576,
-            selectors: 16,
-            dir: ".",
-            script: None,
-        },
+        options!(1_048_576, 16, ".", None),
     ),
     (
         &["w16heap", "--memory", "32", "--selectors", "8160"],
-        Options {
-            memory: 32,
-            selectors: 8160,
-            dir: ".",
-            script: None,
-        },
+        options!(32, 8160, ".", None),
     ),
     (
         &["w16heap", "--selectors", "8160", "--memory", "32"],
-        Options {
-            memory: 32,
-            selectors: 8160,
-            dir: ".",
-            script: None,
-        },
+        options!(32, 8160, ".", None),
     ),
     (
         &["w16heap", "tour.txt"],
-        Options {
-            memory: 1_048_576,
-            selectors: 1024,
-            dir: ".",
-            script: Some("tour.txt"),
-        },
+        options!(1_048_576, 1024, ".", Some("tour.txt")),
     ),
-    (
-        &["w16heap", "-"],
-        Options {
-            memory: 1_048_576,
-            selectors: 1024,
-            dir: ".",
-            script: None,
-        },
-    ),
+    (&["w16heap", "-"], options!(1_048_576, 1024, ".", None)),
     (
         &[
             "w16heap",
@@ -86,39 +46,19 @@ const READ: &[(&[&str], Options<'static>)] = &[
             "--selectors",
             "16",
         ],
-        Options {
-            memory: 4096,
-            selectors: 16,
-            dir: ".",
-            script: Some("tour.txt"),
-        },
+        options!(4096, 16, ".", Some("tour.txt")),
     ),
     (
         &["w16heap", "--", "--memory"],
-        Options {
-            memory: 1_048_576,
-            selectors: 1024,
-            dir: ".",
-            script: Some("--memory"),
-        },
+        options!(1_048_576, 1024, ".", Some("--memory")),
     ),
     (
         &["w16heap", "--dir", "modules"],
-        Options {
-            memory: 1_048_576,
-            selectors: 1024,
-            dir: "modules",
-            script: None,
-        },
+        options!(1_048_576, 1024, "modules", None),
     ),
     (
         &["w16heap", "tour.txt", "--dir=/old/modules"],
-        Options {
-            memory: 1_048_576,
-            selectors: 1024,
-            dir: "/old/modules",
-            script: Some("tour.txt"),
-        },
+        options!(1_048_576, 1024, "/old/modules", Some("tour.txt")),
     ),
 ];
 
@@ -139,41 +79,25 @@ fn command_lines_are_read(rt: HostRuntime) {
 
 /// Command lines that are no request to run a script, why, and with which status they end.
 const REFUSED: &[(&[&str], ErrorKind, i32)] = &[
-    (
-        &["w16heap", "--memory", "many"],
-        ErrorKind::ValueValidation,
-        2,
-    ),
-    (
-        &["w16heap", "--memory", "-32"],
-        ErrorKind::UnknownArgument,
-        2,
-    ),
-    (&["w16heap", "--memory", ""], ErrorKind::ValueValidation, 2),
+    (&["w16heap", "--memory", "many"], ValueValidation, 2),
+    (&["w16heap", "--memory", "-32"], UnknownArgument, 2),
+    (&["w16heap", "--memory", ""], ValueValidation, 2),
     (
         &["w16heap", "--selectors", "4294967296"],
-        ErrorKind::ValueValidation,
+        ValueValidation,
         2,
     ),
-    (&["w16heap", "--slots", "16"], ErrorKind::UnknownArgument, 2),
-    (
-        &["w16heap", "a.txt", "b.txt"],
-        ErrorKind::UnknownArgument,
-        2,
-    ),
-    (
-        &["w16heap", "a.txt", "--memory"],
-        ErrorKind::InvalidValue,
-        2,
-    ),
-    (&["w16heap", "--dir"], ErrorKind::InvalidValue, 2),
+    (&["w16heap", "--slots", "16"], UnknownArgument, 2),
+    (&["w16heap", "a.txt", "b.txt"], UnknownArgument, 2),
+    (&["w16heap", "a.txt", "--memory"], InvalidValue, 2),
+    (&["w16heap", "--dir"], InvalidValue, 2),
     (
         &["w16heap", "--dir", "a", "--dir", "b"],
-        ErrorKind::ArgumentConflict,
+        ArgumentConflict,
         2,
     ),
-    (&["w16heap", "--help"], ErrorKind::DisplayHelp, 0),
-    (&["w16heap", "--version"], ErrorKind::DisplayVersion, 0),
+    (&["w16heap", "--help"], DisplayHelp, 0),
+    (&["w16heap", "--version"], DisplayVersion, 0),
 ];
 
 /// Whether a command line is refused so.

@@ -4,17 +4,13 @@
 ghost use Rattle.std.specs.Prelude.{All};
 ghost use Rattle.w16_kernel.specs.Runs.{IsCall};
 
-mod hosts;
 mod refusals;
-mod table;
+pub mod table;
 
-use arrayvec::ArrayVec;
-use hosts::{Broken, Endless, Short};
 use std::alloc::{AllocError, Global};
-use std::io::{Read, Write};
 use std::process::Abort;
 use std::test::Fail;
-use table::{LIFE, LIFE_OUTPUT, Row, tables};
+use table::{Row, tables};
 use w16_kernel::{Answer, Call, Kernel, Reply};
 use w16_model::{GRAIN, MOST_SLOTS};
 use w16_script::{RunFault, run};
@@ -31,12 +27,12 @@ fn script_of(alloc: Global, row: &Row) -> Result<Vec<u8>, AllocError> {
 }
 
 /// Runs a script on a new machine, and answers how it ended as a row has it.
-fn run_new<R: Read, W: Write>(
+fn run_new(
     alloc: Global,
     memory: u32,
     selectors: u32,
-    reader: &mut R,
-    writer: &mut W,
+    script: &[u8],
+    output: &mut Vec<u8>,
 ) -> Result<Result<(u32, u32), RunFault>, AllocError> {
     let mut kernel = Kernel::new(
         alloc,
@@ -45,7 +41,8 @@ fn run_new<R: Read, W: Write>(
         selectors.min(MOST_SLOTS),
         MemStore::new(alloc),
     )?;
-    let ended = run(alloc, reader, writer, &mut kernel);
+    let mut reader = script;
+    let ended = run(alloc, &mut reader, output, &mut kernel);
     Ok(ended.map(|counts| (counts.lines, counts.replies)))
 }
 
@@ -56,13 +53,7 @@ fn play(
     output: &mut Vec<u8>,
 ) -> Result<Result<(u32, u32), RunFault>, AllocError> {
     let script = script_of(alloc, row)?;
-    run_new(
-        alloc,
-        row.memory,
-        row.selectors,
-        &mut script.as_slice(),
-        output,
-    )
+    run_new(alloc, row.memory, row.selectors, &script, output)
 }
 
 /// Plays a row, and compares.
@@ -103,78 +94,13 @@ fn append_times(text: &mut Vec<u8>, part: &[u8], times: u32) -> Result<(), Alloc
     Ok(())
 }
 
-/// Parts of a script one after another, each so many times.
-const LOCKS: &[(&[u8], u32)] = &[
-    (b"GlobalAlloc 2 32\n", 1),
-    (b"GlobalLock 0x106\n", 256),
-    (b"GlobalFlags 0x106\nGlobalFree 0x106\n", 1),
-    (b"GlobalUnlock 0x106\n", 256),
-    (b"GlobalFree 0x106\n", 1),
-];
-
-/// And of the replies.
-const LOCKS_OUTPUT: &[(&[u8], u32)] = &[
-    (b"0106\n", 1),
-    (b"01070000\n", 255),
-    (b"00000000\n00ff\n0106\n", 1),
-    (b"0001\n", 254),
-    (b"0000\n", 3),
-];
-
-/// The whole text.
+/// The text of parts one after another, each so many times.
 fn joined(alloc: Global, parts: &[(&[u8], u32)]) -> Result<Vec<u8>, AllocError> {
     let mut text = Vec::new(alloc);
     for (part, times) in parts {
         append_times(&mut text, part, *times)?;
     }
     Ok(text)
-}
-
-/// The same of an object of a local heap, and of a fixed one, which counts none.
-const LOCAL_LOCKS: &[(&[u8], u32)] = &[
-    (
-        b"GlobalAlloc 0x42 128\nLocalInit 0x107 4 128\nDS 0x107\nLocalAlloc 0x102 4\n",
-        1,
-    ),
-    (b"LocalLock 2\n", 256),
-    (
-        b"LocalFlags 2\nLocalFree 2\nLocalDiscard 2\nLocalUnlock 2\n",
-        1,
-    ),
-    (
-        b"LocalAlloc 0 4\nLocalLock 8\nLocalUnlock 8\nLocalFlags 8\n",
-        1,
-    ),
-];
-
-const LOCAL_LOCKS_OUTPUT: &[(&[u8], u32)] = &[
-    (b"0106\n0001\nok\n0002\n", 1),
-    (b"0004\n", 255),
-    (b"0000\n0fff\n0002\n0000\n0001\n", 1),
-    (b"0008\n0008\n0000\n0000\n", 1),
-];
-
-/// Whether a run on a small machine ends by this fault, or with its script where there is none, and this was printed.
-fn ends<R: Read>(
-    alloc: Global,
-    reader: &mut R,
-    fault: Option<RunFault>,
-    printed: &[u8],
-) -> Result<bool, AllocError> {
-    let mut output = Vec::new(alloc);
-    let ended = run_new(alloc, 4096, 16, reader, &mut output)?;
-    Ok(ended.err() == fault && output.as_slice() == printed)
-}
-
-#[test]
-fn locks_up_to_the_full_count(rt: HostRuntime) -> Result<(), Fail> {
-    for (parts, output) in [(LOCKS, LOCKS_OUTPUT), (LOCAL_LOCKS, LOCAL_LOCKS_OUTPUT)] {
-        let script = joined(rt.alloc(), parts)?;
-        let wanted = joined(rt.alloc(), output)?;
-        let prints = ends(rt.alloc(), &mut script.as_slice(), None, &wanted)?;
-        assert!(rt; prints);
-    }
-    Ok(())
 }
 
 /// All entries of a local heap but one, and the last.
@@ -198,7 +124,7 @@ const ENTRIES: &[(&[u8], u32)] = &[
 fn entries_are_given_from_the_lowest_on(rt: HostRuntime) -> Result<(), Fail> {
     let script = joined(rt.alloc(), ENTRIES)?;
     let mut output = Vec::new(rt.alloc());
-    let _ = run_new(rt.alloc(), 8192, 16, &mut script.as_slice(), &mut output)?;
+    let _ = run_new(rt.alloc(), 8192, 16, &script, &mut output)?;
     let last = b"0ffa\n0ffe\n0000\n0000\n0000\n0000\n0192\n07d2\n0000\n0000\n";
     assert!(rt; output.ends_with(last));
     Ok(())
@@ -269,60 +195,5 @@ fn life_answers(alloc: Global) -> Result<Vec<Answer>, AllocError> {
 fn a_life_by_calls(rt: HostRuntime) -> Result<(), Fail> {
     let answers = life_answers(rt.alloc())?;
     assert!(rt; keep_all(&answers, LIFE_REPLIES), "{answers:?}");
-    Ok(())
-}
-
-#[test]
-fn a_reader_fails_in_a_line(rt: HostRuntime) -> Result<(), Fail> {
-    let mut reader = Broken {
-        bytes: b"GlobalAlloc 0x42 100\nGlobalLock 0x106\nWrite 0x01070000 4e45\nRead 0x0107",
-    };
-    let printed = b"0106\n01070000\nok\n";
-    let fails = ends(rt.alloc(), &mut reader, Some(RunFault::Read), printed)?;
-    assert!(rt; fails);
-    Ok(())
-}
-
-#[test]
-fn a_reader_fails_after_the_deciding_byte(rt: HostRuntime) -> Result<(), Fail> {
-    let letters = vec![in rt.alloc(); b'a'; 4097]?;
-    let mut reader = Broken { bytes: &letters };
-    let long = ends(rt.alloc(), &mut reader, Some(RunFault::TooLong), b"")?;
-    assert!(rt; long);
-    Ok(())
-}
-
-/// Whether a run over a writer of so many bytes ends by it, and just these were written.
-fn stops_at(alloc: Global, left: usize) -> Result<bool, AllocError> {
-    let mut reader = LIFE;
-    let mut writer = Short {
-        taken: ArrayVec::new(),
-        left,
-    };
-    let ended = run_new(alloc, 4096, 16, &mut reader, &mut writer)?;
-    let taken = writer.taken.as_slice();
-    Ok(ended == Err(RunFault::Write) && taken.len() == left && LIFE_OUTPUT.starts_with(taken))
-}
-
-#[test]
-fn a_writer_fails_at_each_byte(rt: HostRuntime) -> Result<(), Fail> {
-    for left in 0..LIFE_OUTPUT.len() {
-        let stops = stops_at(rt.alloc(), left)?;
-        assert!(rt; stops, "at {left}");
-    }
-    Ok(())
-}
-
-#[test]
-fn endless_readers_are_too_long(rt: HostRuntime) -> Result<(), Fail> {
-    for byte in [b'\n', b'a'] {
-        let long = ends(
-            rt.alloc(),
-            &mut Endless { byte },
-            Some(RunFault::TooLong),
-            b"",
-        )?;
-        assert!(rt; long, "of {byte}");
-    }
     Ok(())
 }

@@ -1,6 +1,7 @@
 //! The calls of programs, as the manual of Windows 3.1 names them.
-ghost use Rattle.std.specs.Prelude.{◌≡◌, ◌+◌, ◌^◌, ◌<◌, ◌≤◌, ℕ, if◌then◌else◌, IfSome, IfNone, None};
+ghost use Rattle.std.specs.Prelude.{◌≡◌, ◌+◌, ◌^◌, ◌<◌, ◌≤◌, ℕ, if◌then◌else◌, IfSome, IfNone, None, length};
 ghost use Rattle.std.specs.FinMap as finmap;
+ghost use Rattle.w16_model.specs.Changes.{without};
 ghost use Rattle.w16_model.specs.Heap.{is_discardable};
 ghost use Rattle.w16_model.specs.Calls.{GlobalAllocs, GlobalCompacts, locks_at, is_shared};
 ghost use Rattle.w16_model.specs.Handles.{AreHandles, Gives, IsFreeSlot};
@@ -41,6 +42,14 @@ impl<A: Allocator + Copy> Global16<A> {
         ensures { result ≡ handles.slot_of_selector self.now.handles selector }
     {
         self.selectors.find(selector).map(|_| slot_of(selector))
+    }
+
+    /// How many discardable objects with bytes there are, but for a slot's own. So a call that names this object, or makes it, discards others
+    /// just where there are fewer afterwards.
+    pub fn discardable_beside(&self, slot: u16) -> usize
+        ensures { result ≡ length (without slot self.now.handles.heap.order) }
+    {
+        self.objects.discardable_beside(slot as u32)
     }
 
     /// The lowest slot that no object has.

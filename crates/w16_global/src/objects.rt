@@ -2,7 +2,7 @@
 ghost use Rattle.std.specs.Prelude.{◌≡◌, ◌≢◌, ◌+◌, ◌-◌, ◌%◌, ◌^◌, ◌<◌, ◌≤◌, ◌⊎◌, ℕ, [], Ok, Err, None, Some, length, IfOk, IfErr, OnOk, IfSome, IfNone, IsSomeAnd, option_map, unwrap_or, is_some, take, if◌then◌else◌, IsSome};
 ghost use Rattle.std.specs.FinMap as finmap;
 ghost use Rattle.w16_model.specs.Heap.{IsHeap, object_at, bytes_at, empty_heap, IsMultiple};
-ghost use Rattle.w16_model.specs.Changes.{with_object, removed};
+ghost use Rattle.w16_model.specs.Changes.{with_object, removed, without};
 ghost use Rattle.w16_model.specs.Request.{Allocates, Compacts, Reallocates, compaction_prefix, moved_bytes};
 ghost use Rattle.w16_model.specs.OneObject.{after_discard, after_modify, after_lock, after_unlock, after_touch, after_newest, after_oldest};
 ghost use Rattle.w16_model.specs.Far.{after_write};
@@ -70,6 +70,13 @@ impl<A: Allocator + Copy> Objects<A> {
         ensures { result ≡ option_map length (bytes_at self.now.heap id) }
     {
         self.arena.block(id).map(|block| block.size)
+    }
+
+    /// How many discardable objects with bytes there are beside one.
+    pub fn discardable_beside(&self, id: u32) -> usize
+        ensures { result ≡ length (without id self.now.heap.order) }
+    {
+        self.arena.order_len_without(id)
     }
 
     /// The lowest block at or above an address, if there is one.

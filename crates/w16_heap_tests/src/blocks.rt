@@ -2,55 +2,18 @@
 
 mod bench;
 
-use bench::{Bench, State};
+use bench::Asked::{self, *};
+use bench::Bench;
+use bench::State::{self, *};
 use std::alloc::{AllocError, Global};
 use std::test::Fail;
 use w16_blocks::{Block, Hold, Part, Span};
 
-const FIRST: Block = Block {
-    id: 0,
-    at: 32,
-    size: 32,
-    hold: Hold::Loose,
-};
+const FIRST: Block = loose!(0, 32, 32);
 
-const SECOND: Block = Block {
-    id: 2,
-    at: 128,
-    size: 32,
-    hold: Hold::Pinned,
-};
+const SECOND: Block = pinned!(2, 128, 32);
 
-const LAST: Block = Block {
-    id: 3,
-    at: 160,
-    size: 32,
-    hold: Hold::Loose,
-};
-
-/// A question about blocks, with its answer.
-#[derive(Clone, Copy)]
-enum Asked {
-    Find(u32, Option<Block>),
-    Next(u32, Option<Block>),
-    Below(u32, Option<Block>),
-    Part(u32, Option<Part>),
-    Hole(u32, Option<u32>),
-    After(u32, Option<u32>),
-    Byte(u32, u8),
-    /// The first four by address.
-    Walk(&'static [Option<Block>]),
-    /// How many ids there are, the grain, and the bounds.
-    Sizes(u32, u32, Span),
-    /// The free bytes, those of the longest hole, and whether a block is pinned.
-    Totals(u32, u32, bool),
-    /// How many bytes were written.
-    Written(u64),
-    /// Where runs of the new blocks end, from the second block on, up to its end, and from the last one's end on, and up to the bound.
-    RunEnds([u32; 3]),
-    /// Where runs of the new blocks begin that end with the last block, from its begin on, with nothing, and from the bound on.
-    RunBegins([u32; 3]),
-}
+const LAST: Block = loose!(3, 160, 32);
 
 /// Blocks in a state, and what they answer.
 struct Case {
@@ -62,137 +25,131 @@ struct Case {
 static CASES: &[Case] = &[
     Case {
         name: "blocks are looked up",
-        state: State::New,
+        state: New,
         asked: &[
-            Asked::Find(2, Some(SECOND)),
-            Asked::Find(1, None),
-            Asked::Next(0, Some(FIRST)),
-            Asked::Next(33, Some(SECOND)),
-            Asked::Next(160, Some(LAST)),
-            Asked::Next(161, None),
-            Asked::Next(1000, None),
-            Asked::Sizes(4, 32, Span { from: 0, to: 256 }),
-            Asked::Totals(160, 64, true),
+            Find(2, Some(SECOND)),
+            Find(1, None),
+            Next(0, Some(FIRST)),
+            Next(33, Some(SECOND)),
+            Next(160, Some(LAST)),
+            Next(161, None),
+            Next(1000, None),
+            Sizes(4, 32, span!(0, 256)),
+            Totals(160, 64, true),
         ],
     },
     Case {
         name: "holes are found",
-        state: State::New,
+        state: New,
         asked: &[
-            Asked::Hole(0, Some(0)),
-            Asked::Hole(32, Some(0)),
-            Asked::Hole(33, Some(64)),
-            Asked::Hole(65, None),
-            Asked::After(0, Some(64)),
-            Asked::After(2, Some(0)),
-            Asked::After(3, Some(64)),
+            Hole(0, Some(0)),
+            Hole(32, Some(0)),
+            Hole(33, Some(64)),
+            Hole(65, None),
+            After(0, Some(64)),
+            After(2, Some(0)),
+            After(3, Some(64)),
         ],
     },
     Case {
         name: "a shift moves bytes",
-        state: State::Shifted,
+        state: Shifted,
         asked: &[
-            Asked::Find(3, Some(Block { at: 64, ..LAST })),
-            Asked::Byte(64, 7),
-            Asked::Next(64, Some(Block { at: 64, ..LAST })),
-            Asked::Next(129, None),
-            Asked::Written(64),
-            Asked::Totals(160, 96, true),
+            Find(3, Some(Block { at: 64, ..LAST })),
+            Byte(64, 7),
+            Next(64, Some(Block { at: 64, ..LAST })),
+            Next(129, None),
+            Written(64),
+            Totals(160, 96, true),
         ],
     },
     Case {
         name: "a run slides down",
-        state: State::Slid,
+        state: Slid,
         asked: &[
-            Asked::RunEnds([160, 192, 192]),
-            Asked::Find(2, Some(Block { at: 64, ..SECOND })),
-            Asked::Find(3, Some(Block { at: 96, ..LAST })),
-            Asked::Byte(64, 5),
-            Asked::Byte(96, 7),
-            Asked::Hole(128, Some(128)),
-            Asked::Next(128, None),
-            Asked::Written(128),
-            Asked::Totals(160, 128, true),
+            RunEnds([160, 192, 192]),
+            Find(2, Some(Block { at: 64, ..SECOND })),
+            Find(3, Some(Block { at: 96, ..LAST })),
+            Byte(64, 5),
+            Byte(96, 7),
+            Hole(128, Some(128)),
+            Next(128, None),
+            Written(128),
+            Totals(160, 128, true),
         ],
     },
     Case {
         name: "a run is lifted",
-        state: State::Lifted,
+        state: Lifted,
         asked: &[
-            Asked::RunBegins([160, 128, 128]),
-            Asked::Find(2, Some(Block { at: 160, ..SECOND })),
-            Asked::Find(3, Some(Block { at: 192, ..LAST })),
-            Asked::Byte(160, 5),
-            Asked::Byte(192, 7),
-            Asked::Hole(96, Some(64)),
-            Asked::Hole(97, None),
-            Asked::Next(64, Some(Block { at: 160, ..SECOND })),
-            Asked::Written(128),
-            Asked::Totals(160, 96, true),
+            RunBegins([160, 128, 128]),
+            Find(2, Some(Block { at: 160, ..SECOND })),
+            Find(3, Some(Block { at: 192, ..LAST })),
+            Byte(160, 5),
+            Byte(192, 7),
+            Hole(96, Some(64)),
+            Hole(97, None),
+            Next(64, Some(Block { at: 160, ..SECOND })),
+            Written(128),
+            Totals(160, 96, true),
         ],
     },
     Case {
         name: "a block is pinned, and another goes",
-        state: State::Pinned,
+        state: Pinned,
         asked: &[
-            Asked::Find(
-                0,
-                Some(Block {
-                    hold: Hold::Pinned,
-                    ..FIRST
-                }),
-            ),
-            Asked::Find(2, None),
-            Asked::Totals(192, 96, true),
+            Find(0, Some(pinned!(0, 32, 32))),
+            Find(2, None),
+            Totals(192, 96, true),
         ],
     },
     Case {
         name: "a block is loose again",
-        state: State::Loosened,
-        asked: &[Asked::Totals(192, 96, false)],
+        state: Loosened,
+        asked: &[Totals(192, 96, false)],
     },
     Case {
         name: "a block grows",
-        state: State::Grown,
+        state: Grown,
         asked: &[
-            Asked::Find(0, Some(Block { size: 96, ..FIRST })),
-            Asked::Hole(33, Some(192)),
-            Asked::Totals(96, 64, true),
+            Find(0, Some(Block { size: 96, ..FIRST })),
+            Hole(33, Some(192)),
+            Totals(96, 64, true),
         ],
     },
     Case {
         name: "blocks are walked by address",
-        state: State::New,
-        asked: &[Asked::Walk(&[Some(FIRST), Some(SECOND), Some(LAST), None])],
+        state: New,
+        asked: &[Walk(&[Some(FIRST), Some(SECOND), Some(LAST), None])],
     },
     // From above all on, each time from where the block before begins; then from inside a block, which is the last, and from the lowest
     // place.
     Case {
         name: "blocks are walked down",
-        state: State::New,
+        state: New,
         asked: &[
-            Asked::Below(1000, Some(LAST)),
-            Asked::Below(160, Some(SECOND)),
-            Asked::Below(128, Some(FIRST)),
-            Asked::Below(32, None),
-            Asked::Below(129, Some(SECOND)),
-            Asked::Below(0, None),
+            Below(1000, Some(LAST)),
+            Below(160, Some(SECOND)),
+            Below(128, Some(FIRST)),
+            Below(32, None),
+            Below(129, Some(SECOND)),
+            Below(0, None),
         ],
     },
     // From 0 on, each time from the end of the part before; then from inside a block, from inside a hole, and behind where the last part
     // begins.
     Case {
         name: "the heap is walked by part",
-        state: State::New,
+        state: New,
         asked: &[
-            Asked::Part(0, Some(Part::Hole(Span { from: 0, to: 32 }))),
+            Asked::Part(0, Some(Part::Hole(span!(0, 32)))),
             Asked::Part(32, Some(Part::Block(FIRST))),
-            Asked::Part(64, Some(Part::Hole(Span { from: 64, to: 128 }))),
+            Asked::Part(64, Some(Part::Hole(span!(64, 128)))),
             Asked::Part(128, Some(Part::Block(SECOND))),
             Asked::Part(160, Some(Part::Block(LAST))),
-            Asked::Part(192, Some(Part::Hole(Span { from: 192, to: 256 }))),
+            Asked::Part(192, Some(Part::Hole(span!(192, 256)))),
             Asked::Part(256, None),
-            Asked::Part(33, Some(Part::Hole(Span { from: 64, to: 128 }))),
+            Asked::Part(33, Some(Part::Hole(span!(64, 128)))),
             Asked::Part(96, Some(Part::Block(SECOND))),
             Asked::Part(193, None),
             Asked::Part(1000, None),
@@ -205,29 +162,10 @@ fn cases() -> &'static [Case] {
     CASES
 }
 
-/// Whether a question has its answer.
-fn is_so(bench: &Bench, asked: Asked) -> bool {
-    match asked {
-        Asked::Find(id, wanted) => bench.find(id) == wanted,
-        Asked::Next(at, wanted) => bench.next_from(at) == wanted,
-        Asked::Below(at, wanted) => bench.last_below(at) == wanted,
-        Asked::Part(at, wanted) => bench.part_from(at) == wanted,
-        Asked::Hole(n, wanted) => bench.hole_for(n) == wanted,
-        Asked::After(id, wanted) => bench.free_after(id) == wanted,
-        Asked::Byte(at, byte) => bench.is_filled(at, byte),
-        Asked::Walk(wanted) => bench.walk().as_slice() == wanted,
-        Asked::Sizes(cap, grain, bounds) => bench.sizes() == (cap, grain, bounds),
-        Asked::Totals(free, longest, pinned) => bench.totals() == (free, longest, pinned),
-        Asked::Written(wanted) => bench.written() == wanted,
-        Asked::RunEnds(wanted) => bench.run_ends() == wanted,
-        Asked::RunBegins(wanted) => bench.run_begins() == wanted,
-    }
-}
-
 /// How many questions have their answer before the first that hasn't.
 fn right_answers(bench: &Bench, all: &[Asked]) -> usize {
     for (i, asked) in all.iter().enumerate() {
-        if !is_so(bench, *asked) {
+        if !bench.is_so(*asked) {
             return i;
         }
     }

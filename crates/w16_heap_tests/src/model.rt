@@ -1,36 +1,5 @@
 //! The plain program at small heaps, with answers that were worked out by hand.
 
-macro_rules! loose {
-    ($id:expr, $at:expr, $size:expr) => {
-        Block {
-            id: $id,
-            at: $at,
-            size: $size,
-            hold: Hold::Loose,
-        }
-    };
-}
-
-macro_rules! pinned {
-    ($id:expr, $at:expr, $size:expr) => {
-        Block {
-            id: $id,
-            at: $at,
-            size: $size,
-            hold: Hold::Pinned,
-        }
-    };
-}
-
-macro_rules! span {
-    ($from:expr, $to:expr) => {
-        Span {
-            from: $from,
-            to: $to,
-        }
-    };
-}
-
 mod cases;
 mod discards;
 mod gaps;
@@ -38,32 +7,18 @@ mod growth;
 mod holes;
 mod placed;
 
-use w16_model::RoomOptions;
-
-const REVIVAL_OPTIONS: RoomOptions = RoomOptions {
-    compact: true,
-    discard: true,
-    zero: false,
-    may_move: false,
-};
+use crate::options::DISCARDING;
+use w16_model::{Block, Hold, RoomOptions};
 
 const MAY_MOVE: RoomOptions = RoomOptions {
-    compact: true,
-    discard: true,
-    zero: false,
     may_move: true,
-};
-
-const NO_DISCARD: RoomOptions = RoomOptions {
-    compact: true,
-    discard: false,
-    zero: false,
-    may_move: false,
+    ..DISCARDING
 };
 
 const NO_COMPACT: RoomOptions = RoomOptions {
     compact: false,
-    discard: true,
-    zero: false,
-    may_move: false,
+    ..DISCARDING
 };
+
+/// Three objects that fill 96 bytes.
+const THREE: &[Block] = &[loose!(32, 0, 32), loose!(33, 32, 32), loose!(34, 64, 32)];

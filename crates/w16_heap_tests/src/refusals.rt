@@ -18,9 +18,9 @@ enum Layer {
     Arena,
 }
 
-/// Each, and how many growths it takes: holes one; blocks two; gap rooms two; an arena its entries, its blocks, two of an order of use, gap
+/// Each, and how many growths it takes: holes one; blocks three; gap rooms two; an arena its entries, its blocks, two of an order of use, gap
 /// rooms, and what it discarded.
-static LAYERS: &[(Layer, u64)] = &[(Layer::Blocks, 3), (Layer::GapRooms, 2), (Layer::Arena, 9)];
+static LAYERS: &[(Layer, u64)] = &[(Layer::Blocks, 4), (Layer::GapRooms, 2), (Layer::Arena, 10)];
 
 /// Makes blocks, and they go.
 fn make_blocks(fuse: &Fuse<Global>) -> Result<(), AllocError> {

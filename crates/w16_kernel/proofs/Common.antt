@@ -1,18 +1,18 @@
 -- The names of definitions and of lower crates that the proofs of this crate cite, passed on from one place. Declares nothing.
-pub use Rattle.std.proofs.Common.{Err, None, Option, Some, rules, vec_capacity, vec_len}
+pub use Rattle.std.proofs.Common.{Err, None, Option, Some, filter, if◌then◌else◌, nat_le, rules, vec_capacity, vec_len, ◌==◌}
 pub use Rattle.std.proofs.lemmas.List.{map_push}
 pub use Rattle.std.proofs.lemmas.List.Elements.{All-from_get_or}
 pub use Rattle.std.proofs.lemmas.List.{length-map, length-take-le}
 pub use Rattle.std.proofs.lemmas.Option.{slice_get_within}
 pub use Rattle.std.specs.List.{slice_get}
-pub use Rattle.std.specs.Prelude.{IfNone, IsSome, MatchBool, MatchOption, Ok, Result, nat_lt, ◌%◌, ◌+◌, ◌-◌, ◌/◌}
+pub use Rattle.std.specs.Prelude.{IfNone, IsSome, MatchBool, MatchOption, Ok, Result, nat_lt, ◌%◌, ◌+◌, ◌-◌, ◌/◌, ◌≢◌}
 pub use Rattle.w16_format.proofs.Files.{is_format}
 pub use Rattle.w16_format.specs.Ne.{ne_format}
 pub use Rattle.w16_format.specs.Tables.{segment_in, tables_in}
 pub use Rattle.w16_global.proofs.Common.{Global, common_steps, cut_on, take_more}
 pub use Rattle.w16_kernel.specs.Fetching.{IsAbsent, IsSourceFor, Refetches}
 pub use Rattle.w16_resource.specs.Parts.{IsLoadingOver, StoreFetch, loading_of, word_in, dword_in}
-pub use Rattle.w16_kernel.specs.Parts.{IsWorldOver, KernelStep, ReadsCode, Unswept, may_take_bytes, surviving_heaps, world_of}
+pub use Rattle.w16_kernel.specs.Parts.{IsWorldOver, KernelStep, OthersStay, ReadsCode, Unswept, discardable_beside, may_take_bytes, object_slot, surviving_heaps, word_of, world_of}
 pub use Rattle.w16_kernel.specs.Runs.{TakesMemory, answer_of, command_of, label_of, load_command, reply_of, write_of}
 pub use Rattle.w16_kernel.specs.Stops.{StopsEarly}
 pub use Rattle.w16_kernel.specs.declared.call.Answer.{Answer}
@@ -34,7 +34,7 @@ pub use Rattle.w16_loading.specs.Owner.{Owner, owner_of}
 pub use Rattle.w16_loading.specs.Release.{without_objects}
 pub use Rattle.w16_local.proofs.Beginning.{on_any}
 pub use Rattle.w16_local.proofs.Common.{with_parts}
-pub use Rattle.w16_machine.proofs.Common.{Accesses, AnyStep, AreFewest, Bool, Command, Discardable, Dword, Event, Failed, FarAnswer, FarCommand, FarFault, FarReplies, FetchFault, Fetches, Fill, FinMap, Fixed, Format, Handles, Heap, IsLoadingWorld, IsOfFiles, Kind, LoadingWorld, Loads, Moveable, Object, Step, Store, StoreStep, Word, bytes_at, cond, data_write, false≢true, far_bytes, far_fault, gives, needs_fetch, object_at, option_map, part, refuses_write, reply_of_far, slot_of_selector, unwrap_or, with_handles, IfSome, IsCommand, IsFewest, IsSomeAnd, IsWorld, List, LoadingCommand, LoadingStep, OfFar, OfHandles, OfLoading, OfLocals, OfModules, OfResizes, OfResources, OnHandles, Read, Reply, Run, Table, World, Write, [], after_loading, ap, arith, call_may_take, false, far_read, far_reads_file, far_slot, far_write, get-empty, get_or, inl, inr, is_some, left_in, length, nat_cmp, offset_in, owned_at, reads_files, refl, selector_in, subst, sym, take, true, ℕ, ◌&&◌, ◌<◌, ◌∙◌, ◌∷◌, ◌≡◌, ◌≤◌, ◌⊎◌}
+pub use Rattle.w16_machine.proofs.Common.{Accesses, AnyStep, AreFewest, AreHandles, Bool, Command, Discardable, Dword, Event, Failed, FarAnswer, FarCommand, FarFault, FarReplies, FetchFault, Fetches, Fill, FinMap, Fixed, Format, Handles, Heap, IfSome, IsCommand, IsFewest, IsHeap, IsLoadingWorld, IsLocalIn, IsOfFiles, IsSomeAnd, IsWorld, Kind, List, LoadingCommand, LoadingStep, LoadingWorld, Loads, Moveable, Object, OfFar, OfHandles, OfLoading, OfLocals, OfModules, OfResizes, OfResources, OnHandles, Read, Reply, Run, Step, Store, StoreStep, Table, Word, World, Write, [], after_loading, answer_in, ap, arith, bytes_at, bytes_in, call_may_take, cond, data_write, false, false≢true, far_bytes, far_fault, far_read, far_reads_file, far_slot, far_write, get-empty, get-retain_keys, get_or, gives, has_range, inl, inr, is_in_order, is_member, is_some, left_in, length, nat_cmp, nat_cmp-IsAntisymmetric, nat_cmp_total, needs_fetch, object_at, offset_in, option_map, owned_at, part, reads_files, refl, refuses_write, reply_of_far, same_map, selector_in, slot_of_selector, subst, sym, take, taken_here, taken_other, true, unwrap_or, with_handles, ℕ, ◌&&◌, ◌<◌, ◌∙◌, ◌∷◌, ◌≡◌, ◌≤◌, ◌⊎◌}
 unfoldable pub use Rattle.w16_machine.proofs.Common.{repeated}
 pub use Rattle.w16_machine.proofs.Discards.{step_fewest}
 pub use Rattle.w16_machine.proofs.LocalStays.{heaps_law}
@@ -45,8 +45,25 @@ pub use Rattle.w16_machine.specs.Machine.{IsSame, Steps}
 pub use Rattle.w16_model.proofs.Listed.{walk_law}
 pub use Rattle.w16_model.specs.Law.{HasOneWalk}
 pub use Rattle.w16_model.proofs.Naming.{names_law}
-pub use Rattle.w16_model.specs.Calls.{global_handle}
-pub use Rattle.w16_model.specs.Calls.HandleCommand.{Moved}
-pub use Rattle.w16_model.specs.Handles.{dword_of, selector_of, slot_of_handle}
+pub use Rattle.w16_model.specs.Calls.{alloc_options, global_handle, kind_asked}
+pub use Rattle.w16_model.specs.Calls.HandleCommand.{GlobalCompact, GlobalFree, Moved}
+pub use Rattle.w16_model.specs.Handles.{IsSlot, dword_of, selector_of, slot_of_handle}
 pub use Rattle.w16_model.specs.Owned.{is_owned}
 pub use Rattle.w16_model.specs.declared.Owned.{Owned}
+pub use Rattle.std.proofs.lemmas.Bool.{cases_eq, le-leb}
+pub use Rattle.std.proofs.lemmas.List.Sums.{count_by-le-length, length-filter}
+pub use Rattle.w16_model.specs.Heap.{is_discardable}
+pub use Rattle.w16_model.specs.Changes.{without}
+pub use Rattle.w16_model.specs.Resizes.{realloc_options}
+pub use Rattle.w16_model.specs.Outcomes.{CallStep, Outcome}
+pub use Rattle.w16_model.specs.Outcomes.Outcome.{IsAllocated, IsCompacted, IsDiscarded, IsEntered, IsFreed, IsLocked, IsModified, IsNewest, IsOldest, IsResized, IsUnlocked, IsUnmoved}
+pub use Rattle.w16_model.specs.CallLaws.{IsAbout, IsKeptOrDiscarded, OnlyLeave, handle_in, may_change}
+pub use Rattle.w16_model.proofs.CallOutcomes.{outcome}
+pub use Rattle.w16_loading.specs.Resizes.ResizeCommand.{GlobalDiscard, GlobalReAlloc}
+pub use Rattle.w16_model.specs.Outcomes.Call.{Calls, ReAllocs}
+pub use Rattle.w16_model.specs.declared.TheConstants.{GMEM_MOVEABLE}
+pub use Rattle.w16_model.proofs.Bystanders.{bystanders_law}
+pub use Rattle.w16_model.proofs.CallLaws.{rest_of}
+pub use Rattle.w16_model.proofs.CallOrders.{allocated, compacted, resized, stays}
+pub use Rattle.w16_model.proofs.Prefixes.{filter_swapped}
+pub use Rattle.w16_model.proofs.KindChanges.{other_of, twice_out, without_out}

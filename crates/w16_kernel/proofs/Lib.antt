@@ -1,7 +1,9 @@
 pub mod Absent
+pub mod Adding
 pub mod Common
 pub mod FarSteps
 pub mod Modules
 pub mod Refetching
 pub mod Running
+pub mod Spared
 pub mod Stepping

@@ -1,8 +1,11 @@
 -- A step over the parts of the machine that the kernel has.
-use Rattle.std.specs.Prelude.{◌≡◌, ℕ, Bool, true, false, if◌then◌else◌, List, Some, IsSomeAnd}
+use Rattle.std.specs.Prelude.{◌≡◌, ◌≢◌, ◌≤◌, ℕ, ◌/◌, Bool, true, false, if◌then◌else◌, List, length, Option, Some, None, option_map, unwrap_or, IfSome, IsSomeAnd}
 use Rattle.std.specs.Ordering.{nat_cmp}
+use Rattle.std.specs.FinMap as finmap
 use Rattle.std.specs.FinMap.{FinMap}
 use Rattle.w16_model.specs.Bytes.{part}
+use Rattle.w16_model.specs.Calls.HandleCommand.{GlobalAlloc, GlobalFree, GlobalCompact}
+use Rattle.w16_model.specs.Changes.{without}
 use Rattle.w16_model.specs.Handles.{Handles, offset_in, selector_in, slot_of_selector}
 use Rattle.w16_model.specs.Heap.{Heap}
 use Rattle.w16_model.specs.Table.{Table}
@@ -12,12 +15,13 @@ use Rattle.w16_loading.specs.Fetch.{is_code, segment_bytes}
 use Rattle.w16_loading.specs.Law.{IsOfFiles}
 use Rattle.w16_loading.specs.Modules.{IsSegmentOf, Load, Module, Modules, with_handles}
 use Rattle.w16_loading.specs.Replies.{Reply}
-use Rattle.w16_loading.specs.Replies.Reply.{Bytes}
+use Rattle.w16_loading.specs.Replies.Reply.{Bytes, Word}
+use Rattle.w16_loading.specs.Resizes.ResizeCommand.{GlobalReAlloc, GlobalDiscard}
 use Rattle.w16_format.specs.Ne.{ne_format}
 use Rattle.w16_resource.specs.Parts.{loading_of}
 use Rattle.w16_machine.specs.World.{World}
 use Rattle.w16_machine.specs.Law.{IsWorld}
-use Rattle.w16_machine.specs.Local.{left_in}
+use Rattle.w16_machine.specs.Local.{has_range, left_in}
 use Rattle.w16_machine.specs.LocalCalls.{LocalStep}
 use Rattle.w16_machine.specs.LocalStays.{call_may_take, modules_may_take, resources_may_take}
 use Rattle.w16_machine.specs.Machine.{Command, OnHandles, Step, StoreStep}
@@ -57,6 +61,30 @@ may_take_bytes (OfLocals command) = false
 -- the local heaps that are left where bytes may have been taken
 abbrev pub surviving_heaps : Bool → Heap → FinMap nat_cmp Table → FinMap nat_cmp Table
 surviving_heaps may_take heap tables = if may_take then left_in heap tables else tables
+
+-- Of the five calls of programs that may take bytes, the slot of the object that is named, or that GlobalAlloc has made by the handle that it
+-- answers: 0, which no object has, where there is none.
+abbrev pub object_slot : Command → ℕ → Option ℕ
+object_slot (OfLoading (OfHandles (GlobalAlloc flags size))) answer = Some (answer / 8)
+object_slot (OfLoading (OfHandles (GlobalFree handle))) answer = Some (handle / 8)
+object_slot (OfLoading (OfHandles (GlobalCompact size))) answer = Some 0
+object_slot (OfLoading (OfResizes (GlobalReAlloc handle size flags))) answer = Some (handle / 8)
+object_slot (OfLoading (OfResizes (GlobalDiscard handle))) answer = Some (handle / 8)
+object_slot command answer = None
+
+-- the word that a reply is, 0 of any other
+abbrev pub word_of : Reply → ℕ
+word_of (Word n) = n
+word_of reply = 0
+
+-- how many discardable objects with bytes there are beside that in a slot
+abbrev pub discardable_beside : Option ℕ → Heap → ℕ
+discardable_beside slot heap = unwrap_or (option_map (λ slot. length (without slot heap.order)) slot) 0
+
+-- Where there are as many as before, every local heap has its range but that in the object itself.
+abbrev pub OthersStay : Option ℕ → ℕ → Heap → FinMap nat_cmp Table → Type 0
+OthersStay slot before heap tables =
+    IfSome slot (λ slot. before ≤ length (without slot heap.order) → (q : ℕ) → q ≢ slot → IfSome (finmap.get tables q) (λ _. has_range heap tables q ≡ true))
 
 -- What a far read of code answers is a part of its file's bytes, relocated with the values that were bound at load: also where the code was
 -- discarded and is fetched for it.

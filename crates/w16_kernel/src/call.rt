@@ -4,6 +4,7 @@ ghost use Rattle.std.specs.Prelude.{◌≡◌, ◌≤◌, length};
 use arrayvec::ArrayVec;
 use w16_loading::FetchFault;
 use w16_model::FarFault;
+use w16_model::names::slot_of;
 
 /// The most bytes that a `Read` answers.
 pub const MOST_READ: usize = 1024;
@@ -180,7 +181,7 @@ pub enum Call<'a> {
 
 impl Call<'_> {
     ghost use Rattle.std.specs.Prelude.{◌≡◌};
-    ghost use Rattle.w16_kernel.specs.Parts.{may_take_bytes};
+    ghost use Rattle.w16_kernel.specs.Parts.{may_take_bytes, object_slot};
     ghost use Rattle.w16_kernel.specs.Runs.{command_of};
 
     /// Whether the call may take bytes of an object of the global heap, and so a local heap with them: false of a far access, which has the
@@ -204,6 +205,21 @@ impl Call<'_> {
             _ => false,
         }
     }
+
+    /// Of the five calls of programs that may take bytes of global objects, the slot of the object that is named, or that `GlobalAlloc` has made
+    /// by the handle that it answers: 0, which no object has, where there is none. None of any other call.
+    pub fn object_slot(&self, answer: u16) -> Option<u16>
+        ensures { result ≡ object_slot (command_of self.now) answer }
+    {
+        match *self {
+            Call::GlobalAlloc { .. } => Some(slot_of(answer)),
+            Call::GlobalFree { handle } => Some(slot_of(handle)),
+            Call::GlobalCompact { .. } => Some(0),
+            Call::GlobalReAlloc { handle, .. } => Some(slot_of(handle)),
+            Call::GlobalDiscard { handle } => Some(slot_of(handle)),
+            _ => None,
+        }
+    }
 }
 
 /// The answer to one command. Its bytes lie in the room that the caller lent.
@@ -218,6 +234,22 @@ pub enum Reply<'r> {
     Failed(FetchFault),
     /// So many parts of the heap, which `Kernel::walk_at` tells one by one, and `Kernel::walk_from` from address to address.
     Walk(u32),
+}
+
+impl Reply<'_> {
+    ghost use Rattle.std.specs.Prelude.{◌≡◌};
+    ghost use Rattle.w16_kernel.specs.Parts.{word_of};
+    ghost use Rattle.w16_kernel.specs.Runs.{reply_of};
+
+    /// The word that it is, 0 of any other.
+    pub fn word(&self) -> u16
+        ensures { result ≡ word_of (reply_of self.now) }
+    {
+        match *self {
+            Reply::Word(word) => word,
+            _ => 0,
+        }
+    }
 }
 
 /// A reply that keeps its bytes.

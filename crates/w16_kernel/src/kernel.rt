@@ -1,17 +1,20 @@
 //! The machine's state, and its steps.
-ghost use Rattle.std.specs.Prelude.{◌≡◌, ◌+◌, ◌%◌, ◌^◌, ◌<◌, ◌≤◌, List, map, slice_get, All, IfSome, IfOk, OnErr};
+ghost use Rattle.std.specs.Prelude.{◌≡◌, ◌+◌, ◌%◌, ◌^◌, ◌<◌, ◌≤◌, List, map, slice_get, All, None, IfSome, IfOk, IfErr, OnOk, OnErr};
 ghost use Rattle.w16_model.specs.Handles.{handle_of};
 ghost use Rattle.w16_model.specs.Walk.{IsFirstItem, IsItem};
 ghost use Rattle.w16_machine.specs.World.{IsWorldWalk, empty_world};
 ghost use Rattle.w16_machine.specs.Machine.{Event, IsSame, Run};
 ghost use Rattle.w16_machine.specs.Fewest.{IsFewest, AreFewest};
+ghost use Rattle.w16_store.specs.Files.{file_of};
+ghost use Rattle.w16_kernel.specs.Growing.{AddsFile, IsNotAdded};
 ghost use Rattle.w16_kernel.specs.Parts.{KernelStep};
 ghost use Rattle.w16_kernel.specs.Runs.{command_of, reply_of, answer_of, IsCall, IsReply, TakesMemory};
 ghost use Rattle.w16_kernel.specs.Stops.{StopsEarly};
 
 use crate::call::{Answer, Call, MOST_READ, Reply};
+use crate::growing::{AddFault, GrowingStore};
 use crate::library::Library;
-use crate::step::{step, sweep};
+use crate::step::{discardable_beside, step, sweep};
 use std::alloc::{AllocError, Allocator, Global};
 use std::marker::Model;
 use w16_global::Global16;
@@ -99,6 +102,7 @@ impl<S: Store + Drop, A: Allocator + Copy> Kernel<S, A> {
         ensures wanted { OnErr result (TakesMemory self.old (command_of call.now)) }
         ensures refused { OnErr result (IsSame self.old self.new) }
     {
+        let before = discardable_beside(&self.global, call.object_slot(0));
         let reply = step(
             &mut self.global,
             &mut self.locals,
@@ -107,8 +111,9 @@ impl<S: Store + Drop, A: Allocator + Copy> Kernel<S, A> {
             call,
             room,
         )?;
-        sweep(&mut self.locals, &self.global, call);
         self.global.reveal_handles();
+        let slot = call.object_slot(reply.word());
+        sweep(&mut self.locals, &self.global, call, slot, before);
         Ok(reply)
     }
 
@@ -154,5 +159,27 @@ impl<S: Store + Drop, A: Allocator + Copy> Kernel<S, A> {
             answers.push_reserved(Answer::of(reply));
         }
         Ok(answers)
+    }
+}
+
+impl<A: Allocator + Copy> Kernel<GrowingStore, A> {
+    /// Adds a module file under a name that no file has, in any case of letters. No file is replaced: what is loaded stays as its file says. A fault
+    /// changes nothing.
+    pub fn add_file(&mut self, name: &[u8], bytes: &[u8]) -> Result<(), AddFault>
+        ensures added { OnOk result (AddsFile self.old name.now bytes.now self.new) }
+        ensures fault { IfErr result (IsNotAdded self.old.loading.files name.now) }
+        ensures same { OnErr result (self.new ≡ self.old) }
+    {
+        match self.library.store.add(name, bytes) {
+            Ok(()) => Ok(()),
+            Err(fault) => Err(fault),
+        }
+    }
+
+    /// The name of the file that the last load missed, where it answered 2 or 20 for want of one: [`GrowingStore::missed`].
+    pub fn missed_file(&self) -> Option<&[u8]>
+        ensures { IfSome result (λ name. file_of self.now.loading.files name.now ≡ None) }
+    {
+        self.library.store.missed()
     }
 }

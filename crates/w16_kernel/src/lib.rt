@@ -3,6 +3,7 @@
 
 mod call;
 mod far;
+mod growing;
 mod kernel;
 mod library;
 mod load;
@@ -12,6 +13,7 @@ mod sizes;
 mod step;
 
 pub use call::{Answer, Call, Chunk, Label, MOST_FILLED, MOST_READ, Reply};
+pub use growing::{AddFault, GrowingStore, MOST_NAME};
 pub use kernel::Kernel;
 pub use machine::Machine;
 pub use sizes::{MOST_MEMORY, SizeFault, check_sizes};

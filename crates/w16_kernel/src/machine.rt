@@ -25,7 +25,8 @@ pub trait Machine {
     ghost steps: { World → Command → printed.Reply → World → Type 0 };
 
     /// One call: a step that it may take, which discards as few objects as it can. Bytes that are read are put into the room. An error
-    /// is that there was no memory, for a new local heap, a built-in or a load, and the world is the same.
+    /// is that there was no memory, for a new local heap, a built-in or a load, and the world is the same but for the count of the store's
+    /// failures.
     fn call<'r>(
         &mut self,
         call: &Call<'_>,

@@ -4,7 +4,8 @@ ghost use Rattle.w16_model.specs.Handles.{handle_of};
 ghost use Rattle.w16_model.specs.Walk.{IsWalk};
 ghost use Rattle.w16_machine.specs.Machine.{IsCommand, IsSame};
 ghost use Rattle.w16_kernel.specs.Runs.{command_of, reply_of, IsCall, IsReply, TakesMemory};
-ghost use Rattle.w16_kernel.specs.Parts.{IsWorldOver, Unswept, may_take_bytes, surviving_heaps, world_of};
+ghost use Rattle.w16_kernel.specs.Parts as parts;
+ghost use Rattle.w16_kernel.specs.Parts.{IsWorldOver, OthersStay, Unswept, may_take_bytes, surviving_heaps, world_of};
 
 use crate::call::{Call, MOST_READ, Reply};
 use crate::far::{Written, read, write};
@@ -26,13 +27,38 @@ fn part_count<A: Allocator + Copy>(global: &Global16<A>) -> u32
     global.walk_len()
 }
 
-/// Takes away the local heaps whose segments a call may have taken bytes of.
-pub fn sweep<A: Allocator + Copy>(locals: &mut LocalHeaps<A>, global: &Global16<A>, call: &Call<'_>)
+/// How many discardable objects with bytes there are beside that in a slot.
+pub fn discardable_beside<A: Allocator + Copy>(global: &Global16<A>, slot: Option<u16>) -> usize
+    ensures { result ≡ parts.discardable_beside slot global.now.handles.heap }
+{
+    match slot {
+        Some(slot) => global.discardable_beside(slot),
+        None => 0,
+    }
+}
+
+/// Takes away the local heaps whose segments a call may have taken bytes of. Where the slot of its object is known, and as many discardable
+/// objects are left beside this one as before, the call has discarded no other, and only the heap in this slot may have to go.
+pub fn sweep<A: Allocator + Copy>(
+    locals: &mut LocalHeaps<A>,
+    global: &Global16<A>,
+    call: &Call<'_>,
+    slot: Option<u16>,
+    before: usize,
+)
+    requires { OthersStay slot before global.now.handles.heap locals.old }
     ensures { locals.new ≡ surviving_heaps (may_take_bytes (command_of call.now)) global.now.handles.heap locals.old }
 {
-    if call.may_take_bytes() {
-        locals.sweep(global);
+    if !call.may_take_bytes() {
+        return;
     }
+    if let Some(slot) = slot {
+        if before <= global.discardable_beside(slot) {
+            locals.sweep_slot(global, slot);
+            return;
+        }
+    }
+    locals.sweep(global);
 }
 
 /// One step, before local heaps are swept: far accesses sweep them themselves. Bytes that are read are put into the room. An error is that there

@@ -37,7 +37,7 @@ pub(crate) type HeldHeap<A> = Option<Box<LocalHeap<A>, A>>;
 pub struct LocalHeaps<A: Allocator + Copy = Global> {
     /// By slot.
     heaps: Vec<HeldHeap<A>, A>,
-    /// The slots that have a heap, each once, and those that had one until `drop_heap` since the last sweep.
+    /// The slots that have a heap, each once, and those that had one until `drop_heap` or `sweep_slot` since the last sweep.
     live: Vec<u16, A>,
     /// For new heaps.
     alloc: A,
@@ -94,7 +94,7 @@ impl<A: Allocator + Copy> LocalHeaps<A> {
     }
 
     /// Takes a slot's heap away, if it has one.
-    fn drop_slot(&mut self, slot: u16)
+    pub(crate) fn drop_slot(&mut self, slot: u16)
         ensures { self.new ≡ finmap.remove self.old slot }
     {
         if slot as usize >= self.heaps.len() {

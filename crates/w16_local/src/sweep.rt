@@ -1,5 +1,6 @@
 //! Heaps that go with the bytes of their segments.
-ghost use Rattle.std.specs.Prelude.{◌≡◌, ◌≢◌, ◌+◌, ◌<◌, ℕ, None, length, option_map, slice_index_or};
+ghost use Rattle.std.specs.Prelude.{◌≡◌, ◌≢◌, ◌+◌, ◌<◌, ℕ, None, if◌then◌else◌, length, option_map, slice_index_or};
+ghost use Rattle.std.specs.FinMap as finmap;
 ghost use Rattle.std.specs.FinMap.{FinMap};
 ghost use Rattle.std.specs.Ordering.{nat_cmp};
 ghost use Rattle.w16_model.specs.Table.{Table};
@@ -21,6 +22,15 @@ impl<A: Allocator + Copy> LocalHeaps<A> {
         ensures { self.new ≡ local.left_in global.now.handles.heap self.old }
     {
         sweep_listed(&mut self.heaps, &mut self.live, global);
+    }
+
+    /// The same of the heap in one slot's object alone, by one look: for after a call that took no other object's bytes.
+    pub fn sweep_slot(&mut self, global: &Global16<A>, slot: u16)
+        ensures { self.new ≡ if local.has_range global.now.handles.heap self.old slot then self.old else finmap.remove self.old slot }
+    {
+        if !has_range(&self.heaps, slot, global) {
+            self.drop_slot(slot);
+        }
     }
 }
 

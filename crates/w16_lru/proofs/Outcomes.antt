@@ -123,6 +123,9 @@ module _ (cap members : ℕ) (after before : List ℕ) (now : Uses) (ring : IsRi
       turn true e = let lt = member_below id cap now.ids below e in absurd (omega arith)
       turn false e = refl
 
+  pub as_many : (id : ℕ) → is_member id now.ids ≡ false → members ≡ length (without id now.ids)
+  as_many id none = sym (ap length (without-absent id now.ids none) ∙ count)
+
   pub same_without : (id : ℕ) → is_member id now.ids ≡ false → now ≡ with_ids now (without id now.ids)
   same_without id none = ap (with_ids now) (sym (without-absent id now.ids none))
 
@@ -132,37 +135,42 @@ module _ (cap members : ℕ) (after before : List ℕ) (now : Uses) (ring : IsRi
   pub fits : members ≤ cap
   fits = let bound = few now are_uses in let long = count in let e = cap_is in omega arith
 
+  -- What is linked to another is a member.
+  module _ (id next : ℕ) (lt : id < cap) (is_next : next ≡ get_or after id next) (other : next ≢ id) where
+    linked : slice_index after id ≢ id
+    linked e = other (read_after id next (omega arith) is_next ∙ e)
+
+    there : is_member id now.ids ≡ true
+    there = turn (is_member id now.ids) refl
+      where
+        turn : (t : Bool) → is_member id now.ids ≡ t → t ≡ true
+        turn true e = refl
+        turn false e = absurd (linked (ring_now.alone id lt e))
+
+    pub less : length (without id now.ids) + 1 ≡ members
+    less = fewer id now.ids (EachPair-from_AllPairs (λ a b. a ≡ b → ⊥) now.ids are_uses.apart) there ∙ count
+
   -- the links after an exchange
   module _ (id front : ℕ) (lt : id < cap) (forward backward : List ℕ) (a : forward ≡ swap after front id) (b : backward ≡ swap before (slice_index after front) (slice_index after id)) where
     ring_after : (new : List ℕ) → IsRing cap (swap after front id) (swap before (slice_index after front) (slice_index after id)) new → IsRing cap forward backward new
     ring_after new is = rw (a, b) is
 
     module _ (next : ℕ) (is_next : next ≡ get_or after id next) (other : next ≢ id) (leads : front ≡ get_or before id front) where
-      linked : slice_index after id ≢ id
-      linked e = other (read_after id next (omega arith) is_next ∙ e)
-
       front_is : slice_index before id ≡ front
       front_is = sym (read_before id front (omega arith) leads)
 
-      there : is_member id now.ids ≡ true
-      there = turn (is_member id now.ids) refl
-        where
-          turn : (t : Bool) → is_member id now.ids ≡ t → t ≡ true
-          turn true e = refl
-          turn false e = absurd (linked (ring_now.alone id lt e))
-
       removed : IsRing cap forward backward (without id now.ids)
       removed = ring_after (without id now.ids)
-          (ring-out cap after before now.ids ring_now front id (subst (λ q. q < cap + 1) front_is (ring.back id (omega arith)).0) lt front_is linked)
+          (ring-out cap after before now.ids ring_now front id (subst (λ q. q < cap + 1) front_is (ring.back id (omega arith)).0) lt front_is (linked id next lt is_next other))
 
-      less : length (without id now.ids) ≡ members - 1
-      less = let one = fewer id now.ids (EachPair-from_AllPairs (λ a b. a ≡ b → ⊥) now.ids are_uses.apart) there in let long = count in omega arith
+      fewer_left : length (without id now.ids) ≡ members - 1
+      fewer_left = let one = less id next lt is_next other in omega arith
 
       pub removed_kept : IsRing cap forward backward (ids_of cap forward (members - 1))
-      removed_kept = kept cap (members - 1) forward backward (without id now.ids) removed less
+      removed_kept = kept cap (members - 1) forward backward (without id now.ids) removed fewer_left
 
       pub removed_value : uses_of cap forward (members - 1) ≡ with_ids now (without id now.ids)
-      removed_value = viewed cap (members - 1) forward backward (without id now.ids) removed less ∙ (λ i. record { cap = cap_is i; ids = without id now.ids })
+      removed_value = viewed cap (members - 1) forward backward (without id now.ids) removed fewer_left ∙ (λ i. record { cap = cap_is i; ids = without id now.ids })
 
     -- what is no member comes directly behind the front
     module _ (none : is_member id now.ids ≡ false) where

@@ -73,6 +73,16 @@ impl<A: Allocator> Order<A> {
         self.members
     }
 
+    /// How many members there are beside an id, which needn't be one.
+    pub fn len_without(&self, id: u32) -> usize
+        ensures { result ≡ length (without id self.now.ids) }
+    {
+        if id >= self.cap || self.after[id as usize] == id {
+            return self.members;
+        }
+        self.members - 1
+    }
+
     /// The i-th member, the oldest first, from 0; none behind the newest. It walks there from the
     /// oldest.
     pub fn nth(&self, i: usize) -> Option<u32>

@@ -4,6 +4,8 @@ ghost use Rattle.std.specs.Prelude.{◌≡◌, ◌+◌, ◌^◌, ◌<◌, ◌≤
 ghost use Rattle.w16_model.specs.Bytes.{part, put_part, repeated};
 ghost use Rattle.w16_region.specs.Bytes.{counted};
 
+use Call::*;
+use Word::*;
 use std::marker::Model;
 use std::process::Abort;
 use std::test::Fail;
@@ -92,8 +94,16 @@ fn are_apart(from: u32, source_size: u32, to: u32, target_size: u32) -> bool
     from + source_size <= to || to + target_size <= from
 }
 
+/// Whether a part may be copied to another in twelve bytes.
+fn may_copy(from: u32, to: u32, size: u32) -> bool
+    ensures inside { IsTrue result → (from + size ≤ 12) × (to + size ≤ 12) }
+    ensures apart { IsTrue result → (from + size ≤ to) ⊎ (to + size ≤ from) }
+{
+    is_inside(from, size) && is_inside(to, size) && are_apart(from, size, to, size)
+}
+
 /// A call of a space.
-#[derive(Clone, Copy)]
+#[derive(Clone, Copy, Debug)]
 enum Call {
     /// The part from a place on, which is these bytes.
     View(u32, &'static [u8]),
@@ -125,12 +135,9 @@ impl<S: Space> Bench<S> {
     /// Makes a call; false where it would be outside, or a part isn't what it should be.
     fn call(&mut self, call: Call) -> bool {
         match call {
-            Call::View(at, bytes) => self.shows(at, bytes),
-            Call::Put(at, bytes) => self.put(at, bytes),
-            Call::Fill(at, size, byte) => self.fill(at, size, byte),
-            Call::Slide(from, to, size) => self.slide(from, to, size),
-            Call::Copy(from, to, size) => self.copy(from, to, size),
-            Call::Pair(from, source, to, byte) => self.pair(from, source, to, byte),
+            View(at, bytes) => self.shows(at, bytes),
+            Pair(from, source, to, byte) => self.pair(from, source, to, byte),
+            _ => self.change(call),
         }
     }
 
@@ -138,36 +145,20 @@ impl<S: Space> Bench<S> {
         fits(at, bytes) && self.space.view(at, bytes.len() as u32) == bytes
     }
 
-    fn put(&mut self, at: u32, bytes: &[u8]) -> bool {
-        let may = fits(at, bytes);
-        if may {
-            put(&mut self.space, at, bytes);
+    /// Makes a call that reads nothing; false where it would be outside.
+    fn change(&mut self, call: Call) -> bool {
+        match call {
+            Put(at, bytes) if fits(at, bytes) => put(&mut self.space, at, bytes),
+            Fill(at, size, byte) if is_inside(at, size) => self.space.fill(at, size, byte),
+            Slide(from, to, size) if is_inside(from, size) && is_inside(to, size) => {
+                self.space.slide(from, to, size);
+            }
+            Copy(from, to, size) if may_copy(from, to, size) => {
+                copy_apart(&mut self.space, from, to, size);
+            }
+            _ => return false,
         }
-        may
-    }
-
-    fn fill(&mut self, at: u32, size: u32, byte: u8) -> bool {
-        let may = is_inside(at, size);
-        if may {
-            self.space.fill(at, size, byte);
-        }
-        may
-    }
-
-    fn slide(&mut self, from: u32, to: u32, size: u32) -> bool {
-        let may = is_inside(from, size) && is_inside(to, size);
-        if may {
-            self.space.slide(from, to, size);
-        }
-        may
-    }
-
-    fn copy(&mut self, from: u32, to: u32, size: u32) -> bool {
-        let may = is_inside(from, size) && is_inside(to, size) && are_apart(from, size, to, size);
-        if may {
-            copy_apart(&mut self.space, from, to, size);
-        }
-        may
+        true
     }
 
     fn pair(&mut self, from: u32, source: &[u8], to: u32, byte: u8) -> bool {
@@ -190,108 +181,43 @@ impl<S: Space> Bench<S> {
 
     /// Makes the calls of all lines, each of which has to leave its bytes and its count.
     fn check_lines(&mut self, rt: &impl Abort) {
-        for (name, call, bytes, written) in LINES {
+        for (call, bytes, written) in LINES {
             let right = self.call(*call) && self.has(bytes, *written);
-            assert!(rt; right, "{name}");
+            assert!(rt; right, "{call:?}");
         }
     }
 }
 
-/// What is shown, a call, the bytes that it leaves, and how many count as written then.
-type Line = (&'static str, Call, [u8; 12], u64);
+/// A call, the bytes that it leaves, and how many count as written then.
+type Line = (Call, [u8; 12], u64);
 
-/// On a space of twelve zero bytes of which none counts as written. Empty ranges at the end change nothing and count nothing.
+/// The bytes that are left in the end.
+const LEFT: [u8; 12] = [4, 5, 4, 5, 6, 4, 5, 6, 3, 4, 5, 5];
+
+/// On a space of twelve zero bytes of which none counts as written.
 static LINES: &[Line] = &[
+    (View(0, &[0, 0]), [0, 0, 0, 0, 0, 0, 0, 0, 0, 0, 0, 0], 0),
+    (Fill(2, 3, 7), [0, 0, 7, 7, 7, 0, 0, 0, 0, 0, 0, 0], 3),
     (
-        "a new space is of zeros",
-        Call::View(0, &[0, 0]),
-        [0, 0, 0, 0, 0, 0, 0, 0, 0, 0, 0, 0],
-        0,
-    ),
-    (
-        "a part is filled",
-        Call::Fill(2, 3, 7),
-        [0, 0, 7, 7, 7, 0, 0, 0, 0, 0, 0, 0],
-        3,
-    ),
-    (
-        "bytes are put",
-        Call::Put(0, &[1, 2, 3, 4, 5, 6]),
+        Put(0, &[1, 2, 3, 4, 5, 6]),
         [1, 2, 3, 4, 5, 6, 0, 0, 0, 0, 0, 0],
         9,
     ),
-    (
-        "a part is viewed",
-        Call::View(1, &[2, 3, 4]),
-        [1, 2, 3, 4, 5, 6, 0, 0, 0, 0, 0, 0],
-        9,
-    ),
-    (
-        "a part slides up over itself",
-        Call::Slide(0, 2, 6),
-        [1, 2, 1, 2, 3, 4, 5, 6, 0, 0, 0, 0],
-        15,
-    ),
-    (
-        "a part slides down over itself",
-        Call::Slide(4, 1, 4),
-        [1, 3, 4, 5, 6, 4, 5, 6, 0, 0, 0, 0],
-        19,
-    ),
-    (
-        "a part is copied up",
-        Call::Copy(1, 8, 3),
-        [1, 3, 4, 5, 6, 4, 5, 6, 3, 4, 5, 0],
-        22,
-    ),
-    (
-        "a part is copied down",
-        Call::Copy(9, 0, 2),
-        [4, 5, 4, 5, 6, 4, 5, 6, 3, 4, 5, 0],
-        24,
-    ),
-    (
-        "a pair's source is read, and its target written",
-        Call::Pair(0, &[4, 5], 11, 5),
-        [4, 5, 4, 5, 6, 4, 5, 6, 3, 4, 5, 5],
-        25,
-    ),
-    (
-        "an empty part is viewed",
-        Call::View(12, &[]),
-        [4, 5, 4, 5, 6, 4, 5, 6, 3, 4, 5, 5],
-        25,
-    ),
-    (
-        "no bytes are put",
-        Call::Put(12, &[]),
-        [4, 5, 4, 5, 6, 4, 5, 6, 3, 4, 5, 5],
-        25,
-    ),
-    (
-        "an empty part is filled",
-        Call::Fill(12, 0, 9),
-        [4, 5, 4, 5, 6, 4, 5, 6, 3, 4, 5, 5],
-        25,
-    ),
-    (
-        "an empty part slides down",
-        Call::Slide(12, 0, 0),
-        [4, 5, 4, 5, 6, 4, 5, 6, 3, 4, 5, 5],
-        25,
-    ),
-    (
-        "an empty part slides up",
-        Call::Slide(0, 12, 0),
-        [4, 5, 4, 5, 6, 4, 5, 6, 3, 4, 5, 5],
-        25,
-    ),
-    (
-        "an empty part is copied",
-        Call::Copy(12, 12, 0),
-        [4, 5, 4, 5, 6, 4, 5, 6, 3, 4, 5, 5],
-        25,
-    ),
+    (View(1, &[2, 3, 4]), [1, 2, 3, 4, 5, 6, 0, 0, 0, 0, 0, 0], 9),
+    // A part slides up over itself, and down.
+    (Slide(0, 2, 6), [1, 2, 1, 2, 3, 4, 5, 6, 0, 0, 0, 0], 15),
+    (Slide(4, 1, 4), [1, 3, 4, 5, 6, 4, 5, 6, 0, 0, 0, 0], 19),
+    // A part is copied up, and down.
+    (Copy(1, 8, 3), [1, 3, 4, 5, 6, 4, 5, 6, 3, 4, 5, 0], 22),
+    (Copy(9, 0, 2), [4, 5, 4, 5, 6, 4, 5, 6, 3, 4, 5, 0], 24),
+    (Pair(0, &[4, 5], 11, 5), LEFT, 25),
+    // Empty ranges at the end change nothing and count nothing.
+    (View(12, &[]), LEFT, 25),
+    (Put(12, &[]), LEFT, 25),
+    (Fill(12, 0, 9), LEFT, 25),
+    (Slide(12, 0, 0), LEFT, 25),
+    (Slide(0, 12, 0), LEFT, 25),
+    (Copy(12, 12, 0), LEFT, 25),
 ];
 
 #[test]
@@ -321,7 +247,7 @@ fn slice_is_changed() -> bool {
 fn window_is_a_space_over_its_slice(rt: HostRuntime) {
     let mut bytes = [0; 12];
     check_window(&rt, &mut bytes);
-    assert!(rt; bytes == [4, 5, 4, 5, 6, 4, 5, 6, 3, 4, 5, 5] && slice_is_changed());
+    assert!(rt; bytes == LEFT && slice_is_changed());
 }
 
 #[test]
@@ -334,57 +260,43 @@ fn region_is_changed_in_place(rt: HostRuntime) -> Result<(), Fail> {
 }
 
 /// A word that is set at a place, with the bytes of the region afterwards, or one that is read there.
-#[derive(Clone, Copy)]
+#[derive(Clone, Copy, Debug)]
 enum Word {
     Set(u32, u32, [u8; 12]),
     Read(u32, u32),
 }
 
 /// A word has its lowest byte first, at any place, and what stands beside it stays.
-static WORDS: &[(&str, Word)] = &[
-    (
-        "a word is set",
-        Word::Set(4, 0x0403_0201, [9, 9, 9, 9, 1, 2, 3, 4, 9, 9, 9, 9]),
-    ),
-    ("a word is read", Word::Read(4, 0x0403_0201)),
-    (
-        "a word is read across its begin",
-        Word::Read(2, 0x0201_0909),
-    ),
-    (
-        "a word is set at an odd place",
-        Word::Set(
-            7,
-            0xffff_fffe,
-            [9, 9, 9, 9, 1, 2, 3, 0xfe, 0xff, 0xff, 0xff, 9],
-        ),
-    ),
-    ("a word is read at an odd place", Word::Read(7, 0xffff_fffe)),
-    (
-        "the last word is set",
-        Word::Set(8, 0, [9, 9, 9, 9, 1, 2, 3, 0xfe, 0, 0, 0, 0]),
-    ),
-    ("the last word is read", Word::Read(8, 0)),
+static WORDS: &[Word] = &[
+    Set(4, 0x0403_0201, [9, 9, 9, 9, 1, 2, 3, 4, 9, 9, 9, 9]),
+    Read(4, 0x0403_0201),
+    // Across the begin of the one that was set.
+    Read(2, 0x0201_0909),
+    Set(7, 0xffff_fffe, [9, 9, 9, 9, 1, 2, 3, 254, 255, 255, 255, 9]),
+    Read(7, 0xffff_fffe),
+    // The last word.
+    Set(8, 0, [9, 9, 9, 9, 1, 2, 3, 254, 0, 0, 0, 0]),
+    Read(8, 0),
 ];
 
 impl Bench<Region> {
     /// Whether a word is read, or leaves the bytes that it should and the count of twelve.
     fn word(&mut self, word: Word) -> bool {
         match word {
-            Word::Set(at, value, bytes) if is_inside(at, 4) => {
+            Set(at, value, bytes) if is_inside(at, 4) => {
                 self.space.set_word(at, value);
                 self.has(&bytes, 12)
             }
-            Word::Read(at, value) if is_inside(at, 4) => self.space.word_at(at) == value,
+            Read(at, value) if is_inside(at, 4) => self.space.word_at(at) == value,
             _ => false,
         }
     }
 
     /// Sets and reads all words.
     fn check_words(&mut self, rt: &impl Abort) {
-        for (name, word) in WORDS {
+        for word in WORDS {
             let right = self.word(*word);
-            assert!(rt; right, "{name}");
+            assert!(rt; right, "{word:?}");
         }
     }
 }

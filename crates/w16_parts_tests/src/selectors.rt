@@ -2,11 +2,14 @@
 ghost use Rattle.std.specs.Prelude.{◌≡◌, ◌<◌, IsTrue, IsSome, ℕ};
 ghost use Rattle.w16_selectors.specs.Descriptors.{descriptor_at, IsUntaken};
 
+use Call::*;
 use std::alloc::{AllocError, Global};
 use std::marker::Model;
 use std::test::Fail;
 use w16_model::names::selector_of;
-use w16_selectors::{Descriptor, FarFault, SelKind, Selectors};
+use w16_selectors::FarFault::{self, *};
+use w16_selectors::SelKind::{self, *};
+use w16_selectors::{Descriptor, Selectors};
 
 /// One call of a table of descriptors, with the answer that is wanted where it has one.
 #[derive(Clone, Copy)]
@@ -67,50 +70,30 @@ impl Bench {
     /// Makes a call; false where it can't be made, or isn't answered as it should be.
     fn call(&mut self, call: Call) -> bool {
         match call {
-            Call::Take(slot, kind) => self.take(slot, kind),
-            Call::Give(slot) => self.give(slot),
-            Call::Place(slot, base, limit) => self.place(slot, base, limit),
-            Call::Vacate(slot) => self.vacate(slot),
-            Call::Len(slots) => self.selectors.len() == slots,
-            Call::LowestFree(slot) => self.selectors.lowest_free() == slot,
-            Call::FindRun(count, first) => self.selectors.find_run(count) == first,
-            Call::Find(selector, descriptor) => self.selectors.find(selector) == descriptor,
-            Call::Resolve(selector, offset, n, write, answer) => {
+            Len(slots) => self.selectors.len() == slots,
+            LowestFree(slot) => self.selectors.lowest_free() == slot,
+            FindRun(count, first) => self.selectors.find_run(count) == first,
+            Find(selector, descriptor) => self.selectors.find(selector) == descriptor,
+            Resolve(selector, offset, n, write, answer) => {
                 self.selectors.resolve(selector, offset, n, write) == answer
             }
+            _ => self.change(call),
         }
     }
 
-    fn take(&mut self, slot: u16, kind: SelKind) -> bool {
-        let may = is_free(&self.selectors, slot);
-        if may {
-            self.selectors.take(slot, kind);
+    /// Makes a call that changes the table; false where it can't be made.
+    fn change(&mut self, call: Call) -> bool {
+        match call {
+            Take(slot, kind) if is_free(&self.selectors, slot) => self.selectors.take(slot, kind),
+            Give(slot) if is_taken(&self.selectors, slot) => self.selectors.give(slot),
+            Place(slot, base, limit)
+                if is_taken(&self.selectors, slot) && base <= 4096 && limit <= 31 => {
+                self.selectors.place(slot, base, limit)
+            }
+            Vacate(slot) if is_taken(&self.selectors, slot) => self.selectors.vacate(slot),
+            _ => return false,
         }
-        may
-    }
-
-    fn give(&mut self, slot: u16) -> bool {
-        let may = is_taken(&self.selectors, slot);
-        if may {
-            self.selectors.give(slot);
-        }
-        may
-    }
-
-    fn place(&mut self, slot: u16, base: u32, limit: u32) -> bool {
-        let may = is_taken(&self.selectors, slot) && base <= 4096 && limit <= 31;
-        if may {
-            self.selectors.place(slot, base, limit);
-        }
-        may
-    }
-
-    fn vacate(&mut self, slot: u16) -> bool {
-        let may = is_taken(&self.selectors, slot);
-        if may {
-            self.selectors.vacate(slot);
-        }
-        may
+        true
     }
 }
 
@@ -119,7 +102,7 @@ const ABSENT_CODE: Descriptor = Descriptor {
     base: 0,
     limit: 0,
     present: false,
-    kind: SelKind::Code,
+    kind: Code,
 };
 
 /// And once it has 32 bytes at 4,096.
@@ -127,7 +110,7 @@ const CODE: Descriptor = Descriptor {
     base: 4096,
     limit: 31,
     present: true,
-    kind: SelKind::Code,
+    kind: Code,
 };
 
 /// What a row shows, and the calls that are made from six free slots on.
@@ -135,79 +118,79 @@ static ROWS: &[(&str, &[Call])] = &[
     (
         "the lowest free slot is found",
         &[
-            Call::LowestFree(Some(32)),
-            Call::Take(32, SelKind::Data),
-            Call::Take(34, SelKind::Data),
-            Call::LowestFree(Some(33)),
-            Call::Take(33, SelKind::Data),
-            Call::LowestFree(Some(35)),
-            Call::Take(35, SelKind::Data),
-            Call::Take(36, SelKind::Data),
-            Call::Take(37, SelKind::Data),
-            Call::LowestFree(None),
-            Call::Give(34),
-            Call::Give(36),
-            Call::LowestFree(Some(34)),
+            LowestFree(Some(32)),
+            Take(32, Data),
+            Take(34, Data),
+            LowestFree(Some(33)),
+            Take(33, Data),
+            LowestFree(Some(35)),
+            Take(35, Data),
+            Take(36, Data),
+            Take(37, Data),
+            LowestFree(None),
+            Give(34),
+            Give(36),
+            LowestFree(Some(34)),
         ],
     ),
     (
         "runs are found",
         &[
-            Call::Len(38),
-            Call::FindRun(1, Some(32)),
-            Call::FindRun(6, Some(32)),
-            Call::FindRun(7, None),
-            Call::FindRun(0, Some(32)),
-            Call::Take(34, SelKind::Data),
-            Call::FindRun(1, Some(32)),
-            Call::FindRun(3, Some(35)),
-            Call::FindRun(4, None),
+            Len(38),
+            FindRun(1, Some(32)),
+            FindRun(6, Some(32)),
+            FindRun(7, None),
+            FindRun(0, Some(32)),
+            Take(34, Data),
+            FindRun(1, Some(32)),
+            FindRun(3, Some(35)),
+            FindRun(4, None),
         ],
     ),
     (
         "one slot is changed",
         &[
-            Call::Take(34, SelKind::Code),
-            Call::Find(279, Some(ABSENT_CODE)),
-            Call::Place(34, 4096, 31),
-            Call::Find(279, Some(CODE)),
-            Call::Find(278, None),
-            Call::Find(271, None),
-            Call::Find(65535, None),
-            Call::Vacate(34),
-            Call::Find(279, Some(ABSENT_CODE)),
-            Call::Give(34),
-            Call::Find(279, None),
-            Call::FindRun(6, Some(32)),
+            Take(34, Code),
+            Find(279, Some(ABSENT_CODE)),
+            Place(34, 4096, 31),
+            Find(279, Some(CODE)),
+            Find(278, None),
+            Find(271, None),
+            Find(65535, None),
+            Vacate(34),
+            Find(279, Some(ABSENT_CODE)),
+            Give(34),
+            Find(279, None),
+            FindRun(6, Some(32)),
         ],
     ),
     (
         "an access is resolved",
         &[
-            Call::Take(32, SelKind::Data),
-            Call::Place(32, 4096, 31),
-            Call::Resolve(263, 0, 32, true, Ok(4096)),
-            Call::Resolve(263, 31, 1, false, Ok(4127)),
-            Call::Resolve(263, 32, 0, false, Ok(4128)),
-            Call::Resolve(263, 32, 1, false, Err(FarFault::Limit)),
-            Call::Resolve(263, 33, 0, false, Err(FarFault::Limit)),
-            Call::Resolve(263, 1, u32::MAX, true, Err(FarFault::Limit)),
-            Call::Resolve(262, 0, 1, false, Err(FarFault::BadSelector)),
-            Call::Resolve(271, 0, 1, false, Err(FarFault::BadSelector)),
+            Take(32, Data),
+            Place(32, 4096, 31),
+            Resolve(263, 0, 32, true, Ok(4096)),
+            Resolve(263, 31, 1, false, Ok(4127)),
+            Resolve(263, 32, 0, false, Ok(4128)),
+            Resolve(263, 32, 1, false, Err(Limit)),
+            Resolve(263, 33, 0, false, Err(Limit)),
+            Resolve(263, 1, u32::MAX, true, Err(Limit)),
+            Resolve(262, 0, 1, false, Err(BadSelector)),
+            Resolve(271, 0, 1, false, Err(BadSelector)),
         ],
     ),
     (
         "an access is refused by kind and presence",
         &[
-            Call::Take(32, SelKind::Code),
-            Call::Resolve(263, 40, 2, true, Err(FarFault::ReadOnly)),
-            Call::Resolve(263, 40, 2, false, Err(FarFault::NotPresent)),
-            Call::Place(32, 4096, 31),
-            Call::Resolve(263, 4, 2, false, Ok(4100)),
-            Call::Resolve(263, 4, 2, true, Err(FarFault::ReadOnly)),
-            Call::Vacate(32),
-            Call::Resolve(263, 4, 2, true, Err(FarFault::ReadOnly)),
-            Call::Resolve(263, 4, 2, false, Err(FarFault::NotPresent)),
+            Take(32, Code),
+            Resolve(263, 40, 2, true, Err(ReadOnly)),
+            Resolve(263, 40, 2, false, Err(NotPresent)),
+            Place(32, 4096, 31),
+            Resolve(263, 4, 2, false, Ok(4100)),
+            Resolve(263, 4, 2, true, Err(ReadOnly)),
+            Vacate(32),
+            Resolve(263, 4, 2, true, Err(ReadOnly)),
+            Resolve(263, 4, 2, false, Err(NotPresent)),
         ],
     ),
 ];

@@ -1,6 +1,7 @@
 //! The calls of a list that knows its maximum, as tables of calls with the answers that are wanted.
 ghost use Rattle.std.specs.Prelude.{ℕ};
 
+use Call::*;
 use std::alloc::{AllocError, Global};
 use std::marker::Model;
 use std::test::Fail;
@@ -34,12 +35,12 @@ impl Bench {
     fn call(&mut self, call: Call) -> bool {
         let lengths = &self.lengths;
         match call {
-            Call::Set(index, value) => self.set(index, value),
-            Call::Len(len) => lengths.len() == len,
-            Call::Max(max) => lengths.max() == max,
-            Call::Get(index, value) => index < lengths.len() && lengths.get(index) == value,
-            Call::FirstAtLeast(n, index) => n > 0 && lengths.first_at_least(n) == index,
-            Call::LastBelow(end, index) => end <= lengths.len() && lengths.last_below(end) == index,
+            Set(index, value) => self.set(index, value),
+            Len(len) => lengths.len() == len,
+            Max(max) => lengths.max() == max,
+            Get(index, value) => index < lengths.len() && lengths.get(index) == value,
+            FirstAtLeast(n, index) => n > 0 && lengths.first_at_least(n) == index,
+            LastBelow(end, index) => end <= lengths.len() && lengths.last_below(end) == index,
         }
     }
 
@@ -53,31 +54,26 @@ impl Bench {
 }
 
 const OF_FIVE: &[Call] = &[
-    Call::Len(5),
-    Call::Max(0),
-    Call::FirstAtLeast(1, None),
-    Call::Set(1, 3),
-    Call::Set(3, 7),
-    Call::Set(4, 7),
-    Call::Max(7),
-    Call::Get(3, 7),
-    Call::Get(2, 0),
-    Call::FirstAtLeast(3, Some(1)),
-    Call::FirstAtLeast(4, Some(3)),
-    Call::FirstAtLeast(8, None),
-    Call::LastBelow(3, Some(1)),
-    Call::LastBelow(5, Some(4)),
-    Call::LastBelow(1, None),
-    Call::Set(3, 0),
-    Call::FirstAtLeast(4, Some(4)),
+    Len(5),
+    Max(0),
+    FirstAtLeast(1, None),
+    Set(1, 3),
+    Set(3, 7),
+    Set(4, 7),
+    Max(7),
+    Get(3, 7),
+    Get(2, 0),
+    FirstAtLeast(3, Some(1)),
+    FirstAtLeast(4, Some(3)),
+    FirstAtLeast(8, None),
+    LastBelow(3, Some(1)),
+    LastBelow(5, Some(4)),
+    LastBelow(1, None),
+    Set(3, 0),
+    FirstAtLeast(4, Some(4)),
 ];
 
-const OF_NONE: &[Call] = &[
-    Call::Len(0),
-    Call::Max(0),
-    Call::FirstAtLeast(1, None),
-    Call::LastBelow(0, None),
-];
+const OF_NONE: &[Call] = &[Len(0), Max(0), FirstAtLeast(1, None), LastBelow(0, None)];
 
 /// Whether a list of zeros answers each call as it should.
 fn are_answered(alloc: Global, len: u16, calls: &[Call]) -> Result<bool, AllocError> {
@@ -113,17 +109,17 @@ fn finds_through_all_levels(rt: HostRuntime) -> Result<(), Fail> {
     for place in LAST_PLACES {
         let last = *place as usize;
         let calls = [
-            Call::Set(last, 7),
-            Call::FirstAtLeast(7, Some(last)),
-            Call::FirstAtLeast(8, None),
-            Call::LastBelow(last, None),
-            Call::Set(last / 2, 9),
-            Call::Max(9),
-            Call::FirstAtLeast(8, Some(last / 2)),
-            Call::Set(last, 1),
-            Call::Set(last / 2, 0),
-            Call::FirstAtLeast(8, None),
-            Call::LastBelow(last, None),
+            Set(last, 7),
+            FirstAtLeast(7, Some(last)),
+            FirstAtLeast(8, None),
+            LastBelow(last, None),
+            Set(last / 2, 9),
+            Max(9),
+            FirstAtLeast(8, Some(last / 2)),
+            Set(last, 1),
+            Set(last / 2, 0),
+            FirstAtLeast(8, None),
+            LastBelow(last, None),
         ];
         right &= are_answered(rt.alloc(), place.saturating_add(1), &calls)?;
     }

@@ -1,5 +1,5 @@
 -- A part that is slid down, piece by piece.
-use Rattle.w16_region.proofs.Common.{ℕ, ◌≡◌, ◌+◌, ◌-◌, ◌<◌, ◌≤◌, List, ◌++◌, length, take, drop, arith, sym, ◌∙◌, ap, length-append, append_assoc, take-add, length-take-le, take_at, drop-drop, drop-take, take-take, take-append-drop, part, put_part, length-part, length-put_part, drop-put_part}
+use Rattle.w16_region.proofs.Common.{ℕ, ◌≡◌, ◌+◌, ◌-◌, ◌<◌, ◌≤◌, List, ◌++◌, length, take, drop, arith, sym, ◌∙◌, ap, length-append, append_assoc, take-add, length-take-le, take_at, drop-drop, drop-take, take-take, take-append-drop, part, put_part, length-part, length-put_part, drop-put_part, take-put_part, part_below, drop_at}
 use borrow.Rule.Slice.PartMut.{put_mid}
 
 -- two pieces, one behind the other
@@ -73,3 +73,36 @@ module _ (bytes : List ℕ) (from to done n : ℕ) (down : to < from) (inside : 
       (λ i. put_mid (to + done) (same i) ((cut_front ∙ ap (take (from + done)) is) i) ((copied ∙ ap (take n) rest) i) ++ rest i)
       ∙ cut_put mid ys (to + done) n (from + done) (length-part mid (from + done) n (omega arith)) (omega arith)
       ∙ slide_more
+
+-- and a part that is slid up, from the last piece on: what a piece of n bytes adds in front of the b that are there
+module _ (bytes : List ℕ) (from to a n b : ℕ) (inside : to + (a + n + b) ≤ length bytes) (short : from + n ≤ to) where
+  abbrev last : List ℕ
+  last = part bytes (from + (a + n)) b
+
+  abbrev piece : List ℕ
+  piece = part bytes (from + a) n
+
+  abbrev lifted : List ℕ
+  lifted = put_part bytes (to + (a + n)) last
+
+  last_long : length last ≡ b
+  last_long = length-part bytes (from + (a + n)) b (omega arith)
+
+  behind : drop n (drop (to + a) lifted) ≡ last ++ drop (n + b) (drop (to + a) bytes)
+  behind =
+      drop-drop n (to + a) lifted
+      ∙ drop_at (take (to + (a + n)) bytes) (last ++ drop (length last) (drop (to + (a + n)) bytes)) (to + a + n) (length-take-le (to + (a + n)) bytes (omega arith) ∙ omega arith)
+      ∙ ap (λ (rest : List ℕ). last ++ rest) (drop-drop (length last) (to + (a + n)) bytes ∙ ap (λ (k : ℕ). drop k bytes) (let long = last_long in let e : to + (a + n) + length last ≡ to + a + (n + b) = omega arith in e) ∙ sym (drop-drop (n + b) (to + a) bytes))
+
+  -- as code writes it, in front of what is there
+  pub piece_up : (old below above new : List ℕ) → old ≡ lifted → below ≡ take (to + a) old → above ≡ drop (to + a) old → new ≡ part below (from + a) n
+      → below ++ (new ++ drop n above) ≡ put_part bytes (to + a) (part bytes (from + a) (n + b))
+  piece_up old below above new is cut_front cut_back copied =
+      let before : below ≡ take (to + a) bytes = cut_front ∙ ap (take (to + a)) is ∙ take-put_part bytes (to + (a + n)) last (to + a) (omega arith) (omega arith) in
+      let own : new ≡ piece = copied ∙ ap (λ (f : List ℕ). part f (from + a) n) before ∙ part_below (take (to + a) bytes) bytes (from + a) n (to + a) (omega arith) (take-take (to + a) (to + a) bytes (omega arith)) in
+      let rest : drop n above ≡ last ++ drop (n + b) (drop (to + a) bytes) = ap (drop n) (cut_back ∙ ap (drop (to + a)) is) ∙ behind in
+      let both : length (part bytes (from + a) (n + b)) ≡ n + b = length-part bytes (from + a) (n + b) (omega arith) in
+      let next : piece ++ last ≡ part bytes (from + a) (n + b) = ap (λ (k : ℕ). piece ++ part bytes k b) (let e : from + (a + n) ≡ from + a + n = omega arith in e) ∙ joined bytes (from + a) n b in
+      (λ i. before i ++ (own i ++ rest i))
+      ∙ ap (λ (ys : List ℕ). take (to + a) bytes ++ ys) (sym (append_assoc piece last (drop (n + b) (drop (to + a) bytes))))
+      ∙ (λ i. take (to + a) bytes ++ (next i ++ drop (sym both i) (drop (to + a) bytes)))

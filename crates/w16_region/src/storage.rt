@@ -214,6 +214,8 @@ fn slide_within(bytes: &mut [u8], from: usize, to: usize, size: usize)
 {
     if to < from && from - to >= FAR {
         slide_down(bytes, from, to, size);
+    } else if from < to && to - from >= FAR {
+        slide_up(bytes, from, to, size);
     } else {
         bytes.copy_within(from..from + size, to);
     }
@@ -231,5 +233,20 @@ fn slide_down(bytes: &mut [u8], from: usize, to: usize, size: usize)
         let (front, back) = bytes.split_at_mut(from + done);
         front[to + done..to + done + piece].copy_from_slice(&back[..piece]);
         done += piece;
+    }
+}
+
+/// The same upwards, from the last piece on.
+fn slide_up(bytes: &mut [u8], from: usize, to: usize, size: usize)
+    requires target { to + size ≤ length bytes.old }
+    requires up { from < to }
+    ensures { bytes.new ≡ put_part bytes.old to (part bytes.old from size) }
+{
+    let mut left = size;
+    while left > 0 {
+        let piece = (to - from).min(left);
+        left -= piece;
+        let (front, back) = bytes.split_at_mut(to + left);
+        back[..piece].copy_from_slice(&front[from + left..from + left + piece]);
     }
 }

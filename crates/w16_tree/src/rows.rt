@@ -1,5 +1,6 @@
 //! What one row of sixteen numbers is asked.
-ghost use Rattle.std.specs.Prelude.{◌≡◌, ◌+◌, ◌-◌, ◌<◌, ◌≤◌, ℕ, length, slice_index};
+ghost use Rattle.std.specs.Prelude.{◌≡◌, ◌+◌, ◌-◌, ◌^◌, ◌<◌, ◌≤◌, ℕ, length, nat_le, slice_index, if◌then◌else◌};
+ghost use Rattle.std.specs.Int.{bit_at};
 ghost use Rattle.w16_tree.specs.Tree.{number, IsMost};
 
 /// How many numbers a row has.
@@ -17,6 +18,20 @@ pub(crate) fn row_max(nodes: &[u32], at: usize) -> u32
     most
 }
 
+/// Which numbers of the row that begins at a place are at least `n`, a bit for each from the lowest
+/// on. It has no branch, so that none is foretold wrongly.
+fn reaching(nodes: &[u32], at: usize, n: u32) -> u32
+    requires { at + 16 ≤ length nodes.now }
+    ensures small { result < 2 ^ 16 }
+    ensures bits { (k : ℕ) → k < 16 → bit_at result k ≡ (if nat_le n (slice_index nodes.now (at + k)) then 1 else 0) }
+{
+    let mut mask = 0;
+    for k in 0..FAN {
+        mask += u32::from(nodes[at + k] >= n) << k;
+    }
+    mask
+}
+
 /// How many numbers of a row stand before the first of at least `n`: all, where there is none.
 pub(crate) fn first_in_row(nodes: &[u32], at: usize, n: u32) -> usize
     requires { at + 16 ≤ length nodes.now }
@@ -24,25 +39,18 @@ pub(crate) fn first_in_row(nodes: &[u32], at: usize, n: u32) -> usize
     ensures before { (p : ℕ) → at ≤ p → p < at + result → slice_index nodes.now p < n }
     ensures found { result < 16 → n ≤ slice_index nodes.now (at + result) }
 {
-    for k in 0..FAN {
-        if nodes[at + k] >= n {
-            return k;
-        }
-    }
-    FAN
+    let mask = reaching(nodes, at, n) + (1 << FAN);
+    mask.trailing_zeros() as usize
 }
 
 /// Where the last number of a row before a place that isn't 0 ends: 0, where there is none.
 pub(crate) fn last_in_row(nodes: &[u32], at: usize, end: usize) -> usize
-    requires { at + end ≤ length nodes.now }
+    requires row { at + 16 ≤ length nodes.now }
+    requires end { end ≤ 16 }
     ensures inside { result ≤ end }
     ensures found { 0 < result → 0 < slice_index nodes.now (at + result - 1) }
     ensures behind { (p : ℕ) → at + result ≤ p → p < at + end → slice_index nodes.now p ≡ 0 }
 {
-    for k in 0..end {
-        if nodes[at + end - 1 - k] > 0 {
-            return end - k;
-        }
-    }
-    0
+    let mask = reaching(nodes, at, 1) % (1 << end);
+    (2 * mask + 1).ilog2() as usize
 }

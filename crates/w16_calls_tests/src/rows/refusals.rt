@@ -88,7 +88,7 @@ fn all_growths(
     Ok(all)
 }
 
-/// Nine local heaps begin in all rows, and each takes eleven growths; and one built-in module is added, which takes that of its name.
+/// Nine local heaps begin in all rows, and each takes twelve growths; and one built-in module is added, which takes that of its name.
 #[test]
 fn refused_runs_end_after_whole_replies(rt: HostRuntime) -> Result<(), Fail> {
     let fuse = Fuse::new(rt.alloc());
@@ -96,6 +96,6 @@ fn refused_runs_end_after_whole_replies(rt: HostRuntime) -> Result<(), Fail> {
     for rows in tables() {
         all = all.saturating_add(all_growths(&rt, &fuse, rows)?);
     }
-    assert_eq!(rt; all, 100);
+    assert_eq!(rt; all, 109);
     Ok(())
 }

@@ -4,7 +4,7 @@ mod tables;
 
 use arrayvec::ArrayVec;
 use std::alloc::Global;
-use tables::{BYTES, LETTERS, NO_TEXT, ROWS};
+use tables::{BAD, BYTES, LETTERS, NO_TEXT, ROWS};
 use w16_kernel::{Call, Label};
 use w16_script::{Line, MOST_BYTES, Registers, read_line};
 
@@ -48,6 +48,13 @@ fn holds(alloc: Global, row: &str) -> bool {
 fn reads_lines(rt: HostRuntime) {
     for row in ROWS.split('\n') {
         assert!(rt; holds(rt.alloc(), row), "{row}");
+    }
+}
+
+#[test]
+fn refuses_bad_lines(rt: HostRuntime) {
+    for line in BAD.split('|') {
+        assert!(rt; is_read(rt.alloc(), line.as_bytes(), "bad"), "{line}");
     }
 }
 

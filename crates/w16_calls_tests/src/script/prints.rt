@@ -1,44 +1,32 @@
 //! What replies are printed as.
 
 use crate::script::host::{Host, PLAN, Part, Plan};
-use w16_kernel::Reply;
+use w16_kernel::Reply::{self, *};
 use w16_loading::FetchFault;
 use w16_model::FarFault;
 use w16_script::{RunFault, print_error, print_reply};
 
 /// Replies, and what is printed of them.
 static REPLIES: &[(Reply<'_>, &[Part<'_>])] = &[
-    (Reply::Word(0), &[(1, b"0000\n")]),
-    (Reply::Word(0xa1F), &[(1, b"0a1f\n")]),
-    (Reply::Dword(0x0107_0000), &[(1, b"01070000\n")]),
-    (Reply::Dword(0xffff_ffff), &[(1, b"ffffffff\n")]),
-    (Reply::Done, &[(1, b"ok\n")]),
-    (Reply::Walk(2), &[(1, b"end\n")]),
-    (Reply::Bytes(&[]), &[(1, b"bytes\n")]),
-    (Reply::Bytes(&[0x4e, 0x05, 0xab]), &[(1, b"bytes 4e05ab\n")]),
+    (Word(0), &[(1, b"0000\n")]),
+    (Word(0xa1F), &[(1, b"0a1f\n")]),
+    (Dword(0x0107_0000), &[(1, b"01070000\n")]),
+    (Dword(0xffff_ffff), &[(1, b"ffffffff\n")]),
+    (Done, &[(1, b"ok\n")]),
+    (Walk(2), &[(1, b"end\n")]),
+    (Bytes(&[]), &[(1, b"bytes\n")]),
+    (Bytes(&[0x4e, 0x05, 0xab]), &[(1, b"bytes 4e05ab\n")]),
     (
-        Reply::Bytes(&[0x5a; 1024]),
+        Bytes(&[0x5a; 1024]),
         &[(1, b"bytes "), (1024, b"5a"), (1, b"\n")],
     ),
-    (
-        Reply::Fault(FarFault::BadSelector),
-        &[(1, b"fault selector\n")],
-    ),
-    (
-        Reply::Fault(FarFault::NotPresent),
-        &[(1, b"fault notpresent\n")],
-    ),
-    (Reply::Fault(FarFault::Limit), &[(1, b"fault limit\n")]),
-    (
-        Reply::Fault(FarFault::ReadOnly),
-        &[(1, b"fault readonly\n")],
-    ),
-    (Reply::Failed(FetchFault::NoRoom), &[(1, b"fault room\n")]),
-    (Reply::Failed(FetchFault::Store), &[(1, b"fault store\n")]),
-    (
-        Reply::Failed(FetchFault::Damaged),
-        &[(1, b"fault damaged\n")],
-    ),
+    (Fault(FarFault::BadSelector), &[(1, b"fault selector\n")]),
+    (Fault(FarFault::NotPresent), &[(1, b"fault notpresent\n")]),
+    (Fault(FarFault::Limit), &[(1, b"fault limit\n")]),
+    (Fault(FarFault::ReadOnly), &[(1, b"fault readonly\n")]),
+    (Failed(FetchFault::NoRoom), &[(1, b"fault room\n")]),
+    (Failed(FetchFault::Store), &[(1, b"fault store\n")]),
+    (Failed(FetchFault::Damaged), &[(1, b"fault damaged\n")]),
 ];
 
 /// Whether a reply is printed as these parts.

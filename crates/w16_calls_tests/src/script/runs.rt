@@ -191,7 +191,7 @@ fn counts_lines_and_replies(rt: HostRuntime) {
 pub struct Written {
     pub text: &'static [Part<'static>],
     pub memory: u32,
-    pub ended: Ended,
+    pub ended: Result<Ended, RunFault>,
     pub written: &'static [u8],
 }
 
@@ -207,7 +207,7 @@ fn stops_after(alloc: Global, script: &Written, room: usize, room_at_once: usize
     let ended = if count < script.written.len() {
         Err(RunFault::Write)
     } else {
-        Ok(script.ended)
+        script.ended
     };
     outcome(alloc, script.memory, &host, false) == Some(ended)
         && host.has_noted(&[(1, &script.written[..count])])
@@ -227,7 +227,7 @@ fn stops_at_each_byte_that_is_not_taken(rt: HostRuntime) {
     }
 }
 
-/// How often a text is read, by so many bytes at once, until it is too long.
+/// How often a text is read, by so many bytes at once, until it is too long and nothing was written.
 fn reads_until_too_long(
     alloc: Global,
     text: &'static [Part<'static>],
@@ -239,7 +239,7 @@ fn reads_until_too_long(
         ..PLAN
     });
     match outcome(alloc, 4096, &host, false) {
-        Some(Err(RunFault::TooLong)) => Some(host.reads()),
+        Some(Err(RunFault::TooLong)) if host.has_noted(&[]) => Some(host.reads()),
         _ => None,
     }
 }

@@ -94,7 +94,7 @@ fn placed(done: Result<Placed, NoRoom>) -> Answer {
 }
 
 /// Whether a number is a multiple of another one.
-fn is_multiple(of: u32, n: u32) -> bool
+pub fn is_multiple(of: u32, n: u32) -> bool
     requires { 0 < of }
     ensures { IsTrue result → IsMultiple of n }
 {
@@ -108,10 +108,17 @@ fn is_size(grain: u32, size: u32) -> bool
     0 < size && 0 < grain && is_multiple(grain, size)
 }
 
-/// Calls, and the heap that they leave.
+/// Calls, and the heap that they leave: its blocks by address, and its order of use.
 pub(super) struct Heap {
     pub steps: &'static [Step],
-    pub left: Snapshot<'static>,
+    pub blocks: &'static [Block],
+    pub order: &'static [u32],
+}
+
+impl Heap {
+    pub fn left(&self) -> Snapshot<'static> {
+        heap!(0, 256, self.blocks, self.order)
+    }
 }
 
 /// A heap as it stands: its walk, the order of use, what is known of each id, and how many bytes were written.
@@ -392,7 +399,7 @@ impl Bench {
 }
 
 /// Whether all bytes are this one.
-fn is_all(bytes: &[u8], byte: u8) -> bool {
+pub fn is_all(bytes: &[u8], byte: u8) -> bool {
     for other in bytes {
         if *other != byte {
             return false;

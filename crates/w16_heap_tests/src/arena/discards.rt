@@ -1,126 +1,109 @@
 //! Numbers of discards, as in the plain program.
 
-use super::bench::{Answer, Bench, Heap, Step};
-use super::{AS_IT_STANDS, DISCARDING, SLIDING};
+use super::bench::Step::{self, *};
+use super::bench::{Answer, Bench, Heap};
+use crate::options::{AS_IT_STANDS, DISCARDING, SLIDING};
 use std::alloc::{AllocError, Global};
 use std::process::Abort;
 use std::test::Fail;
-use w16_model::{Block, Hold, Kind, RoomOptions, Snapshot};
+use w16_model::Kind::*;
+use w16_model::{Block, Hold, RoomOptions, Snapshot};
 
-/// An id, the bytes that are asked for it, and how many discards that makes, if it is answered.
-type Asked = (u32, u32, Option<usize>);
-
-/// A heap, and requests there whose options let them discard.
+/// A heap, and requests there whose options let them discard: the id that they are for, and the room without it after 0, 1, 2 and more
+/// discards, last after all.
 struct Case {
     name: &'static str,
     heap: Heap,
-    asked: &'static [Asked],
+    asked: (u32, &'static [u32]),
 }
 
 static CASES: &[Case] = &[
     Case {
         name: "no object",
-        heap: heap!(&[], &[], &[]),
-        asked: &[(0, 32, Some(0)), (0, 256, Some(0)), (0, 288, None)],
+        heap: Heap {
+            steps: &[],
+            blocks: &[],
+            order: &[],
+        },
+        asked: (0, &[256]),
     },
     Case {
         name: "three discardable ones",
-        heap: heap!(
-            &[
-                Step::Alloc(0, 64, Kind::Discardable, AS_IT_STANDS),
-                Step::Alloc(1, 64, Kind::Discardable, AS_IT_STANDS),
-                Step::Alloc(2, 96, Kind::Discardable, AS_IT_STANDS),
-                Step::Oldest(2),
+        heap: Heap {
+            steps: &[
+                Alloc(0, 64, Discardable, AS_IT_STANDS),
+                Alloc(1, 64, Discardable, AS_IT_STANDS),
+                Alloc(2, 96, Discardable, AS_IT_STANDS),
+                Oldest(2),
             ],
-            &[loose!(0, 0, 64), loose!(1, 64, 64), loose!(2, 128, 96)],
-            &[2, 0, 1]
-        ),
-        asked: &[
-            (3, 32, Some(0)),
-            (3, 64, Some(1)),
-            (3, 128, Some(1)),
-            (3, 160, Some(2)),
-            (3, 192, Some(2)),
-            (3, 224, Some(3)),
-            (3, 256, Some(3)),
-            (3, 288, None),
-        ],
+            blocks: &[loose!(0, 0, 64), loose!(1, 64, 64), loose!(2, 128, 96)],
+            order: &[2, 0, 1],
+        },
+        asked: (3, &[32, 128, 192, 256]),
     },
     Case {
         name: "a locked one in the middle",
-        heap: heap!(
-            &[
-                Step::Alloc(0, 64, Kind::Discardable, AS_IT_STANDS),
-                Step::Alloc(1, 32, Kind::Discardable, AS_IT_STANDS),
-                Step::Alloc(2, 64, Kind::Discardable, AS_IT_STANDS),
-                Step::Lock(1),
+        heap: Heap {
+            steps: &[
+                Alloc(0, 64, Discardable, AS_IT_STANDS),
+                Alloc(1, 32, Discardable, AS_IT_STANDS),
+                Alloc(2, 64, Discardable, AS_IT_STANDS),
+                Lock(1),
             ],
-            &[loose!(0, 0, 64), pinned!(1, 64, 32), loose!(2, 96, 64)],
-            &[0, 2, 1]
-        ),
-        asked: &[
-            (3, 96, Some(0)),
-            (3, 128, Some(2)),
-            (3, 160, Some(2)),
-            (3, 192, None),
-        ],
+            blocks: &[loose!(0, 0, 64), pinned!(1, 64, 32), loose!(2, 96, 64)],
+            order: &[0, 2, 1],
+        },
+        asked: (3, &[96, 96, 160]),
     },
     Case {
         name: "one that comes back",
-        heap: heap!(
-            &[
-                Step::Alloc(0, 64, Kind::Discardable, AS_IT_STANDS),
-                Step::Alloc(1, 64, Kind::Discardable, AS_IT_STANDS),
-                Step::Alloc(2, 128, Kind::Discardable, AS_IT_STANDS),
-                Step::Discard(1),
+        heap: Heap {
+            steps: &[
+                Alloc(0, 64, Discardable, AS_IT_STANDS),
+                Alloc(1, 64, Discardable, AS_IT_STANDS),
+                Alloc(2, 128, Discardable, AS_IT_STANDS),
+                Discard(1),
             ],
-            &[loose!(0, 0, 64), loose!(2, 128, 128)],
-            &[0, 2]
-        ),
-        asked: &[
-            (1, 64, Some(0)),
-            (1, 96, Some(1)),
-            (1, 128, Some(1)),
-            (1, 160, Some(2)),
-            (1, 256, Some(2)),
-            (1, 288, None),
-        ],
+            blocks: &[loose!(0, 0, 64), loose!(2, 128, 128)],
+            order: &[0, 2],
+        },
+        asked: (1, &[64, 128, 256]),
     },
     Case {
         name: "all are locked",
-        heap: heap!(
-            &[
-                Step::Alloc(0, 96, Kind::Discardable, AS_IT_STANDS),
-                Step::Alloc(1, 128, Kind::Discardable, AS_IT_STANDS),
-                Step::Lock(1),
-                Step::Lock(0),
+        heap: Heap {
+            steps: &[
+                Alloc(0, 96, Discardable, AS_IT_STANDS),
+                Alloc(1, 128, Discardable, AS_IT_STANDS),
+                Lock(1),
+                Lock(0),
             ],
-            &[pinned!(0, 0, 96), pinned!(1, 96, 128)],
-            &[1, 0]
-        ),
-        asked: &[(2, 32, Some(0)), (2, 64, None)],
+            blocks: &[pinned!(0, 0, 96), pinned!(1, 96, 128)],
+            order: &[1, 0],
+        },
+        asked: (2, &[32]),
     },
     Case {
         name: "moveable and fixed ones stay",
-        heap: heap!(
-            &[
-                Step::Alloc(0, 32, Kind::Fixed, AS_IT_STANDS),
-                Step::Alloc(1, 64, Kind::Discardable, AS_IT_STANDS),
-                Step::Alloc(2, 32, Kind::Moveable, AS_IT_STANDS),
-                Step::Alloc(3, 32, Kind::Fixed, AS_IT_STANDS),
-                Step::Alloc(4, 96, Kind::Discardable, AS_IT_STANDS),
-                Step::Newest(1),
+        heap: Heap {
+            steps: &[
+                Alloc(0, 32, Fixed, AS_IT_STANDS),
+                Alloc(1, 64, Discardable, AS_IT_STANDS),
+                Alloc(2, 32, Moveable, AS_IT_STANDS),
+                Alloc(3, 32, Fixed, AS_IT_STANDS),
+                Alloc(4, 96, Discardable, AS_IT_STANDS),
+                Newest(1),
             ],
-            &[
+            blocks: &[
                 pinned!(0, 0, 32),
                 loose!(1, 32, 64),
                 loose!(2, 96, 32),
                 pinned!(3, 128, 32),
-                loose!(4, 160, 96)
+                loose!(4, 160, 96),
             ],
-            &[4, 1]
-        ),
-        asked: &[(5, 32, Some(1)), (5, 96, Some(1)), (5, 128, None)],
+            order: &[4, 1],
+        },
+        asked: (5, &[0, 96, 96]),
     },
 ];
 
@@ -141,56 +124,47 @@ fn plain_count(
     heap.prefix(alloc, size, Some(id), options)
 }
 
-/// Whether a request in a heap that stands so discards the first of these, as many as the plain program says, or else is refused.
+/// Whether a request in a heap discards the first of these, as many as the plain program says, or else is refused.
 fn is_answered(
-    rt: &impl Abort,
-    bench: &mut Bench,
-    heap: Snapshot,
-    step: Step,
-    told: (&[u32], Option<usize>),
-) -> bool {
-    let (ids, count) = told;
-    let stands = bench.stands(heap);
-    let is_refused = bench.act(rt, step) == Answer::NoRoom;
-    stands && is_refused == count.is_none() && bench.has_discarded_first(ids, count.unwrap_or(0))
-}
-
-/// The same in a heap that is made for it.
-fn is_answered_in(
     rt: &impl Abort,
     alloc: Global,
     heap: &Heap,
     step: Step,
     told: (&[u32], Option<usize>),
 ) -> Result<bool, AllocError> {
+    let (ids, count) = told;
     let mut bench = Bench::with(rt, alloc, heap.steps)?;
-    Ok(is_answered(rt, &mut bench, heap.left, step, told))
+    let stands = bench.stands(heap.left());
+    let is_refused = bench.act(rt, step) == Answer::NoRoom;
+    let has_discarded = bench.has_discarded_first(ids, count.unwrap_or(0));
+    Ok(stands && is_refused == count.is_none() && has_discarded)
 }
 
 /// Makes a request in a heap. It discards as many as the plain program says, the least recently used first; with options that let it discard,
-/// that is the number that was worked out.
+/// as few as leave room by what was worked out.
 fn asks(
     rt: &impl Abort,
     alloc: Global,
-    heap: &Heap,
-    asked: &Asked,
+    case: &Case,
+    size: u32,
     options: RoomOptions,
 ) -> Result<bool, AllocError> {
-    let (id, size, wanted) = *asked;
-    let count = plain_count(rt, alloc, heap.left, (id, size, options))?;
-    if options.discard && count != wanted {
+    let (id, rooms) = case.asked;
+    let heap = case.heap.left();
+    let count = plain_count(rt, alloc, heap, (id, size, options))?;
+    if options.discard && count != rooms.iter().position(|room| size <= *room) {
         return Ok(false);
     }
-    let ids = heap.left.eligible(alloc, Some(id))?;
-    let step = Step::Alloc(id, size, Kind::Discardable, options);
-    is_answered_in(rt, alloc, heap, step, (&ids, count))
+    let ids = heap.eligible(alloc, Some(id))?;
+    let step = Alloc(id, size, Discardable, options);
+    is_answered(rt, alloc, &case.heap, step, (&ids, count))
 }
 
-/// Makes each request of a case with all options.
+/// Makes requests of each size with all options.
 fn asks_all(rt: &impl Abort, alloc: Global, case: &Case) -> Result<bool, AllocError> {
-    for asked in case.asked {
+    for size in [32, 64, 96, 128, 160, 192, 224, 256, 288] {
         for options in [AS_IT_STANDS, SLIDING, DISCARDING] {
-            if !asks(rt, alloc, &case.heap, asked, options)? {
+            if !asks(rt, alloc, case, size, options)? {
                 return Ok(false);
             }
         }
@@ -201,28 +175,6 @@ fn asks_all(rt: &impl Abort, alloc: Global, case: &Case) -> Result<bool, AllocEr
 /// How many discards a compaction makes, the longest hole then, and the longest that there could be.
 type Foretold = (usize, u32, u32);
 
-/// How many discards so many bytes need by the plain program, if that is enough.
-fn plain_needed(
-    rt: &impl Abort,
-    alloc: Global,
-    heap: Snapshot,
-    n: u32,
-) -> Result<Option<usize>, AllocError> {
-    assert!(rt; heap.is_placed());
-    heap.needed(alloc, n, None)
-}
-
-/// The longest hole that there could be with so many discards, by the plain program.
-fn plain_room(
-    rt: &impl Abort,
-    alloc: Global,
-    heap: Snapshot,
-    count: usize,
-) -> Result<u32, AllocError> {
-    assert!(rt; heap.is_placed());
-    heap.room_for(alloc, count, None)
-}
-
 /// What the plain program says of a compaction to so many bytes.
 fn foretells(
     rt: &impl Abort,
@@ -230,10 +182,11 @@ fn foretells(
     heap: Snapshot,
     n: u32,
 ) -> Result<Foretold, AllocError> {
+    assert!(rt; heap.is_placed());
     let all = heap.eligible(alloc, None)?.len();
-    let count = plain_needed(rt, alloc, heap, n)?.unwrap_or(all);
-    let room = plain_room(rt, alloc, heap, count)?;
-    let most = plain_room(rt, alloc, heap, all)?;
+    let count = heap.needed(alloc, n, None)?.unwrap_or(all);
+    let room = heap.room_for(alloc, count, None)?;
+    let most = heap.room_for(alloc, all, None)?;
     Ok((count, room, most))
 }
 
@@ -245,33 +198,16 @@ fn room_of(answer: Answer) -> Option<u32> {
     }
 }
 
-/// Whether a compaction does what is foretold, and discards the first of these.
-fn comes_true(rt: &impl Abort, bench: &mut Bench, n: u32, told: (&[u32], Foretold)) -> bool {
-    let (ids, (count, room, most)) = told;
+/// Makes room for so many bytes in a heap. It discards as many as the plain program says, the least recently used first, and answers the room
+/// there is then.
+fn compacts(rt: &impl Abort, alloc: Global, heap: &Heap, n: u32) -> Result<bool, AllocError> {
+    let (count, room, most) = foretells(rt, alloc, heap.left(), n)?;
+    let ids = heap.left().eligible(alloc, None)?;
+    let mut bench = Bench::with(rt, alloc, heap.steps)?;
     let could = bench.act(rt, Step::RoomAll);
     let answer = bench.act(rt, Step::Compact(n));
-    could == Answer::Room(most)
-        && room_of(answer) == Some(room)
-        && bench.has_discarded_first(ids, count)
-}
-
-/// The same in a heap that is made for it.
-fn comes_true_in(
-    rt: &impl Abort,
-    alloc: Global,
-    heap: &Heap,
-    n: u32,
-    told: (&[u32], Foretold),
-) -> Result<bool, AllocError> {
-    let mut bench = Bench::with(rt, alloc, heap.steps)?;
-    Ok(comes_true(rt, &mut bench, n, told))
-}
-
-/// Makes room for so many bytes in a heap. It discards as many as the plain program says, and answers the room there is then.
-fn compacts(rt: &impl Abort, alloc: Global, heap: &Heap, n: u32) -> Result<bool, AllocError> {
-    let foretold = foretells(rt, alloc, heap.left, n)?;
-    let ids = heap.left.eligible(alloc, None)?;
-    comes_true_in(rt, alloc, heap, n, (&ids, foretold))
+    let has_discarded = bench.has_discarded_first(&ids, count);
+    Ok(could == Answer::Room(most) && room_of(answer) == Some(room) && has_discarded)
 }
 
 /// Makes room in a heap for each of several numbers of bytes.

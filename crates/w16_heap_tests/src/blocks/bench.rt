@@ -8,6 +8,30 @@ use w16_blocks::{Block, Blocks, Hold, Part, Span};
 use w16_holes::SideHoles;
 use w16_region::{Region, Space};
 
+/// A question about blocks, with its answer.
+#[derive(Clone, Copy)]
+pub(super) enum Asked {
+    Find(u32, Option<Block>),
+    Next(u32, Option<Block>),
+    Below(u32, Option<Block>),
+    Part(u32, Option<Part>),
+    Hole(u32, Option<u32>),
+    After(u32, Option<u32>),
+    Byte(u32, u8),
+    /// The first four by address.
+    Walk(&'static [Option<Block>]),
+    /// How many ids there are, the grain, and the bounds.
+    Sizes(u32, u32, Span),
+    /// The free bytes, those of the longest hole, and whether a block is pinned.
+    Totals(u32, u32, bool),
+    /// How many bytes were written.
+    Written(u64),
+    /// Where runs of the new blocks end, from the second block on, up to its end, and from the last one's end on, and up to the bound.
+    RunEnds([u32; 3]),
+    /// Where runs of the new blocks begin that end with the last block, from its begin on, with nothing, and from the bound on.
+    RunBegins([u32; 3]),
+}
+
 /// What became of the three blocks.
 #[derive(Clone, Copy)]
 pub(super) enum State {
@@ -161,32 +185,30 @@ impl Bench {
         })
     }
 
-    pub fn find(&self, id: u32) -> Option<Block> {
-        if id < self.blocks.cap() {
-            self.blocks.find(id)
-        } else {
-            None
+    /// Whether a question has its answer.
+    pub fn is_so(&self, asked: Asked) -> bool {
+        let blocks = &self.blocks;
+        match asked {
+            Asked::Find(id, wanted) => id < blocks.cap() && blocks.find(id) == wanted,
+            Asked::Next(at, wanted) => blocks.next_from(&self.space, at) == wanted,
+            Asked::Below(at, wanted) => blocks.last_below(at) == wanted,
+            Asked::Part(at, wanted) => blocks.part_from(&self.space, at) == wanted,
+            Asked::Hole(n, wanted) => blocks.hole_for(&self.space, n) == wanted,
+            Asked::After(id, wanted) => self.free_after(id) == wanted,
+            Asked::Byte(at, byte) => self.is_filled(at, byte),
+            Asked::Walk(wanted) => self.walk().as_slice() == wanted,
+            Asked::Sizes(cap, grain, bounds) => {
+                (blocks.cap(), blocks.grain(), blocks.bounds()) == (cap, grain, bounds)
+            }
+            Asked::Totals(free, longest, pinned) => self.totals() == (free, longest, pinned),
+            Asked::Written(wanted) => self.space.written() == wanted,
+            Asked::RunEnds(wanted) => self.run_ends == wanted,
+            Asked::RunBegins(wanted) => self.run_begins == wanted,
         }
     }
 
-    pub fn next_from(&self, at: u32) -> Option<Block> {
-        self.blocks.next_from(&self.space, at)
-    }
-
-    pub fn last_below(&self, at: u32) -> Option<Block> {
-        self.blocks.last_below(at)
-    }
-
-    pub fn part_from(&self, at: u32) -> Option<Part> {
-        self.blocks.part_from(&self.space, at)
-    }
-
-    pub fn hole_for(&self, n: u32) -> Option<u32> {
-        self.blocks.hole_for(&self.space, n)
-    }
-
     /// The bytes of the hole behind an id's block, if it has one.
-    pub fn free_after(&self, id: u32) -> Option<u32> {
+    fn free_after(&self, id: u32) -> Option<u32> {
         if id < self.blocks.cap() && self.blocks.find(id).is_some() {
             Some(self.blocks.free_after(&self.space, id))
         } else {
@@ -195,7 +217,7 @@ impl Bench {
     }
 
     /// The free bytes, those of the longest hole, and whether a block is pinned.
-    pub fn totals(&self) -> (u32, u32, bool) {
+    fn totals(&self) -> (u32, u32, bool) {
         (
             self.blocks.free(),
             self.blocks.longest(&self.space),
@@ -203,35 +225,17 @@ impl Bench {
         )
     }
 
-    /// How many ids there are, the grain, and the bounds.
-    pub fn sizes(&self) -> (u32, u32, Span) {
-        (self.blocks.cap(), self.blocks.grain(), self.blocks.bounds())
-    }
-
     /// Whether 32 bytes are all the same one.
-    pub fn is_filled(&self, at: u32, byte: u8) -> bool {
+    fn is_filled(&self, at: u32, byte: u8) -> bool {
         if u64::from(at) + 32 > u64::from(self.space.len()) {
             return false;
         }
         self.space.view(at, 32) == [byte; 32].as_slice()
     }
 
-    /// How many bytes of the memory were written.
-    pub fn written(&self) -> u64 {
-        self.space.written()
-    }
-
     /// The first four blocks by address.
-    pub fn walk(&self) -> [Option<Block>; 4] {
+    fn walk(&self) -> [Option<Block>; 4] {
         let mut walk = self.blocks.by_address(&self.space);
         [walk.next(), walk.next(), walk.next(), walk.next()]
-    }
-
-    pub fn run_ends(&self) -> [u32; 3] {
-        self.run_ends
-    }
-
-    pub fn run_begins(&self) -> [u32; 3] {
-        self.run_begins
     }
 }

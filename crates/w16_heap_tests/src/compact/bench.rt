@@ -1,5 +1,5 @@
 //! Blocks and their memory, for tests.
-ghost use Rattle.std.specs.Prelude.{◌≡◌, ◌≢◌, ◌<◌, ◌≤◌, length, IsTrue, IsSome, IfOk, IfSome, Some, ℕ};
+ghost use Rattle.std.specs.Prelude.{◌≡◌, ◌≢◌, ◌<◌, ◌≤◌, IsTrue, IsSome, IfOk, IfSome, Some, ℕ};
 ghost use Rattle.std.specs.List.{AllByRecursion};
 ghost use Rattle.w16_model.specs.Gap.{block_end};
 ghost use Rattle.w16_model.specs.Heap.{IsMultiple};
@@ -9,6 +9,7 @@ ghost use Rattle.w16_blocks.specs.Layout.{Fits, IsApart};
 ghost use Rattle.w16_compact.specs.Gather.{FitsGap, MayGather};
 ghost use Rattle.w16_compact.specs.Open.{with_loose};
 
+use crate::arena::bench::{is_all, is_multiple};
 use std::alloc::{AllocError, Global};
 use std::marker::Model;
 use std::process::Abort;
@@ -33,27 +34,14 @@ fn listed<S: Space>(
     blocks.by_address(space).collect(alloc)
 }
 
-/// Whether a block may be added to others at multiples of 32.
-fn fits<S: Space>(
-    alloc: Global,
-    blocks: &Blocks<SideHoles>,
-    space: &S,
-    block: &Block,
-) -> Result<bool, AllocError>
-    ensures { IfOk result (λ fits. IsTrue fits → Fits blocks.now block.now) }
-{
-    let others = listed(alloc, blocks, space)?;
-    Ok(is_new(blocks, &others, block))
-}
-
-/// The same, of others in a list.
+/// Whether a block may be added to others, which are in a list, at multiples of 32.
 fn is_new(blocks: &Blocks<SideHoles>, others: &[Block], block: &Block) -> bool
     requires { others.now ≡ blocks.now.blocks }
     ensures { IsTrue result → Fits blocks.now block.now }
 {
     blocks.grain() == 32
-        && is_grained(block.at)
-        && is_grained(block.size)
+        && is_multiple(32, block.at)
+        && is_multiple(32, block.size)
         && is_inside(blocks, block)
         && others.iter().all(|other| is_apart(block, other))
 }
@@ -81,37 +69,11 @@ fn is_apart(block: &Block, other: &Block) -> bool
     other.id != block.id && (end <= u64::from(other.at) || other_end <= u64::from(block.at))
 }
 
-/// Whether a number is a multiple of 32.
-fn is_grained(n: u32) -> bool
-    ensures { IsTrue result → IsMultiple 32 n }
-{
-    n % 32 == 0
-}
-
-/// Whether blocks may be slid in a gap, in their memory.
-fn may_slide<S: Space>(
-    alloc: Global,
-    blocks: &Blocks<SideHoles>,
-    space: &S,
-    gap: Span,
-) -> Result<bool, AllocError>
-    ensures gap { IfOk result (λ may. IsTrue may → MayGather blocks.now gap.from gap.to) }
-    ensures grained { IfOk result (λ may. IsTrue may → IsMultiple blocks.now.grain gap.from × IsMultiple blocks.now.grain gap.to) }
-    ensures inside { IfOk result (λ may. IsTrue may → blocks.now.hi ≤ length (S.bytes space.now)) }
-{
-    let list = listed(alloc, blocks, space)?;
-    Ok(
-        are_grained(blocks, gap)
-            && blocks.bounds().to <= space.len()
-            && may_gather(blocks, &list, gap),
-    )
-}
-
 /// Whether the grain is 32 bytes, and a gap has its ends there.
 fn are_grained(blocks: &Blocks<SideHoles>, gap: Span) -> bool
     ensures { IsTrue result → IsMultiple blocks.now.grain gap.from × IsMultiple blocks.now.grain gap.to }
 {
-    blocks.grain() == 32 && is_grained(gap.from) && is_grained(gap.to)
+    blocks.grain() == 32 && is_multiple(32, gap.from) && is_multiple(32, gap.to)
 }
 
 /// Whether blocks may be gathered in a gap.
@@ -124,26 +86,6 @@ fn may_gather(blocks: &Blocks<SideHoles>, list: &[Block], gap: Span) -> bool
         && gap.from <= gap.to
         && gap.to <= bounds.to
         && list.iter().all(|block| fits_gap(block, gap))
-}
-
-/// Whether a gap may be opened behind an id's block, which counts as loose.
-fn may_open<S: Space>(
-    alloc: Global,
-    blocks: &Blocks<SideHoles>,
-    space: &S,
-    gap: Span,
-    id: u32,
-) -> Result<bool, AllocError>
-    ensures gap { IfOk result (λ may. IsTrue may → MayGather (with_loose id blocks.now) gap.from gap.to) }
-    ensures grained { IfOk result (λ may. IsTrue may → IsMultiple blocks.now.grain gap.from × IsMultiple blocks.now.grain gap.to) }
-    ensures inside { IfOk result (λ may. IsTrue may → blocks.now.hi ≤ length (S.bytes space.now)) }
-{
-    let list = listed(alloc, blocks, space)?;
-    Ok(
-        are_grained(blocks, gap)
-            && blocks.bounds().to <= space.len()
-            && may_gather_loosened(blocks, &list, gap, id),
-    )
 }
 
 /// Whether blocks may be gathered in a gap where an id's counts as loose.
@@ -227,17 +169,9 @@ fn fill<S: Space>(rt: &impl Abort, space: &mut S, block: Block, byte: u8) {
 }
 
 /// Whether a block lies in a memory, and has this one byte alone.
-fn is_all<S: Space>(space: &S, block: Block, byte: u8) -> bool {
+fn is_filled<S: Space>(space: &S, block: Block, byte: u8) -> bool {
     let end = u64::from(block.at) + u64::from(block.size);
-    if end > u64::from(space.len()) {
-        return false;
-    }
-    for other in space.view(block.at, block.size) {
-        if *other != byte {
-            return false;
-        }
-    }
-    true
+    end <= u64::from(space.len()) && is_all(space.view(block.at, block.size), byte)
 }
 
 /// No blocks yet, between two bounds.
@@ -247,7 +181,7 @@ fn no_blocks(
     lo: u32,
     hi: u32,
 ) -> Result<Blocks<SideHoles>, AllocError> {
-    assert!(rt; lo <= hi && is_grained(lo));
+    assert!(rt; lo <= hi && is_multiple(32, lo));
     let holes = SideHoles::new(alloc, lo, hi, 32)?;
     Blocks::with_room(alloc, IDS, holes, lo, hi, 32)
 }
@@ -316,8 +250,8 @@ impl<S: Space> Bench<S> {
     }
 
     fn insert(&mut self, rt: &impl Abort, alloc: Global, block: &Block) -> Result<(), AllocError> {
-        let fits = fits(alloc, &self.blocks, &self.space, block)?;
-        assert!(rt; fits);
+        let others = listed(alloc, &self.blocks, &self.space)?;
+        assert!(rt; is_new(&self.blocks, &others, block));
         self.blocks.insert(&mut self.space, *block);
         Ok(())
     }
@@ -351,7 +285,7 @@ impl<S: Space> Bench<S> {
     fn is_filled(&self, rt: &impl Abort, id: u32) -> bool {
         assert!(rt; id < IDS && id < self.blocks.cap());
         match self.blocks.find(id) {
-            Some(block) => is_all(&self.space, block, id as u8),
+            Some(block) => is_filled(&self.space, block, id as u8),
             None => true,
         }
     }
@@ -366,8 +300,8 @@ impl<S: Space> Bench<S> {
         self.space.written()
     }
 
-    /// Whether there is so much room beside the ids that are marked, for each of these.
-    pub fn has_rooms(&self, rt: &impl Abort, rooms: &[(&[bool], u32)]) -> bool {
+    /// Whether there is so much room beside some ids, for each of these.
+    pub fn has_rooms(&self, rt: &impl Abort, rooms: &[(&[u32], u32)]) -> bool {
         for (skip, room) in rooms {
             if self.room(rt, skip) != *room {
                 return false;
@@ -376,10 +310,11 @@ impl<S: Space> Bench<S> {
         true
     }
 
-    /// The room beside what isn't marked.
-    fn room(&self, rt: &impl Abort, skip: &[bool]) -> u32 {
+    /// The room where the blocks of these ids are left out.
+    fn room(&self, rt: &impl Abort, ids: &[u32]) -> u32 {
+        let skip = [0, 1, 2, 3, 4, 5, 6, 7].map(|id| ids.contains(&id));
         assert!(rt; self.blocks.cap() as usize <= skip.len());
-        room(&self.blocks, &self.space, skip)
+        room(&self.blocks, &self.space, &skip)
     }
 
     /// Whether blocks are slid as they should be, and so many bytes were moved.
@@ -417,13 +352,13 @@ impl<S: Space> Bench<S> {
         gap: Span,
         id: Option<u32>,
     ) -> Result<u64, AllocError> {
+        let list = listed(alloc, &self.blocks, &self.space)?;
+        assert!(rt; are_grained(&self.blocks, gap) && self.blocks.bounds().to <= self.space.len());
         let Some(id) = id else {
-            let may = may_slide(alloc, &self.blocks, &self.space, gap)?;
-            assert!(rt; may);
+            assert!(rt; may_gather(&self.blocks, &list, gap));
             return Ok(gather(&mut self.blocks, &mut self.space, gap.from, gap.to));
         };
-        let may = may_open(alloc, &self.blocks, &self.space, gap, id)?;
-        assert!(rt; may);
+        assert!(rt; may_gather_loosened(&self.blocks, &list, gap, id));
         assert!(rt; stands_in(&self.blocks, id, gap));
         Ok(open(&mut self.blocks, &mut self.space, gap.from, gap.to, id))
     }

@@ -8,264 +8,139 @@ use w16_blocks::{Block, Hold};
 use w16_model::Snapshot;
 use w16_region::Region;
 
-/// What a request is about, the bytes asked for, and the number of discards.
-type Asked = (Option<u32>, u32, Option<usize>);
+/// What requests are about, and the room without it after 0, 1, 2 and more discards, last after all. A request takes as few as leave room.
+type Asked = (Option<u32>, &'static [u32]);
 
-/// A heap with an order of use, and how many discards make room there.
+/// A heap with an order of use, and the room that discards leave there.
 struct Discards {
     name: &'static str,
-    heap: Snapshot<'static>,
+    bounds: (u32, u32),
+    blocks: &'static [Block],
+    order: &'static [u32],
     asked: &'static [Asked],
 }
 
 static DISCARDS: &[Discards] = &[
     Discards {
         name: "the one used longest ago is first",
-        heap: Snapshot {
-            lo: 0,
-            hi: 256,
-            blocks: &[loose!(0, 0, 64), loose!(1, 64, 64), loose!(2, 128, 96)],
-            order: &[2, 0, 1],
-        },
+        bounds: (0, 256),
+        blocks: &[loose!(0, 0, 64), loose!(1, 64, 64), loose!(2, 128, 96)],
+        order: &[2, 0, 1],
         asked: &[
-            (None, 0, Some(0)),
-            (None, 32, Some(0)),
-            (None, 33, Some(1)),
-            (None, 128, Some(1)),
-            (None, 129, Some(2)),
-            (None, 192, Some(2)),
-            (None, 193, Some(3)),
-            (None, 256, Some(3)),
-            (None, 257, None),
-            (None, 4_294_967_295, None),
-            (Some(2), 128, Some(0)),
-            (Some(2), 129, Some(1)),
-            (Some(2), 256, Some(2)),
-            (Some(2), 257, None),
-            (Some(0), 96, Some(0)),
-            (Some(0), 97, Some(1)),
-            (Some(0), 193, Some(2)),
+            (None, &[32, 128, 192, 256]),
+            (Some(2), &[128, 192, 256]),
+            (Some(0), &[96, 192, 256]),
         ],
     },
     Discards {
         name: "the same blocks in another order",
-        heap: Snapshot {
-            lo: 0,
-            hi: 256,
-            blocks: &[loose!(0, 0, 64), loose!(1, 64, 64), loose!(2, 128, 96)],
-            order: &[1, 0, 2],
-        },
-        asked: &[
-            (None, 33, Some(1)),
-            (None, 96, Some(1)),
-            (None, 97, Some(2)),
-            (None, 160, Some(2)),
-            (None, 161, Some(3)),
-            (Some(1), 96, Some(0)),
-            (Some(1), 160, Some(1)),
-            (Some(1), 161, Some(2)),
-        ],
+        bounds: (0, 256),
+        blocks: &[loose!(0, 0, 64), loose!(1, 64, 64), loose!(2, 128, 96)],
+        order: &[1, 0, 2],
+        asked: &[(None, &[32, 96, 160, 256]), (Some(1), &[96, 160, 256])],
     },
     Discards {
         name: "a locked one isn't discarded",
-        heap: Snapshot {
-            lo: 64,
-            hi: 320,
-            blocks: &[loose!(0, 64, 64), pinned!(1, 160, 32), loose!(2, 224, 64)],
-            order: &[1, 0, 2],
-        },
-        asked: &[
-            (None, 64, Some(0)),
-            (None, 65, Some(1)),
-            (None, 96, Some(1)),
-            (None, 97, Some(2)),
-            (None, 128, Some(2)),
-            (None, 129, None),
-            (Some(0), 96, Some(0)),
-            (Some(0), 97, Some(1)),
-            (Some(0), 129, None),
-        ],
+        bounds: (64, 320),
+        blocks: &[loose!(0, 64, 64), pinned!(1, 160, 32), loose!(2, 224, 64)],
+        order: &[1, 0, 2],
+        asked: &[(None, &[64, 96, 128]), (Some(0), &[96, 128])],
     },
     Discards {
         name: "a locked one that the request is about isn't counted",
-        heap: Snapshot {
-            lo: 0,
-            hi: 256,
-            blocks: &[loose!(0, 0, 64), pinned!(1, 96, 32), loose!(2, 160, 64)],
-            order: &[0, 1, 2],
-        },
-        asked: &[
-            (Some(1), 128, Some(0)),
-            (Some(1), 129, Some(1)),
-            (Some(1), 193, Some(2)),
-            (Some(1), 256, Some(2)),
-            (Some(1), 257, None),
-        ],
+        bounds: (0, 256),
+        blocks: &[loose!(0, 0, 64), pinned!(1, 96, 32), loose!(2, 160, 64)],
+        order: &[0, 1, 2],
+        asked: &[(Some(1), &[128, 192, 256])],
     },
     Discards {
         name: "one that makes no longer stretch is counted",
-        heap: Snapshot {
-            lo: 0,
-            hi: 320,
-            blocks: &[
-                loose!(0, 0, 32),
-                pinned!(1, 32, 32),
-                loose!(2, 64, 64),
-                pinned!(3, 128, 32),
-                loose!(4, 160, 128),
-            ],
-            order: &[0, 2, 4],
-        },
+        bounds: (0, 320),
+        blocks: &[
+            loose!(0, 0, 32),
+            pinned!(1, 32, 32),
+            loose!(2, 64, 64),
+            pinned!(3, 128, 32),
+            loose!(4, 160, 128),
+        ],
+        order: &[0, 2, 4],
         asked: &[
-            (None, 32, Some(0)),
-            (None, 33, Some(2)),
-            (None, 64, Some(2)),
-            (None, 65, Some(3)),
-            (None, 160, Some(3)),
-            (None, 161, None),
-            (Some(2), 64, Some(0)),
-            (Some(2), 65, Some(2)),
-            (Some(4), 160, Some(0)),
-            (Some(4), 161, None),
+            (None, &[32, 32, 64, 160]),
+            (Some(2), &[64, 64, 160]),
+            (Some(4), &[160, 160, 160]),
         ],
     },
     Discards {
         name: "each discard of eight makes more room",
-        heap: Snapshot {
-            lo: 0,
-            hi: 640,
-            blocks: &[
-                loose!(0, 0, 32),
-                loose!(1, 32, 64),
-                loose!(2, 96, 96),
-                loose!(3, 192, 128),
-                loose!(4, 320, 32),
-                loose!(5, 352, 64),
-                loose!(6, 416, 96),
-                loose!(7, 512, 128),
-            ],
-            order: &[5, 2, 7, 0, 3, 6, 1, 4],
-        },
+        bounds: (0, 640),
+        blocks: &[
+            loose!(0, 0, 32),
+            loose!(1, 32, 64),
+            loose!(2, 96, 96),
+            loose!(3, 192, 128),
+            loose!(4, 320, 32),
+            loose!(5, 352, 64),
+            loose!(6, 416, 96),
+            loose!(7, 512, 128),
+        ],
+        order: &[5, 2, 7, 0, 3, 6, 1, 4],
         asked: &[
-            (None, 0, Some(0)),
-            (None, 1, Some(1)),
-            (None, 64, Some(1)),
-            (None, 65, Some(2)),
-            (None, 160, Some(2)),
-            (None, 161, Some(3)),
-            (None, 288, Some(3)),
-            (None, 289, Some(4)),
-            (None, 320, Some(4)),
-            (None, 321, Some(5)),
-            (None, 448, Some(5)),
-            (None, 449, Some(6)),
-            (None, 544, Some(6)),
-            (None, 545, Some(7)),
-            (None, 608, Some(7)),
-            (None, 609, Some(8)),
-            (None, 640, Some(8)),
-            (None, 641, None),
-            (Some(7), 128, Some(0)),
-            (Some(7), 129, Some(1)),
-            (Some(7), 288, Some(2)),
-            (Some(7), 321, Some(4)),
-            (Some(7), 640, Some(7)),
-            (Some(7), 641, None),
+            (None, &[0, 64, 160, 288, 320, 448, 544, 608, 640]),
+            (Some(7), &[128, 192, 288, 320, 448, 544, 608, 640]),
         ],
     },
     Discards {
         name: "six in two gaps, and two locked ones among them",
-        heap: Snapshot {
-            lo: 0,
-            hi: 320,
-            blocks: &[
-                pinned!(0, 0, 32),
-                loose!(1, 32, 32),
-                loose!(2, 64, 32),
-                loose!(3, 96, 32),
-                pinned!(4, 128, 32),
-                loose!(5, 160, 64),
-                loose!(6, 224, 64),
-                loose!(7, 288, 32),
-            ],
-            order: &[0, 1, 5, 4, 2, 6, 3, 7],
-        },
+        bounds: (0, 320),
+        blocks: &[
+            pinned!(0, 0, 32),
+            loose!(1, 32, 32),
+            loose!(2, 64, 32),
+            loose!(3, 96, 32),
+            pinned!(4, 128, 32),
+            loose!(5, 160, 64),
+            loose!(6, 224, 64),
+            loose!(7, 288, 32),
+        ],
+        order: &[0, 1, 5, 4, 2, 6, 3, 7],
         asked: &[
-            (None, 0, Some(0)),
-            (None, 1, Some(1)),
-            (None, 32, Some(1)),
-            (None, 33, Some(2)),
-            (None, 64, Some(2)),
-            (None, 65, Some(4)),
-            (None, 128, Some(4)),
-            (None, 129, Some(6)),
-            (None, 160, Some(6)),
-            (None, 161, None),
-            (Some(4), 32, Some(0)),
-            (Some(4), 33, Some(1)),
-            (Some(4), 128, Some(2)),
-            (Some(4), 129, Some(3)),
-            (Some(4), 225, Some(5)),
-            (Some(4), 288, Some(6)),
-            (Some(4), 289, None),
-            (Some(5), 64, Some(0)),
-            (Some(5), 65, Some(3)),
-            (Some(5), 129, Some(5)),
-            (Some(5), 161, None),
+            (None, &[0, 32, 64, 64, 128, 128, 160]),
+            (Some(4), &[32, 64, 128, 160, 224, 256, 288]),
+            (Some(5), &[64, 64, 64, 128, 128, 160]),
         ],
     },
     Discards {
         name: "none serves where all in the order are locked",
-        heap: Snapshot {
-            lo: 0,
-            hi: 96,
-            blocks: &[pinned!(3, 0, 32), loose!(4, 32, 64)],
-            order: &[3],
-        },
+        bounds: (0, 96),
+        blocks: &[pinned!(3, 0, 32), loose!(4, 32, 64)],
+        order: &[3],
         asked: &[
-            (None, 0, Some(0)),
-            (None, 1, None),
-            (Some(3), 32, Some(0)),
-            (Some(3), 33, None),
-            (Some(4), 64, Some(0)),
-            (Some(4), 65, None),
-            (Some(5), 1, None),
+            (None, &[0]),
+            (Some(3), &[32]),
+            (Some(4), &[64]),
+            (Some(5), &[0]),
         ],
     },
     Discards {
         name: "what isn't in the order stays",
-        heap: Snapshot {
-            lo: 0,
-            hi: 128,
-            blocks: &[loose!(6, 0, 64), loose!(7, 64, 64)],
-            order: &[],
-        },
-        asked: &[(None, 1, None), (Some(7), 64, Some(0)), (Some(7), 65, None)],
+        bounds: (0, 128),
+        blocks: &[loose!(6, 0, 64), loose!(7, 64, 64)],
+        order: &[],
+        asked: &[(None, &[0]), (Some(7), &[64])],
     },
     Discards {
         name: "an id without a block is counted",
-        heap: Snapshot {
-            lo: 0,
-            hi: 96,
-            blocks: &[loose!(0, 0, 96)],
-            order: &[6, 0],
-        },
-        asked: &[(None, 1, Some(2)), (Some(6), 1, Some(1))],
+        bounds: (0, 96),
+        blocks: &[loose!(0, 0, 96)],
+        order: &[6, 0],
+        asked: &[(None, &[0, 0, 96]), (Some(6), &[0, 96])],
     },
     Discards {
         name: "an empty heap",
-        heap: Snapshot {
-            lo: 0,
-            hi: 128,
-            blocks: &[],
-            order: &[],
-        },
-        asked: &[
-            (None, 128, Some(0)),
-            (None, 129, None),
-            (Some(7), 128, Some(0)),
-            (Some(7), 129, None),
-        ],
+        bounds: (0, 128),
+        blocks: &[],
+        order: &[],
+        asked: &[(None, &[128]), (Some(7), &[128])],
     },
 ];
 
@@ -274,63 +149,39 @@ fn cases() -> &'static [Discards] {
     DISCARDS
 }
 
-/// The bytes of the first request of a heap that takes another number of discards.
-fn other_count(rt: &impl Abort, alloc: Global, case: &Discards) -> Result<Option<u32>, AllocError> {
-    let bench = Bench::of(rt, alloc, case.heap)?;
-    other_order(rt, alloc, &bench, case)
-}
-
-/// The same of blocks that are there.
-fn other_order(
+/// The first size that takes another number of discards, by a search or by the plain program: of all up to one more than the heap, and the
+/// greatest.
+fn other_size(
     rt: &impl Abort,
     alloc: Global,
-    bench: &Bench<Region>,
-    case: &Discards,
+    heap: Snapshot,
+    (bench, search): (&Bench<Region>, &mut Search),
+    (about, rooms): Asked,
 ) -> Result<Option<u32>, AllocError> {
-    // From the second request on its table has what the search before it left.
-    let mut search = Search::new(rt, alloc, case.heap.order)?;
-    Ok(other_search(rt, bench, &mut search, case.asked))
-}
-
-/// The same of one search after another.
-fn other_search(
-    rt: &impl Abort,
-    bench: &Bench<Region>,
-    search: &mut Search,
-    all: &[Asked],
-) -> Option<u32> {
-    for asked in all {
-        let (about, size, expected) = *asked;
-        if bench.least(rt, search, about, size) != expected {
-            return Some(size);
-        }
-    }
-    None
-}
-
-/// The same by the plain program.
-fn other_plain_count(
-    rt: &impl Abort,
-    alloc: Global,
-    case: &Discards,
-) -> Result<Option<u32>, AllocError> {
-    assert!(rt; case.heap.is_placed());
-    for asked in case.asked {
-        let (about, size, expected) = *asked;
-        if case.heap.needed(alloc, size, about)? != expected {
+    assert!(rt; heap.is_placed());
+    for size in (0..heap.hi.saturating_add(2)).chain([u32::MAX]) {
+        let wanted = rooms.iter().position(|room| size <= *room);
+        let found = bench.least(rt, search, about, size);
+        if found != wanted || heap.needed(alloc, size, about)? != wanted {
             return Ok(Some(size));
         }
     }
     Ok(None)
 }
 
-/// The same by the plain program, or else by a search.
+/// The same of all requests of a case.
 fn first_wrong(rt: &impl Abort, alloc: Global, case: &Discards) -> Result<Option<u32>, AllocError> {
-    let plain = other_plain_count(rt, alloc, case)?;
-    if plain.is_some() {
-        return Ok(plain);
+    let heap = heap!(case.bounds.0, case.bounds.1, case.blocks, case.order);
+    let bench = Bench::of(rt, alloc, heap)?;
+    // From the second request on its table has what the search before it left.
+    let mut search = Search::new(rt, alloc, case.order)?;
+    for asked in case.asked {
+        let wrong = other_size(rt, alloc, heap, (&bench, &mut search), *asked)?;
+        if wrong.is_some() {
+            return Ok(wrong);
+        }
     }
-    other_count(rt, alloc, case)
+    Ok(None)
 }
 
 #[test]

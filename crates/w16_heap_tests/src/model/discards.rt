@@ -27,7 +27,7 @@ fn is_answered(alloc: Global, case: &Case) -> Result<bool, AllocError> {
     }
     let needed = heap.needed(alloc, size, about)?;
     let prefix = heap.prefix(alloc, size, about, options)?;
-    Ok(needed == case.needed && prefix == case.prefix)
+    Ok((needed, prefix) == case.discards)
 }
 
 #[test]

@@ -28,7 +28,7 @@ fn has_gaps(alloc: Global, case: &Case) -> Result<bool, AllocError> {
         return Ok(false);
     }
     let gaps = heap.gaps(alloc)?;
-    Ok(are_gaps(&heap, &gaps, case.gaps) && heap.room() == case.room)
+    Ok(are_gaps(&heap, &gaps, case.gaps) && heap.room() == case.room.1)
 }
 
 #[test]

@@ -1,5 +1,6 @@
 //! Objects that grow.
-use super::{MAY_MOVE, NO_COMPACT, NO_DISCARD, REVIVAL_OPTIONS};
+use super::{MAY_MOVE, NO_COMPACT, THREE};
+use crate::options::{DISCARDING, SLIDING};
 use std::alloc::{AllocError, Global};
 use std::test::Fail;
 use w16_model::{Block, Hold, RoomOptions, Snapshot};
@@ -18,96 +19,56 @@ struct Growth {
 static GROWTHS: &[Growth] = &[
     Growth {
         name: "up to the heap's end, and nothing moves",
-        heap: Snapshot {
-            lo: 0,
-            hi: 96,
-            blocks: &[loose!(32, 0, 32)],
-            order: &[],
-        },
+        heap: heap!(0, 96, &[loose!(32, 0, 32)], &[]),
         asked: (96, 32, NO_COMPACT),
         fits: true,
         count: Some(0),
     },
     Growth {
         name: "a grain more than the hole behind it, though a hole in front has as much",
-        heap: Snapshot {
-            lo: 0,
-            hi: 128,
-            blocks: &[loose!(32, 32, 32), pinned!(33, 96, 32)],
-            order: &[],
-        },
+        heap: heap!(0, 128, &[loose!(32, 32, 32), pinned!(33, 96, 32)], &[]),
         asked: (96, 32, NO_COMPACT),
         fits: false,
         count: None,
     },
     Growth {
         name: "over both holes beside it",
-        heap: Snapshot {
-            lo: 0,
-            hi: 128,
-            blocks: &[loose!(32, 32, 32), pinned!(33, 96, 32)],
-            order: &[],
-        },
-        asked: (96, 32, REVIVAL_OPTIONS),
+        heap: heap!(0, 128, &[loose!(32, 32, 32), pinned!(33, 96, 32)], &[]),
+        asked: (96, 32, DISCARDING),
         fits: false,
         count: Some(0),
     },
     Growth {
         name: "into a hole elsewhere",
-        heap: Snapshot {
-            lo: 0,
-            hi: 128,
-            blocks: &[loose!(32, 0, 32), pinned!(33, 32, 32)],
-            order: &[],
-        },
+        heap: heap!(0, 128, &[loose!(32, 0, 32), pinned!(33, 32, 32)], &[]),
         asked: (64, 32, NO_COMPACT),
         fits: false,
         count: Some(0),
     },
     Growth {
         name: "in place of the object used longest ago",
-        heap: Snapshot {
-            lo: 0,
-            hi: 96,
-            blocks: &[loose!(32, 0, 32), loose!(33, 32, 32), loose!(34, 64, 32)],
-            order: &[33, 34],
-        },
-        asked: (64, 32, REVIVAL_OPTIONS),
+        heap: heap!(0, 96, THREE, &[33, 34]),
+        asked: (64, 32, DISCARDING),
         fits: false,
         count: Some(1),
     },
     Growth {
         name: "in place of none, where none may be discarded",
-        heap: Snapshot {
-            lo: 0,
-            hi: 96,
-            blocks: &[loose!(32, 0, 32), loose!(33, 32, 32), loose!(34, 64, 32)],
-            order: &[33, 34],
-        },
-        asked: (64, 32, NO_DISCARD),
+        heap: heap!(0, 96, THREE, &[33, 34]),
+        asked: (64, 32, SLIDING),
         fits: false,
         count: None,
     },
     Growth {
         name: "never in place of itself",
-        heap: Snapshot {
-            lo: 0,
-            hi: 64,
-            blocks: &[loose!(32, 0, 32), loose!(33, 32, 32)],
-            order: &[32],
-        },
-        asked: (64, 32, REVIVAL_OPTIONS),
+        heap: heap!(0, 64, &[loose!(32, 0, 32), loose!(33, 32, 32)], &[32]),
+        asked: (64, 32, DISCARDING),
         fits: false,
         count: None,
     },
     Growth {
         name: "of a locked object that may move, over the gaps beside it",
-        heap: Snapshot {
-            lo: 0,
-            hi: 96,
-            blocks: &[pinned!(32, 32, 32)],
-            order: &[],
-        },
+        heap: heap!(0, 96, &[pinned!(32, 32, 32)], &[]),
         asked: (96, 32, MAY_MOVE),
         fits: false,
         count: Some(0),

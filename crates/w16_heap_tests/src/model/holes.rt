@@ -26,7 +26,7 @@ fn has_holes(alloc: Global, case: &Case) -> Result<bool, AllocError> {
         return Ok(false);
     }
     let holes = heap.holes(alloc)?;
-    Ok(are_holes(&heap, &holes, case.holes) && heap.longest_hole() == case.longest_hole)
+    Ok(are_holes(&heap, &holes, case.holes) && heap.longest_hole() == case.room.0)
 }
 
 #[test]

@@ -38,12 +38,7 @@ static PLACED: &[(&str, &[Block], bool)] = &[
 #[test]
 fn tells_what_is_placed(rt: HostRuntime) {
     for (name, blocks, placed) in PLACED {
-        let heap = Snapshot {
-            lo: 32,
-            hi: 128,
-            blocks,
-            order: &[],
-        };
+        let heap = heap!(32, 128, blocks, &[]);
         assert_eq!(rt; heap.is_placed(), *placed, "{name}");
     }
 }

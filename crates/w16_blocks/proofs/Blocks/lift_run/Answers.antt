@@ -27,7 +27,7 @@ pub put-requires-clause-inside : goal.put-requires-clause-inside
 put-requires-clause-inside g c = part_inside (put-requires-clause-part g c) c.take.ensures.range c.self.invariant.ranged c.self.view_is c.requires.inside c.take.ensures.bytes.long c.slide.ensures.length
 
 -- what the tables are afterwards
-module _ (g : Given.Over) (c : goal.After-self-2-1 g) where
+module _ (g : Given.Over) (c : goal.After-self-3-1 g) where
   abbrev slots : List Block
   slots = (with_items c.self.inside.slots c.retag_run_up.new.slots).items
 

@@ -2,7 +2,7 @@ use Rattle.w16_blocks.proofs.Common.{ℕ, ◌≡◌, ◌-◌, ◌+◌, ◌*◌, 
 use Rattle.w16_blocks.proofs.Tables.{blocks_in-none, AreTables-none, get_or-replicate_same}
 use Rattle.w16_blocks.proofs.Blocks.with_room.Goals as goal
 
-module _ (g : _) (c : goal.In_ok-begins g) where
+module _ (g : _) (c : goal.In_ok-ends g) where
   no_blocks : (id : ℕ) → slot_of c.in_ok-slots.slots.items id ≡ no_block
   no_blocks id =
       ap (λ (bs : List Block). slot_of bs id) (c.in_ok-slots.ensures.items_if_clones_equal (search rules)) ∙ get_or-replicate_same _ id no_block

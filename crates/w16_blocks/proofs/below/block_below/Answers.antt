@@ -1,6 +1,7 @@
 use Rattle.w16_blocks.proofs.Common.{ℕ, ◌≡◌, ◌-◌, ◌∙◌, arith, refl, ap, sym, subst, slice_index, div_ceil, IsLastBelow, blocks_in}
 use Rattle.w16_blocks.proofs.Downward.{none_below, last_here}
 use Rattle.w16_blocks.proofs.Tagged.{is_slot, slot_in}
+use Rattle.w16_blocks.proofs.Ending.{last_ending}
 use Rattle.w16_blocks.proofs.below.block_below.Goals as goal
 
 pub bounds-slots-begin : goal.bounds-slots-begin
@@ -18,3 +19,6 @@ pub returns : goal.returns
 returns c =
     let is : c.div_ceil-below.result ≡ div_ceil (c.args.place - c.args.bounds.from) c.args.grain = c.div_ceil-below.ensures ∙ ap (λ (n : ℕ). div_ceil n c.args.grain) c.saturating_sub.ensures in
     none_below c.requires.tables c.args.place c.div_ceil-below.result c.loop-unit.unit is c.loop-unit.invariant (omega arith)
+
+pub returns-in-Some : goal.returns-in-Some
+returns-in-Some c = let e = c.in-Some.ensures in last_ending c.requires.tables e.0 c.in-Some.block e.2 e.3 c.args.place e.4

@@ -1,10 +1,9 @@
 //! Lines, with what they are read as.
 
 /// Each row is a line, an arrow, and what the line is read as: the register that its reply goes to and its call, as a programmer sees them, or
-/// that it is bad, or silent.
+/// that it is silent.
 ///
-/// First commands. Then lines that say none: a number that its place doesn't take, no command at all, no target. Then lines without a reply, and
-/// at last numbers from registers.
+/// First commands. Then lines without a reply, and at last numbers from registers.
 pub static ROWS: &str = "\
 GlobalAlloc 0x42 100 -> None GlobalAlloc { flags: 66, size: 100 }
 GlobalAlloc 0xffff 4294967295 -> None GlobalAlloc { flags: 65535, size: 4294967295 }
@@ -101,146 +100,6 @@ r1 = Write 0 4e -> Some(1) Write { pointer: 0, bytes: [78] }
  \tr1\t=\tGlobalLock 1  -> Some(1) GlobalLock { handle: 1 }
 r1 = GlobalLock r1 -> Some(1) GlobalLock { handle: 262 }
 r20 = GlobalLock r20.lo -> Some(20) GlobalLock { handle: 0 }
-Builtin -> bad
-Builtin A B -> bad
-Builtin = = -> bad
-LoadModule -> bad
-LoadModule A ; x -> bad
-LoadLibrary -> bad
-LoadLibrary A 1 -> bad
-GetModuleHandle -> bad
-GetModuleHandle A A -> bad
-FreeLibrary -> bad
-FreeLibrary 1 2 -> bad
-FreeLibrary 0x10000 -> bad
-FreeLibrary A -> bad
-FreeModule -> bad
-FreeModule #1 -> bad
-FreeModule 65536 -> bad
-GetModuleUsage -> bad
-GetModuleUsage r0 -> bad
-GetModuleUsage 1 1 -> bad
-GetProcAddress -> bad
-GetProcAddress 0x21 -> bad
-GetProcAddress GETA -> bad
-GetProcAddress GETA GETA -> bad
-GetProcAddress 0x10000 GETA -> bad
-GetProcAddress 0x21 GETA GETB -> bad
-GetProcAddress #1 #1 -> bad
-GetProcAddress 0x21 # -> bad
-GetProcAddress 0x21 #x -> bad
-GetProcAddress 0x21 #r1 -> bad
-GetProcAddress 0x21 #65536 -> bad
-GetProcAddress 0x21 #0x10000 -> bad
-GetProcAddress 0x21 #4294967296 -> bad
-GetProcAddress 0x21 #0x -> bad
-GetProcAddress 0x21 #0X10 -> bad
-GetProcAddress 0x21 #0x000000010 -> bad
-GetProcAddress 0x21 ##5 -> bad
-GetProcAddress 0x21 #5x -> bad
-GetProcAddress 0x21 #-1 -> bad
-GetProcAddress 0x21 #+1 -> bad
-GetProcAddress 0x21 # 5 -> bad
-builtin A -> bad
-LOADLIBRARY A -> bad
-Loadlibrary A -> bad
-LoadLibraryA A -> bad
-GetProcAddres 0x21 #1 -> bad
-GetModule A -> bad
-r100 = LoadLibrary A -> bad
-r1 = LoadLibrary -> bad
-r1= LoadLibrary A -> bad
-LoadLibrary = A -> bad
-GlobalFree 65536 -> bad
-GlobalFree 0x10000 -> bad
-GlobalFree 4294967296 -> bad
-GlobalFree 18446744073709551616 -> bad
-GlobalFree 0x -> bad
-GlobalFree 0X10 -> bad
-GlobalFree 0x000000106 -> bad
-GlobalFree 10a -> bad
-GlobalFree 0x10g -> bad
-GlobalFree -1 -> bad
-GlobalFree +1 -> bad
-GlobalFree 1_0 -> bad
-GlobalFree a -> bad
-GlobalAlloc 2 4294967296 -> bad
-Read 0 1025 -> bad
-Read 4294967296 0 -> bad
-GlobalFree r99+1 -> bad
-GlobalFree r0 -> bad
-Read r42 r5+1 -> bad
-Read r42 r99 -> bad
-Read r42+1 0 -> bad
-Frob -> bad
-Moved 1 -> bad
-GlobalCompact -> bad
-GlobalLRUNewest -> bad
-GlobalLRUOldest 0x10000 -> bad
-Walk 0 -> bad
-walk -> bad
-Fill 0x01070000 65537 255 -> bad
-Fill 0x01070000 1 256 -> bad
-Fill 0x01070000 1 -> bad
-Read 0 -> bad
-globalfree 1 -> bad
-GLOBALFREE 1 -> bad
-GlobalFre 1 -> bad
-GlobalFreeX 1 -> bad
-GlobalFree -> bad
-GlobalFree 1 2 -> bad
-GlobalFree 1 ; a comment -> bad
-GlobalAlloc 2 -> bad
-GlobalAlloc 2 1 0 -> bad
-r100 = GlobalAlloc 2 1 -> bad
-r1=GlobalLock 262 -> bad
-r1 = -> bad
-= -> bad
-GlobalFree 1\r -> bad
-\r -> bad
-\x0b -> bad
-GlobalFree\x0b1 -> bad
-GlobalFree \x0c1 -> bad
-GlobalFree 1\x00 -> bad
-x ; -> bad
-Write 0 -> bad
-Write 0 0x12 -> bad
-Write 0 12 34 -> bad
-GlobalReAlloc 0x106 32 -> bad
-GlobalReAlloc 0x106 32 0x10000 -> bad
-GlobalDiscard 0x106 0 -> bad
-LocalInit 0 4 -> bad
-LocalInit 0x10000 4 64 -> bad
-LocalInit 0 65536 64 -> bad
-LocalAlloc 2 65536 -> bad
-LocalReAlloc 6 8 -> bad
-LocalCompact 0x10000 -> bad
-DS -> bad
-DS 0x10000 -> bad
-r100 = GlobalLock 1 -> bad
-r07 = GlobalLock 1 -> bad
-r00 = GlobalLock 1 -> bad
-r = GlobalLock 1 -> bad
-x1 = GlobalLock 1 -> bad
-r1x = GlobalLock 1 -> bad
-r1.lo = GlobalLock 1 -> bad
-r1+1 = GlobalLock 1 -> bad
-1 = GlobalLock 1 -> bad
-r1=GlobalLock 1 -> bad
-r1 =GlobalLock 1 -> bad
-r1= GlobalLock 1 -> bad
-r1 = -> bad
-r1 -> bad
-= -> bad
-= GlobalLock 1 -> bad
-r1 == GlobalLock 1 -> bad
-r1 = = GlobalLock 1 -> bad
-r1 = r2 = GlobalLock 1 -> bad
-r1 GlobalLock 1 -> bad
-r1 = 262 -> bad
-r1 = r2 -> bad
-r1 = Frob -> bad
-r1 = ; a comment -> bad
  -> silent
   -> silent
 \t \t -> silent
@@ -264,39 +123,41 @@ GlobalAlloc 0 r42 -> None GlobalAlloc { flags: 0, size: 4294967295 }
 GlobalAlloc 0 r42.lo -> None GlobalAlloc { flags: 0, size: 65535 }
 GlobalAlloc 0 r42.hi -> None GlobalAlloc { flags: 0, size: 65535 }
 GlobalAlloc 0 r42+0x0 -> None GlobalAlloc { flags: 0, size: 4294967295 }
-GlobalAlloc 0 r99 -> None GlobalAlloc { flags: 0, size: 65535 }
-GlobalAlloc 0 r42+1 -> bad
-GlobalAlloc 0 r1+4294967034 -> bad
-GlobalAlloc 0 r0+4294967296 -> bad
-GlobalAlloc 0 r0+0x100000000 -> bad
-GlobalAlloc 0 r0.lo+1 -> bad
-GlobalAlloc 0 r0.hi+1 -> bad
-GlobalAlloc 0 r0+1+1 -> bad
-GlobalAlloc 0 r0+r1 -> bad
-GlobalAlloc 0 r0+ -> bad
-GlobalAlloc 0 r0+0x -> bad
-GlobalAlloc 0 r0+-1 -> bad
-GlobalAlloc 0 r0++1 -> bad
-GlobalAlloc 0 r0-1 -> bad
-GlobalAlloc 0 r0. -> bad
-GlobalAlloc 0 r0.l -> bad
-GlobalAlloc 0 r0.low -> bad
-GlobalAlloc 0 r0.LO -> bad
-GlobalAlloc 0 r0.lo.lo -> bad
-GlobalAlloc 0 r0lo -> bad
-GlobalAlloc 0 r100 -> bad
-GlobalAlloc 0 r100+1 -> bad
-GlobalAlloc 0 r100.lo -> bad
-GlobalAlloc 0 r07 -> bad
-GlobalAlloc 0 r07+1 -> bad
-GlobalAlloc 0 r00 -> bad
-GlobalAlloc 0 r -> bad
-GlobalAlloc 0 r+1 -> bad
-GlobalAlloc 0 R0 -> bad
-GlobalAlloc 0 1+r0 -> bad
-GlobalAlloc 0 r0 +1 -> bad";
+GlobalAlloc 0 r99 -> None GlobalAlloc { flags: 0, size: 65535 }";
 
-/// The same of bytes that are no text.
+/// Lines that are bad, with bars between them: by their arguments, by a number that its place doesn't take, by no command at all, by no target,
+/// and at last by a number from a register.
+pub static BAD: &str = "\
+Builtin|Builtin A B|Builtin = =|LoadModule|LoadModule A ; x|LoadLibrary|LoadLibrary A 1|GetModuleHandle|GetModuleHandle A A|\
+FreeLibrary|FreeLibrary 1 2|FreeLibrary 0x10000|FreeLibrary A|FreeModule|FreeModule #1|FreeModule 65536|\
+GetModuleUsage|GetModuleUsage r0|GetModuleUsage 1 1|\
+GetProcAddress|GetProcAddress 0x21|GetProcAddress GETA|GetProcAddress GETA GETA|GetProcAddress 0x10000 GETA|\
+GetProcAddress 0x21 GETA GETB|GetProcAddress #1 #1|GetProcAddress 0x21 #|GetProcAddress 0x21 #x|GetProcAddress 0x21 #r1|\
+GetProcAddress 0x21 #65536|GetProcAddress 0x21 #0x10000|GetProcAddress 0x21 #4294967296|GetProcAddress 0x21 #0x|\
+GetProcAddress 0x21 #0X10|GetProcAddress 0x21 #0x000000010|GetProcAddress 0x21 ##5|GetProcAddress 0x21 #5x|\
+GetProcAddress 0x21 #-1|GetProcAddress 0x21 #+1|GetProcAddress 0x21 # 5|builtin A|LOADLIBRARY A|Loadlibrary A|LoadLibraryA A|\
+GetProcAddres 0x21 #1|GetModule A|r100 = LoadLibrary A|r1 = LoadLibrary|r1= LoadLibrary A|LoadLibrary = A|\
+GlobalFree 65536|GlobalFree 0x10000|GlobalFree 4294967296|GlobalFree 18446744073709551616|GlobalFree 0x|GlobalFree 0X10|\
+GlobalFree 0x000000106|GlobalFree 10a|GlobalFree 0x10g|GlobalFree -1|GlobalFree +1|GlobalFree 1_0|GlobalFree a|\
+GlobalAlloc 2 4294967296|Read 0 1025|Read 4294967296 0|GlobalFree r99+1|GlobalFree r0|Read r42 r5+1|Read r42 r99|Read r42+1 0|\
+Frob|Moved 1|GlobalCompact|GlobalLRUNewest|GlobalLRUOldest 0x10000|Walk 0|walk|\
+Fill 0x01070000 65537 255|Fill 0x01070000 1 256|Fill 0x01070000 1|Read 0|globalfree 1|GLOBALFREE 1|GlobalFre 1|GlobalFreeX 1|\
+GlobalFree|GlobalFree 1 2|GlobalFree 1 ; a comment|GlobalAlloc 2|GlobalAlloc 2 1 0|r100 = GlobalAlloc 2 1|r1=GlobalLock 262|\
+r1 =|=|GlobalFree 1\r|\r|\x0b|GlobalFree\x0b1|GlobalFree \x0c1|GlobalFree 1\x00|x ;|Write 0|Write 0 0x12|Write 0 12 34|\
+GlobalReAlloc 0x106 32|GlobalReAlloc 0x106 32 0x10000|GlobalDiscard 0x106 0|\
+LocalInit 0 4|LocalInit 0x10000 4 64|LocalInit 0 65536 64|LocalAlloc 2 65536|LocalReAlloc 6 8|LocalCompact 0x10000|\
+DS|DS 0x10000|r100 = GlobalLock 1|r07 = GlobalLock 1|r00 = GlobalLock 1|r = GlobalLock 1|x1 = GlobalLock 1|r1x = GlobalLock 1|\
+r1.lo = GlobalLock 1|r1+1 = GlobalLock 1|1 = GlobalLock 1|r1=GlobalLock 1|r1 =GlobalLock 1|r1= GlobalLock 1|r1 =|r1|\
+=|= GlobalLock 1|\
+r1 == GlobalLock 1|r1 = = GlobalLock 1|r1 = r2 = GlobalLock 1|r1 GlobalLock 1|r1 = 262|r1 = r2|r1 = Frob|r1 = ; a comment|\
+GlobalAlloc 0 r42+1|GlobalAlloc 0 r1+4294967034|GlobalAlloc 0 r0+4294967296|GlobalAlloc 0 r0+0x100000000|\
+GlobalAlloc 0 r0.lo+1|GlobalAlloc 0 r0.hi+1|GlobalAlloc 0 r0+1+1|GlobalAlloc 0 r0+r1|GlobalAlloc 0 r0+|GlobalAlloc 0 r0+0x|\
+GlobalAlloc 0 r0+-1|GlobalAlloc 0 r0++1|GlobalAlloc 0 r0-1|GlobalAlloc 0 r0.|GlobalAlloc 0 r0.l|GlobalAlloc 0 r0.low|\
+GlobalAlloc 0 r0.LO|GlobalAlloc 0 r0.lo.lo|GlobalAlloc 0 r0lo|GlobalAlloc 0 r100|GlobalAlloc 0 r100+1|GlobalAlloc 0 r100.lo|\
+GlobalAlloc 0 r07|GlobalAlloc 0 r07+1|GlobalAlloc 0 r00|GlobalAlloc 0 r|GlobalAlloc 0 r+1|GlobalAlloc 0 R0|GlobalAlloc 0 1+r0|\
+GlobalAlloc 0 r0 +1";
+
+/// Lines of bytes that are no text, and what they are read as.
 pub static NO_TEXT: &[(&[u8], &str)] = &[
     (b"GlobalFree 1\xff", "bad"),
     (b";\x00\x0b\xff\r", "silent"),

@@ -1,9 +1,17 @@
 //! Hosts, with how runs over them end.
 
 use super::{Dialogue, Script, Written};
+use crate::rows::table::{LIFE, LIFE_OUTPUT};
 use crate::script::host::Part;
 use std::io::ErrorKind;
 use w16_script::{Ended, RunFault};
+
+/// The end of a script of so many lines, with so many replies.
+macro_rules! ended {
+    ($lines:expr, $replies:expr) => {
+        Ok(Ended { lines: $lines, replies: $replies })
+    };
+}
 
 /// Texts, with their lines and the replies to them, all of them to bad lines.
 pub static COUNTED: &[(&[Part<'_>], u32, u32)] = &[
@@ -36,166 +44,117 @@ pub static ENDLESS: &[(&[Part<'_>], usize, u32)] = &[
     (&[(u64::MAX, b"\n")], 9901, 101),
 ];
 
-/// Three bad lines; and a new object, with a walk of 64 bytes of which it has the lower half.
+/// Three bad lines; a new object, with a walk of 64 bytes of which it has the lower half; and one object's life.
 pub static WRITTEN: &[Written] = &[
     Written {
         text: &[(1, b"Frob\n\nFrob\nFrob")],
         memory: 4096,
-        ended: Ended {
-            lines: 4,
-            replies: 3,
-        },
+        ended: ended!(4, 3),
         written: b"error syntax\nerror syntax\nerror syntax\n",
     },
     Written {
         text: &[(1, b"GlobalAlloc 0x102 32\nWalk\n")],
         memory: 64,
-        ended: Ended {
-            lines: 2,
-            replies: 2,
-        },
+        ended: ended!(2, 2),
         written: b"0106\n00000000 00000020 0106 discardable 0\n00000020 00000020 free\nend\n",
+    },
+    Written {
+        text: &[(1, LIFE)],
+        memory: 4096,
+        ended: ended!(6, 6),
+        written: LIFE_OUTPUT,
     },
 ];
 
 /// Three lines, each of which waits for the reply to the one before it; the last has no LF.
 const LINES: &[Part<'_>] = &[(1, b"Frob\n"), (1, b"GlobalAlloc 2 32\n"), (1, b"Frob")];
 
+/// A dialogue of these lines, in which nothing fails.
+const TALK: Dialogue = Dialogue {
+    name: "replies before it reads on",
+    buffered: false,
+    text: LINES,
+    breaks: false,
+    room: usize::MAX,
+    flushes: u32::MAX,
+    trouble: ErrorKind::Other,
+    ended: ended!(3, 3),
+    notes: &[(
+        1,
+        b"flush\nread\nerror syntax\nflush\nread\n0106\nflush\nread\nflush\nread\nerror syntax\n",
+    )],
+};
+
 /// Runs over hosts that give them one by one, and over others that talk.
 pub static DIALOGUES: &[Dialogue] = &[
-    Dialogue {
-        name: "replies before it reads on",
-        buffered: false,
-        text: LINES,
-        breaks: false,
-        room: usize::MAX,
-        flushes: u32::MAX,
-        trouble: ErrorKind::Other,
-        ended: Ok(Ended {
-            lines: 3,
-            replies: 3,
-        }),
-        notes: &[(
-            1,
-            b"flush\nread\nerror syntax\nflush\nread\n0106\nflush\nread\nflush\nread\nerror syntax\n",
-        )],
-    },
+    TALK,
     Dialogue {
         name: "replies through a buffer before it reads on",
         buffered: true,
-        text: LINES,
-        breaks: false,
-        room: usize::MAX,
-        flushes: u32::MAX,
-        trouble: ErrorKind::Other,
-        ended: Ok(Ended {
-            lines: 3,
-            replies: 3,
-        }),
-        notes: &[(
-            1,
-            b"flush\nread\nerror syntax\nflush\nread\n0106\nflush\nread\nflush\nread\nerror syntax\n",
-        )],
+        ..TALK
     },
     Dialogue {
         name: "reads nothing after the first flush that fails",
-        buffered: false,
-        text: LINES,
-        breaks: false,
-        room: usize::MAX,
         flushes: 0,
-        trouble: ErrorKind::Other,
         ended: Err(RunFault::Write),
         notes: &[(1, b"flush\n")],
+        ..TALK
     },
     Dialogue {
         name: "reads nothing after the second flush that fails",
-        buffered: false,
-        text: LINES,
-        breaks: false,
-        room: usize::MAX,
         flushes: 1,
-        trouble: ErrorKind::Other,
         ended: Err(RunFault::Write),
         notes: &[(1, b"flush\nread\nerror syntax\nflush\n")],
+        ..TALK
     },
     Dialogue {
         name: "reads nothing after the third flush that fails",
-        buffered: false,
-        text: LINES,
-        breaks: false,
-        room: usize::MAX,
         flushes: 2,
-        trouble: ErrorKind::Other,
         ended: Err(RunFault::Write),
         notes: &[(1, b"flush\nread\nerror syntax\nflush\nread\n0106\nflush\n")],
+        ..TALK
     },
     Dialogue {
         name: "reads nothing after the fourth flush that fails",
-        buffered: false,
-        text: LINES,
-        breaks: false,
-        room: usize::MAX,
         flushes: 3,
-        trouble: ErrorKind::Other,
         ended: Err(RunFault::Write),
         notes: &[(
             1,
             b"flush\nread\nerror syntax\nflush\nread\n0106\nflush\nread\nflush\n",
         )],
+        ..TALK
     },
     Dialogue {
         name: "reads nothing after a write that fails",
-        buffered: false,
-        text: LINES,
-        breaks: false,
         room: 0,
-        flushes: u32::MAX,
-        trouble: ErrorKind::Other,
         ended: Err(RunFault::Write),
         notes: &[(1, b"flush\nread\n")],
+        ..TALK
     },
     Dialogue {
         name: "flushes again after an interruption",
-        buffered: false,
-        text: LINES,
-        breaks: false,
-        room: usize::MAX,
         flushes: 1,
         trouble: ErrorKind::Interrupted,
-        ended: Ok(Ended {
-            lines: 3,
-            replies: 3,
-        }),
         notes: &[(
             1,
             b"flush\nread\nerror syntax\nflush\nflush\nread\n0106\nflush\nread\nflush\nread\nerror syntax\n",
         )],
+        ..TALK
     },
     Dialogue {
         name: "reads to the end and not behind it",
-        buffered: false,
         text: &[(1, b"Frob\nFrob")],
-        breaks: false,
-        room: usize::MAX,
-        flushes: u32::MAX,
-        trouble: ErrorKind::Other,
-        ended: Ok(Ended {
-            lines: 2,
-            replies: 2,
-        }),
+        ended: ended!(2, 2),
         notes: &[(1, b"flush\nread\nerror syntax\nflush\nread\nerror syntax\n")],
+        ..TALK
     },
     Dialogue {
         name: "reads no line whose end it fails to read",
-        buffered: false,
         text: &[(1, b"Frob\nFrob")],
         breaks: true,
-        room: usize::MAX,
-        flushes: u32::MAX,
-        trouble: ErrorKind::Other,
         ended: Err(RunFault::Read),
         notes: &[(1, b"flush\nread\nerror syntax\nflush\nread\n")],
+        ..TALK
     },
 ];
 
@@ -204,161 +163,124 @@ pub fn scripts() -> &'static [Script] {
     SCRIPTS
 }
 
+/// A script that is read at once, on a machine of 4,096 bytes.
+const SCRIPT: Script = Script {
+    name: "plays nothing",
+    text: &[],
+    by: &[usize::MAX],
+    breaks: false,
+    interrupts: false,
+    memory: 4096,
+    ended: ended!(0, 0),
+    notes: &[],
+};
+
+const OF_A_LINE: Script = Script {
+    name: "limits the length of a line",
+    by: &[1, 4096, 4097, 100_000],
+    ..SCRIPT
+};
+
+const OF_LINES: Script = Script {
+    name: "limits the lines",
+    interrupts: true,
+    ..SCRIPT
+};
+
 static SCRIPTS: &[Script] = &[
     Script {
-        name: "limits the length of a line",
         text: &[(4096, b" "), (1, b"\n")],
-        by: &[1, 4096, 4097, 100_000],
-        breaks: false,
-        interrupts: false,
-        memory: 4096,
-        ended: Ok(Ended {
-            lines: 1,
-            replies: 0,
-        }),
-        notes: &[],
+        ended: ended!(1, 0),
+        ..OF_A_LINE
     },
     Script {
-        name: "limits the length of a line",
         text: &[(4097, b" "), (1, b"\n")],
-        by: &[1, 4096, 4097, 100_000],
-        breaks: false,
-        interrupts: false,
-        memory: 4096,
         ended: Err(RunFault::TooLong),
-        notes: &[],
+        ..OF_A_LINE
     },
     Script {
-        name: "limits the length of a line",
         text: &[(4095, b" "), (1, b"\r\n")],
-        by: &[1, 4096, 4097, 100_000],
-        breaks: false,
-        interrupts: false,
-        memory: 4096,
-        ended: Ok(Ended {
-            lines: 1,
-            replies: 0,
-        }),
-        notes: &[],
+        ended: ended!(1, 0),
+        ..OF_A_LINE
     },
     Script {
-        name: "limits the length of a line",
         text: &[(4096, b" "), (1, b"\r\n")],
-        by: &[1, 4096, 4097, 100_000],
-        breaks: false,
-        interrupts: false,
-        memory: 4096,
         ended: Err(RunFault::TooLong),
-        notes: &[],
+        ..OF_A_LINE
     },
     Script {
-        name: "limits the length of a line",
         text: &[(4096, b" ")],
-        by: &[1, 4096, 4097, 100_000],
-        breaks: false,
-        interrupts: false,
-        memory: 4096,
-        ended: Ok(Ended {
-            lines: 1,
-            replies: 0,
-        }),
-        notes: &[],
+        ended: ended!(1, 0),
+        ..OF_A_LINE
     },
     Script {
-        name: "limits the length of a line",
         text: &[(4097, b" ")],
-        by: &[1, 4096, 4097, 100_000],
-        breaks: false,
-        interrupts: false,
-        memory: 4096,
         ended: Err(RunFault::TooLong),
-        notes: &[],
+        ..OF_A_LINE
     },
     Script {
-        name: "limits the lines",
         text: &[(1_000_000, b"\n")],
-        by: &[usize::MAX],
-        breaks: false,
-        interrupts: true,
-        memory: 4096,
-        ended: Ok(Ended {
-            lines: 1_000_000,
-            replies: 0,
-        }),
-        notes: &[],
+        ended: ended!(1_000_000, 0),
+        ..OF_LINES
     },
     Script {
-        name: "limits the lines",
         text: &[(1_000_001, b"\n")],
-        by: &[usize::MAX],
-        breaks: false,
-        interrupts: true,
-        memory: 4096,
         ended: Err(RunFault::TooLong),
-        notes: &[],
+        ..OF_LINES
     },
     Script {
-        name: "limits the lines",
         text: &[(u64::MAX, b"\n")],
-        by: &[usize::MAX],
-        breaks: false,
-        interrupts: true,
-        memory: 4096,
         ended: Err(RunFault::TooLong),
-        notes: &[],
+        ..OF_LINES
     },
     Script {
-        name: "limits the lines",
         text: &[(u64::MAX, b"a")],
-        by: &[usize::MAX],
-        breaks: false,
-        interrupts: true,
-        memory: 4096,
         ended: Err(RunFault::TooLong),
-        notes: &[],
+        ..OF_LINES
     },
     Script {
         name: "decides by the byte that passes a limit",
         text: &[(4097, b"a")],
         by: &[1],
         breaks: true,
-        interrupts: false,
-        memory: 4096,
         ended: Err(RunFault::TooLong),
-        notes: &[],
+        ..SCRIPT
     },
     Script {
         name: "decides by no byte before it",
         text: &[(4096, b"a")],
         by: &[1],
         breaks: true,
-        interrupts: false,
-        memory: 4096,
         ended: Err(RunFault::Read),
-        notes: &[],
+        ..SCRIPT
     },
     Script {
         name: "fails to read",
         text: &[(1, b"Frob\nFrob\n\nFrob")],
         by: &[1, 7, 100_000],
         breaks: true,
-        interrupts: false,
-        memory: 4096,
         ended: Err(RunFault::Read),
         notes: &[(2, b"error syntax\n")],
+        ..SCRIPT
+    },
+    Script {
+        name: "fails to read in a line",
+        text: &[
+            (1, b"GlobalAlloc 0x42 100\nGlobalLock 0x106\n"),
+            (1, b"Write 0x01070000 4e45\nRead 0x0107"),
+        ],
+        by: &[1],
+        breaks: true,
+        ended: Err(RunFault::Read),
+        notes: &[(1, b"0106\n01070000\nok\n")],
+        ..SCRIPT
     },
     Script {
         name: "walks over nothing",
         text: &[(1, b"Walk\n")],
-        by: &[usize::MAX],
-        breaks: false,
-        interrupts: false,
-        memory: 4096,
-        ended: Ok(Ended {
-            lines: 1,
-            replies: 1,
-        }),
+        ended: ended!(1, 1),
         notes: &[(1, b"00000000 00001000 free\nend\n")],
+        ..SCRIPT
     },
     Script {
         name: "walks over each kind",
@@ -366,18 +288,13 @@ static SCRIPTS: &[Script] = &[
             1,
             b"GlobalAlloc 0x102 32\nGlobalAlloc 0 32\nGlobalAlloc 2 32\nGlobalAlloc 2 0\nGlobalLock 0x116\nGlobalLock 0x116\nWalk\n",
         )],
-        by: &[usize::MAX],
-        breaks: false,
-        interrupts: false,
         memory: 128,
-        ended: Ok(Ended {
-            lines: 7,
-            replies: 7,
-        }),
+        ended: ended!(7, 7),
         notes: &[(
             1,
             b"0106\n010f\n0116\n011e\n01170000\n01170000\n00000000 00000020 0106 discardable 0\n00000020 00000020 010f fixed 0\n00000040 00000020 0116 moveable 2\n00000060 00000020 free\nend\n",
         )],
+        ..SCRIPT
     },
     Script {
         name: "counts locks in decimal",
@@ -386,31 +303,60 @@ static SCRIPTS: &[Script] = &[
             (255, b"GlobalLock 0x106\n"),
             (1, b"Walk\n"),
         ],
-        by: &[usize::MAX],
-        breaks: false,
-        interrupts: false,
         memory: 32,
-        ended: Ok(Ended {
-            lines: 257,
-            replies: 257,
-        }),
+        ended: ended!(257, 257),
         notes: &[
             (1, b"0106\n"),
             (255, b"01070000\n"),
             (1, b"00000000 00000020 0106 moveable 255\nend\n"),
         ],
+        ..SCRIPT
+    },
+    Script {
+        name: "counts locks up to 255",
+        text: &[
+            (1, b"GlobalAlloc 2 32\n"),
+            (256, b"GlobalLock 0x106\n"),
+            (1, b"GlobalFlags 0x106\nGlobalFree 0x106\n"),
+            (256, b"GlobalUnlock 0x106\n"),
+            (1, b"GlobalFree 0x106\n"),
+        ],
+        ended: ended!(516, 516),
+        notes: &[
+            (1, b"0106\n"),
+            (255, b"01070000\n"),
+            (1, b"00000000\n00ff\n0106\n"),
+            (254, b"0001\n"),
+            (3, b"0000\n"),
+        ],
+        ..SCRIPT
+    },
+    Script {
+        name: "counts locks of a local object, and none of a fixed one",
+        text: &[
+            (1, b"GlobalAlloc 0x42 128\nLocalInit 0x107 4 128\n"),
+            (1, b"DS 0x107\nLocalAlloc 0x102 4\n"),
+            (256, b"LocalLock 2\n"),
+            (1, b"LocalFlags 2\nLocalFree 2\n"),
+            (1, b"LocalDiscard 2\nLocalUnlock 2\n"),
+            (1, b"LocalAlloc 0 4\nLocalLock 8\n"),
+            (1, b"LocalUnlock 8\nLocalFlags 8\n"),
+        ],
+        ended: ended!(268, 268),
+        notes: &[
+            (1, b"0106\n0001\nok\n0002\n"),
+            (255, b"0004\n"),
+            (1, b"0000\n0fff\n0002\n0000\n0001\n"),
+            (1, b"0008\n0008\n0000\n0000\n"),
+        ],
+        ..SCRIPT
     },
     Script {
         name: "stores no walk",
         text: &[(1, b"r1 = GlobalAlloc 2 32\nr1 = Walk\nGlobalFree r1\n")],
-        by: &[usize::MAX],
-        breaks: false,
-        interrupts: false,
         memory: 32,
-        ended: Ok(Ended {
-            lines: 3,
-            replies: 3,
-        }),
+        ended: ended!(3, 3),
         notes: &[(1, b"0106\n00000000 00000020 0106 moveable 0\nend\n0000\n")],
+        ..SCRIPT
     },
 ];

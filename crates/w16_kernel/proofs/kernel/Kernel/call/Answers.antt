@@ -1,6 +1,11 @@
 use Rattle.w16_kernel.proofs.Common.{sym, subst, on_any, IsWorldOver}
+use Rattle.w16_kernel.proofs.Spared.{others_stay}
 use Rattle.w16_kernel.proofs.Stepping.{recounted, told_step, told_fewest, told_world}
 use Rattle.w16_kernel.proofs.kernel.Kernel.call.Goals as goal
+
+pub sweep-requires : goal.sweep-requires
+sweep-requires g c = rw (c.object_slot-slot.ensures, c.word.ensures, c.discardable_beside-before.ensures, c.object_slot.ensures)
+    (others_stay g.S.Store.is_honest _ c.self.invariant _ c.reveal_handles.ensures _ _ c.in_ok-reply.ensures.step)
 
 pub returns-clause-step : goal.returns-clause-step
 returns-clause-step g c = rw (← c.self.view_is) (rw c.sweep.ensures (told_step g.S.Store.is_honest _ c.self.invariant _ c.in_ok-reply.reply _ c.in_ok-reply.ensures.step))

@@ -1,5 +1,5 @@
 use Rattle.w16_blocks.proofs.Common.{◌≡◌, ◌-◌, length, drop, slice_get, rank, blocks_in}
-use Rattle.w16_blocks.proofs.Blocks.next_from.Given as goal
+use Rattle.w16_blocks.proofs.Blocks.first_from.Given as goal
 
 -- the block that is looked for is the first that the cells from here on tell
 abbrev pub invariant-loop-unit : goal.invariant-loop-unit

@@ -1,0 +1,182 @@
+-- Which local heaps a call of a program for bytes spares, told by how many discardable objects there are before and after.
+use Rattle.w16_kernel.proofs.Common.{◌≡◌, ◌≢◌, ℕ, ◌+◌, ◌≤◌, ◌/◌, inl, inr, Bool, true, false, cond, not, ◌&&◌, ◌==◌, nat_le, if◌then◌else◌, IfSome, IsSomeAnd, List, [], ◌∷◌, length, filter, Option, Some, None, option_map, unwrap_or, is_some, refl, sym, ap, ◌∙◌, subst, arith, false≢true, cases_eq, le-leb, length-filter, count_by-le-length, nat_cmp, nat_cmp_total, nat_cmp-IsAntisymmetric, same_map, get-retain_keys, Kind, Fixed, Moveable, Discardable, FinMap, Heap, Object, IsHeap, Table, object_at, bytes_at, bytes_in, is_discardable, is_in_order, is_member, without, Handles, AreHandles, handle_of, slot_of_handle, kind_asked, alloc_options, realloc_options, rounded_size, CallStep, Outcome, IsUnmoved, IsLocked, IsUnlocked, IsFreed, IsNewest, IsOldest, IsEntered, IsAllocated, IsCompacted, IsModified, IsDiscarded, IsResized, IsAbout, IsKeptOrDiscarded, OnlyLeave, handle_in, may_change, names_law, taken_here, taken_other, outcome, answer_in, GlobalFree, GlobalCompact, GlobalReAlloc, GlobalDiscard, Calls, ReAllocs, GMEM_MOVEABLE, IsSlot, Reply, Word, Dword, World, Command, OfLoading, OfHandles, OfResizes, IsWorldOver, Unswept, object_slot, word_of, discardable_beside, bystanders_law, rest_of, allocated, compacted, resized, stays, filter_swapped, other_of, twice_out, without_out, IsLocalIn, has_range, left_in, OthersStay}
+use Rattle.std.specs.FinMap as finmap
+use Rattle.w16_model.specs.Calls as calls
+use Rattle.w16_model.specs.Calls.{Answer}
+use Rattle.w16_model.specs.Calls.HandleCommand.{GlobalAlloc}
+use Rattle.w16_model.specs.Outcomes.{Call}
+use Rattle.w16_model.specs.Outcomes.Outcome.{IsSame}
+
+-- a filter that leaves as many leaves all
+filter_all : (p : ℕ → Bool) (l : List ℕ) → length l ≤ length (filter p l) → filter p l ≡ l
+filter_all p [] le = refl
+filter_all p (x ∷ l) le = turn (p x) le (filter_all p l)
+  where
+    turn : (b : Bool) → length (x ∷ l) ≤ length (cond {A = List ℕ} b (x ∷ filter p l) (filter p l)) → (length l ≤ length (filter p l) → filter p l ≡ l) → cond {A = List ℕ} b (x ∷ filter p l) (filter p l) ≡ x ∷ l
+    turn true le rest = ap (λ (m : List ℕ). x ∷ m) (rest (omega arith))
+    turn false le rest = absurd (let few = length-filter p l in let fewer = count_by-le-length p l in omega (arith, le, few, fewer))
+
+-- The slot of a call's object: the one that it names, or that it has made.
+
+slot_in_handle : (kind : Kind) (slot : ℕ) → handle_of kind slot / 8 ≡ slot
+slot_in_handle Fixed slot = omega arith
+slot_in_handle Moveable slot = omega arith
+slot_in_handle Discardable slot = omega arith
+
+abbrev pub slot_made : Answer → ℕ
+slot_made (calls.Answer.Word handle) = handle / 8
+slot_made answer = 0
+
+abbrev pub slot_in : Call → Answer → ℕ
+slot_in call answer = unwrap_or (option_map (λ handle. handle / 8) (handle_in call)) (slot_made answer)
+
+module _ (old : Handles) where
+  found_slot : (handle slot : ℕ) → slot_of_handle old handle ≡ Some slot → handle / 8 ≡ slot
+  found_slot handle slot found = turn (object_at old.heap slot) ((names_law old handle slot).0.0 found)
+    where
+      turn : (p : Option Object) → IsSomeAnd p (λ o. handle ≡ handle_of o.kind slot) → handle / 8 ≡ slot
+      turn None h = absurd h
+      turn (Some o) h = ap (λ n. n / 8) h ∙ slot_in_handle o.kind slot
+
+  about_slot : (p : Option ℕ) (made q : ℕ) → IsSomeAnd p (λ handle. slot_of_handle old handle ≡ Some q) → unwrap_or (option_map (λ handle. handle / 8) p) made ≡ q
+  about_slot None made q h = absurd h
+  about_slot (Some handle) made q h = found_slot handle q h
+
+module _ (old new : Handles) (is : AreHandles old) (are : AreHandles new) (call : Call) (answer : Answer) (may : may_change call ≡ true) where
+  -- beside an object the order of use only loses what was discarded
+  abbrev Leaves : ℕ → Type 0
+  Leaves slot = OnlyLeave new.heap (without slot old.heap.order) (without slot new.heap.order)
+
+  named : (c : Call) (handle slot : ℕ) → call ≡ c → handle_in c ≡ Some handle → slot_of_handle old handle ≡ Some slot → Leaves slot → Leaves (slot_in call answer)
+  named c handle slot asked names found = subst Leaves (sym (ap (λ p. unwrap_or (option_map (λ handle. handle / 8) p) (slot_made answer)) (ap handle_in asked ∙ names) ∙ found_slot old handle slot found))
+
+  same_order : (slot : ℕ) → without slot new.heap.order ≡ without slot old.heap.order → Leaves slot
+  same_order slot e = stays old.heap new.heap (without slot old.heap.order) (without slot new.heap.order) e
+
+  never : (c : Call) → call ≡ c → may_change c ≡ false → Leaves (slot_in call answer)
+  never c asked none = absurd (false≢true (sym none ∙ ap may_change (sym asked) ∙ may))
+
+  leaves : Outcome old call answer new → Leaves (slot_in call answer)
+  leaves (IsSame s e) = same_order (slot_in call answer) (ap (λ (h : Handles). without (slot_in call answer) h.heap.order) e)
+  leaves (IsUnmoved s e) = same_order (slot_in call answer) (ap (λ (h : Handles). without (slot_in call answer) h.heap.order) e)
+  leaves (IsLocked l) = never _ l.asked refl
+  leaves (IsUnlocked u) = never _ u.asked refl
+  leaves (IsFreed f) = named _ f.handle f.slot f.asked refl f.named.found (same_order f.slot (ap (λ (h : Handles). without f.slot h.heap.order) f.rest ∙ twice_out f.slot old.heap.order))
+  leaves (IsNewest n) = never _ n.asked refl
+  leaves (IsOldest n) = never _ n.asked refl
+  leaves (IsEntered e) = same_order (slot_in call answer) (ap (λ (h : Heap). without (slot_in call answer) h.order) e.entered.entered)
+  leaves (IsAllocated a) =
+      let made : slot_in call answer ≡ a.slot = (λ i. slot_in (a.asked i) (a.answered i)) ∙ slot_in_handle (kind_asked a.flags) a.slot in
+      subst Leaves (sym made) (allocated old.heap new.heap is.heap a.slot a.count (alloc_options a.flags) a.object a.settled)
+  leaves (IsCompacted c) =
+      let left : OnlyLeave new.heap old.heap.order new.heap.order = compacted old.heap new.heap is.heap c.count c.settled in
+      record { gone = left.gone; without_bytes = left.without_bytes; order_is = ap (without (slot_in call answer)) left.order_is ∙ filter_swapped (λ q. not (q == slot_in call answer)) (λ q. not (is_member q left.gone)) old.heap.order }
+  leaves (IsModified m) = named _ m.handle m.slot m.asked refl m.named.found (same_order m.slot m.changes.rest)
+  leaves (IsDiscarded d) = named _ d.handle d.slot d.asked refl d.named.found (same_order d.slot (ap (λ (h : Handles). without d.slot h.heap.order) d.rest ∙ twice_out d.slot old.heap.order))
+  leaves (IsResized r) = named _ r.handle r.slot r.asked refl r.named.found (resized old.heap new.heap r.slot (rounded_size r.size) r.object (realloc_options r.flags) (rest_of old new is call answer r))
+
+  module _ (step : CallStep old call answer new) (many : length (without (slot_in call answer) old.heap.order) ≤ length (without (slot_in call answer) new.heap.order)) (q : ℕ) (other : q ≢ slot_in call answer) where
+    left : Leaves (slot_in call answer)
+    left = leaves (outcome old new call answer is step)
+
+    listed : is_in_order (object_at new.heap q) ≡ is_in_order (object_at old.heap q)
+    listed =
+        let slot : ℕ = slot_in call answer in
+        let kept : without slot new.heap.order ≡ without slot old.heap.order = left.order_is ∙ filter_all (λ q. not (is_member q left.gone)) (without slot old.heap.order) (subst (λ (l : List ℕ). length (without slot old.heap.order) ≤ length l) left.order_is many) in
+        sym (are.heap.in_order q) ∙ sym (other_of q slot new.heap.order other) ∙ ap (is_member q) kept ∙ other_of q slot old.heap.order other ∙ is.heap.in_order q
+
+    -- so no other object was discarded
+    kept_object : IsKeptOrDiscarded old.heap new.heap q → object_at new.heap q ≡ object_at old.heap q
+    kept_object (inl same) = same
+    kept_object (inr gone) = turn (object_at old.heap q) refl gone
+      where
+        turn : (p : Option Object) → object_at old.heap q ≡ p → IsSomeAnd p (λ o. (o.kind ≡ Discardable) × (o.locks ≡ 0) × (is_some o.bytes ≡ true) × (object_at new.heap q ≡ Some (record o { bytes = None })))
+            → object_at new.heap q ≡ object_at old.heap q
+        turn None e h = absurd h
+        turn (Some o) e h = absurd (false≢true ((λ i. is_discardable (sym h.0 i) && false) ∙ sym (ap is_in_order h.3) ∙ listed ∙ ap is_in_order e ∙ (λ i. is_discardable (h.0 i) && h.2 i)))
+
+    there : (t : Table) → IsSomeAnd (bytes_at old.heap q) (IsLocalIn t) → is_some (object_at old.heap q) ≡ true
+    there t = turn (object_at old.heap q)
+      where
+        turn : (p : Option Object) → IsSomeAnd (bytes_in p) (IsLocalIn t) → is_some p ≡ true
+        turn None h = absurd h
+        turn (Some o) h = refl
+
+    inside : (t : Table) (b : Option (List ℕ)) → IsSomeAnd b (IsLocalIn t) → (elim b as (λ _. Bool) [ None ↦ false | Some bytes ↦ nat_le t.hi (length bytes) ]) ≡ true
+    inside t None h = absurd h
+    inside t (Some bytes) h = le-leb t.hi (length bytes) h.1
+
+    pub keeps_range : (tables : FinMap nat_cmp Table) → IfSome (finmap.get tables q) (λ t. IsSomeAnd (bytes_at old.heap q) (IsLocalIn t)) → IfSome (finmap.get tables q) (λ _. has_range new.heap tables q ≡ true)
+    keeps_range tables = turn (finmap.get tables q) refl
+      where
+        turn : (p : Option Table) → finmap.get tables q ≡ p → IfSome p (λ t. IsSomeAnd (bytes_at old.heap q) (IsLocalIn t)) → IfSome p (λ _. has_range new.heap tables q ≡ true)
+        turn None e h = tt
+        turn (Some t) e h =
+            let same : object_at new.heap q ≡ object_at old.heap q = kept_object (bystanders_law old new call answer q is step (there t h) (λ a. other (sym (about_slot old (handle_in call) (slot_made answer) q a)))) in
+            (λ i. elim (e i) as (λ _. Bool) [ None ↦ false | Some t ↦ elim (bytes_in (same i)) as (λ _. Bool) [ None ↦ false | Some bytes ↦ nat_le t.hi (length bytes) ] ])
+            ∙ inside t (bytes_at old.heap q) h
+
+-- an order that lacks an id is no longer without another
+pub shorter : (id slot : ℕ) (l : List ℕ) → is_member id l ≡ false → length (without slot l) ≤ length (without id l)
+shorter id slot l none = let same = ap (length {A = ℕ}) (without_out id l none) in let few = length-filter (λ q. not (q == slot)) l in let fewer = count_by-le-length (λ q. not (q == slot)) l in omega (arith, same, few, fewer)
+
+-- Where all other heaps have their ranges, a sweep of one slot is one of all.
+module _ (heap : Heap) (tables : FinMap nat_cmp Table) (slot : ℕ) (others : (q : ℕ) → q ≢ slot → IfSome (finmap.get tables q) (λ _. has_range heap tables q ≡ true)) where
+  left_at : (q : ℕ) → finmap.get (left_in heap tables) q ≡ cond (has_range heap tables q) (finmap.get tables q) None
+  left_at q = get-retain_keys tables (has_range heap tables) q (λ x t. ap (has_range heap tables) (sym (nat_cmp-IsAntisymmetric q x t)))
+
+  other_left : (q : ℕ) → q ≢ slot → finmap.get (left_in heap tables) q ≡ finmap.get tables q
+  other_left q d = left_at q ∙ turn (has_range heap tables q) (finmap.get tables q) (others q d)
+    where
+      turn : (b : Bool) (p : Option Table) → IfSome p (λ _. b ≡ true) → cond b p None ≡ p
+      turn true p h = refl
+      turn false None h = refl
+      turn false (Some t) h = absurd (false≢true h)
+
+  pub swept_slot : (b : Bool) → has_range heap tables slot ≡ b → (if b then tables else finmap.remove tables slot) ≡ left_in heap tables
+  swept_slot b has = same_map nat_cmp_total nat_cmp-IsAntisymmetric (if b then tables else finmap.remove tables slot) (left_in heap tables)
+      (λ q. elim (cases_eq q slot) [ inl e ↦ here b has q e | inr d ↦ away b q d ∙ sym (other_left q d) ])
+    where
+      here : (b : Bool) → has_range heap tables slot ≡ b → (q : ℕ) → q ≡ slot → finmap.get (if b then tables else finmap.remove tables slot) q ≡ finmap.get (left_in heap tables) q
+      here true has q e = sym (left_at q ∙ ap (λ b. cond b (finmap.get tables q) None) (ap (has_range heap tables) e ∙ has))
+      here false has q e = taken_here tables slot q e ∙ sym (left_at q ∙ ap (λ b. cond b (finmap.get tables q) None) (ap (has_range heap tables) e ∙ has))
+
+      away : (b : Bool) (q : ℕ) → q ≢ slot → finmap.get (if b then tables else finmap.remove tables slot) q ≡ finmap.get tables q
+      away true q d = refl
+      away false q d = taken_other tables slot q d
+
+-- What a step leaves of other local heaps than that in its object.
+module _ (honest : Type 0) (old : World) (is : IsWorldOver honest old) (mid : World) (are : AreHandles mid.loading.handles) where
+  abbrev order : List ℕ
+  order = old.loading.handles.heap.order
+
+  by_call : (call : Call) (answer : Answer) → may_change call ≡ true → mid.heaps ≡ old.heaps → CallStep old.loading.handles call answer mid.loading.handles
+      → (before : ℕ) → length (without (slot_in call answer) order) ≤ before → OthersStay (Some (slot_in call answer)) before mid.loading.handles.heap mid.heaps
+  by_call call answer may same step before le = λ few q other.
+      keeps_range old.loading.handles mid.loading.handles is.0.heaps.handles are call answer may step (omega (arith, le, few)) q other mid.heaps
+      (subst (λ (tables : FinMap nat_cmp Table). IfSome (finmap.get tables q) (λ t. IsSomeAnd (bytes_at old.loading.handles.heap q) (IsLocalIn t))) (sym same) (is.0.heaps.heaps q))
+
+  -- no object has the slot 0
+  none_at_0 : is_member 0 order ≡ false
+  none_at_0 = is.0.heaps.handles.heap.in_order 0 ∙ turn (object_at old.loading.handles.heap 0) (is.0.heaps.handles.slotted 0)
+    where
+      turn : (p : Option Object) → IfSome p (λ _. IsSlot old.loading.handles 0) → is_in_order p ≡ false
+      turn None h = refl
+      turn (Some o) h = absurd (let low = h.0 in omega (arith, low))
+
+  freed : (handle : ℕ) (answer : Option Answer) → mid.heaps ≡ old.heaps → IsSomeAnd answer (λ answer. CallStep old.loading.handles (Calls (GlobalFree handle)) answer mid.loading.handles)
+      → OthersStay (Some (handle / 8)) (length (without (handle / 8) order)) mid.loading.handles.heap mid.heaps
+  freed handle None same h = absurd h
+  freed handle (Some answer) same h = by_call (Calls (GlobalFree handle)) answer refl same h (length (without (handle / 8) order)) (omega arith)
+
+  pub others_stay : (command : Command) (reply : Reply) → Unswept honest old command reply mid → OthersStay (object_slot command (word_of reply)) (discardable_beside (object_slot command 0) old.loading.handles.heap) mid.loading.handles.heap mid.heaps
+  others_stay (OfLoading (OfHandles (GlobalAlloc flags size))) (Word handle) s = by_call (Calls (GlobalAlloc flags size)) (calls.Answer.Word handle) refl (ap (λ (w : World). w.heaps) s.1) s.0 (length (without 0 order)) (shorter 0 (handle / 8) order none_at_0)
+  others_stay (OfLoading (OfHandles (GlobalAlloc flags size))) reply s = absurd s.0
+  others_stay (OfLoading (OfHandles (GlobalFree handle))) reply s = freed handle (answer_in reply) (ap (λ (w : World). w.heaps) s.1) s.0
+  others_stay (OfLoading (OfHandles (GlobalCompact size))) (Dword longest) s = by_call (Calls (GlobalCompact size)) (calls.Answer.Dword longest) refl (ap (λ (w : World). w.heaps) s.1) s.0 (length (without 0 order)) (omega arith)
+  others_stay (OfLoading (OfHandles (GlobalCompact size))) reply s = absurd s.0
+  others_stay (OfLoading (OfResizes (GlobalReAlloc handle size flags))) (Word answer) s = by_call (ReAllocs handle size flags) (calls.Answer.Word answer) refl (ap (λ (w : World). w.heaps) s.1) s.0 (length (without (handle / 8) order)) (omega arith)
+  others_stay (OfLoading (OfResizes (GlobalReAlloc handle size flags))) reply s = absurd s.0
+  others_stay (OfLoading (OfResizes (GlobalDiscard handle))) (Word answer) s = by_call (ReAllocs handle 0 GMEM_MOVEABLE) (calls.Answer.Word answer) refl (ap (λ (w : World). w.heaps) s.1) s.0 (length (without (handle / 8) order)) (omega arith)
+  others_stay (OfLoading (OfResizes (GlobalDiscard handle))) reply s = absurd s.0
+  others_stay command reply s = tt

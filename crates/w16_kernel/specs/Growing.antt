@@ -1,0 +1,34 @@
+-- Files that come while a machine runs.
+use Rattle.std.specs.Prelude.{◌≡◌, ℕ, List, length, nat_lt, if◌then◌else◌, Option, Some, None, IsSome, Result, Err, refl}
+use Rattle.std.specs.Coded.{Coded, code_by, coded×, coded_ℕ, coded_list, coded_option}
+use Rattle.w16_store.specs.Files.{file_of, AreWith}
+use Rattle.w16_store.specs.declared.store.StoreFault.{StoreFault}
+use Rattle.w16_store.specs.declared.store.StoreFault.TheVariants.{Missing}
+use Rattle.w16_machine.specs.World.{World}
+use Rattle.w16_kernel.specs.declared.growing.AddFault.{AddFault}
+use Rattle.w16_kernel.specs.declared.growing.AddFault.TheVariants.{Exists, Memory}
+use Rattle.w16_kernel.specs.declared.growing.TheConstants.{MOST_NAME}
+
+-- A store that grows: its files, and the name by which a length was last asked for and no file found, if it is kept.
+pub record Growing : Type 0 where
+  pub files : List (List ℕ × List ℕ)
+  pub missed : Option (List ℕ)
+
+abbrev pub growing_code : Coded Growing
+growing_code = code_by (List (List ℕ × List ℕ) × Option (List ℕ)) (coded× (coded_list (coded× (coded_list coded_ℕ) (coded_list coded_ℕ))) (coded_option (coded_list coded_ℕ))) (λ s. (s.files, s.missed)) (λ p. record { files = p.0; missed = p.1 }) (λ _. refl)
+
+-- the name that is kept of a file, by what was said of its length: that of none, unless it is too long
+abbrev pub missed_by : Result ℕ StoreFault → List ℕ → Option (List ℕ)
+missed_by (Err Missing) name = if nat_lt MOST_NAME (length name) then None else Some name
+missed_by len name = None
+
+-- why a file isn't added: another one has the name; or none has, and there was no memory
+abbrev pub IsNotAdded : List (List ℕ × List ℕ) → List ℕ → AddFault → Type 0
+IsNotAdded files name Exists = IsSome (file_of files name)
+IsNotAdded files name Memory = file_of files name ≡ None
+
+-- the same world, with one file more
+pub record AddsFile (old : World) (name bytes : List ℕ) (new : World) : Type 0 where
+  pub unnamed : file_of old.loading.files name ≡ None
+  pub files : AreWith name bytes old.loading.files new.loading.files
+  pub rest : new ≡ record old { loading = record old.loading { files = new.loading.files } }
