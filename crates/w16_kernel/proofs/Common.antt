@@ -2,7 +2,7 @@
 pub use Rattle.std.proofs.Common.{Err, None, Option, Some, filter, if◌then◌else◌, nat_le, rules, vec_capacity, vec_len, ◌==◌}
 pub use Rattle.std.proofs.lemmas.List.{map_push}
 pub use Rattle.std.proofs.lemmas.List.Elements.{All-from_get_or}
-pub use Rattle.std.proofs.lemmas.List.{length-map, length-take-le}
+pub use Rattle.std.proofs.lemmas.List.{length-map, length-take-le, take_all}
 pub use Rattle.std.proofs.lemmas.Option.{slice_get_within}
 pub use Rattle.std.specs.List.{slice_get}
 pub use Rattle.std.specs.Prelude.{IfNone, IsSome, MatchBool, MatchOption, Ok, Result, nat_lt, ◌%◌, ◌+◌, ◌-◌, ◌/◌, ◌≢◌}
@@ -42,6 +42,9 @@ pub use Rattle.w16_machine.proofs.Stepped.{handles_step}
 pub use Rattle.w16_machine.proofs.Worlds.{files_law, world_kept}
 pub use Rattle.w16_machine.specs.LocalStays.{step_may_take}
 pub use Rattle.w16_machine.specs.Machine.{IsSame, Steps}
+pub use Rattle.w16_writes.proofs.Runs.{reads_back_law}
+pub use Rattle.w16_writes.proofs.Steps.{step_law}
+pub use Rattle.w16_writes.specs.LastWrite.{AllKeepWritten, KeepsWritten, ReadsBack}
 pub use Rattle.w16_model.proofs.Listed.{walk_law}
 pub use Rattle.w16_model.specs.Law.{HasOneWalk}
 pub use Rattle.w16_model.proofs.Naming.{names_law}

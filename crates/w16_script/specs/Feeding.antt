@@ -4,6 +4,7 @@ use Rattle.std.specs.List.{flat_map, AllByRecursion}
 use Rattle.std.specs.Io.KnownBytes.{Keeps}
 use Rattle.w16_machine.specs.Machine.{Command, Event, Steps, Run, IsSame}
 use Rattle.w16_machine.specs.Fewest.{AreFewest}
+use Rattle.w16_writes.specs.LastWrite.{AllKeepWritten, ReadsBack}
 use Rattle.w16_kernel.specs.Runs.{TakesMemory}
 use Rattle.w16_script.specs.declared.outcome.RunFault.{RunFault}
 use Rattle.w16_script.specs.declared.outcome.RunFault.TheVariants.{Write, Memory, TooLong}
@@ -19,7 +20,7 @@ abbrev pub FailsAt : Steps → Option (List ℕ) → State → List ℕ → RunF
 -- its command was done, and a front of its reply was written
 FailsAt steps held old line Write holds new =
     (events : List Event) × (output : List ℕ) × Run steps old.world events new.world × Prints old.registers (line ∷ []) events output new.registers × AppendsFront held holds output
-    × AreFewest old.world events
+    × AreFewest old.world events × AllKeepWritten old.world events × ReadsBack events
 -- its command wants memory, and nothing was done
 FailsAt steps held old line Memory holds new =
     (target : Option ℕ) × (command : Command) × Reads old.registers line (Said.Says target command) × TakesMemory old.world command × IsSame old.world new.world × (new.registers ≡ old.registers) × Keeps held holds

@@ -76,7 +76,7 @@ fn run_over<R: Read, W: Write, K: Machine>(
 /// Reads a script to its end, runs each line on the machine, and writes its replies and nothing else. Its
 /// registers begin as 0. It takes memory at its start alone, and reads by pieces of 64 KiB at most. Before each
 /// read it flushes the writer, so that a host may wait for a line's reply before it writes the next. At the end
-/// nothing is flushed.
+/// nothing is flushed. What its lines write through far pointers reads back.
 ///
 /// `RunFault` says when each fault comes. Where the reader or the writer doesn't tell its bytes, nothing is
 /// claimed of them.

@@ -1,0 +1,7 @@
+pub mod Bytes
+pub mod Calls
+pub mod Segments
+pub mod Locals
+pub mod Steps
+pub mod Runs
+pub mod Examples

@@ -1,0 +1,303 @@
+-- Steps of loading: what they leave of the bytes of global objects, and what far accesses put there and read.
+use Rattle.w16_loading.proofs.Common.{◌≡◌, ◌≢◌, ℕ, ◌+◌, ◌⊎◌, inl, inr, Bool, true, false, MatchBool, MatchOption, IsSomeAnd, List, length, Option, Some, None, is_some, refl, sym, ap, ◌∙◌, subst, arith, drop, ◌<◌, cases_eq, part, repeated, Heap, Object, object_at, bytes_at, bytes_in, Handles, AreHandles, selector_in, offset_in, selector_of, FarAnswer, FarCommand, Write, Fill, far_slot, AnyFetches, FarStep, Accesses, far_read, far_write, gives, needs_fetch, reply_of_far, is_of_read, IsLoadingWorld, LoadingWorld, LoadingCommand, OfHandles, OfResizes, OfFar, OfModules, OfResources, FindResource, LoadResource, LockResource, FreeResource, SizeofResource, Reply, Failed, Dword, Load, LocksResource, lock_outcome, locked, slot_of_resource, global_lock, GlobalLock, Calls, ReAllocs, CallStep, Call, ResizeCommand, ResizeReplies, ResizeStep, GlobalReAlloc, GlobalDiscard, GMEM_MOVEABLE, answer_in, call_outcome, outcome, contents, IsStepAbout}
+use Rattle.std.specs.Prelude.{min}
+use Rattle.std.specs.List.{slice_get}
+use Rattle.std.proofs.lemmas.Option.{slice_get_within}
+use Rattle.std.proofs.lemmas.List.{length-take}
+use Rattle.w16_model.specs.declared.FarFault.{FarFault}
+use Rattle.w16_model.specs.Far.FarAnswer.{Bytes, Done, Fault}
+use Rattle.w16_model.specs.Far.FarCommand.{Read}
+use Rattle.w16_model.specs.CallLaws.{FarEffect, IsWritten, Reaches}
+use Rattle.w16_model.proofs.FarLaws.{far_effect_law}
+use Rattle.w16_model.proofs.Naming.{names_law}
+use Rattle.w16_loading.specs.declared.FetchFault.{FetchFault}
+use Rattle.w16_model.specs.Calls.{Answer}
+use Rattle.w16_model.specs.Calls.Answer.{Word}
+use Rattle.w16_loading.specs.AnyStore.{AnyStep}
+use Rattle.w16_loading.specs.declared.FetchFault.TheVariants as faults
+use Rattle.w16_loading.proofs.Bystanders.{bystanders_law}
+use Rattle.w16_loading.proofs.CallsKept.{answered}
+use Rattle.w16_loading.proofs.Owners.{some_of}
+use Rattle.w16_loading.proofs.FetchWorlds.{fetched_world}
+use Rattle.w16_loading.proofs.Fillings.{one_does}
+use Rattle.w16_loading.proofs.Spared.{fetch_spares}
+use Rattle.w16_machine.specs.Machine.Command.{OfLoading}
+use Rattle.w16_writes.specs.LastWrite.{Access, byte_in, read, written}
+use Rattle.w16_writes.proofs.Bytes.{Agree, agree_new, agree_same, get-part, get-written, get-unwritten}
+use Rattle.w16_writes.proofs.Calls.{HeapsAgree, call_agrees, had_no_object, kept_agrees, no_object}
+
+-- an access has this byte at a place of a slot's object
+pub record HasIn (slot i byte : ℕ) (access : Access) : Type 0 where
+  pub named : selector_in access.pointer ≡ selector_of slot
+  pub index : ℕ
+  pub place : i ≡ offset_in access.pointer + index
+  pub has : slice_get access.bytes index ≡ Some byte
+
+-- What a step puts is there, what it reads was there, and elsewhere bytes agree.
+pub record KeepsSegments (old new : Heap) (command : LoadingCommand) (reply : Reply) : Type 0 where
+  pub put : (slot i byte : ℕ) → is_some (byte_in (bytes_at new slot) i) ≡ true → IsSomeAnd (written (OfLoading command) reply) (HasIn slot i byte) → byte_in (bytes_at new slot) i ≡ Some byte
+  pub got : (slot i byte : ℕ) → is_some (byte_in (bytes_at old slot) i) ≡ true → IsSomeAnd (read (OfLoading command) reply) (HasIn slot i byte) → byte_in (bytes_at old slot) i ≡ Some byte
+  pub kept : (slot i : ℕ) → is_some (byte_in (bytes_at old slot) i) ≡ true → is_some (byte_in (bytes_at new slot) i) ≡ true → ((byte : ℕ) → IsSomeAnd (written (OfLoading command) reply) (HasIn slot i byte) → ⊥)
+      → byte_in (bytes_at new slot) i ≡ byte_in (bytes_at old slot) i
+
+-- a step that is no answered access
+pub quiet : (old new : Heap) (command : LoadingCommand) (reply : Reply) → written (OfLoading command) reply ≡ None → read (OfLoading command) reply ≡ None → ((q : ℕ) → HeapsAgree old new q) → KeepsSegments old new command reply
+quiet old new command reply w r agree = record {
+  put = λ slot i byte t h. absurd (subst (λ a. IsSomeAnd a (HasIn slot i byte)) w h);
+  got = λ slot i byte t h. absurd (subst (λ a. IsSomeAnd a (HasIn slot i byte)) r h);
+  kept = λ slot i p q out. agree slot i p q;
+}
+
+-- A fetch gives bytes to an object that had none, and other objects keep theirs or lose them.
+pub fetch_agrees : (old : LoadingWorld) → IsLoadingWorld old → (slot : ℕ) (fault : Option FetchFault) (next : LoadingWorld) → AnyFetches old slot fault next → (q : ℕ) → HeapsAgree old.handles.heap next.handles.heap q
+fetch_agrees old is slot fault next fetched q = elim (cases_eq q slot) [
+  | inl e ↦ subst (HeapsAgree old.handles.heap next.handles.heap) (sym e) (agrees (one_does Had (λ h. inr refl) then is_of_read old.handles.heap slot fetched.bytes fault next.handles.heap is.handles.heap (λ g. inl (ap bytes_in g.there ∙ g.absent)) fetched.filled).0)
+  | inr d ↦ kept_agrees old.handles.heap next.handles.heap q (fetch_spares old is.handles.heap slot fault next fetched q d).0
+]
+  where
+    Had : Heap → Heap → Type 0
+    Had a b = (bytes_at a slot ≡ None) ⊎ (bytes_at b slot ≡ bytes_at a slot)
+
+    then : (a b c : Heap) → Had a b → Had b c → Had a c
+    then a b c (inl none) h = inl none
+    then a b c (inr e) (inl none) = inl (sym e ∙ none)
+    then a b c (inr e) (inr f) = inr (f ∙ e)
+
+    agrees : Had old.handles.heap next.handles.heap → HeapsAgree old.handles.heap next.handles.heap slot
+    agrees (inl none) = agree_new (bytes_at old.handles.heap slot) (bytes_at next.handles.heap slot) none
+    agrees (inr e) = agree_same (bytes_at old.handles.heap slot) (bytes_at next.handles.heap slot) e
+
+-- An access is made in the world, or in what a fetch leaves of it; or that is all.
+record Made (old : LoadingWorld) (command : FarCommand) (reply : Reply) (new : LoadingWorld) : Type 0 where
+  pub mid : Handles
+  pub agree : (q : ℕ) → HeapsAgree old.handles.heap mid.heap q
+  pub made : ((answer : FarAnswer) × (reply ≡ reply_of_far answer) × FarEffect mid command answer new.handles) ⊎ ((fault : FetchFault) × (reply ≡ Failed fault) × (new.handles ≡ mid))
+
+module _ (old : LoadingWorld) (is : IsLoadingWorld old) (command : FarCommand) (reply : Reply) (new : LoadingWorld) where
+  accessed : (access : LoadingWorld → FarAnswer × LoadingWorld) (selector : ℕ) → ((w : LoadingWorld) → AreHandles w.handles → new ≡ (access w).1 → FarEffect w.handles command (access w).0 new.handles)
+      → Accesses AnyFetches access old selector reply new → Made old command reply new
+  accessed access selector effect step = turn (needs_fetch (access old).0 old selector) step
+    where
+      in_world : (w : LoadingWorld) → IsLoadingWorld w → ((q : ℕ) → HeapsAgree old.handles.heap w.handles.heap q) → gives (access w) reply new → Made old command reply new
+      in_world w are agree g = record { mid = w.handles; agree = agree; made = inl ((access w).0, g.0, effect w are.handles g.1) }
+
+      fetched : (fault : Option FetchFault) (next : LoadingWorld) → AnyFetches old (far_slot old.handles selector) fault next → MatchOption fault (gives (access next) reply new) (λ f. (reply ≡ Failed f) × (new ≡ next)) → Made old command reply new
+      fetched None next f g = in_world next (fetched_world old is (far_slot old.handles selector) None next f) (fetch_agrees old is (far_slot old.handles selector) None next f) g
+      fetched (Some fault) next f g = record { mid = next.handles; agree = fetch_agrees old is (far_slot old.handles selector) (Some fault) next f; made = inr (fault, g.0, ap (λ (w : LoadingWorld). w.handles) g.1) }
+
+      turn : (b : Bool) → MatchBool b
+          ((fault : Option FetchFault) × (next : LoadingWorld) × AnyFetches old (far_slot old.handles selector) fault next × MatchOption fault (gives (access next) reply new) (λ f. (reply ≡ Failed f) × (new ≡ next)))
+          (gives (access old) reply new) → Made old command reply new
+      turn true h = fetched h.0 h.1 h.2 h.3
+      turn false g = in_world old is (λ q. agree_same (bytes_at old.handles.heap q) (bytes_at old.handles.heap q) refl) g
+
+far_made : (old : LoadingWorld) → IsLoadingWorld old → (command : FarCommand) (reply : Reply) (new : LoadingWorld) → FarStep AnyFetches old command reply new → Made old command reply new
+far_made old is (Read pointer count) reply new step = accessed old is (Read pointer count) reply new (far_read (selector_in pointer) (offset_in pointer) count) (selector_in pointer)
+    (λ w are e. far_effect_law w.handles new.handles (Read pointer count) (far_read (selector_in pointer) (offset_in pointer) count w).0 are (refl, ap (λ (w : LoadingWorld). w.handles) e)) step
+far_made old is (Write pointer bytes) reply new step = accessed old is (Write pointer bytes) reply new (far_write (selector_in pointer) (offset_in pointer) bytes) (selector_in pointer)
+    (λ w are e. far_effect_law w.handles new.handles (Write pointer bytes) (far_write (selector_in pointer) (offset_in pointer) bytes w).0 are (refl, ap (λ (w : LoadingWorld). w.handles) e)) step
+far_made old is (Fill pointer count byte) reply new step = accessed old is (Fill pointer count byte) reply new (far_write (selector_in pointer) (offset_in pointer) (repeated count byte)) (selector_in pointer)
+    (λ w are e. far_effect_law w.handles new.handles (Fill pointer count byte) (far_write (selector_in pointer) (offset_in pointer) (repeated count byte) w).0 are (refl, ap (λ (w : LoadingWorld). w.handles) e)) step
+
+-- What an access reached.
+module _ (mid new : Handles) (selector : ℕ) (becomes : List ℕ → List ℕ → Type 0) (r : Reaches mid selector becomes new) where
+  named : selector ≡ selector_of r.slot
+  named = turn (object_at mid.heap r.slot) ((names_law mid selector r.slot).1.0 r.found)
+    where
+      turn : (p : Option Object) → IsSomeAnd p (λ _. selector ≡ selector_of r.slot) → selector ≡ selector_of r.slot
+      turn None h = absurd h
+      turn (Some o) h = h
+
+  abbrev HasAfter : Object → List ℕ → Type 0
+  HasAfter o bytes = (after : List ℕ) × becomes bytes after × (object_at new.heap r.slot ≡ Some (record o { bytes = Some after }))
+
+  abbrev Became : Type 0
+  Became = (before after : List ℕ) × (bytes_at mid.heap r.slot ≡ Some before) × (bytes_at new.heap r.slot ≡ Some after) × becomes before after
+
+  reached : Became
+  reached = turn (object_at mid.heap r.slot) refl r.object
+    where
+      by_bytes : (o : Object) → object_at mid.heap r.slot ≡ Some o → (b : Option (List ℕ)) → o.bytes ≡ b → IsSomeAnd b (HasAfter o) → Became
+      by_bytes o there None e h = absurd h
+      by_bytes o there (Some before) e h = (before, h.0, ap bytes_in there ∙ e, ap bytes_in h.2, h.1)
+
+      turn : (p : Option Object) → object_at mid.heap r.slot ≡ p → IsSomeAnd p (λ o. IsSomeAnd o.bytes (HasAfter o)) → Became
+      turn None there h = absurd h
+      turn (Some o) there h = by_bytes o there o.bytes refl h
+
+  -- any slot with that selector
+  here : (slot : ℕ) → selector ≡ selector_of slot → slot ≡ r.slot
+  here slot e = omega (arith, e, named)
+
+  others : (q : ℕ) → q ≢ r.slot → bytes_at new.heap q ≡ bytes_at mid.heap q
+  others q d = ap bytes_in (r.others q d)
+
+-- What an answered write leaves of what agreed before it, and what it puts.
+module _ (old mid new : Handles) (pointer : ℕ) (slice : List ℕ) (agree : (q : ℕ) → HeapsAgree old.heap mid.heap q) (r : Reaches mid (selector_in pointer) (λ before after. IsWritten before (offset_in pointer) slice after) new) where
+  abbrev access : Access
+  access = record { pointer = pointer; bytes = slice }
+
+  abbrev After : List ℕ → List ℕ → Type 0
+  After before after = IsWritten before (offset_in pointer) slice after
+
+  write_puts : (slot i byte : ℕ) → HasIn slot i byte access → byte_in (bytes_at new.heap slot) i ≡ Some byte
+  write_puts slot i byte h =
+      let (before, after, had, has, w) = reached mid new (selector_in pointer) After r in
+      ap (λ q. byte_in (bytes_at new.heap q) i) (here mid new (selector_in pointer) After r slot h.named) ∙ ap (λ b. byte_in b i) has ∙ ap (slice_get after) h.place ∙ get-written before (offset_in pointer) slice after w h.index byte h.has
+
+  write_keeps : (slot i : ℕ) → is_some (byte_in (bytes_at old.heap slot) i) ≡ true → is_some (byte_in (bytes_at new.heap slot) i) ≡ true → ((byte : ℕ) → HasIn slot i byte access → ⊥) → byte_in (bytes_at new.heap slot) i ≡ byte_in (bytes_at old.heap slot) i
+  write_keeps slot i p q out = elim (cases_eq slot r.slot) [
+    | inl e ↦
+        let (before, after, had, has, w) = reached mid new (selector_in pointer) After r in
+        let now : bytes_at new.heap slot ≡ Some after = ap (bytes_at new.heap) e ∙ has in
+        let was : bytes_at mid.heap slot ≡ Some before = ap (bytes_at mid.heap) e ∙ had in
+        let same : byte_in (bytes_at new.heap slot) i ≡ byte_in (bytes_at mid.heap slot) i = ap (λ b. byte_in b i) now
+        ∙ get-unwritten before (offset_in pointer) slice after w i (λ k byte place h. out byte (record { named = named mid new (selector_in pointer) After r ∙ ap selector_of (sym e); index = k; place = place; has = h }))
+        ∙ ap (λ b. byte_in b i) (sym was) in
+        same ∙ agree slot i p (ap is_some (sym same) ∙ q)
+    | inr d ↦
+        let same : byte_in (bytes_at new.heap slot) i ≡ byte_in (bytes_at mid.heap slot) i = ap (λ b. byte_in b i) (others mid new (selector_in pointer) After r slot d) in
+        same ∙ agree slot i p (ap is_some (sym same) ∙ q)
+  ]
+
+-- And a read.
+module _ (old mid new : Handles) (pointer count : ℕ) (bytes : List ℕ) (agree : (q : ℕ) → HeapsAgree old.heap mid.heap q) (r : Reaches mid (selector_in pointer) (λ before after. (after ≡ before) × (bytes ≡ part before (offset_in pointer) count)) new) where
+  abbrev Same : List ℕ → List ℕ → Type 0
+  Same before after = (after ≡ before) × (bytes ≡ part before (offset_in pointer) count)
+
+  read_keeps : (q : ℕ) → HeapsAgree old.heap new.heap q
+  read_keeps q = subst (Agree (bytes_at old.heap q)) (sym same) (agree q)
+    where
+      same : bytes_at new.heap q ≡ bytes_at mid.heap q
+      same = elim (cases_eq q r.slot) [
+        | inl e ↦ let (before, after, had, has, b) = reached mid new (selector_in pointer) Same r in ap (bytes_at new.heap) e ∙ has ∙ ap Some b.0 ∙ sym had ∙ ap (bytes_at mid.heap) (sym e)
+        | inr d ↦ others mid new (selector_in pointer) Same r q d
+      ]
+
+  read_gives : (slot i byte : ℕ) → is_some (byte_in (bytes_at old.heap slot) i) ≡ true → HasIn slot i byte (record { pointer = pointer; bytes = bytes }) → byte_in (bytes_at old.heap slot) i ≡ Some byte
+  read_gives slot i byte p h =
+      let (before, after, had, has, b) = reached mid new (selector_in pointer) Same r in
+      let short : h.index < count = shorter before b.1 in
+      let now : byte_in (bytes_at mid.heap slot) i ≡ Some byte = ap (λ q. byte_in (bytes_at mid.heap q) i) (here mid new (selector_in pointer) Same r slot h.named) ∙ ap (λ b. byte_in b i) had ∙ ap (slice_get before) h.place
+      ∙ sym (get-part before (offset_in pointer) count h.index short) ∙ ap (λ l. slice_get l h.index) (sym b.1) ∙ h.has in
+      sym (agree slot i p (ap is_some now)) ∙ now
+    where
+      shorter : (before : List ℕ) → bytes ≡ part before (offset_in pointer) count → h.index < count
+      shorter before e = let n : h.index < length bytes = slice_get_within bytes h.index byte h.has in let m : length bytes ≡ min count (length (drop (offset_in pointer) before)) = ap length e ∙ length-take count (drop (offset_in pointer) before) in omega (arith, n, m)
+
+far_keeps_by : (old : LoadingWorld) (command : FarCommand) (reply : Reply) (new : LoadingWorld) → Made old command reply new → KeepsSegments old.handles.heap new.handles.heap (OfFar command) reply
+far_keeps_by old command reply new m = turn m.made
+  where
+    Keeps : FarCommand → Reply → Type 0
+    Keeps command reply = KeepsSegments old.handles.heap new.handles.heap (OfFar command) reply
+
+    unchanged : new.handles ≡ m.mid → (q : ℕ) → HeapsAgree old.handles.heap new.handles.heap q
+    unchanged e q = subst (λ (h : Handles). HeapsAgree old.handles.heap h.heap q) (sym e) (m.agree q)
+
+    failed : (command : FarCommand) (fault : FetchFault) → new.handles ≡ m.mid → Keeps command (Failed fault)
+    failed (Read pointer count) fault e = quiet old.handles.heap new.handles.heap (OfFar (Read pointer count)) (Failed fault) refl refl (unchanged e)
+    failed (Write pointer bytes) fault e = quiet old.handles.heap new.handles.heap (OfFar (Write pointer bytes)) (Failed fault) refl refl (unchanged e)
+    failed (Fill pointer count byte) fault e = quiet old.handles.heap new.handles.heap (OfFar (Fill pointer count byte)) (Failed fault) refl refl (unchanged e)
+
+    faulted : (command : FarCommand) (fault : FarFault) → new.handles ≡ m.mid → Keeps command (reply_of_far (Fault fault))
+    faulted (Read pointer count) fault e = quiet old.handles.heap new.handles.heap (OfFar (Read pointer count)) (reply_of_far (Fault fault)) refl refl (unchanged e)
+    faulted (Write pointer bytes) fault e = quiet old.handles.heap new.handles.heap (OfFar (Write pointer bytes)) (reply_of_far (Fault fault)) refl refl (unchanged e)
+    faulted (Fill pointer count byte) fault e = quiet old.handles.heap new.handles.heap (OfFar (Fill pointer count byte)) (reply_of_far (Fault fault)) refl refl (unchanged e)
+
+    puts : (command : FarCommand) (pointer : ℕ) (slice : List ℕ) → written (OfLoading (OfFar command)) (reply_of_far Done) ≡ Some (record { pointer = pointer; bytes = slice }) → read (OfLoading (OfFar command)) (reply_of_far Done) ≡ None
+        → Reaches m.mid (selector_in pointer) (λ before after. IsWritten before (offset_in pointer) slice after) new.handles → Keeps command (reply_of_far Done)
+    puts command pointer slice w g r = record {
+      put = λ slot i byte p h. write_puts old.handles m.mid new.handles pointer slice m.agree r slot i byte (subst (λ a. IsSomeAnd a (HasIn slot i byte)) w h);
+      got = λ slot i byte p h. absurd (subst (λ a. IsSomeAnd a (HasIn slot i byte)) g h);
+      kept = λ slot i p q out. write_keeps old.handles m.mid new.handles pointer slice m.agree r slot i p q (λ byte h. out byte (subst (λ a. IsSomeAnd a (HasIn slot i byte)) (sym w) h));
+    }
+
+    answered : (command : FarCommand) (answer : FarAnswer) → FarEffect m.mid command answer new.handles → Keeps command (reply_of_far answer)
+    answered command (Fault fault) e = faulted command fault e
+    answered (Read pointer count) (Bytes bytes) r = record {
+      put = λ slot i byte p h. absurd h;
+      got = λ slot i byte p h. read_gives old.handles m.mid new.handles pointer count bytes m.agree r slot i byte p h;
+      kept = λ slot i p q out. read_keeps old.handles m.mid new.handles pointer count bytes m.agree r slot i p q;
+    }
+    answered (Write pointer slice) Done r = puts (Write pointer slice) pointer slice refl refl r
+    answered (Fill pointer count byte) Done r = puts (Fill pointer count byte) pointer (repeated count byte) refl refl r
+    answered (Read pointer count) Done r = absurd r
+    answered (Write pointer slice) (Bytes bytes) r = absurd r
+    answered (Fill pointer count byte) (Bytes bytes) r = absurd r
+
+    turn : ((answer : FarAnswer) × (reply ≡ reply_of_far answer) × FarEffect m.mid command answer new.handles) ⊎ ((fault : FetchFault) × (reply ≡ Failed fault) × (new.handles ≡ m.mid)) → Keeps command reply
+    turn (inl (answer, e, effect)) = subst (Keeps command) (sym e) (answered command answer effect)
+    turn (inr (fault, e, same)) = subst (Keeps command) (sym e) (failed command fault same)
+
+pub far_keeps : (old : LoadingWorld) → IsLoadingWorld old → (command : FarCommand) (reply : Reply) (new : LoadingWorld) → FarStep AnyFetches old command reply new → KeepsSegments old.handles.heap new.handles.heap (OfFar command) reply
+far_keeps old is command reply new step = far_keeps_by old command reply new (far_made old is command reply new step)
+
+-- Other steps.
+
+-- a resize is the call that it stands for
+resize_call : (old : Handles) (command : ResizeCommand) (reply : Reply) (next : Handles) → ResizeReplies old command reply next → (call : Call) × (answer : Answer) × CallStep old call answer next
+resize_call old command reply next step = let s : (answer : Answer) × ResizeStep old command answer next = some_of (λ answer. ResizeStep old command answer next) (answer_in reply) step in by command s.0 s.1
+  where
+    by : (command : ResizeCommand) (answer : Answer) → ResizeStep old command answer next → (call : Call) × (answer : Answer) × CallStep old call answer next
+    by (GlobalReAlloc handle size flags) (Word answer) step = (ReAllocs handle size flags, Word answer, step)
+    by (GlobalDiscard handle) (Word answer) step = (ReAllocs handle 0 GMEM_MOVEABLE, Word answer, step)
+    by command answer step = absurd step
+
+module _ (old new : LoadingWorld) (is : IsLoadingWorld old) (reply : Reply) (q : ℕ) where
+  abbrev Agrees : LoadingWorld → Type 0
+  Agrees w = HeapsAgree old.handles.heap w.handles.heap q
+
+  -- a call on handles
+  called : (call : Call) (answer : Answer) (next : Handles) → CallStep old.handles call answer next → new.handles ≡ next → Agrees new
+  called call answer next step e = subst (λ (h : Handles). HeapsAgree old.handles.heap h.heap q) (sym e) (call_agrees old.handles next is.handles call answer q (outcome old.handles next call answer is.handles step))
+
+  -- a lock of a resource, after a fetch where it has no bytes
+  lock_agrees : (handle : ℕ) → LocksResource AnyFetches old handle reply new → Agrees new
+  lock_agrees handle step = by_slot (slot_of_resource old handle) step
+    where
+      itself : Agrees old
+      itself = agree_same (bytes_at old.handles.heap q) (bytes_at old.handles.heap q) refl
+
+      locks : (w : LoadingWorld) → Agrees w → Agrees (locked w handle).1
+      locks w a = subst (Agree (bytes_at old.handles.heap q)) (sym ((contents w.handles (global_lock w.handles handle).1 (Calls (GlobalLock handle)) (global_lock w.handles handle).0
+          (call_outcome w.handles (global_lock w.handles handle).1 (GlobalLock handle) (global_lock w.handles handle).0 (refl, refl)) refl).bytes q)) a
+
+      becomes : (end : Reply × LoadingWorld) → ◌≡◌ {A = Reply × LoadingWorld} (reply, new) end → Agrees end.1 → Agrees new
+      becomes end e a = subst (λ (p : Reply × LoadingWorld). Agrees p.1) (sym e) a
+
+      after : (fault : Option FetchFault) (next : LoadingWorld) → Agrees next → Agrees (lock_outcome fault handle next).1
+      after None next a = locks next a
+      after (Some faults.NoRoom) next a = a
+      after (Some faults.Store) next a = a
+      after (Some faults.Damaged) next a = a
+
+      by_bytes : (x : ℕ × Load) (p : Option (List ℕ)) → MatchOption p ((fault : Option FetchFault) × (next : LoadingWorld) × AnyFetches old x.0 fault next × ((reply, new) ≡ lock_outcome fault handle next)) (λ _. (reply, new) ≡ locked old handle) → Agrees new
+      by_bytes x None f = becomes (lock_outcome f.0 handle f.1) f.3 (after f.0 f.1 (fetch_agrees old is x.0 f.0 f.1 f.2 q))
+      by_bytes x (Some bytes) f = becomes (locked old handle) f (locks old itself)
+
+      by_slot : (p : Option (ℕ × Load)) → MatchOption p ((reply ≡ Dword 0) × (new ≡ old)) (λ x. MatchOption (bytes_at old.handles.heap x.0)
+          ((fault : Option FetchFault) × (next : LoadingWorld) × AnyFetches old x.0 fault next × ((reply, new) ≡ lock_outcome fault handle next)) (λ _. (reply, new) ≡ locked old handle)) → Agrees new
+      by_slot None f = subst Agrees (sym f.1) itself
+      by_slot (Some x) f = by_bytes x (bytes_at old.handles.heap x.0) f
+
+  -- a step that is about no object
+  stands_by : (command : LoadingCommand) → AnyStep old command reply new → (IsStepAbout old.handles command q → ⊥) → Agrees new
+  stands_by command step out = turn (object_at old.handles.heap q) refl
+    where
+      turn : (p : Option Object) → object_at old.handles.heap q ≡ p → Agrees new
+      turn None e = had_no_object old.handles.heap new.handles.heap q e
+      turn (Some o) e = elim (bystanders_law old new command reply q is step (ap is_some e) out) [
+        | inl kept ↦ kept_agrees old.handles.heap new.handles.heap q kept
+        | inr gone ↦ no_object old.handles.heap new.handles.heap q gone.2
+      ]
+
+pub loading_keeps : (old new : LoadingWorld) → IsLoadingWorld old → (command : LoadingCommand) (reply : Reply) → AnyStep old command reply new → KeepsSegments old.handles.heap new.handles.heap command reply
+loading_keeps old new is (OfHandles command) reply step = quiet old.handles.heap new.handles.heap (OfHandles command) reply refl refl (λ q. let f = step.step in let c = answered old is command reply f.0 f.1 in called old new is reply q (Calls command) c.0 f.0 c.1 (ap (λ (w : LoadingWorld). w.handles) f.2))
+loading_keeps old new is (OfResizes command) reply step = quiet old.handles.heap new.handles.heap (OfResizes command) reply refl refl (λ q. let f = step.step in let c = resize_call old.handles command reply f.0 f.1 in called old new is reply q c.0 c.1 f.0 c.2 (ap (λ (w : LoadingWorld). w.handles) f.2))
+loading_keeps old new is (OfFar command) reply step = far_keeps old is command reply (record new { failures = old.failures }) step.step
+loading_keeps old new is (OfModules command) reply step = quiet old.handles.heap new.handles.heap (OfModules command) reply refl refl (λ q. stands_by old new is reply q (OfModules command) step (λ about. about))
+loading_keeps old new is (OfResources (LockResource handle)) reply step = quiet old.handles.heap new.handles.heap (OfResources (LockResource handle)) reply refl refl (λ q. lock_agrees old (record new { failures = old.failures }) is reply q handle step.step)
+loading_keeps old new is (OfResources (FindResource handle name kind)) reply step = quiet old.handles.heap new.handles.heap (OfResources (FindResource handle name kind)) reply refl refl (λ q. stands_by old new is reply q (OfResources (FindResource handle name kind)) step (λ about. about))
+loading_keeps old new is (OfResources (LoadResource handle place)) reply step = quiet old.handles.heap new.handles.heap (OfResources (LoadResource handle place)) reply refl refl (λ q. stands_by old new is reply q (OfResources (LoadResource handle place)) step (λ about. about))
+loading_keeps old new is (OfResources (FreeResource handle)) reply step = quiet old.handles.heap new.handles.heap (OfResources (FreeResource handle)) reply refl refl (λ q. stands_by old new is reply q (OfResources (FreeResource handle)) step (λ about. about))
+loading_keeps old new is (OfResources (SizeofResource handle place)) reply step = quiet old.handles.heap new.handles.heap (OfResources (SizeofResource handle place)) reply refl refl (λ q. stands_by old new is reply q (OfResources (SizeofResource handle place)) step (λ about. about))

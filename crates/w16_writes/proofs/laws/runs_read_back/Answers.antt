@@ -1,0 +1,9 @@
+use Rattle.w16_writes.proofs.Runs.{reads_back_law}
+use Rattle.w16_writes.proofs.Steps.{run_law}
+use Rattle.w16_writes.proofs.laws.runs_read_back.Goals as goal
+
+pub returns-clause-steps : goal.returns-clause-steps
+returns-clause-steps c = run_law
+
+pub returns-clause-reads : goal.returns-clause-reads
+returns-clause-reads c = reads_back_law

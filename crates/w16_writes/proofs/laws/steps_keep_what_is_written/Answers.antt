@@ -1,0 +1,5 @@
+use Rattle.w16_writes.proofs.Steps.{step_law}
+use Rattle.w16_writes.proofs.laws.steps_keep_what_is_written.Goals as goal
+
+pub returns : goal.returns
+returns c = step_law
