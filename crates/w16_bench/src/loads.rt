@@ -1,7 +1,7 @@
 //! Loads of module files that import each other, beside their files' reading, checks and relocation alone; a fetch of a large segment; and addresses
 //! of entries by name.
 use crate::modules::{Shape, name_of};
-use crate::sample::{FILE, Sample, store_of};
+use crate::sample::{FILE, store_of};
 use crate::tell;
 use anyhow::Result;
 use std::alloc::{AllocError, Global};
@@ -195,7 +195,7 @@ fn time_fetches(rt: &(impl AllocGlobal + Clock + Eprint), turns: u32) -> Result<
 
 /// Times addresses by name: their offsets together.
 fn time_addresses(rt: &(impl AllocGlobal + Clock + Eprint), turns: u32) -> Result<u64> {
-    let mut loads = Loads::new(rt.alloc(), store_of(rt.alloc(), Sample::Names)?)?;
+    let mut loads = Loads::new(rt.alloc(), store_of(rt.alloc())?)?;
     loads.load(FILE)?;
     let start = Instant::now(rt).ok();
     let total = loads.addresses(turns);

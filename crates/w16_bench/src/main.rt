@@ -1,18 +1,14 @@
-//! Times the lowest crates: fills, slides and views of memory; look-ups, far reads, pairs of free and alloc, and a gather over 100,
-//! 1,000 and 8,000 blocks; the reading of module files, hostile ones among them, and the relocation of their segments; loads, fetches, and addresses
-//! by name.
+//! Times the reading of hostile module files, and loads: the reading, check and relocation of modules, fetches, and addresses by name.
 //!
-//! The first argument is the number of turns of each loop; a file is read once for a thousand of them, and a hostile one has at most a tenth as many names. The times go to standard error, so that standard output is the same each time.
+//! The first argument is the number of turns of each loop; a hostile file has at most a tenth as many names. The times go to standard error, so
+//! that standard output is the same each time.
 #![tactic(auto)]
 
 use anyhow::Result;
-use sample::Sample;
 use std::rt::{Clock, Env};
 use std::time::Instant;
 use std::{env, io};
 
-mod files;
-mod heap;
 mod hostile;
 mod loads;
 mod modules;
@@ -42,8 +38,5 @@ fn tell(rt: &(impl Clock + Eprint), name: &str, start: Option<Instant>, steps: u
 fn main(rt: HostRuntime) -> Result<()> {
     let turns = turns_asked(&rt)?;
     hostile::time(&rt, turns / 10)?;
-    heap::time(&rt, turns)?;
-    files::time(&rt, "modules", [Sample::Names, Sample::TwiceNames], turns)?;
-    files::time(&rt, "relocation", [Sample::Chains, Sample::Singles], turns)?;
     loads::time(&rt, turns)
 }

@@ -3,32 +3,29 @@
 //!
 //! `calls.rt`, `loads.rt`, `accesses.rt`, `resources.rt`, `handles.rt` and `local.rt` have the tables, and `files.rt` makes the files.
 mod accesses;
+#[cfg(test)]
 mod by_calls;
 mod calls;
-mod failures;
-mod files;
+pub mod files;
+#[cfg(test)]
 mod full;
 mod handles;
-mod loads;
+pub mod loads;
 mod local;
-mod machine;
-mod refusals;
-mod resources;
-mod turning;
+pub mod machine;
+pub mod resources;
+#[cfg(test)]
+mod whole;
 
 use accesses::ACCESSES;
 use calls::CALLS;
-use files::{file_of, store_of};
 use handles::HANDLES;
-use loads::{FIRST_LOAD, LOADS};
+use loads::LOADS;
 use local::LOCAL;
 use machine::Machine;
-use resources::{RESOURCE, RESOURCES};
-use std::alloc::{AllocError, AllocGlobal, Allocator, Global};
-use std::fs;
-use std::process::Abort;
-use std::test::Fail;
-use w16_store::{DirStore, Store};
+use resources::RESOURCES;
+use std::alloc::{AllocError, Allocator, Global};
+use w16_store::Store;
 
 /// The sample files, as they are.
 pub const ALL: &str = "TLIB.DLL, TAPP.EXE, TRES.DLL";
@@ -45,12 +42,12 @@ pub struct Row {
 }
 
 /// All rows, by what they are on. Only this function names the tables, so that a proof meets their contents once.
-fn tables() -> [&'static [Row]; 6] {
+pub fn tables() -> [&'static [Row]; 6] {
     [LOADS, CALLS, ACCESSES, RESOURCES, HANDLES, LOCAL]
 }
 
 /// A line and the text of its reply.
-fn split(line: &str) -> (&str, &str) {
+pub fn split(line: &str) -> (&str, &str) {
     line.split_once(" -> ").unwrap_or((line, ""))
 }
 
@@ -62,7 +59,7 @@ fn put(text: &mut Vec<u8>, line: &str) -> Result<(), AllocError> {
 }
 
 /// Puts the reply to a line behind others, as it is printed.
-fn put_reply(text: &mut Vec<u8>, reply: &str) -> Result<(), AllocError> {
+pub fn put_reply(text: &mut Vec<u8>, reply: &str) -> Result<(), AllocError> {
     for part in reply.split(" / ") {
         put(text, part)?;
     }
@@ -70,7 +67,7 @@ fn put_reply(text: &mut Vec<u8>, reply: &str) -> Result<(), AllocError> {
 }
 
 /// The script of lines.
-fn script_of(alloc: Global, lines: &str) -> Result<Vec<u8>, AllocError> {
+pub fn script_of(alloc: Global, lines: &str) -> Result<Vec<u8>, AllocError> {
     let mut text = Vec::new(alloc);
     for line in lines.split('\n') {
         put(&mut text, split(line).0)?;
@@ -79,7 +76,7 @@ fn script_of(alloc: Global, lines: &str) -> Result<Vec<u8>, AllocError> {
 }
 
 /// What is printed of it.
-fn output_of(alloc: Global, lines: &str) -> Result<Vec<u8>, AllocError> {
+pub fn output_of(alloc: Global, lines: &str) -> Result<Vec<u8>, AllocError> {
     let mut text = Vec::new(alloc);
     for line in lines.split('\n') {
         put_reply(&mut text, split(line).1)?;
@@ -106,7 +103,7 @@ fn first_difference(printed: &[u8], wanted: &[u8]) -> usize {
 }
 
 /// Plays lines on a machine, and answers the number of the first line that is printed otherwise; 0 where none is, and each line had a reply.
-fn first_wrong<S: Store + Drop, A: Allocator + Copy>(
+pub fn first_wrong<S: Store + Drop, A: Allocator + Copy>(
     machine: &mut Machine<S, A>,
     alloc: Global,
     lines: &str,
@@ -124,60 +121,4 @@ fn first_wrong<S: Store + Drop, A: Allocator + Copy>(
     } else {
         wrong
     })
-}
-
-/// The number of the first wrong line of a row.
-fn first_wrong_of(alloc: Global, row: &Row) -> Result<usize, AllocError> {
-    let store = store_of(alloc, row.files)?;
-    let mut machine = Machine::new(alloc, alloc, row.memory, row.selectors, store)?;
-    first_wrong(&mut machine, alloc, row.lines)
-}
-
-/// Plays rows, and compares.
-fn expect_all(rt: &(impl Abort + AllocGlobal), rows: &[Row]) -> Result<(), AllocError> {
-    for row in rows {
-        let wrong = first_wrong_of(rt.alloc(), row)?;
-        assert!(rt; wrong == 0, "{}: line {wrong} of the output", row.name);
-    }
-    Ok(())
-}
-
-#[test]
-fn rows_over_files_are_answered(rt: HostRuntime) -> Result<(), Fail> {
-    for rows in tables() {
-        expect_all(&rt, rows)?;
-    }
-    Ok(())
-}
-
-/// Puts the files of a text into a folder of their own.
-fn make_folder(rt: &HostRuntime, files: &str) -> Result<(), Fail> {
-    let _ = fs::remove_dir_all(rt, "module_files");
-    fs::create_dir_all(rt, "module_files")?;
-    for part in files.split(", ") {
-        let file = file_of(rt.alloc(), part)?;
-        let path = format!(in rt.alloc(); "module_files/{}", file.name)?;
-        fs::write(rt, path.as_str(), file.bytes.as_slice())?;
-    }
-    Ok(())
-}
-
-/// The number of the first wrong line over that folder.
-fn first_wrong_in_folder(rt: &HostRuntime, lines: &str) -> Result<usize, Fail> {
-    let store = DirStore::from_folder(rt, rt.alloc(), "module_files")?;
-    let mut machine = Machine::new(rt.alloc(), rt.alloc(), 4096, 16, store)?;
-    let wrong = first_wrong(&mut machine, rt.alloc(), lines)?;
-    Ok(wrong)
-}
-
-#[test]
-fn a_folder_is_loaded_from(rt: HostRuntime) -> Result<(), Fail> {
-    make_folder(&rt, ALL)?;
-    let wrong = [
-        first_wrong_in_folder(&rt, FIRST_LOAD)?,
-        first_wrong_in_folder(&rt, RESOURCE)?,
-    ];
-    fs::remove_dir_all(&rt, "module_files")?;
-    assert!(rt; wrong == [0; 2], "lines {wrong:?} of the outputs");
-    Ok(())
 }

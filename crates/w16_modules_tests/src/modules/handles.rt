@@ -1,6 +1,6 @@
 //! Rows on calls on handles.
 
-use super::Row;
+use super::{ALL, Row};
 
 pub static HANDLES: &[Row] = &[
     Row {
@@ -18,6 +18,22 @@ GlobalFree 0x10e -> 0000
 GlobalFree 0x10e -> 010e",
     },
     Row {
+        name: "names that no object has, and objects of a module",
+        memory: 4096,
+        selectors: 16,
+        files: ALL,
+        lines: "\
+GlobalAlloc 2 32 -> 0106
+GlobalLock 0x107 -> 00000000
+GlobalFree 0x107 -> 0107
+GlobalFlags 0x104 -> 0000
+LoadLibrary TLIB.DLL -> 0021
+GlobalFree 0x10e -> 010e
+GlobalDiscard 0x10e -> 0000
+LockResource 0x10e -> 00000000
+FreeResource 0x10e -> 0001",
+    },
+    Row {
         name: "refuses what has no room",
         memory: 4096,
         selectors: 16,
@@ -29,30 +45,6 @@ GlobalAlloc 2 4097 -> 0000
 GlobalAlloc 2 4065 -> 0106
 GlobalAlloc 2 1 -> 0000
 GlobalFree 0x106 -> 0000",
-    },
-    Row {
-        name: "has 16 slots",
-        memory: 4096,
-        selectors: 16,
-        files: "",
-        lines: "\
-GlobalAlloc 2 1 -> 0106
-GlobalAlloc 2 1 -> 010e
-GlobalAlloc 2 1 -> 0116
-GlobalAlloc 2 1 -> 011e
-GlobalAlloc 2 1 -> 0126
-GlobalAlloc 2 1 -> 012e
-GlobalAlloc 2 1 -> 0136
-GlobalAlloc 2 1 -> 013e
-GlobalAlloc 2 1 -> 0146
-GlobalAlloc 2 1 -> 014e
-GlobalAlloc 2 1 -> 0156
-GlobalAlloc 2 1 -> 015e
-GlobalAlloc 2 1 -> 0166
-GlobalAlloc 2 1 -> 016e
-GlobalAlloc 2 1 -> 0176
-GlobalAlloc 2 1 -> 017e
-GlobalAlloc 2 1 -> 0000",
     },
     Row {
         name: "reads what was written",

@@ -93,34 +93,6 @@ LocalAlloc 2 1 -> 0002
 LocalSize 2 -> 0004",
     },
     Row {
-        name: "slides objects together",
-        memory: 256,
-        selectors: 16,
-        files: "",
-        lines: "\
-GlobalAlloc 2 32 -> 0106
-GlobalAlloc 0x42 128 -> 010e
-LocalInit 0x10f 16 128 -> 0001
-DS 0x10f -> ok
-LocalAlloc 0x42 10 -> 0002
-LocalAlloc 0x42 8 -> 0006
-LocalAlloc 0x42 8 -> 000a
-LocalFree 2 -> 0000
-LocalLock 6 -> 001c
-Write 0x010f001c beef -> ok
-Write 0x010f0024 cafe -> ok
-LocalCompact 96 -> 0054
-LocalUnlock 6 -> 0000
-LocalCompact 96 -> 0060
-LocalLock 6 -> 0010
-LocalHandle 0x18 -> 000a
-GlobalFree 0x106 -> 0000
-GlobalCompact 256 -> 00000080
-GetSelectorBase 0x10f -> 00000000
-Read 0x010f0010 2 -> bytes beef
-Read 0x010f0018 2 -> bytes cafe",
-    },
-    Row {
         name: "gives objects another size",
         memory: 256,
         selectors: 16,

@@ -264,6 +264,18 @@ static SCRIPTS: &[Script] = &[
         ..SCRIPT
     },
     Script {
+        name: "fails to read behind a line",
+        text: &[
+            (1, b"GlobalAlloc 0x42 100\nGlobalLock 0x106\n"),
+            (1, b"Write 0x01070000 4e45\n"),
+        ],
+        by: &[1, 7, 100_000],
+        breaks: true,
+        ended: Err(RunFault::Read),
+        notes: &[(1, b"0106\n01070000\nok\n")],
+        ..SCRIPT
+    },
+    Script {
         name: "fails to read in a line",
         text: &[
             (1, b"GlobalAlloc 0x42 100\nGlobalLock 0x106\n"),

@@ -1,12 +1,14 @@
-//! The same rows, with each growth of a run refused in turn.
+//! The rows over module files, with each growth of a run refused in turn.
 
-use super::files::store_of;
-use super::machine::Machine;
-use super::{Row, first_wrong, output_of, put_reply, script_of, split, tables};
 use std::alloc::{AllocError, Allocator, Global};
 use std::process::Abort;
 use std::test::Fail;
 use w16_fuse::Fuse;
+use w16_modules_tests::modules::files::store_of;
+use w16_modules_tests::modules::machine::Machine;
+use w16_modules_tests::modules::{
+    Row, first_wrong, output_of, put_reply, script_of, split, tables,
+};
 use w16_script::RunFault;
 use w16_store::MemStore;
 

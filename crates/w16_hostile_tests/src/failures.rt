@@ -1,13 +1,14 @@
 //! Devices that fail, and files that change.
 
-use super::files::store_of;
-use super::loads::{FIRST_LOAD, IMPORTS};
-use super::machine::Machine;
-use super::resources::{RESOURCE, SWEPT};
-use super::turning::Turning;
-use super::{ALL, first_wrong, split};
-use std::alloc::{AllocError, Global};
+use crate::turning::Turning;
+use std::alloc::{AllocError, AllocGlobal, Global};
+use std::process::Abort;
 use std::test::Fail;
+use w16_modules_tests::modules::files::store_of;
+use w16_modules_tests::modules::loads::{FIRST_LOAD, IMPORTS};
+use w16_modules_tests::modules::machine::Machine;
+use w16_modules_tests::modules::resources::{RESOURCE, SWEPT};
+use w16_modules_tests::modules::{ALL, first_wrong, split};
 use w16_store::{FuseStore, MemStore};
 
 /// A library is loaded, and its code discarded.
@@ -31,21 +32,12 @@ fn failing(alloc: Global, read: u32) -> Result<Machine<FuseStore<MemStore>>, All
     Machine::new(alloc, alloc, 4096, 16, store)
 }
 
-/// The first wrong line behind the discard where a read fails; none where that is one before the discard.
-fn first_wrong_behind(alloc: Global, read: u32) -> Result<Option<usize>, AllocError> {
-    let mut machine = failing(alloc, read)?;
-    if first_wrong(&mut machine, alloc, DISCARDED)? != 0 {
-        return Ok(None);
-    }
-    Ok(Some(first_wrong(&mut machine, alloc, FAILING)?))
-}
-
-/// The first wrong line where the first read behind the discard fails.
-fn first_wrong_at_last(alloc: Global) -> Result<Option<usize>, AllocError> {
+/// The first wrong line behind the discard where the first read behind it fails.
+fn first_wrong_behind(alloc: Global) -> Result<Option<usize>, AllocError> {
     for read in 1..1000u32 {
-        let wrong = first_wrong_behind(alloc, read)?;
-        if wrong.is_some() {
-            return Ok(wrong);
+        let mut machine = failing(alloc, read)?;
+        if first_wrong(&mut machine, alloc, DISCARDED)? == 0 {
+            return Ok(Some(first_wrong(&mut machine, alloc, FAILING)?));
         }
     }
     Ok(None)
@@ -53,7 +45,7 @@ fn first_wrong_at_last(alloc: Global) -> Result<Option<usize>, AllocError> {
 
 #[test]
 fn a_fetch_fails_with_its_device(rt: HostRuntime) -> Result<(), Fail> {
-    let wrong = first_wrong_at_last(rt.alloc())?;
+    let wrong = first_wrong_behind(rt.alloc())?;
     assert!(rt; wrong == Some(0), "{wrong:?}");
     Ok(())
 }
@@ -236,22 +228,24 @@ fn first_wrong_where_changed(
     ])
 }
 
-#[test]
-fn files_change_behind_a_discard(rt: HostRuntime) -> Result<(), Fail> {
-    for (others, lines) in CHANGES {
-        let wrong = first_wrong_where_changed(rt.alloc(), others, DISCARDED, lines, BACK)?;
+/// Whether files that take others' places are answered as a table says, and all is as before once those come back.
+fn expect_changes(
+    rt: &(impl Abort + AllocGlobal),
+    changes: &[(&str, &str)],
+    before: &str,
+    back: &str,
+) -> Result<(), AllocError> {
+    for (others, lines) in changes {
+        let wrong = first_wrong_where_changed(rt.alloc(), others, before, lines, back)?;
         assert!(rt; wrong == [0; 4], "{others}: {wrong:?}");
     }
     Ok(())
 }
 
 #[test]
-fn files_of_resources_change_behind_a_discard(rt: HostRuntime) -> Result<(), Fail> {
-    for (others, lines) in RESOURCE_CHANGES {
-        let (before, back) = (RESOURCE_DISCARDED, RESOURCE_BACK);
-        let wrong = first_wrong_where_changed(rt.alloc(), others, before, lines, back)?;
-        assert!(rt; wrong == [0; 4], "{others}: {wrong:?}");
-    }
+fn files_change_behind_a_discard(rt: HostRuntime) -> Result<(), Fail> {
+    expect_changes(&rt, CHANGES, DISCARDED, BACK)?;
+    expect_changes(&rt, RESOURCE_CHANGES, RESOURCE_DISCARDED, RESOURCE_BACK)?;
     Ok(())
 }
 
@@ -283,6 +277,31 @@ fn no_front_of_a_file_is_loaded(rt: HostRuntime) -> Result<(), Fail> {
             let wrong = first_wrong_cut(rt.alloc(), file, len, other, line)?;
             assert!(rt; wrong == 0, "{len} bytes of {file}");
         }
+    }
+    Ok(())
+}
+
+/// The first wrong line where so many bytes of a resource's sixteen are there.
+fn first_wrong_of_front(alloc: Global, count: usize) -> Result<usize, AllocError> {
+    let whole = "48656c6c6f2c207265736f7572636521";
+    let front = whole.get(..count.saturating_mul(2)).unwrap_or(whole);
+    let lines = format!(in alloc;
+        "LoadLibrary TRES.DLL -> 0021\nLoadResource 0x21 1 -> 0106\nRead 0x01070000 32 -> bytes {front:0<64}"
+    )?;
+    first_wrong_cut(
+        alloc,
+        "TRES.DLL",
+        count.saturating_add(176),
+        "TLIB.DLL",
+        &lines,
+    )
+}
+
+#[test]
+fn a_front_of_a_resource_is_filled_up(rt: HostRuntime) -> Result<(), Fail> {
+    for count in 1..17usize {
+        let wrong = first_wrong_of_front(rt.alloc(), count)?;
+        assert!(rt; wrong == 0, "{count} bytes: line {wrong}");
     }
     Ok(())
 }
