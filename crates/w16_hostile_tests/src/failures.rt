@@ -1,15 +1,14 @@
 //! Devices that fail, and files that change.
 
-use crate::turning::Turning;
+use crate::stores::{Hostile, HostileMachine, Turning};
 use std::alloc::{AllocError, AllocGlobal, Global};
 use std::process::Abort;
 use std::test::Fail;
+use w16_fuse::Fuse;
 use w16_modules_tests::modules::files::store_of;
 use w16_modules_tests::modules::loads::{FIRST_LOAD, IMPORTS};
-use w16_modules_tests::modules::machine::Machine;
 use w16_modules_tests::modules::resources::{RESOURCE, SWEPT};
 use w16_modules_tests::modules::{ALL, first_wrong, split};
-use w16_store::{FuseStore, MemStore};
 
 /// A library is loaded, and its code discarded.
 const DISCARDED: &str = "\
@@ -27,17 +26,38 @@ Walk -> 00000000 00001000 free / end
 Read 0x01070000 16 -> bytes 9a04000f019a04000f01b81400cb9090";
 
 /// A machine over the samples, of which a read fails.
-fn failing(alloc: Global, read: u32) -> Result<Machine<FuseStore<MemStore>>, AllocError> {
-    let store = FuseStore::new(store_of(alloc, ALL)?, read);
-    Machine::new(alloc, alloc, 4096, 16, store)
+fn failing(
+    fuse: &Fuse<Global>,
+    alloc: Global,
+    read: u32,
+) -> Result<HostileMachine<'_>, AllocError> {
+    Hostile::failing(store_of(alloc, ALL)?, read).machine(fuse, alloc)
+}
+
+/// The first wrong line behind the discard; none where a read before it fails.
+fn first_wrong_fetch(
+    machine: &mut HostileMachine<'_>,
+    alloc: Global,
+) -> Result<Option<usize>, AllocError> {
+    if first_wrong(machine, alloc, DISCARDED)? > 0 {
+        return Ok(None);
+    }
+    Ok(Some(first_wrong(machine, alloc, FAILING)?))
+}
+
+/// The same on a machine of which a read fails.
+fn first_wrong_fetch_failing(alloc: Global, read: u32) -> Result<Option<usize>, AllocError> {
+    let fuse = Fuse::new(alloc);
+    let mut machine = failing(&fuse, alloc, read)?;
+    first_wrong_fetch(&mut machine, alloc)
 }
 
 /// The first wrong line behind the discard where the first read behind it fails.
 fn first_wrong_behind(alloc: Global) -> Result<Option<usize>, AllocError> {
     for read in 1..1000u32 {
-        let mut machine = failing(alloc, read)?;
-        if first_wrong(&mut machine, alloc, DISCARDED)? == 0 {
-            return Ok(Some(first_wrong(&mut machine, alloc, FAILING)?));
+        let wrong = first_wrong_fetch_failing(alloc, read)?;
+        if wrong.is_some() {
+            return Ok(wrong);
         }
     }
     Ok(None)
@@ -48,6 +68,13 @@ fn a_fetch_fails_with_its_device(rt: HostRuntime) -> Result<(), Fail> {
     let wrong = first_wrong_behind(rt.alloc())?;
     assert!(rt; wrong == Some(0), "{wrong:?}");
     Ok(())
+}
+
+/// The first wrong line on a machine of which a read fails.
+fn first_wrong_failing(alloc: Global, lines: &str, read: u32) -> Result<usize, AllocError> {
+    let fuse = Fuse::new(alloc);
+    let mut machine = failing(&fuse, alloc, read)?;
+    first_wrong(&mut machine, alloc, lines)
 }
 
 /// A register keeps its number where a load fails, and gets the handle of the next.
@@ -62,8 +89,7 @@ GetModuleUsage r1 -> 0001";
 
 #[test]
 fn registers_keep_their_numbers(rt: HostRuntime) -> Result<(), Fail> {
-    let mut machine = failing(rt.alloc(), 1)?;
-    let wrong = first_wrong(&mut machine, rt.alloc(), KEPT)?;
+    let wrong = first_wrong_failing(rt.alloc(), KEPT, 1)?;
     assert!(rt; wrong == 0, "line {wrong} of the output");
     Ok(())
 }
@@ -84,13 +110,13 @@ fn failing_at(alloc: Global, lines: &str, number: usize) -> Result<String, Alloc
 
 /// The first wrong line where a read fails and the line that it fails is asked for again; none where no line fails.
 fn first_wrong_again(alloc: Global, lines: &str, read: u32) -> Result<Option<usize>, AllocError> {
-    let number = first_wrong(&mut failing(alloc, read)?, alloc, lines)?;
+    let number = first_wrong_failing(alloc, lines, read)?;
     if number == 0 {
         return Ok(None);
     }
     let text = failing_at(alloc, lines, number)?;
-    let asked = text.trim_end();
-    Ok(Some(first_wrong(&mut failing(alloc, read)?, alloc, asked)?))
+    let wrong = first_wrong_failing(alloc, text.trim_end(), read)?;
+    Ok(Some(wrong))
 }
 
 /// How many reads these lines have, of which each makes one line fail, and it alone; none where one makes more.
@@ -205,27 +231,29 @@ LoadResource 0x21 1 -> 0106
 LockResource 0x106 -> 01070000
 Read 0x01070000 5 -> bytes 48656c6c6f";
 
-/// A machine over the samples, and over others when they are asked for.
-fn turning(alloc: Global, others: &str) -> Result<Machine<Turning>, AllocError> {
-    let store = Turning::new(store_of(alloc, ALL)?, store_of(alloc, others)?);
-    Machine::new(alloc, alloc, 4096, 16, store)
+/// The first wrong line of four texts, of which the second has the files change.
+fn first_wrong_of(
+    machine: &mut HostileMachine<'_>,
+    alloc: Global,
+    texts: &[&str; 4],
+) -> Result<[usize; 4], AllocError> {
+    let mut wrong = [0; 4];
+    for (i, text) in texts.iter().enumerate() {
+        wrong[i] = first_wrong(machine, alloc, text)?;
+    }
+    Ok(wrong)
 }
 
-/// The first wrong line where other files come: before they do, while they are there, and behind.
+/// The same where the samples turn into other files.
 fn first_wrong_where_changed(
     alloc: Global,
     others: &str,
-    before: &str,
-    lines: &str,
-    back: &str,
+    texts: &[&str; 4],
 ) -> Result<[usize; 4], AllocError> {
-    let mut machine = turning(alloc, others)?;
-    Ok([
-        first_wrong(&mut machine, alloc, before)?,
-        first_wrong(&mut machine, alloc, "LoadLibrary TURN -> 0002")?,
-        first_wrong(&mut machine, alloc, lines)?,
-        first_wrong(&mut machine, alloc, back)?,
-    ])
+    let fuse = Fuse::new(alloc);
+    let store = Turning::new(store_of(alloc, ALL)?, store_of(alloc, others)?);
+    let mut machine = Hostile::Turning(store).machine(&fuse, alloc)?;
+    first_wrong_of(&mut machine, alloc, texts)
 }
 
 /// Whether files that take others' places are answered as a table says, and all is as before once those come back.
@@ -236,7 +264,8 @@ fn expect_changes(
     back: &str,
 ) -> Result<(), AllocError> {
     for (others, lines) in changes {
-        let wrong = first_wrong_where_changed(rt.alloc(), others, before, lines, back)?;
+        let texts = [before, "LoadLibrary TURN -> 0002", *lines, back];
+        let wrong = first_wrong_where_changed(rt.alloc(), others, &texts)?;
         assert!(rt; wrong == [0; 4], "{others}: {wrong:?}");
     }
     Ok(())
@@ -256,6 +285,13 @@ static CUT: &[(&str, usize, &str, &str)] = &[
     ("TAPP.EXE", 202, "TLIB.DLL", "LoadModule TAPP.EXE -> 000b"),
 ];
 
+/// The first wrong line over files.
+fn first_wrong_over(alloc: Global, files: &str, lines: &str) -> Result<usize, AllocError> {
+    let fuse = Fuse::new(alloc);
+    let mut machine = Hostile::failing(store_of(alloc, files)?, 0).machine(&fuse, alloc)?;
+    first_wrong(&mut machine, alloc, lines)
+}
+
 /// The first wrong line where so many bytes of a file are there.
 fn first_wrong_cut(
     alloc: Global,
@@ -265,9 +301,7 @@ fn first_wrong_cut(
     line: &str,
 ) -> Result<usize, AllocError> {
     let files = format!(in alloc; "{file} len={len}, {other}")?;
-    let store = store_of(alloc, &files)?;
-    let mut machine = Machine::new(alloc, alloc, 4096, 16, store)?;
-    first_wrong(&mut machine, alloc, line)
+    first_wrong_over(alloc, &files, line)
 }
 
 #[test]

@@ -1,6 +1,7 @@
 //! The rows over module files, with each growth of a run refused in turn.
 
-use std::alloc::{AllocError, Allocator, Global};
+use crate::stores::{Hostile, HostileMachine};
+use std::alloc::{AllocError, AllocGlobal, Global};
 use std::process::Abort;
 use std::test::Fail;
 use w16_fuse::Fuse;
@@ -10,7 +11,6 @@ use w16_modules_tests::modules::{
     Row, first_wrong, output_of, put_reply, script_of, split, tables,
 };
 use w16_script::RunFault;
-use w16_store::MemStore;
 
 /// More growths than any row has.
 const MANY: u64 = 1000;
@@ -53,37 +53,46 @@ fn lines_behind<'a>(
     Ok(None)
 }
 
-/// The walk of a machine, as it is printed.
-fn walk_of<A: Allocator + Copy>(
-    machine: &mut Machine<MemStore, A>,
+/// A new machine over the files of a row.
+fn machine_of<'a>(
+    fuse: &'a Fuse<Global>,
     alloc: Global,
-) -> Result<Vec<u8>, AllocError> {
+    row: &Row,
+) -> Result<HostileMachine<'a>, AllocError> {
+    let store = Hostile::failing(store_of(alloc, row.files)?, 0);
+    Machine::new(fuse, alloc, row.memory, row.selectors, store)
+}
+
+/// The walk of a machine, as it is printed.
+fn walk_of(machine: &mut HostileMachine<'_>, alloc: Global) -> Result<Vec<u8>, AllocError> {
     let mut output = Vec::new(alloc);
     let _ = machine.play(alloc, b"Walk\n", &mut output);
     Ok(output)
 }
 
-/// Whether a machine has the walk that a new one has behind so many lines of a row.
-fn has_walk_behind(
-    machine: &mut Machine<MemStore, &Fuse<Global>>,
+/// The walk of a machine behind some lines.
+fn walk_behind(
+    machine: &mut HostileMachine<'_>,
     alloc: Global,
-    row: &Row,
-    front: &str,
-) -> Result<bool, AllocError> {
-    let store = store_of(alloc, row.files)?;
-    let mut other = Machine::new(alloc, alloc, row.memory, row.selectors, store)?;
-    let script = script_of(alloc, front)?;
+    lines: &str,
+) -> Result<Vec<u8>, AllocError> {
+    let script = script_of(alloc, lines)?;
     let mut output = Vec::new(alloc);
-    let _ = other.play(alloc, &script, &mut output);
-    let wanted = walk_of(&mut other, alloc)?;
-    let walk = walk_of(machine, alloc)?;
-    Ok(walk.as_slice() == wanted.as_slice())
+    let _ = machine.play(alloc, &script, &mut output);
+    walk_of(machine, alloc)
 }
 
-/// Whether a run that had no memory printed whole replies up to a line that may take some; where that is a `LocalInit`, the walk is as before it. The
-/// line and those behind it are answered as they should be when they are asked for again; lines with registers aren't, since these begin anew.
+/// The walk of a new machine behind the front of a row.
+fn walk_of_front(alloc: Global, row: &Row, front: &str) -> Result<Vec<u8>, AllocError> {
+    let fuse = Fuse::new(alloc);
+    let mut machine = machine_of(&fuse, alloc, row)?;
+    walk_behind(&mut machine, alloc, front)
+}
+
+/// Whether a run that had no memory printed whole replies up to a line that may take some, and the walk is as before that line. The line and those
+/// behind it are answered as they should be when they are asked for again; lines with registers aren't, since these begin anew.
 fn is_undone(
-    machine: &mut Machine<MemStore, &Fuse<Global>>,
+    machine: &mut HostileMachine<'_>,
     alloc: Global,
     row: &Row,
     printed: &[u8],
@@ -91,11 +100,9 @@ fn is_undone(
     let Some(rest) = lines_behind(alloc, row.lines, printed)? else {
         return Ok(false);
     };
-    let front = row.lines.strip_suffix(rest).unwrap_or("");
-    if rest.starts_with("LocalInit") && !has_walk_behind(machine, alloc, row, front)? {
-        return Ok(false);
-    }
-    if !takes_memory(rest) {
+    let front = row.lines.strip_suffix(rest).unwrap_or("").trim_end();
+    let walk = walk_of(machine, alloc)?;
+    if !takes_memory(rest) || walk.as_slice() != walk_of_front(alloc, row, front)?.as_slice() {
         return Ok(false);
     }
     Ok(row.lines.starts_with("r") || first_wrong(machine, alloc, rest)? == 0)
@@ -104,7 +111,7 @@ fn is_undone(
 /// Whether a run of a row's lines ends as it should where a growth of it may be refused: by `Memory` where one was.
 fn ends_right(
     fuse: &Fuse<Global>,
-    machine: &mut Machine<MemStore, &Fuse<Global>>,
+    machine: &mut HostileMachine<'_>,
     alloc: Global,
     row: &Row,
 ) -> Result<bool, AllocError> {
@@ -126,8 +133,7 @@ fn row_ends_right(
     growth: u64,
 ) -> Result<bool, AllocError> {
     fuse.arm(0);
-    let store = store_of(alloc, row.files)?;
-    let mut machine = Machine::new(fuse, alloc, row.memory, row.selectors, store)?;
+    let mut machine = machine_of(fuse, alloc, row)?;
     fuse.arm(growth);
     ends_right(fuse, &mut machine, alloc, row)
 }

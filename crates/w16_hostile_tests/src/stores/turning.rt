@@ -17,18 +17,8 @@ impl Turning {
             turned: false,
         }
     }
-}
 
-impl Store for Turning {
-    ghost use Rattle.std.specs.Prelude.{[]};
-
-    ghost files = { λ _. [] };
-
-    ghost failures = { λ _. 0 };
-
-    ghost is_honest = { ⊥ };
-
-    fn read_at(&mut self, name: &[u8], at: u64, buf: &mut [u8]) -> Result<(), StoreFault> {
+    pub fn read_at(&mut self, name: &[u8], at: u64, buf: &mut [u8]) -> Result<(), StoreFault> {
         if self.turned {
             self.second.read_at(name, at, buf)
         } else {
@@ -36,7 +26,7 @@ impl Store for Turning {
         }
     }
 
-    fn len_of(&mut self, name: &[u8]) -> Result<u64, StoreFault> {
+    pub fn len_of(&mut self, name: &[u8]) -> Result<u64, StoreFault> {
         match name {
             b"TURN" => self.turned = true,
             b"BACK" => self.turned = false,

@@ -1,0 +1,100 @@
+//! Stores that lie: what they brought can be freed, and then all is as on a new machine.
+
+use crate::stores::{Hostile, HostileMachine, Lie, Lying};
+use std::alloc::{AllocError, Global};
+use std::test::Fail;
+use w16_fuse::Fuse;
+use w16_modules_tests::modules::files::store_of;
+use w16_modules_tests::modules::loads::IMPORTS;
+use w16_modules_tests::modules::resources::RESOURCE;
+use w16_modules_tests::modules::{ALL, first_wrong, script_of};
+use w16_store::StoreFault;
+
+/// A file is missing; all is 0; or the lowest bit is another.
+static LIES: &[Lie] = &[
+    (Err(StoreFault::Missing), 0, 0),
+    (Ok(()), 0, 0),
+    (Ok(()), u64::MAX, 1),
+];
+
+/// From here on no lie is told, and nothing is there; and so it is where none was told before.
+const TOLD: &str = "LoadLibrary HONEST -> 0002\nWalk -> 00000000 00001000 free / end";
+
+const UNTOLD: &str = "LoadLibrary HONEST -> fault store";
+
+/// Whatever was loaded goes.
+const FREES: &str = "\
+FreeLibrary 0x21\nFreeLibrary 0x21\nFreeLibrary 0x22\nFreeLibrary 0x22\nFreeLibrary 0x22\nFreeLibrary 0x23\nFreeLibrary 0x23\nFreeLibrary 0x21";
+
+/// Plays the lines of a row, and frees what they loaded, which is nothing where the first line is refused. Whether each run ends.
+fn is_played(
+    machine: &mut HostileMachine<'_>,
+    alloc: Global,
+    lines: &str,
+) -> Result<bool, AllocError> {
+    let (load, rest) = lines.split_once("\n").unwrap_or((lines, ""));
+    let mut output = Vec::new(alloc);
+    let script = script_of(alloc, load)?;
+    let is_ended = machine.play(alloc, &script, &mut output).is_ok();
+    if output.as_slice() != b"0021\n".as_slice() {
+        return Ok(is_ended);
+    }
+    let rest = format!(in alloc; "{rest}\n{FREES}")?;
+    let script = script_of(alloc, &rest)?;
+    Ok(is_ended && machine.play(alloc, &script, &mut output).is_ok())
+}
+
+/// Whether all is as on a new machine behind a row; none where no lie was told.
+fn is_new_behind(
+    machine: &mut HostileMachine<'_>,
+    alloc: Global,
+    lines: &str,
+) -> Result<Option<bool>, AllocError> {
+    let played = is_played(machine, alloc, lines)?;
+    if first_wrong(machine, alloc, UNTOLD)? == 0 {
+        return Ok(None);
+    }
+    let told = first_wrong(machine, alloc, TOLD)?;
+    let again = first_wrong(machine, alloc, lines)?;
+    Ok(Some(played && told == 0 && again == 0))
+}
+
+/// The same where so many lies are told behind so many questions.
+fn is_new(
+    alloc: Global,
+    lines: &str,
+    lie: Lie,
+    before: u32,
+    lies: u32,
+) -> Result<Option<bool>, AllocError> {
+    let fuse = Fuse::new(alloc);
+    let store = Lying::new(store_of(alloc, ALL)?, lie, before, lies);
+    let mut machine = Hostile::Lying(store).machine(&fuse, alloc)?;
+    is_new_behind(&mut machine, alloc, lines)
+}
+
+/// How many questions a row has, behind each of which so many lies change nothing for good; none where they do.
+fn questions(alloc: Global, lines: &str, lie: Lie, lies: u32) -> Result<Option<u32>, AllocError> {
+    for before in 0..1000u32 {
+        match is_new(alloc, lines, lie, before, lies)? {
+            Some(true) => {}
+            Some(false) => return Ok(None),
+            None => return Ok(Some(before)),
+        }
+    }
+    Ok(None)
+}
+
+/// One lie at each question, and nothing but lies from each on.
+static TELLINGS: &[(&str, u32)] = &[(IMPORTS, 1), (RESOURCE, u32::MAX)];
+
+#[test]
+fn lies_are_undone(rt: HostRuntime) -> Result<(), Fail> {
+    for lie in LIES {
+        for (lines, lies) in TELLINGS {
+            let asked = questions(rt.alloc(), lines, *lie, *lies)?;
+            assert!(rt; asked.unwrap_or(0) > 10, "{lie:?}: {asked:?} in {lines}");
+        }
+    }
+    Ok(())
+}

@@ -1,0 +1,70 @@
+//! The stores of these tests, as one type, and a machine over it: a proof meets a machine once for each type of store and of allocator.
+mod endless;
+mod lying;
+mod turning;
+
+pub use endless::Endless;
+pub use lying::{Lie, Lying};
+use std::alloc::{AllocError, Global};
+pub use turning::Turning;
+use w16_fuse::Fuse;
+use w16_modules_tests::modules::ALL;
+use w16_modules_tests::modules::files::store_of;
+use w16_modules_tests::modules::machine::Machine;
+use w16_store::{FuseStore, MemStore, Store, StoreFault};
+
+/// A store that does some harm.
+#[derive(Drop)]
+pub enum Hostile {
+    Failing(FuseStore<MemStore>),
+    Turning(Turning),
+    Lying(Lying),
+    Endless(Endless),
+}
+
+/// A machine over such a store, which takes its memory through a fuse.
+pub type HostileMachine<'a> = Machine<Hostile, &'a Fuse<Global>>;
+
+impl Hostile {
+    /// Files of which a read fails, counted from 1 on; none does where it is 0.
+    pub fn failing(files: MemStore, read: u32) -> Hostile {
+        Hostile::Failing(FuseStore::new(files, read))
+    }
+
+    /// The machine of most of these tests: 4,096 bytes and 16 selectors.
+    pub fn machine(
+        self,
+        fuse: &Fuse<Global>,
+        alloc: Global,
+    ) -> Result<HostileMachine<'_>, AllocError> {
+        Machine::new(fuse, alloc, 4096, 16, self)
+    }
+}
+
+impl Store for Hostile {
+    ghost use Rattle.std.specs.Prelude.{[]};
+
+    ghost files = { λ _. [] };
+
+    ghost failures = { λ _. 0 };
+
+    ghost is_honest = { ⊥ };
+
+    fn read_at(&mut self, name: &[u8], at: u64, buf: &mut [u8]) -> Result<(), StoreFault> {
+        match self {
+            Hostile::Failing(store) => store.read_at(name, at, buf),
+            Hostile::Turning(store) => store.read_at(name, at, buf),
+            Hostile::Lying(store) => store.read_at(name, at, buf),
+            Hostile::Endless(store) => store.read_at(name, at, buf),
+        }
+    }
+
+    fn len_of(&mut self, name: &[u8]) -> Result<u64, StoreFault> {
+        match self {
+            Hostile::Failing(store) => store.len_of(name),
+            Hostile::Turning(store) => store.len_of(name),
+            Hostile::Lying(store) => store.len_of(name),
+            Hostile::Endless(store) => store.len_of(),
+        }
+    }
+}
