@@ -35,7 +35,7 @@ fn made(alloc: Global, memory: u32, selectors: u32) -> Result<Box<Kernel<Growing
     requires { IsMemorySize memory × IsSelectorCount selectors }
     ensures { IfOk result (λ kernel. kernel.value ≡ empty_world memory selectors [] 0) }
 {
-    let kernel = Kernel::new(alloc, alloc, memory, selectors, GrowingStore::new(alloc))?;
+    let kernel = Kernel::new(alloc, memory, selectors, GrowingStore::new(alloc))?;
     Ok(Box::new(alloc, kernel)?)
 }
 

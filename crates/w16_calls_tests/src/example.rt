@@ -8,7 +8,7 @@ use w16_store::MemStore;
 fn machine(alloc: Global, file: &[u8]) -> Result<Kernel<MemStore>, AllocError> {
     let mut store = MemStore::new(alloc);
     store.add(b"TLIB.DLL", file)?;
-    Kernel::new(alloc, alloc, 65_536, 16, store)
+    Kernel::new(alloc, 65_536, 16, store)
 }
 
 /// Loads the file: the module's handle, or why it is refused; none where the store failed.

@@ -36,7 +36,7 @@ const ALL: Option<Item> = Some(Item {
 
 #[test]
 fn parts_are_told_by_number_and_by_address(rt: HostRuntime) -> Result<(), AllocError> {
-    let kernel = Kernel::new(rt.alloc(), rt.alloc(), 96, 16, MemStore::new(rt.alloc()))?;
+    let kernel = Kernel::new(rt.alloc(), 96, 16, MemStore::new(rt.alloc()))?;
     let by_number = [kernel.walk_at(0), kernel.walk_at(1)];
     let by_address = [kernel.walk_from(0), kernel.walk_from(1)];
     assert!(rt; by_number == [ALL, None], "{by_number:?}");

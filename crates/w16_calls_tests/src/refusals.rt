@@ -17,16 +17,16 @@ enum Machine {
 }
 
 /// Each, and how many growths it takes: a global heap its attributes, two of selectors, its memory, one of holes and nine of an arena;
-/// local heaps two lists; a kernel both, a table of modules, and one of loads of resources.
+/// local heaps two lists; a kernel both, a table of modules, one of loads of resources, and four lists of a segment's room.
 static MACHINES: &[(Machine, u64)] = &[
     (Machine::GlobalHeap, 14),
     (Machine::LocalHeaps, 2),
-    (Machine::Kernel, 18),
+    (Machine::Kernel, 22),
 ];
 
 /// Makes a kernel, and it goes.
 fn make_kernel(fuse: &Fuse<Global>, alloc: Global) -> Result<(), AllocError> {
-    let _kernel = Kernel::new(fuse, alloc, 4096, 16, MemStore::new(alloc))?;
+    let _kernel = Kernel::new(fuse, 4096, 16, MemStore::new(alloc))?;
     Ok(())
 }
 

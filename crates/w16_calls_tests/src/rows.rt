@@ -36,7 +36,6 @@ fn run_new(
 ) -> Result<Result<(u32, u32), RunFault>, AllocError> {
     let mut kernel = Kernel::new(
         alloc,
-        alloc,
         memory - memory % GRAIN,
         selectors.min(MOST_SLOTS),
         MemStore::new(alloc),
@@ -224,7 +223,7 @@ fn keep_all(answers: &[Answer], replies: &[Reply<'_>]) -> bool {
 
 /// The answers to the calls of a life on a new machine.
 fn life_answers(alloc: Global) -> Result<Vec<Answer>, AllocError> {
-    let mut kernel = Kernel::new(alloc, alloc, 4096, 16, MemStore::new(alloc))?;
+    let mut kernel = Kernel::new(alloc, 4096, 16, MemStore::new(alloc))?;
     kernel.run_calls(&life())
 }
 

@@ -182,10 +182,6 @@ to_none a lo hi (h ∷ hs) le holes =
       | inr other ↦ rw (other.0) (to_none a (suc h.to) hi hs (omega arith) holes.3)
     ]
 
--- holes that [a, b) doesn't meet, the first of which begins from b on
-rest_above : (a b lo hi : ℕ) (h : Span) (hs : List Span) → b ≤ h.from → AreHoles lo hi (h ∷ hs) → AreHoles b hi (h ∷ hs)
-rest_above a b lo hi h hs le holes = (le, holes.1, holes.2, holes.3)
-
 -- where a hole ends at a, the others lie from b on
 used_above : (a b lo hi : ℕ) (hs : List Span) → a < lo → a < b → AreHoles lo hi hs → IsUsed a b hs → AreHoles b hi hs
 used_above a b lo hi [] lt some holes used = tt

@@ -22,7 +22,7 @@ GlobalAlloc 2 32 -> 010e";
 fn first_wrong_without_end(alloc: Global) -> Result<usize, AllocError> {
     let fuse = Fuse::new(alloc);
     let samples = store_of(alloc, "TAPP.EXE")?;
-    let mut machine = Hostile::Endless(Endless { samples }).machine(&fuse, alloc)?;
+    let mut machine = Hostile::Endless(Endless { samples }).machine(&fuse)?;
     first_wrong(&mut machine, alloc, REFUSED)
 }
 

@@ -166,7 +166,7 @@ fn is_right(
     forms: &str,
 ) -> Result<bool, AllocError> {
     let mut output = Vec::new(alloc);
-    let ended = machine.play(alloc, text.as_bytes(), &mut output);
+    let ended = machine.play(text.as_bytes(), &mut output);
     let is_whole = match ended {
         Ok(ended) => ended.replies as usize == forms.len(),
         Err(_) => false,
@@ -217,7 +217,7 @@ fn first_wrong_on(
     Ok(None)
 }
 
-/// The same on a new machine of so many bytes.
+/// The first script that goes wrong on a new machine of so many bytes; none where all go right.
 fn first_wrong(
     alloc: Global,
     memory: u32,
@@ -225,7 +225,7 @@ fn first_wrong(
 ) -> Result<Option<String>, AllocError> {
     let fuse = Fuse::new(alloc);
     let store = Hostile::failing(store_of(alloc, ALL)?, 0);
-    let mut machine = Machine::new(&fuse, alloc, memory, 16, store)?;
+    let mut machine = Machine::new(&fuse, memory, 16, store)?;
     first_wrong_on(&mut machine, alloc, memory, numbers)
 }
 

@@ -35,13 +35,13 @@ fn is_played(
     let (load, rest) = lines.split_once("\n").unwrap_or((lines, ""));
     let mut output = Vec::new(alloc);
     let script = script_of(alloc, load)?;
-    let is_ended = machine.play(alloc, &script, &mut output).is_ok();
+    let is_ended = machine.play(&script, &mut output).is_ok();
     if output.as_slice() != b"0021\n".as_slice() {
         return Ok(is_ended);
     }
     let rest = format!(in alloc; "{rest}\n{FREES}")?;
     let script = script_of(alloc, &rest)?;
-    Ok(is_ended && machine.play(alloc, &script, &mut output).is_ok())
+    Ok(is_ended && machine.play(&script, &mut output).is_ok())
 }
 
 /// Whether all is as on a new machine behind a row; none where no lie was told.
@@ -59,7 +59,7 @@ fn is_new_behind(
     Ok(Some(played && told == 0 && again == 0))
 }
 
-/// The same where so many lies are told behind so many questions.
+/// Whether all is as on a new machine behind a row of which so many lies were told behind so many questions; none where none was told.
 fn is_new(
     alloc: Global,
     lines: &str,
@@ -69,7 +69,7 @@ fn is_new(
 ) -> Result<Option<bool>, AllocError> {
     let fuse = Fuse::new(alloc);
     let store = Lying::new(store_of(alloc, ALL)?, lie, before, lies);
-    let mut machine = Hostile::Lying(store).machine(&fuse, alloc)?;
+    let mut machine = Hostile::Lying(store).machine(&fuse)?;
     is_new_behind(&mut machine, alloc, lines)
 }
 

@@ -60,13 +60,13 @@ fn machine_of<'a>(
     row: &Row,
 ) -> Result<HostileMachine<'a>, AllocError> {
     let store = Hostile::failing(store_of(alloc, row.files)?, 0);
-    Machine::new(fuse, alloc, row.memory, row.selectors, store)
+    Machine::new(fuse, row.memory, row.selectors, store)
 }
 
 /// The walk of a machine, as it is printed.
 fn walk_of(machine: &mut HostileMachine<'_>, alloc: Global) -> Result<Vec<u8>, AllocError> {
     let mut output = Vec::new(alloc);
-    let _ = machine.play(alloc, b"Walk\n", &mut output);
+    let _ = machine.play(b"Walk\n", &mut output);
     Ok(output)
 }
 
@@ -78,7 +78,7 @@ fn walk_behind(
 ) -> Result<Vec<u8>, AllocError> {
     let script = script_of(alloc, lines)?;
     let mut output = Vec::new(alloc);
-    let _ = machine.play(alloc, &script, &mut output);
+    let _ = machine.play(&script, &mut output);
     walk_of(machine, alloc)
 }
 
@@ -89,8 +89,9 @@ fn walk_of_front(alloc: Global, row: &Row, front: &str) -> Result<Vec<u8>, Alloc
     walk_behind(&mut machine, alloc, front)
 }
 
-/// Whether a run that had no memory printed whole replies up to a line that may take some, and the walk is as before that line. The line and those
-/// behind it are answered as they should be when they are asked for again; lines with registers aren't, since these begin anew.
+/// Whether a run that had no memory printed whole replies up to a line that may take some, or none where it couldn't read its script, and the walk
+/// is as before that line. The line and those behind it are answered as they should be when they are asked for again; lines with registers aren't,
+/// since these begin anew.
 fn is_undone(
     machine: &mut HostileMachine<'_>,
     alloc: Global,
@@ -102,7 +103,8 @@ fn is_undone(
     };
     let front = row.lines.strip_suffix(rest).unwrap_or("").trim_end();
     let walk = walk_of(machine, alloc)?;
-    if !takes_memory(rest) || walk.as_slice() != walk_of_front(alloc, row, front)?.as_slice() {
+    let may_end = printed.is_empty() || takes_memory(rest);
+    if !may_end || walk.as_slice() != walk_of_front(alloc, row, front)?.as_slice() {
         return Ok(false);
     }
     Ok(row.lines.starts_with("r") || first_wrong(machine, alloc, rest)? == 0)
@@ -117,7 +119,7 @@ fn ends_right(
 ) -> Result<bool, AllocError> {
     let script = script_of(alloc, row.lines)?;
     let mut output = Vec::new(alloc);
-    let ended = machine.play(alloc, &script, &mut output);
+    let ended = machine.play(&script, &mut output);
     if fuse.is_armed() {
         let wanted = output_of(alloc, row.lines)?;
         return Ok(ended.is_ok() && output.as_slice() == wanted.as_slice());
@@ -162,7 +164,7 @@ fn takes_some(lines: &str) -> bool {
     false
 }
 
-/// Whether each row of a table ends as it should, and those of which a line takes memory have growths.
+/// Whether each row of a table ends as it should. Each takes memory to read its script, and those of which a line takes some take more.
 fn expect_right(
     rt: &(impl Abort + AllocGlobal),
     fuse: &Fuse<Global>,
@@ -172,8 +174,8 @@ fn expect_right(
         let taken = growths(fuse, rt.alloc(), row)?;
         assert!(rt; taken.is_some(), "{}", row.name);
         assert!(rt;
-            !takes_some(row.lines) || taken != Some(0),
-            "{} has none",
+            taken.unwrap_or(0) > u64::from(takes_some(row.lines)),
+            "{} has few",
             row.name
         );
     }

@@ -32,12 +32,8 @@ impl Hostile {
     }
 
     /// The machine of most of these tests: 4,096 bytes and 16 selectors.
-    pub fn machine(
-        self,
-        fuse: &Fuse<Global>,
-        alloc: Global,
-    ) -> Result<HostileMachine<'_>, AllocError> {
-        Machine::new(fuse, alloc, 4096, 16, self)
+    pub fn machine(self, fuse: &Fuse<Global>) -> Result<HostileMachine<'_>, AllocError> {
+        Machine::new(fuse, 4096, 16, self)
     }
 }
 

@@ -17,7 +17,7 @@ pub no_module : (m : Module) → ◌≡◌ {A = Option Module} None (Some m) →
 no_module m e = cc
 
 -- the module of a segment is the one of its handle
-pub source_for : (world : LoadingWorld) (slot handle number : ℕ) (n m : Module) (source : SegmentSource) → IsSegmentOf world slot handle number n → module_at world.modules handle ≡ Some m → number ≡ source.number
+pub source_for : {A : Type 0} (world : LoadingWorld) (slot handle number : ℕ) (n m : Module) (source : SegmentSource A) → IsSegmentOf world slot handle number n → module_at world.modules handle ≡ Some m → number ≡ source.number
     → IsSourceOf m number source.file.now source.values.now → m.tables ≡ tables_in source.module.now → IsSourceFor world slot source
 source_for world slot handle number n m source segment loaded same of tables = record {
   handle = handle;
@@ -45,7 +45,7 @@ module _ (handles : Handles) (modules : Modules) (loads : FinMap nat_cmp Load) (
   segment_there place e = (owner_law world slot (OfSegment place.handle place.number) is).0 (owner_is ∙ sym e)
 
 -- a segment's number is one of its file's
-pub in_file : (world : LoadingWorld) → IsLoadingWorld world → (slot : ℕ) (source : SegmentSource) → IsSourceFor world slot source → (0 < source.number) × (source.number ≤ length source.module.now.segments)
+pub in_file : {A : Type 0} (world : LoadingWorld) → IsLoadingWorld world → (slot : ℕ) (source : SegmentSource A) → IsSourceFor world slot source → (0 < source.number) × (source.number ≤ length source.module.now.segments)
 in_file world is slot source s = (s.segment.has.0, turn _ (slice_get s.m.tables.segments (source.number - 1)) refl (of_segment world is slot s.handle source.number s.m s.segment))
   where
     as_long : length s.m.tables.segments ≡ length source.module.now.segments
@@ -106,7 +106,7 @@ module _ (honest : Type 0) (handles : Handles) (modules : Modules) (loads : FinM
         subst (λ q. StoreFetch honest old q fault new) (l.1 ∙ sym here) (fetch l.0 (ap (λ q. is_some (finmap.get loads q)) l.1 ∙ loaded))
 
   -- or a segment
-  module _ (source : SegmentSource) (s : IsSourceFor old (selector / 8) source) where
+  module _ {A : Type 0} (source : SegmentSource A) (s : IsSourceFor old (selector / 8) source) where
     owned : (g : Segment) × IsObjectOf old (selector / 8) g.kind g.size g.is_code
     owned = segment_owned old is.0 (selector / 8) s.handle source.number s.m s.segment
 

@@ -32,7 +32,7 @@ Refetches honest old selector fault (Err reply) new =
     × StoreFetch honest old (far_slot old.handles selector) (Some failed) new)
 
 -- The bytes of a slot's object come from this segment of a module that is loaded.
-pub record IsSourceFor (world : LoadingWorld) (slot : ℕ) (source : SegmentSource) : Type 0 where
+pub record IsSourceFor {A : Type 0} (world : LoadingWorld) (slot : ℕ) (source : SegmentSource A) : Type 0 where
   pub handle : ℕ
   pub m : Module
   pub segment : IsSegmentOf world slot handle source.number m

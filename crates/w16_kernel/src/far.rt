@@ -34,7 +34,7 @@ use w16_store::Store;
 fn segment_source<A: Allocator + Copy>(
     registry: &Registry<A>,
     slot: u16,
-) -> Option<SegmentSource<'_>>
+) -> Option<SegmentSource<'_, A>>
     ensures found { IfSome result (λ source. (handles : Handles) (loads : FinMap nat_cmp Load) (files : List (List ℕ × List ℕ)) (failures : ℕ) → IsLoadingWorld (loading_of handles registry.now loads files failures)
         → finmap.get loads slot ≡ None → IsSourceFor (loading_of handles registry.now loads files failures) slot source) }
     ensures none { IfNone result ((handles : Handles) (loads : FinMap nat_cmp Load) (files : List (List ℕ × List ℕ)) (failures : ℕ) → IsLoadingWorld (loading_of handles registry.now loads files failures)

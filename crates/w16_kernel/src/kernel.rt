@@ -29,7 +29,6 @@ use w16_store::Store;
 /// The machine over a store of module files. Its value is the world that a script sees.
 #[derive(Drop)]
 pub struct Kernel<S: Store + Drop, A: Allocator + Copy = Global> {
-    alloc: A,
     global: Global16<A>,
     locals: LocalHeaps<A>,
     ds: u16,
@@ -52,34 +51,27 @@ impl<S: Store + Drop, A: Allocator + Copy> Model for Kernel<S, A> {
 
 impl<S: Store + Drop, A: Allocator + Copy> Kernel<S, A> {
     /// A machine over a store, and over `memory` bytes, a multiple of 32, with so many selectors, at most 8,160, in which nothing is allocated
-    /// and nothing loaded. It takes its memory here, but for that of local heaps and of modules: room for one segment of a file from the host,
-    /// as the lists that loads make meanwhile. An error is that there was none, and then the store is dropped.
-    pub fn new(
-        alloc: A,
-        host: Global,
-        memory: u32,
-        slots: u32,
-        store: S,
-    ) -> Result<Kernel<S, A>, AllocError>
+    /// and nothing loaded. It takes its memory here, room for one segment of a file among it, but for that of local heaps and of modules. An error
+    /// is that there was none, and then the store is dropped.
+    pub fn new(alloc: A, memory: u32, slots: u32, store: S) -> Result<Kernel<S, A>, AllocError>
         requires grained { memory % GRAIN ≡ 0 }
         requires few { slots ≤ MOST_SLOTS }
         ensures { IfOk result (λ kernel. kernel ≡ empty_world memory slots (S.files store) (S.failures store)) }
     {
-        let scratch = Scratch::new(host)?;
+        let scratch = Scratch::new(alloc)?;
         let registry = Registry::new(alloc)?;
         let resources = Resources::new(alloc)?;
         let locals = LocalHeaps::new(alloc, slots)?;
         // last, so that no way out has to drop it
         let global = Global16::new(alloc, memory, slots)?;
         let library = Library {
-            host,
+            alloc,
             registry,
             resources,
             store,
             scratch,
         };
         Ok(Kernel {
-            alloc,
             global,
             locals,
             ds: 0,
@@ -158,7 +150,7 @@ impl<S: Store + Drop, A: Allocator + Copy> Kernel<S, A> {
             × AreFewest self.old events × AllKeepWritten self.old events × ReadsBack events) }
         ensures refused { OnErr result (StopsEarly (KernelStep S.is_honest) self.old calls.now self.new) }
     {
-        let mut answers = Vec::with_capacity(self.alloc, calls.len())?;
+        let mut answers = Vec::with_capacity(self.library.alloc, calls.len())?;
         let mut room = [0; MOST_READ];
         for call in calls {
             let reply = self.call(call, &mut room)?;

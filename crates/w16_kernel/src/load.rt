@@ -36,7 +36,7 @@ pub fn load_reply<S: Store + Drop, A: Allocator + Copy>(
     ensures failures { S.failures library.old.store ≤ S.failures library.new.store }
 {
     match load(
-        library.host,
+        library.alloc,
         &mut library.registry,
         global,
         &mut library.store,

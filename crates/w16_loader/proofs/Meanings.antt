@@ -45,12 +45,12 @@ module _ {A : Type 0} (modules : Modules) (found : List (Found A)) where
       omega (arith, lt, same, length-map found (found_in []))
   place_there name place None None at e = cc
 
-  is_there : (r : Reading) → IsNewOrMeant modules found r → IsThere modules found r
+  is_there : (r : Reading A) → IsNewOrMeant modules found r → IsThere modules found r
   is_there (makes.Meant (refers.There handle)) h = handle_there h.0 handle (handle_named modules h.0) (place_of h.0) refl h.1
   is_there (makes.Meant (refers.New place)) h = place_there h.0 place (handle_named modules h.0) (place_of h.0) refl h.1
   is_there (makes.Read tables) h = tt
 
-  pub all_there : (r : Result Reading FileFault) → IfOk r (IsNewOrMeant modules found) → IfOk r (IsThere modules found)
+  pub all_there : (r : Result (Reading A) FileFault) → IfOk r (IsNewOrMeant modules found) → IfOk r (IsThere modules found)
   all_there (Ok made) h = is_there made h
   all_there (Err fault) h = tt
 

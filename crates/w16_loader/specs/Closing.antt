@@ -84,12 +84,12 @@ module _ {A : Type 0} where
   meant_in modules found name = closing.meant (around_in modules []) (map (found_in []) found) name
 
   -- Whatever a file says, a load makes of it what some name means, or a new module, whose name means nothing and for which a handle is left.
-  abbrev pub IsNewOrMeant : Modules → List (Found A) → Reading → Type 0
+  abbrev pub IsNewOrMeant : Modules → List (Found A) → Reading A → Type 0
   IsNewOrMeant modules found (makes.Meant referent) = (name : List ℕ) × (meant_in modules found name ≡ Some (referent_of referent))
   IsNewOrMeant modules found (makes.Read tables) = (meant_in modules found tables.name ≡ None) × (length found < free_modules modules)
 
   -- a handle that a name means is one of these modules, and a place one of those found
-  abbrev pub IsThere : Modules → List (Found A) → Reading → Type 0
+  abbrev pub IsThere : Modules → List (Found A) → Reading A → Type 0
   IsThere modules found (makes.Meant (refers.There handle)) = (n : Named) × (finmap.get modules handle ≡ Some n)
   IsThere modules found (makes.Meant (refers.New place)) = place < length found
   IsThere modules found (makes.Read tables) = Unit {0}
@@ -100,6 +100,6 @@ IsSmall (Refused number) = number < FIRST_MODULE
 IsSmall Device = Unit {0}
 IsSmall OutOfMemory = Unit {0}
 
-abbrev pub reading_of : Files → List ℕ → Reading → closing.Reading
+abbrev pub reading_of : {A : Type 0} → Files → List ℕ → Reading A → closing.Reading
 reading_of files name (makes.Meant referent) = Meant (referent_of referent)
 reading_of files name (makes.Read tables) = Read (read_in files name tables)

@@ -188,7 +188,7 @@ fn record_values<S: Store, A: Allocator + Clone>(
 fn segment_values<S: Store, A: Allocator + Clone>(
     registry: &Registry<A>,
     store: &mut S,
-    scratch: &mut Scratch,
+    scratch: &mut Scratch<A>,
     loaded: &Loaded<A>,
     number: usize,
 ) -> Result<Vec<Far, A>, ValueFault>
@@ -210,7 +210,7 @@ fn segment_values<S: Store, A: Allocator + Clone>(
 fn module_values<S: Store, A: Allocator + Clone>(
     registry: &Registry<A>,
     store: &mut S,
-    scratch: &mut Scratch,
+    scratch: &mut Scratch<A>,
     loaded: &Loaded<A>,
 ) -> Result<Vec<Vec<Far, A>, A>, ValueFault>
     ensures files { S.files store.new ≡ S.files store.old }
@@ -237,7 +237,7 @@ fn module_values<S: Store, A: Allocator + Clone>(
 fn bind_module<S: Store, A: Allocator + Clone>(
     registry: &mut Registry<A>,
     store: &mut S,
-    scratch: &mut Scratch,
+    scratch: &mut Scratch<A>,
     handle: u16,
 ) -> Result<(), ValueFault>
     ensures files { S.files store.new ≡ S.files store.old }
@@ -267,7 +267,7 @@ fn bind_module<S: Store, A: Allocator + Clone>(
 pub(crate) fn bind_modules<S: Store, A: Allocator + Clone>(
     registry: &mut Registry<A>,
     store: &mut S,
-    scratch: &mut Scratch,
+    scratch: &mut Scratch<A>,
     handles: &[u16],
 ) -> Result<(), BindFault>
     ensures files { S.files store.new ≡ S.files store.old }

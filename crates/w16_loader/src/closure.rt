@@ -76,12 +76,12 @@ fn file_of_reference<A: Allocator + Clone>(alloc: &A, name: &[u8]) -> Result<Vec
 }
 
 /// What a reference leads to whose name nothing has, by the file that it is looked for in.
-fn follow_file<S: Store, A: Allocator>(
-    alloc: Global,
+fn follow_file<S: Store, A: Allocator + Copy>(
+    alloc: A,
     registry: &Registry<A>,
     store: &mut S,
     found: &[Found<A>],
-    scratch: &mut Scratch,
+    scratch: &mut Scratch<A>,
     file: Vec<u8, A>,
 ) -> Result<Followed<A>, FileFault>
     ensures files { S.files store.new ≡ S.files store.old }
@@ -99,7 +99,7 @@ fn follow_file<S: Store, A: Allocator>(
     }
 }
 
-impl<A: Allocator + Clone> Closure<A> {
+impl<A: Allocator + Copy> Closure<A> {
     /// The module asked for alone.
     fn begin(first: Found<A>) -> Result<Closure<A>, AllocError>
         ensures found { IfOk result (λ made. made.found.items ≡ first ∷ []) }
@@ -118,10 +118,10 @@ impl<A: Allocator + Clone> Closure<A> {
     /// A file that is refused gives 20; where no handle is left, 0.
     pub fn follow<S: Store>(
         &self,
-        alloc: Global,
+        alloc: A,
         registry: &Registry<A>,
         store: &mut S,
-        scratch: &mut Scratch,
+        scratch: &mut Scratch<A>,
         name: &[u8],
     ) -> Result<Followed<A>, FileFault>
         ensures files { S.files store.new ≡ S.files store.old }
@@ -163,10 +163,10 @@ impl<A: Allocator + Clone> Closure<A> {
     /// Follows a reference of the module at a place, by its number from 1, where all before it are followed.
     fn follow_reference<S: Store>(
         &mut self,
-        alloc: Global,
+        alloc: A,
         registry: &Registry<A>,
         store: &mut S,
-        scratch: &mut Scratch,
+        scratch: &mut Scratch<A>,
         place: usize,
         number: usize,
     ) -> Result<(), FileFault>
@@ -205,10 +205,10 @@ impl<A: Allocator + Clone> Closure<A> {
     /// Follows the references of the module at a place, if there is one, where those of the modules before it are followed.
     fn follow_module<S: Store>(
         &mut self,
-        alloc: Global,
+        alloc: A,
         registry: &Registry<A>,
         store: &mut S,
-        scratch: &mut Scratch,
+        scratch: &mut Scratch<A>,
         place: usize,
     ) -> Result<(), FileFault>
         ensures files { S.files store.new ≡ S.files store.old }
@@ -233,10 +233,10 @@ impl<A: Allocator + Clone> Closure<A> {
     /// Follows the references of all modules, also of those that it finds, where those of none are followed.
     fn follow_all<S: Store>(
         &mut self,
-        alloc: Global,
+        alloc: A,
         registry: &Registry<A>,
         store: &mut S,
-        scratch: &mut Scratch,
+        scratch: &mut Scratch<A>,
     ) -> Result<(), FileFault>
         requires { length self.old.found.items ≤ MOST_MODULES }
         ensures files { S.files store.new ≡ S.files store.old }
@@ -265,11 +265,11 @@ impl<A: Allocator + Clone> Closure<A> {
 ///
 /// Where nothing has the name of the module asked for, and a handle is left for it, the modules are those of some closure, whatever the store answers:
 /// no two of them have one name.
-pub fn close<S: Store, A: Allocator + Clone>(
-    alloc: Global,
+pub fn close<S: Store, A: Allocator + Copy>(
+    alloc: A,
     registry: &Registry<A>,
     store: &mut S,
-    scratch: &mut Scratch,
+    scratch: &mut Scratch<A>,
     first: Found<A>,
 ) -> Result<Closure<A>, FileFault>
     ensures files { S.files store.new ≡ S.files store.old }

@@ -22,7 +22,7 @@ const CONSTANT: u16 = 0xffff;
 #[derive(Drop)]
 pub struct Loaded<A: Allocator = Global> {
     file: Vec<u8, A>,
-    module: Module,
+    module: Module<A>,
     uses: u32,
     slots: Vec<u16, A>,
     values: Vec<Vec<Far, A>, A>,
@@ -58,7 +58,7 @@ impl<A: Allocator> Loaded<A> {
     /// and the values of its relocation records, and for each reference the handle of the module that it means.
     pub fn new(
         file: Vec<u8, A>,
-        module_file: Module,
+        module_file: Module<A>,
         uses: u32,
         slots: Vec<u16, A>,
         values: Vec<Vec<Far, A>, A>,
@@ -93,7 +93,7 @@ impl<A: Allocator> Loaded<A> {
     }
 
     /// What its file says.
-    pub fn module(&self) -> &Module
+    pub fn module(&self) -> &Module<A>
         ensures { tables_in result.now ≡ self.now.tables }
     {
         &self.module

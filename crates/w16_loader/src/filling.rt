@@ -43,7 +43,7 @@ fn fill_segment<S: Store, A: Allocator + Copy>(
     loaded: &Loaded<A>,
     global: &mut Global16<A>,
     store: &mut S,
-    scratch: &mut Scratch,
+    scratch: &mut Scratch<A>,
     number: usize,
 ) -> Result<(), FetchFault>
     requires first { 0 < number }
@@ -80,7 +80,7 @@ fn fill_segments<S: Store, A: Allocator + Copy>(
     loaded: &Loaded<A>,
     global: &mut Global16<A>,
     store: &mut S,
-    scratch: &mut Scratch,
+    scratch: &mut Scratch<A>,
 ) -> Result<(), FetchFault>
     ensures files { S.files store.new ≡ S.files store.old }
     ensures failures { S.failures store.old ≤ S.failures store.new }
@@ -109,7 +109,7 @@ fn fill_module<S: Store, A: Allocator + Copy>(
     registry: &Registry<A>,
     global: &mut Global16<A>,
     store: &mut S,
-    scratch: &mut Scratch,
+    scratch: &mut Scratch<A>,
     handle: u16,
 ) -> Result<(), FetchFault>
     ensures files { S.files store.new ≡ S.files store.old }
@@ -138,7 +138,7 @@ pub(crate) fn fill_modules<S: Store, A: Allocator + Copy>(
     registry: &Registry<A>,
     global: &mut Global16<A>,
     store: &mut S,
-    scratch: &mut Scratch,
+    scratch: &mut Scratch<A>,
     handles: &[u16],
 ) -> Result<(), Failure>
     ensures files { S.files store.new ≡ S.files store.old }

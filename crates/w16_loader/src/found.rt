@@ -29,7 +29,7 @@ const NO_HANDLE: u16 = 0;
 #[derive(Drop)]
 pub struct Found<A: Allocator = Global> {
     pub file: Vec<u8, A>,
-    pub module: Module,
+    pub module: Module<A>,
 }
 
 /// What a name means to a load.
@@ -104,7 +104,11 @@ fn fault_of_check(fault: RelocFault) -> FileFault
 }
 
 /// What the file of a name says, or why a load makes no module of it.
-pub fn read_file<S: Store>(alloc: Global, store: &mut S, name: &[u8]) -> Result<Module, FileFault>
+pub fn read_file<S: Store, A: Allocator + Copy>(
+    alloc: A,
+    store: &mut S,
+    name: &[u8],
+) -> Result<Module<A>, FileFault>
     ensures files { S.files store.new ≡ S.files store.old }
     ensures failures { S.failures store.old ≤ S.failures store.new }
     ensures small { IfErr result IsSmall }
@@ -121,11 +125,11 @@ pub fn read_file<S: Store>(alloc: Global, store: &mut S, name: &[u8]) -> Result<
 }
 
 /// Whether the relocations of all segments of a module are sound, in the file from which it was read; where they aren't, 11 refuses it.
-pub fn check_segments<S: Store>(
+pub fn check_segments<S: Store, A: Allocator>(
     store: &mut S,
     name: &[u8],
-    module_file: &Module,
-    scratch: &mut Scratch,
+    module_file: &Module<A>,
+    scratch: &mut Scratch<A>,
 ) -> Result<(), FileFault>
     ensures files { S.files store.new ≡ S.files store.old }
     ensures failures { S.failures store.old ≤ S.failures store.new }
@@ -146,11 +150,11 @@ pub fn check_segments<S: Store>(
 
 /// What a load makes of a file that it doesn't refuse.
 #[derive(Drop)]
-pub enum Reading {
+pub enum Reading<A: Allocator = Global> {
     /// The module of its name is there already.
     Meant(Referent),
     /// It is a new module.
-    Read(Module),
+    Read(Module<A>),
 }
 
 /// What a load that has found some modules makes of a module that was read of a file.
@@ -158,10 +162,10 @@ fn settle<S: Store, A: Allocator>(
     registry: &Registry<A>,
     store: &mut S,
     found: &[Found<A>],
-    scratch: &mut Scratch,
+    scratch: &mut Scratch<A>,
     name: &[u8],
-    read: Module,
-) -> Result<Reading, FileFault>
+    read: Module<A>,
+) -> Result<Reading<A>, FileFault>
     ensures files { S.files store.new ≡ S.files store.old }
     ensures failures { S.failures store.old ≤ S.failures store.new }
     ensures new { IfOk result (IsNewOrMeant registry.now found.now) }
@@ -188,14 +192,14 @@ fn settle<S: Store, A: Allocator>(
 /// its relocations aren't sound; 0 where no handle is left.
 ///
 /// Whatever the store answers, a new module has a name that nothing has, and what is there already has a handle, or a place among the modules found.
-pub fn examine_file<S: Store, A: Allocator>(
-    alloc: Global,
+pub fn examine_file<S: Store, A: Allocator + Copy>(
+    alloc: A,
     registry: &Registry<A>,
     store: &mut S,
     found: &[Found<A>],
-    scratch: &mut Scratch,
+    scratch: &mut Scratch<A>,
     name: &[u8],
-) -> Result<Reading, FileFault>
+) -> Result<Reading<A>, FileFault>
     ensures files { S.files store.new ≡ S.files store.old }
     ensures failures { S.failures store.old ≤ S.failures store.new }
     ensures new { IfOk result (IsNewOrMeant registry.now found.now) }

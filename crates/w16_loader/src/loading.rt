@@ -126,7 +126,7 @@ fn give<S: Store, A: Allocator + Copy>(
     registry: &mut Registry<A>,
     global: &mut Global16<A>,
     store: &mut S,
-    scratch: &mut Scratch,
+    scratch: &mut Scratch<A>,
     handles: &[u16],
 ) -> Result<(), BindFault>
     ensures files { S.files store.new ≡ S.files store.old }
@@ -160,7 +160,7 @@ fn load_closure<S: Store, A: Allocator + Copy>(
     registry: &mut Registry<A>,
     global: &mut Global16<A>,
     store: &mut S,
-    scratch: &mut Scratch,
+    scratch: &mut Scratch<A>,
     closure: Closure<A>,
 ) -> Result<LoadAnswer, AllocError>
     requires some { 0 < length closure.found.items }
@@ -192,13 +192,13 @@ fn load_closure<S: Store, A: Allocator + Copy>(
 
 /// Loads a module that was read of its file and isn't there, with all new modules that it and these refer to.
 fn load_new<S: Store, A: Allocator + Copy>(
-    alloc: Global,
+    alloc: A,
     registry: &mut Registry<A>,
     global: &mut Global16<A>,
     store: &mut S,
-    scratch: &mut Scratch,
+    scratch: &mut Scratch<A>,
     file: &[u8],
-    read: Module,
+    read: Module<A>,
 ) -> Result<LoadAnswer, AllocError>
     requires { 0 < free_modules registry.old }
     ensures files { S.files store.new ≡ S.files store.old }
@@ -241,11 +241,11 @@ fn load_new<S: Store, A: Allocator + Copy>(
 ///
 /// Whatever the store answers, also where it reads otherwise each time, it is a load of modules that some files say.
 pub fn load<S: Store, A: Allocator + Copy>(
-    alloc: Global,
+    alloc: A,
     registry: &mut Registry<A>,
     global: &mut Global16<A>,
     store: &mut S,
-    scratch: &mut Scratch,
+    scratch: &mut Scratch<A>,
     file: &[u8],
     is_load_module: bool,
 ) -> Result<LoadAnswer, AllocError>

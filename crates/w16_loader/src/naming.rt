@@ -65,7 +65,7 @@ fn take_slot<A: Allocator + Copy>(global: &mut Global16<A>, segment: Segment) ->
 /// put in place of these numbers. False where too few slots are free; then no object is left.
 fn put_slots<A: Allocator + Copy>(
     global: &mut Global16<A>,
-    module_file: &Module,
+    module_file: &Module<A>,
     slots: &mut [u16],
 ) -> bool
     requires { length slots.old ≡ length module_file.now.segments }
@@ -94,7 +94,7 @@ fn put_slots<A: Allocator + Copy>(
 fn take_slots<A: Allocator + Copy>(
     alloc: A,
     global: &mut Global16<A>,
-    module_file: &Module,
+    module_file: &Module<A>,
 ) -> Result<Vec<u16, A>, NameFault>
     ensures many { IfOk result (λ slots. length slots.items ≡ length module_file.now.segments) }
     ensures taken { IfOk result (λ slots. (rest : LoadingWorld) → Takes (with_handles rest global.old.handles) (zip slots.items (map segment_in module_file.now.segments)) (with_handles rest global.new.handles)) }
@@ -199,9 +199,10 @@ fn name_all<A: Allocator + Copy>(
     global.reveal_handles();
     let alloc = *imports.allocator();
     for (place, found) in found.into_iter().enumerate() {
+        let handle = handles[place];
         let uses = u32::from(place == 0);
         let imports = mem::replace(&mut imports[place], Vec::new(alloc));
-        match name_module(registry, global, handles[place], uses, found, imports) {
+        match name_module(registry, global, handle, uses, found, imports) {
             Ok(()) => {}
             Err(fault) => {
                 release_modules(registry, global, &handles[..place]);

@@ -18,7 +18,7 @@ ghost use Rattle.w16_loader.specs.Fetching.{fault_of, fault_in, in_parts, IsWrit
 
 use crate::entry::Loaded;
 use crate::segment_work::SegmentWork;
-use std::alloc::Allocator;
+use std::alloc::{Allocator, Global};
 use w16_global::Global16;
 use w16_loading::FetchFault;
 use w16_ne::Module;
@@ -27,11 +27,11 @@ use w16_store::{Store, StoreFault};
 
 /// Where a segment's bytes come from.
 #[derive(Clone, Copy)]
-pub struct SegmentSource<'a> {
+pub struct SegmentSource<'a, A: Allocator = Global> {
     /// The name of its module's file.
     pub file: &'a [u8],
     /// What that file said when the module was loaded.
-    pub module: &'a Module,
+    pub module: &'a Module<A>,
     /// The segment's number, from 1.
     pub number: usize,
     /// The values of its relocation records, which were bound at load.
@@ -49,10 +49,10 @@ pub fn fault_of(fault: RelocFault) -> FetchFault
 }
 
 /// Reads a segment into the scratch and checks it. `Store` where the device failed; `Damaged` where the file reads otherwise than it did.
-fn read<S: Store>(
-    source: &SegmentSource<'_>,
+fn read<S: Store, A: Allocator>(
+    source: &SegmentSource<'_, A>,
     store: &mut S,
-    scratch: &mut Scratch,
+    scratch: &mut Scratch<A>,
 ) -> Result<(), FetchFault>
     requires first { 0 < source.now.number }
     requires last { source.now.number ≤ length source.now.module.now.segments }
@@ -103,10 +103,10 @@ pub fn give<A: Allocator + Copy>(
 /// could hold it, and where the handle names no object that a module owns and that has no bytes. After each of these the heap is as it was. The
 /// scratch holds anything afterwards.
 pub fn fetch<S: Store, A: Allocator + Copy>(
-    source: &SegmentSource<'_>,
+    source: &SegmentSource<'_, A>,
     global: &mut Global16<A>,
     store: &mut S,
-    scratch: &mut Scratch,
+    scratch: &mut Scratch<A>,
     handle: u16,
 ) -> Result<(), FetchFault>
     requires first { 0 < source.now.number }
@@ -148,7 +148,7 @@ pub fn fetch<S: Store, A: Allocator + Copy>(
 
 impl<A: Allocator> Loaded<A> {
     /// Where the bytes of a segment come from, by its number from 1.
-    pub fn source(&self, number: usize) -> SegmentSource<'_>
+    pub fn source(&self, number: usize) -> SegmentSource<'_, A>
         ensures source { IsSourceOf self.now number result.file.now result.values.now }
         ensures tables { tables_in result.module.now ≡ self.now.tables }
         ensures number { result.number ≡ number }

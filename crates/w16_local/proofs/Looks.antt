@@ -24,10 +24,6 @@ block_by_four t is id x e =
     let g = (Each-at (λ (y : Block). IsMultiple t.grain y.at × IsMultiple t.grain y.size) t.blocks (Each-from_All _ t.blocks is.sound.grained) x (member_with t.blocks id x e).0).0 in
     (g.0, g.1 ∙ ap (λ k. k * g.0) is.grain)
 
--- an entry's id
-pub entry_small : (t : Table) → IsLocalTable t → (id : ℕ) (e : Entry) → entry_at t id ≡ Some e → id < 1024
-entry_small t is id e there = let many : length t.entries ≡ 1024 = is.entries in let lt = in_list t.entries id e there in omega (arith, many, lt)
-
 pub none_some : {x : ℕ} → ◌≡◌ {A = Option ℕ} None (Some x) → ⊥
 none_some e = cc
 

@@ -12,12 +12,6 @@ one_more [] i id e = absurd (false≢true (sym (ap is_some e)))
 one_more (x ∷ xs) zero id e = let same : id ≡ x = cc in ap (λ (y : ℕ). y ∷ xs) (sym same)
 one_more (x ∷ xs) (suc i) id e = one_more xs i id e
 
-pub none_more : (ids : List ℕ) (i : ℕ) → None ≡ slice_get ids i → drop i ids ≡ []
-none_more [] zero e = refl
-none_more [] (suc i) e = refl
-none_more (x ∷ xs) zero e = absurd (false≢true (ap is_some e))
-none_more (x ∷ xs) (suc i) e = none_more xs i e
-
 -- where so many are left
 module _ (ids : List ℕ) (left id : ℕ) (le : left ≤ length ids) (got : Some id ≡ slice_get ids (length ids - left)) where
   pub some_left : 0 < left

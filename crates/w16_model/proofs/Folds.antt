@@ -139,12 +139,3 @@ module _ (test : Block → Bool) (xs : List Block) (i : ℕ) (d : Block) (h : i 
   pub spans-passed : (hi : ℕ) (spans spans' total : List Span) → test (get_or xs i d) ≡ false → spans ++ spans_from test hi xs (ends_of test (drop i xs)) ≡ total
       → spans' ≡ spans → spans' ++ spans_from test hi xs (ends_of test (drop (i + 1) xs)) ≡ total
   spans-passed hi spans spans' total t k e = ap (λ ss. ss ++ spans_from test hi xs (ends_of test (drop (i + 1) xs))) e ∙ ap (λ ends. spans ++ spans_from test hi xs ends) (sym (ends_of-passed t)) ∙ k
-
--- at the loop's end
-pub largest-all : (f : ℕ → ℕ) (test : Block → Bool) (xs : List Block) (i most total : ℕ) → length xs ≤ i → max most (largest (map f (ends_of test (drop i xs)))) ≡ total → most ≡ total
-largest-all f test xs i most total h k =
-    let none : largest (map f (ends_of test (drop i xs))) ≡ 0 = ap (λ ys. largest (map f (ends_of test ys))) (drop_of_length-le xs h) in
-    omega (arith, k, none)
-
-pub spans-all : (hi : ℕ) (test : Block → Bool) (xs : List Block) (i : ℕ) (spans total : List Span) → length xs ≤ i → spans ++ spans_from test hi xs (ends_of test (drop i xs)) ≡ total → spans ≡ total
-spans-all hi test xs i spans total h k = sym (append-nil spans) ∙ sym (ap (λ ys. spans ++ spans_from test hi xs (ends_of test ys)) (drop_of_length-le xs h)) ∙ k

@@ -58,10 +58,6 @@ settled old h options (Some k) becomes order new r = (k, r.1.0, r.1.2)
 abbrev LeavesFar : FarAnswer × Handles → Type 0
 LeavesFar outcome = AreHandles outcome.1
 
--- an access that isn't refused
-abbrev HasNoFault : Option FarFault → Type 0
-HasNoFault fault = fault ≡ None
-
 -- the count of bytes moved is any
 pub moved_handles : (old : Handles) → AreHandles old → (moved : ℕ) → AreHandles (record old { moved = moved })
 moved_handles old is moved = record { heap = is.heap; low = is.low; grain = is.grain; few = is.few; slotted = is.slotted; attributed = is.attributed }

@@ -55,9 +55,6 @@ unpinned : (b : Bool) → b ≡ true → not b ≡ true → ⊥
 unpinned true h k = false≢true k
 unpinned false h k = false≢true h
 
-split_end : (u v m : ℕ) → u + v ≤ m → u ≤ m
-split_end u v m h = omega arith
-
 range_of : (a b : ℕ) (y : Block) → IsTrue (is_loose y && begins_in a b y) → (a ≤ y.at) × (y.at < b)
 range_of a b y t =
     let r : IsTrue (nat_le a y.at && nat_lt y.at b) = (and_parts (is_loose y) (begins_in a b y) t).1 in

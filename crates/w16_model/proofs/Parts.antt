@@ -58,10 +58,6 @@ All-put_part P bytes at new old ours =
     All-append P (take at bytes) (new ++ drop (length new) (drop at bytes)) (All-take P at bytes old)
     (All-append P new (drop (length new) (drop at bytes)) ours (All-drop P (length new) (drop at bytes) (All-drop P at bytes old)))
 
--- a part that was slid down
-pub slid_part : (bytes : List ℕ) (from to size : ℕ) → to ≤ from → from + size ≤ length bytes → part (put_part bytes to (part bytes from size)) to size ≡ part bytes from size
-slid_part bytes from to size down inside = part-put_part bytes to (part bytes from size) size (length-part bytes from size inside) (omega arith)
-
 -- lists that agree up to a place agree up to a lower one, and those that agree from a place on agree from a higher one on
 pub take_lower : (xs ys : List ℕ) (a b : ℕ) → a ≤ b → take b xs ≡ take b ys → take a xs ≡ take a ys
 take_lower xs ys a b le same = sym (take-take a b xs le) ∙ ap (take a) same ∙ take-take a b ys le

@@ -111,7 +111,7 @@ pub fn first_wrong<S: Store + Drop, A: Allocator + Copy>(
     let script = script_of(alloc, lines)?;
     let wanted = output_of(alloc, lines)?;
     let mut output = Vec::new(alloc);
-    let is_whole = match machine.play(alloc, &script, &mut output) {
+    let is_whole = match machine.play(&script, &mut output) {
         Ok(ended) => ended.lines == ended.replies,
         Err(_) => false,
     };
@@ -121,4 +121,19 @@ pub fn first_wrong<S: Store + Drop, A: Allocator + Copy>(
     } else {
         wrong
     })
+}
+
+/// Plays texts one after another, and answers the place of the first that goes wrong, with its first wrong line; none where all go right.
+pub fn first_wrong_of<S: Store + Drop, A: Allocator + Copy>(
+    machine: &mut Machine<S, A>,
+    alloc: Global,
+    texts: &[&str],
+) -> Result<Option<(usize, usize)>, AllocError> {
+    for (place, text) in texts.iter().enumerate() {
+        let wrong = first_wrong(machine, alloc, text)?;
+        if wrong > 0 {
+            return Ok(Some((place, wrong)));
+        }
+    }
+    Ok(None)
 }

@@ -13,14 +13,6 @@ fails_of_file file before after faults.BadTable read plain h = h
 fails_of_file file before after (faults.Store e) read plain h = absurd plain
 fails_of_file file before after faults.OutOfMemory read plain h = absurd plain
 
-missing_cases : (b : Bool) (bytes : List ℕ) → cond b (Err stores.Short) (Ok bytes) ≡ Err stores.Missing → ⊥
-missing_cases true bytes h = cc
-missing_cases false bytes h = cc
-
-pub missing_read : (file : Option (List ℕ)) (at n : ℕ) → bytes_of file at n ≡ Err stores.Missing → file ≡ None
-missing_read None at n h = refl
-missing_read (Some file) at n h = absurd (missing_cases (nat_lt (length file) (at + n)) (take n (drop at file)) h)
-
 short_cases : (b : Bool) (short : NeFault) (bytes : List ℕ) → cond b (Err stores.Short) (Ok bytes) ≡ Err stores.Short → cond b (Err short) (Ok bytes) ≡ Err short
 short_cases true short bytes h = refl
 short_cases false short bytes h = cc

@@ -158,7 +158,7 @@ module _ (texts : List ℕ) (shift : ℕ) (gs : List Group) (before after : List
       no_rows [] h = refl
       no_rows (r ∷ rs) h = absurd (omega (arith, h))
 
-pub rows_whole : (texts : List ℕ) (old new : Rows) (g : Group) → new.groups.items ≡ old.groups.items ++ g ∷ [] → HasLabel texts g.kind
+pub rows_whole : {A : Type 0} (texts : List ℕ) (old new : Rows A) (g : Group) → new.groups.items ≡ old.groups.items ++ g ∷ [] → HasLabel texts g.kind
     → AreAdded texts g.count old.rows.items new.rows.items → AreRows texts old → AreRows texts new
 rows_whole texts old new g groups there a is = record {
   counted = ap total groups ∙ total_push old.groups.items g ∙ omega (arith, is.counted, a.counted, length-append old.rows.items a.rows) ∙ sym (ap length a.added);

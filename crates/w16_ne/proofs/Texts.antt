@@ -37,11 +37,6 @@ module _ (texts up : List ℕ) where
   pub new_inside : (p : Place) → p.start ≡ length texts → p.len ≡ length up → IsInside (texts ++ up) p
   new_inside p start len = omega (arith, start, len, length-append texts up)
 
-pub upper_found : (names : List Entry) (i : ℕ) (e : Entry) → slice_get names i ≡ Some e → AllByRecursion IsUpper names → IsUpper e
-upper_found [] i e h all = cc
-upper_found (n ∷ ns) zero e h all = let same : n ≡ e = cc in subst IsUpper same all.0
-upper_found (n ∷ ns) (suc i) e h all = upper_found ns i e h all.1
-
 pub got : (xs : List ℕ) (i x : ℕ) → slice_get xs i ≡ Some x → (i < length xs) × (get_or xs i 0 ≡ x)
 got [] i x h = cc
 got (y ∷ ys) zero x h = (omega arith, (cc))

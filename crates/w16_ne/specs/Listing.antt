@@ -4,7 +4,7 @@ use Rattle.w16_ne.specs.declared.listing.Listing.{Listing}
 use Rattle.w16_ne.specs.Names.{Entry, upper, first_text}
 
 -- its first name, which begins it, and behind names that were there before all its others, upper-cased
-pub record IsListing (before listed : List Entry) (l : Listing) : Type 0 where
+pub record IsListing {A : Type 0} (before listed : List Entry) (l : Listing A) : Type 0 where
   pub begun : l.begun ≡ not (length listed == 0)
   pub first : l.first.items ≡ first_text listed
   pub names : l.names ≡ before ++ map upper (drop 1 listed)

@@ -45,7 +45,7 @@ abbrev pub piece_at : Option (List ℕ) → ℕ → Reading (List ℕ)
 piece_at file at = front_at PIECE file at
 
 -- a piece of a file of so many bytes
-abbrev pub IsPiece : Option (List ℕ) → ℕ → Piece → Type 0
+abbrev pub IsPiece : {A : Type 0} → Option (List ℕ) → ℕ → Piece A → Type 0
 IsPiece file len p = (length_at file ≡ Ok len) × (piece_at file p.at ≡ Ok p.bytes.items)
 
 -- the entry that was found in such bytes

@@ -32,7 +32,7 @@ kind_at [] i = 0
 kind_at (g ∷ gs) i = if nat_lt i g.count then g.kind else kind_at gs (i - g.count)
 
 -- rows with their blocks, whose texts are there
-pub record AreRows (texts : List ℕ) (rows : Rows) : Type 0 where
+pub record AreRows {A : Type 0} (texts : List ℕ) (rows : Rows A) : Type 0 where
   pub counted : total rows.groups.items ≡ length rows.rows.items
   pub ids : All (λ r. HasLabel texts r.id) rows.rows.items
   pub kinds : All (λ g. HasLabel texts g.kind) rows.groups.items

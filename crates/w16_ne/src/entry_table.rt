@@ -7,7 +7,7 @@ ghost use Rattle.w16_ne.specs.Entries.{entry_size, bundle_end, entry_in, sound_e
 
 use crate::fault::NeFault;
 use crate::reading::{is_end, table, word};
-use std::alloc::Global;
+use std::alloc::Allocator;
 use w16_store::Store;
 
 /// Where an ordinal leads.
@@ -64,14 +64,14 @@ fn sound(segments: u16, entry: Option<Entry>) -> Result<Option<Entry>, NeFault>
 
 /// So many entries of a bundle.
 #[tactic(auto, unfolding(crate::specs::Entries::bundle_in))]
-fn bundle(
-    alloc: Global,
+fn bundle<A: Allocator + Copy>(
+    alloc: A,
     table: &[u8],
     segments: u16,
     indicator: u8,
     count: u8,
     at: usize,
-) -> Result<Vec<Option<Entry>>, NeFault>
+) -> Result<Vec<Option<Entry>, A>, NeFault>
     requires short { length table.now ≤ 65535 }
     requires inside { at + count * entry_size indicator ≤ length table.now }
     ensures { Tells (λ v. v.items) result (bundle_in table.now segments indicator count at) }
@@ -108,7 +108,11 @@ fn is_bad(table: &[u8], at: usize, ordinals: usize) -> bool
 
 /// The entries by ordinal, the first of ordinal 1.
 #[tactic(auto, unfolding(crate::specs::Entries::entries_in))]
-fn entries_of(alloc: Global, table: &[u8], segments: u16) -> Result<Vec<Option<Entry>>, NeFault>
+fn entries_of<A: Allocator + Copy>(
+    alloc: A,
+    table: &[u8],
+    segments: u16,
+) -> Result<Vec<Option<Entry>, A>, NeFault>
     requires { length table.now ≤ 65535 }
     ensures { Tells (λ v. v.items) result (entries_in table.now segments) }
 {
@@ -130,13 +134,13 @@ fn entries_of(alloc: Global, table: &[u8], segments: u16) -> Result<Vec<Option<E
 
 /// The entries of a module by ordinal, the first of ordinal 1.
 #[tactic(auto, unfolding(crate::specs::Entries::table_at))]
-pub fn entries<S: Store>(
-    alloc: Global,
+pub fn entries<A: Allocator + Copy, S: Store>(
+    alloc: A,
     store: &mut S,
     name: &[u8],
     ne: u32,
     header: &[u8],
-) -> Result<Vec<Option<Entry>>, NeFault>
+) -> Result<Vec<Option<Entry>, A>, NeFault>
     requires { length header.now ≡ 64 }
     ensures files { S.files store.new ≡ S.files store.old }
     ensures failures { S.failures store.old ≤ S.failures store.new }

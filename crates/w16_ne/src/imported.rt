@@ -9,6 +9,7 @@ ghost use Rattle.w16_ne.specs.Modules.{imported_place};
 use crate::fault::NeFault;
 use crate::module_file::Module;
 use crate::reading::read_or;
+use std::alloc::Allocator;
 use w16_store::Store;
 
 /// Reads a length byte and so many bytes of text, and tells how many.
@@ -38,10 +39,10 @@ fn read_text<S: Store>(
 /// Reads an imported name of a module by its offset, from its file, into room for 255 bytes, the most that a name has. Tells how many bytes it has.
 ///
 /// `Truncated` where the file ends before the name does, and `Store` where the store answered a fault. After either the room holds anything.
-pub fn imported_name<S: Store>(
+pub fn imported_name<A: Allocator, S: Store>(
     store: &mut S,
     name: &[u8],
-    module_file: &Module,
+    module_file: &Module<A>,
     offset: u16,
     room: &mut [u8],
 ) -> Result<usize, NeFault>

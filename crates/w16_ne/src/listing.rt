@@ -6,20 +6,20 @@ ghost use Rattle.w16_ne.specs.Listing.{IsListing};
 
 use crate::fault::NeFault;
 use crate::names::Names;
-use std::alloc::Global;
+use std::alloc::Allocator;
 
 /// The first name of a table, empty while there is none, and behind names that were there before all its others.
 #[derive(Drop)]
-pub struct Listing {
-    alloc: Global,
+pub struct Listing<A: Allocator> {
+    alloc: A,
     begun: bool,
-    pub first: Vec<u8>,
-    pub names: Names,
+    pub first: Vec<u8, A>,
+    pub names: Names<A>,
 }
 
-impl Listing {
+impl<A: Allocator + Copy> Listing<A> {
     /// A table of no names, behind these.
-    pub fn new(alloc: Global, names: Names) -> Listing
+    pub fn new(alloc: A, names: Names<A>) -> Listing<A>
         ensures { IsListing names [] result }
     {
         Listing {

@@ -13,27 +13,28 @@ use crate::reading::word;
 use crate::reference_table::ReferenceTable;
 use crate::resource_places::{Resource, ResourceName, ResourceTable};
 use crate::segment_table::Segment;
+use std::alloc::{Allocator, Global};
 use std::marker::Model;
 
 /// What a module's file says.
 #[derive(Drop)]
-pub struct Module {
+pub struct Module<A: Allocator = Global> {
     pub(crate) place: u32,
     pub(crate) header: [u8; 64],
-    pub(crate) name: Vec<u8>,
-    pub(crate) description: Vec<u8>,
-    pub(crate) names: Names,
+    pub(crate) name: Vec<u8, A>,
+    pub(crate) description: Vec<u8, A>,
+    pub(crate) names: Names<A>,
     /// How many of the names are resident.
     pub(crate) resident: u32,
     /// The numbers of the names, ascending by their texts.
-    pub(crate) order: Vec<u32>,
-    pub(crate) segments: Vec<Segment>,
-    pub(crate) references: ReferenceTable,
-    pub(crate) entries: Vec<Option<Entry>>,
-    pub(crate) resources: ResourceTable,
+    pub(crate) order: Vec<u32, A>,
+    pub(crate) segments: Vec<Segment, A>,
+    pub(crate) references: ReferenceTable<A>,
+    pub(crate) entries: Vec<Option<Entry>, A>,
+    pub(crate) resources: ResourceTable<A>,
 }
 
-impl Model for Module {
+impl<A: Allocator> Model for Module<A> {
     ghost use Rattle.std.specs.Prelude.{◌≡◌, ◌≤◌, length, All};
     ghost use Rattle.w16_ne.specs.Names.{IsOrder};
     ghost use Rattle.w16_ne.specs.Segments.{IsSized};
@@ -58,7 +59,7 @@ impl Model for Module {
         × (length s.segments.items ≤ 253) × All IsSized s.segments.items };
 }
 
-impl Module {
+impl<A: Allocator> Module<A> {
     /// The offset of the header in the file.
     pub fn place(&self) -> u32
         ensures { result ≡ self.now.place }

@@ -7,7 +7,7 @@ ghost use Rattle.w16_ne.specs.Names.{name_at, piece_at, found_in, IsPiece};
 
 use crate::fault::NeFault;
 use crate::reading::{table, word};
-use std::alloc::Global;
+use std::alloc::Allocator;
 use w16_store::Store;
 
 /// How many bytes are read at once.
@@ -18,9 +18,9 @@ pub const LONGEST: u64 = 258;
 
 /// The bytes of a file from an offset on, up to its end or to `PIECE` of them.
 #[derive(Drop)]
-pub struct Piece {
+pub struct Piece<A: Allocator> {
     pub at: u64,
-    pub bytes: Vec<u8>,
+    pub bytes: Vec<u8, A>,
 }
 
 /// An entry in a piece: where its text begins, how long that is, and its ordinal.
@@ -31,15 +31,15 @@ pub struct Found {
     pub ordinal: u16,
 }
 
-impl Piece {
+impl<A: Allocator + Copy> Piece<A> {
     /// The piece from an offset on, in a file of so many bytes.
     pub fn read<S: Store>(
-        alloc: Global,
+        alloc: A,
         store: &mut S,
         name: &[u8],
         len: u64,
         at: u64,
-    ) -> Result<Piece, NeFault>
+    ) -> Result<Piece<A>, NeFault>
         requires { at < len }
         ensures files { S.files store.new ≡ S.files store.old }
         ensures failures { S.failures store.old ≤ S.failures store.new }
@@ -63,7 +63,7 @@ impl Piece {
     /// Another piece from an offset on, where an entry there may go past this one.
     pub fn cover<S: Store>(
         &mut self,
-        alloc: Global,
+        alloc: A,
         store: &mut S,
         name: &[u8],
         len: u64,
@@ -88,7 +88,7 @@ impl Piece {
     /// Fills the buffer, which is no longer than an entry of names, with the bytes at an offset of the file.
     pub fn fill<S: Store>(
         &mut self,
-        alloc: Global,
+        alloc: A,
         store: &mut S,
         name: &[u8],
         len: u64,

@@ -10,17 +10,17 @@ use crate::listing::Listing;
 use crate::name_piece::{Found, Piece, found_at};
 use crate::names::Names;
 use crate::reading::{file_len, part, word};
-use std::alloc::Global;
+use std::alloc::Allocator;
 use w16_store::Store;
 
 /// The entry at an offset of a file of so many bytes, or none where the table ends. Where it may go past the piece, another is read.
-fn name_of<S: Store>(
-    alloc: Global,
+fn name_of<A: Allocator + Copy, S: Store>(
+    alloc: A,
     store: &mut S,
     name: &[u8],
     len: u64,
     at: u64,
-    piece: &mut Piece,
+    piece: &mut Piece<A>,
 ) -> Result<Option<Found>, NeFault>
     requires { at < len }
     ensures files { S.files store.new ≡ S.files store.old }
@@ -46,8 +46,8 @@ struct Extent {
 }
 
 /// How many names stand from an offset on, in a file of so many bytes.
-fn extent_of<S: Store>(
-    alloc: Global,
+fn extent_of<A: Allocator + Copy, S: Store>(
+    alloc: A,
     store: &mut S,
     name: &[u8],
     len: u64,
@@ -82,13 +82,13 @@ fn extent_of<S: Store>(
 }
 
 /// Adds the names from an offset on, in a file of so many bytes.
-fn add_names<S: Store>(
-    alloc: Global,
+fn add_names<A: Allocator + Copy, S: Store>(
+    alloc: A,
     store: &mut S,
     name: &[u8],
     len: u64,
     at: u64,
-    listing: &mut Listing,
+    listing: &mut Listing<A>,
 ) -> Result<(), NeFault>
     requires { at < len }
     ensures files { S.files store.new ≡ S.files store.old }
@@ -119,13 +119,13 @@ fn add_names<S: Store>(
 /// The names from an offset on, and room for those of so many more bytes. They are gone over twice: room for all of them is taken once their number
 /// is known.
 #[tactic(auto, unfolding(crate::specs::Names::names_at))]
-fn listing_at<S: Store>(
-    alloc: Global,
+fn listing_at<A: Allocator + Copy, S: Store>(
+    alloc: A,
     store: &mut S,
     name: &[u8],
     at: u64,
     others: usize,
-) -> Result<Listing, NeFault>
+) -> Result<Listing<A>, NeFault>
     ensures files { S.files store.new ≡ S.files store.old }
     ensures failures { S.failures store.old ≤ S.failures store.new }
     ensures exact { S.is_honest → GivesSuch (λ l listed. IsListing [] listed l) (file_of (S.files store.old) name.now)
@@ -145,13 +145,13 @@ fn listing_at<S: Store>(
 
 /// The resident names, of which there is at least one.
 #[tactic(auto, unfolding(crate::specs::Names::resident_at))]
-pub fn resident<S: Store>(
-    alloc: Global,
+pub fn resident<A: Allocator + Copy, S: Store>(
+    alloc: A,
     store: &mut S,
     name: &[u8],
     ne: u32,
     header: &[u8],
-) -> Result<Listing, NeFault>
+) -> Result<Listing<A>, NeFault>
     requires { length header.now ≡ 64 }
     ensures files { S.files store.new ≡ S.files store.old }
     ensures failures { S.failures store.old ≤ S.failures store.new }

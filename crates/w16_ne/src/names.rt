@@ -8,7 +8,7 @@ ghost use Rattle.w16_ne.specs.declared.fault.NeFault.TheVariants.{OutOfMemory};
 ghost use Rattle.w16_ne.specs.Names.{upper, IsUpper, IsOrder, text_of, compared, ordinal_in};
 
 use crate::fault::NeFault;
-use std::alloc::{AllocError, Global};
+use std::alloc::{AllocError, Allocator};
 use std::cmp::Ordering;
 use std::marker::Model;
 
@@ -22,12 +22,12 @@ pub struct Place {
 
 /// Names with their ordinals, upper-cased, in the order of the tables. All texts lie in one buffer.
 #[derive(Drop)]
-pub struct Names {
-    texts: Vec<u8>,
-    places: Vec<Place>,
+pub struct Names<A: Allocator> {
+    texts: Vec<u8, A>,
+    places: Vec<Place, A>,
 }
 
-impl Model for Names {
+impl<A: Allocator> Model for Names<A> {
     ghost use Rattle.std.specs.Prelude.{◌≡◌, ◌<◌, ◌≤◌, ◌+◌, ◌^◌, length, map, All, List};
     ghost use Rattle.w16_ne.specs.Names.{Entry, IsUpper, at_place};
 
@@ -39,9 +39,9 @@ impl Model for Names {
         × All (λ e. length e.0 ≤ 255) (map (at_place s.texts.items) s.places.items) × All IsUpper (map (at_place s.texts.items) s.places.items) };
 }
 
-impl Names {
+impl<A: Allocator + Copy> Names<A> {
     /// No names, and room for so many with so many bytes of text.
-    pub fn with_room(alloc: Global, names: usize, texts: usize) -> Result<Names, AllocError>
+    pub fn with_room(alloc: A, names: usize, texts: usize) -> Result<Names<A>, AllocError>
         ensures { IfOk result (λ names. names ≡ []) }
     {
         Ok(Names {
@@ -49,7 +49,9 @@ impl Names {
             places: Vec::with_capacity(alloc, names)?,
         })
     }
+}
 
+impl<A: Allocator> Names<A> {
     /// How many names there are.
     pub fn len(&self) -> usize
         ensures len { result ≡ length self.now }
@@ -145,13 +147,13 @@ impl Names {
 }
 
 /// A text that is looked for among names.
-#[derive(Clone, Copy)]
-struct Sought<'a> {
-    names: &'a Names,
+#[derive(Drop)]
+struct Sought<'a, A: Allocator> {
+    names: &'a Names<A>,
     text: &'a [u8],
 }
 
-impl<'a> Sought<'a> {
+impl<'a, A: Allocator> Sought<'a, A> {
     /// Whether a name comes before the text.
     fn is_behind(&self, i: u32) -> bool
         ensures { result ≡ is_lt (slice_cmp nat_cmp (text_of self.now.names.now i) self.now.text.now) }
@@ -161,7 +163,7 @@ impl<'a> Sought<'a> {
 }
 
 /// The numbers of names, ascending by their texts, and those of equal texts by number.
-pub fn order_of(alloc: Global, names: &Names) -> Result<Vec<u32>, AllocError>
+pub fn order_of<A: Allocator + Copy>(alloc: A, names: &Names<A>) -> Result<Vec<u32, A>, AllocError>
     ensures { IfOk result (λ order. IsOrder names.now order.items) }
 {
     let mut order = Vec::with_capacity(alloc, names.len())?;
@@ -183,7 +185,7 @@ fn write_upper(text: &[u8], room: &mut [u8])
 }
 
 /// The ordinal of the first name of an upper-cased text, 0 where there is none.
-fn ordinal_of_text(names: &Names, order: &[u32], text: &[u8]) -> u16
+fn ordinal_of_text<A: Allocator>(names: &Names<A>, order: &[u32], text: &[u8]) -> u16
     requires { IsOrder names.now order.now }
     ensures { result ≡ unwrap_or (option_map (λ e. e.1) (find (λ e. bytes_eq e.0 text.now) names.now)) 0 }
 {

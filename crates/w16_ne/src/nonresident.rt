@@ -8,12 +8,12 @@ ghost use Rattle.w16_ne.specs.Names.{Entry, table_names, nonresident_at};
 use crate::fault::NeFault;
 use crate::listing::Listing;
 use crate::reading::{dword, is_end, part, table, word};
-use std::alloc::Global;
+use std::alloc::Allocator;
 use w16_store::Store;
 
 /// Adds the names of a table that is there whole.
 #[tactic(auto, unfolding(crate::specs::Names::table_names))]
-fn add_names(table: &[u8], listing: &mut Listing) -> Result<(), NeFault>
+fn add_names<A: Allocator + Copy>(table: &[u8], listing: &mut Listing<A>) -> Result<(), NeFault>
     requires { length table.now ≤ 65535 }
     ensures { (before : List Entry) → IsListing before [] listing.old → TellsSuch (λ _ listed. IsListing before listed listing.new) result (table_names table.now) }
 {
@@ -35,12 +35,12 @@ fn add_names(table: &[u8], listing: &mut Listing) -> Result<(), NeFault>
 
 /// Adds the nonresident names: the module's description, and names of entries. There may be none.
 #[tactic(auto, unfolding(crate::specs::Names::nonresident_at))]
-pub fn add_nonresident<S: Store>(
-    alloc: Global,
+pub fn add_nonresident<A: Allocator + Copy, S: Store>(
+    alloc: A,
     store: &mut S,
     name: &[u8],
     header: &[u8],
-    listing: &mut Listing,
+    listing: &mut Listing<A>,
 ) -> Result<(), NeFault>
     requires { length header.now ≡ 64 }
     ensures files { S.files store.new ≡ S.files store.old }

@@ -16,18 +16,18 @@ use crate::nonresident::add_nonresident;
 use crate::reference_table::references;
 use crate::resource_table::resources;
 use crate::segment_table::segments;
-use std::alloc::Global;
+use std::alloc::Allocator;
 use w16_store::Store;
 
 /// The tables behind a header.
 #[tactic(auto, unfolding(crate::specs::Modules::tables_behind))]
-fn tables<S: Store>(
-    alloc: Global,
+fn tables<A: Allocator + Copy, S: Store>(
+    alloc: A,
     store: &mut S,
     name: &[u8],
     ne: u32,
     header: [u8; 64],
-) -> Result<Module, NeFault>
+) -> Result<Module<A>, NeFault>
     requires len { length header ≡ 64 }
     requires few { segment_count header ≤ 253 }
     requires shift { shift_of header ≤ 15 }
@@ -69,7 +69,11 @@ fn tables<S: Store>(
 /// `Store` is answered where the store answered a fault, but where the file is too short: that is a fault of the file. `OutOfMemory` is answered
 /// where memory was refused. After a fault nothing is kept.
 #[tactic(auto, unfolding(crate::specs::Modules::tables_at))]
-pub fn read_module<S: Store>(alloc: Global, store: &mut S, name: &[u8]) -> Result<Module, NeFault>
+pub fn read_module<A: Allocator + Copy, S: Store>(
+    alloc: A,
+    store: &mut S,
+    name: &[u8],
+) -> Result<Module<A>, NeFault>
     ensures files { S.files store.new ≡ S.files store.old }
     ensures failures { S.failures store.old ≤ S.failures store.new }
     ensures exact { S.is_honest → Gives (λ tables. tables) (file_of (S.files store.old) name.now)

@@ -6,7 +6,7 @@ ghost use Rattle.w16_ne.specs.Reading.{Gives, IsOfFile, bytes_or, length_at, rea
 
 use crate::fault::NeFault;
 use byteorder::{ByteOrder, LittleEndian};
-use std::alloc::Global;
+use std::alloc::Allocator;
 use w16_store::{Store, StoreFault};
 
 /// Fills the buffer, or answers the fault `short` where the file ends before.
@@ -31,14 +31,14 @@ pub fn read_or<S: Store>(
 }
 
 /// So many bytes at an offset.
-pub fn table<S: Store>(
-    alloc: Global,
+pub fn table<A: Allocator + Copy, S: Store>(
+    alloc: A,
     store: &mut S,
     name: &[u8],
     at: u64,
     len: usize,
     short: NeFault,
-) -> Result<Vec<u8>, NeFault>
+) -> Result<Vec<u8, A>, NeFault>
     requires { IsOfFile short }
     ensures files { S.files store.new ≡ S.files store.old }
     ensures failures { S.failures store.old ≤ S.failures store.new }

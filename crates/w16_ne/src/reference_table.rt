@@ -9,19 +9,19 @@ ghost use Rattle.w16_ne.specs.Texts.{HasText, text_in, texts_behind};
 use crate::fault::NeFault;
 use crate::reading::{table, word};
 use crate::text_window::{test_text, text_in, texts_behind};
-use std::alloc::Global;
+use std::alloc::Allocator;
 use std::marker::Model;
 use w16_store::Store;
 
 /// The names of the modules that are referred to, in the table's order. References may share texts, so each is kept as an offset.
 #[derive(Drop)]
-pub struct ReferenceTable {
+pub struct ReferenceTable<A: Allocator> {
     /// The bytes of the file from the imported names on, as far as an offset leads.
-    texts: Vec<u8>,
-    offsets: Vec<u16>,
+    texts: Vec<u8, A>,
+    offsets: Vec<u16, A>,
 }
 
-impl Model for ReferenceTable {
+impl<A: Allocator> Model for ReferenceTable<A> {
     ghost use Rattle.std.specs.Prelude.{ℕ, List, All, map};
     ghost use Rattle.w16_ne.specs.Texts.{HasText, text_in};
 
@@ -32,9 +32,9 @@ impl Model for ReferenceTable {
     ghost invariant = { λ s. All (HasText s.texts.items) s.offsets.items };
 }
 
-impl ReferenceTable {
+impl<A: Allocator + Copy> ReferenceTable<A> {
     /// No references.
-    fn none(alloc: Global) -> ReferenceTable
+    fn none(alloc: A) -> ReferenceTable<A>
         ensures { result ≡ [] }
     {
         ReferenceTable {
@@ -42,7 +42,9 @@ impl ReferenceTable {
             offsets: Vec::new(alloc),
         }
     }
+}
 
+impl<A: Allocator> ReferenceTable<A> {
     /// How many there are.
     pub fn len(&self) -> usize
         ensures { result ≡ length self.now }
@@ -61,7 +63,12 @@ impl ReferenceTable {
 
 /// So many offsets, the words of a table, each of a text that is there whole.
 #[tactic(auto, unfolding(crate::specs::References::texts_at))]
-fn offsets_of(alloc: Global, texts: &[u8], table: &[u8], count: u16) -> Result<Vec<u16>, NeFault>
+fn offsets_of<A: Allocator + Copy>(
+    alloc: A,
+    texts: &[u8],
+    table: &[u8],
+    count: u16,
+) -> Result<Vec<u16, A>, NeFault>
     requires { 2 * count ≤ length table.now }
     ensures exact { (file : Option (List ℕ)) (names : ℕ) → texts_behind file names ≡ Ok texts.now
         → Tells (λ v. map (text_in texts.now) v.items) result (texts_at file names table.now count) }
@@ -91,13 +98,13 @@ fn has_empty(texts: &[u8], offsets: &[u16]) -> bool
 
 /// The names of the modules that are referred to, in the table's order.
 #[tactic(auto, unfolding(crate::specs::References::references_at))]
-pub fn references<S: Store>(
-    alloc: Global,
+pub fn references<A: Allocator + Copy, S: Store>(
+    alloc: A,
     store: &mut S,
     name: &[u8],
     ne: u32,
     header: &[u8],
-) -> Result<ReferenceTable, NeFault>
+) -> Result<ReferenceTable<A>, NeFault>
     requires { length header.now ≡ 64 }
     ensures files { S.files store.new ≡ S.files store.old }
     ensures failures { S.failures store.old ≤ S.failures store.new }

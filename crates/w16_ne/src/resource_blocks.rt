@@ -8,7 +8,7 @@ ghost use Rattle.w16_ne.specs.Resources.{block_at, blocks_from, blocks_at};
 use crate::fault::NeFault;
 use crate::name_piece::Piece;
 use crate::reading::word;
-use std::alloc::Global;
+use std::alloc::Allocator;
 use w16_store::Store;
 
 /// A block of resources of one type.
@@ -42,13 +42,13 @@ fn inside(head: &[u8], at: u64, len: u64) -> Option<Block>
 
 /// The block at an offset, or none where the table ends, in a file of so many bytes. Where its head may go past the piece, another is read.
 #[tactic(auto, unfolding(crate::specs::Resources::block_at))]
-fn block_of<S: Store>(
-    alloc: Global,
+fn block_of<A: Allocator + Copy, S: Store>(
+    alloc: A,
     store: &mut S,
     name: &[u8],
     len: u64,
     at: u64,
-    piece: &mut Piece,
+    piece: &mut Piece<A>,
 ) -> Result<Option<Block>, NeFault>
     requires { at < len }
     ensures files { S.files store.new ≡ S.files store.old }
@@ -73,8 +73,8 @@ fn block_of<S: Store>(
 }
 
 /// How many blocks stand from an offset on, in a file of so many bytes.
-fn count_of<S: Store>(
-    alloc: Global,
+fn count_of<A: Allocator + Copy, S: Store>(
+    alloc: A,
     store: &mut S,
     name: &[u8],
     len: u64,
@@ -107,14 +107,14 @@ fn count_of<S: Store>(
 }
 
 /// The blocks from an offset on, in a file of so many bytes, with room for so many.
-fn blocks_before<S: Store>(
-    alloc: Global,
+fn blocks_before<A: Allocator + Copy, S: Store>(
+    alloc: A,
     store: &mut S,
     name: &[u8],
     len: u64,
     at: u64,
     count: usize,
-) -> Result<Vec<Block>, NeFault>
+) -> Result<Vec<Block, A>, NeFault>
     requires { at < len }
     ensures files { S.files store.new ≡ S.files store.old }
     ensures failures { S.failures store.old ≤ S.failures store.new }
@@ -145,13 +145,13 @@ fn blocks_before<S: Store>(
 /// The blocks of the table that begins at an offset, behind its shift word, in a file of so many bytes. They are gone over twice: room for all of
 /// them is taken once their number is known.
 #[tactic(auto, unfolding(crate::specs::Resources::blocks_at))]
-pub fn blocks<S: Store>(
-    alloc: Global,
+pub fn blocks<A: Allocator + Copy, S: Store>(
+    alloc: A,
     store: &mut S,
     name: &[u8],
     len: u64,
     at: u64,
-) -> Result<Vec<Block>, NeFault>
+) -> Result<Vec<Block, A>, NeFault>
     ensures files { S.files store.new ≡ S.files store.old }
     ensures failures { S.failures store.old ≤ S.failures store.new }
     ensures place { IfOk result (λ _. at < len) }

@@ -8,7 +8,7 @@ use crate::flags::ResourceFlags;
 use crate::resource_rows::{Group, Row, Rows};
 use crate::segment_table::unit;
 use crate::text_window::text_in;
-use std::alloc::Global;
+use std::alloc::Allocator;
 use std::marker::Model;
 use w16_store::is_named;
 
@@ -34,14 +34,14 @@ pub struct Resource<'a> {
 
 /// The resources of a module, by type. Types and ids may share texts, so each is kept as a word.
 #[derive(Drop)]
-pub struct ResourceTable {
+pub struct ResourceTable<A: Allocator> {
     /// The bytes of the file from the table on, as far as a type or an id leads.
-    pub texts: Vec<u8>,
+    pub texts: Vec<u8, A>,
     pub shift: u16,
-    pub rows: Rows,
+    pub rows: Rows<A>,
 }
 
-impl Model for ResourceTable {
+impl<A: Allocator> Model for ResourceTable<A> {
     ghost use Rattle.std.specs.Prelude.{◌≤◌, List, length};
     ghost use Rattle.w16_ne.specs.Resources.{Typed};
     ghost use Rattle.w16_ne.specs.Rows.{AreRows, grouped};
@@ -53,9 +53,9 @@ impl Model for ResourceTable {
     ghost invariant = { λ s. (s.shift ≤ 15) × AreRows s.texts.items s.rows × (length s.rows.rows.items ≤ 65535) };
 }
 
-impl ResourceTable {
+impl<A: Allocator + Copy> ResourceTable<A> {
     /// No resources.
-    pub fn none(alloc: Global) -> ResourceTable
+    pub fn none(alloc: A) -> ResourceTable<A>
         ensures { result ≡ [] }
     {
         ResourceTable {
@@ -67,7 +67,9 @@ impl ResourceTable {
             },
         }
     }
+}
 
+impl<A: Allocator> ResourceTable<A> {
     /// How many there are, at most 65,535.
     pub fn len(&self) -> usize
         ensures count { result ≡ resource_count self.now }

@@ -12,7 +12,7 @@ use crate::name_piece::Piece;
 use crate::reading::word;
 use crate::resource_blocks::Block;
 use crate::text_window::test_text;
-use std::alloc::Global;
+use std::alloc::Allocator;
 use w16_store::Store;
 
 /// A resource as the table has it: its offset and length in units, its flags, and the word of its id.
@@ -33,9 +33,9 @@ pub struct Group {
 
 /// The rows of all blocks, in the table's order, and the blocks that have any.
 #[derive(Drop)]
-pub struct Rows {
-    pub groups: Vec<Group>,
-    pub rows: Vec<Row>,
+pub struct Rows<A: Allocator> {
+    pub groups: Vec<Group, A>,
+    pub rows: Vec<Row, A>,
 }
 
 /// Tests that the text that a type word or an id word leads to is there whole.
@@ -53,14 +53,14 @@ fn test_label(texts: &[u8], word: u16) -> Result<(), NeFault>
 
 /// The row at an offset of a file of so many bytes, whose id is there whole.
 #[tactic(auto, unfolding(crate::specs::Resources::resource_at))]
-fn row_at<S: Store>(
-    alloc: Global,
+fn row_at<A: Allocator + Copy, S: Store>(
+    alloc: A,
     store: &mut S,
     name: &[u8],
     len: u64,
     texts: &[u8],
     at: u64,
-    piece: &mut Piece,
+    piece: &mut Piece<A>,
 ) -> Result<Row, NeFault>
     requires { at < len }
     ensures files { S.files store.new ≡ S.files store.old }
@@ -87,15 +87,15 @@ fn row_at<S: Store>(
 
 /// Adds the rows of a block.
 #[tactic(auto, unfolding(crate::specs::Resources::resources_of))]
-fn add_rows<S: Store>(
-    alloc: Global,
+fn add_rows<A: Allocator + Copy, S: Store>(
+    alloc: A,
     store: &mut S,
     name: &[u8],
     len: u64,
     texts: &[u8],
     block: Block,
-    piece: &mut Piece,
-    rows: &mut Vec<Row>,
+    piece: &mut Piece<A>,
+    rows: &mut Vec<Row, A>,
 ) -> Result<(), NeFault>
     requires { block.at + 12 * block.count ≤ len }
     ensures files { S.files store.new ≡ S.files store.old }
@@ -118,15 +118,15 @@ fn add_rows<S: Store>(
 
 /// Adds a block with its rows, where it has any.
 #[tactic(auto, unfolding(crate::specs::Resources::typed_at))]
-fn add_block<S: Store>(
-    alloc: Global,
+fn add_block<A: Allocator + Copy, S: Store>(
+    alloc: A,
     store: &mut S,
     name: &[u8],
     len: u64,
     texts: &[u8],
     block: Block,
-    piece: &mut Piece,
-    rows: &mut Rows,
+    piece: &mut Piece<A>,
+    rows: &mut Rows<A>,
 ) -> Result<(), NeFault>
     requires { block.at + 12 * block.count ≤ len }
     ensures files { S.files store.new ≡ S.files store.old }
@@ -150,15 +150,15 @@ fn add_block<S: Store>(
 }
 
 /// The rows of all blocks, in a file of so many bytes.
-pub fn all_rows<S: Store>(
-    alloc: Global,
+pub fn all_rows<A: Allocator + Copy, S: Store>(
+    alloc: A,
     store: &mut S,
     name: &[u8],
     len: u64,
     texts: &[u8],
     blocks: &[Block],
     at: u64,
-) -> Result<Rows, NeFault>
+) -> Result<Rows<A>, NeFault>
     requires place { at < len }
     requires ends { All (λ b. b.at + 12 * b.count ≤ len) blocks.now }
     ensures files { S.files store.new ≡ S.files store.old }

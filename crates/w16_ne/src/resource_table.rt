@@ -12,7 +12,7 @@ use crate::resource_places::ResourceTable;
 use crate::resource_rows::{Row, all_rows};
 use crate::segment_table::unit;
 use crate::text_window::texts_behind;
-use std::alloc::Global;
+use std::alloc::Allocator;
 use w16_store::Store;
 
 /// Tests that a row's bytes don't end past the end of a file of so many bytes by a unit or more.
@@ -54,15 +54,15 @@ fn are_too_many(rows: &[Row]) -> bool
 
 /// The resources of a table's blocks, each block's under its type, in a file of so many bytes.
 #[tactic(auto, unfolding(crate::specs::Resources::typed_in))]
-fn typed_in<S: Store>(
-    alloc: Global,
+fn typed_in<A: Allocator + Copy, S: Store>(
+    alloc: A,
     store: &mut S,
     name: &[u8],
     len: u64,
     table: u64,
     shift: u16,
     blocks: &[Block],
-) -> Result<ResourceTable, NeFault>
+) -> Result<ResourceTable<A>, NeFault>
     requires place { table < len }
     requires ends { All (λ b. b.at + 12 * b.count ≤ len) blocks.now }
     ensures files { S.files store.new ≡ S.files store.old }
@@ -84,13 +84,13 @@ fn typed_in<S: Store>(
 
 /// The resources by type, in the table's order. There may be no table.
 #[tactic(auto, unfolding(crate::specs::Resources::resources_at))]
-pub fn resources<S: Store>(
-    alloc: Global,
+pub fn resources<A: Allocator + Copy, S: Store>(
+    alloc: A,
     store: &mut S,
     name: &[u8],
     ne: u32,
     header: &[u8],
-) -> Result<ResourceTable, NeFault>
+) -> Result<ResourceTable<A>, NeFault>
     requires { length header.now ≡ 64 }
     ensures files { S.files store.new ≡ S.files store.old }
     ensures failures { S.failures store.old ≤ S.failures store.new }

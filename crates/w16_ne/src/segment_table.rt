@@ -9,7 +9,7 @@ use crate::fault::NeFault;
 use crate::flags::SegmentFlags;
 use crate::head::shift;
 use crate::reading::{reaches, read_or, table, word};
-use std::alloc::Global;
+use std::alloc::Allocator;
 use w16_store::Store;
 
 /// The most bytes of a segment's object.
@@ -157,14 +157,14 @@ fn entry<S: Store>(
 }
 
 #[tactic(auto, unfolding(crate::specs::Segments::entries_at))]
-fn entries<S: Store>(
-    alloc: Global,
+fn entries<A: Allocator + Copy, S: Store>(
+    alloc: A,
     store: &mut S,
     name: &[u8],
     shift: u16,
     table: &[u8],
     count: u16,
-) -> Result<Vec<Segment>, NeFault>
+) -> Result<Vec<Segment, A>, NeFault>
     requires shift { shift ≤ 15 }
     requires inside { 8 * count ≤ length table.now }
     ensures files { S.files store.new ≡ S.files store.old }
@@ -184,13 +184,13 @@ fn entries<S: Store>(
 
 /// The segments of the table.
 #[tactic(auto, unfolding(crate::specs::Segments::segments_at))]
-pub fn segments<S: Store>(
-    alloc: Global,
+pub fn segments<A: Allocator + Copy, S: Store>(
+    alloc: A,
     store: &mut S,
     name: &[u8],
     ne: u32,
     header: &[u8],
-) -> Result<Vec<Segment>, NeFault>
+) -> Result<Vec<Segment, A>, NeFault>
     requires len { length header.now ≡ 64 }
     requires few { segment_count header.now ≤ 253 }
     requires shift { shift_of header.now ≤ 15 }

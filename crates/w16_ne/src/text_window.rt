@@ -7,19 +7,19 @@ ghost use Rattle.w16_ne.specs.Texts.{HasText, text_in, texts_behind};
 
 use crate::fault::NeFault;
 use crate::reading::{file_len, part, table};
-use std::alloc::Global;
+use std::alloc::Allocator;
 use w16_store::{Store, reveal_bytes};
 
 /// How far texts go that words lead to: 65,535 bytes, a length byte and 255 bytes.
 pub const TEXTS: u64 = 65_791;
 
 /// The bytes of a file from an offset on, up to its end or as far as texts go that words lead to.
-pub fn texts_behind<S: Store>(
-    alloc: Global,
+pub fn texts_behind<A: Allocator + Copy, S: Store>(
+    alloc: A,
     store: &mut S,
     name: &[u8],
     at: u64,
-) -> Result<Vec<u8>, NeFault>
+) -> Result<Vec<u8, A>, NeFault>
     ensures files { S.files store.new ≡ S.files store.old }
     ensures failures { S.failures store.old ≤ S.failures store.new }
     ensures exact { S.is_honest → Gives (λ v. v.items) (file_of (S.files store.old) name.now)

@@ -9,6 +9,7 @@ use crate::fault::RelocFault;
 use crate::reading::has_text;
 use crate::record::{Record, Target, record_at};
 use crate::sites::take_sites;
+use std::alloc::Allocator;
 use w16_store::Store;
 
 /// What a module offers to its records.
@@ -73,7 +74,7 @@ fn read_record<S: Store>(
 }
 
 /// Checks so many records of the table in their order, and appends them. The marks are of the data's bytes, none marked.
-pub fn check_records<S: Store>(
+pub fn check_records<A: Allocator, S: Store>(
     store: &mut S,
     name: &[u8],
     offered: &Offered,
@@ -81,7 +82,7 @@ pub fn check_records<S: Store>(
     table: &[u8],
     count: u16,
     marks: &mut [bool],
-    records: &mut Vec<Record>,
+    records: &mut Vec<Record, A>,
 ) -> Result<(), RelocFault>
     requires inside { 8 * count ≤ length table.now }
     requires small { offered.now.names < 2 ^ 33 }

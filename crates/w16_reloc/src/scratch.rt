@@ -11,7 +11,7 @@ use crate::reading::len_of;
 use crate::record::Record;
 use crate::records::{Offered, check_records};
 use crate::segment::{read_bytes, read_segment};
-use std::alloc::{AllocError, Global};
+use std::alloc::{AllocError, Allocator, Global};
 use std::marker::Model;
 use w16_ne::{Module, Segment};
 use w16_store::Store;
@@ -23,14 +23,14 @@ const MOST_RECORDS: usize = 65_535;
 
 /// Room for the data, the marks and the records of one segment of any size: of the one that was checked last.
 #[derive(Drop)]
-pub struct Scratch {
-    bytes: Vec<u8>,
-    table: Vec<u8>,
-    marks: Vec<bool>,
-    records: Vec<Record>,
+pub struct Scratch<A: Allocator = Global> {
+    bytes: Vec<u8, A>,
+    table: Vec<u8, A>,
+    marks: Vec<bool, A>,
+    records: Vec<Record, A>,
 }
 
-impl Model for Scratch {
+impl<A: Allocator> Model for Scratch<A> {
     ghost use Rattle.std.specs.Prelude.{◌≤◌, vec_capacity};
     ghost use Rattle.w16_reloc.specs.Segments.{Held};
 
@@ -41,9 +41,9 @@ impl Model for Scratch {
     ghost invariant = { λ s. (65536 ≤ vec_capacity s.bytes) × (524280 ≤ vec_capacity s.table) × (65536 ≤ vec_capacity s.marks) × (65535 ≤ vec_capacity s.records) };
 }
 
-impl Scratch {
+impl<A: Allocator + Copy> Scratch<A> {
     /// All the room that a check needs, about two megabytes; it is empty.
-    pub fn new(alloc: Global) -> Result<Self, AllocError>
+    pub fn new(alloc: A) -> Result<Self, AllocError>
         ensures { IfOk result (λ made. made ≡ record { bytes = []; records = [] }) }
     {
         Ok(Scratch {
@@ -53,7 +53,9 @@ impl Scratch {
             records: Vec::with_capacity(alloc, MOST_RECORDS)?,
         })
     }
+}
 
+impl<A: Allocator> Scratch<A> {
     /// The data of the segment that was checked last.
     pub fn bytes(&self) -> &[u8]
         ensures { result.now ≡ self.now.bytes }
@@ -70,7 +72,7 @@ impl Scratch {
 }
 
 /// So many marks, none set.
-fn clear_marks(marks: &mut Vec<bool>, len: usize)
+fn clear_marks<A: Allocator>(marks: &mut Vec<bool, A>, len: usize)
     requires { len ≤ vec_capacity marks.old }
     ensures len { vec_len marks.new ≡ len }
     ensures capacity { vec_capacity marks.old ≤ vec_capacity marks.new }
@@ -87,12 +89,12 @@ fn clear_marks(marks: &mut Vec<bool>, len: usize)
 /// `Ok` where they are sound, and then the scratch has the segment's data and records. Else the first fault: the records are checked in their order,
 /// first each itself (`BadRecord`), then its sites from the first on, each for `SiteOutside` before `Overlap`. `Store` where the store answered a
 /// fault. After a fault the scratch holds anything.
-pub fn check<S: Store>(
+pub fn check<A: Allocator, S: Store>(
     store: &mut S,
     name: &[u8],
-    module_file: &Module,
+    module_file: &Module<A>,
     segment: usize,
-    scratch: &mut Scratch,
+    scratch: &mut Scratch<A>,
 ) -> Result<(), RelocFault>
     requires first { 0 < segment }
     requires last { segment ≤ length module_file.now.segments }
@@ -128,12 +130,12 @@ pub fn check<S: Store>(
 /// has them then, and no records.
 ///
 /// `Store` where the store answered a fault. After it the scratch holds anything.
-pub fn read_part<S: Store>(
+pub fn read_part<A: Allocator, S: Store>(
     store: &mut S,
     name: &[u8],
     at: u64,
     len: usize,
-    scratch: &mut Scratch,
+    scratch: &mut Scratch<A>,
 ) -> Result<(), RelocFault>
     requires { len ≤ 65536 }
     ensures files { S.files store.new ≡ S.files store.old }

@@ -7,11 +7,12 @@ ghost use Rattle.w16_reloc.specs.Segments.{Answers, LiesIn, data_of, records_of}
 
 use crate::fault::RelocFault;
 use crate::reading::{count_at, read};
+use std::alloc::Allocator;
 use w16_ne::Segment;
 use w16_store::Store;
 
 /// Makes a vector so long, within its room. Bytes that it gains are 0.
-fn set_len(room: &mut Vec<u8>, len: usize)
+fn set_len<A: Allocator>(room: &mut Vec<u8, A>, len: usize)
     requires { len ≤ vec_capacity room.old }
     ensures len { vec_len room.new ≡ len }
     ensures capacity { vec_capacity room.old ≤ vec_capacity room.new }
@@ -22,12 +23,12 @@ fn set_len(room: &mut Vec<u8>, len: usize)
 }
 
 /// Reads so many bytes of the file, within the vector's room.
-pub fn read_bytes<S: Store>(
+pub fn read_bytes<A: Allocator, S: Store>(
     store: &mut S,
     name: &[u8],
     at: u64,
     len: usize,
-    room: &mut Vec<u8>,
+    room: &mut Vec<u8, A>,
 ) -> Result<(), RelocFault>
     requires { len ≤ vec_capacity room.old }
     ensures files { S.files store.new ≡ S.files store.old }
@@ -45,12 +46,12 @@ pub fn read_bytes<S: Store>(
 }
 
 /// Reads the records behind the data that end at an offset, and tells how many there are.
-fn read_table<S: Store>(
+fn read_table<A: Allocator, S: Store>(
     store: &mut S,
     name: &[u8],
     flags: u16,
     end: u64,
-    table: &mut Vec<u8>,
+    table: &mut Vec<u8, A>,
 ) -> Result<u16, RelocFault>
     requires room { 524280 ≤ vec_capacity table.old }
     requires small { end < 2 ^ 48 }
@@ -69,12 +70,12 @@ fn read_table<S: Store>(
 }
 
 /// Reads a segment's data and records, and tells how many records there are.
-pub fn read_segment<S: Store>(
+pub fn read_segment<A: Allocator, S: Store>(
     store: &mut S,
     name: &[u8],
     segment: &Segment,
-    bytes: &mut Vec<u8>,
-    table: &mut Vec<u8>,
+    bytes: &mut Vec<u8, A>,
+    table: &mut Vec<u8, A>,
 ) -> Result<u16, RelocFault>
     requires len { segment.now.len ≤ vec_capacity bytes.old }
     requires room { 524280 ≤ vec_capacity table.old }

@@ -35,10 +35,10 @@ pub(crate) fn is_too_long(len: u32) -> bool
 
 /// Reads the bytes of a resource into the scratch, those that the file has: the last unit may end past its end. `Store` where the device failed;
 /// `Damaged` where the file reads otherwise than it did, or ends before the resource, and for a resource that can't be loaded.
-pub(crate) fn read<S: Store>(
+pub(crate) fn read<S: Store, A: Allocator>(
     source: &ResourceSource<'_>,
     store: &mut S,
-    scratch: &mut Scratch,
+    scratch: &mut Scratch<A>,
 ) -> Result<(), FetchFault>
     ensures files { S.files store.new ≡ S.files store.old }
     ensures failures { S.failures store.old ≤ S.failures store.new }
@@ -72,7 +72,7 @@ pub(crate) fn fetch_from<S: Store, A: Allocator + Copy>(
     source: &ResourceSource<'_>,
     global: &mut Global16<A>,
     store: &mut S,
-    scratch: &mut Scratch,
+    scratch: &mut Scratch<A>,
     handle: u16,
 ) -> Result<(), FetchFault>
     ensures files { S.files store.new ≡ S.files store.old }
@@ -109,7 +109,7 @@ impl<A: Allocator + Copy> Resources<A> {
         registry: &Registry<A>,
         global: &mut Global16<A>,
         store: &mut S,
-        scratch: &mut Scratch,
+        scratch: &mut Scratch<A>,
         handle: u16,
     ) -> Result<(), FetchFault>
         ensures step { IsLoadingOver S.is_honest (loading_of global.old.handles registry.now self.now (S.files store.old) (S.failures store.old))

@@ -88,7 +88,7 @@ impl<A: Allocator + Copy> Resources<A> {
         registry: &Registry<A>,
         global: &mut Global16<A>,
         store: &mut S,
-        scratch: &mut Scratch,
+        scratch: &mut Scratch<A>,
         handle: u16,
         place: u16,
     ) -> Result<u16, FetchFault>
@@ -137,7 +137,7 @@ impl<A: Allocator + Copy> Resources<A> {
         source: &ResourceSource<'_>,
         global: &mut Global16<A>,
         store: &mut S,
-        scratch: &mut Scratch,
+        scratch: &mut Scratch<A>,
         handle: u16,
         place: u16,
     ) -> Result<u16, FetchFault>

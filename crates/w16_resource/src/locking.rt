@@ -40,7 +40,7 @@ impl<A: Allocator + Copy> Resources<A> {
         registry: &Registry<A>,
         global: &mut Global16<A>,
         store: &mut S,
-        scratch: &mut Scratch,
+        scratch: &mut Scratch<A>,
         handle: u16,
     ) -> Result<u32, FetchFault>
         ensures any { IsLoadingWorld (loading_of global.old.handles registry.now self.now (S.files store.old) (S.failures store.old))

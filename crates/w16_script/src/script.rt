@@ -11,7 +11,7 @@ use crate::outcome::{Ended, RunFault};
 use crate::read::read_some;
 use crate::running::run_line;
 use crate::write::flush_writer;
-use std::alloc::Global;
+use std::alloc::Allocator;
 use std::io::{Read, Write};
 use w16_kernel::Machine;
 
@@ -80,8 +80,8 @@ fn run_over<R: Read, W: Write, K: Machine>(
 ///
 /// `RunFault` says when each fault comes. Where the reader or the writer doesn't tell its bytes, nothing is
 /// claimed of them.
-pub fn run<R: Read, W: Write, K: Machine>(
-    alloc: Global,
+pub fn run<R: Read, W: Write, K: Machine, A: Allocator>(
+    alloc: A,
     reader: &mut R,
     writer: &mut W,
     kernel: &mut K,

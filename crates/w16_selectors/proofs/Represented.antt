@@ -136,25 +136,6 @@ AreTaken-give table below slot lower are first le other above = record {
   taken = λ k begin low. ap is_some (get_or-set_other table slot k None None (λ e. absurd (omega arith))) ∙ are.taken k begin (omega arith);
 }
 
--- no slot below the first free one from such a slot on is free
-pub AreTaken-found : (table : DescriptorTable) (below slot : ℕ) → AreTaken table below → IsFirst (IsUntaken table) below (length table) (Some slot) → AreTaken table slot
-AreTaken-found table below slot are first = record {
-  above = let above = are.above in let low = first.0.low in omega (arith, above, low);
-  within = let high = first.0.high in omega (arith, high);
-  taken = λ k begin lt. elim (cases_lt k below) [
-    | inl lower ↦ are.taken k begin lower
-    | inr le ↦ there (descriptor_at table k) (λ none. first.0.before k le lt (begin, (let high = first.0.high in omega (arith, high, lt)), none))
-  ];
-}
-  where
-    there : (d : Option Descriptor) → (d ≡ None → ⊥) → IsSome d
-    there None n = absurd (n refl)
-    there (Some d) n = refl
-
--- so none lower is free
-pub lower_taken : (table : DescriptorTable) (below : ℕ) → AreTaken table below → (k : ℕ) → k < below → IsUntaken table k → ⊥
-lower_taken table below are k lt free = false≢true (sym (ap is_some free.2) ∙ are.taken k free.0 lt)
-
 -- where none is taken
 pub AreTaken-none : (n : ℕ) → FIRST_SLOT ≤ n → AreTaken (replicate n None) FIRST_SLOT
 AreTaken-none n some = record {

@@ -36,7 +36,7 @@ fn machine<S: Store + Drop>(
     ensures ok { IfOk result (λ kernel. kernel ≡ empty_world options.now.memory options.now.selectors (S.files store) (S.failures store)) }
     ensures err { IfErr result (λ fault. fault ≡ Fault.Memory) }
 {
-    Kernel::new(alloc, alloc, options.memory, options.selectors, store).map_err(|_| Fault::Memory)
+    Kernel::new(alloc, options.memory, options.selectors, store).map_err(|_| Fault::Memory)
 }
 
 /// Runs a script, and flushes what was replied before the run's own fault is told: a failure there is the write fault.

@@ -58,7 +58,7 @@ impl Machine {
         if memory % 32 != 0 {
             return None;
         }
-        match Kernel::new(alloc, alloc, memory, 16, MemStore::new(alloc)) {
+        match Kernel::new(alloc, memory, 16, MemStore::new(alloc)) {
             Ok(kernel) => Some(Machine { kernel }),
             Err(_) => None,
         }

@@ -112,8 +112,9 @@ pub struct Machine<A: Allocator + Copy = Global> {
     registry: Registry<A>,
     global: Global16<A>,
     files: Files,
-    scratch: Scratch,
-    alloc: Global,
+    scratch: Scratch<A>,
+    host: Global,
+    alloc: A,
     slots: u32,
     /// The answer to the last line.
     pub answer: u32,
@@ -133,21 +134,22 @@ fn pointer(far: Far) -> u32 {
 impl<A: Allocator + Copy> Machine<A> {
     /// Nothing is loaded, in so many bytes of memory, rounded down to whole 32, with so many objects at most.
     pub fn new(
-        alloc: Global,
-        taken_from: A,
+        host: Global,
+        alloc: A,
         files: Files,
         memory: u32,
         slots: u32,
     ) -> Result<Machine<A>, AllocError> {
         let slots = slots.min(MOST_SLOTS);
         let scratch = Scratch::new(alloc)?;
-        let registry = Registry::new(taken_from)?;
-        let global = Global16::new(taken_from, memory - memory % GRAIN, slots)?;
+        let registry = Registry::new(alloc)?;
+        let global = Global16::new(alloc, memory - memory % GRAIN, slots)?;
         Ok(Machine {
             registry,
             global,
             files,
             scratch,
+            host,
             alloc,
             slots,
             answer: 0,
@@ -156,7 +158,7 @@ impl<A: Allocator + Copy> Machine<A> {
 
     /// All that is there.
     pub fn look(&mut self) -> Result<Seen, AllocError> {
-        look(self.alloc, &self.registry, &mut self.global, self.slots)
+        look(self.host, &self.registry, &mut self.global, self.slots)
     }
 
     fn state(&mut self) -> Result<u32, AllocError> {

@@ -57,7 +57,7 @@ fn is_life(answers: &[Answer]) -> bool {
 
 /// The answers to the calls of a life on a new machine.
 fn life_answers(alloc: Global) -> Result<Vec<Answer>, AllocError> {
-    let mut kernel = Kernel::new(alloc, alloc, 32, 16, store_of(alloc, ALL)?)?;
+    let mut kernel = Kernel::new(alloc, 32, 16, store_of(alloc, ALL)?)?;
     kernel.run_calls(&life())
 }
 

@@ -11,6 +11,7 @@ use w16_store::Store;
 /// A machine. To a proof it has no value, and its methods have no clauses, so no test carries what a run says of it.
 #[derive(Drop)]
 pub struct Machine<S: Store + Drop, A: Allocator + Copy = Global> {
+    alloc: A,
     kernel: Kernel<S, A>,
 }
 
@@ -21,27 +22,16 @@ impl<S: Store + Drop, A: Allocator + Copy> Model for Machine<S, A> {
 }
 
 impl<S: Store + Drop, A: Allocator + Copy> Machine<S, A> {
-    /// A machine of so many bytes and selectors over a store, which takes its memory from one allocator, and its files' from another.
-    pub fn new(
-        alloc: A,
-        host: Global,
-        memory: u32,
-        selectors: u32,
-        store: S,
-    ) -> Result<Self, AllocError> {
+    /// A machine of so many bytes and selectors over a store.
+    pub fn new(alloc: A, memory: u32, selectors: u32, store: S) -> Result<Self, AllocError> {
         let memory = memory - memory % GRAIN;
-        let kernel = Kernel::new(alloc, host, memory, selectors.min(MOST_SLOTS), store)?;
-        Ok(Machine { kernel })
+        let kernel = Kernel::new(alloc, memory, selectors.min(MOST_SLOTS), store)?;
+        Ok(Machine { alloc, kernel })
     }
 
     /// Plays a script, whose replies are put behind the output, and answers how it ended. Registers begin anew with each.
-    pub fn play(
-        &mut self,
-        host: Global,
-        script: &[u8],
-        output: &mut Vec<u8>,
-    ) -> Result<Ended, RunFault> {
+    pub fn play(&mut self, script: &[u8], output: &mut Vec<u8>) -> Result<Ended, RunFault> {
         let mut reader = script;
-        run(host, &mut reader, output, &mut self.kernel)
+        run(self.alloc, &mut reader, output, &mut self.kernel)
     }
 }

@@ -14,7 +14,7 @@ use w16_store::DirStore;
 /// The number of the first wrong line of a row.
 fn first_wrong_of(alloc: Global, row: &Row) -> Result<usize, AllocError> {
     let store = store_of(alloc, row.files)?;
-    let mut machine = Machine::new(alloc, alloc, row.memory, row.selectors, store)?;
+    let mut machine = Machine::new(alloc, row.memory, row.selectors, store)?;
     first_wrong(&mut machine, alloc, row.lines)
 }
 
@@ -50,7 +50,7 @@ fn make_folder(rt: &HostRuntime, files: &str) -> Result<(), Fail> {
 /// The number of the first wrong line over that folder.
 fn first_wrong_in_folder(rt: &HostRuntime, lines: &str) -> Result<usize, Fail> {
     let store = DirStore::from_folder(rt, rt.alloc(), "module_files")?;
-    let mut machine = Machine::new(rt.alloc(), rt.alloc(), 4096, 16, store)?;
+    let mut machine = Machine::new(rt.alloc(), 4096, 16, store)?;
     let wrong = first_wrong(&mut machine, rt.alloc(), lines)?;
     Ok(wrong)
 }

@@ -1,5 +1,5 @@
 -- What is reached of the module asked for alone is how its closure begins.
-use Rattle.w16_loader.proofs.Common.{Ok, Err, subst, Closes, ne_format, around_in, IsFault, closed_in}
+use Rattle.w16_loader.proofs.Common.{length, Ok, Err, ap, subst, arith, free_modules, Closes, ne_format, around_in, IsFault, closed_in}
 use Rattle.w16_loader.proofs.Followings.{begins}
 use Rattle.w16_loader.proofs.AnyFollowings.{closes_any}
 use Rattle.w16_loader.proofs.closure.close.Goals as goal
@@ -18,3 +18,6 @@ pub returns-in-Ok-follow_all-clause-any : goal.returns-in-Ok-follow_all-clause-a
 returns-in-Ok-follow_all-clause-any g c = λ unnamed left.
     closes_any c.args.registry.now c.in-Ok.closure c.follow_all.new.self c.args.first c.in-Ok.ensures.found c.in-Ok.ensures.bound c.in-Ok-follow_all.ensures.few.since c.in-Ok-follow_all.ensures.few.kept unnamed left
     c.in-Ok-follow_all.ensures.any
+
+pub returns-in-Ok-follow_all-clause-few : goal.returns-in-Ok-follow_all-clause-few
+returns-in-Ok-follow_all-clause-few g c = λ left. c.in-Ok-follow_all.ensures.few.few (free_modules c.args.registry.now) (omega arith) (omega (arith, left, ap length c.in-Ok.ensures.found))

@@ -1,5 +1,5 @@
 -- A load that is done, and one that is undone.
-use Rattle.w16_loader.proofs.Common.{◌≡◌, ◌<◌, inr, [], IfOk, OnErr, fold, length, slice_index_or, sym, ap, ◌∙◌, subst, arith, FillsOne, is_of_device, without_module, Fulfils, Says, StoreFails, LoadingWorld, with_handles, closed_in, AreUnbound, LoadsAny, LoadsClosed, answer_in, failed_by, IsUnbound, in_world}
+use Rattle.w16_loader.proofs.Common.{◌≡◌, ◌<◌, inl, inr, [], IfOk, OnErr, fold, length, slice_index_or, refl, sym, ap, ◌∙◌, subst, arith, Global, FillsOne, is_of_device, without_module, Fulfils, Says, StoreFails, LoadingWorld, with_handles, closed_in, AreUnbound, LoadsAny, LoadsClosed, answer_in, failed_by, IsUnbound, in_world}
 use Rattle.std.specs.FinMap as finmap
 use Rattle.w16_loader.proofs.Closed.{err_by, first_of, some_handles}
 use Rattle.w16_loader.proofs.Loads.{is_closure}
@@ -79,3 +79,9 @@ returns-clause-any g c = λ rest meant is.
     let gone = c.release_modules.ensures.gone rest ∙ ap (λ hs. fold without_module given hs) (c.as_slice-in-Err.ensures.value ∙ sym c.as_slice.ensures.value) in
     subst (λ r. IfOk r (λ answer. LoadsAny old meant (answer_in answer) (in_world (with_handles rest c.release_modules.new.global.handles) c.release_modules.new.registry))) (sym c.fail.ensures)
     (subst (λ w. IfOk (failed_by c.in-Err.fault) (λ answer. LoadsAny old meant (answer_in answer) w)) (sym gone) (c.in-Err.ensures.any rest old meant c.reveal_handles.ensures us))
+
+pub returns-in-Err-NoSlot-clause-loads : goal.returns-in-Err-NoSlot-clause-loads
+returns-in-Err-NoSlot-clause-loads g c = λ rest meant honest is of_files.
+    let same = c.in-Err-NoSlot.ensures.same in
+    let world = ap (λ r. in_world (with_handles rest c.name_modules.new.global.handles) r) same.0 ∙ ap (λ (x : Global). in_world (with_handles rest x.handles) c.args.registry.now) same.1 in
+    inr (inl (c.in-Err-NoSlot.ensures.no_slot meant is c.in-Err-NoSlot.field-0-is, (refl, world)))

@@ -82,3 +82,10 @@ returns-clause-named g c = λ rest meant all.
     let long : length c.loop-place.yielded ≡ length (enumerate_from 0 c.args.found.items) = end.1 in
     all_are_named (in_world (with_handles rest c.args.global.now.handles) c.args.registry.now) (in_world (with_handles rest c.loop-place.global.handles) c.loop-place.registry) _ c.args.found.items meant c.args.handles.now (length c.loop-place.yielded)
     all c.requires.handles (omega (arith, long, length-enumerate_from 0 c.args.found.items)) (c.loop-place.invariant.named rest meant all)
+
+pub bounds-handles-place : goal.bounds-handles-place
+bounds-handles-place g c =
+    let t = YieldsList-turn (YieldsList-from_enumerate {s = c.into_iter-place-iterator.result} (YieldsList-from_vec c.args.found.items (first_of (cc, search rules)) (first_of (cc, search rules))) (first_of (cc, search rules)))
+    c.loop-place.yielded c.loop-place.place-iterator c.loop-place.yielded_by c.next.result c.next.new.self (c.in-Some.place, c.in-Some.found) c.in-Some.is c.next.ensures.steps in
+    let at = at_turn c.args.found.items (length c.loop-place.yielded) c.in-Some.place c.in-Some.found t.0 t.1 in
+    omega (arith, at.0, at.1, c.requires.handles)

@@ -3,10 +3,10 @@ use Rattle.w16_ne.proofs.Ordered.{any_range, is_sorted, range_more}
 use Rattle.w16_ne.proofs.names.order_of.Goals as goal
 
 pub loop-i-preserved : goal.loop-i-preserved
-loop-i-preserved c = rw (c.in_ok-push.ensures.items, c.loop-i.invariant) (sym (range_more c.loop-i.i))
+loop-i-preserved g c = rw (c.in_ok-push.ensures.items, c.loop-i.invariant) (sym (range_more c.loop-i.i))
 
 pub returns : goal.returns
-returns c =
+returns g c =
     let names = c.args.names.now in
     let n = length names in
     let order = c.sort_unstable_by.new.self.items in

@@ -3,7 +3,7 @@ use Rattle.w16_ne.proofs.Ordered.{below, partitioned, found_is, none_is}
 use Rattle.w16_ne.proofs.names.ordinal_of_text.Goals as goal
 
 pub returns-in-Some : goal.returns-in-Some
-returns-in-Some c =
+returns-in-Some g c =
     let names = c.args.names.now in
     let order = c.args.order.now in
     let text = c.args.text.now in
@@ -18,7 +18,7 @@ returns-in-Some c =
     c.ordinal.ensures ∙ ap (λ k. (get_or names k ([], 0)).1) at ∙ sym (found_is names order c.requires text first point inside here)
 
 pub returns-in_default : goal.returns-in_default
-returns-in_default c =
+returns-in_default g c =
     let names = c.args.names.now in
     let order = c.args.order.now in
     let text = c.args.text.now in
@@ -32,7 +32,7 @@ returns-in_default c =
     let yes : bytes_eq c.text.result.now text ≡ true = (bytes_eq-Decides c.text.result.now text).1 here in cc)))
 
 pub returns-in_default-2 : goal.returns-in_default-2
-returns-in_default-2 c =
+returns-in_default-2 g c =
     let names = c.args.names.now in
     let order = c.args.order.now in
     let text = c.args.text.now in

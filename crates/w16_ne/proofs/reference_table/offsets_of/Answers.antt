@@ -4,7 +4,7 @@ use Rattle.w16_ne.proofs.Until.{told_on}
 use Rattle.w16_ne.proofs.reference_table.offsets_of.Goals as goal
 
 pub returns-in_err-test_text-clause-exact : goal.returns-in_err-test_text-clause-exact
-returns-in_err-test_text-clause-exact c = λ file names is.
+returns-in_err-test_text-clause-exact g c = λ file names is.
     let texts = c.args.texts.now in
     let entry : ℕ → Reading (List ℕ) = λ i. text_at Truncated file (names + word_of c.args.table.now (2 * i)) in
     let p = err_from_is_err_and c.from_residual-in_err-test_text.result c.from_residual-in_err-test_text.ensures.1 in
@@ -14,7 +14,7 @@ returns-in_err-test_text-clause-exact c = λ file names is.
     (λ e. stops entry (map (text_in texts) c.loop-i.offsets.items) c.args.count c.loop-i.i _ _ c.loop-i-test.true e (c.loop-i.invariant.1 file names is)))
 
 pub loop-i-preserved : goal.loop-i-preserved
-loop-i-preserved c =
+loop-i-preserved g c =
     let texts = c.args.texts.now in (
       rw c.in_ok-push.ensures.items (All-push (HasText texts) c.loop-i.offsets.items c.word-offset.result c.loop-i.invariant.0 c.in_ok-test_text.ensures.inside),
       λ file names is.
@@ -27,4 +27,4 @@ loop-i-preserved c =
 
 pub returns-clause-exact : goal.returns-clause-exact
 unfolding texts_at
-returns-clause-exact c = search rules
+returns-clause-exact g c = search rules

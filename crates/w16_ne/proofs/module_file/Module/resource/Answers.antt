@@ -13,7 +13,7 @@ begins file header ne place types None has e = tt
 begins file header ne place types (Some f) has e = resources_begin file header ne types has place (label_of f.0, entry_of f.1) (sym e)
 
 pub returns-clause-inside : goal.returns-clause-inside
-returns-clause-inside c = λ file known.
+returns-clause-inside g c = λ file known.
     let t = c.args.self.now in
     begins file t.header t.place c.args.place t.resources c.resource.result ((module_format file t).0 known).resources
     (c.resource.ensures ∙ ap (λ (x : Tables). resource_at x.resources c.args.place) c.self.view_is)

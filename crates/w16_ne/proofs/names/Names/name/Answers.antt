@@ -3,7 +3,7 @@ use Rattle.w16_ne.proofs.Texts.{at_index}
 use Rattle.w16_ne.proofs.names.Names.name.Goals as goal
 
 pub overflow_cast-i : goal.overflow_cast-i
-overflow_cast-i c =
+overflow_cast-i g c =
     let texts = c.self.inside.texts.items in
     let places = c.self.inside.places.items in
     let long : length (map (at_place texts) places) ≡ length places = length-map places (at_place texts) in
@@ -11,7 +11,7 @@ overflow_cast-i c =
     omega (arith, long, same, c.requires, c.self.invariant.1)
 
 pub returns-clause-found : goal.returns-clause-found
-returns-clause-found c =
+returns-clause-found g c =
     let texts = c.self.inside.texts.items in
     let places = c.self.inside.places.items in
     let names = c.args.self.now in
@@ -25,7 +25,7 @@ returns-clause-found c =
     slice_get-get_or names i ([], 0) c.requires ∙ ap (λ t. Some (t, (get_or names i ([], 0)).1)) (sym c.text.ensures) ∙ ap (λ o. Some (c.text.result.now, o)) ordinal
 
 pub returns-clause-upper : goal.returns-clause-upper
-returns-clause-upper c =
+returns-clause-upper g c =
     let texts = c.self.inside.texts.items in
     let places = c.self.inside.places.items in
     let same : length c.args.self.now ≡ length (map (at_place texts) places) = sym (ap length c.self.view_is) in

@@ -4,7 +4,7 @@ use Rattle.w16_ne.proofs.Ordered.{upper_twice}
 use Rattle.w16_ne.proofs.names.Names.push.Goals as goal
 
 pub invariant_of-self-2 : goal.invariant_of-self-2
-invariant_of-self-2 c =
+invariant_of-self-2 g c =
     let texts = c.self.inside.texts.items in
     let places = c.self.inside.places.items in
     let up = str_to_ascii_uppercase c.args.text.now in
@@ -24,7 +24,7 @@ invariant_of-self-2 c =
     )
 
 pub returns-clause-ok : goal.returns-clause-ok
-returns-clause-ok c =
+returns-clause-ok g c =
     let texts = c.self.inside.texts.items in
     let places = c.self.inside.places.items in
     let up = str_to_ascii_uppercase c.args.text.now in

@@ -2,4 +2,4 @@ use Rattle.std.proofs.Common.{rules}
 use Rattle.w16_ne.proofs.resource_places.ResourceTable.place_of.Goals as goal
 
 pub returns : goal.returns
-returns c = search rules
+returns g c = search rules

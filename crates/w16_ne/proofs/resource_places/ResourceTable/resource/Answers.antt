@@ -5,7 +5,7 @@ use Rattle.w16_ne.proofs.Places.{found_grouped, none_grouped, kind_there}
 use Rattle.w16_ne.proofs.resource_places.ResourceTable.resource.Goals as goal
 
 pub returns-in_err-row : goal.returns-in_err-row
-returns-in_err-row c =
+returns-in_err-row g c =
     let s = c.self.inside in
     let rows = s.rows.rows.items in
     let i = c.in_ok-i.i in
@@ -15,7 +15,7 @@ returns-in_err-row c =
     rw c.from_residual-in_err-row.ensures (sym none ∙ ap (λ ts. resource_at ts (suc i)) c.self.view_is ∙ ap (resource_at c.args.self.now) (sym place))
 
 pub label-kind-requires : goal.label-kind-requires
-label-kind-requires c =
+label-kind-requires g c =
     let s = c.self.inside in
     let i = c.in_ok-i.i in
     let there = c.in_ok-row.ensures.lookup.3.0 in
@@ -25,7 +25,7 @@ label-kind-requires c =
     rw (c.as_slice-texts.ensures.value, c.kind_at.ensures, c.as_slice.ensures.value) has
 
 pub returns : goal.returns
-returns c =
+returns g c =
     let s = c.self.inside in
     let texts = s.texts.items in
     let rows = s.rows.rows.items in
