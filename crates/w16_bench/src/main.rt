@@ -1,6 +1,6 @@
-//! Times the reading of hostile module files, and loads: the reading, check and relocation of modules, fetches, and addresses by name.
+//! Times the reading of hostile module files.
 //!
-//! The first argument is the number of turns of each loop; a hostile file has at most a tenth as many names. The times go to standard error, so
+//! The first argument is ten times the number of names, or of what else a file has many of, that each file has at most. The times go to standard error, so
 //! that standard output is the same each time.
 #![tactic(auto)]
 
@@ -10,14 +10,11 @@ use std::time::Instant;
 use std::{env, io};
 
 mod hostile;
-mod loads;
-mod modules;
-mod sample;
 
-/// The turns without an argument: few enough for a gate.
+/// What is asked for without an argument: few enough for a gate.
 const FEW: u32 = 10_000;
 
-/// The number of turns that the first argument gives.
+/// The number that the first argument gives.
 fn turns_asked(rt: &(impl Env + Alloc)) -> Result<u32> {
     match env::args(rt)?.nth(1) {
         Some(text) => Ok(text.parse::<u32>()?),
@@ -37,6 +34,5 @@ fn tell(rt: &(impl Clock + Eprint), name: &str, start: Option<Instant>, steps: u
 
 fn main(rt: HostRuntime) -> Result<()> {
     let turns = turns_asked(&rt)?;
-    hostile::time(&rt, turns / 10)?;
-    loads::time(&rt, turns)
+    hostile::time(&rt, turns / 10)
 }

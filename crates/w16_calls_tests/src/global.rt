@@ -1,36 +1,47 @@
-//! The calls of the global heap, as tables of calls with the answers that were worked out by hand.
+//! What the global heap tells beside its calls.
 
-mod bench;
-mod scripts;
-
-use bench::{Answer, Bench, Call};
-use scripts::SCRIPTS;
 use std::alloc::{AllocError, Global};
-use std::process::Abort;
 use std::test::Fail;
+use w16_global::Global16;
 
-/// A new heap of so many bytes with 16 selectors, and calls with their answers.
-struct Script {
-    name: &'static str,
-    memory: u32,
-    lines: &'static [(Call, Answer)],
+/// How many bytes were written: nothing yet, behind an object of zeros, and behind its growth to another place.
+fn counts(global: &mut Global16) -> [u64; 3] {
+    let begun = global.written();
+    let _ = global.global_alloc(0x42, 32);
+    let zeroed = global.written();
+    let _ = global.global_alloc(2, 32);
+    let _ = global.global_realloc(0x106, 64, 0);
+    [begun, zeroed, global.written()]
 }
 
-/// The number of a script's first call, counted from 0, that is answered otherwise.
-fn first_wrong(
-    rt: &impl Abort,
-    alloc: Global,
-    script: &Script,
-) -> Result<Option<usize>, AllocError> {
-    let mut bench = Bench::new(rt, alloc, script.memory)?;
-    Ok(bench.first_wrong(script.lines))
+/// The same of a new heap.
+fn counts_of_a_new_heap(alloc: Global) -> Result<[u64; 3], AllocError> {
+    let mut global = Global16::new(alloc, 128, 16)?;
+    Ok(counts(&mut global))
 }
 
 #[test]
-fn answers_calls(rt: HostRuntime) -> Result<(), Fail> {
-    for script in SCRIPTS {
-        let wrong = first_wrong(&rt, rt.alloc(), script)?;
-        assert!(rt; wrong.is_none(), "{}: {wrong:?}", script.name);
-    }
+fn written_bytes_are_counted(rt: HostRuntime) -> Result<(), Fail> {
+    let counts = counts_of_a_new_heap(rt.alloc())?;
+    assert!(rt; counts == [0, 32, 64], "{counts:?}");
+    Ok(())
+}
+
+/// Whether an object without bytes that no module owns is brought back, and whether it is code.
+fn owned(global: &mut Global16) -> [bool; 2] {
+    let handle = global.global_alloc(0x102, 0);
+    [global.revive(handle), global.is_code(handle)]
+}
+
+/// The same in a new heap.
+fn owned_in_a_new_heap(alloc: Global) -> Result<[bool; 2], AllocError> {
+    let mut global = Global16::new(alloc, 128, 16)?;
+    Ok(owned(&mut global))
+}
+
+#[test]
+fn what_no_module_owns_is_not_brought_back(rt: HostRuntime) -> Result<(), Fail> {
+    let owned = owned_in_a_new_heap(rt.alloc())?;
+    assert!(rt; owned == [false, false], "{owned:?}");
     Ok(())
 }

@@ -1,4 +1,4 @@
-//! Tests of what reads files: stores, modules, relocation and the registry of modules, through their public faces. They stand in a crate of their own, so that what they test is proved once.
+//! Tests of what reads files: stores, modules, relocation, the registry of modules, and what is printed of a file, through their public faces. They stand in a crate of their own, so that what they test is proved once.
 #![tactic(auto)]
 
 #[cfg(test)]
@@ -7,5 +7,7 @@ mod loader;
 mod ne;
 #[cfg(test)]
 mod reloc;
+#[cfg(test)]
+mod show;
 #[cfg(test)]
 mod store;

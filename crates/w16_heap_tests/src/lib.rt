@@ -31,8 +31,6 @@ mod arena;
 #[cfg(test)]
 mod blocks;
 #[cfg(test)]
-mod compact;
-#[cfg(test)]
 mod model;
 #[cfg(test)]
 mod options;

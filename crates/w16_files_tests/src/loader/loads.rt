@@ -48,6 +48,15 @@ fn chain(alloc: Global, count: u32, answer: u32) -> Result<String, AllocError> {
     Ok(text)
 }
 
+/// No built-in gets a two hundred and first handle.
+#[test]
+fn two_hundred_built_ins(rt: HostRuntime) -> Result<(), Fail> {
+    let lines = "machine 32 1\nbuiltins 200 232\nbuiltins 201 0\n";
+    let (wrong, answer) = played(rt.alloc(), lines)?;
+    assert!(rt; wrong == 0, "line {wrong}: {answer}");
+    Ok(())
+}
+
 /// 200 modules have handles, and no more.
 #[test]
 fn long_chains_of_modules(rt: HostRuntime) -> Result<(), Fail> {

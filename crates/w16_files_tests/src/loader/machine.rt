@@ -2,9 +2,9 @@
 ghost use Rattle.std.specs.Prelude.{ℕ};
 
 use super::lines::{ABSENT, BAD, DAMAGED, FAILS, LIMIT, Line, NO_ROOM, UNKNOWN, beside, line_of};
-use super::seen::{Seen, handle_at, look};
+use super::seen::{handle_at, look};
 use super::store::Files;
-use std::alloc::{AllocError, Allocator, Global};
+use std::alloc::{AllocError, Global};
 use std::marker::Model;
 use w16_global::Global16;
 use w16_loader::{LoadAnswer, Registry, SegmentOf, fetch, free, load};
@@ -106,21 +106,20 @@ static CALLS: &[(&str, Calls)] = &[
     ("flags", Calls::Flags),
 ];
 
-/// Over any allocator. To a proof it has no value: what a call promises is used where a method makes it, and no loop carries it.
+/// To a proof it has no value: what a call promises is used where a method makes it, and no loop carries it.
 #[derive(Drop)]
-pub struct Machine<A: Allocator + Copy = Global> {
-    registry: Registry<A>,
-    global: Global16<A>,
+pub struct Machine {
+    registry: Registry,
+    global: Global16,
     files: Files,
-    scratch: Scratch<A>,
-    host: Global,
-    alloc: A,
+    scratch: Scratch,
+    alloc: Global,
     slots: u32,
     /// The answer to the last line.
     pub answer: u32,
 }
 
-impl<A: Allocator + Copy> Model for Machine<A> {
+impl Model for Machine {
     ghost Value = { ℕ };
 
     ghost view = { λ _. 0 };
@@ -131,15 +130,14 @@ fn pointer(far: Far) -> u32 {
     u32::from(far.selector) << 16 | u32::from(far.offset)
 }
 
-impl<A: Allocator + Copy> Machine<A> {
+impl Machine {
     /// Nothing is loaded, in so many bytes of memory, rounded down to whole 32, with so many objects at most.
     pub fn new(
-        host: Global,
-        alloc: A,
+        alloc: Global,
         files: Files,
         memory: u32,
         slots: u32,
-    ) -> Result<Machine<A>, AllocError> {
+    ) -> Result<Machine, AllocError> {
         let slots = slots.min(MOST_SLOTS);
         let scratch = Scratch::new(alloc)?;
         let registry = Registry::new(alloc)?;
@@ -149,20 +147,14 @@ impl<A: Allocator + Copy> Machine<A> {
             global,
             files,
             scratch,
-            host,
             alloc,
             slots,
             answer: 0,
         })
     }
 
-    /// All that is there.
-    pub fn look(&mut self) -> Result<Seen, AllocError> {
-        look(self.host, &self.registry, &mut self.global, self.slots)
-    }
-
     fn state(&mut self) -> Result<u32, AllocError> {
-        let seen = self.look()?;
+        let seen = look(self.alloc, &self.registry, &mut self.global, self.slots)?;
         Ok(seen.sum())
     }
 
@@ -360,11 +352,5 @@ impl<A: Allocator + Copy> Machine<A> {
             }
         }
         Ok(0)
-    }
-
-    /// Whether each line is answered by its last word.
-    pub fn answers(&mut self, lines: &str) -> Result<bool, AllocError> {
-        let wrong = self.first_wrong(lines)?;
-        Ok(wrong == 0)
     }
 }

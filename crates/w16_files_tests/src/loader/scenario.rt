@@ -6,8 +6,8 @@
 use super::drafts::store_of;
 use super::lines::number;
 use super::machine::Machine;
-use super::store::{Files, Place};
-use std::alloc::{AllocError, Allocator, Global};
+use super::store::Files;
+use std::alloc::{AllocError, Global};
 
 /// A script in its parts, which the line `machine MEMORY SLOTS` divides.
 #[derive(Clone, Copy)]
@@ -34,36 +34,17 @@ pub fn scenario_of(text: &str) -> Scenario<'_> {
 }
 
 impl Scenario<'_> {
-    /// Its files, in memory.
-    pub fn files(&self, alloc: Global) -> Result<Files, AllocError> {
-        let store = store_of(alloc, self.files)?;
-        Ok(Files::new(alloc, Place::Memory(store)))
-    }
-
-    /// Its machine, before any line, over other files.
-    pub fn machine_over<A: Allocator + Copy>(
-        &self,
-        alloc: Global,
-        taken_from: A,
-        files: Files,
-    ) -> Result<Machine<A>, AllocError> {
-        Machine::new(alloc, taken_from, files, self.memory, self.slots)
-    }
-
     /// Its machine, before any line.
-    pub fn machine<A: Allocator + Copy>(
-        &self,
-        alloc: Global,
-        taken_from: A,
-    ) -> Result<Machine<A>, AllocError> {
-        self.machine_over(alloc, taken_from, self.files(alloc)?)
+    pub fn machine(&self, alloc: Global) -> Result<Machine, AllocError> {
+        let files = Files::new(store_of(alloc, self.files)?);
+        Machine::new(alloc, files, self.memory, self.slots)
     }
 }
 
 /// The number of the first wrong line of a script behind its machine, and the answer to it; 0 and no matter what where none is wrong.
 pub fn played(alloc: Global, text: &str) -> Result<(usize, u32), AllocError> {
     let scenario = scenario_of(text);
-    let mut machine = scenario.machine(alloc, alloc)?;
+    let mut machine = scenario.machine(alloc)?;
     let wrong = machine.first_wrong(scenario.lines)?;
     Ok((wrong, machine.answer))
 }

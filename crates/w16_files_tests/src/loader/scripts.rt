@@ -46,6 +46,11 @@ size 0x106 0
 flags 0x11e 0
 read 0x107 0 1 bad, read 0x117 0 1 bad
 compact 0 4096
+; Files that change while records are bound, and while objects get their bytes: the application's is as one that isn't accepted, and so is the
+; library's as that of a reference.
+turn 52 0, load app.exe 11, turn 63 0, load app.exe 20, turn 71 0, load app.exe 11, turn 78 0, load app.exe 20
+handle APP 0, handle LIB 0
+compact 0 4096
 ";
 
 /// What is there is used once more; an application isn't loaded twice by LoadModule; what others import stays.

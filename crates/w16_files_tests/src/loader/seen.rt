@@ -1,8 +1,8 @@
 //! What is seen of a machine of modules: each object of its heap, and what each module handle names.
-use std::alloc::{AllocError, Allocator, Global};
+use std::alloc::{AllocError, Global};
 use w16_global::Global16;
 use w16_loader::Registry;
-use w16_model::{FIRST_SLOT, GMEM_DISCARDABLE, GMEM_DISCARDED, GRAIN, MOST_SLOTS};
+use w16_model::{FIRST_SLOT, GRAIN, MOST_SLOTS};
 
 /// CRC-32, with the bits low first.
 #[derive(Clone, Copy)]
@@ -31,14 +31,12 @@ impl Sum {
     }
 }
 
-/// An object: its handle, its flags, its size, 0 where it has no bytes, and the sum of these; its address where it is fixed or locked.
-#[derive(Clone, Copy, Debug, PartialEq, Eq)]
+/// An object: its handle, its size, 0 where it has no bytes, and the sum of these.
+#[derive(Clone, Copy)]
 struct Object {
     handle: u16,
-    flags: u16,
     size: u32,
     sum: u32,
-    pinned_at: u32,
 }
 
 /// All objects by slot, and the sum of what module handles name, with how often each is used.
@@ -48,37 +46,8 @@ pub struct Seen {
     modules: u32,
 }
 
-/// Whether an object is as it was, or is discardable, not locked, and has lost its bytes.
-fn is_kept(before: &Object, after: &Object) -> bool {
-    let locks = before.flags & 0xff;
-    let lost = Object {
-        flags: before.flags | GMEM_DISCARDED,
-        size: 0,
-        sum: 0,
-        ..*before
-    };
-    before == after
-        || (before.flags & GMEM_DISCARDABLE != 0 && locks == 0 && before.size > 0 && lost == *after)
-}
-
 impl Seen {
-    /// Whether it is the same.
-    pub fn is(&self, other: &Seen) -> bool {
-        self.objects == other.objects && self.modules == other.modules
-    }
-
-    /// Whether it is the same as before but for discards.
-    pub fn is_but_for_discards(&self, before: &Seen) -> bool {
-        self.modules == before.modules
-            && self.objects.len() == before.objects.len()
-            && self
-                .objects
-                .iter()
-                .zip(before.objects.iter())
-                .all(|(after, before)| is_kept(before, after))
-    }
-
-    /// One number for all of it but addresses and flags.
+    /// One number for all of it.
     pub fn sum(&self) -> u32 {
         let mut sum = Sum::new();
         for object in self.objects.iter() {
@@ -92,7 +61,7 @@ impl Seen {
 }
 
 /// The sum of an object's bytes, which are read and so used; 0 where it has none.
-fn sum_of<A: Allocator + Copy>(global: &mut Global16<A>, selector: u16, size: u32) -> u32 {
+fn sum_of(global: &mut Global16, selector: u16, size: u32) -> u32 {
     if size == 0 {
         return 0;
     }
@@ -107,7 +76,7 @@ fn sum_of<A: Allocator + Copy>(global: &mut Global16<A>, selector: u16, size: u3
 }
 
 /// The handle of the object of a slot, if there is one.
-pub fn handle_at<A: Allocator + Copy>(global: &Global16<A>, slot: u32) -> Option<u16> {
+pub fn handle_at(global: &Global16, slot: u32) -> Option<u16> {
     let selector = (slot % 8192 * 8 + 7) as u16;
     if global.slot_of_handle(selector).is_some() {
         return Some(selector);
@@ -117,31 +86,17 @@ pub fn handle_at<A: Allocator + Copy>(global: &Global16<A>, slot: u32) -> Option
 }
 
 /// The object of a handle.
-fn object_of<A: Allocator + Copy>(global: &mut Global16<A>, handle: u16) -> Object {
-    let flags = global.global_flags(handle);
+fn object_of(global: &mut Global16, handle: u16) -> Object {
     let size = global.global_size(handle);
-    let selector = handle | 1;
-    let is_pinned = handle == selector || flags & 0xff != 0;
-    let pinned_at = if is_pinned {
-        global.get_selector_base(selector)
-    } else {
-        0
-    };
     Object {
         handle,
-        flags,
         size,
-        sum: sum_of(global, selector, size),
-        pinned_at,
+        sum: sum_of(global, handle | 1, size),
     }
 }
 
 /// All objects of a heap of so many slots.
-fn objects<A: Allocator + Copy>(
-    alloc: Global,
-    global: &mut Global16<A>,
-    slots: u32,
-) -> Result<Vec<Object>, AllocError> {
+fn objects(alloc: Global, global: &mut Global16, slots: u32) -> Result<Vec<Object>, AllocError> {
     let mut objects = Vec::new(alloc);
     for slot in FIRST_SLOT..FIRST_SLOT + slots.min(MOST_SLOTS) {
         if let Some(handle) = handle_at(global, slot) {
@@ -152,7 +107,7 @@ fn objects<A: Allocator + Copy>(
 }
 
 /// The sum of what module handles name: of each the handle, how often it is used, and its name.
-fn modules<A: Allocator>(registry: &Registry<A>) -> u32 {
+fn modules(registry: &Registry) -> u32 {
     let mut sum = Sum::new();
     for handle in 33..233u16 {
         if let Some(entry) = registry.get(handle) {
@@ -165,10 +120,10 @@ fn modules<A: Allocator>(registry: &Registry<A>) -> u32 {
 }
 
 /// What is seen of a heap of so many slots, and of modules.
-pub fn look<A: Allocator + Copy>(
+pub fn look(
     alloc: Global,
-    registry: &Registry<A>,
-    global: &mut Global16<A>,
+    registry: &Registry,
+    global: &mut Global16,
     slots: u32,
 ) -> Result<Seen, AllocError> {
     let objects = objects(alloc, global, slots)?;

@@ -1,28 +1,18 @@
-//! A store of which a read may fail, and whose files may be others from a read on.
-use std::alloc::Global;
-use w16_store::{DirStore, MemStore, Store, StoreFault, SystemDisk};
+//! A store of which a read may fail, and which may have no files from a read on.
+use w16_store::{MemStore, Store, StoreFault};
 
-/// Where files are.
-#[derive(Drop)]
-pub enum Place {
-    Memory(MemStore),
-    Folder(DirStore<SystemDisk<HostRuntime>>),
-}
-
-/// Files, others that come in their place, and the reads that are left up to one that fails, and up to the first of those others; 0 for none.
+/// Files, and the reads that are left up to one that fails, and up to the first that finds no file; 0 for none.
 #[derive(Drop)]
 pub struct Files {
-    first: Place,
-    second: MemStore,
+    files: MemStore,
     fails: u32,
     turns: u32,
 }
 
 impl Files {
-    pub fn new(alloc: Global, first: Place) -> Files {
+    pub fn new(files: MemStore) -> Files {
         Files {
-            first,
-            second: MemStore::new(alloc),
+            files,
             fails: 0,
             turns: 0,
         }
@@ -33,14 +23,9 @@ impl Files {
         self.fails = read;
     }
 
-    /// Has the reads from the one of a number on, from now on, be of others; of none where it is 0.
+    /// Has the reads from the one of a number on, from now on, find no file; none of them where it is 0.
     pub fn turn(&mut self, read: u32) {
         self.turns = read;
-    }
-
-    /// What these others are; none are there without this.
-    pub fn turn_to(&mut self, second: MemStore) {
-        self.second = second;
     }
 }
 
@@ -60,19 +45,13 @@ impl Store for Files {
             return Err(StoreFault::Device);
         }
         if self.turns == 1 {
-            return self.second.read_at(name, at, buf);
+            return Err(StoreFault::Missing);
         }
         self.turns = self.turns.saturating_sub(1);
-        match &mut self.first {
-            Place::Memory(store) => store.read_at(name, at, buf),
-            Place::Folder(store) => store.read_at(name, at, buf),
-        }
+        self.files.read_at(name, at, buf)
     }
 
     fn len_of(&mut self, name: &[u8]) -> Result<u64, StoreFault> {
-        match &mut self.first {
-            Place::Memory(store) => store.len_of(name),
-            Place::Folder(store) => store.len_of(name),
-        }
+        self.files.len_of(name)
     }
 }

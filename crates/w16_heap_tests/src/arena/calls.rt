@@ -92,6 +92,34 @@ pub(super) static SCRIPTS: &[Script] = &[
         order: &[],
     },
     Script {
+        name: "others slide in the lower of two gaps with room",
+        lines: &[
+            (Alloc(0, 32, Moveable, AS_IT_STANDS), placed!(0), None),
+            (Alloc(1, 32, Moveable, AS_IT_STANDS), placed!(32), None),
+            (Alloc(2, 32, Moveable, AS_IT_STANDS), placed!(64), None),
+            (Alloc(3, 32, Fixed, AS_IT_STANDS), placed!(96), None),
+            (Alloc(4, 32, Moveable, AS_IT_STANDS), placed!(128), None),
+            (Alloc(5, 64, Moveable, AS_IT_STANDS), placed!(160), None),
+            (Free(0), Done, None),
+            (Free(2), Done, None),
+            (Free(4), Done, None),
+            (
+                Alloc(0, 64, Moveable, SLIDING),
+                placed!(32, 0, 96, 32),
+                None,
+            ),
+        ],
+        walk: &[
+            object!(0, 32, 1, Moveable, 0),
+            object!(32, 64, 0, Moveable, 0),
+            object!(96, 32, 3, Fixed, 0),
+            hole!(128, 32),
+            object!(160, 64, 5, Moveable, 0),
+            hole!(224, 32),
+        ],
+        order: &[],
+    },
+    Script {
         name: "the least recently used are discarded, as few as are needed",
         lines: &[
             (Alloc(0, 64, Discardable, DISCARDING), placed!(0), None),

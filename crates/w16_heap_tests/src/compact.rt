@@ -1,5 +1,0 @@
-//! Arrangements of blocks: answers that were worked out by hand, and those of the plain program.
-
-mod bench;
-mod discards;
-mod slides;

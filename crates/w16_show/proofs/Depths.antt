@@ -1,0 +1,108 @@
+-- What is printed nests less deep than a reader of JSON allows.
+use Rattle.std.proofs.Common.{ℕ, suc, ◌≤◌, Bool, true, false, List, [], ◌∷◌, ◌++◌, Option, Some, None, Result, Ok, Err, map, unwrap_or, option_map, arith}
+use Rattle.serde_json.specs.Data.{Data, null, string, depth, items_depth}
+use Rattle.serde_json.specs.View.{items_of}
+use Rattle.w16_ne.specs.declared.entry_table.Entry.{Entry}
+use Rattle.w16_ne.specs.declared.entry_table.Entry.TheVariants.{InSegment, Constant}
+use Rattle.w16_ne.specs.declared.segment_table.Segment.{Segment}
+use Rattle.w16_ne.specs.Modules.{Tables, listed_resources}
+use Rattle.w16_ne.specs.Resources as resources
+use Rattle.w16_ne.specs.Resources.{Label, Number, Text}
+use Rattle.w16_reloc.specs.declared.fault.RelocFault.{RelocFault}
+use Rattle.w16_reloc.specs.declared.record.Fixup.{Fixup}
+use Rattle.w16_reloc.specs.declared.record.Record.{Record}
+use Rattle.w16_reloc.specs.declared.record.Record.TheVariants.{Stored, Added, System}
+use Rattle.w16_reloc.specs.declared.record.Target.{Target}
+use Rattle.w16_reloc.specs.declared.record.Target.TheVariants as target
+use Rattle.w16_reloc.specs.Naming.{offsets_of}
+use Rattle.w16_reloc.specs.Segments.{Held, checked}
+use Rattle.w16_show.specs.Numbered.{numbered}
+use Rattle.w16_show.specs.Words.{kind_name}
+use Rattle.w16_show.specs.Text.{ordinals}
+use Rattle.w16_show.specs.Json.{n, target_json, fixup_json, relocation_json, segment_said, segment_json, entry_json, name_json, reference_json, label_json, kind_json, resource_object, resource_json, sizes_json, start_json, fields_json, header_json, module_json, whole_json}
+
+-- each nests at most so deep
+abbrev Shallow : ℕ → List Data → Type 0
+Shallow k [] = Unit {0}
+Shallow k (d ∷ ds) = (depth d ≤ k) × Shallow k ds
+
+in_list : (k : ℕ) (ds : List Data) → Shallow k ds → items_depth (items_of ds) ≤ k
+in_list k [] s = omega arith
+in_list k (d ∷ ds) s = let own = s.0 in let others = in_list k ds s.1 in omega (arith, own, others)
+
+both : (k : ℕ) (xs ys : List Data) → Shallow k xs → Shallow k ys → Shallow k (xs ++ ys)
+both k [] ys s t = t
+both k (x ∷ xs) ys s t = (s.0, both k xs ys s.1 t)
+
+in_numbered : {X : Type 0} (k : ℕ) (gives : ℕ → X → List Data) → ((i : ℕ) (x : X) → Shallow k (gives i x)) → (i : ℕ) (xs : List X) → Shallow k (numbered gives i xs)
+in_numbered k gives each i [] = tt
+in_numbered k gives each i (x ∷ xs) = both k (gives i x) (numbered gives (suc i) xs) (each i x) (in_numbered k gives each (suc i) xs)
+
+in_map : {X : Type 0} (k : ℕ) (f : X → Data) → ((x : X) → depth (f x) ≤ k) → (xs : List X) → Shallow k (map f xs)
+in_map k f each [] = tt
+in_map k f each (x ∷ xs) = (each x, in_map k f each xs)
+
+target-depth : (file : List ℕ) (tables : Tables) (t : Target) → depth (target_json file tables t) ≤ 1
+target-depth file tables (target.Internal segment offset) = omega arith
+target-depth file tables (target.Entry ordinal) = omega arith
+target-depth file tables (target.ByOrdinal reference ordinal) = omega arith
+target-depth file tables (target.ByName reference name) = omega arith
+
+fixup-depth : (file : List ℕ) (tables : Tables) (sites : List ℕ) (add : Bool) (fixup : Fixup) → depth (fixup_json file tables sites add fixup) ≤ 2
+fixup-depth file tables sites add fixup =
+    let offsets = in_list 0 (map n sites) (in_map 0 n (λ x. omega arith) sites) in
+    let where_to = target-depth file tables fixup.target in
+    omega (arith, offsets, where_to)
+
+relocation-depth : (file : List ℕ) (tables : Tables) (bytes : List ℕ) (r : Record) → depth (relocation_json file tables bytes r) ≤ 2
+relocation-depth file tables bytes (Stored fixup) = fixup-depth file tables (offsets_of bytes (Stored fixup)) false fixup
+relocation-depth file tables bytes (Added fixup) = fixup-depth file tables (offsets_of bytes (Added fixup)) true fixup
+relocation-depth file tables bytes System = omega arith
+
+segment-depth : (file : List ℕ) (tables : Tables) (i : ℕ) (s : Segment) (said : Result Held RelocFault) → depth (segment_said file tables i s said) ≤ 4
+segment-depth file tables i s (Ok held) =
+    let records = in_list 2 (map (relocation_json file tables held.bytes) held.records) (in_map 2 (relocation_json file tables held.bytes) (relocation-depth file tables held.bytes) held.records) in
+    omega (arith, records)
+segment-depth file tables i s (Err fault) = omega arith
+
+entry-depth : (i : ℕ) (entry : Option Entry) → Shallow 4 (entry_json i entry)
+entry-depth i None = tt
+entry-depth i (Some (InSegment segment offset)) = (omega arith, tt)
+entry-depth i (Some (Constant value)) = (omega arith, tt)
+
+label-depth : (l : Label) → depth (label_json l) ≤ 0
+label-depth (Number x) = omega arith
+label-depth (Text bytes) = omega arith
+
+named-depth : (name : Option (List ℕ)) → depth (unwrap_or (option_map string name) null) ≤ 0
+named-depth None = omega arith
+named-depth (Some name) = omega arith
+
+kind-depth : (l : Label) → depth (kind_json l) ≤ 0
+kind-depth (Number x) = named-depth (kind_name x)
+kind-depth (Text bytes) = omega arith
+
+resource-depth : (r : Label × resources.Entry) → depth (resource_object r) ≤ 4
+resource-depth r =
+    let kind = label-depth r.0 in
+    let id = label-depth r.1.id in
+    let name = kind-depth r.0 in
+    omega (arith, kind, id, name)
+
+header-depth : (tables : Tables) → depth (header_json tables) ≤ 4
+unfolding header_json fields_json sizes_json start_json
+header-depth tables = omega arith
+
+module-depth : (file : List ℕ) (tables : Tables) → depth (module_json file tables) ≤ 6
+unfolding module_json
+module-depth file tables =
+    let entries = in_list 4 (numbered entry_json 1 (ordinals tables)) (in_numbered 4 entry_json entry-depth 1 (ordinals tables)) in
+    let header = header-depth tables in
+    let names = in_list 4 (numbered (name_json tables.resident) 0 tables.names) (in_numbered 4 (name_json tables.resident) (λ i x. (omega arith, tt)) 0 tables.names) in
+    let references = in_list 4 (numbered reference_json 1 tables.references) (in_numbered 4 reference_json (λ i x. (omega arith, tt)) 1 tables.references) in
+    let listed = in_list 4 (numbered resource_json 1 (listed_resources tables.resources)) (in_numbered 4 resource_json (λ i x. (resource-depth x, tt)) 1 (listed_resources tables.resources)) in
+    let segments = in_list 4 (numbered (segment_json file tables) 1 tables.segments) (in_numbered 4 (segment_json file tables) (λ i s. (segment-depth file tables i s (checked file tables s), tt)) 1 tables.segments) in
+    omega (arith, entries, header, names, references, listed, segments)
+
+pub whole-depth : (name file : List ℕ) (tables : Tables) (sound : Bool) → depth (whole_json name file tables sound) ≤ 127
+whole-depth name file tables sound = let inner = module-depth file tables in omega (arith, inner)

@@ -1,0 +1,6 @@
+pub mod Numbering
+pub mod Honest
+pub mod Chains
+pub mod Values
+pub mod Verdicts
+pub mod Depths

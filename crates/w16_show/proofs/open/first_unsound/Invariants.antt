@@ -1,0 +1,10 @@
+use Rattle.std.proofs.Common.{◌≡◌, ℕ, ◌+◌, List, Some, Ok, drop}
+use Rattle.w16_store.specs.Files.{file_of}
+use Rattle.w16_ne.specs.Modules.{tables_at}
+use Rattle.w16_show.specs.Report.{first_unsound}
+use Rattle.w16_show.proofs.open.first_unsound.Given as goal
+
+abbrev pub invariant-loop-i : goal.invariant-loop-i
+invariant-loop-i l =
+    (l.store ≡ l.initial.store) × ((file : List ℕ) → file_of l.initial.store l.name ≡ Some file → tables_at (Some file) ≡ Ok l.module
+    → first_unsound file l.module (l.i + 1) (drop l.i l.module.segments) ≡ first_unsound file l.module 1 l.module.segments)

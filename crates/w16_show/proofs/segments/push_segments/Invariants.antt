@@ -1,0 +1,11 @@
+use Rattle.std.proofs.Common.{◌≡◌, ℕ, ◌++◌, ◌+◌, List, Some, Ok, drop, string_bytes}
+use Rattle.w16_store.specs.Files.{file_of}
+use Rattle.w16_ne.specs.Modules.{tables_at}
+use Rattle.w16_show.specs.Numbered.{numbered}
+use Rattle.w16_show.specs.Text.{whole_segment}
+use Rattle.w16_show.proofs.segments.push_segments.Given as goal
+
+abbrev pub invariant-loop-i : goal.invariant-loop-i
+invariant-loop-i l =
+    (l.store ≡ l.initial.store) × ((file : List ℕ) → file_of l.initial.store l.name ≡ Some file → tables_at (Some file) ≡ Ok l.module
+    → string_bytes l.out ++ numbered (whole_segment file l.module) (l.i + 1) (drop l.i l.module.segments) ≡ string_bytes l.initial.out ++ numbered (whole_segment file l.module) 1 l.module.segments)

@@ -1,0 +1,7 @@
+-- What the contracts cite.
+pub mod Numbered
+pub mod Words
+pub mod Text
+pub mod Json
+pub mod Report
+pub mod Extract

@@ -1,0 +1,88 @@
+//! The lines of entries and of their names.
+ghost use Rattle.std.specs.Prelude.{◌≡◌, Some, length, string_bytes};
+ghost use Rattle.w16_ne.specs.declared.entry_table.Entry.TheVariants.{Constant};
+ghost use Rattle.w16_show.specs.Numbered.{numbered};
+ghost use Rattle.w16_show.specs.Words.{Adds};
+ghost use Rattle.w16_show.specs.Text.{ordinals, entry_text, standing_text, name_text};
+
+use crate::bytes::push_escaped;
+use std::alloc::AllocError;
+use w16_ne::{Entry, Module};
+
+/// How many ordinals a module has: none is over 65,535.
+pub fn ordinal_count(module: &Module) -> u16
+    ensures { result ≡ length (ordinals module.now) }
+{
+    module.entry_count().min(usize::from(u16::MAX)) as u16
+}
+
+/// Puts the line of a constant behind a text.
+#[tactic(auto, unfolding(crate::specs::Text::entry_text))]
+fn push_constant(out: &mut String, ordinal: u16, value: u16) -> Result<(), AllocError>
+    ensures { Adds result (string_bytes out.old) (string_bytes out.new) (entry_text ordinal (Some (Constant value))) }
+{
+    writeln!(out, "entry {ordinal}: constant {value:04x}")
+}
+
+/// Puts the line of an ordinal behind a text, where it has an entry.
+#[tactic(auto, unfolding(crate::specs::Text::entry_text))]
+fn push_entry(out: &mut String, ordinal: u16, entry: Option<Entry>) -> Result<(), AllocError>
+    ensures { Adds result (string_bytes out.old) (string_bytes out.new) (entry_text ordinal entry) }
+{
+    match entry {
+        None => Ok(()),
+        Some(Entry::InSegment { segment, offset }) => {
+            writeln!(out, "entry {ordinal}: {segment}:{offset:04x}")
+        }
+        Some(Entry::Constant(value)) => push_constant(out, ordinal, value),
+    }
+}
+
+/// Puts the lines of all entries behind a text.
+pub fn push_entries(out: &mut String, module: &Module) -> Result<(), AllocError>
+    ensures { Adds result (string_bytes out.old) (string_bytes out.new) (numbered entry_text 1 (ordinals module.now)) }
+{
+    for i in 0..ordinal_count(module) {
+        push_entry(out, i + 1, module.entry(i + 1))?;
+    }
+    Ok(())
+}
+
+/// Puts how a name stands in the file behind a text.
+#[tactic(auto, unfolding(crate::specs::Text::standing_text))]
+fn push_standing(out: &mut String, resident: bool) -> Result<(), AllocError>
+    ensures { Adds result (string_bytes out.old) (string_bytes out.new) (standing_text resident) }
+{
+    if resident {
+        out.push_str("resident name ")
+    } else {
+        out.push_str("nonresident name ")
+    }
+}
+
+/// Puts the line of a name, by its number from 0, behind a text: of a module with so many resident ones.
+#[tactic(auto, unfolding(crate::specs::Text::name_text))]
+fn push_name(
+    out: &mut String,
+    resident: usize,
+    i: usize,
+    text: &[u8],
+    ordinal: u16,
+) -> Result<(), AllocError>
+    ensures { Adds result (string_bytes out.old) (string_bytes out.new) (name_text resident i (text.now, ordinal)) }
+{
+    push_standing(out, i < resident)?;
+    push_escaped(out, text)?;
+    writeln!(out, ": entry {ordinal}")
+}
+
+/// Puts the lines of all names of entries behind a text.
+pub fn push_names(out: &mut String, module: &Module) -> Result<(), AllocError>
+    ensures { Adds result (string_bytes out.old) (string_bytes out.new) (numbered (name_text module.now.resident) 0 module.now.names) }
+{
+    for i in 0..module.name_count() {
+        let (text, ordinal) = module.entry_name(i);
+        push_name(out, module.resident_count(), i, text, ordinal)?;
+    }
+    Ok(())
+}

@@ -1,0 +1,120 @@
+//! What is printed of a file as JSON.
+ghost use Rattle.std.specs.Prelude.{◌≡◌, ℕ, List, Some, Ok, Err, IfOk, string_bytes};
+ghost use Rattle.serde_json.specs.Read.{read};
+ghost use Rattle.serde_json.specs.View.{view};
+ghost use Rattle.w16_store.specs.Files.{file_of};
+ghost use Rattle.w16_ne.specs.Modules.{Tables, tables_at};
+ghost use Rattle.w16_show.specs.Json.{module_json, whole_json, fault_json, is_sound};
+ghost use Rattle.w16_show.specs.Report.{verdict_of, json_of};
+
+use crate::json_header::header_value;
+use crate::json_segments::segments_value;
+use crate::json_tables::{entries_value, names_value, references_value, resources_value};
+use crate::json_values::word_value;
+use crate::open::{FILE, module_of, store_of, verdict};
+use crate::text::Shown;
+use crate::verdict::Verdict;
+use crate::words::push_fault;
+use serde_json::{Value, json};
+use std::alloc::{AllocError, Global};
+use w16_ne::{Module, NeFault};
+use w16_reloc::Scratch;
+use w16_store::MemStore;
+
+/// Whether a verdict finds nothing wrong.
+fn is_sound(verdict: &Verdict) -> bool
+    ensures { result ≡ is_sound verdict.now }
+{
+    matches!(verdict, Verdict::Sound)
+}
+
+/// What is said of a module.
+#[tactic(auto, unfolding(crate::specs::Json::module_json))]
+fn module_value(
+    alloc: Global,
+    store: &mut MemStore,
+    module: &Module,
+    scratch: &mut Scratch,
+) -> Result<Value, AllocError>
+    ensures { (file : List ℕ) → file_of store.old FILE.now ≡ Some file → tables_at (Some file) ≡ Ok module.now
+        → IfOk result (λ v. view v ≡ module_json file module.now) }
+{
+    let entries = entries_value(alloc, module)?;
+    let header = header_value(alloc, module)?;
+    let names = names_value(alloc, module)?;
+    let references = references_value(alloc, module)?;
+    let resources = resources_value(alloc, module)?;
+    let segments = segments_value(alloc, store, FILE, module, scratch)?;
+    json!(in alloc; {
+        "entries": entries,
+        "header": header,
+        "names": names,
+        "references": references,
+        "resources": resources,
+        "segments": segments
+    })
+}
+
+/// What is said of a file whose module is accepted.
+fn whole_value(alloc: Global, name: &str, said: Value, sound: bool) -> Result<Value, AllocError>
+    ensures { (file : List ℕ) (tables : Tables) → view said ≡ module_json file tables → IfOk result (λ v. view v ≡ whole_json name.now file tables sound) }
+{
+    let file = word_value(alloc, name)?;
+    json!(in alloc; {"fault": null, "file": file, "module": said, "sound": sound})
+}
+
+/// What is said of a file whose module isn't accepted.
+fn fault_value(alloc: Global, name: &str, fault: NeFault) -> Result<Value, AllocError>
+    ensures { IfOk result (λ v. view v ≡ fault_json name.now fault) }
+{
+    let mut word = String::new(alloc);
+    push_fault(&mut word, fault)?;
+    let word = Value::String(word);
+    let file = word_value(alloc, name)?;
+    json!(in alloc; {"fault": word, "file": file})
+}
+
+/// What is printed of a file whose module is accepted.
+fn module_shown(
+    alloc: Global,
+    name: &str,
+    store: &mut MemStore,
+    module: &Module,
+) -> Result<Shown, AllocError>
+    ensures text { (file : List ℕ) → file_of store.old FILE.now ≡ Some file → tables_at (Some file) ≡ Ok module.now
+        → IfOk result (λ shown. read (string_bytes shown.text) ≡ Some (json_of name.now file (Ok module.now))) }
+    ensures verdict { (file : List ℕ) → file_of store.old FILE.now ≡ Some file → tables_at (Some file) ≡ Ok module.now
+        → IfOk result (λ shown. shown.verdict ≡ verdict_of file (Ok module.now)) }
+{
+    let mut scratch = Scratch::new(alloc)?;
+    let verdict = verdict(store, FILE, module, &mut scratch);
+    let sound = is_sound(&verdict);
+    let module = module_value(alloc, store, module, &mut scratch)?;
+    let value = whole_value(alloc, name, module, sound)?;
+    let text = value.to_string(alloc)?;
+    Ok(Shown { text, verdict })
+}
+
+/// What is printed of a file whose module isn't accepted.
+fn fault_shown(alloc: Global, name: &str, fault: NeFault) -> Result<Shown, AllocError>
+    ensures text { (file : List ℕ) → IfOk result (λ shown. read (string_bytes shown.text) ≡ Some (json_of name.now file (Err fault))) }
+    ensures verdict { IfOk result (λ shown. shown.verdict ≡ Verdict.NotAccepted fault) }
+{
+    let value = fault_value(alloc, name, fault)?;
+    let text = value.to_string(alloc)?;
+    let verdict = Verdict::NotAccepted(fault);
+    Ok(Shown { text, verdict })
+}
+
+/// Prints a module file as JSON, in one line without its end: what `show_text` prints of all its parts, and nothing but the first fault of a file
+/// whose module isn't accepted. The text reads back as exactly that. An error is want of memory.
+pub fn show_json(alloc: Global, name: &str, file: &[u8]) -> Result<Shown, AllocError>
+    ensures text { IfOk result (λ shown. read (string_bytes shown.text) ≡ Some (json_of name.now file.now (tables_at (Some file.now)))) }
+    ensures verdict { IfOk result (λ shown. shown.verdict ≡ verdict_of file.now (tables_at (Some file.now))) }
+{
+    let mut store = store_of(alloc, file)?;
+    match module_of(alloc, &mut store, FILE)? {
+        Ok(module) => module_shown(alloc, name, &mut store, &module),
+        Err(fault) => fault_shown(alloc, name, fault),
+    }
+}

@@ -1,0 +1,208 @@
+//! Segments and their relocation records as JSON.
+ghost use Rattle.std.specs.Prelude.{◌≡◌, ℕ, ◌<◌, ◌≤◌, ◌-◌, List, [], ◌∷◌, Some, Ok, length, map, slice_get, IfOk};
+ghost use Rattle.serde_json.specs.Data.{Data};
+ghost use Rattle.serde_json.specs.View.{view};
+ghost use Rattle.w16_store.specs.Files.{file_of};
+ghost use Rattle.w16_ne.specs.Modules.{tables_at};
+ghost use Rattle.w16_reloc.specs.Segments.{checked};
+ghost use Rattle.w16_show.specs.Numbered.{numbered};
+ghost use Rattle.w16_show.specs.Text.{imported_name};
+ghost use Rattle.w16_show.specs.Json.{text, list, target_json, fixup_json, relocation_json, segment_object, segment_said, segment_json};
+
+use crate::json_values::{offsets_value, text_value, word_value};
+use crate::relocations::{NAME_ROOM, read_name, reference_name};
+use crate::sites::sites_of;
+use crate::words::{part_word, unsound_word};
+use serde_json::{Value, json};
+use std::alloc::{AllocError, Global};
+use w16_ne::{Module, Segment};
+use w16_reloc::{Fixup, Record, Scratch, Target, check};
+use w16_store::MemStore;
+
+/// An imported name.
+fn name_value(
+    alloc: Global,
+    store: &mut MemStore,
+    name: &[u8],
+    module: &Module,
+    offset: u16,
+) -> Result<Value, AllocError>
+    ensures same { store.new ≡ store.old }
+    ensures value { (file : List ℕ) → file_of store.old name.now ≡ Some file → tables_at (Some file) ≡ Ok module.now
+        → IfOk result (λ v. view v ≡ text (imported_name file module.now offset)) }
+{
+    let mut room = [0; NAME_ROOM];
+    let len = read_name(store, name, module, offset, &mut room)?;
+    text_value(alloc, &room[..len])
+}
+
+/// Where a record points.
+fn target_value(
+    alloc: Global,
+    store: &mut MemStore,
+    name: &[u8],
+    module: &Module,
+    target: Target,
+) -> Result<Value, AllocError>
+    ensures same { store.new ≡ store.old }
+    ensures value { (file : List ℕ) → file_of store.old name.now ≡ Some file → tables_at (Some file) ≡ Ok module.now
+        → IfOk result (λ v. view v ≡ target_json file module.now target) }
+{
+    match target {
+        Target::Internal { segment, offset } => {
+            json!(in alloc; {"offset": offset, "segment": segment})
+        }
+        Target::Entry { ordinal } => json!(in alloc; {"ordinal": ordinal}),
+        Target::ByOrdinal { reference, ordinal } => {
+            let from = text_value(alloc, reference_name(module, reference))?;
+            json!(in alloc; {"module": from, "ordinal": ordinal})
+        }
+        Target::ByName {
+            reference,
+            name: text,
+        } => {
+            let from = text_value(alloc, reference_name(module, reference))?;
+            let imported = name_value(alloc, store, name, module, text)?;
+            json!(in alloc; {"module": from, "name": imported})
+        }
+    }
+}
+
+/// A fixup, with its sites, and whether its value is added.
+fn fixup_value(
+    alloc: Global,
+    store: &mut MemStore,
+    name: &[u8],
+    module: &Module,
+    sites: &[u16],
+    add: bool,
+    fixup: &Fixup,
+) -> Result<Value, AllocError>
+    ensures same { store.new ≡ store.old }
+    ensures value { (file : List ℕ) → file_of store.old name.now ≡ Some file → tables_at (Some file) ≡ Ok module.now
+        → IfOk result (λ v. view v ≡ fixup_json file module.now sites.now add fixup.now) }
+{
+    let part = word_value(alloc, part_word(fixup.part))?;
+    let sites = offsets_value(alloc, sites)?;
+    let target = target_value(alloc, store, name, module, fixup.target)?;
+    json!(in alloc; {"add": add, "part": part, "sites": sites, "target": target})
+}
+
+/// A record. The vector is room for its sites.
+fn relocation_value(
+    alloc: Global,
+    store: &mut MemStore,
+    name: &[u8],
+    module: &Module,
+    bytes: &[u8],
+    relocation: &Record,
+    sites: &mut Vec<u16>,
+) -> Result<Value, AllocError>
+    ensures same { store.new ≡ store.old }
+    ensures value { (file : List ℕ) → file_of store.old name.now ≡ Some file → tables_at (Some file) ≡ Ok module.now
+        → IfOk result (λ v. view v ≡ relocation_json file module.now bytes.now relocation.now) }
+{
+    sites_of(bytes, relocation, sites)?;
+    match relocation {
+        Record::Stored(fixup) => fixup_value(alloc, store, name, module, sites, false, fixup),
+        Record::Added(fixup) => fixup_value(alloc, store, name, module, sites, true, fixup),
+        Record::System => json!(in alloc; {"system": true}),
+    }
+}
+
+/// The records of the segment that was checked last.
+fn relocations_value(
+    alloc: Global,
+    store: &mut MemStore,
+    name: &[u8],
+    module: &Module,
+    scratch: &Scratch,
+) -> Result<Value, AllocError>
+    ensures same { store.new ≡ store.old }
+    ensures value { (file : List ℕ) → file_of store.old name.now ≡ Some file → tables_at (Some file) ≡ Ok module.now
+        → IfOk result (λ v. view v ≡ list (map (relocation_json file module.now scratch.now.bytes) scratch.now.records)) }
+{
+    let mut sites = Vec::new(alloc);
+    let mut values = Vec::new(alloc);
+    for relocation in scratch.records() {
+        let value = relocation_value(
+            alloc,
+            store,
+            name,
+            module,
+            scratch.bytes(),
+            relocation,
+            &mut sites,
+        )?;
+        values.push(value)?;
+    }
+    Ok(Value::Array(values))
+}
+
+/// A segment with its records, or with their first fault.
+fn segment_object(
+    alloc: Global,
+    number: usize,
+    segment: &Segment,
+    fault: Value,
+    records: Value,
+) -> Result<Value, AllocError>
+    ensures { (items : List Data) → view records ≡ list items → IfOk result (λ v. view v ≡ segment_object number segment.now (view fault) items) }
+{
+    json!(in alloc; {
+        "fault": fault,
+        "flags": segment.flags.0,
+        "length": segment.len,
+        "number": number,
+        "object": segment.size,
+        "place": segment.place,
+        "relocations": records
+    })
+}
+
+/// A segment by its number, from 1.
+fn segment_value(
+    alloc: Global,
+    store: &mut MemStore,
+    name: &[u8],
+    module: &Module,
+    number: usize,
+    scratch: &mut Scratch,
+) -> Result<Value, AllocError>
+    requires first { 0 < number }
+    requires last { number ≤ length module.now.segments }
+    ensures same { store.new ≡ store.old }
+    ensures value { (file : List ℕ) (s : Segment) → file_of store.old name.now ≡ Some file → tables_at (Some file) ≡ Ok module.now
+        → slice_get module.now.segments (number - 1) ≡ Some s → IfOk result (λ v. view v ≡ segment_said file module.now number s (checked file module.now s)) }
+{
+    let segment = module.segment(number);
+    match check(store, name, module, number, scratch) {
+        Ok(()) => {
+            let records = relocations_value(alloc, store, name, module, scratch)?;
+            segment_object(alloc, number, &segment, Value::Null, records)
+        }
+        Err(fault) => {
+            let word = word_value(alloc, unsound_word(fault))?;
+            segment_object(alloc, number, &segment, word, Value::Array(Vec::new(alloc)))
+        }
+    }
+}
+
+/// All segments.
+pub fn segments_value(
+    alloc: Global,
+    store: &mut MemStore,
+    name: &[u8],
+    module: &Module,
+    scratch: &mut Scratch,
+) -> Result<Value, AllocError>
+    ensures same { store.new ≡ store.old }
+    ensures value { (file : List ℕ) → file_of store.old name.now ≡ Some file → tables_at (Some file) ≡ Ok module.now
+        → IfOk result (λ v. view v ≡ list (numbered (segment_json file module.now) 1 module.now.segments)) }
+{
+    let mut values = Vec::new(alloc);
+    for i in 0..module.segment_count() {
+        values.push(segment_value(alloc, store, name, module, i + 1, scratch)?)?;
+    }
+    Ok(Value::Array(values))
+}

@@ -1,0 +1,28 @@
+//! What a module file says, as text and as JSON, with a verdict on it.
+#![tactic(auto)]
+
+mod bytes;
+mod entries;
+mod extract;
+mod header;
+mod json;
+mod json_header;
+mod json_segments;
+mod json_tables;
+mod json_values;
+mod open;
+mod parts;
+mod references;
+mod relocations;
+mod resources;
+mod segments;
+mod sites;
+mod text;
+mod verdict;
+mod words;
+
+pub use extract::Resources;
+pub use json::show_json;
+pub use parts::Parts;
+pub use text::{Shown, show_text};
+pub use verdict::{Unsound, Verdict};

@@ -1,0 +1,71 @@
+//! A file, opened: its module, and the verdict on it.
+ghost use Rattle.std.specs.Prelude.{◌≡◌, ℕ, List, Some, Ok, IfOk, OnOk};
+ghost use Rattle.w16_store.specs.Files.{file_of};
+ghost use Rattle.w16_ne.specs.Modules.{tables_at};
+ghost use Rattle.w16_show.specs.Report.{first_unsound, verdict_on, verdict_of};
+
+use crate::verdict::{Unsound, Verdict};
+use std::alloc::{AllocError, Global};
+use w16_ne::{Module, NeFault, read_module};
+use w16_reloc::{Scratch, check};
+use w16_store::MemStore;
+
+/// The name of the one file in its store.
+pub const FILE: &[u8] = b"FILE";
+
+/// A store of one file.
+pub fn store_of(alloc: Global, file: &[u8]) -> Result<MemStore, AllocError>
+    ensures { IfOk result (λ store. file_of store FILE.now ≡ Some file.now) }
+{
+    let mut store = MemStore::new(alloc);
+    store.add(FILE, file)?;
+    Ok(store)
+}
+
+/// The module of a file, or the file's first fault.
+pub fn module_of(
+    alloc: Global,
+    store: &mut MemStore,
+    name: &[u8],
+) -> Result<Result<Module, NeFault>, AllocError>
+    ensures same { store.new ≡ store.old }
+    ensures read { (file : List ℕ) → file_of store.old name.now ≡ Some file → IfOk result (λ read. read ≡ tables_at (Some file)) }
+{
+    match read_module(alloc, store, name) {
+        Ok(module) => Ok(Ok(module)),
+        Err(NeFault::OutOfMemory) => Err(AllocError),
+        Err(fault) => Ok(Err(fault)),
+    }
+}
+
+/// The first segment that isn't sound; none where all are.
+fn first_unsound(
+    store: &mut MemStore,
+    name: &[u8],
+    module: &Module,
+    scratch: &mut Scratch,
+) -> Option<Unsound>
+    ensures same { store.new ≡ store.old }
+    ensures first { (file : List ℕ) → file_of store.old name.now ≡ Some file → tables_at (Some file) ≡ Ok module.now
+        → result ≡ first_unsound file module.now 1 module.now.segments }
+{
+    for i in 0..module.segment_count() {
+        let segment = i + 1;
+        if let Err(fault) = check(store, name, module, segment, scratch) {
+            return Some(Unsound { segment, fault });
+        }
+    }
+    None
+}
+
+/// The verdict on a file whose module is accepted.
+pub fn verdict(store: &mut MemStore, name: &[u8], module: &Module, scratch: &mut Scratch) -> Verdict
+    ensures same { store.new ≡ store.old }
+    ensures verdict { (file : List ℕ) → file_of store.old name.now ≡ Some file → tables_at (Some file) ≡ Ok module.now
+        → result ≡ verdict_of file (Ok module.now) }
+{
+    match first_unsound(store, name, module, scratch) {
+        None => Verdict::Sound,
+        Some(unsound) => Verdict::NotSound(unsound),
+    }
+}

@@ -1,0 +1,114 @@
+//! The lines of resources.
+ghost use Rattle.std.specs.Prelude.{◌≡◌, Some, string_bytes};
+ghost use Rattle.w16_ne.specs.Resources.{Label, Entry, label_of, entry_of};
+ghost use Rattle.w16_ne.specs.Modules.{listed_resources, resource_at};
+ghost use Rattle.w16_show.specs.Numbered.{numbered};
+ghost use Rattle.w16_show.specs.Words.{Adds};
+ghost use Rattle.w16_show.specs.Text.{label_text, kind_text, labels_text, place_text, resource_words, resource_text};
+
+use crate::bytes::{push_escaped, push_flag};
+use crate::words::kind_word;
+use std::alloc::AllocError;
+use w16_ne::{Module, Resource, ResourceName};
+
+/// Puts a type or an id behind a text: its number, or its text in quotes.
+#[tactic(auto, unfolding(crate::specs::Text::label_text))]
+pub fn push_label(out: &mut String, label: ResourceName<'_>) -> Result<(), AllocError>
+    ensures { Adds result (string_bytes out.old) (string_bytes out.new) (label_text (label_of label.entry)) }
+{
+    match label {
+        ResourceName::Number(n) => write!(out, "#{n}"),
+        ResourceName::Text(text) => {
+            out.push_str("\"")?;
+            push_escaped(out, text)?;
+            out.push_str("\"")
+        }
+    }
+}
+
+/// Puts a type behind a text: the manual's name for it, where it has one.
+#[tactic(auto, unfolding(crate::specs::Text::kind_text))]
+pub fn push_kind(out: &mut String, kind: ResourceName<'_>) -> Result<(), AllocError>
+    ensures { Adds result (string_bytes out.old) (string_bytes out.new) (kind_text (label_of kind.entry)) }
+{
+    if let ResourceName::Number(n) = kind
+        && let Some(word) = kind_word(n)
+    {
+        return out.push_str(word);
+    }
+    push_label(out, kind)
+}
+
+/// Puts the words of a resource's flags behind a text.
+#[tactic(auto, unfolding(crate::specs::Text::resource_words))]
+fn push_words(out: &mut String, flags: u16) -> Result<(), AllocError>
+    ensures { Adds result (string_bytes out.old) (string_bytes out.new) (resource_words flags) }
+{
+    push_flag(out, flags, 0x0010, "moveable")?;
+    push_flag(out, flags, 0x0020, "pure")?;
+    push_flag(out, flags, 0x0040, "preload")?;
+    push_flag(out, flags, 0x1000, "discardable")
+}
+
+/// Puts a resource's number, its type and its id behind a text.
+#[tactic(auto, unfolding(crate::specs::Text::labels_text))]
+fn push_labels(
+    out: &mut String,
+    number: usize,
+    kind: ResourceName<'_>,
+    id: ResourceName<'_>,
+) -> Result<(), AllocError>
+    ensures { Adds result (string_bytes out.old) (string_bytes out.new) (labels_text number (label_of kind.entry) (label_of id.entry)) }
+{
+    write!(out, "resource {number}: type ")?;
+    push_kind(out, kind)?;
+    out.push_str(", id ")?;
+    push_label(out, id)
+}
+
+/// Puts where a resource lies, and its flags, behind a text.
+#[tactic(auto, unfolding(crate::specs::Text::place_text))]
+fn push_place(out: &mut String, place: u32, len: u32, flags: u16) -> Result<(), AllocError>
+    ensures { (r : Entry) → r.place ≡ place → r.len ≡ len → r.flags ≡ flags → Adds result (string_bytes out.old) (string_bytes out.new) (place_text r) }
+{
+    write!(
+        out,
+        ", place {place:08x}, length {len:08x}, flags {flags:04x}"
+    )
+}
+
+/// Puts the line of a resource behind a text.
+#[tactic(auto, unfolding(crate::specs::Text::resource_text))]
+fn push_resource(
+    out: &mut String,
+    number: usize,
+    kind: ResourceName<'_>,
+    resource: Resource<'_>,
+) -> Result<(), AllocError>
+    ensures { Adds result (string_bytes out.old) (string_bytes out.new) (resource_text number (label_of kind.entry, entry_of resource.entry)) }
+{
+    push_labels(out, number, kind, resource.id)?;
+    push_place(out, resource.place, resource.len, resource.flags.0)?;
+    push_words(out, resource.flags.0)?;
+    out.push_str("\n")
+}
+
+/// Puts the line of the resource of a number, from 1, behind a text.
+fn push_numbered(out: &mut String, module: &Module, number: usize) -> Result<(), AllocError>
+    ensures { (r : Label × Entry) → resource_at module.now.resources number ≡ Some r → Adds result (string_bytes out.old) (string_bytes out.new) (resource_text number r) }
+{
+    match module.resource(number) {
+        Some((kind, resource)) => push_resource(out, number, kind, resource),
+        None => Ok(()),
+    }
+}
+
+/// Puts the lines of all resources behind a text.
+pub fn push_resources(out: &mut String, module: &Module) -> Result<(), AllocError>
+    ensures { Adds result (string_bytes out.old) (string_bytes out.new) (numbered resource_text 1 (listed_resources module.now.resources)) }
+{
+    for i in 0..module.resource_count() {
+        push_numbered(out, module, i + 1)?;
+    }
+    Ok(())
+}

@@ -1,0 +1,111 @@
+//! The lines of segments.
+ghost use Rattle.std.specs.Prelude.{◌≡◌, ℕ, ◌<◌, ◌≤◌, ◌-◌, List, Some, Ok, length, slice_get, string_bytes};
+ghost use Rattle.w16_store.specs.Files.{file_of};
+ghost use Rattle.w16_ne.specs.Modules.{tables_at};
+ghost use Rattle.w16_ne.specs.declared.segment_table.Segment.{Segment};
+ghost use Rattle.w16_reloc.specs.Segments.{checked};
+ghost use Rattle.w16_show.specs.Numbered.{numbered};
+ghost use Rattle.w16_show.specs.Words.{Adds};
+ghost use Rattle.w16_show.specs.Text.{memory_words, segment_words, data_text, object_text, segment_text, whole_segment, relocations_text};
+
+use crate::bytes::push_flag;
+use crate::relocations::push_relocations;
+use crate::words::unsound_word;
+use std::alloc::AllocError;
+use w16_ne::{Module, Segment};
+use w16_reloc::{Scratch, check};
+use w16_store::MemStore;
+
+/// Puts the words of those flags behind a text that say what a segment is in memory.
+#[tactic(auto, unfolding(crate::specs::Text::memory_words))]
+fn push_memory_words(out: &mut String, flags: u16) -> Result<(), AllocError>
+    ensures { Adds result (string_bytes out.old) (string_bytes out.new) (memory_words flags) }
+{
+    push_flag(out, flags, 0x0001, "data")?;
+    push_flag(out, flags, 0x0010, "moveable")?;
+    push_flag(out, flags, 0x0020, "shareable")?;
+    push_flag(out, flags, 0x0040, "preload")
+}
+
+/// Puts the words of a segment's flags behind a text.
+#[tactic(auto, unfolding(crate::specs::Text::segment_words))]
+fn push_words(out: &mut String, flags: u16) -> Result<(), AllocError>
+    ensures { Adds result (string_bytes out.old) (string_bytes out.new) (segment_words flags) }
+{
+    push_memory_words(out, flags)?;
+    push_flag(out, flags, 0x0080, "protected")?;
+    push_flag(out, flags, 0x0100, "relocations")?;
+    push_flag(out, flags, 0x1000, "discardable")
+}
+
+/// Puts where a segment's data lie in the file behind a text.
+#[tactic(auto, unfolding(crate::specs::Text::data_text))]
+fn push_data(out: &mut String, number: usize, segment: &Segment) -> Result<(), AllocError>
+    ensures { Adds result (string_bytes out.old) (string_bytes out.new) (data_text number segment.now) }
+{
+    let (place, len) = (segment.place, segment.len);
+    write!(out, "segment {number}: place {place:08x}, length {len:05x}")
+}
+
+/// Puts the size of a segment's object and the segment's flags behind a text.
+#[tactic(auto, unfolding(crate::specs::Text::object_text))]
+fn push_object(out: &mut String, segment: &Segment) -> Result<(), AllocError>
+    ensures { Adds result (string_bytes out.old) (string_bytes out.new) (object_text segment.now) }
+{
+    let (size, flags) = (segment.size, segment.flags.0);
+    write!(out, ", object {size:05x}, flags {flags:04x}")
+}
+
+/// Puts the line of a segment behind a text.
+fn push_line(out: &mut String, number: usize, segment: &Segment) -> Result<(), AllocError>
+    ensures { Adds result (string_bytes out.old) (string_bytes out.new) (segment_text number segment.now) }
+{
+    push_data(out, number, segment)?;
+    push_object(out, segment)?;
+    push_words(out, segment.flags.0)?;
+    out.push_str("\n")
+}
+
+/// Puts the records of a segment behind a text, or what isn't sound of them.
+fn push_records(
+    out: &mut String,
+    store: &mut MemStore,
+    name: &[u8],
+    module: &Module,
+    number: usize,
+    scratch: &mut Scratch,
+) -> Result<(), AllocError>
+    requires first { 0 < number }
+    requires last { number ≤ length module.now.segments }
+    ensures same { store.new ≡ store.old }
+    ensures text { (file : List ℕ) (s : Segment) → file_of store.old name.now ≡ Some file → tables_at (Some file) ≡ Ok module.now
+        → slice_get module.now.segments (number - 1) ≡ Some s
+        → Adds result (string_bytes out.old) (string_bytes out.new) (relocations_text file module.now (checked file module.now s)) }
+{
+    match check(store, name, module, number, scratch) {
+        Ok(()) => push_relocations(out, store, name, module, scratch),
+        Err(fault) => {
+            let word = unsound_word(fault);
+            writeln!(out, "  {word}")
+        }
+    }
+}
+
+/// Puts the lines of all segments and of their records behind a text.
+pub fn push_segments(
+    out: &mut String,
+    store: &mut MemStore,
+    name: &[u8],
+    module: &Module,
+    scratch: &mut Scratch,
+) -> Result<(), AllocError>
+    ensures same { store.new ≡ store.old }
+    ensures text { (file : List ℕ) → file_of store.old name.now ≡ Some file → tables_at (Some file) ≡ Ok module.now
+        → Adds result (string_bytes out.old) (string_bytes out.new) (numbered (whole_segment file module.now) 1 module.now.segments) }
+{
+    for i in 0..module.segment_count() {
+        push_line(out, i + 1, &module.segment(i + 1))?;
+        push_records(out, store, name, module, i + 1, scratch)?;
+    }
+    Ok(())
+}

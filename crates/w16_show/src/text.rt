@@ -1,0 +1,178 @@
+//! What is printed of a file as text.
+ghost use Rattle.std.specs.Prelude.{◌≡◌, ℕ, ◌++◌, List, Some, Ok, Err, IfOk, string_bytes};
+ghost use Rattle.w16_store.specs.Files.{file_of};
+ghost use Rattle.w16_show.specs.Words.{Adds};
+ghost use Rattle.w16_ne.specs.Modules.{tables_at, listed_resources};
+ghost use Rattle.w16_show.specs.Numbered.{numbered};
+ghost use Rattle.w16_show.specs.Text.{header_text, whole_segment, ordinals, entry_text, name_text, reference_text, resource_text};
+ghost use Rattle.w16_show.specs.Report.{part, verdict_of, verdict_text, module_text, text_of};
+
+use crate::entries::{push_entries, push_names};
+use crate::header::{push_header, push_title};
+use crate::open::{FILE, module_of, store_of, verdict};
+use crate::parts::Parts;
+use crate::references::push_references;
+use crate::resources::push_resources;
+use crate::segments::push_segments;
+use crate::verdict::Verdict;
+use crate::words::{push_fault, unsound_word};
+use std::alloc::{AllocError, Global};
+use w16_ne::{Module, NeFault};
+use w16_reloc::Scratch;
+use w16_store::MemStore;
+
+/// What is printed of a file.
+#[derive(Debug, Drop)]
+pub struct Shown {
+    pub text: String,
+    pub verdict: Verdict,
+}
+
+/// Puts the line of a verdict behind a text.
+fn push_verdict(out: &mut String, verdict: &Verdict) -> Result<(), AllocError>
+    ensures { Adds result (string_bytes out.old) (string_bytes out.new) (verdict_text verdict.now) }
+{
+    match verdict {
+        Verdict::Sound => out.push_str("sound\n"),
+        Verdict::NotSound(unsound) => {
+            let number = unsound.segment;
+            let word = unsound_word(unsound.fault);
+            writeln!(out, "not sound: segment {number}, {word}")
+        }
+        Verdict::NotAccepted(fault) => {
+            out.push_str("not accepted: ")?;
+            push_fault(out, *fault)?;
+            out.push_str("\n")
+        }
+    }
+}
+
+/// Puts the header behind a text, where it is asked for.
+#[tactic(auto, unfolding(crate::specs::Report::part))]
+fn push_header_part(out: &mut String, asked: bool, module: &Module) -> Result<(), AllocError>
+    ensures { Adds result (string_bytes out.old) (string_bytes out.new) (part asked (header_text module.now.place module.now.header)) }
+{
+    if !asked {
+        return Ok(());
+    }
+    push_header(out, module)
+}
+
+/// Puts the segments behind a text, where they are asked for.
+#[tactic(auto, unfolding(crate::specs::Report::part))]
+fn push_segments_part(
+    out: &mut String,
+    asked: bool,
+    store: &mut MemStore,
+    module: &Module,
+    scratch: &mut Scratch,
+) -> Result<(), AllocError>
+    ensures same { store.new ≡ store.old }
+    ensures text { (file : List ℕ) → file_of store.old FILE.now ≡ Some file → tables_at (Some file) ≡ Ok module.now
+        → Adds result (string_bytes out.old) (string_bytes out.new) (part asked (numbered (whole_segment file module.now) 1 module.now.segments)) }
+{
+    if !asked {
+        return Ok(());
+    }
+    push_segments(out, store, FILE, module, scratch)
+}
+
+/// Puts the entries and their names behind a text, where they are asked for.
+#[tactic(auto, unfolding(crate::specs::Report::part))]
+fn push_entries_part(out: &mut String, asked: bool, module: &Module) -> Result<(), AllocError>
+    ensures { Adds result (string_bytes out.old) (string_bytes out.new) (part asked (numbered entry_text 1 (ordinals module.now) ++ numbered (name_text module.now.resident) 0 module.now.names)) }
+{
+    if !asked {
+        return Ok(());
+    }
+    push_entries(out, module)?;
+    push_names(out, module)
+}
+
+/// Puts the references behind a text, where they are asked for.
+#[tactic(auto, unfolding(crate::specs::Report::part))]
+fn push_references_part(out: &mut String, asked: bool, module: &Module) -> Result<(), AllocError>
+    ensures { Adds result (string_bytes out.old) (string_bytes out.new) (part asked (numbered reference_text 1 module.now.references)) }
+{
+    if !asked {
+        return Ok(());
+    }
+    push_references(out, module)
+}
+
+/// Puts the resources behind a text, where they are asked for.
+#[tactic(auto, unfolding(crate::specs::Report::part))]
+fn push_resources_part(out: &mut String, asked: bool, module: &Module) -> Result<(), AllocError>
+    ensures { Adds result (string_bytes out.old) (string_bytes out.new) (part asked (numbered resource_text 1 (listed_resources module.now.resources))) }
+{
+    if !asked {
+        return Ok(());
+    }
+    push_resources(out, module)
+}
+
+/// Puts the parts of a module that are asked for behind a text.
+fn push_module(
+    out: &mut String,
+    store: &mut MemStore,
+    parts: Parts,
+    module: &Module,
+    scratch: &mut Scratch,
+) -> Result<(), AllocError>
+    ensures same { store.new ≡ store.old }
+    ensures text { (file : List ℕ) → file_of store.old FILE.now ≡ Some file → tables_at (Some file) ≡ Ok module.now
+        → Adds result (string_bytes out.old) (string_bytes out.new) (module_text parts file module.now) }
+{
+    push_header_part(out, parts.header, module)?;
+    push_segments_part(out, parts.segments, store, module, scratch)?;
+    push_entries_part(out, parts.entries, module)?;
+    push_references_part(out, parts.references, module)?;
+    push_resources_part(out, parts.resources, module)
+}
+
+/// What is printed of a file whose module is accepted.
+fn module_shown(
+    alloc: Global,
+    name: &str,
+    store: &mut MemStore,
+    parts: Parts,
+    module: &Module,
+) -> Result<Shown, AllocError>
+    ensures text { (file : List ℕ) → file_of store.old FILE.now ≡ Some file → tables_at (Some file) ≡ Ok module.now
+        → IfOk result (λ shown. string_bytes shown.text ≡ text_of parts name.now file (Ok module.now)) }
+    ensures verdict { (file : List ℕ) → file_of store.old FILE.now ≡ Some file → tables_at (Some file) ≡ Ok module.now
+        → IfOk result (λ shown. shown.verdict ≡ verdict_of file (Ok module.now)) }
+{
+    let mut scratch = Scratch::new(alloc)?;
+    let verdict = verdict(store, FILE, module, &mut scratch);
+    let mut text = String::new(alloc);
+    push_title(&mut text, name, module)?;
+    push_module(&mut text, store, parts, module, &mut scratch)?;
+    push_verdict(&mut text, &verdict)?;
+    Ok(Shown { text, verdict })
+}
+
+/// What is printed of a file whose module isn't accepted.
+fn fault_shown(alloc: Global, name: &str, fault: NeFault) -> Result<Shown, AllocError>
+    ensures text { (file : List ℕ) (parts : Parts) → IfOk result (λ shown. string_bytes shown.text ≡ text_of parts name.now file (Err fault)) }
+    ensures verdict { IfOk result (λ shown. shown.verdict ≡ Verdict.NotAccepted fault) }
+{
+    let verdict = Verdict::NotAccepted(fault);
+    let mut text = String::new(alloc);
+    write!(text, "{name}: ")?;
+    push_verdict(&mut text, &verdict)?;
+    Ok(Shown { text, verdict })
+}
+
+/// Prints a module file as text: which module it has, the parts of it that are asked for, and the verdict on it; of a file whose module isn't
+/// accepted its first fault alone. The name is printed as it is given. An error is want of memory.
+pub fn show_text(alloc: Global, name: &str, file: &[u8], parts: Parts) -> Result<Shown, AllocError>
+    ensures text { IfOk result (λ shown. string_bytes shown.text ≡ text_of parts name.now file.now (tables_at (Some file.now))) }
+    ensures verdict { IfOk result (λ shown. shown.verdict ≡ verdict_of file.now (tables_at (Some file.now))) }
+{
+    let mut store = store_of(alloc, file)?;
+    match module_of(alloc, &mut store, FILE)? {
+        Ok(module) => module_shown(alloc, name, &mut store, parts, &module),
+        Err(fault) => fault_shown(alloc, name, fault),
+    }
+}

@@ -1,0 +1,108 @@
+//! What is printed of the files of a command line.
+use crate::extract::extract;
+use crate::fault::Fault;
+use crate::options::Options;
+use std::alloc::AllocError;
+use std::fs::File;
+use std::io::{self, BufWriter, ErrorKind, Read, Write};
+use w16_show::{Shown, Verdict, show_json, show_text};
+
+/// The statuses of a file: it is sound; it can't be read, or what is taken out of it can't be written; it isn't accepted or isn't sound.
+const SOUND: u8 = 0;
+
+const UNREAD: u8 = 1;
+
+const UNSOUND: u8 = 4;
+
+/// The bytes of a reader to its end.
+fn bytes_of(rt: &HostRuntime, reader: &mut impl Read) -> io::Result<Vec<u8>> {
+    let mut bytes = Vec::new(rt.alloc());
+    reader.read_to_end(&mut bytes)?;
+    Ok(bytes)
+}
+
+/// The bytes of a file, or of standard input for `-`.
+fn read(rt: &HostRuntime, path: &str) -> io::Result<Vec<u8>> {
+    if path == "-" {
+        return bytes_of(rt, &mut rt.reader());
+    }
+    let mut file = File::open(rt, path)?;
+    bytes_of(rt, &mut file)
+}
+
+/// The name that a file is printed under: the last part of its path.
+fn name_of(path: &str) -> &str {
+    match path.rsplit_once('/') {
+        Some((_, name)) => name,
+        None => path,
+    }
+}
+
+/// What is printed of a file.
+fn shown(
+    rt: &HostRuntime,
+    options: &Options<'_>,
+    path: &str,
+    file: &[u8],
+) -> Result<Shown, AllocError> {
+    let name = name_of(path);
+    if options.json {
+        let mut shown = show_json(rt.alloc(), name, file)?;
+        shown.text.push_str("\n")?;
+        return Ok(shown);
+    }
+    show_text(rt.alloc(), name, file, options.parts)
+}
+
+/// The status of a verdict.
+fn status_of(verdict: &Verdict) -> u8 {
+    match verdict {
+        Verdict::Sound => SOUND,
+        Verdict::NotSound(_) | Verdict::NotAccepted(_) => UNSOUND,
+    }
+}
+
+/// Says on standard error why a file can't be read, and answers the status.
+fn unread(rt: &HostRuntime, path: &str, error: io::Error) -> Result<u8, Fault> {
+    if error.kind() == ErrorKind::OutOfMemory {
+        return Err(Fault::Memory);
+    }
+    // Where standard error is gone, the status still tells.
+    let _ = eprintln!(rt; "w16ne: {path}: {error}");
+    Ok(UNREAD)
+}
+
+/// Prints a file, takes out its resources where this is asked for, and answers its status.
+fn show(
+    rt: &HostRuntime,
+    options: &Options<'_>,
+    path: &str,
+    writer: &mut impl Write,
+) -> Result<u8, Fault> {
+    let file = match read(rt, path) {
+        Ok(file) => file,
+        Err(error) => return unread(rt, path, error),
+    };
+    let shown = shown(rt, options, path, &file)?;
+    if writer.write_all(shown.text.as_bytes()).is_err() {
+        return Err(Fault::Write);
+    }
+    let status = status_of(&shown.verdict);
+    match options.extract {
+        None => Ok(status),
+        Some(folder) => Ok(status.max(extract(rt, folder, options.force, &file)?)),
+    }
+}
+
+/// Prints all files of a command line, and answers the highest of their statuses.
+pub fn show_all(rt: &HostRuntime, options: &Options<'_>) -> Result<u8, Fault> {
+    let mut writer = BufWriter::new(rt.alloc(), io::writer(rt))?;
+    let mut status = SOUND;
+    for path in options.files.iter() {
+        status = status.max(show(rt, options, path, &mut writer)?);
+    }
+    match writer.flush() {
+        Ok(()) => Ok(status),
+        Err(_) => Err(Fault::Write),
+    }
+}
