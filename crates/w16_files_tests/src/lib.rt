@@ -1,8 +1,6 @@
-//! Tests of what reads files: stores, modules, relocation, the registry of modules, and what is printed of a file, through their public faces. They stand in a crate of their own, so that what they test is proved once.
+//! Tests of what reads files: stores, modules, relocation, and what is printed of a file, through their public faces. They stand in a crate of their own, so that what they test is proved once.
 #![tactic(auto)]
 
-#[cfg(test)]
-mod loader;
 #[cfg(test)]
 mod ne;
 #[cfg(test)]

@@ -1,4 +1,4 @@
-//! What is printed of the sample files, worked out by a program that was written apart from this one; of their fronts; and resources taken out.
+//! What is printed of the sample files, worked out by programs that were written apart from this one; of their fronts; and resources taken out.
 use crate::ne::answers::{TAPP, TLIB, TRES};
 use std::alloc::{AllocError, Global};
 use std::process::Abort;
@@ -10,7 +10,7 @@ static TLIB_JSON: &str =
     "{\"fault\":null,\"file\":\"TLIB.DLL\",\"module\":{\"entries\":[{\"offset\":0,\"ordinal\":1,\"segment\":1},{\"offset\":4,\"ordinal\":2,\"segment\":2}],\
 \"header\":{\"description\":\"T\",\"fields\":{\"flags\":32768,\"linker\":[5,10],\"shift\":4,\"sizes\":{\"automatic_data\":0,\"heap\":0,\"stack\":0},\
 \"start\":{\"entry\":[0,0],\"stack_top\":[0,0]},\"target\":2,\"version\":[3,10]},\"library\":true,\"name\":\"TLIB\",\"place\":64},\
-\"names\":[{\"name\":\"GETA\",\"ordinal\":1,\"resident\":true},{\"name\":\"GETB\",\"ordinal\":2,\"resident\":true}],\"references\":[],\"resources\":[],\
+\"imports\":[],\"names\":[{\"name\":\"GETA\",\"ordinal\":1,\"resident\":true},{\"name\":\"GETB\",\"ordinal\":2,\"resident\":true}],\"references\":[],\"resources\":[],\
 \"segments\":[{\"fault\":null,\"flags\":4432,\"length\":16,\"number\":1,\"object\":32,\"place\":192,\
 \"relocations\":[{\"add\":false,\"part\":\"pointer\",\"sites\":[1,6],\"target\":{\"offset\":4,\"segment\":2}},\
 {\"add\":true,\"part\":\"offset\",\"sites\":[11],\"target\":{\"offset\":4,\"segment\":2}}]},\
@@ -24,7 +24,7 @@ static TAPP_JSON: &str = "{\"fault\":null,\"file\":\"TAPP.EXE\",\"module\":{\"en
 \\u0000\\u0000\\u0000\\u0000\\u0000\\u0000\\u0000\\u0000\\u0000\\u0000@\\u0000\\u0000\\u0000NE\\u0005\\n]\\u0000\
 \\u0001\\u0000\\u0000\\u0000\\u0000\\u0000\\u0000\\u0000\",\"fields\":{\"flags\":0,\"linker\":[5,10],\"shift\":4,\"sizes\":{\"automatic_data\":0,\"heap\":0,\"stack\":0},\
 \"start\":{\"entry\":[0,0],\"stack_top\":[0,0]},\"target\":2,\"version\":[3,10]},\"library\":false,\"name\":\"TAPP\",\"place\":64},\
-\"names\":[],\"references\":[\"TLIB\"],\"resources\":[],\
+\"imports\":[{\"module\":\"TLIB\",\"ordinal\":1},{\"module\":\"TLIB\",\"ordinal\":9},{\"module\":\"TLIB\",\"name\":\"GETB\"}],\"names\":[],\"references\":[\"TLIB\"],\"resources\":[],\
 \"segments\":[{\"fault\":null,\"flags\":4432,\"length\":16,\"number\":1,\"object\":32,\"place\":160,\
 \"relocations\":[{\"add\":false,\"part\":\"pointer\",\"sites\":[1],\"target\":{\"module\":\"TLIB\",\"ordinal\":1}},\
 {\"add\":false,\"part\":\"pointer\",\"sites\":[6],\"target\":{\"module\":\"TLIB\",\"name\":\"GETB\"}},\
@@ -33,7 +33,7 @@ static TAPP_JSON: &str = "{\"fault\":null,\"file\":\"TAPP.EXE\",\"module\":{\"en
 static TRES_JSON: &str = "{\"fault\":null,\"file\":\"TRES.DLL\",\"module\":{\"entries\":[],\
 \"header\":{\"description\":\"\",\"fields\":{\"flags\":32768,\"linker\":[5,10],\"shift\":4,\"sizes\":{\"automatic_data\":0,\"heap\":0,\"stack\":0},\
 \"start\":{\"entry\":[0,0],\"stack_top\":[0,0]},\"target\":2,\"version\":[3,10]},\"library\":true,\"name\":\"TRES\",\"place\":64},\
-\"names\":[],\"references\":[],\"resources\":[{\"flags\":4144,\"id\":1,\"length\":16,\"place\":176,\"type\":10,\"type_name\":\"RCDATA\"}],\
+\"imports\":[],\"names\":[],\"references\":[],\"resources\":[{\"flags\":4144,\"id\":1,\"length\":16,\"place\":176,\"type\":10,\"type_name\":\"RCDATA\"}],\
 \"segments\":[]},\"sound\":true}";
 
 /// Whether this is printed of a file as JSON, and the file is sound.
@@ -78,6 +78,30 @@ fn are_fronts(alloc: Global, file: &[u8], least: usize) -> Result<bool, AllocErr
 fn fronts_have_verdicts(rt: HostRuntime) -> Result<(), Fail> {
     for (file, least) in [(TLIB, 248), (TAPP, 202), (TRES, 177)] {
         let right = are_fronts(rt.alloc(), file, least)?;
+        assert!(rt; right);
+    }
+    Ok(())
+}
+
+/// Fronts of the file of resources by their lengths, and what is told of them.
+static FAULTS: [(usize, &str); 6] = [
+    (1, "F: not accepted: old header: not a program\n"),
+    (63, "F: not accepted: old header: truncated\n"),
+    (65, "F: not accepted: header: not a segmented program\n"),
+    (127, "F: not accepted: header: truncated\n"),
+    (159, "F: not accepted: resident names: truncated\n"),
+    (160, "F: not accepted: entries: truncated\n"),
+];
+
+/// Whether this is told of a front.
+fn is_told(alloc: Global, front: &[u8], text: &str) -> Result<bool, AllocError> {
+    Ok(show_text(alloc, "F", front, Parts::all())?.text.as_str() == text)
+}
+
+#[test]
+fn faults_are_told_with_their_part(rt: HostRuntime) -> Result<(), Fail> {
+    for (len, text) in FAULTS {
+        let right = is_told(rt.alloc(), &TRES[..len], text)?;
         assert!(rt; right);
     }
     Ok(())

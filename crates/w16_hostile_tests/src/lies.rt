@@ -98,3 +98,45 @@ fn lies_are_undone(rt: HostRuntime) -> Result<(), Fail> {
     }
     Ok(())
 }
+
+/// Plays a load, and puts its reply behind others, where it is refused otherwise than the last one. Whether a lie was told.
+fn put_refusal(
+    machine: &mut HostileMachine<'_>,
+    alloc: Global,
+    refusals: &mut Vec<u8>,
+) -> Result<bool, AllocError> {
+    let script = script_of(alloc, "LoadModule TAPP.EXE")?;
+    let mut reply = Vec::new(alloc);
+    let is_played = machine.play(&script, &mut reply).is_ok();
+    if reply.as_slice() != b"0021\n".as_slice() && !refusals.ends_with(&reply) {
+        refusals.extend_from_slice(&reply)?;
+    }
+    Ok(is_played && first_wrong(machine, alloc, UNTOLD)? != 0)
+}
+
+/// The same on a machine that is told zeros once, behind so many answers.
+fn put_refusal_behind(
+    alloc: Global,
+    before: u32,
+    refusals: &mut Vec<u8>,
+) -> Result<bool, AllocError> {
+    let fuse = Fuse::new(alloc);
+    let store = Lying::new(store_of(alloc, ALL)?, (Ok(()), 0, 0), before, 1);
+    let mut machine = Hostile::Lying(store).machine(&fuse)?;
+    put_refusal(&mut machine, alloc, refusals)
+}
+
+/// A load reads the application's tables and then the library's, then finds values for both, and then their bytes: a lie about the first is a fault
+/// of the file, 11, and one about the second a fault of what it imports, 20. A segment table of zeros asks for 65,536 bytes: no room, 0.
+#[test]
+fn lies_in_the_midst_of_a_load(rt: HostRuntime) -> Result<(), Fail> {
+    let mut refusals = Vec::new(rt.alloc());
+    for before in 0..1000u32 {
+        if !put_refusal_behind(rt.alloc(), before, &mut refusals)? {
+            break;
+        }
+    }
+    let wanted = b"000b\n0000\n000b\n0014\n0000\n0014\n000b\n0014\n000b\n0014\n".as_slice();
+    assert!(rt; refusals.as_slice() == wanted, "{refusals:?}");
+    Ok(())
+}

@@ -13,7 +13,11 @@ mod handles;
 pub mod loads;
 mod local;
 pub mod machine;
+#[cfg(test)]
+mod random;
 pub mod resources;
+#[cfg(test)]
+mod sets;
 #[cfg(test)]
 mod whole;
 

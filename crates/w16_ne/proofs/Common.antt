@@ -31,7 +31,7 @@ pub use Rattle.w16_ne.specs.EntriesFormat.{AreBundles, AreEntries, IsEntryTable,
 pub use Rattle.w16_ne.specs.Header.{entry_length, entry_table, flags_of, imported_names, nonresident_length, nonresident_names, reference_count, reference_table, resident_names, resource_table, segment_count, segment_table, shift_of, target_of}
 unfoldable pub use Rattle.w16_ne.specs.Header.{fields_of, header_at, place_at}
 pub use Rattle.w16_ne.specs.HeaderFormat.{IsAccepted, IsHeader, IsOldHeader}
-pub use Rattle.w16_ne.specs.Law.{FrontLaw, IsOfEnd, ModuleFormatLaw, OneModuleLaw}
+pub use Rattle.w16_ne.specs.Law.{FrontLaw, IsOfEnd, ModuleFormatLaw, OneModuleLaw, PartsLaw}
 pub use Rattle.w16_ne.specs.Listing.{IsListing}
 pub use Rattle.w16_ne.specs.ModuleFormat.{IsModule, IsPart}
 pub use Rattle.w16_ne.specs.Modules.{Tables, listed_resources, tables_of}

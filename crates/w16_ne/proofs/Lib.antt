@@ -12,6 +12,7 @@ pub mod Pieces
 pub mod Windows
 pub mod Filled
 pub mod Tables
+pub mod Parts
 pub mod Texts
 pub mod Ordered
 pub mod NamesFormat

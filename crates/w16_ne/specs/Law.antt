@@ -8,6 +8,7 @@ use Rattle.w16_ne.specs.Header.{segment_table, segment_count, shift_of}
 use Rattle.w16_ne.specs.Segments.{segments_at}
 use Rattle.w16_ne.specs.Names.{Entry, upper, ordinal_in, names_at}
 use Rattle.w16_ne.specs.Modules.{Tables, tables_at}
+use Rattle.w16_ne.specs.Parts.{parts_at, without_part}
 use Rattle.w16_ne.specs.Entries.{entries_in}
 use Rattle.w16_ne.specs.NamesFormat.{AreNames}
 use Rattle.w16_ne.specs.SegmentsFormat.{IsSegmentTable}
@@ -39,6 +40,10 @@ ModuleFormatLaw = (file : List ℕ) (tables : Tables) → tables_at (Some file) 
 abbrev pub OneModuleLaw : Type 0
 OneModuleLaw = (file : List ℕ) → ((t : Tables) × (IsModule file t) × ((u : Tables) → IsModule file u → u ≡ t))
     ⊎ ((e : NeFault) × (tables_at (Some file) ≡ Err e) × ((t : Tables) → IsModule file t → ⊥))
+
+-- a fault that is told with its part is the file's first fault
+abbrev pub PartsLaw : Type 0
+PartsLaw = (file : Option (List ℕ)) → without_part (parts_at file) ≡ tables_at file
 
 -- a fault that a file may have because it ends too early
 abbrev pub IsOfEnd : NeFault → Type 0

@@ -9,6 +9,7 @@ pub mod Entries
 pub mod Resources
 pub mod Rows
 pub mod Modules
+pub mod Parts
 pub mod HeaderFormat
 pub mod NamesFormat
 pub mod SegmentsFormat

@@ -1,5 +1,5 @@
 //! The entry table.
-ghost use Rattle.std.specs.Prelude.{◌≡◌, ℕ, ◌<◌, ◌≤◌, ◌+◌, ◌*◌, ◌||◌, false, length, nat_lt, slice_index};
+ghost use Rattle.std.specs.Prelude.{◌≡◌, ℕ, ◌<◌, ◌≤◌, ◌+◌, ◌*◌, ◌||◌, false, length, nat_lt, slice_index, IfOk, vec_len};
 ghost use Rattle.w16_store.specs.Files.{file_of};
 ghost use Rattle.w16_ne.specs.Reading.{Gives, Tells};
 ghost use Rattle.w16_ne.specs.Header.{segment_count};
@@ -114,7 +114,8 @@ fn entries_of<A: Allocator + Copy>(
     segments: u16,
 ) -> Result<Vec<Option<Entry>, A>, NeFault>
     requires { length table.now ≤ 65535 }
-    ensures { Tells (λ v. v.items) result (entries_in table.now segments) }
+    ensures exact { Tells (λ v. v.items) result (entries_in table.now segments) }
+    ensures few { IfOk result (λ v. vec_len v ≤ 65535) }
 {
     let mut entries = Vec::new(alloc);
     let mut at = 0;
@@ -146,6 +147,7 @@ pub fn entries<A: Allocator + Copy, S: Store>(
     ensures failures { S.failures store.old ≤ S.failures store.new }
     ensures exact { S.is_honest → Gives (λ v. v.items) (file_of (S.files store.old) name.now)
         (S.failures store.old) (S.failures store.new) result (table_at (file_of (S.files store.old) name.now) ne header.now) }
+    ensures few { IfOk result (λ v. vec_len v ≤ 65535) }
 {
     let len = word(header, 0x06);
     if len == 0 {

@@ -56,7 +56,7 @@ impl<A: Allocator> Model for Module<A> {
     } };
 
     ghost invariant = { λ s. (length s.header ≡ 64) × IsOrder s.names s.order.items
-        × (length s.segments.items ≤ 253) × All IsSized s.segments.items };
+        × (length s.segments.items ≤ 253) × All IsSized s.segments.items × (length s.entries.items ≤ 65535) };
 }
 
 impl<A: Allocator> Module<A> {
@@ -115,7 +115,8 @@ impl<A: Allocator> Module<A> {
 
     /// How many ordinals the entry table has, at most 65,535.
     pub fn entry_count(&self) -> usize
-        ensures { result ≡ length self.now.entries }
+        ensures count { result ≡ length self.now.entries }
+        ensures few { result ≤ 65535 }
     {
         self.entries.len()
     }

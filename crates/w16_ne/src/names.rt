@@ -163,8 +163,9 @@ impl<'a, A: Allocator> Sought<'a, A> {
 }
 
 /// The numbers of names, ascending by their texts, and those of equal texts by number.
-pub fn order_of<A: Allocator + Copy>(alloc: A, names: &Names<A>) -> Result<Vec<u32, A>, AllocError>
-    ensures { IfOk result (λ order. IsOrder names.now order.items) }
+pub fn order_of<A: Allocator + Copy>(alloc: A, names: &Names<A>) -> Result<Vec<u32, A>, NeFault>
+    ensures order { IfOk result (λ order. IsOrder names.now order.items) }
+    ensures err { IfErr result (λ e. e ≡ OutOfMemory) }
 {
     let mut order = Vec::with_capacity(alloc, names.len())?;
     for i in 0..names.len() as u32 {

@@ -18,7 +18,7 @@ use Rattle.w16_reloc.specs.Naming.{offsets_of}
 use Rattle.w16_reloc.specs.Segments.{Held, checked}
 use Rattle.w16_show.specs.Numbered.{numbered}
 use Rattle.w16_show.specs.Words.{kind_name}
-use Rattle.w16_show.specs.Text.{ordinals}
+use Rattle.w16_show.specs.Imports.{imports}
 use Rattle.w16_show.specs.Json.{n, target_json, fixup_json, relocation_json, segment_said, segment_json, entry_json, name_json, reference_json, label_json, kind_json, resource_object, resource_json, sizes_json, start_json, fields_json, header_json, module_json, whole_json}
 
 -- each nests at most so deep
@@ -96,13 +96,14 @@ header-depth tables = omega arith
 module-depth : (file : List ℕ) (tables : Tables) → depth (module_json file tables) ≤ 6
 unfolding module_json
 module-depth file tables =
-    let entries = in_list 4 (numbered entry_json 1 (ordinals tables)) (in_numbered 4 entry_json entry-depth 1 (ordinals tables)) in
+    let entries = in_list 4 (numbered entry_json 1 tables.entries) (in_numbered 4 entry_json entry-depth 1 tables.entries) in
     let header = header-depth tables in
+    let imported = in_list 4 (map (target_json file tables) (imports file tables)) (in_map 4 (target_json file tables) (λ t. (let shallow = target-depth file tables t in omega (arith, shallow))) (imports file tables)) in
     let names = in_list 4 (numbered (name_json tables.resident) 0 tables.names) (in_numbered 4 (name_json tables.resident) (λ i x. (omega arith, tt)) 0 tables.names) in
     let references = in_list 4 (numbered reference_json 1 tables.references) (in_numbered 4 reference_json (λ i x. (omega arith, tt)) 1 tables.references) in
     let listed = in_list 4 (numbered resource_json 1 (listed_resources tables.resources)) (in_numbered 4 resource_json (λ i x. (resource-depth x, tt)) 1 (listed_resources tables.resources)) in
     let segments = in_list 4 (numbered (segment_json file tables) 1 tables.segments) (in_numbered 4 (segment_json file tables) (λ i s. (segment-depth file tables i s (checked file tables s), tt)) 1 tables.segments) in
-    omega (arith, entries, header, names, references, listed, segments)
+    omega (arith, entries, header, imported, names, references, listed, segments)
 
 pub whole-depth : (name file : List ℕ) (tables : Tables) (sound : Bool) → depth (whole_json name file tables sound) ≤ 127
 whole-depth name file tables sound = let inner = module-depth file tables in omega (arith, inner)

@@ -4,3 +4,4 @@ pub mod Chains
 pub mod Values
 pub mod Verdicts
 pub mod Depths
+pub mod Imported

@@ -20,16 +20,14 @@ pub numbered-step : {X Y : Type 0} (gives : ℕ → X → List Y) (front after t
     → front ++ numbered gives n (drop i xs) ≡ total → after ++ numbered gives (n + 1) (drop (i + 1) xs) ≡ total
 numbered-step gives front after total n xs i x got is before = rw (is, add-one n, add-one i) (more gives front n xs i x got ∙ before)
 
--- what a part of a list has at a place
-pub get-take : {X : Type 0} (d : X) (most : ℕ) (xs : List X) (i : ℕ) → i < length (take most xs) → slice_get (take most xs) i ≡ Some (slice_index_or xs i d)
-get-take d zero xs i h = absurd (omega arith)
-get-take d (suc most) [] i h = absurd (omega arith)
-get-take d (suc most) (x ∷ xs) zero h = refl
-get-take d (suc most) (x ∷ xs) (suc i) h = get-take d most xs i (omega arith)
+got-or : {X : Type 0} (d : X) (xs : List X) (i : ℕ) → i < length xs → slice_get xs i ≡ Some (slice_index_or xs i d)
+got-or d [] i h = absurd (omega arith)
+got-or d (x ∷ xs) zero h = refl
+got-or d (x ∷ xs) (suc i) h = got-or d xs i (omega arith)
 
 -- what an ordinal leads to
-pub got-entry : (entries : List (Option Entry)) (i : ℕ) → i < length (take 65535 entries) → slice_get (take 65535 entries) i ≡ Some (entry_at entries (i + 1))
-got-entry entries i h = rw (add-one i) (get-take None 65535 entries i h)
+pub got-entry : (entries : List (Option Entry)) (i : ℕ) → i < length entries → slice_get entries i ≡ Some (entry_at entries (i + 1))
+got-entry entries i h = rw (add-one i) (got-or None entries i h)
 
 -- the resource of a number
 pub got-resource : (types : List Typed) (i : ℕ) (r : Label × resources.Entry) → slice_get (listed_resources types) i ≡ Some r → resource_at types (i + 1) ≡ Some r

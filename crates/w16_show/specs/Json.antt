@@ -4,7 +4,7 @@ use Rattle.serde_json.specs.Data.{Data, null, boolean, number, unsigned, string,
 use Rattle.serde_json.specs.View.{items_of}
 use Rattle.w16_ne.specs.declared.entry_table.Entry.{Entry}
 use Rattle.w16_ne.specs.declared.entry_table.Entry.TheVariants.{InSegment, Constant}
-use Rattle.w16_ne.specs.declared.fault.NeFault.{NeFault}
+use Rattle.w16_ne.specs.declared.part.PartFault.{PartFault}
 use Rattle.w16_ne.specs.declared.segment_table.Segment.{Segment}
 use Rattle.w16_ne.specs.Header.{flags_of, is_library, shift_of, target_of}
 use Rattle.w16_ne.specs.Modules.{Tables, listed_resources}
@@ -22,8 +22,9 @@ use Rattle.w16_reloc.specs.Segments.{Held, checked}
 use Rattle.w16_show.specs.declared.verdict.Verdict.{Verdict}
 use Rattle.w16_show.specs.declared.verdict.Verdict.TheVariants as verdict
 use Rattle.w16_show.specs.Numbered.{numbered}
-use Rattle.w16_show.specs.Words.{characters, fault_text, unsound_text, part_text, kind_name}
-use Rattle.w16_show.specs.Text.{reference_name, imported_name, ordinals}
+use Rattle.w16_show.specs.Words.{characters, fault_text, file_part_text, unsound_text, part_text, kind_name}
+use Rattle.w16_show.specs.Imports.{imports}
+use Rattle.w16_show.specs.Text.{reference_name, imported_name}
 
 -- a number; a text of these bytes, each a character of its code; a list
 abbrev pub n : ℕ → Data
@@ -125,16 +126,18 @@ is_sound other = false
 
 unfoldable pub module_json : List ℕ → Tables → Data
 module_json file tables = object
-    (member (codes "entries") (list (numbered entry_json 1 (ordinals tables)))
+    (member (codes "entries") (list (numbered entry_json 1 tables.entries))
     (member (codes "header") (header_json tables)
+    (member (codes "imports") (list (map (target_json file tables) (imports file tables)))
     (member (codes "names") (list (numbered (name_json tables.resident) 0 tables.names))
     (member (codes "references") (list (numbered reference_json 1 tables.references))
     (member (codes "resources") (list (numbered resource_json 1 (listed_resources tables.resources)))
-    (member (codes "segments") (list (numbered (segment_json file tables) 1 tables.segments)) no_members))))))
+    (member (codes "segments") (list (numbered (segment_json file tables) 1 tables.segments)) no_members)))))))
 
 abbrev pub whole_json : List ℕ → List ℕ → Tables → Bool → Data
 whole_json name file tables sound = object
     (member (codes "fault") null (member (codes "file") (string name) (member (codes "module") (module_json file tables) (member (codes "sound") (boolean sound) no_members))))
 
-abbrev pub fault_json : List ℕ → NeFault → Data
-fault_json name fault = object (member (codes "fault") (string (fault_text fault)) (member (codes "file") (string name) no_members))
+abbrev pub fault_json : List ℕ → PartFault → Data
+fault_json name e = object
+    (member (codes "fault") (string (fault_text e.fault)) (member (codes "file") (string name) (member (codes "part") (string (file_part_text e.part)) no_members)))

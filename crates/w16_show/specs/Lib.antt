@@ -2,6 +2,7 @@
 pub mod Numbered
 pub mod Words
 pub mod Text
+pub mod Imports
 pub mod Json
 pub mod Report
 pub mod Extract

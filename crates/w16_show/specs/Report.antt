@@ -1,9 +1,10 @@
 -- What is printed of a file as a whole: the verdict, and the text and the JSON of its module, or its first fault.
 use Rattle.std.specs.Prelude.{ℕ, suc, Bool, Option, Some, None, Result, Ok, Err, List, [], ◌∷◌, ◌++◌, codes, decimal, if◌then◌else◌}
+use Rattle.std.specs.List.{flat_map}
 use Rattle.serde_json.specs.Data.{Data}
 use Rattle.w16_ne.specs.declared.segment_table.Segment.{Segment}
 use Rattle.w16_ne.specs.Modules.{Tables, listed_resources}
-use Rattle.w16_ne.specs.Reading.{Reading}
+use Rattle.w16_ne.specs.declared.part.PartFault.{PartFault}
 use Rattle.w16_reloc.specs.declared.fault.RelocFault.{RelocFault}
 use Rattle.w16_reloc.specs.Segments.{Held, checked}
 use Rattle.w16_show.specs.declared.parts.Parts.{Parts}
@@ -11,9 +12,10 @@ use Rattle.w16_show.specs.declared.verdict.Unsound.{Unsound}
 use Rattle.w16_show.specs.declared.verdict.Verdict.{Verdict}
 use Rattle.w16_show.specs.declared.verdict.Verdict.TheVariants as verdict
 use Rattle.w16_show.specs.Numbered.{numbered}
-use Rattle.w16_show.specs.Words.{line_end, fault_text, unsound_text}
+use Rattle.w16_show.specs.Words.{line_end, fault_text, file_part_text, unsound_text}
 use Rattle.w16_show.specs.Json.{whole_json, fault_json, is_sound}
-use Rattle.w16_show.specs.Text.{title_text, header_text, whole_segment, ordinals, entry_text, name_text, reference_text, resource_text}
+use Rattle.w16_show.specs.Imports.{imports}
+use Rattle.w16_show.specs.Text.{title_text, header_text, whole_segment, entry_text, name_text, reference_text, import_text, resource_text}
 
 -- The first segment whose relocation records aren't sound, by its number, with their first fault.
 abbrev pub this_or : ℕ → Result Held RelocFault → Option Unsound → Option Unsound
@@ -28,15 +30,15 @@ abbrev pub verdict_on : Option Unsound → Verdict
 verdict_on None = verdict.Sound
 verdict_on (Some unsound) = verdict.NotSound unsound
 
--- The verdict on a file: its module is accepted and each segment sound, or the first fault.
-abbrev pub verdict_of : List ℕ → Reading Tables → Verdict
+-- The verdict on a file: its module is accepted and each segment sound, or the first fault with its part.
+abbrev pub verdict_of : List ℕ → Result Tables PartFault → Verdict
 verdict_of file (Ok tables) = verdict_on (first_unsound file tables 1 tables.segments)
 verdict_of file (Err fault) = verdict.NotAccepted fault
 
 abbrev pub verdict_text : Verdict → List ℕ
 verdict_text verdict.Sound = codes "sound" ++ line_end
 verdict_text (verdict.NotSound unsound) = codes "not sound: segment " ++ decimal unsound.segment ++ codes ", " ++ unsound_text unsound.fault ++ line_end
-verdict_text (verdict.NotAccepted fault) = codes "not accepted: " ++ fault_text fault ++ line_end
+verdict_text (verdict.NotAccepted e) = codes "not accepted: " ++ file_part_text e.part ++ codes ": " ++ fault_text e.fault ++ line_end
 
 -- a part of the text, where it is asked for
 unfoldable pub part : Bool → List ℕ → List ℕ
@@ -46,16 +48,16 @@ abbrev pub module_text : Parts → List ℕ → Tables → List ℕ
 module_text parts file tables =
     part parts.header (header_text tables.place tables.header)
     ++ part parts.segments (numbered (whole_segment file tables) 1 tables.segments)
-    ++ part parts.entries (numbered entry_text 1 (ordinals tables) ++ numbered (name_text tables.resident) 0 tables.names)
-    ++ part parts.references (numbered reference_text 1 tables.references)
+    ++ part parts.entries (numbered entry_text 1 tables.entries ++ numbered (name_text tables.resident) 0 tables.names)
+    ++ part parts.references (numbered reference_text 1 tables.references ++ flat_map (import_text file tables) (imports file tables))
     ++ part parts.resources (numbered resource_text 1 (listed_resources tables.resources))
 
 -- The text of a file: its title, what is asked for of its module, and the verdict. Of a file that isn't accepted there is its fault alone.
-abbrev pub text_of : Parts → List ℕ → List ℕ → Reading Tables → List ℕ
+abbrev pub text_of : Parts → List ℕ → List ℕ → Result Tables PartFault → List ℕ
 text_of parts name file (Ok tables) = title_text name tables ++ module_text parts file tables ++ verdict_text (verdict_of file (Ok tables))
 text_of parts name file (Err fault) = name ++ codes ": " ++ verdict_text (verdict.NotAccepted fault)
 
 -- The JSON of a file, and of one that isn't accepted its fault alone.
-abbrev pub json_of : List ℕ → List ℕ → Reading Tables → Data
+abbrev pub json_of : List ℕ → List ℕ → Result Tables PartFault → Data
 json_of name file (Ok tables) = whole_json name file tables (is_sound (verdict_of file (Ok tables)))
 json_of name file (Err fault) = fault_json name fault

@@ -1,5 +1,5 @@
 -- What is printed of a module as text, line by line.
-use Rattle.std.specs.Prelude.{ℕ, ◌+◌, ◌-◌, Bool, Option, Some, None, Result, Ok, Err, List, [], ◌++◌, codes, decimal, ◌==◌, nat_lt, if◌then◌else◌, length, slice_index, slice_index_or, take, unwrap_or}
+use Rattle.std.specs.Prelude.{ℕ, ◌+◌, ◌-◌, Bool, Option, Some, None, Result, Ok, Err, List, [], ◌++◌, codes, decimal, ◌==◌, nat_lt, if◌then◌else◌, length, slice_index, slice_index_or, unwrap_or}
 use Rattle.std.specs.List.{flat_map}
 use Rattle.w16_ne.specs.declared.entry_table.Entry.{Entry}
 use Rattle.w16_ne.specs.declared.entry_table.Entry.TheVariants.{InSegment, Constant}
@@ -127,10 +127,6 @@ relocations_text file tables (Err fault) = codes "  " ++ unsound_text fault ++ l
 abbrev pub whole_segment : List ℕ → Tables → ℕ → Segment → List ℕ
 whole_segment file tables n s = segment_text n s ++ relocations_text file tables (checked file tables s)
 
--- what the ordinals that there can be lead to, from 1 to 65,535
-abbrev pub ordinals : Tables → List (Option Entry)
-ordinals tables = take 65535 tables.entries
-
 -- an ordinal, and where it leads; nothing where it has no entry
 unfoldable pub entry_text : ℕ → Option Entry → List ℕ
 entry_text n None = []
@@ -146,6 +142,10 @@ name_text resident n name = standing_text (nat_lt n resident) ++ escaped name.0 
 
 unfoldable pub reference_text : ℕ → List ℕ → List ℕ
 reference_text n name = codes "reference " ++ decimal n ++ codes ": " ++ escaped name ++ line_end
+
+-- what is imported from a module that is referred to
+abbrev pub import_text : List ℕ → Tables → Target → List ℕ
+import_text file tables import = codes "import " ++ target_text file tables import ++ line_end
 
 -- a type or an id of resources: its number, or its text in quotes
 unfoldable pub label_text : Label → List ℕ

@@ -6,6 +6,8 @@ use Rattle.std.specs.List.{flat_map}
 use Rattle.std.specs.declared.alloc.AllocError.{AllocError}
 use Rattle.w16_ne.specs.declared.fault.NeFault.{NeFault}
 use Rattle.w16_ne.specs.declared.fault.NeFault.TheVariants as files
+use Rattle.w16_ne.specs.declared.part.FilePart.{FilePart}
+use Rattle.w16_ne.specs.declared.part.FilePart.TheVariants as parts
 use Rattle.w16_reloc.specs.declared.fault.RelocFault.{RelocFault}
 use Rattle.w16_reloc.specs.declared.fault.RelocFault.TheVariants as relocs
 use Rattle.w16_reloc.specs.declared.record.Part.{Part}
@@ -47,6 +49,17 @@ fault_text files.Truncated = codes "truncated"
 fault_text files.BadTable = codes "bad table"
 fault_text (files.Store e) = codes "not read"
 fault_text files.OutOfMemory = codes "out of memory"
+
+-- the part of a file that the fault is in
+unfoldable pub file_part_text : FilePart → List ℕ
+file_part_text parts.OldHeader = codes "old header"
+file_part_text parts.Header = codes "header"
+file_part_text parts.SegmentTable = codes "segments"
+file_part_text parts.ResidentNames = codes "resident names"
+file_part_text parts.References = codes "references"
+file_part_text parts.EntryTable = codes "entries"
+file_part_text parts.NonresidentNames = codes "nonresident names"
+file_part_text parts.ResourceTable = codes "resources"
 
 -- the first fault of a segment's relocation records
 unfoldable pub unsound_text : RelocFault → List ℕ

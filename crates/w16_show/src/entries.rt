@@ -3,18 +3,11 @@ ghost use Rattle.std.specs.Prelude.{◌≡◌, Some, length, string_bytes};
 ghost use Rattle.w16_ne.specs.declared.entry_table.Entry.TheVariants.{Constant};
 ghost use Rattle.w16_show.specs.Numbered.{numbered};
 ghost use Rattle.w16_show.specs.Words.{Adds};
-ghost use Rattle.w16_show.specs.Text.{ordinals, entry_text, standing_text, name_text};
+ghost use Rattle.w16_show.specs.Text.{entry_text, standing_text, name_text};
 
 use crate::bytes::push_escaped;
 use std::alloc::AllocError;
 use w16_ne::{Entry, Module};
-
-/// How many ordinals a module has: none is over 65,535.
-pub fn ordinal_count(module: &Module) -> u16
-    ensures { result ≡ length (ordinals module.now) }
-{
-    module.entry_count().min(usize::from(u16::MAX)) as u16
-}
 
 /// Puts the line of a constant behind a text.
 #[tactic(auto, unfolding(crate::specs::Text::entry_text))]
@@ -40,9 +33,9 @@ fn push_entry(out: &mut String, ordinal: u16, entry: Option<Entry>) -> Result<()
 
 /// Puts the lines of all entries behind a text.
 pub fn push_entries(out: &mut String, module: &Module) -> Result<(), AllocError>
-    ensures { Adds result (string_bytes out.old) (string_bytes out.new) (numbered entry_text 1 (ordinals module.now)) }
+    ensures { Adds result (string_bytes out.old) (string_bytes out.new) (numbered entry_text 1 module.now.entries) }
 {
-    for i in 0..ordinal_count(module) {
+    for i in 0..module.entry_count() as u16 {
         push_entry(out, i + 1, module.entry(i + 1))?;
     }
     Ok(())

@@ -4,20 +4,21 @@ ghost use Rattle.serde_json.specs.Read.{read};
 ghost use Rattle.serde_json.specs.View.{view};
 ghost use Rattle.w16_store.specs.Files.{file_of};
 ghost use Rattle.w16_ne.specs.Modules.{Tables, tables_at};
+ghost use Rattle.w16_ne.specs.Parts.{parts_at};
 ghost use Rattle.w16_show.specs.Json.{module_json, whole_json, fault_json, is_sound};
 ghost use Rattle.w16_show.specs.Report.{verdict_of, json_of};
 
 use crate::json_header::header_value;
-use crate::json_segments::segments_value;
+use crate::json_segments::{imports_value, segments_value};
 use crate::json_tables::{entries_value, names_value, references_value, resources_value};
 use crate::json_values::word_value;
 use crate::open::{FILE, module_of, store_of, verdict};
 use crate::text::Shown;
 use crate::verdict::Verdict;
-use crate::words::push_fault;
+use crate::words::{file_part_word, push_fault};
 use serde_json::{Value, json};
 use std::alloc::{AllocError, Global};
-use w16_ne::{Module, NeFault};
+use w16_ne::{Module, PartFault};
 use w16_reloc::Scratch;
 use w16_store::MemStore;
 
@@ -41,6 +42,7 @@ fn module_value(
 {
     let entries = entries_value(alloc, module)?;
     let header = header_value(alloc, module)?;
+    let imports = imports_value(alloc, store, FILE, module, scratch)?;
     let names = names_value(alloc, module)?;
     let references = references_value(alloc, module)?;
     let resources = resources_value(alloc, module)?;
@@ -48,6 +50,7 @@ fn module_value(
     json!(in alloc; {
         "entries": entries,
         "header": header,
+        "imports": imports,
         "names": names,
         "references": references,
         "resources": resources,
@@ -64,14 +67,15 @@ fn whole_value(alloc: Global, name: &str, said: Value, sound: bool) -> Result<Va
 }
 
 /// What is said of a file whose module isn't accepted.
-fn fault_value(alloc: Global, name: &str, fault: NeFault) -> Result<Value, AllocError>
-    ensures { IfOk result (λ v. view v ≡ fault_json name.now fault) }
+fn fault_value(alloc: Global, name: &str, e: PartFault) -> Result<Value, AllocError>
+    ensures { IfOk result (λ v. view v ≡ fault_json name.now e) }
 {
     let mut word = String::new(alloc);
-    push_fault(&mut word, fault)?;
+    push_fault(&mut word, e.fault)?;
     let word = Value::String(word);
     let file = word_value(alloc, name)?;
-    json!(in alloc; {"fault": word, "file": file})
+    let part = word_value(alloc, file_part_word(e.part))?;
+    json!(in alloc; {"fault": word, "file": file, "part": part})
 }
 
 /// What is printed of a file whose module is accepted.
@@ -96,25 +100,25 @@ fn module_shown(
 }
 
 /// What is printed of a file whose module isn't accepted.
-fn fault_shown(alloc: Global, name: &str, fault: NeFault) -> Result<Shown, AllocError>
-    ensures text { (file : List ℕ) → IfOk result (λ shown. read (string_bytes shown.text) ≡ Some (json_of name.now file (Err fault))) }
-    ensures verdict { IfOk result (λ shown. shown.verdict ≡ Verdict.NotAccepted fault) }
+fn fault_shown(alloc: Global, name: &str, e: PartFault) -> Result<Shown, AllocError>
+    ensures text { (file : List ℕ) → IfOk result (λ shown. read (string_bytes shown.text) ≡ Some (json_of name.now file (Err e))) }
+    ensures verdict { IfOk result (λ shown. shown.verdict ≡ Verdict.NotAccepted e) }
 {
-    let value = fault_value(alloc, name, fault)?;
+    let value = fault_value(alloc, name, e)?;
     let text = value.to_string(alloc)?;
-    let verdict = Verdict::NotAccepted(fault);
+    let verdict = Verdict::NotAccepted(e);
     Ok(Shown { text, verdict })
 }
 
-/// Prints a module file as JSON, in one line without its end: what `show_text` prints of all its parts, and nothing but the first fault of a file
-/// whose module isn't accepted. The text reads back as exactly that. An error is want of memory.
+/// Prints a module file as JSON, in one line without its end: what `show_text` prints of all its parts, and nothing but the first fault, with its part,
+/// of a file whose module isn't accepted. The text reads back as exactly that. An error is want of memory.
 pub fn show_json(alloc: Global, name: &str, file: &[u8]) -> Result<Shown, AllocError>
-    ensures text { IfOk result (λ shown. read (string_bytes shown.text) ≡ Some (json_of name.now file.now (tables_at (Some file.now)))) }
-    ensures verdict { IfOk result (λ shown. shown.verdict ≡ verdict_of file.now (tables_at (Some file.now))) }
+    ensures text { IfOk result (λ shown. read (string_bytes shown.text) ≡ Some (json_of name.now file.now (parts_at (Some file.now)))) }
+    ensures verdict { IfOk result (λ shown. shown.verdict ≡ verdict_of file.now (parts_at (Some file.now))) }
 {
     let mut store = store_of(alloc, file)?;
     match module_of(alloc, &mut store, FILE)? {
         Ok(module) => module_shown(alloc, name, &mut store, &module),
-        Err(fault) => fault_shown(alloc, name, fault),
+        Err(e) => fault_shown(alloc, name, e),
     }
 }

@@ -1,20 +1,24 @@
 //! Segments and their relocation records as JSON.
+ghost use Rattle.std.specs.BTreeMap.{values};
 ghost use Rattle.std.specs.Prelude.{◌≡◌, ℕ, ◌<◌, ◌≤◌, ◌-◌, List, [], ◌∷◌, Some, Ok, length, map, slice_get, IfOk};
 ghost use Rattle.serde_json.specs.Data.{Data};
 ghost use Rattle.serde_json.specs.View.{view};
 ghost use Rattle.w16_store.specs.Files.{file_of};
 ghost use Rattle.w16_ne.specs.Modules.{tables_at};
 ghost use Rattle.w16_reloc.specs.Segments.{checked};
+ghost use Rattle.w16_show.specs.Imports.{imports};
 ghost use Rattle.w16_show.specs.Numbered.{numbered};
 ghost use Rattle.w16_show.specs.Text.{imported_name};
 ghost use Rattle.w16_show.specs.Json.{text, list, target_json, fixup_json, relocation_json, segment_object, segment_said, segment_json};
 
+use crate::imports::imports;
 use crate::json_values::{offsets_value, text_value, word_value};
 use crate::relocations::{NAME_ROOM, read_name, reference_name};
 use crate::sites::sites_of;
 use crate::words::{part_word, unsound_word};
 use serde_json::{Value, json};
 use std::alloc::{AllocError, Global};
+use std::collections::BTreeMap;
 use w16_ne::{Module, Segment};
 use w16_reloc::{Fixup, Record, Scratch, Target, check};
 use w16_store::MemStore;
@@ -66,6 +70,41 @@ fn target_value(
             json!(in alloc; {"module": from, "name": imported})
         }
     }
+}
+
+/// Imports that were found in a module.
+fn targets_value(
+    alloc: Global,
+    store: &mut MemStore,
+    name: &[u8],
+    module: &Module,
+    imports: &BTreeMap<u64, Target>,
+) -> Result<Value, AllocError>
+    ensures same { store.new ≡ store.old }
+    ensures value { (file : List ℕ) → file_of store.old name.now ≡ Some file → tables_at (Some file) ≡ Ok module.now
+        → IfOk result (λ v. view v ≡ list (map (target_json file module.now) (values imports.now))) }
+{
+    let mut targets = Vec::with_capacity(alloc, imports.len())?;
+    for target in imports.values() {
+        targets.push(target_value(alloc, store, name, module, *target)?)?;
+    }
+    Ok(Value::Array(targets))
+}
+
+/// What a module imports.
+pub fn imports_value(
+    alloc: Global,
+    store: &mut MemStore,
+    name: &[u8],
+    module: &Module,
+    scratch: &mut Scratch,
+) -> Result<Value, AllocError>
+    ensures same { store.new ≡ store.old }
+    ensures value { (file : List ℕ) → file_of store.old name.now ≡ Some file → tables_at (Some file) ≡ Ok module.now
+        → IfOk result (λ v. view v ≡ list (map (target_json file module.now) (imports file module.now))) }
+{
+    let imports = imports(alloc, store, name, module, scratch)?;
+    targets_value(alloc, store, name, module, &imports)
 }
 
 /// A fixup, with its sites, and whether its value is added.

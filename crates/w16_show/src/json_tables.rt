@@ -5,10 +5,8 @@ ghost use Rattle.w16_ne.specs.Resources.{Label, label_of, entry_of};
 ghost use Rattle.w16_ne.specs.Resources as resources;
 ghost use Rattle.w16_ne.specs.Modules.{listed_resources, resource_at};
 ghost use Rattle.w16_show.specs.Numbered.{numbered};
-ghost use Rattle.w16_show.specs.Text.{ordinals};
 ghost use Rattle.w16_show.specs.Json.{list, entry_json, name_json, reference_json, resource_object, resource_json};
 
-use crate::entries::ordinal_count;
 use crate::json_values::{kind_value, label_value, text_value};
 use serde_json::{Value, json};
 use std::alloc::{AllocError, Global};
@@ -43,10 +41,10 @@ fn push_entry(
 
 /// All entries.
 pub fn entries_value(alloc: Global, module: &Module) -> Result<Value, AllocError>
-    ensures { IfOk result (λ v. view v ≡ list (numbered entry_json 1 (ordinals module.now))) }
+    ensures { IfOk result (λ v. view v ≡ list (numbered entry_json 1 module.now.entries)) }
 {
     let mut values = Vec::new(alloc);
-    for i in 0..ordinal_count(module) {
+    for i in 0..module.entry_count() as u16 {
         push_entry(alloc, &mut values, i + 1, module.entry(i + 1))?;
     }
     Ok(Value::Array(values))

@@ -5,6 +5,7 @@ mod bytes;
 mod entries;
 mod extract;
 mod header;
+mod imports;
 mod json;
 mod json_header;
 mod json_segments;

@@ -2,11 +2,12 @@
 ghost use Rattle.std.specs.Prelude.{◌≡◌, ℕ, List, Some, Ok, IfOk, OnOk};
 ghost use Rattle.w16_store.specs.Files.{file_of};
 ghost use Rattle.w16_ne.specs.Modules.{tables_at};
+ghost use Rattle.w16_ne.specs.Parts.{parts_at, without_part};
 ghost use Rattle.w16_show.specs.Report.{first_unsound, verdict_on, verdict_of};
 
 use crate::verdict::{Unsound, Verdict};
 use std::alloc::{AllocError, Global};
-use w16_ne::{Module, NeFault, read_module};
+use w16_ne::{Module, NeFault, PartFault, read_parts};
 use w16_reloc::{Scratch, check};
 use w16_store::MemStore;
 
@@ -22,19 +23,20 @@ pub fn store_of(alloc: Global, file: &[u8]) -> Result<MemStore, AllocError>
     Ok(store)
 }
 
-/// The module of a file, or the file's first fault.
+/// The module of a file, or the file's first fault with its part.
 pub fn module_of(
     alloc: Global,
     store: &mut MemStore,
     name: &[u8],
-) -> Result<Result<Module, NeFault>, AllocError>
+) -> Result<Result<Module, PartFault>, AllocError>
     ensures same { store.new ≡ store.old }
-    ensures read { (file : List ℕ) → file_of store.old name.now ≡ Some file → IfOk result (λ read. read ≡ tables_at (Some file)) }
+    ensures parts { (file : List ℕ) → file_of store.old name.now ≡ Some file → IfOk result (λ read. read ≡ parts_at (Some file)) }
+    ensures tables { (file : List ℕ) → file_of store.old name.now ≡ Some file → IfOk result (λ read. without_part read ≡ tables_at (Some file)) }
 {
-    match read_module(alloc, store, name) {
+    match read_parts(alloc, store, name) {
         Ok(module) => Ok(Ok(module)),
-        Err(NeFault::OutOfMemory) => Err(AllocError),
-        Err(fault) => Ok(Err(fault)),
+        Err(e) if e.fault == NeFault::OutOfMemory => Err(AllocError),
+        Err(e) => Ok(Err(e)),
     }
 }
 

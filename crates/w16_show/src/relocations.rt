@@ -67,7 +67,7 @@ fn push_name(
 
 /// Puts where a record points behind a text.
 #[tactic(auto, unfolding(crate::specs::Text::target_text))]
-fn push_target(
+pub fn push_target(
     out: &mut String,
     store: &mut MemStore,
     name: &[u8],

@@ -1,23 +1,27 @@
 //! What is printed of a file as text.
 ghost use Rattle.std.specs.Prelude.{◌≡◌, ℕ, ◌++◌, List, Some, Ok, Err, IfOk, string_bytes};
+ghost use Rattle.std.specs.List.{flat_map};
 ghost use Rattle.w16_store.specs.Files.{file_of};
 ghost use Rattle.w16_show.specs.Words.{Adds};
 ghost use Rattle.w16_ne.specs.Modules.{tables_at, listed_resources};
+ghost use Rattle.w16_ne.specs.Parts.{parts_at};
 ghost use Rattle.w16_show.specs.Numbered.{numbered};
-ghost use Rattle.w16_show.specs.Text.{header_text, whole_segment, ordinals, entry_text, name_text, reference_text, resource_text};
+ghost use Rattle.w16_show.specs.Imports.{imports};
+ghost use Rattle.w16_show.specs.Text.{header_text, whole_segment, entry_text, name_text, reference_text, import_text, resource_text};
 ghost use Rattle.w16_show.specs.Report.{part, verdict_of, verdict_text, module_text, text_of};
 
 use crate::entries::{push_entries, push_names};
 use crate::header::{push_header, push_title};
+use crate::imports::{imports, push_imports};
 use crate::open::{FILE, module_of, store_of, verdict};
 use crate::parts::Parts;
 use crate::references::push_references;
 use crate::resources::push_resources;
 use crate::segments::push_segments;
 use crate::verdict::Verdict;
-use crate::words::{push_fault, unsound_word};
+use crate::words::{file_part_word, push_fault, unsound_word};
 use std::alloc::{AllocError, Global};
-use w16_ne::{Module, NeFault};
+use w16_ne::{Module, PartFault};
 use w16_reloc::Scratch;
 use w16_store::MemStore;
 
@@ -39,9 +43,11 @@ fn push_verdict(out: &mut String, verdict: &Verdict) -> Result<(), AllocError>
             let word = unsound_word(unsound.fault);
             writeln!(out, "not sound: segment {number}, {word}")
         }
-        Verdict::NotAccepted(fault) => {
+        Verdict::NotAccepted(e) => {
             out.push_str("not accepted: ")?;
-            push_fault(out, *fault)?;
+            out.push_str(file_part_word(e.part))?;
+            out.push_str(": ")?;
+            push_fault(out, e.fault)?;
             out.push_str("\n")
         }
     }
@@ -80,7 +86,7 @@ fn push_segments_part(
 /// Puts the entries and their names behind a text, where they are asked for.
 #[tactic(auto, unfolding(crate::specs::Report::part))]
 fn push_entries_part(out: &mut String, asked: bool, module: &Module) -> Result<(), AllocError>
-    ensures { Adds result (string_bytes out.old) (string_bytes out.new) (part asked (numbered entry_text 1 (ordinals module.now) ++ numbered (name_text module.now.resident) 0 module.now.names)) }
+    ensures { Adds result (string_bytes out.old) (string_bytes out.new) (part asked (numbered entry_text 1 module.now.entries ++ numbered (name_text module.now.resident) 0 module.now.names)) }
 {
     if !asked {
         return Ok(());
@@ -89,15 +95,25 @@ fn push_entries_part(out: &mut String, asked: bool, module: &Module) -> Result<(
     push_names(out, module)
 }
 
-/// Puts the references behind a text, where they are asked for.
+/// Puts the references and what is imported from them behind a text, where they are asked for.
 #[tactic(auto, unfolding(crate::specs::Report::part))]
-fn push_references_part(out: &mut String, asked: bool, module: &Module) -> Result<(), AllocError>
-    ensures { Adds result (string_bytes out.old) (string_bytes out.new) (part asked (numbered reference_text 1 module.now.references)) }
+fn push_references_part(
+    out: &mut String,
+    asked: bool,
+    store: &mut MemStore,
+    module: &Module,
+    scratch: &mut Scratch,
+) -> Result<(), AllocError>
+    ensures same { store.new ≡ store.old }
+    ensures text { (file : List ℕ) → file_of store.old FILE.now ≡ Some file → tables_at (Some file) ≡ Ok module.now
+        → Adds result (string_bytes out.old) (string_bytes out.new) (part asked (numbered reference_text 1 module.now.references ++ flat_map (import_text file module.now) (imports file module.now))) }
 {
     if !asked {
         return Ok(());
     }
-    push_references(out, module)
+    push_references(out, module)?;
+    let imports = imports(*out.allocator(), store, FILE, module, scratch)?;
+    push_imports(out, store, FILE, module, &imports)
 }
 
 /// Puts the resources behind a text, where they are asked for.
@@ -126,7 +142,7 @@ fn push_module(
     push_header_part(out, parts.header, module)?;
     push_segments_part(out, parts.segments, store, module, scratch)?;
     push_entries_part(out, parts.entries, module)?;
-    push_references_part(out, parts.references, module)?;
+    push_references_part(out, parts.references, store, module, scratch)?;
     push_resources_part(out, parts.resources, module)
 }
 
@@ -153,11 +169,11 @@ fn module_shown(
 }
 
 /// What is printed of a file whose module isn't accepted.
-fn fault_shown(alloc: Global, name: &str, fault: NeFault) -> Result<Shown, AllocError>
-    ensures text { (file : List ℕ) (parts : Parts) → IfOk result (λ shown. string_bytes shown.text ≡ text_of parts name.now file (Err fault)) }
-    ensures verdict { IfOk result (λ shown. shown.verdict ≡ Verdict.NotAccepted fault) }
+fn fault_shown(alloc: Global, name: &str, e: PartFault) -> Result<Shown, AllocError>
+    ensures text { (file : List ℕ) (parts : Parts) → IfOk result (λ shown. string_bytes shown.text ≡ text_of parts name.now file (Err e)) }
+    ensures verdict { IfOk result (λ shown. shown.verdict ≡ Verdict.NotAccepted e) }
 {
-    let verdict = Verdict::NotAccepted(fault);
+    let verdict = Verdict::NotAccepted(e);
     let mut text = String::new(alloc);
     write!(text, "{name}: ")?;
     push_verdict(&mut text, &verdict)?;
@@ -165,14 +181,14 @@ fn fault_shown(alloc: Global, name: &str, fault: NeFault) -> Result<Shown, Alloc
 }
 
 /// Prints a module file as text: which module it has, the parts of it that are asked for, and the verdict on it; of a file whose module isn't
-/// accepted its first fault alone. The name is printed as it is given. An error is want of memory.
+/// accepted its first fault alone, with the part of the file that it is in. The name is printed as it is given. An error is want of memory.
 pub fn show_text(alloc: Global, name: &str, file: &[u8], parts: Parts) -> Result<Shown, AllocError>
-    ensures text { IfOk result (λ shown. string_bytes shown.text ≡ text_of parts name.now file.now (tables_at (Some file.now))) }
-    ensures verdict { IfOk result (λ shown. shown.verdict ≡ verdict_of file.now (tables_at (Some file.now))) }
+    ensures text { IfOk result (λ shown. string_bytes shown.text ≡ text_of parts name.now file.now (parts_at (Some file.now))) }
+    ensures verdict { IfOk result (λ shown. shown.verdict ≡ verdict_of file.now (parts_at (Some file.now))) }
 {
     let mut store = store_of(alloc, file)?;
     match module_of(alloc, &mut store, FILE)? {
         Ok(module) => module_shown(alloc, name, &mut store, parts, &module),
-        Err(fault) => fault_shown(alloc, name, fault),
+        Err(e) => fault_shown(alloc, name, e),
     }
 }

@@ -1,5 +1,5 @@
 //! Verdicts on module files.
-use w16_ne::NeFault;
+use w16_ne::PartFault;
 use w16_reloc::RelocFault;
 
 /// A segment whose relocation records aren't sound.
@@ -18,6 +18,6 @@ pub enum Verdict {
     Sound,
     /// Its module is accepted, and this is the first segment that isn't sound.
     NotSound(Unsound),
-    /// It has no module that is accepted, and this is its first fault.
-    NotAccepted(NeFault),
+    /// It has no module that is accepted, and this is its first fault, with the part of the file that it is in.
+    NotAccepted(PartFault),
 }

@@ -1,9 +1,9 @@
 //! The words for parts of relocation records, for types of resources and for faults.
 ghost use Rattle.std.specs.Prelude.{◌≡◌, option_map, string_bytes};
-ghost use Rattle.w16_show.specs.Words.{Adds, fault_text, kind_name, part_text, unsound_text};
+ghost use Rattle.w16_show.specs.Words.{Adds, fault_text, file_part_text, kind_name, part_text, unsound_text};
 
 use std::alloc::AllocError;
-use w16_ne::NeFault;
+use w16_ne::{FilePart, NeFault};
 use w16_reloc::{Part, RelocFault};
 
 /// What of its target a relocation record writes.
@@ -51,6 +51,23 @@ pub fn unsound_word(fault: RelocFault) -> &'static str
         RelocFault::SiteOutside => "site outside the data",
         RelocFault::Overlap => "sites overlap",
         RelocFault::Store(_) => "not read",
+    }
+}
+
+/// A part of a file.
+#[tactic(auto, unfolding(crate::specs::Words::file_part_text))]
+pub fn file_part_word(part: FilePart) -> &'static str
+    ensures { result.now ≡ file_part_text part }
+{
+    match part {
+        FilePart::OldHeader => "old header",
+        FilePart::Header => "header",
+        FilePart::SegmentTable => "segments",
+        FilePart::ResidentNames => "resident names",
+        FilePart::References => "references",
+        FilePart::EntryTable => "entries",
+        FilePart::NonresidentNames => "nonresident names",
+        FilePart::ResourceTable => "resources",
     }
 }
 

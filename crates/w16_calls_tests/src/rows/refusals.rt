@@ -98,6 +98,6 @@ fn refused_runs_end_after_whole_replies(rt: HostRuntime) -> Result<(), Fail> {
     for rows in tables() {
         all = all.saturating_add(all_growths(&rt, &fuse, rows)?);
     }
-    assert_eq!(rt; all, 153);
+    assert_eq!(rt; all, 162);
     Ok(())
 }

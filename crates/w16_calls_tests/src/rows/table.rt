@@ -148,6 +148,82 @@ static OF_COMPACTION: &[Row] = &[
     },
 ];
 
+/// Rows on gaps, on what grows in them, and on who makes room.
+static OF_GAPS: &[Row] = &[
+    Row {
+        name: "a locked object isn't discarded, though it is the oldest",
+        memory: 256,
+        script: b"GlobalAlloc 2 128\nGlobalAlloc 0x102 64\nGlobalLock 0x10e\nGlobalAlloc 0x102 32\nGlobalAlloc 0 64\nGlobalFlags 0x10e\nGlobalFlags 0x116\n",
+        output: b"0106\n010e\n010f0000\n0116\n011f\n0101\n4100\n",
+        ended: Ok((7, 7)),
+        ..ROW
+    },
+    Row {
+        name: "an object grows where it stands, and while it is locked",
+        memory: 320,
+        script: b"GlobalAlloc 0x102 64\nGlobalReAlloc 0x106 160 0x10\nMoved\nGlobalLock 0x106\nGlobalReAlloc 0x106 320 0x20\nMoved\n",
+        output: b"0106\n0106\n00000000\n01070000\n0106\n00000000\n",
+        ended: Ok((6, 6)),
+        ..ROW
+    },
+    Row {
+        name: "nothing slides for growth where that is forbidden",
+        memory: 256,
+        script: b"GlobalAlloc 2 64\nGlobalAlloc 2 64\nGlobalAlloc 2 64\nGlobalAlloc 2 64\nGlobalFree 0x10e\nGlobalFree 0x11e\nGlobalReAlloc 0x106 160 0x10\nGlobalReAlloc 0x106 160 0\nMoved\nGetSelectorBase 0x117\n",
+        output: b"0106\n010e\n0116\n011e\n0000\n0000\n0000\n0106\n00000040\n000000c0\n",
+        ended: Ok((10, 10)),
+        ..ROW
+    },
+    Row {
+        name: "one is discarded, and others slide down, for growth at the end",
+        memory: 256,
+        script: b"GlobalAlloc 2 32\nGlobalAlloc 0 32\nGlobalAlloc 0x102 64\nGlobalAlloc 0x102 32\nGlobalAlloc 0x102 32\nGlobalAlloc 2 64\nGlobalReAlloc 0x12e 96 0\nMoved\nGlobalFlags 0x116\nGetSelectorBase 0x11f\nGetSelectorBase 0x127\nGetSelectorBase 0x12f\n",
+        output: b"0106\n010f\n0116\n011e\n0126\n012e\n012e\n00000080\n4100\n00000040\n00000060\n00000080\n",
+        ended: Ok((12, 12)),
+        ..ROW
+    },
+    Row {
+        name: "a freed object is no longer in the order, and one that becomes discardable is",
+        memory: 96,
+        script: b"GlobalAlloc 0x102 96\nGlobalFree 0x106\nGlobalAlloc 2 96\nGlobalCompact 0xffffffff\nGlobalFlags 0x106\nGlobalReAlloc 0x106 0 0x182\nGlobalAlloc 2 32\nGlobalFlags 0x106\n",
+        output: b"0106\n0000\n0106\n00000000\n0000\n0106\n010e\n4100\n",
+        ended: Ok((8, 8)),
+        ..ROW
+    },
+    Row {
+        name: "a lock makes an object the newest, and a change of kind that changes nothing does not",
+        memory: 96,
+        script: b"GlobalAlloc 0x102 32\nGlobalAlloc 0x102 32\nGlobalAlloc 0x102 32\nGlobalLock 0x106\nGlobalUnlock 0x106\nGlobalAlloc 2 32\nGlobalFlags 0x10e\nGlobalReAlloc 0x116 0 0x182\nGlobalAlloc 2 32\nGlobalFlags 0x106\nGlobalFlags 0x116\n",
+        output: b"0106\n010e\n0116\n01070000\n0000\n011e\n4100\n0116\n0126\n0100\n4100\n",
+        ended: Ok((11, 11)),
+        ..ROW
+    },
+    Row {
+        name: "a fixed object ends a gap, and never slides",
+        memory: 256,
+        script: b"GlobalAlloc 2 64\nGlobalAlloc 2 64\nGlobalAlloc 0 64\nGlobalAlloc 2 64\nGlobalFree 0x106\nGlobalReAlloc 0x10e 32 0\nGlobalAlloc 2 96\nMoved\nGlobalFree 0x11e\nGlobalFree 0x10e\nGlobalCompact 0xffffffff\nGetSelectorBase 0x117\n",
+        output: b"0106\n010e\n0117\n011e\n0000\n010e\n0106\n00000020\n0000\n0000\n00000040\n00000080\n",
+        ended: Ok((12, 12)),
+        ..ROW
+    },
+    Row {
+        name: "the room of a locked object counts for nobody",
+        memory: 128,
+        script: b"GlobalAlloc 0x102 64\nGlobalLock 0x106\nGlobalCompact 0\nGlobalAlloc 2 96\nGlobalUnlock 0x106\nGlobalCompact 0\n",
+        output: b"0106\n01070000\n00000040\n0000\n0000\n00000080\n",
+        ended: Ok((6, 6)),
+        ..ROW
+    },
+    Row {
+        name: "objects slide up behind one that was cut",
+        memory: 512,
+        script: b"GlobalAlloc 2 128\nGlobalAlloc 0x102 32\nGlobalAlloc 2 96\nGlobalAlloc 2 128\nGlobalReAlloc 0x116 32 0\nGlobalAlloc 0x102 32\nGlobalReAlloc 0x116 160 0x20\nMoved\nGetSelectorBase 0x127\nGetSelectorBase 0x11f\n",
+        output: b"0106\n010e\n0116\n011e\n0116\n0126\n0116\n000000a0\n00000160\n00000180\n",
+        ended: Ok((10, 10)),
+        ..ROW
+    },
+];
+
 /// Rows on discards, and the order in which they come.
 static OF_ORDER: &[Row] = &[
     Row {
@@ -397,13 +473,14 @@ static OF_OBJECTS: &[Row] = &[
 ];
 
 /// All rows, by what they are on. Only this function names the tables, so that a proof meets their contents once.
-pub fn tables() -> [&'static [Row]; 11] {
+pub fn tables() -> [&'static [Row]; 12] {
     [
         OF_LINES,
         OF_MEMORY,
         OF_BYTES,
         OF_OBJECTS,
         OF_COMPACTION,
+        OF_GAPS,
         OF_ORDER,
         OF_REALLOCATION,
         OF_LOCAL_HEAPS,

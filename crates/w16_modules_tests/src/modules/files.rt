@@ -2,7 +2,7 @@
 //!
 //! A text of files names each by a sample with its changes, and commas divide them: `TLIB.DLL C6=01 C7=00 as=A.DLL`. A change is a byte at an offset,
 //! both hexadecimal, `as=` and another name, or `len=` and how many bytes it has then, those that weren't there zeros. Behind its last byte come
-//! `put=` and a text, and words of a table of resources, hexadecimal: `block=TYPE.COUNT`, and as often `res=PLACE.LENGTH.FLAGS.ID`, in units.
+//! `put=` and a text, `hex=` and bytes, hexadecimal, and words of a table of resources, hexadecimal: `block=TYPE.COUNT`, and as often `res=PLACE.LENGTH.FLAGS.ID`, in units.
 use std::alloc::{AllocError, Global};
 use w16_store::MemStore;
 
@@ -73,13 +73,15 @@ fn text_of(name: &str) -> &'static str {
     ""
 }
 
-/// Puts the bytes of a line behind others.
-fn put_line(bytes: &mut Vec<u8>, line: &str) -> Result<(), AllocError> {
-    let mut room = [0u8; 16];
-    let count = (line.len() / 2).min(16);
-    let part = &mut room[..count];
-    if hex::decode_to_slice(line, part).is_ok() {
-        bytes.extend_from_slice(part)?;
+/// Puts bytes, which are hexadecimal, behind others.
+fn put_bytes(bytes: &mut Vec<u8>, digits: &str) -> Result<(), AllocError> {
+    for digits in digits.as_bytes().chunks(32) {
+        let mut room = [0u8; 16];
+        let count = (digits.len() / 2).min(16);
+        let part = &mut room[..count];
+        if hex::decode_to_slice(digits, part).is_ok() {
+            bytes.extend_from_slice(part)?;
+        }
     }
     Ok(())
 }
@@ -91,7 +93,7 @@ fn bytes_of(alloc: Global, name: &str) -> Result<Vec<u8>, AllocError> {
     bytes[1] = b'Z';
     bytes[0x3c] = 0x40;
     for line in text_of(name).split_ascii_whitespace() {
-        put_line(&mut bytes, line)?;
+        put_bytes(&mut bytes, line)?;
     }
     Ok(bytes)
 }
@@ -129,6 +131,7 @@ impl<'a> File<'a> {
         match key {
             "block" => return put_words(&mut self.bytes, value, 4),
             "res" => return put_words(&mut self.bytes, value, 6),
+            "hex" => return put_bytes(&mut self.bytes, value),
             "put" => return self.bytes.extend_from_slice(value.as_bytes()),
             "len" => return self.bytes.resize(decimal(value), 0),
             "as" => self.name = value,

@@ -1,4 +1,4 @@
-//! Counts of a resource that are full.
+//! Counts of a resource, and of a module, that are full.
 
 use super::files::store_of;
 use super::machine::Machine;
@@ -31,6 +31,16 @@ LoadResource 0x21 1 -> 0106
 LoadResource 0x21 1 -> 0000
 FreeLibrary 0x21 -> 0000
 FreeResource 0x106 -> 0001",
+    ),
+    (
+        "LoadLibrary TRES.DLL -> 0021\n",
+        64_999,
+        "\
+LoadLibrary TRES.DLL -> 0000
+LoadModule TRES.DLL -> 0000
+GetModuleUsage 0x21 -> fde8
+FreeLibrary 0x21 -> 0001
+LoadLibrary TRES.DLL -> 0021",
     ),
 ];
 

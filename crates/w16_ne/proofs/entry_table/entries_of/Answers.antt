@@ -3,20 +3,20 @@ use Rattle.w16_ne.proofs.Bundles.{here, goes_on, stops, is_refused, is_done, bun
 use Rattle.w16_ne.proofs.Until.{told_on}
 use Rattle.w16_ne.proofs.entry_table.entries_of.Goals as goal
 
-pub returns-then-is_end : goal.returns-then-is_end
-returns-then-is_end g c =
+pub returns-then-is_end-clause-exact : goal.returns-then-is_end-clause-exact
+returns-then-is_end-clause-exact g c =
     let table = c.args.table.now in
     is_done table c.args.segments c.loop.entries.items (length table) c.loop.counter c.loop.at _ c.loop-test.true (sym c.is_end.ensures.end ∙ c.if-is_end.true) c.loop.invariant.2
 
-pub returns-then-is_bad : goal.returns-then-is_bad
-returns-then-is_bad g c =
+pub returns-then-is_bad-clause-exact : goal.returns-then-is_bad-clause-exact
+returns-then-is_bad-clause-exact g c =
     let table = c.args.table.now in
     let held : c.len.result ≡ length c.loop.entries.items = omega (arith, c.len.ensures) in
     let bad = rw held at c.is_bad.ensures.bad in
     is_refused table c.args.segments c.loop.entries.items (length table) c.loop.counter c.loop.at _ c.loop-test.true (sym c.is_end.ensures.end ∙ c.if-is_end.false) (sym bad ∙ c.if-is_bad.true) c.loop.invariant.2
 
-pub returns-in_err-bundle : goal.returns-in_err-bundle
-returns-in_err-bundle g c =
+pub returns-in_err-bundle-clause-exact : goal.returns-in_err-bundle-clause-exact
+returns-in_err-bundle-clause-exact g c =
     let table = c.args.table.now in
     let held : c.len.result ≡ length c.loop.entries.items = omega (arith, c.len.ensures) in
     let sound = rw held at c.is_bad.ensures.bad in

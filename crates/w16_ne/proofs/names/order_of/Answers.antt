@@ -5,8 +5,8 @@ use Rattle.w16_ne.proofs.names.order_of.Goals as goal
 pub loop-i-preserved : goal.loop-i-preserved
 loop-i-preserved g c = rw (c.in_ok-push.ensures.items, c.loop-i.invariant) (sym (range_more c.loop-i.i))
 
-pub returns : goal.returns
-returns g c =
+pub returns-clause-order : goal.returns-clause-order
+returns-clause-order g c =
     let names = c.args.names.now in
     let n = length names in
     let order = c.sort_unstable_by.new.self.items in

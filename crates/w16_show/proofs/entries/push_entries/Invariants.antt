@@ -1,7 +1,7 @@
 use Rattle.std.proofs.Common.{◌≡◌, ◌++◌, ◌+◌, drop, string_bytes}
 use Rattle.w16_show.specs.Numbered.{numbered}
-use Rattle.w16_show.specs.Text.{ordinals, entry_text}
+use Rattle.w16_show.specs.Text.{entry_text}
 use Rattle.w16_show.proofs.entries.push_entries.Given as goal
 
 abbrev pub invariant-loop-i : goal.invariant-loop-i
-invariant-loop-i l = string_bytes l.out ++ numbered entry_text (l.i + 1) (drop l.i (ordinals l.module)) ≡ string_bytes l.initial.out ++ numbered entry_text 1 (ordinals l.module)
+invariant-loop-i l = string_bytes l.out ++ numbered entry_text (l.i + 1) (drop l.i l.module.entries) ≡ string_bytes l.initial.out ++ numbered entry_text 1 l.module.entries

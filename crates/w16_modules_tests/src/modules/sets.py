@@ -1,21 +1,37 @@
 #!/usr/bin/env python3
-"""Makes sets of random module files and works out what loads of them answer and leave.
+"""Makes sets of random module files and works out what calls on them answer.
 
-Written from docs/DEFINITIONS.md, apart from the loader: modules here are what their lines say, and no file is read. It prints `sets.rt`, whose
-scripts a test plays: `./sets.py > sets.rt`. With a number it prints that set alone.
+Written from docs/DEFINITIONS.md, apart from the loader: modules here are what `File` says, and no file is read. It prints `sets.rt`, whose sets a
+test plays: `./sets.py > sets.rt`. With a number it prints that set alone.
 """
 import random
+import re
 import struct
 import sys
-import zlib
 
-SETS = 300
+SETS = 120
 PIECE = 14_000  # the bytes of a text in the table, which a proof can still take
 WIDTHS = {0: 1, 2: 2, 3: 4, 5: 2}
 
 
 def word(number):
     return struct.pack("<H", number % 65536)
+
+
+def text(name):
+    return bytes([len(name)]) + name.encode()
+
+
+def bundle(entry):
+    """A bundle of one entry: none, one in a moveable segment, or one in a fixed segment, or a constant where that is 254."""
+    way, segment, offset = entry
+    if segment == 0:
+        return b"\1\0"
+    return b"\1\xff\1\xcd\x3f" + bytes([segment]) + word(offset) if way == "moveable" else bytes([1, segment, 1]) + word(offset)
+
+
+def sectors(data):
+    return data + bytes(-len(data) % 16)
 
 
 class Part:
@@ -40,6 +56,12 @@ class Part:
             for site, following in zip(sites, sites[1:] + [0xffff]):
                 self.put(site, word(following))
         self.records.append((address, kind, first, second, sites))
+
+    def relocations(self):
+        """Its records behind their number."""
+        return word(len(self.records)) + b"".join(
+            bytes([address, kind]) + word(sites[0]) + word(first) + word(second)
+            for address, kind, first, second, sites in self.records)
 
     def word_at(self, at):
         return self.data[at] | self.data[at + 1] << 8
@@ -112,18 +134,33 @@ class File:
         texts = self.references + self.imports
         return next(text for i, text in enumerate(texts) if self.offset_of(i) == offset)
 
-    def lines(self, file):
-        yield f"module {self.name} {0x8000 if self.library else 0} {self.target}"
-        yield from (f"refer {name}" for name in self.references)
-        yield from (f"import {name}" for name in self.imports)
+    def bytes(self):
+        """The file behind its old header of 64 bytes: the new header, the tables one after another, and the segments in sectors of 16 bytes."""
+        names = text(self.name) + word(0) + b"".join(text(name) + word(ordinal) for name, ordinal in self.names) + b"\0"
+        references = b"".join(word(self.offset_of(i)) for i in range(len(self.references)))
+        imported = b"".join(map(text, self.references + self.imports))
+        entries = b"".join(map(bundle, self.entries)) + b"\0"
+        begins, at = [], 64 + 8 * len(self.parts)
+        for table in (names, references, imported, entries):
+            begins.append(at)
+            at += len(table)
+        fields = {0: 0x454e, 4: begins[3], 6: len(entries), 0x0c: 0x8000 * self.library, 0x1c: len(self.parts), 0x1e: len(self.references),
+                  0x22: 64, 0x24: begins[0], 0x26: begins[0], 0x28: begins[1], 0x2a: begins[2], 0x32: 4, 0x36: self.target}
+        header = b"".join(word(fields.get(at, 0)) for at in range(0, 64, 2))
+        table, data, sector = b"", b"", 4 + -(-at // 16)
         for part in self.parts:
-            yield f"segment {part.flags} {part.least} {len(part.data)} {part.seed}"
-            for address, kind, first, second, sites in part.records:
-                yield f"record {address} {kind} {first} {second} {' '.join(map(str, sites))}"
-        for way, segment, offset in self.entries:
-            yield f"{way} {segment} {offset}"
-        yield from (f"name {name} {ordinal}" for name, ordinal in self.names)
-        yield f"file {file}" + (" 0 88" if self.spoiled else "")
+            table += word(sector) + word(len(part.data)) + word(part.flags | 0x100 * bool(part.records)) + word(part.least)
+            data += sectors(bytes(part.data) + part.relocations())
+            sector = 4 + -(-at // 16) + len(data) // 16
+        return sectors(header + table + names + references + imported + entries) + data
+
+    def line(self, file):
+        """Its bytes as files.rt reads them: hexadecimal digits, and a length in place of many zeros."""
+        at, words = 64, [file] + ["0=58"] * self.spoiled
+        for zeros, others in re.findall(rb"(\0{6,})|((?:(?!\0{6}).)+)", self.bytes(), re.S):
+            at += len(zeros) + len(others)
+            words.append(f"len={at}" if zeros else f"hex={others.hex()}")
+        return " ".join(words)
 
 
 class Module:
@@ -154,6 +191,13 @@ class World:
 
     def handle_of(self, name):
         return next((h for h in sorted(self.modules) if self.name_of(h).upper() == name.upper()), None)
+
+    def address(self, handle, label):
+        """Where a number behind #, or a name, leads in what a handle names."""
+        named = self.modules.get(handle)
+        if isinstance(named, Module):
+            return named.address(int(label[1:])) if label[0] == "#" else named.address_named(label)
+        return (handle, int(label[1:])) if named and label[0] == "#" and label != "#0" else (0, 0)
 
     def free_handles(self):
         return [h for h in range(33, 233) if h not in self.modules]
@@ -302,38 +346,45 @@ class World:
         return int(handle in self.modules)
 
     def discard(self):
+        """A compaction that discards all it may, and what it answers where no object is fixed: all that isn't taken then."""
         for slot in self.order:
             self.objects[slot]["bytes"] = None
         self.order = []
-        return 0
+        return f"GlobalCompact 0xffffffff -> {self.memory - self.used():08x}"
 
-    def fetch_all(self):
-        fetched = 0
+    def read(self, slot, count=None):
+        """A read of bytes of an object that has some, or of all."""
+        self.touch(slot)
+        data = self.objects[slot]["bytes"][:count]
+        return f"Read 0x{slot * 8 + 7:04x}0000 {len(data)} -> bytes {data.hex()}"
+
+    def fetches(self):
+        """A read of each object of a segment that has no bytes then."""
         owned = {slot: (part, values) for m in self.modules.values() if isinstance(m, Module)
                  for slot, part, values in zip(m.slots, m.file.parts, m.values)}
         for slot in sorted(owned):
             part, values = owned[slot]
-            if self.objects[slot]["bytes"] is None and self.give(slot, part.image(values)):
-                fetched += 1
-        return fetched
+            if self.objects[slot]["bytes"] is None:
+                yield self.read(slot, 1) if self.give(slot, part.image(values)) else f"Read 0x{slot * 8 + 7:04x}0000 1 -> fault room"
 
     def state(self):
-        """One number for all objects and modules. It reads each object, which is a use."""
-        seen, modules = b"", b""
+        """What is told of all modules and objects, and the bytes of these."""
+        for handle in sorted(self.modules)[-3:]:
+            yield f"GetModuleUsage 0x{handle:x} -> {self.usage(handle):04x}"
         for slot, o in sorted(self.objects.items()):
-            data = o["bytes"]
-            seen += struct.pack("<HII", slot * 8 + 6 + o["fixed"], *((0, 0) if data is None else (o["size"], zlib.crc32(data))))
-            self.touch(slot)
-        for handle in sorted(self.modules):
-            modules += struct.pack("<HH", handle, self.usage(handle)) + self.name_of(handle).encode()
-        return zlib.crc32(seen + struct.pack("<I", zlib.crc32(modules)))
+            handle = slot * 8 + 6 + o["fixed"]
+            if o["bytes"] is None:
+                yield f"GlobalFlags 0x{handle:x} -> {0x4100 if o['discardable'] else 0x4000:04x}"
+            else:
+                yield f"GlobalSize 0x{handle:x} -> {o['size']:08x}"
+                yield self.read(slot)
 
 
 def random_part(dice, file, segments, fixed):
     """A segment whose sites mostly don't overlap."""
-    length = dice.choice([8, 20, 33, 50])
+    length = dice.choice([8, 20, 33])
     flags = dice.choice([0x1050, 0x1010, 0x50, 0x10, 0x11, 0x51] + ([0, 1, 0x40] if fixed else []))
-    part = Part(flags, dice.choice([1, length, 70]), length, dice.randrange(1, 256, 2))
+    part = Part(flags, dice.choice([1, length, 40]), length, dice.randrange(1, 256, 2))
     places = list(range(0, length - 3, 4))
     dice.shuffle(places)
     while places and dice.random() < 0.7:
@@ -366,74 +417,75 @@ def random_file(dice, letters, name, fixed):
     return file
 
 
-def random_step(dice, world, letters):
-    what = dice.choice(["load", "load", "load", "loadmodule", "free", "free", "discard", "fetchall", "usage", "read"])
-    if what in ("load", "loadmodule"):
+def random_steps(dice, world, letters):
+    what = dice.choice(["Library", "Library", "Library", "Module", "free", "free", "discard", "fetch", "usage", "read", "address", "named"])
+    if what in ("Library", "Module"):
         file = dice.choice(letters) + ".DLL"
-        return f"{what} {file} {world.load(file, what == 'loadmodule')}"
-    handle = dice.choice(sorted(world.modules) or [40])
+        return [f"Load{what} {file} -> {world.load(file, what == 'Module'):04x}"]
+    handle = dice.choice(sorted(world.modules)[-4:] or [40])
     if what == "free":
-        return f"free {handle} {world.free(handle)}"
+        return [f"FreeLibrary 0x{handle:x} -> {world.free(handle):04x}"]
     if what == "usage":
-        return f"usage {handle} {world.usage(handle)}"
+        return [f"GetModuleUsage 0x{handle:x} -> {world.usage(handle) if handle in world.modules else 0:04x}"]
+    if what in ("address", "named"):
+        label = dice.choice(["f", "G", "h"]) if what == "named" else f"#{dice.randint(0, 3)}"
+        selector, offset = world.address(handle, label)
+        return [f"GetProcAddress 0x{handle:x} {label} -> {selector:04x}{offset:04x}"]
     there = [q for q, o in world.objects.items() if o["bytes"] is not None]
     if what == "read" and there:
-        slot = dice.choice(there)
-        world.touch(slot)
-        return f"read {slot * 8 + 7} 0 1 {world.objects[slot]['bytes'][0]}"
-    return f"discard {world.discard()}" if what == "discard" else f"fetchall {world.fetch_all()}"
+        return [world.read(dice.choice(there), 1)]
+    if what == "discard" and not any(world.objects[q]["fixed"] for q in there):
+        return [world.discard()]
+    return list(world.fetches())
 
 
 def random_set(seed):
-    """A script with its answers. Where memory is short no segment is fixed: then room is what isn't taken."""
+    """Bytes of memory, objects and built-ins; files; and lines with replies. Where memory is short no segment is fixed: then room is what isn't
+    taken."""
     dice = random.Random(seed)
     is_short = dice.random() < 0.4
-    letters = "ABCDEF"[:dice.choice([2, 2, 3, 3, 4, 5, 6])]
-    files, lines = {}, []
+    letters = "ABCDEF"[:dice.choice([2, 2, 3, 3, 4, 5])]
+    files, texts = {}, []
     for letter in letters:
         name = dice.choice(letters) if dice.random() < 0.1 else letter
         files[letter + ".DLL"] = file = random_file(dice, list(letters), name, not is_short)
-        lines += file.lines(letter + ".DLL")
+        texts.append(file.line(letter + ".DLL"))
     memory = dice.choice([96, 128, 192, 256, 384]) if is_short else 65536
     slots = dice.choice([3, 5, 12, 12, 12, 12])
-    world = World(files, memory, slots)
-    lines.append(f"machine {memory} {slots}")
+    world, builtins, lines = World(files, memory, slots), 0, []
     if dice.random() < 0.1:
-        count = dice.randint(196, 200)
-        for i in range(count):
-            world.builtin(chr(48 + i // 20) + chr(97 + i % 20))
-        lines.append(f"builtins {count} {32 + count}")
+        builtins = dice.randint(196, 200)
+        for i in range(builtins):
+            world.builtin(f"M{i}")
     elif dice.random() < 0.6:
-        lines.append(f"builtin KERNEL {world.builtin('KERNEL')}")
+        lines.append(f"Builtin KERNEL -> {world.builtin('KERNEL'):04x}")
     if is_short and dice.random() < 0.5:
         discardable, size = dice.choice([True, True, False]), dice.choice([32, 64])
-        lines.append(f"alloc {0x142 if discardable else 0x42} {size} {world.alloc(discardable, size)}")
-    for _ in range(dice.randint(3, 8)):
-        lines.append(random_step(dice, world, letters))
-        if dice.random() < 0.5:
-            lines.append(f"state {world.state()}")
-    return "\n".join(lines + [f"state {world.state()}"]) + "\n"
+        lines.append(f"GlobalAlloc {'0x142' if discardable else '0x42'} {size} -> {world.alloc(discardable, size):04x}")
+    for _ in range(dice.randint(4, 9)):
+        lines += random_steps(dice, world, letters)
+    return "\n".join([f"{memory} {slots} {builtins}", ", ".join(texts)] + lines + list(world.state()))
 
 
 def literal(piece):
     """A text in a string literal, each of its sets in a line of the source."""
-    return ("\n" + piece).replace("\n", "\\n").replace("\\n\\n", "\\n\\n\\\n")
+    return piece.replace("\n", "\\n").replace("\\n\\n", "\\n\\n\\\n")
 
 
 def main():
     if len(sys.argv) > 1:
-        print(random_set(int(sys.argv[1])), end="")
+        print(random_set(int(sys.argv[1])))
         return
     pieces = [""]
     for i in range(SETS):
         text = random_set(i)
         if len(pieces[-1]) + len(text) > PIECE:
             pieces.append("")
-        pieces[-1] += ("\n" if pieces[-1] else "") + text
-    print("//! Sets of module files, with what loads of them answer and leave. Made by sets.py.\n")
+        pieces[-1] += ("\n\n" if pieces[-1] else "") + text
+    print("//! Sets of module files, with the replies to lines. Made by sets.py.\n")
     for i, piece in enumerate(pieces):
         print(f'static SETS_{i}: &str =\n    "{literal(piece)}";\n')
-    print("/// The texts of the table, in each of which empty lines divide the sets; none behind the last.")
+    print("/// The texts of the table, in each of which empty lines divide the sets.")
     print("pub fn sets(number: usize) -> Option<&'static str> {\n    match number {")
     for i in range(len(pieces)):
         print(f"        {i} => Some(SETS_{i}),")

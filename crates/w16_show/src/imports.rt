@@ -1,0 +1,133 @@
+//! What a module imports, and the lines of it.
+ghost use Rattle.std.specs.Prelude.{◌≡◌, ℕ, ◌<◌, ◌≤◌, ◌-◌, List, Some, Ok, IfOk, OnOk, length, slice_get, string_bytes};
+ghost use Rattle.std.specs.BTreeMap.{values};
+ghost use Rattle.std.specs.List.{flat_map, fold};
+ghost use Rattle.w16_store.specs.Files.{file_of};
+ghost use Rattle.w16_ne.specs.Modules.{tables_at};
+ghost use Rattle.w16_ne.specs.declared.segment_table.Segment.{Segment};
+ghost use Rattle.w16_reloc.specs.Segments.{checked};
+ghost use Rattle.w16_show.specs.Words.{Adds};
+ghost use Rattle.w16_show.specs.Imports.{targets_of, targets_in, with_import, ranked_imports};
+ghost use Rattle.w16_show.specs.Text.{import_text};
+
+use crate::relocations::push_target;
+use std::alloc::{AllocError, Global};
+use std::collections::BTreeMap;
+use w16_ne::Module;
+use w16_reloc::{Record, Scratch, Target, check};
+use w16_store::MemStore;
+
+/// Adds a target to a module's imports, where it is one. They are kept by the number of their reference, and of one reference those by ordinal come
+/// before those by name.
+fn add_target(imports: &mut BTreeMap<u64, Target>, target: Target) -> Result<(), AllocError>
+    ensures { OnOk result (imports.new.entries ≡ with_import imports.old.entries target) }
+{
+    let rank = match target {
+        Target::ByOrdinal { reference, ordinal } => {
+            131_072 * u64::from(reference) + u64::from(ordinal)
+        }
+        Target::ByName { reference, name } => {
+            131_072 * u64::from(reference) + 65_536 + u64::from(name)
+        }
+        _ => return Ok(()),
+    };
+    imports.insert(rank, target)?;
+    Ok(())
+}
+
+/// Adds what a record imports.
+fn add_record(imports: &mut BTreeMap<u64, Target>, record: &Record) -> Result<(), AllocError>
+    ensures { OnOk result (imports.new.entries ≡ fold with_import imports.old.entries (targets_of record.now)) }
+{
+    match record {
+        Record::Stored(fixup) => add_target(imports, fixup.target),
+        Record::Added(fixup) => add_target(imports, fixup.target),
+        Record::System => Ok(()),
+    }
+}
+
+/// Adds what records import.
+fn add_records(imports: &mut BTreeMap<u64, Target>, records: &[Record]) -> Result<(), AllocError>
+    ensures { OnOk result (imports.new.entries ≡ fold with_import imports.old.entries (flat_map targets_of records.now)) }
+{
+    for record in records {
+        add_record(imports, record)?;
+    }
+    Ok(())
+}
+
+/// Adds what a segment imports, by its number from 1: nothing where its records aren't sound.
+fn add_segment(
+    imports: &mut BTreeMap<u64, Target>,
+    store: &mut MemStore,
+    name: &[u8],
+    module: &Module,
+    number: usize,
+    scratch: &mut Scratch,
+) -> Result<(), AllocError>
+    requires first { 0 < number }
+    requires last { number ≤ length module.now.segments }
+    ensures same { store.new ≡ store.old }
+    ensures imports { (file : List ℕ) (s : Segment) → file_of store.old name.now ≡ Some file → tables_at (Some file) ≡ Ok module.now
+        → slice_get module.now.segments (number - 1) ≡ Some s
+        → OnOk result (imports.new.entries ≡ fold with_import imports.old.entries (targets_in (checked file module.now s))) }
+{
+    match check(store, name, module, number, scratch) {
+        Ok(()) => add_records(imports, scratch.records()),
+        Err(_) => Ok(()),
+    }
+}
+
+/// What the sound segments of a module import, each import once.
+pub fn imports(
+    alloc: Global,
+    store: &mut MemStore,
+    name: &[u8],
+    module: &Module,
+    scratch: &mut Scratch,
+) -> Result<BTreeMap<u64, Target>, AllocError>
+    ensures same { store.new ≡ store.old }
+    ensures imports { (file : List ℕ) → file_of store.old name.now ≡ Some file → tables_at (Some file) ≡ Ok module.now
+        → IfOk result (λ imports. imports.entries ≡ ranked_imports file module.now) }
+{
+    let mut imports = BTreeMap::new(alloc);
+    for i in 0..module.segment_count() {
+        add_segment(&mut imports, store, name, module, i + 1, scratch)?;
+    }
+    Ok(imports)
+}
+
+/// Puts the line of an import behind a text.
+fn push_import(
+    out: &mut String,
+    store: &mut MemStore,
+    name: &[u8],
+    module: &Module,
+    import: Target,
+) -> Result<(), AllocError>
+    ensures same { store.new ≡ store.old }
+    ensures text { (file : List ℕ) → file_of store.old name.now ≡ Some file → tables_at (Some file) ≡ Ok module.now
+        → Adds result (string_bytes out.old) (string_bytes out.new) (import_text file module.now import) }
+{
+    out.push_str("import ")?;
+    push_target(out, store, name, module, import)?;
+    out.push_str("\n")
+}
+
+/// Puts the lines of what a module imports behind a text.
+pub fn push_imports(
+    out: &mut String,
+    store: &mut MemStore,
+    name: &[u8],
+    module: &Module,
+    imports: &BTreeMap<u64, Target>,
+) -> Result<(), AllocError>
+    ensures same { store.new ≡ store.old }
+    ensures text { (file : List ℕ) → file_of store.old name.now ≡ Some file → tables_at (Some file) ≡ Ok module.now
+        → Adds result (string_bytes out.old) (string_bytes out.new) (flat_map (import_text file module.now) (values imports.now)) }
+{
+    for import in imports.values() {
+        push_import(out, store, name, module, *import)?;
+    }
+    Ok(())
+}
