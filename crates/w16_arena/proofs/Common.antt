@@ -25,7 +25,7 @@ pub use Rattle.w16_blocks.specs.Parts.{IfBlock, IfHole}
 pub use Rattle.w16_blocks.specs.Stay.{AreSameOutsideBoth}
 pub use Rattle.w16_compact.proofs.Bounded.{clear_pinned}
 pub use Rattle.w16_compact.proofs.Cleared.{inside_is}
-pub use Rattle.w16_compact.proofs.Common.{All-all_but, All-back, All-from_Each, AllByRecursion, AreHoles-holes, AreNamed, AreSameBut, Each-at, Each-both, Each-from, Each-from_All, Each-map, Each-of_map, EachPair, EachPair-from_AllPairs, FitsGap, GName, HasRoom, IsApart, IsCut, IsGrained, IsLaid-all_but, IsLaid-from, IsOrdered, IsSameRest, IsSome, IsUsed, Lacks, Layout, MayGather, Member, Uses, all_but, all_but_absent, all_but_other, all_but_same, around, contents, counted, each_with, end_in, eqb, eqb_tells, filter_member, free_lacks, gathered, get_or-set_other, get_or-set_same, holes_of, lacks_free, laid_each, laid_le, laid_placed, le-ltb, length-put_part, list_any, lt-ltb, moved_between, opened, others_apart, outside_but, packed, pairs_filter, placed, raised_in, rank, replaced, spare_in, sum-all_but, sum_filter, sum_fits, take-append-drop, used_each, with_id, with_loose, with_other, with_same}
+pub use Rattle.w16_compact.proofs.Common.{All-all_but, All-back, All-from_Each, AllByRecursion, AreHoles-holes, AreNamed, AreSameBut, Each-at, Each-both, Each-from, Each-from_All, Each-map, Each-of_map, EachPair, EachPair-from_AllPairs, FitsGap, GName, HasRoom, IsApart, IsCut, IsGrained, IsLaid-all_but, IsLaid-from, IsOrdered, IsSameRest, IsSome, IsUsed, Lacks, Layout, MayGather, Member, Uses, all_but, all_but_absent, all_but_other, all_but_same, around, contents, counted, each_with, end_in, eqb, eqb_tells, filter_member, free_lacks, gathered, get_or-set_other, get_or-set_same, holes_of, lacks_free, laid_each, laid_later, laid_le, laid_placed, le-ltb, length-put_part, list_any, lt-ltb, moved_between, opened, others_apart, outside_but, packed, pairs_filter, placed, raised_in, rank, replaced, spare_in, sum-all_but, sum_filter, sum_fits, take-append-drop, used_each, with_id, with_loose, with_other, with_same}
 pub use Rattle.w16_compact.proofs.Gathering.{cut_high, moved_same}
 pub use Rattle.w16_compact.proofs.LeftOut.{lies_outside, may_beside, may_with, ordered_without}
 pub use Rattle.w16_compact.proofs.Loose.{loose_here, loose_one}

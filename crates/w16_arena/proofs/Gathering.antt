@@ -1,6 +1,8 @@
 -- A gap that was gathered: the blocks that slid, and the place that they leave.
 use Rattle.std.specs.List.{AllByRecursion as Each}
-use Rattle.w16_arena.proofs.Common.{◌≡◌, ℕ, ◌+◌, ◌<◌, inl, inr, Bool, true, false, cond, ◌&&◌, IsTrue, List, [], ◌∷◌, length, All, refl, sym, ap, ◌∙◌, subst, arith, Block, is_any, is_loose, begins_in, loose_bytes, IsClear, Misses, IsMultiple, Each-from_All, Each-map, Layout, IsOrdered, IsGrained, Gap, HasRoom, contents, gathered, loose_one, EachTwo, AreMoved, AreFreeBytes}
+use Rattle.w16_arena.proofs.Common.{◌≡◌, ℕ, ◌+◌, ◌<◌, ◌≤◌, ◌⊎◌, inl, inr, Bool, true, false, cond, ◌&&◌, IsTrue, List, [], ◌∷◌, length, All, refl, sym, ap, ◌∙◌, subst, arith, Block, block_end, is_any, is_loose, is_pinned, begins_in, loose_bytes, IsClear, Misses, IsMultiple, All-from_Each, Each-both, Each-from_All, Each-map, FitsGap, lacks_free, Layout, IsOrdered, IsGrained, Gap, HasRoom, contents, gathered, loose_one, EachTwo, AreMoved, AreFreeBytes}
+use Rattle.w16_blocks.specs.Runs.{IsRun}
+use Rattle.w16_compact.proofs.Packed.{gathered_past}
 use Rattle.w16_arena.proofs.Pairs.{Stands, two_gathered, two_slides}
 
 -- at multiples of the grain
@@ -19,20 +21,41 @@ module _ {l : Layout} {n : ℕ} {gap : Gap} (ordered : IsOrdered l) (has : HasRo
   abbrev after_gather : Layout
   after_gather = record l { blocks = gathered gap.low gap.high l.blocks }
 
-  stand : EachTwo (Stands gap.low gap.high) l.blocks after_gather.blocks
-  stand = two_gathered gap.low gap.high l.lo l.hi l.blocks ordered.laid has.may.loose
+  -- what stands packed from the low end on stays
+  module _ {from : ℕ} (run : IsRun l (record { from = gap.low; to = from })) (top : from ≤ gap.high) where
+    fits : Each (FitsGap from gap.high) l.blocks
+    fits = Each-both (FitsGap gap.low gap.high) (λ b. (block_end b ≤ from) ⊎ (from ≤ b.at)) (FitsGap from gap.high)
+        (λ b fit cut. elim fit [
+          | inl below ↦ let le = run.inside.1 in inl (omega arith)
+          | inr other ↦ elim other [
+            | inl above ↦ inr (inl above)
+            | inr inside ↦ elim cut [ inl before ↦ inl before | inr behind ↦ inr (inr (behind, inside.1, inside.2)) ]
+          ]
+        ]) l.blocks has.may.loose run.whole.1
+
+    past : after_gather.blocks ≡ gathered from gap.high l.blocks
+    past =
+        let low = run.inside.0 in let high = run.inside.2 in
+        gathered_past gap.high from top gap.low l.lo l.hi l.blocks run.inside.1 ordered.laid run.whole.0 run.whole.1 (λ p at end lacks. run.full p at end (lacks_free p l.lo l.hi l.blocks ordered.laid (omega arith) (omega arith) lacks))
+
+    module _ {new : Layout} (value : new ≡ after_gather) where
+      pub gathered_moved : {memory after : List ℕ} → contents after new.blocks ≡ contents memory l.blocks → length after ≡ length memory → IsOrdered new → All (λ b. b < 256) after → AreMoved from gap.high l memory new after
+      gathered_moved {memory} {after} bytes size laid all = record {
+        same = value ∙ ap (λ bs. record l { blocks = bs }) (sym (ap (λ (x : Layout). x.blocks) value));
+        blocks = two_slides from gap.high memory after l.blocks new.blocks
+            (subst (EachTwo (Stands from gap.high) l.blocks) (sym (ap (λ (x : Layout). x.blocks) value ∙ past)) (two_gathered from gap.high l.lo l.hi l.blocks ordered.laid fits)) bytes;
+        unpinned = λ _. record {
+          above = let low = run.inside.0 in let le = run.inside.1 in omega arith;
+          below = has.gap.clear.below;
+          misses = All-from_Each _ l.blocks (Each-map (λ x. IsTrue (is_pinned x) → Misses x.at x.size gap.low gap.high) (λ x. IsTrue (is_pinned x) → Misses x.at x.size from gap.high)
+              (λ x f pinned. elim (f pinned) [ inl e ↦ let le = run.inside.1 in inl (omega arith) | inr e ↦ inr e ]) l.blocks (Each-from_All _ l.blocks has.gap.clear.misses));
+        };
+        ordered = laid;
+        size = size;
+        bytes = λ _. all;
+      }
 
   module _ {new : Layout} (value : new ≡ after_gather) where
-    pub gathered_moved : {memory after : List ℕ} → contents after new.blocks ≡ contents memory l.blocks → length after ≡ length memory → IsOrdered new → All (λ b. b < 256) after → AreMoved gap.low gap.high l memory new after
-    gathered_moved {memory} {after} bytes size laid all = record {
-      same = value ∙ ap (λ bs. record l { blocks = bs }) (sym (ap (λ (x : Layout). x.blocks) value));
-      blocks = two_slides gap.low gap.high memory after l.blocks new.blocks (subst (EachTwo (Stands gap.low gap.high) l.blocks) (sym (ap (λ (x : Layout). x.blocks) value)) stand) bytes;
-      unpinned = λ _. has.gap.clear;
-      ordered = laid;
-      size = size;
-      bytes = λ _. all;
-    }
-
     pub gathered_free : IsClear is_any l.lo l.hi new.blocks (gap.low + loose_bytes l.blocks gap.low gap.high) gap.high → AreFreeBytes new n (gap.low + gap.loose)
     gathered_free clear =
         let lo : new.lo ≡ l.lo = ap (λ (x : Layout). x.lo) value in

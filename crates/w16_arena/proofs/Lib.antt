@@ -24,6 +24,7 @@ pub mod Singles
 pub mod Told
 pub mod Steps
 pub mod Shown
+pub mod Renamed
 pub mod Modified
 pub mod Refusals
 pub mod Next
@@ -51,3 +52,6 @@ pub mod Regrown
 pub mod Growing
 pub mod Written
 pub mod Reallocated
+pub mod Later
+pub mod LeastEnd
+pub mod Behind

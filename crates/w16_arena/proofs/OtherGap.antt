@@ -1,5 +1,6 @@
 -- A gap that is gathered for a block that stands elsewhere.
 use Rattle.w16_arena.proofs.Common.{◌≡◌, ℕ, ◌+◌, ◌<◌, ◌≤◌, ◌==◌, ◌⊎◌, inl, inr, IsTrue, List, [], ◌∷◌, length, All, Option, Some, None, refl, sym, ap, ◌∙◌, subst, arith, eq-eqb, cond-true, eqb_tells, Block, part, block_end, is_any, is_pinned, loose_bytes, IsClear, Misses, block_with, Each-from_All, All-from_Each, Layout, AreNamed, IsOrdered, all_but, all_but_same, all_but_other, all_but_absent, rest_differs, with_same, with_other, All-all_but, All-back, Gap, HasRoom, contents, gathered, moved_between, lies_outside, may_beside, loose_one, loose_skip, Slides, AreMoved, AreFreeBytes}
+use Rattle.w16_blocks.specs.Runs.{IsRun}
 use Rattle.w16_compact.specs.Gap.{without}
 use Rattle.w16_arena.proofs.ButFor.{moved_both, slides_ids, own_lies}
 use Rattle.w16_arena.proofs.Gathering.{gathered_moved, gathered_free}
@@ -54,27 +55,27 @@ module _ {l : Layout} (ordered : IsOrdered l) (x : Block) (known : block_with l.
   pub all_free : {mid : Layout} → mid ≡ record l { blocks = gathered gap.low gap.high l.blocks } → IsClear is_any l.lo l.hi mid.blocks (gap.low + loose_bytes l.blocks gap.low gap.high) gap.high → AreFreeBytes mid n (gap.low + gap.loose)
   all_free value clear = gathered_free ordered room_all value clear
 
-  module _ {mid : Layout} (value : mid ≡ record l { blocks = gathered gap.low gap.high l.blocks }) (laid : IsOrdered mid) (memory after : List ℕ) (bytes : contents after mid.blocks ≡ contents memory l.blocks) (long : length after ≡ length memory)
+  module _ {from : ℕ} (run : IsRun l (record { from = gap.low; to = from })) (top : from ≤ gap.high) {mid : Layout} (value : mid ≡ record l { blocks = gathered gap.low gap.high l.blocks }) (laid : IsOrdered mid) (memory after : List ℕ) (bytes : contents after mid.blocks ≡ contents memory l.blocks) (long : length after ≡ length memory)
       (small : All (λ b. b < 256) after) where
-    pub all_moved : AreMoved gap.low gap.high l memory mid after
-    all_moved = gathered_moved ordered room_all value bytes long laid small
+    pub all_moved : AreMoved from gap.high l memory mid after
+    all_moved = gathered_moved ordered room_all run top value bytes long laid small
 
     -- the block stands where it stood, with its bytes
     stays : (block_with mid.blocks x.id ≡ Some x) × (part after x.at x.size ≡ part memory x.at x.size)
-    stays = from (block_with mid.blocks x.id) (subst (λ (o : Option Block). BothOrNone R o (block_with mid.blocks x.id)) known (with_two R (slides_ids gap.low gap.high memory after) l.blocks mid.blocks all_moved.blocks x.id))
+    stays = is_at (block_with mid.blocks x.id) (subst (λ (o : Option Block). BothOrNone R o (block_with mid.blocks x.id)) known (with_two R (slides_ids from gap.high memory after) l.blocks mid.blocks all_moved.blocks x.id))
       where
         R : Block → Block → Type 0
-        R = Slides gap.low gap.high memory after
+        R = Slides from gap.high memory after
 
-        same : (c : Block) → Slides gap.low gap.high memory after x c → c ≡ x
+        same : (c : Block) → Slides from gap.high memory after x c → c ≡ x
         same c s = s.same ∙ ap (λ (a : ℕ). let r : Block = record x { at = a } in r) (elim s.place [
           | inl e ↦ e
-          | inr f ↦ let some = (own_lies ordered x known).1 in let from_low = f.3 in let to_high = f.4 in elim outside [ inl front ↦ absurd (omega arith) | inr behind ↦ absurd (omega arith) ]
+          | inr f ↦ let some = (own_lies ordered x known).1 in let from_low = f.3 in let to_high = f.4 in let le = run.inside.1 in elim outside [ inl front ↦ absurd (omega arith) | inr behind ↦ absurd (omega arith) ]
         ])
 
-        from : (o : Option Block) → BothOrNone (Slides gap.low gap.high memory after) (Some x) o → (o ≡ Some x) × (part after x.at x.size ≡ part memory x.at x.size)
-        from None s = absurd s
-        from (Some c) s = (ap Some (same c s), subst (λ (d : Block). part after d.at d.size ≡ part memory x.at x.size) (same c s) s.bytes)
+        is_at : (o : Option Block) → BothOrNone (Slides from gap.high memory after) (Some x) o → (o ≡ Some x) × (part after x.at x.size ≡ part memory x.at x.size)
+        is_at None s = absurd s
+        is_at (Some c) s = (ap Some (same c s), subst (λ (d : Block). part after d.at d.size ≡ part memory x.at x.size) (same c s) s.bytes)
 
     pub known_mid : block_with mid.blocks x.id ≡ Some x
     known_mid = stays.0
@@ -85,6 +86,6 @@ module _ {l : Layout} (ordered : IsOrdered l) (x : Block) (known : block_with l.
     -- so what was moved was others'
     pub others_moved : moved_between l.blocks mid.blocks ≡ moved_between (all_but x.id l.blocks) (all_but x.id mid.blocks)
     others_moved =
-        let all = moved_both (Slides gap.low gap.high memory after) (slides_ids gap.low gap.high memory after) x.id l.cap l.blocks mid.blocks all_moved.blocks ordered.named (subst (λ k. AreNamed k mid.blocks) (ap (λ (m : Layout). m.cap) value) laid.named) x x known known_mid in
+        let all = moved_both (Slides from gap.high memory after) (slides_ids from gap.high memory after) x.id l.cap l.blocks mid.blocks all_moved.blocks ordered.named (subst (λ k. AreNamed k mid.blocks) (ap (λ (m : Layout). m.cap) value) laid.named) x x known known_mid in
         let none = cond-true (x.at == x.at) 0 x.size (eq-eqb x.at x.at refl) in
         omega (arith, all, none)

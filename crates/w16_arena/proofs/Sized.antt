@@ -69,27 +69,30 @@ module _ (t : Table) (sound : IsSound t) (memory : List ℕ) (inside : t.hi ≤ 
   pinned_is = sym (ap holds_still entry_known.2 ∙ still_hold (is_pinned_object object))
 
   -- The hole behind it is the heap's.
-  first_le : (xs ys : List Block) → ((x : Block) → Member x ys → Member x xs) → (a : ℕ) → first_from is_any t.hi xs a ≤ first_from is_any t.hi ys a
-  first_le xs ys among a =
-      let all : (first_from is_any t.hi xs a ≤ t.hi) × Each (λ x. IsTrue (is_any x) → a ≤ x.at → first_from is_any t.hi xs a ≤ x.at) xs = first_from-below is_any t.hi xs a (first_from is_any t.hi xs a) (omega arith) in
-      first_from-greatest is_any t.hi ys a (first_from is_any t.hi xs a) all.0
-      (Each-from (λ x. IsTrue (is_any x) → a ≤ x.at → first_from is_any t.hi xs a ≤ x.at) ys (λ x m. Each-at (λ x. IsTrue (is_any x) → a ≤ x.at → first_from is_any t.hi xs a ≤ x.at) xs all.1 x (among x m)))
+  first_le : (end : ℕ) (xs ys : List Block) → ((x : Block) → Member x ys → Member x xs) → (a : ℕ) → first_from is_any end xs a ≤ first_from is_any end ys a
+  first_le end xs ys among a =
+      let all : (first_from is_any end xs a ≤ end) × Each (λ x. IsTrue (is_any x) → a ≤ x.at → first_from is_any end xs a ≤ x.at) xs = first_from-below is_any end xs a (first_from is_any end xs a) (omega arith) in
+      first_from-greatest is_any end ys a (first_from is_any end xs a) all.0
+      (Each-from (λ x. IsTrue (is_any x) → a ≤ x.at → first_from is_any end xs a ≤ x.at) ys (λ x m. Each-at (λ x. IsTrue (is_any x) → a ≤ x.at → first_from is_any end xs a ≤ x.at) xs all.1 x (among x m)))
 
-  hole_same : (a : ℕ) → hole_after t.hi (blocks h) a ≡ hole_after t.hi t.blocks a
-  hole_same a =
-      let to : first_from is_any t.hi (blocks h) a ≤ first_from is_any t.hi t.blocks a = first_le (blocks h) t.blocks (λ x m. block_member h x (table_block t sound.table memory inside x m)) a in
-      let back : first_from is_any t.hi t.blocks a ≤ first_from is_any t.hi (blocks h) a = first_le t.blocks (blocks h) (is_listed parts) a in
+  hole_same : (end a : ℕ) → hole_after end (blocks h) a ≡ hole_after end t.blocks a
+  hole_same end a =
+      let to : first_from is_any end (blocks h) a ≤ first_from is_any end t.blocks a = first_le end (blocks h) t.blocks (λ x m. block_member h x (table_block t sound.table memory inside x m)) a in
+      let back : first_from is_any end t.blocks a ≤ first_from is_any end (blocks h) a = first_le end t.blocks (blocks h) (is_listed parts) a in
       omega arith
 
   -- so it fits in the heap where it fits by the blocks
-  abbrev fits_with : List Block → ℕ → Option Block → Bool
-  fits_with xs n p = elim p as (λ _. Bool) [
-    | Some x ↦ nat_le n (x.size + hole_after t.hi xs (block_end x))
+  abbrev fits_with : ℕ → List Block → ℕ → Option Block → Bool
+  fits_with end xs n p = elim p as (λ _. Bool) [
+    | Some x ↦ nat_le n (x.size + hole_after end xs (block_end x))
     | None ↦ false
   ]
 
+  pub fits_by_blocks_at : (end : ℕ) (order : List ℕ) (n : ℕ) → fits_in_place (snapshot t.lo end t.blocks order) n b.id ≡ nat_le n (b.size + hole_after end t.blocks (block_end b))
+  fits_by_blocks_at end order n = ap (fits_with end t.blocks n) known
+
   pub fits_by_blocks : (order : List ℕ) (n : ℕ) → fits_in_place (snapshot t.lo t.hi t.blocks order) n b.id ≡ nat_le n (b.size + hole_after t.hi t.blocks (block_end b))
-  fits_by_blocks order n = ap (fits_with t.blocks n) known
+  fits_by_blocks = fits_by_blocks_at t.hi
 
   known_in_heap : block_with (blocks h) b.id ≡ Some b
   known_in_heap = from (block_with (blocks h) b.id) refl
@@ -100,8 +103,11 @@ module _ (t : Table) (sound : IsSound t) (memory : List ℕ) (inside : t.hi ≤ 
           let m = member_with (blocks h) b.id x e in
           sym (listed_with parts x (is_listed parts x m.0)) ∙ ap (block_with t.blocks) m.1 ∙ known
 
+  pub fits_in_heap_at : (end n : ℕ) → fits_in_place (snapshot t.lo end (blocks h) t.order) n b.id ≡ nat_le n (b.size + hole_after end t.blocks (block_end b))
+  fits_in_heap_at end n = ap (fits_with end (blocks h) n) known_in_heap ∙ ap (λ k. nat_le n (b.size + k)) (hole_same end (block_end b))
+
   pub fits_in_heap : (n : ℕ) → fits_in_place (snapshot_of h) n b.id ≡ nat_le n (b.size + hole_after t.hi t.blocks (block_end b))
-  fits_in_heap n = ap (fits_with (blocks h) n) known_in_heap ∙ ap (λ k. nat_le n (b.size + k)) (hole_same (block_end b))
+  fits_in_heap = fits_in_heap_at t.hi
 
   module _ (n : ℕ) (some : 0 < n) (rounded : IsMultiple t.grain n) (options : RoomOptions) where
     abbrev held : Bool

@@ -1,5 +1,5 @@
 -- The bytes that an object has in a memory.
-use Rattle.w16_arena.proofs.Common.{◌≡◌, ℕ, ◌+◌, ◌≤◌, List, length, slice_range, refl, Some, None, option_map, ap, ◌∙◌, Block, bytes_at, Table, IsSound, block_with, heap_in, Layout, member_with, part, range_part}
+use Rattle.w16_arena.proofs.Common.{◌≡◌, ℕ, ◌+◌, ◌≤◌, List, length, slice_range, refl, Some, None, option_map, ap, ◌∙◌, Block, bytes_at, Table, IsSound, block_with, heap_in, Layout, part, range_part}
 use Rattle.w16_arena.proofs.Parts.{AreParts}
 use Rattle.w16_arena.proofs.Lookups.{bytes_here, ends_in_memory}
 
@@ -21,7 +21,3 @@ module _ (t : Table) (sound : IsSound t) (memory : List ℕ) (high : t.hi ≤ le
   -- which lies in the memory
   pub bytes_inside : (x : Block) → block_with t.blocks id ≡ Some x → x.at + x.size ≤ length memory
   bytes_inside x e = (ends_in_memory parts id x e).1
-
--- a block that an id has is the one that its own id has
-pub known_block : (xs : List Block) (id : ℕ) (x : Block) → block_with xs id ≡ Some x → block_with xs x.id ≡ Some x
-known_block xs id x e = ap (block_with xs) (member_with xs id x e).1 ∙ e

@@ -1,5 +1,5 @@
 -- When there is a place where an object may grow, and what the place tells.
-use Rattle.w16_arena.proofs.Common.{◌≡◌, ℕ, ◌+◌, ◌-◌, ◌<◌, ◌≤◌, ◌==◌, ◌⊎◌, Bool, true, false, cond, nat_le, IsTrue, IfSome, List, [], Option, Some, None, refl, sym, ap, ◌∙◌, subst, arith, le-leb, eq-eqb, ForSome, cond-true, false≢true, lt-leb, or_from, or_left, or_right, Block, part, fits_in_place, snapshot, block_end, hole_after, is_any, longest_hole, room, IsClear, Misses, block_with, All-from_Each, Each-map, Layout, IsOrdered, all_but, with_id, moved_between, moved_same, ordered_without, Placed, AreMoved, AreFreeBytes, but_for, may_grow, HasWay}
+use Rattle.w16_arena.proofs.Common.{◌≡◌, ℕ, ◌+◌, ◌-◌, ◌<◌, ◌≤◌, ◌==◌, Bool, true, false, nat_le, IsTrue, IfSome, List, [], Option, Some, None, refl, sym, ap, ◌∙◌, subst, arith, le-leb, eq-eqb, ForSome, cond-true, false≢true, lt-leb, or_from, or_left, or_right, Block, fits_in_place, snapshot, block_end, hole_after, is_any, longest_hole, room, IsClear, Misses, block_with, All-from_Each, Each-map, Layout, IsOrdered, all_but, with_id, moved_same, ordered_without, Placed, AreMoved, AreFreeBytes, but_for, may_grow, HasWay}
 use Rattle.w16_arena.proofs.Arranged.{free_fits, same_moved}
 use Rattle.w16_arena.proofs.ButFor.{behind_free, hole_clear}
 use Rattle.w16_arena.proofs.Rooms.{first_hole, hole_enough, hole_missing}
@@ -69,31 +69,3 @@ module _ (old : Layout) (id : ℕ) (b : Block) (here : block_with old.blocks id 
 
   of_block : (P : Block → Type 0) → P b → ForSome (block_with old.blocks id) P
   of_block P p x e = let same : ◌≡◌ {A = Option Block} (Some b) (Some x) = sym here ∙ e in let is : b ≡ x = cc in subst P is p
-
-  module _ (n : ℕ) (memory after : List ℕ) (new : Layout) where
-    pub way_object : (o : Option Placed) → IfSome o (λ p. HasWay n b old memory p new after)
-        → IfSome o (λ p. ForSome (block_with old.blocks id) (λ x. (block_with new.blocks id ≡ Some (record x { at = p.at })) × (part after p.at x.size ≡ part memory x.at x.size)))
-    way_object None way = tt
-    way_object (Some p) way = of_block (λ x. (block_with new.blocks id ≡ Some (record x { at = p.at })) × (part after p.at x.size ≡ part memory x.at x.size)) (ap (block_with new.blocks) (sym same_id) ∙ way.block, way.bytes)
-
-    pub way_slid : (o : Option Placed) → IfSome o (λ p. HasWay n b old memory p new after) → IfSome o (λ p. AreMoved p.slid.from p.slid.to (but_for id old) memory (but_for id new) after)
-    way_slid None way = tt
-    way_slid (Some p) way = subst (λ q. AreMoved p.slid.from p.slid.to (but_for q old) memory (but_for q new) after) same_id way.slid
-
-    pub way_free : (o : Option Placed) → IfSome o (λ p. HasWay n b old memory p new after) → IfSome o (λ p. AreFreeBytes (but_for id new) n p.at)
-    way_free None way = tt
-    way_free (Some p) way = subst (λ q. AreFreeBytes (but_for q new) n p.at) same_id way.free
-
-    pub way_moved : (o : Option Placed) → IfSome o (λ p. HasWay n b old memory p new after)
-        → IfSome o (λ p. ForSome (block_with old.blocks id) (λ x. p.moved ≡ moved_between (all_but id old.blocks) (all_but id new.blocks) + cond (p.at == x.at) 0 x.size))
-    way_moved None way = tt
-    way_moved (Some p) way = of_block (λ x. p.moved ≡ moved_between (all_but id old.blocks) (all_but id new.blocks) + cond (p.at == x.at) 0 x.size)
-        (subst (λ q. p.moved ≡ moved_between (all_but q old.blocks) (all_but q new.blocks) + cond (p.at == b.at) 0 b.size) same_id way.moved)
-
-  pub way_still : (new : Layout) (size : ℕ) (compact : Bool) (o : Option Placed) → (compact ≡ false → IfSome o (λ p. (all_but b.id new.blocks ≡ all_but b.id old.blocks) × ((p.at ≡ b.at) ⊎ IsClear is_any old.lo old.hi old.blocks p.at (p.at + size))))
-      → compact ≡ false → IfSome o (λ p. (all_but id new.blocks ≡ all_but id old.blocks) × ForSome (block_with old.blocks id) (λ x. (p.at ≡ x.at) ⊎ IsClear is_any old.lo old.hi old.blocks p.at (p.at + size)))
-  way_still new size compact None still off = tt
-  way_still new size compact (Some p) still off = (
-    subst (λ q. all_but q new.blocks ≡ all_but q old.blocks) same_id (still off).0,
-    of_block (λ x. (p.at ≡ x.at) ⊎ IsClear is_any old.lo old.hi old.blocks p.at (p.at + size)) (still off).1,
-  )

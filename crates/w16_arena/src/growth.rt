@@ -16,7 +16,7 @@ ghost use Rattle.w16_arena.specs.Growth.{but_for, may_grow, HasWay};
 
 use crate::new_place::{NOTHING, Placed};
 use w16_blocks::{Block, Blocks, Span};
-use w16_compact::{Gap, gap_for, gather, open};
+use w16_compact::{Gap, gap_for, gather, open, packed_to};
 use w16_holes::{HoleList, Holes};
 use w16_region::{Space, reveal_bytes};
 
@@ -189,16 +189,14 @@ fn move_to_gap<S: Space, H: Holes<S>>(
     ensures written { S.written space.new ≡ counted (S.written space.old) result.moved }
 {
     let _ = blocks.bounds();
+    let from = packed_to(blocks, space, gap.low, gap.high);
     let gathered = gather(blocks, space, gap.low, gap.high);
     reveal_bytes(space);
     let at = gap.low + gap.loose;
     let own = shift_to(blocks, space, block, at);
     Placed {
         at,
-        slid: Span {
-            from: gap.low,
-            to: gap.high,
-        },
+        slid: Span { from, to: gap.high },
         moved: gathered + u64::from(own),
     }
 }

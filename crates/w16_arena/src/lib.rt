@@ -14,6 +14,7 @@ ghost use Rattle.w16_arena.specs.State.{empty_table, holes_in};
 
 mod bytes;
 mod discards;
+mod ends;
 mod grown;
 mod growth;
 mod in_place;
@@ -21,6 +22,7 @@ mod modify;
 mod new_place;
 mod objects;
 mod reallocate;
+mod rename;
 mod requests;
 mod walk;
 mod without_discard;
@@ -109,20 +111,6 @@ impl<H: HoleList> Arena<H> {
         ensures { result ≡ record { from = self.now.table.lo; to = self.now.table.hi } }
     {
         self.blocks.bounds()
-    }
-
-    /// What every address and size is a multiple of, in bytes.
-    pub fn grain(&self) -> u32
-        ensures { result ≡ self.now.table.grain }
-    {
-        self.blocks.grain()
-    }
-
-    /// The i-th object in the order of use, the oldest first, from 0; none behind the newest.
-    pub fn nth(&self, i: usize) -> Option<u32>
-        ensures { result ≡ slice_get self.now.table.order i }
-    {
-        self.order.nth(i)
     }
 
     /// How many objects the order of use has beside one, which needn't be in it.

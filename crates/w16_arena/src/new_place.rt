@@ -10,7 +10,7 @@ ghost use Rattle.w16_arena.specs.State.{KeepsBytes};
 ghost use Rattle.w16_arena.specs.NewPlace.{AreMoved, AreFreeBytes, IsLowestGathered, IsLowestPlace, most_for};
 
 use w16_blocks::{Block, Blocks, Span};
-use w16_compact::{gap_for, gather};
+use w16_compact::{gap_for, gather, packed_to};
 use w16_holes::Holes;
 use w16_region::{Space, reveal_bytes};
 
@@ -82,14 +82,12 @@ fn gather_for<S: Space, H: Holes<S>>(
     ensures refused { IfNone result ((most_for blocks.old true < size) × (blocks.new ≡ blocks.old) × (space.new ≡ space.old)) }
 {
     let gap = gap_for(blocks, space, None, size)?;
+    let from = packed_to(blocks, space, gap.low, gap.high);
     let moved = gather(blocks, space, gap.low, gap.high);
     reveal_bytes(space);
     Some(Placed {
         at: gap.low + gap.loose,
-        slid: Span {
-            from: gap.low,
-            to: gap.high,
-        },
+        slid: Span { from, to: gap.high },
         moved,
     })
 }

@@ -7,6 +7,7 @@ pub mod Tables
 pub mod Free
 pub mod Step
 pub mod Keeping
+pub mod Renamed
 pub mod After
 pub mod Shift
 pub mod Slid
@@ -22,4 +23,6 @@ pub mod Lifting
 pub mod Rising
 pub mod RunHoles
 pub mod RunKept
+pub mod Unslid
 pub mod Ending
+pub mod Later

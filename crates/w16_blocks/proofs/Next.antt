@@ -1,7 +1,7 @@
 -- The first block from a place on, by the cells from a unit on.
-use Rattle.w16_blocks.proofs.Common.{ℕ, zero, suc, ◌≡◌, ◌+◌, ◌-◌, ◌*◌, ◌/◌, ◌<◌, ◌≤◌, ◌⊎◌, max, List, [], ◌∷◌, length, drop, Some, None, arith, refl, ap, ◌∙◌, inl, inr, slice_index, slice_get, cases_lt, lt-ltb, le-ltb, eqb_tells, AllByRecursion, Block, Span, holes, IsPlace, length_at, IsIn, div_ceil, div_ceil_times, up, above, multiple_sum, rank, slot_of, blocks_in, AreBegun, AreTables}
+use Rattle.w16_blocks.proofs.Common.{ℕ, zero, suc, ◌≡◌, ◌+◌, ◌-◌, ◌*◌, ◌/◌, ◌<◌, ◌≤◌, ◌⊎◌, max, List, [], ◌∷◌, length, drop, Some, None, arith, refl, sym, ap, ◌∙◌, inl, inr, slice_index, slice_get, cases_lt, lt-ltb, le-ltb, eqb_tells, AllByRecursion, Block, Span, laid_each, block_end, holes, IsPlace, length_at, IsIn, div_ceil, div_ceil_times, up, above, multiple_sum, rank, slot_of, blocks_in, AreBegun, AreTables, Layout, layout_in}
 use Rattle.w16_blocks.proofs.Cells.{All-told, each_told, begun_rest}
-use Rattle.w16_blocks.proofs.Free.{Lacks, laid_le, free_lacks}
+use Rattle.w16_blocks.proofs.Free.{Lacks, free_lacks}
 
 pub rank_none : (at : ℕ) (bs : List Block) → AllByRecursion (λ c. at ≤ c.at) bs → rank at bs ≡ 0
 rank_none at [] all = refl
@@ -61,10 +61,14 @@ length_free a p (h ∷ hs) from to = elim (eqb_tells h.from a) [
   | inr other ↦ inr (length_free a p hs from (let rest : p < a + length_at a hs = rw other.0 at to in rest))
 ]
 
+zero_or : (n : ℕ) → (n ≡ 0) ⊎ ((m : ℕ) × (n ≡ suc m))
+zero_or zero = inl refl
+zero_or (suc m) = inr (m, refl)
+
 -- so in its units no block begins
 pub clear_in : (cap lo hi g : ℕ) (slots : List Block) (cells : List ℕ) → AreTables cap lo hi g slots cells → (u hole : ℕ) → slice_index cells u ≡ 0 → hole ≡ length_at (lo + g * u) (holes lo hi (blocks_in slots cells))
     → (k : ℕ) → u ≤ k → k < u + max (hole / g) 1 → slice_index cells k ≡ 0
-clear_in cap lo hi g slots cells t u hole clear is k from to = elim (none_or (slice_index cells k)) [
+clear_in cap lo hi g slots cells t u hole clear is k from to = elim (zero_or (slice_index cells k)) [
   | inl none ↦ none
   | inr some ↦
       let begins = t.begun k some.0 some.1 in let place = begins.at in let size = begins.some in
@@ -79,10 +83,6 @@ clear_in cap lo hi g slots cells t u hole clear is k from to = elim (none_or (sl
         | inr same ↦ let e : k ≡ u = omega arith in ap (slice_index cells) e ∙ clear
       ]
 ]
-  where
-    none_or : (n : ℕ) → (n ≡ 0) ⊎ ((m : ℕ) × (n ≡ suc m))
-    none_or zero = inl refl
-    none_or (suc m) = inr (m, refl)
 
 -- the first unit at or above a place
 module _ (lo g at u : ℕ) (some : 0 < g) (is : u ≡ div_ceil (at - lo) g) where
@@ -92,8 +92,36 @@ module _ (lo g at u : ℕ) (some : 0 < g) (is : u ≡ div_ceil (at - lo) g) wher
   pub units_above : (k : ℕ) → u ≤ k → at ≤ lo + g * k
   units_above k le = let up_to = div_ceil_times (at - lo) g some in let low = up_to.0 in let times : u * g ≡ div_ceil (at - lo) g * g = ap (λ (i : ℕ). i * g) is in let step = up g u k le in omega arith
 
--- each unit with a cell begins at a place of the range
-pub unit_place : {cap lo hi g : ℕ} {slots : List Block} {cells : List ℕ} → AreTables cap lo hi g slots cells → (u : ℕ) → u < length cells → IsPlace (record { lo = lo; hi = hi; grain = g }) (lo + u * g)
-unit_place {cap} {lo} {hi} {g} {slots} {cells} t u lt =
-    let short = t.short in let le = laid_le lo hi (blocks_in slots cells) t.ordered.laid in let step = above g u (length cells) lt in
-    record { from = omega arith; to = omega arith; grained = multiple_sum g lo (u * g) t.ordered.from (u, omega arith) }
+-- a unit that begins inside the range begins at a place of it, and has a cell
+module _ {cap lo hi g : ℕ} {slots : List Block} {cells : List ℕ} (t : AreTables cap lo hi g slots cells)
+    {now : Layout} (view : layout_in cap lo hi g slots cells ≡ now) (units u : ℕ) (told : units ≡ div_ceil (now.hi - now.lo) now.grain) where
+  is : units ≡ div_ceil (hi - lo) g
+  is = told ∙ sym (ap (λ (l : Layout). div_ceil (l.hi - l.lo) l.grain) view)
+
+  pub behind_all : units ≤ u → hi ≤ lo + g * u
+  behind_all le = units_above lo g hi units t.some is u le
+
+  pub unit_place : u < units → IsPlace (record { lo = lo; hi = hi; grain = g }) (lo + u * g)
+  unit_place lt = let below = units_below lo g hi units t.some is u lt in record { from = omega arith; to = omega arith; grained = multiple_sum g lo (u * g) t.ordered.from (u, omega arith) }
+
+  pub unit_inside : u < units → u < length cells
+  unit_inside lt = let below = units_below lo g hi units t.some is u lt in let long = t.long in elim (cases_lt u (length cells)) [
+    | inl less ↦ less
+    | inr past ↦ let r = up g (length cells) u past in absurd (omega arith)
+  ]
+
+  -- from where the range ends on no block begins
+  pub none_behind : units ≤ u → slice_get (blocks_in slots (drop u cells)) 0 ≡ None
+  none_behind le =
+      ap (λ (bs : List Block). slice_get bs 0) (pass slots cells u (length cells) (λ k from to. blank k (omega arith)))
+      ∙ none_past slots cells (u + length cells) (omega arith)
+    where
+      blank : (k : ℕ) → units ≤ k → slice_index cells k ≡ 0
+      blank k from = elim (zero_or (slice_index cells k)) [
+        | inl none ↦ none
+        | inr some ↦
+            let begins = t.begun k some.0 some.1 in let place = begins.at in let size = begins.some in
+            let high = units_above lo g hi units t.some is k from in
+            let end = each_told (λ x. (lo ≤ x.at) × (0 < x.size) × (block_end x ≤ hi)) slots cells k some.0 some.1 (laid_each lo hi (blocks_in slots cells) t.ordered.laid) in
+            let last = end.2 in absurd (omega arith)
+      ]

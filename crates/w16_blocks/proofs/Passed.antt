@@ -1,8 +1,8 @@
 -- The first part at or above a place, by the units in which none begins.
-use Rattle.w16_blocks.proofs.Common.{ℕ, ◌≡◌, ◌+◌, ◌-◌, ◌*◌, ◌/◌, ◌<◌, ◌≤◌, ◌⊎◌, IsTrue, List, [], ◌∷◌, length, drop, suc, arith, refl, sym, ap, ◌∙◌, subst, inl, inr, slice_index, slice_get, cases_lt, lt-ltb, le-ltb, eqb_tells, AllByRecursion, div_ceil, Block, Span, IsLaid, IsHole, Misses, block_end, holes, is_any, IsMultiple, AreAllOf, Member, Each-at, Each-from_All, All-from_Each, holes-cons, laid_placed, gap_list_law, member_contained, AreHoles, length_at, up, multiple_sum, whole_units, IsGrained, rank, slot_of, blocks_in, layout_in, AreTables, IsFirstHole, IsFirstBlock, IsBehindAll}
+use Rattle.w16_blocks.proofs.Common.{ℕ, ◌≡◌, ◌+◌, ◌-◌, ◌*◌, ◌/◌, ◌<◌, ◌≤◌, ◌⊎◌, IsTrue, List, [], ◌∷◌, drop, suc, arith, refl, sym, ap, ◌∙◌, subst, inl, inr, slice_index, slice_get, cases_lt, lt-ltb, le-ltb, eqb_tells, AllByRecursion, div_ceil, Block, Span, IsLaid, IsHole, Misses, block_end, holes, is_any, IsMultiple, AreAllOf, Member, Each-at, Each-from_All, All-from_Each, holes-cons, laid_placed, gap_list_law, member_contained, AreHoles, length_at, up, multiple_sum, whole_units, IsGrained, rank, slot_of, blocks_in, layout_in, AreTables, Layout, IsFirstHole, IsFirstBlock, IsBehindAll}
 use Rattle.w16_blocks.proofs.Cells.{All-told, each_told}
 use Rattle.w16_blocks.proofs.Free.{AreHoles-holes}
-use Rattle.w16_blocks.proofs.Next.{first_by_unit, pass, first_here, none_past, units_below, units_above}
+use Rattle.w16_blocks.proofs.Next.{first_by_unit, pass, first_here, none_behind, behind_all, units_below, units_above}
 
 -- holes begin at multiples of the grain
 from_grained : (g lo hi : ℕ) (bs : List Block) → IsLaid lo hi bs → IsMultiple g lo → AllByRecursion (IsGrained g) bs → AllByRecursion (λ s. IsMultiple g s.from) (holes lo hi bs)
@@ -135,10 +135,10 @@ module _ {cap lo hi g : ℕ} {slots : List Block} {cells : List ℕ} (t : AreTab
             ]
 
     -- behind the last unit there is no part
-    pub none_first : length cells ≤ u → IsBehindAll (layout_in cap lo hi g slots cells) at
-    none_first past = record {
-      no_block = next_told ∙ none_past slots cells u past;
+    pub none_first : {now : Layout} → layout_in cap lo hi g slots cells ≡ now → (units : ℕ) → units ≡ div_ceil (now.hi - now.lo) now.grain → units ≤ u → IsBehindAll (layout_in cap lo hi g slots cells) at
+    none_first view units told past = record {
+      no_block = next_told ∙ none_behind t view units u told past;
       no_hole = λ a e hole le.
           let from = not_passed a e hole le in let some = hole.some in let to = hole.clear.below in
-          let long = t.long in let r = up g (length cells) u past in omega arith;
+          let high = behind_all t view units u told past in omega arith;
     }

@@ -23,6 +23,14 @@ with_same id b bs e = rw e refl
 pub with_other : (id : ℕ) (b : Block) (bs : List Block) → (b.id == id) ≡ false → block_with (b ∷ bs) id ≡ block_with bs id
 with_other id b bs e = rw e refl
 
+-- an id that has no block
+pub none_with : (id : ℕ) (bs : List Block) → block_with bs id ≡ None → AllByRecursion (λ c. c.id ≢ id) bs
+none_with id [] none = tt
+none_with id (b ∷ bs) none = elim (eqb_tells b.id id) [
+  | inl same ↦ let some : Some b ≡ None = rw same.0 at none in cc
+  | inr other ↦ (other.1, none_with id bs (rw other.0 at none))
+]
+
 -- an id that none has
 pub with_none : (id : ℕ) (bs : List Block) → AllByRecursion (λ c. c.id ≢ id) bs → block_with bs id ≡ None
 with_none id [] all = refl

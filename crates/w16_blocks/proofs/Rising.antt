@@ -104,9 +104,6 @@ module _ (l : Layout) (ordered : IsOrdered l) (ids : l.cap < 2 ^ 32) (run : Span
   pub begins_in : run.from ≤ x.at
   begins_in = let e = ends_there in elim (each_with (λ b. (block_end b ≤ run.from) ⊎ (run.from ≤ b.at)) x.id x l.blocks known is.whole.0) [ inl before ↦ absurd (omega arith) | inr inside ↦ inside ]
 
-  pub begins_below : x.at < at
-  begins_below = is_last.below
-
   abbrev next : ℕ
   next = to + (x.at - run.from)
 

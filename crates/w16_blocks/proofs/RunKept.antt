@@ -93,3 +93,9 @@ module _ {Z : Type 0} (s : Vec Block Z) (b : Vec ℕ Z) (slots slots' : List Blo
   blocks_back f told =
       ap (λ (ss : List Block). blocks_in ss (with_items b cells').items) slots_back ∙ ap (blocks_in slots') cells_back ∙ told
       ∙ ap (λ (ss : List Block). map f (blocks_in ss cells)) lent ∙ ap (λ (cs : List ℕ). map f (blocks_in s.items cs)) cells_lent
+
+-- and so do tables that are lent, before they are written
+pub lent_layout : {Z : Type 0} (s : Vec Block Z) (b : Vec ℕ Z) {slots : List Block} {cells : List ℕ} {lo hi g : ℕ} {l : Layout} → layout_in s.len lo hi g s.items b.items ≡ l → slots ≡ s.items → cells ≡ b.items → layout_in (length slots) lo hi g slots cells ≡ l
+lent_layout s b {slots} {cells} {lo} {hi} {g} is lent cells_lent =
+    let same : length slots ≡ s.len = let a = ap (length {A = Block}) lent in let d = s.ok.0 in omega arith in
+    (λ i. layout_in (same i) lo hi g (lent i) (cells_lent i)) ∙ is

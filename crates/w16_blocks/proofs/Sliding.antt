@@ -1,9 +1,8 @@
 -- Blocks of a run that slide one after another: what a step needs, and what it leaves.
-use Rattle.w16_blocks.proofs.Common.{ℕ, ◌≡◌, ◌≢◌, ◌+◌, ◌-◌, ◌<◌, ◌≤◌, ◌^◌, ◌⊎◌, List, [], ◌∷◌, map, Some, is_some, arith, refl, sym, ap, ◌∙◌, inl, inr, lt-ltb, le-ltb, le-leb, lt-leb, cases_lt, false≢true, eqb_tells, AllByRecursion, Block, Span, IsLaid, block_end, IsMultiple, block_with, Each-map, Each-both, laid_each, multiple_sum, Layout, IsApart, IsOrdered, FitsFor, AreNamed, placed, all_but, replaced, IsCut, IsRun, IsBare, slid_with}
+use Rattle.w16_blocks.proofs.Common.{ℕ, ◌≡◌, ◌+◌, ◌-◌, ◌<◌, ◌≤◌, ◌^◌, ◌⊎◌, List, [], ◌∷◌, map, Some, is_some, arith, refl, sym, ap, ◌∙◌, inl, inr, lt-ltb, le-ltb, le-leb, lt-leb, cases_lt, false≢true, eqb_tells, AllByRecursion, Block, Span, IsLaid, block_end, IsMultiple, block_with, Each-map, Each-both, laid_each, multiple_sum, Layout, IsApart, IsOrdered, FitsFor, AreNamed, placed, all_but, replaced, IsCut, IsRun, IsBare, slid_with}
 use Rattle.w16_blocks.proofs.Place.{placed_first, placed_after, All-placed}
 use Rattle.w16_blocks.proofs.Remove.{all_but_same, all_but_other, all_but_absent, rest_differs, with_same, with_other, All-all_but, All-back, each_with, others_apart, others_differ}
-use Rattle.w16_blocks.proofs.Step.{All-first, lies, grained_known, lacks_known}
-use Rattle.w16_blocks.proofs.Free.{Lacks, lacks_free}
+use Rattle.w16_blocks.proofs.Step.{lies, grained_known, lacks_known}
 
 -- a block before a run, behind it, and in it
 pub slid_below : (run : Span) (to : ℕ) (b : Block) → b.at < run.from → slid_with run to b ≡ b
@@ -97,22 +96,10 @@ replaced-slid lo hi cap to x (b ∷ bs) laid named e all =
 abbrev pub IsReady : Span → ℕ → ℕ → Block → Type 0
 IsReady run to at c = (block_end c ≤ to + (at - run.from)) ⊎ ((at ≤ c.at) × ((block_end c ≤ run.to) ⊎ (run.to ≤ c.at)))
 
--- each byte from a place on up to the end of a run is some block's
-abbrev pub IsFilled : ℕ → ℕ → List Block → Type 0
-IsFilled at end bs = (p : ℕ) → at ≤ p → p < end → AllByRecursion (Lacks p) bs → ⊥
-
 pub ready_start : (run : Span) (to : ℕ) (bs : List Block) → IsBare to run.from bs → IsCut run.to bs → AllByRecursion (IsReady run to run.from) bs
 ready_start run to bs bare cut =
     Each-both (λ b. (block_end b ≤ to) ⊎ (run.from ≤ b.at)) (λ b. (block_end b ≤ run.to) ⊎ (run.to ≤ b.at)) (IsReady run to run.from)
     (λ b one two. elim one [ inl below ↦ inl (omega arith) | inr above ↦ inr (omega arith, two) ]) bs bare cut
-
-pub filled_start : (l : Layout) (run : Span) → IsOrdered l → IsRun l run → IsFilled run.from run.to l.blocks
-filled_start l run ordered is p from to lacks = let low = is.inside.0 in let high = is.inside.2 in is.full p from to (lacks_free p l.lo l.hi l.blocks ordered.laid (omega arith) (omega arith) lacks)
-
--- inside the run a block begins at each place that is reached
-pub some_at : (run : Span) (to at : ℕ) (bs : List Block) → to ≤ run.from → run.from ≤ at → at < run.to → AllByRecursion (IsReady run to at) bs → IsFilled at run.to bs → AllByRecursion (λ b. b.at ≢ at) bs → ⊥
-some_at run to at bs down from lt ready filled none = filled at (omega arith) lt
-    (Each-both (IsReady run to at) (λ b. b.at ≢ at) (Lacks at) (λ b one two. elim one [ inl below ↦ inr (omega arith) | inr above ↦ let le = above.0 in inl (omega arith) ]) bs ready none)
 
 pub named_each : (cap : ℕ) (bs : List Block) → AreNamed cap bs → AllByRecursion (λ c. c.id < cap) bs
 named_each cap [] named = tt
@@ -160,11 +147,6 @@ module _ (l : Layout) (ordered : IsOrdered l) (ids : l.cap < 2 ^ 32) (run : Span
   ready_then = All-placed (IsReady run to (at + x.size)) there (all_but x.id l.blocks) (inl (omega arith))
       (Each-map (λ c. (block_end c ≤ to + (at - run.from)) ⊎ ((at + x.size ≤ c.at) × ((block_end c ≤ run.to) ⊎ (run.to ≤ c.at)))) (IsReady run to (at + x.size))
       (λ c is. elim is [ inl below ↦ inl (omega arith) | inr above ↦ inr above ]) (all_but x.id l.blocks) others)
-
-  pub filled_then : IsFilled at run.to l.blocks → IsFilled (at + x.size) run.to (replaced there l.blocks)
-  filled_then filled p past end lacks =
-      let rest = (All-first (Lacks p) there (all_but x.id l.blocks) lacks).1 in
-      filled p (omega arith) end (All-back l.cap (Lacks p) x.id x l.blocks ordered.named known (inr (omega arith)) rest)
 
   -- the blocks that slid so far are one more
   pub slid_then : (old : List Block) → l.blocks ≡ map (slid_with (record { from = run.from; to = at }) to) old → replaced there l.blocks ≡ map (slid_with (record { from = run.from; to = at + x.size }) to) old

@@ -1,7 +1,7 @@
 -- The block that begins at a place, by the place's cell.
 use Rattle.std.proofs.lemmas.Nat.{mod-mul-add}
 use Rattle.std.specs.Prelude.{◌%◌}
-use Rattle.w16_blocks.proofs.Common.{Each-both, laid_each, block_end, IsOrdered, IsGrained, ℕ, zero, suc, ◌≡◌, ◌≢◌, ◌+◌, ◌-◌, ◌*◌, ◌<◌, ◌≤◌, List, [], ◌∷◌, length, get_or, Some, arith, refl, sym, ap, ◌∙◌, subst, slice_index, AllByRecursion, Block, block_with, below, Layout, no_block, slot_of, blocks_in, layout_in, AreTables}
+use Rattle.w16_blocks.proofs.Common.{Each-both, laid_each, block_end, IsOrdered, IsGrained, ℕ, zero, suc, ◌≡◌, ◌≢◌, ◌+◌, ◌-◌, ◌*◌, ◌<◌, ◌≤◌, List, [], ◌∷◌, length, get_or, Some, arith, refl, sym, ap, ◌∙◌, subst, slice_index, AllByRecursion, Block, block_with, Layout, no_block, slot_of, blocks_in, layout_in, AreTables}
 use Rattle.w16_blocks.proofs.Cells.{All-told, told_with}
 use Rattle.w16_blocks.proofs.Tables.{same_unit}
 
@@ -12,9 +12,6 @@ read_any (s ∷ slots) zero c d lt = refl
 read_any (s ∷ slots) (suc i) c d lt = read_any slots i c d (omega arith)
 
 module _ {cap lo hi g : ℕ} {slots : List Block} {cells : List ℕ} (t : AreTables cap lo hi g slots cells) {place : ℕ} (u : ℕ) (at : place ≡ lo + g * u) where
-  pub unit_in : place ≤ hi → u < length cells
-  unit_in le = let many = t.long in below g u (length cells) (omega arith)
-
   pub none_at : slice_index cells u ≡ 0 → AllByRecursion (λ b. b.at ≢ place) (blocks_in slots cells)
   none_at clear = All-told (λ b. b.at ≢ place) slots cells
       (λ k id e same. let begins = (t.begun k id e).at in let here = same_unit g lo k u t.some (omega arith) in let cell = sym (ap (slice_index cells) here) ∙ e in omega arith)

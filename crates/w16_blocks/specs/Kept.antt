@@ -1,10 +1,11 @@
 -- What the code keeps: a table of blocks by id, and by unit of grain the block that begins there.
-use Rattle.std.specs.Prelude.{ℕ, zero, suc, ◌<◌, ◌≤◌, ◌≡◌, ◌+◌, ◌*◌, ◌-◌, ◌^◌, List, [], ◌∷◌, length, slice_index, slice_index_or, sum_by}
+use Rattle.std.specs.Prelude.{ℕ, zero, suc, ◌<◌, ◌≡◌, ◌+◌, ◌*◌, ◌-◌, ◌^◌, List, [], ◌∷◌, length, slice_index, slice_index_or, sum_by}
 use Rattle.w16_model.specs.declared.Block.{Block}
 use Rattle.w16_model.specs.declared.Span.{Span}
 use Rattle.w16_model.specs.declared.Hold.{Hold}
 use Rattle.w16_model.specs.declared.Hold.TheVariants.{Pinned, Loose}
 use Rattle.w16_holes.specs.Holes.{Range}
+use Rattle.w16_holes.specs.declared.holes.TheConstants.{LAST_END}
 use Rattle.w16_blocks.specs.Layout.{Layout, range_of, holes_of, IsOrdered}
 
 -- what the table has for an id without a block
@@ -40,12 +41,13 @@ AreBegun p grain slots cells = (k id : ℕ) → slice_index cells k ≡ suc id �
 abbrev pub AreFound : List Block → List ℕ → Type 0
 AreFound slots cells = (id : ℕ) → 0 < (slot_of slots id).size → (k : ℕ) × (slice_index cells k ≡ suc id)
 
--- table and cells agree, and tell an ordered layout; there is a cell for each place, the end among them, and none beyond
+-- table and cells agree, and tell an ordered layout; there is a cell for each place, the end among them, and for each up to the highest end that
+-- the range may be given later
 pub record AreTables (cap lo hi grain : ℕ) (slots : List Block) (cells : List ℕ) : Type 0 where
   pub some : 0 < grain
   pub ids : cap < 2 ^ 32
   pub long : hi - lo < grain * length cells
-  pub short : grain * length cells ≤ hi - lo + grain
+  pub reserved : LAST_END - lo < grain * length cells
   pub ordered : IsOrdered (layout_in cap lo hi grain slots cells)
   pub begun : AreBegun lo grain slots cells
   pub found : AreFound slots cells

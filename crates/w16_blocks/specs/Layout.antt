@@ -1,5 +1,5 @@
 -- Blocks between two bounds, by address.
-use Rattle.std.specs.Prelude.{ℕ, suc, ◌<◌, ◌≤◌, ◌≢◌, ◌==◌, ◌^◌, nat_lt, not, if◌then◌else◌, List, [], ◌∷◌, length, drop}
+use Rattle.std.specs.Prelude.{ℕ, suc, ◌<◌, ◌≤◌, ◌≢◌, ◌==◌, ◌^◌, nat_lt, not, if◌then◌else◌, List, [], ◌∷◌, length, drop, map}
 use Rattle.std.specs.List.{AllByRecursion, filter}
 use Rattle.w16_model.specs.declared.Block.{Block}
 use Rattle.w16_model.specs.declared.Span.{Span}
@@ -66,6 +66,14 @@ all_but id bs = filter (λ b. not (b.id == id)) bs
 -- the blocks with a block in place of the one of its id
 abbrev pub replaced : Block → List Block → List Block
 replaced b bs = placed b (all_but b.id bs)
+
+-- a block, which has another id if it had this one
+abbrev pub with_other_id : ℕ → ℕ → Block → Block
+with_other_id id to b = if b.id == id then record b { id = to } else b
+
+-- the blocks, an id's under another id
+abbrev pub renamed : ℕ → ℕ → List Block → List Block
+renamed id to bs = map (with_other_id id to) bs
 
 -- a block that may be added: its id is free, it lies inside and meets no other
 pub record Fits (l : Layout) (b : Block) : Type 0 where

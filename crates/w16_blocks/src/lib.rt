@@ -4,6 +4,7 @@
 
 ghost use Rattle.std.specs.Prelude.{◌≡◌, ◌≢◌, ◌+◌, ◌-◌, ◌*◌, ◌^◌, ◌<◌, ◌≤◌, ◌==◌, [], length, IfOk, IsSome, IfSome, vec_len, slice_get, sum_by, Some, if◌then◌else◌};
 ghost use Rattle.std.specs.List.{list_any};
+ghost use Rattle.std.specs.Int.{div_ceil};
 ghost use Rattle.std.specs.Option.{ForSome};
 ghost use Rattle.w16_model.specs.Heap.{IsMultiple};
 ghost use Rattle.w16_blocks.specs.Kept.{pins_of};
@@ -14,6 +15,7 @@ mod by_address;
 mod ends;
 mod lifts;
 mod parts;
+mod rename;
 mod runs;
 
 pub use by_address::ByAddress;
@@ -21,7 +23,7 @@ use ends::note_end;
 pub use parts::Part;
 use std::alloc::AllocError;
 use std::marker::Model;
-use w16_holes::{HoleList, Holes, units_in, units_over};
+use w16_holes::{HoleList, Holes, LAST_END, units_in, units_over};
 pub use w16_model::{Block, Hold, Span};
 use w16_region::Space;
 
@@ -110,14 +112,14 @@ fn beyond(other: u32, place: u32, size: u32) -> Span
 impl<H: HoleList> Blocks<H> {
     ghost use Rattle.w16_model.specs.Table.{block_with};
     ghost use Rattle.w16_model.specs.Gap.{hole_after, block_end, is_pinned};
-    ghost use Rattle.w16_holes.specs.Holes.{lowest, longest, add_span, AreSameOutside};
+    ghost use Rattle.w16_holes.specs.Holes.{lowest, add_span, AreSameOutside};
     ghost use Rattle.w16_model.specs.Bytes.{part};
     ghost use Rattle.w16_region.specs.Bytes.{counted};
     ghost use Rattle.w16_blocks.specs.Stay.{AreSameOutsideBoth, AreSameBut};
     ghost use Rattle.w16_blocks.specs.Layout.{Layout, IsOrdered, Fits, FitsFor, placed, all_but, replaced, rank, holes_of};
 
     /// No blocks yet, between `lo` and `hi`, with ids below `cap`, at multiples of the grain, over holes of which all that is one. All the
-    /// memory that the blocks ever have is taken here; fails where there is not enough.
+    /// memory that the blocks ever have is taken here, for an end at [`LAST_END`] too; fails where there is not enough.
     pub fn with_room(
         alloc: H::Alloc,
         cap: u32,
@@ -135,7 +137,7 @@ impl<H: HoleList> Blocks<H> {
         requires whole { H.holes holes ≡ add_span lo hi [] }
         ensures { IfOk result (λ made. made ≡ record { cap = cap; lo = lo; hi = hi; grain = grain; blocks = [] }) }
     {
-        let units = ((hi - lo) / grain) as usize + 1;
+        let units = ((hi.max(LAST_END) - lo) / grain) as usize + 1;
         let slots = vec![in alloc; NO_BLOCK; cap as usize]?;
         let begins = vec![in alloc; 0; units]?;
         let ends = vec![in alloc; 0; units]?;
@@ -349,6 +351,33 @@ impl<H: HoleList> Blocks<H> {
         );
     }
 
+    /// Moves the end of the range up to `end`, a multiple of the grain of at most [`LAST_END`]. What is new is free, and joined with a hole
+    /// that ends where the range ended; the blocks stay. Bytes outside the holes that there are afterwards stay. No memory is taken.
+    pub fn set_end<S: Space>(&mut self, space: &mut S, end: u32)
+    where
+        H: Holes<S>,
+        requires later { self.old.hi ≤ end }
+        requires reserved { end ≤ LAST_END }
+        requires low { IsMultiple self.old.grain self.old.hi }
+        requires high { IsMultiple self.old.grain end }
+        requires kept { H.are_in (holes_of self.old) (S.bytes space.old) }
+        requires inside { end ≤ length (S.bytes space.old) }
+        ensures value { self.new ≡ record self.old { hi = end } }
+        ensures ordered { IsOrdered self.new }
+        ensures kept { H.are_in (holes_of self.new) (S.bytes space.new) }
+        ensures bytes { AreSameOutside (holes_of self.new) (S.bytes space.old) (S.bytes space.new) }
+        ensures written { S.written space.new ≡ S.written space.old }
+        ensures lenders { S.lenders space.new ≡ S.lenders space.old }
+    {
+        let from = self.hi;
+        if from < end {
+            self.holes.set_end(end);
+            self.holes.put(space, from, end - from);
+            self.free += end - from;
+            self.hi = end;
+        }
+    }
+
     /// Pins an id's block or lets it loose. Its place and size stay.
     pub fn set_hold(&mut self, id: u32, hold: Hold)
         requires id { id < self.old.cap }
@@ -371,17 +400,6 @@ impl<H: HoleList> Blocks<H> {
         ensures ordered { IsOrdered self.now }
     {
         self.holes.lowest(space, n)
-    }
-
-    /// The length of the longest hole, 0 where there is none.
-    pub fn longest<S: Space>(&self, space: &S) -> u32
-    where
-        H: Holes<S>,
-        requires { H.are_in (holes_of self.now) (S.bytes space.now) }
-        ensures value { result ≡ longest (holes_of self.now) }
-        ensures ordered { IsOrdered self.now }
-    {
-        self.holes.longest(space)
     }
 
     /// The length of the hole directly after an id's block, 0 where there is none.
@@ -422,8 +440,9 @@ impl<H: HoleList> Blocks<H> {
         ensures value { result ≡ slice_get self.now.blocks (rank at self.now.blocks) }
         ensures ordered { IsOrdered self.now }
     {
+        let units = self.units();
         let mut unit = units_over(at.saturating_sub(self.lo), self.grain) as usize;
-        while unit < self.begins.len() {
+        while unit < units {
             let begin = self.begins[unit] as usize;
             if begin > 0 {
                 return Some(self.slots[begin - 1]);
@@ -433,6 +452,14 @@ impl<H: HoleList> Blocks<H> {
             unit += units_in(hole, self.grain).max(1) as usize;
         }
         None
+    }
+
+    /// How many units of grain begin inside the range. Behind them nothing begins.
+    pub(crate) fn units(&self) -> usize
+        ensures value { result ≡ div_ceil (self.now.hi - self.now.lo) self.now.grain }
+        ensures ordered { IsOrdered self.now }
+    {
+        units_over(self.hi - self.lo, self.grain) as usize
     }
 
     /// The blocks by address, each found from the end of the one before.

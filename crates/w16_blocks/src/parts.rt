@@ -27,7 +27,7 @@ impl<H: HoleList> Blocks<H> {
         ensures ordered { IsOrdered self.now }
     {
         let first = units_over(at.saturating_sub(self.lo), self.grain) as usize;
-        for unit in first..self.begins.len() {
+        for unit in first..self.units() {
             let begin = self.begins[unit] as usize;
             if begin > 0 {
                 return Some(Part::Block(self.slots[begin - 1]));

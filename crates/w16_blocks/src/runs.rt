@@ -5,7 +5,7 @@ ghost use Rattle.w16_model.specs.Heap.{IsMultiple};
 ghost use Rattle.w16_model.specs.Table.{block_with};
 ghost use Rattle.w16_blocks.specs.Layout.{FitsFor, replaced};
 ghost use Rattle.w16_blocks.specs.Kept.{blocks_in, layout_in, AreTables};
-ghost use Rattle.w16_blocks.specs.Runs.{IsRun, IsBare, slid_with};
+ghost use Rattle.w16_blocks.specs.Runs.{IsCut, IsRun, IsBare, EndsAt, slid_with};
 
 use crate::ends::note_end;
 use crate::{Block, Blocks, Span, unit_of};
@@ -53,30 +53,34 @@ pub(crate) fn retag(
     note_end(ends, bounds.from, grain, Block { at: to, ..block });
 }
 
-/// The table and the cells, where the blocks of a run have slid to a place, one after another.
+/// The table and the cells, where the run of blocks that begins a part of the range has slid to a place, one after another, each as it is
+/// found. Answers where the run ended: at the end of the part at the latest.
 fn retag_run(
     slots: &mut [Block],
     begins: &mut [u32],
     ends: &mut [u16],
     bounds: Span,
     grain: u32,
-    run: Span,
+    within: Span,
     to: u32,
-)
+) -> u32
     requires tables { AreTables (length slots.old) bounds.from bounds.to grain slots.old begins.old }
-    requires run { IsRun (layout_in (length slots.old) bounds.from bounds.to grain slots.old begins.old) run }
-    requires grained { IsMultiple grain to }
-    requires down { (bounds.from ≤ to) × (to ≤ run.from) }
-    requires bare { IsBare to run.from (blocks_in slots.old begins.old) }
+    requires inside { (bounds.from ≤ to) × (to ≤ within.from) × (within.from ≤ within.to) × (within.to ≤ bounds.to) }
+    requires grained { IsMultiple grain within.from × IsMultiple grain to }
+    requires whole { IsCut within.from (blocks_in slots.old begins.old) × IsCut within.to (blocks_in slots.old begins.old) }
+    requires bare { IsBare to within.from (blocks_in slots.old begins.old) }
+    ensures run { IsRun (layout_in (length slots.old) bounds.from bounds.to grain slots.old begins.old) (record { from = within.from; to = result }) }
+    ensures high { result ≤ within.to }
+    ensures last { EndsAt (layout_in (length slots.old) bounds.from bounds.to grain slots.old begins.old) within.to result }
     ensures tables { AreTables (length slots.old) bounds.from bounds.to grain slots.new begins.new }
-    ensures blocks { blocks_in slots.new begins.new ≡ map (slid_with run to) (blocks_in slots.old begins.old) }
+    ensures blocks { blocks_in slots.new begins.new ≡ map (slid_with (record { from = within.from; to = result }) to) (blocks_in slots.old begins.old) }
     ensures slots { length slots.new ≡ length slots.old }
     ensures begins { length begins.new ≡ length begins.old }
 {
-    let mut at = run.from;
-    while at < run.to {
+    let mut at = within.from;
+    while at < within.to {
         let Some(block) = block_at(slots, begins, bounds, grain, at) else {
-            unreachable!();
+            return at;
         };
         retag(
             slots,
@@ -85,10 +89,11 @@ fn retag_run(
             bounds,
             grain,
             block,
-            to + (at - run.from),
+            to + (at - within.from),
         );
         at += block.size;
     }
+    at
 }
 
 impl<H: HoleList> Blocks<H> {
@@ -137,45 +142,51 @@ impl<H: HoleList> Blocks<H> {
         end
     }
 
-    /// Slides a run of blocks down to a place from which on no block has a byte before the run, and their bytes with them, in one move. What
-    /// the new place has beyond the old one is taken from the holes, and what the old one has beyond the new joins them. The size of the run
+    /// Slides the run of blocks that begins a part of the range down to a place from which on no block has a byte before the part, and their
+    /// bytes with them, in one move. Answers where the run ended: at the end of the part at the latest, which no block reaches over. What the
+    /// new place has beyond the old one is taken from the holes, and what the old one has beyond the new joins them. The size of the run
     /// counts as written, once. Bytes outside the holes of before and after stay, but for those of the new place.
-    pub fn slide_run<S: Space>(&mut self, space: &mut S, run: Span, to: u32)
+    pub fn slide_run<S: Space>(&mut self, space: &mut S, within: Span, to: u32) -> u32
     where
         H: Holes<S>,
-        requires run { IsRun self.old run }
-        requires some { run.from < run.to }
-        requires grained { IsMultiple self.old.grain to }
-        requires down { (self.old.lo ≤ to) × (to < run.from) }
-        requires bare { IsBare to run.from self.old.blocks }
+        requires part { (self.old.lo ≤ to) × (to < within.from) × (within.from < within.to) × (within.to ≤ self.old.hi) }
+        requires grained { IsMultiple self.old.grain within.from × IsMultiple self.old.grain to }
+        requires whole { IsCut within.from self.old.blocks × IsCut within.to self.old.blocks }
+        requires begins { AllByRecursion (λ b. b.at ≢ within.from) self.old.blocks → ⊥ }
+        requires bare { IsBare to within.from self.old.blocks }
         requires kept { H.are_in (holes_of self.old) (S.bytes space.old) }
         requires inside { self.old.hi ≤ length (S.bytes space.old) }
-        ensures value { self.new ≡ record self.old { blocks = map (slid_with run to) self.old.blocks } }
+        ensures run { IsRun self.old (record { from = within.from; to = result }) }
+        ensures some { within.from < result }
+        ensures high { result ≤ within.to }
+        ensures last { EndsAt self.old within.to result }
+        ensures value { self.new ≡ record self.old { blocks = map (slid_with (record { from = within.from; to = result }) to) self.old.blocks } }
         ensures ordered { IsOrdered self.new }
         ensures kept { H.are_in (holes_of self.new) (S.bytes space.new) }
-        ensures contents { part (S.bytes space.new) to (run.to - run.from) ≡ part (S.bytes space.old) run.from (run.to - run.from) }
-        ensures bytes { AreSameBut to (run.to - run.from) (holes_of self.old) (holes_of self.new) (S.bytes space.old) (S.bytes space.new) }
-        ensures written { S.written space.new ≡ counted (S.written space.old) (run.to - run.from) }
+        ensures contents { part (S.bytes space.new) to (result - within.from) ≡ part (S.bytes space.old) within.from (result - within.from) }
+        ensures bytes { AreSameBut to (result - within.from) (holes_of self.old) (holes_of self.new) (S.bytes space.old) (S.bytes space.new) }
+        ensures written { S.written space.new ≡ counted (S.written space.old) (result - within.from) }
         ensures lenders { S.lenders space.new ≡ S.lenders space.old }
     {
-        let size = run.to - run.from;
-        let apart = size.min(run.from - to);
         let bounds = Span {
             from: self.lo,
             to: self.hi,
         };
-        // Before the bytes, so that the tables are still near from the look for the run's end.
-        retag_run(
+        // Before the bytes, which would drive the tables out of the cache.
+        let end = retag_run(
             &mut self.slots,
             &mut self.begins,
             &mut self.ends,
             bounds,
             self.grain,
-            run,
+            within,
             to,
         );
+        let size = end - within.from;
+        let apart = size.min(within.from - to);
         self.holes.take(space, to, apart);
-        space.slide(run.from, to, size);
-        self.holes.put(space, run.to - apart, apart);
+        space.slide(within.from, to, size);
+        self.holes.put(space, end - apart, apart);
+        end
     }
 }

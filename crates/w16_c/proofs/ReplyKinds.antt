@@ -1,7 +1,7 @@
 -- A step's reply has the kind that its command's has.
-use Rattle.w16_c.proofs.Common.{◌≡◌, ℕ, ◌+◌, Bool, true, false, MatchBool, MatchOption, cond, nat_lt, if◌then◌else◌, List, [], length, Option, Some, None, unwrap_or, Result, Ok, Err, refl, sym, subst, ltb-false, Refusal, FarFault, BadSelector, ReadOnly, NotPresent, Limit, part, repeated, Heap, bytes_at, after_free, after_lock, after_unlock, after_newest, after_oldest, after_touch, Handles, slot_of_handle, slot_of_selector, selector_of, selector_in, offset_in, far_pointer, owns, refuses_write, length-part, HandleCommand, Answer, HandleStep, free_own, global_free, global_lock, global_unlock, handle_or_0, locks_at, GlobalAlloc, GlobalFree, GlobalLock, GlobalUnlock, GlobalSize, GlobalFlags, GlobalHandle, GetSelectorBase, GetSelectorLimit, GlobalCompact, GlobalLRUNewest, GlobalLRUOldest, Moved, FarAnswer, far_fault, far_slot, after_write, Read, Write, Fill, FetchFault, AnyFetches, Fetching, Accesses, gives, needs_fetch, reply_of_far, LoadingWorld, OfHandles, OfResizes, OfFar, ResizeCommand, ResizeStep, GlobalReAlloc, GlobalDiscard, Reply, HandleReplies, ResizeReplies, Word, Dword, Done, Failed, Walked, LocalCommand, LocalStep, DS, World, Command, OfLoading, OfLocals, KernelStep, AnswersWord, AnswersDword, IsWrite, IsWord, IsDword, IsDoneOrFault, IsBytes}
+use Rattle.w16_c.proofs.Common.{◌≡◌, ℕ, ◌+◌, Bool, true, false, MatchBool, MatchOption, cond, nat_lt, if◌then◌else◌, List, [], length, Option, Some, None, unwrap_or, Result, Ok, Err, refl, sym, subst, Refusal, FarFault, ReadOnly, part, repeated, Heap, bytes_at, after_free, after_lock, after_unlock, after_newest, after_oldest, after_touch, Handles, slot_of_handle, selector_of, selector_in, offset_in, far_pointer, owns, refuses_write, length-part, HandleCommand, Answer, HandleStep, free_own, global_free, global_lock, global_unlock, handle_or_0, locks_at, GlobalAlloc, GlobalFree, GlobalLock, GlobalUnlock, GlobalSize, GlobalFlags, GlobalHandle, GetSelectorBase, GetSelectorLimit, GlobalCompact, GlobalLRUNewest, GlobalLRUOldest, Moved, FarAnswer, Reached, reached, far_fault, far_slot, after_write, Read, Write, Fill, FetchFault, AnyFetches, Fetching, Accesses, gives, needs_fetch, reply_of_far, LoadingWorld, OfHandles, OfResizes, OfFar, ResizeCommand, ResizeStep, GlobalReAlloc, GlobalDiscard, Reply, HandleReplies, ResizeReplies, Word, Dword, Done, Failed, Walked, LocalCommand, LocalStep, DS, World, Command, OfLoading, OfLocals, KernelStep, AnswersWord, AnswersDword, IsWrite, IsWord, IsDword, IsDoneOrFault, IsBytes}
 use Rattle.std.specs.FinMap as finmap
-use Rattle.std.proofs.Common.{◌⊎◌, ap, inl, inr}
+use Rattle.std.proofs.Common.{◌⊎◌, ◌∙◌, ap, inl, inr}
 use Rattle.w16_loading.specs.Replies.Reply.{Bytes, Fault}
 use Rattle.w16_loading.specs.Families as families
 use Rattle.w16_loading.specs.Families.LoadingCommand.{OfModules, OfResources}
@@ -232,36 +232,24 @@ write_done old selector offset slice = turn (refuses_write old selector) (far_fa
   where
     turn : (b : Bool) (p : Option FarFault) → IsDoneOrFault (reply_of_far (cond b (FarAnswer.Fault ReadOnly, old) (elim p as (λ _. FarAnswer × Handles) [
       | Some fault ↦ (FarAnswer.Fault fault, old)
-      | None ↦ (FarAnswer.Done, record old { heap = after_touch (after_write old.heap (far_slot old selector) offset slice) (far_slot old selector) })
+      | None ↦ (FarAnswer.Done, record old { heap = after_touch (after_write old.heap (far_slot old selector) (far.far_at old selector offset) slice) (far_slot old selector) })
     ])).0)
     turn true p = tt
     turn false None = tt
     turn false (Some fault) = tt
 
 -- a read has as many bytes as it asks for, or a fault
-abbrev ReadsAs : Handles → ℕ → ℕ → Option FarFault → List ℕ → ℕ → Type 0
-ReadsAs old offset n fault bytes slot = IsBytes n (reply_of_far (elim fault as (λ _. FarAnswer × Handles) [
-  | Some fault ↦ (FarAnswer.Fault fault, old)
-  | None ↦ (FarAnswer.Bytes (part bytes offset n), record old { heap = after_touch old.heap slot })
-]).0)
-
 read_bytes : (old : Handles) (selector offset n : ℕ) → IsBytes n (reply_of_far (far.far_read old selector offset n).0)
-read_bytes old selector offset n = turn (slot_of_selector old selector)
+read_bytes old selector offset n = turn (far_fault old selector offset n) refl
   where
-    by_end : (slot : ℕ) (bytes : List ℕ) (b : Bool) → nat_lt (length bytes) (offset + n) ≡ b → ReadsAs old offset n (cond b (Some Limit) None) bytes slot
-    by_end slot bytes true e = tt
-    by_end slot bytes false e = length-part bytes offset n (ltb-false (length bytes) (offset + n) e)
-
-    by_bytes : (slot : ℕ) (b : Option (List ℕ)) → ReadsAs old offset n (elim b as (λ _. Option FarFault) [ None ↦ Some NotPresent | Some bytes ↦ if nat_lt (length bytes) (offset + n) then Some Limit else None ]) (unwrap_or b []) slot
-    by_bytes slot None = tt
-    by_bytes slot (Some bytes) = by_end slot bytes (nat_lt (length bytes) (offset + n)) refl
-
-    turn : (s : Option ℕ) → ReadsAs old offset n (elim s as (λ _. Option FarFault) [
-      | None ↦ Some BadSelector
-      | Some slot ↦ elim (bytes_at old.heap slot) as (λ _. Option FarFault) [ None ↦ Some NotPresent | Some bytes ↦ if nat_lt (length bytes) (offset + n) then Some Limit else None ]
-    ]) (unwrap_or (bytes_at old.heap (unwrap_or s 0)) []) (unwrap_or s 0)
-    turn None = tt
-    turn (Some slot) = by_bytes slot (bytes_at old.heap slot)
+    turn : (p : Option FarFault) → far_fault old selector offset n ≡ p → IsBytes n (reply_of_far (elim p as (λ _. FarAnswer × Handles) [
+      | Some fault ↦ (FarAnswer.Fault fault, old)
+      | None ↦ (FarAnswer.Bytes (part (far.far_bytes old selector) (far.far_at old selector offset) n), record old { heap = after_touch old.heap (far_slot old selector) })
+    ]).0)
+    turn (Some fault) e = tt
+    turn None e =
+        let r : Reached old (far_slot old selector) (far.far_at old selector offset + n) = reached old selector offset n e in
+        ap (λ b. length (part (unwrap_or b []) (far.far_at old selector offset) n)) r.here ∙ length-part r.bytes (far.far_at old selector offset) n r.fits
 
 local_done : (old new : World) (command : LocalCommand) (reply : Reply) → IsWrite (OfLocals command) → LocalStep old command reply new → IsDoneOrFault reply
 local_done old new (DS selector) Done k h = tt

@@ -2,7 +2,7 @@
 use Rattle.w16_compact.proofs.Common.{list_any, slice_index, ◌≡◌, ◌≢◌, ℕ, ◌+◌, ◌-◌, ◌<◌, ◌≤◌, ◌||◌, max, Bool, true, false, Option, Some, None, List, [], ◌∷◌, drop, length, replicate, set, sum_by, refl, sym, ap, ◌∙◌, subst, arith, false≢true, cond-false, get_or-replicate, get_or-set_same, sum_by-cons, Block, room, is_pinned, block_with, blocks_without, Each-map, Each-filter, Layout, IsOrdered, AreNamed, all_but, sum_fits, all_but_absent, sum-all_but, Reached, others, Tells}
 use Rattle.std.specs.List.{AllByRecursion as Each}
 use Rattle.w16_compact.proofs.OnePass.{scan, scan-room, none_out_all}
-use Rattle.w16_compact.proofs.PinnedIds.{none_with}
+use Rattle.w16_blocks.proofs.Remove.{none_with}
 use Rattle.w16_compact.proofs.Skips.{rest_is, laid_filter, ids_below}
 use Rattle.w16_compact.proofs.Walked.{IsWalked, walk_start, walked_next}
 
@@ -70,9 +70,6 @@ module _ (l : Layout) (ordered : IsOrdered l) (h : Option ℕ) (own : ℕ) (left
 
   fits : l.lo + sum_by size_of l.blocks ≤ l.hi
   fits = sum_fits l.lo l.hi l.blocks ordered.laid
-
-  pub room_below : free + own ≤ l.hi
-  room_below = let fit = fits in omega arith
 
   pub room_is : {made : ℕ} → made ≡ free + own → made ≡ room l.lo l.hi rest
   room_is made =

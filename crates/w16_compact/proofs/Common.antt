@@ -9,6 +9,8 @@ pub use Rattle.std.specs.Borrow.{GName}
 pub use Rattle.std.specs.Ordering.{ord_max}
 pub use Rattle.w16_blocks.proofs.Common.{All-from_Each, AllByRecursion, AreHoles, AreNamed, AreSameBut, Each-at, Each-both, Each-from_All, Each-map, IsApart, IsBare, IsCut, IsGrained, IsIn, IsOrdered, IsRun, IsSome, IsUsed, Layout, Member, all_but, counted, drop-put_part, eqb, eqb_tells, from_address, get_or-set_other, get_or-set_same, holes_of, laid_each, laid_placed, le-ltb, length-map, length-put_part, list_any, lt-ltb, multiple_sum, placed, rank, replaced, slice_index, slid_with, take-put_part, ◌^◌}
 pub use Rattle.w16_blocks.proofs.Free.{AreHoles-holes, Lacks, free_lacks, lacks_free, laid_le, later}
+pub use Rattle.std.proofs.lemmas.Bool.{eqb-true}
+pub use Rattle.w16_blocks.proofs.Later.{laid_later}
 pub use Rattle.w16_blocks.proofs.Lifting.{around}
 pub use Rattle.w16_blocks.proofs.Ordered.{sum_fits}
 pub use Rattle.w16_blocks.proofs.Outside.{outside_but, used_each}
@@ -22,7 +24,6 @@ pub use Rattle.w16_compact.specs.Gap.{HasRoom, IsLowest, others, without}
 pub use Rattle.w16_compact.specs.Gather.{AreSlid, FitsGap, MayGather, contents, gathered, moved_between, packed}
 pub use Rattle.w16_compact.specs.Open.{end_in, opened, raised, raised_in, spare_in, with_loose}
 pub use Rattle.w16_compact.specs.Rest.{IsSameRest}
-pub use Rattle.w16_compact.specs.Skip.{counted_of, is_counted}
 pub use Rattle.w16_compact.specs.Told.{AreTold, Tells}
 pub use Rattle.w16_compact.specs.declared.gaps.Gap.{Gap}
 pub use Rattle.w16_compact.specs.declared.reach.Reached.{Reached}

@@ -21,3 +21,4 @@ pub mod Told
 pub mod Filled
 pub mod Widened
 pub mod AllLoose
+pub mod Stays

@@ -1,5 +1,5 @@
 -- From an address of a gap up to the lowest hole the blocks stand packed.
-use Rattle.w16_compact.proofs.Common.{ℕ, suc, zero, ◌≡◌, ◌-◌, ◌≤◌, ◌⊎◌, List, [], ◌∷◌, Some, is_some, refl, arith, sym, ap, subst, inl, inr, le-leb, cases_lt, false≢true, AllByRecursion, Block, Span, block_end, IsMultiple, Each-map, AreHoles, lowest, IsIn, multiple_sum, Layout, IsGrained, IsOrdered, holes_of, IsRun, Lacks, AreHoles-holes, free_lacks, lacks_free, MayGather}
+use Rattle.w16_compact.proofs.Common.{ℕ, suc, zero, ◌≡◌, ◌+◌, ◌-◌, ◌<◌, ◌≤◌, ◌⊎◌, ◌∙◌, List, [], ◌∷◌, Some, is_some, refl, arith, sym, ap, subst, inl, inr, le-leb, le-ltb, lt-ltb, cases_lt, false≢true, AllByRecursion, Block, Span, IsLaid, block_end, IsMultiple, Each-map, AreHoles, lowest, IsIn, multiple_sum, Layout, IsGrained, IsOrdered, holes_of, IsCut, IsRun, Lacks, AreHoles-holes, free_lacks, lacks_free, later, gathered, packed, MayGather}
 use Rattle.w16_compact.proofs.Gathering.{cut_low}
 
 in_above : (p lo hi : ℕ) (hs : List Span) → AreHoles lo hi hs → IsIn p hs → lo ≤ p
@@ -61,3 +61,30 @@ module _ (l : Layout) (ordered : IsOrdered l) (low high : ℕ) (may : MayGather 
     );
     full = λ p low_p high_p free. let least = first.1 p free in absurd (omega arith);
   }
+
+-- A gather begins behind the blocks that stand packed.
+module _ (high from : ℕ) (top : from ≤ high) where
+  packed_past : (q hi : ℕ) (bs : List Block) → q ≤ from → IsLaid q hi bs → IsCut from bs → ((p : ℕ) → q ≤ p → p < from → AllByRecursion (Lacks p) bs → ⊥) → packed high q bs ≡ gathered from high bs
+  packed_past q hi [] le laid cut full = refl
+  packed_past q hi (b ∷ bs) le laid cut full = let size = laid.1 in let start = laid.0 in elim (cases_lt b.at from) [
+    | inl lt ↦
+        let here : q ≡ b.at = elim (cases_lt q b.at) [ inl less ↦ absurd (full q (omega arith) (omega arith) (inl less, later q (block_end b) hi bs (omega arith) laid.2)) | inr more ↦ omega arith ] in
+        let end : block_end b ≤ from = elim cut.0 [ inl before ↦ before | inr over ↦ absurd (omega arith) ] in
+        let below : b.at < high = omega arith in
+        rw (lt-ltb b.at high below, lt-ltb b.at from lt)
+        (λ i. ap (λ (at : ℕ). let r : Block = record b { at = at } in r) here i
+        ∷ (ap (λ (p : ℕ). packed high (p + b.size) bs) here ∙ packed_past (block_end b) hi bs end laid.2 cut.1 (λ p at less lacks. full p (omega arith) less (inr at, lacks))) i)
+    | inr ge ↦
+        let here : q ≡ from = elim (cases_lt q from) [ inl less ↦ absurd (full q (omega arith) less (inl (omega arith), later q (block_end b) hi bs (omega arith) laid.2)) | inr more ↦ omega arith ] in
+        ap (λ (p : ℕ). packed high p (b ∷ bs)) here ∙ rw (le-ltb b.at from ge) refl
+  ]
+
+  pub gathered_past : (low q hi : ℕ) (bs : List Block) → low ≤ from → IsLaid q hi bs → IsCut low bs → IsCut from bs → ((p : ℕ) → low ≤ p → p < from → AllByRecursion (Lacks p) bs → ⊥) → gathered low high bs ≡ gathered from high bs
+  gathered_past low q hi [] le laid cut cut' full = refl
+  gathered_past low q hi (b ∷ bs) le laid cut cut' full = elim (cases_lt b.at low) [
+    | inl lt ↦
+        let less : b.at < from = omega arith in
+        rw (lt-ltb b.at low lt, lt-ltb b.at from less)
+        (ap (λ (cs : List Block). b ∷ cs) (gathered_past low (block_end b) hi bs le laid.2 cut.1 cut'.1 (λ p at end lacks. full p at end (inr (elim cut.0 [ inl below ↦ omega arith | inr above ↦ absurd (omega arith) ]), lacks))))
+    | inr ge ↦ rw (le-ltb b.at low ge) (packed_past low hi (b ∷ bs) le (ge, laid.1, laid.2) cut' full)
+  ]

@@ -1,13 +1,6 @@
 -- Whether an id's block is pinned, by one look-up.
 use Rattle.w16_compact.proofs.Common.{◌≡◌, ◌≢◌, ℕ, Bool, true, false, ◌||◌, inl, inr, List, [], ◌∷◌, None, Some, refl, ap, ◌∙◌, subst, ne_eqb, AllByRecursion, eqb_tells, Block, is_pinned, is_pinned_id, block_with, AreNamed}
-
--- an id that has no block
-pub none_with : (id : ℕ) (xs : List Block) → block_with xs id ≡ None → AllByRecursion (λ y. y.id ≢ id) xs
-none_with id [] none = tt
-none_with id (x ∷ xs) none = elim (eqb_tells x.id id) [
-  | inl same ↦ let some : Some x ≡ None = rw same.0 at none in cc
-  | inr other ↦ (other.1, none_with id xs (rw other.0 at none))
-]
+use Rattle.w16_blocks.proofs.Remove.{none_with}
 
 absent : (xs : List Block) (id : ℕ) → AllByRecursion (λ c. c.id ≢ id) xs → is_pinned_id xs id ≡ false
 absent [] id all = refl

@@ -1,10 +1,12 @@
 //! Loose blocks slide to the low end of a gap.
-ghost use Rattle.std.specs.Prelude.{◌≡◌, ℕ, ◌+◌, ◌<◌, ◌≤◌, ◌⊎◌, ◌-◌, ◌==◌, length, map, slice_get, if◌then◌else◌, MatchOption, IfSome};
+ghost use Rattle.std.specs.Prelude.{◌≡◌, ◌≢◌, ℕ, ◌+◌, ◌<◌, ◌≤◌, ◌⊎◌, ◌-◌, ◌==◌, length, map, slice_get, if◌then◌else◌, MatchOption, IfSome};
+ghost use Rattle.std.specs.List.{AllByRecursion};
 ghost use Rattle.w16_region.specs.Bytes.{counted};
 ghost use Rattle.w16_model.specs.Gap.{block_end, is_any, IsClear, IsGap, IsHole, loose_bytes};
 ghost use Rattle.w16_model.specs.Heap.{IsMultiple};
+ghost use Rattle.w16_holes.specs.Holes.{lowest};
 ghost use Rattle.w16_blocks.specs.Layout.{IsOrdered, holes_of, rank};
-ghost use Rattle.w16_blocks.specs.Runs.{IsRun, IsBare, slid_with};
+ghost use Rattle.w16_blocks.specs.Runs.{IsCut, IsRun, IsBare, EndsAt, slid_with};
 ghost use Rattle.w16_compact.specs.Gather.{gathered, contents, moved_between, MayGather, AreSlid};
 ghost use Rattle.w16_compact.specs.Rest.{IsSameRest};
 
@@ -58,23 +60,37 @@ pub fn gather<S: Space, H: Holes<S>>(
     // What is free lies directly behind the settled ones, so the next is found in one step. Those that stand directly behind it slide as far,
     // so they go with it.
     while let Some(block) = block_between(blocks, space, to, high) {
+        let within = Span {
+            from: block.at,
+            to: high,
+        };
         let run = Span {
             from: block.at,
-            to: blocks.run_end(block.at, high),
+            to: settle(blocks, space, within, to),
         };
-        moved += u64::from(settle(blocks, space, run, to));
+        moved += u64::from(moved_bytes(run, to));
         to += run.to - run.from;
     }
     moved
 }
 
-/// Up to where the gap's blocks stand packed from `low` on: to the lowest hole, if that begins in the gap.
-fn packed_to<S: Space, H: Holes<S>>(blocks: &Blocks<H>, space: &S, low: u32, high: u32) -> u32
+/// How many bytes a run moves by sliding to a place: none where it stands there.
+fn moved_bytes(run: Span, to: u32) -> u32
+    requires { run.from ≤ run.to }
+    ensures { result ≡ (if run.from == to then 0 else run.to - run.from) }
+{
+    if run.from == to { 0 } else { run.to - run.from }
+}
+
+/// Up to where the blocks of `low` up to `high` stand packed from `low` on, so that a gather leaves them: to the lowest hole, if that begins
+/// there.
+pub fn packed_to<S: Space, H: Holes<S>>(blocks: &Blocks<H>, space: &S, low: u32, high: u32) -> u32
     requires gap { MayGather blocks.now low high }
     requires grained { IsMultiple blocks.now.grain low }
     requires kept { H.are_in (holes_of blocks.now) (S.bytes space.now) }
     ensures run { IsRun blocks.now (record { from = low; to = result }) }
     ensures high { result ≤ high }
+    ensures lowest { IfSome (lowest 0 (holes_of blocks.now)) (λ hole. low ≤ hole → hole ≤ high → result ≡ hole) }
 {
     match blocks.hole_for(space, 0) {
         Some(hole) if low <= hole && hole <= high => hole,
@@ -105,29 +121,35 @@ fn block_between<S: Space, H: Holes<S>>(
     if block.at < high { Some(block) } else { None }
 }
 
-/// Slides a run of blocks down to a place that the blocks before it leave free. Answers how many bytes were moved, which is none where it
-/// stands there.
-fn settle<S: Space, H: Holes<S>>(blocks: &mut Blocks<H>, space: &mut S, run: Span, to: u32) -> u32
+/// Slides the run of blocks that begins a part of the range down to a place that the blocks before it leave free. Answers where the run
+/// ended: at the end of the part at the latest.
+fn settle<S: Space, H: Holes<S>>(
+    blocks: &mut Blocks<H>,
+    space: &mut S,
+    within: Span,
+    to: u32,
+) -> u32
     requires ordered { IsOrdered blocks.old }
-    requires run { IsRun blocks.old run }
-    requires some { run.from < run.to }
-    requires bare { IsBare to run.from blocks.old.blocks }
-    requires grained { IsMultiple blocks.old.grain to }
-    requires down { (blocks.old.lo ≤ to) × (to ≤ run.from) }
+    requires part { (blocks.old.lo ≤ to) × (to ≤ within.from) × (within.from < within.to) × (within.to ≤ blocks.old.hi) }
+    requires grained { IsMultiple blocks.old.grain within.from × IsMultiple blocks.old.grain to }
+    requires whole { IsCut within.from blocks.old.blocks × IsCut within.to blocks.old.blocks }
+    requires begins { AllByRecursion (λ b. b.at ≢ within.from) blocks.old.blocks → ⊥ }
+    requires bare { IsBare to within.from blocks.old.blocks }
     requires kept { H.are_in (holes_of blocks.old) (S.bytes space.old) }
     requires inside { blocks.old.hi ≤ length (S.bytes space.old) }
-    ensures blocks { blocks.new ≡ record blocks.old { blocks = map (slid_with run to) blocks.old.blocks } }
+    ensures run { IsRun blocks.old (record { from = within.from; to = result }) }
+    ensures high { result ≤ within.to }
+    ensures last { EndsAt blocks.old within.to result }
+    ensures blocks { blocks.new ≡ record blocks.old { blocks = map (slid_with (record { from = within.from; to = result }) to) blocks.old.blocks } }
     ensures ordered { IsOrdered blocks.new }
     ensures kept { H.are_in (holes_of blocks.new) (S.bytes space.new) }
     ensures contents { contents (S.bytes space.new) blocks.new.blocks
         ≡ contents (S.bytes space.old) blocks.old.blocks }
-    ensures moved { result ≡ (if run.from == to then 0 else run.to - run.from) }
-    ensures written { S.written space.new ≡ counted (S.written space.old) result }
+    ensures written { S.written space.new ≡ counted (S.written space.old) (if within.from == to then 0 else result - within.from) }
     ensures rest { IsSameRest S.bytes S.lenders blocks.old.lo blocks.old.hi space.old space.new }
 {
-    if run.from == to {
-        return 0;
+    if within.from == to {
+        return blocks.run_end(to, within.to);
     }
-    blocks.slide_run(space, run, to);
-    run.to - run.from
+    blocks.slide_run(space, within, to)
 }

@@ -1,5 +1,5 @@
 -- What is joined, once an object has another kind, or has given up its bytes.
-use Rattle.w16_global.proofs.Common.{◌≡◌, ◌≢◌, ℕ, ◌-◌, ◌<◌, ◌≤◌, ◌||◌, inl, inr, true, false, IfSome, OnOk, IfErr, List, length, get_or, set, Option, Some, None, Result, Ok, Err, option_map, is_some, unwrap_or, refl, sym, ap, ◌∙◌, subst, nat_cmp, FinMap, false≢true, cases_eq, cases_Bool, get_or-set_same, get_or-set_other, length-set, Attributes, Kind, Refusal, FIRST_SLOT, Heap, Object, object_at, is_fixed, absent, after_modify, after_discard, Handles, AreHandles, ChangesKind, modified, discard_absent, get-update_same, get-update_other, taken_other, kind_law, modify_none, modified_handles, discarded_handles, descriptor_at, kind_at, unset, Descriptor, SelKind, Holding, attributes_in, handles_of, descriptor_for, described, kind_in, AreJoined}
+use Rattle.w16_global.proofs.Common.{◌≡◌, ◌≢◌, ℕ, ◌-◌, ◌<◌, ◌≤◌, ◌||◌, inl, inr, true, false, IfSome, OnOk, IfErr, List, length, get_or, set, Option, Some, None, Result, Ok, Err, option_map, is_some, unwrap_or, refl, sym, ap, ◌∙◌, subst, nat_cmp, FinMap, false≢true, cases_eq, cases_Bool, get_or-set_same, get_or-set_other, length-set, Attributes, Kind, Refusal, FIRST_SLOT, Heap, Object, object_at, is_fixed, absent, after_modify, after_discard, Handles, AreHandles, ChangesKind, modified, discard_absent, get-update_same, get-update_other, taken_other, kind_law, modify_none, modified_handles, discarded_handles, kind_at, unset, Descriptor, SelKind, Holding, attributes_in, handles_of, descriptor_for, described, kind_in, AreJoined}
 use Rattle.std.specs.FinMap as finmap
 use Rattle.w16_model.specs.declared.Refusal.TheVariants as refusals
 use Rattle.w16_selectors.specs.Descriptors as selectors

@@ -1,5 +1,5 @@
 -- The names of definitions and of lower crates that the proofs of this crate cite, passed on from one place. Declares nothing.
-pub use Rattle.std.proofs.Common.{Err, IfErr, IsErrAnd, None, Ok, OnOk, Option, Result, Some, Vec, ◌^◌}
+pub use Rattle.std.proofs.Common.{Err, IfErr, IsErrAnd, None, map, Ok, OnOk, Option, Result, Some, Vec, ◌^◌}
 pub use Rattle.std.proofs.Math.Seq.{drop-append-add, take-append-add}
 pub use Rattle.std.proofs.lemmas.List.{drop-append-le, take_more}
 pub use Rattle.std.proofs.lemmas.List.Folds.{list_any-append}
@@ -13,28 +13,30 @@ pub use Rattle.w16_arena.proofs.Unmoved.{none_moved, unmoved}
 pub use Rattle.w16_blocks.proofs.Common.{AreSameIn-put_part, add_span, le-leb, with_items}
 pub use Rattle.w16_compact.proofs.Common.{All-get_or}
 pub use Rattle.w16_global.specs.Access.{access_fault}
-pub use Rattle.w16_global.specs.Joined.{AreJoined, Global, HasSize, attributes_in, described, descriptor_for, followed, forgotten, handles_of, kind_for, kind_in, zeroed_behind}
+pub use Rattle.w16_global.specs.Joined.{AreJoined, Global, HasSize, attributes_in, described, descriptor_for, followed, forgotten, handles_of, kind_for, kind_in, whole, zeroed_behind}
 pub use Rattle.w16_global.specs.Lent.{Lends}
 pub use Rattle.w16_global.specs.Parts.{AreParts, HasPart, Holding, holding_of}
 pub use Rattle.w16_holes.proofs.Common.{AreThreaded, Free}
 pub use Rattle.w16_holes.specs.Thread.{threaded_stay}
 pub use Rattle.w16_model.proofs.Absence.{discard_absent}
-pub use Rattle.w16_model.proofs.Accesses.{Reached, reached, slot_of_access}
-pub use Rattle.w16_model.proofs.Common.{AnswersDiscard, AnswersHandle, AreHandles, AreResized, Asked, ChangesKind, Empties, Gives, GlobalAllocs, GlobalCompacts, GlobalReAllocs, Handles, IsFreeSlot, IsNull, IsSlot, KeepsRest, ReAllocsOwn, Resizes, after_write, alloc_options, data_write, empty_handles, empty_heap, far_bytes, far_fault, far_read, far_slot, far_write, get-empty, handle_of, has_flag, hold_of_object, is_owned, kind_asked, kind_modified, length-drop, length-take, length-take-le, locks_at, ltb-false, min, modified, nat_tests, owns, realloc_options, refuses_write, rounded_size, selector_of, slot_of_handle, slot_of_selector, take_at}
+pub use Rattle.w16_model.proofs.Accesses.{Reached, near, reached}
+pub use Rattle.w16_model.proofs.Common.{Anew, AnswersDiscard, AnswersHandle, AreHandles, AreResized, Asked, ChangesKind, Empties, Gives, GlobalAllocs, GlobalCompacts, GlobalReAllocs, Handles, IsFreeRun, IsFreeSlot, IsNull, IsOwnedRun, IsSized, IsSlot, KeepsRest, Part, ReAllocsOwn, Resizes, ResizesObject, after_write, alloc_options, data_write, empty_handles, empty_heap, far_at, far_bytes, far_fault, far_read, far_slot, far_write, get-empty, handle_of, has_flag, hold_of_object, is_owned, is_past, kind_asked, kind_modified, length-drop, length-take, length-take-le, locks_at, ltb-false, min, modified, nat_tests, owner_of, owns, part_of_selector, realloc_options, refuses_write, rekeyed, rounded_size, selector_of, slot_of_handle, slot_of_selector, slots_at, slots_for, take_at, with_run}
 pub use Rattle.w16_model.proofs.Cuts.{told_all}
 pub use Rattle.w16_model.proofs.Empty.{empty_law}
 pub use Rattle.w16_model.proofs.Fewest.{global_alloc_law, global_compact_law}
 pub use Rattle.w16_model.proofs.Growth.{IsCase, one_outcome_law}
-pub use Rattle.w16_model.proofs.KeptHandles.{Kept, lock_ok, moved_handles, other_handles, same_updated, unlock_ok, with_absent_object, with_new_object, without_object}
-pub use Rattle.w16_model.proofs.KeptHeaps.{newest_heap, oldest_heap, ordered, touched_heap, written_heap}
+pub use Rattle.w16_model.proofs.KeptHandles.{Kept, lock_ok, moved_handles, other_handles, same_updated, sized_is, unlock_ok, with_absent_object, with_new_object, without_object, written_sized}
+pub use Rattle.w16_model.proofs.KeptHeaps.{bytes_in, newest_heap, oldest_heap, ordered, touched_heap, written_heap}
 pub use Rattle.w16_model.proofs.KeptRest.{rest_law}
 pub use Rattle.w16_model.proofs.KindChanges.{kind_law, modify_none}
+pub use Rattle.w16_model.proofs.Naming.{names_law}
 pub use Rattle.w16_model.proofs.Places.{two_placed}
 pub use Rattle.w16_model.proofs.Prefixes.{none_about}
 pub use Rattle.w16_model.proofs.Reallocations.{asked, by_case, heap_law, none_discarded}
-pub use Rattle.w16_model.proofs.ResizedHandles.{compacted_handles, discarded_handles, modified_handles, reallocated_handles}
+pub use Rattle.w16_model.proofs.ResizedHandles.{compacted_handles, discarded_handles, modified_handles}
+pub use Rattle.w16_model.proofs.Runs.{first_in, is_owner, none_owns, numbered, run_of_one, slots_none, slots_of, some_bytes, some_slots, unused_slot}
 pub use Rattle.w16_model.proofs.Tables.{get-by_id}
-pub use Rattle.w16_model.specs.Calls.{global_size}
+pub use Rattle.w16_model.specs.Calls.{global_size, selector_base, selector_limit}
 pub use Rattle.w16_model.specs.Owned.{owned_at, owned_in, revival_options, without_slot}
 pub use Rattle.w16_model.specs.Reallocation.{IsResized}
 pub use Rattle.w16_model.specs.Resizes.{GlobalDiscards}
@@ -51,7 +53,7 @@ pub use Rattle.w16_model.specs.declared.Owner.{Owner}
 pub use Rattle.w16_model.specs.declared.Refusal.{Refusal}
 pub use Rattle.w16_model.specs.declared.RoomOptions.{RoomOptions}
 pub use Rattle.w16_model.specs.declared.Span.{Span}
-pub use Rattle.w16_model.specs.declared.TheConstants.{FIRST_SLOT, GMEM_DDESHARE, GMEM_MODIFY, GMEM_MOVEABLE, GMEM_ZEROINIT, GRAIN, LARGEST_SIZE, MOST_SLOTS}
+pub use Rattle.w16_model.specs.declared.TheConstants.{FIRST_SLOT, GMEM_DDESHARE, GMEM_MODIFY, GMEM_MOVEABLE, GMEM_ZEROINIT, GRAIN, LARGEST_SIZE, MOST_SLOTS, REACH}
 pub use Rattle.w16_region.proofs.Bytes.{All-bytes}
 pub use Rattle.w16_region.specs.Bytes.{lengths, with_items-put_part}
 pub use Rattle.w16_selectors.specs.Descriptors.{IsUntaken, descriptor_at, descriptor_of, is_code, kind_at, kind_of, place_of, unset}

@@ -1,10 +1,9 @@
 -- Selectors that follow their objects, one object further.
-use Rattle.w16_global.proofs.Common.{◌≡◌, ◌≢◌, ℕ, ◌+◌, ◌-◌, ◌<◌, ◌≤◌, ◌⊎◌, inl, inr, Bool, true, false, ◌&&◌, nat_le, nat_lt, if◌then◌else◌, IfSome, List, [], ◌∷◌, zero, suc, length, set, Option, Some, None, option_map, is_some, unwrap_or, refl, sym, ap, ◌∙◌, subst, arith, false≢true, cases_eq, cases_lt, nat_tests, get_or-set_same, get_or-set_other, Block, Misses, block_end, Heap, Object, IsHeap, object_at, bytes_at, hold_of_object, IsBlockOf, two_placed, descriptor_at, kind_at, kind_of, Descriptor, SelKind, described, followed}
+use Rattle.w16_global.proofs.Common.{◌≡◌, ◌≢◌, ℕ, ◌+◌, ◌-◌, ◌<◌, ◌≤◌, ◌⊎◌, inl, inr, Bool, true, false, ◌&&◌, nat_le, nat_lt, if◌then◌else◌, IfSome, List, [], ◌∷◌, zero, suc, length, set, Option, Some, None, option_map, is_some, unwrap_or, refl, sym, ap, ◌∙◌, arith, false≢true, cases_eq, cases_lt, nat_tests, get_or-set_same, get_or-set_other, Block, Misses, block_end, Heap, Object, IsHeap, object_at, bytes_at, hold_of_object, IsBlockOf, some_bytes, two_placed, descriptor_at, kind_at, kind_of, Descriptor, SelKind, described, followed}
 use Rattle.std.specs.FinMap as finmap
 use Rattle.w16_selectors.specs.Descriptors as selectors
 use Rattle.w16_global.proofs.Described.{made_here}
 use Rattle.w16_global.proofs.Joined.{followed_kind}
-use Rattle.w16_global.proofs.Reach.{stands}
 
 -- what `followed` is by an address, if there is one
 abbrev followed_by : Heap → ℕ → ℕ → selectors.DescriptorTable → ℕ → Option ℕ → Option Descriptor
@@ -49,10 +48,6 @@ one_place heap is slot other at size place more some from to f g n =
     let y = block_for heap other place more g in
     let apart : Misses x.0.at x.0.size y.0.at (block_end y.0) = two_placed heap is x.0 y.0 x.1 y.1 (λ e. n (ap (λ (b : Block). b.id) (sym e))) in
     elim apart [ inl before ↦ omega arith | inr behind ↦ omega arith ]
-
--- an object with bytes has some
-stands_filled : (heap : Heap) → IsHeap heap → (slot : ℕ) (o : Object) (bytes : List ℕ) → object_at heap slot ≡ Some o → o.bytes ≡ Some bytes → 0 < length bytes
-stands_filled heap is slot o bytes there has = let s = stands heap is slot o bytes there has in s.some
 
 module _ (heap : Heap) (is : IsHeap heap) (old : selectors.DescriptorTable) (begin from : ℕ) (block : Block) (above : begin ≤ from) (at_least : from ≤ block.at) (some : 0 < block.size)
     (placed : finmap.get heap.places block.id ≡ Some block.at) (sized : option_map (length {A = ℕ}) (bytes_at heap block.id) ≡ Some block.size)
@@ -99,8 +94,7 @@ module _ (heap : Heap) (is : IsHeap heap) (old : selectors.DescriptorTable) (beg
       clash at n low high here None h = absurd (false≢true (sym (ap is_some h) ∙ sym (is.at_bytes slot) ∙ ap is_some here))
       clash at n low high here (Some bytes) h =
           let g : Found heap slot at (length bytes) = found_at heap slot at (length bytes) (ap (option_map (length {A = ℕ})) h) here in
-          let filled : 0 < length g.bytes = (stands_filled heap is slot g.object g.bytes g.there g.has) in
-          one_place heap is block.id slot block.at block.size at (length bytes) (subst (λ k. 0 < k) g.long filled) low (omega arith) f g n
+          one_place heap is block.id slot block.at block.size at (length bytes) (some_bytes heap is slot bytes h) low (omega arith) f g n
 
       strictly : (at : ℕ) → slot ≢ block.id → finmap.get heap.places slot ≡ Some at → (at < from) ⊎ (block.at ≤ at) → (at < from) ⊎ (next ≤ at)
       strictly at n there (inl low) = inl low

@@ -1,5 +1,5 @@
 -- The objects, their attributes and their selectors, where one slot or none has changed.
-use Rattle.w16_global.proofs.Common.{◌≡◌, ◌≢◌, ℕ, ◌-◌, ◌<◌, ◌≤◌, inl, inr, Bool, true, false, ◌&&◌, nat_le, nat_lt, if◌then◌else◌, IfSome, List, length, get_or, set, Option, Some, None, option_map, unwrap_or, is_some, refl, sym, ap, ◌∙◌, subst, arith, nat_cmp_total, same_map, nat_cmp-IsAntisymmetric, false≢true, cases_eq, get_or-set_same, get_or-set_other, length-set, Attributes, FIRST_SLOT, is_member, Heap, Object, object_at, AreHandles, IsSlot, IsFreeSlot, get-by_id, inserted_here, inserted_other, taken_here, taken_other, descriptor_at, kind_of, kind_at, unset, IsUntaken, Descriptor, SelKind, Holding, Global, attributes_in, handles_of, descriptor_for, described, followed, forgotten, kind_for, kind_in, HasSize, AreJoined}
+use Rattle.w16_global.proofs.Common.{◌≡◌, ◌≢◌, ℕ, ◌-◌, ◌<◌, ◌≤◌, inl, inr, Bool, true, false, ◌&&◌, ◌==◌, ◌/◌, nat_le, nat_lt, if◌then◌else◌, IfSome, List, length, get_or, set, Option, Some, None, option_map, unwrap_or, is_some, refl, sym, ap, ◌∙◌, subst, arith, nat_cmp_total, same_map, nat_cmp-IsAntisymmetric, false≢true, cases_eq, get_or-set_same, get_or-set_other, length-set, Attributes, FIRST_SLOT, GRAIN, REACH, IsMultiple, is_member, Heap, Handles, Object, object_at, AreHandles, IsSlot, IsFreeSlot, IsFreeRun, IsOwnedRun, Owned, Part, slots_at, slots_for, owner_of, part_of_selector, slot_of_selector, selector_of, slots_of, slots_none, none_owns, is_owner, first_in, numbered, run_of_one, unused_slot, get-by_id, inserted_here, inserted_other, taken_here, taken_other, descriptor_at, kind_of, kind_at, unset, IsUntaken, Descriptor, SelKind, Holding, Global, attributes_in, handles_of, descriptor_for, described, followed, forgotten, kind_for, kind_in, whole, HasSize, AreJoined}
 use Rattle.std.specs.FinMap as finmap
 use Rattle.w16_selectors.specs.Descriptors as selectors
 
@@ -33,6 +33,21 @@ sized_set xs slot a lt sized own q = elim (cases_eq q slot) [
   | inl e ↦ subst HasSize (sym (ap (λ k. get_or (set xs slot a) k None) e ∙ get_or-set_same xs slot a None lt)) own
   | inr n ↦ subst HasSize (sym (get_or-set_other xs slot q a None n)) (sized q)
 ]
+
+-- an object's attributes are of a run of one slot
+module _ (a : Attributes) (own : HasSize (Some a)) where
+  pub some_slot : 0 < a.slots
+  some_slot = omega (arith, own.0)
+
+  pub own_run : IsOwnedRun a
+  own_run = turn a.owned own.1
+    where
+      turn : (p : Option Owned) → IfSome p (λ (o : Owned). (0 < o.size) × IsMultiple GRAIN o.size × (o.size ≤ REACH)) → IfSome p (λ (o : Owned). a.slots ≡ slots_for o.size)
+      turn None h = tt
+      turn (Some o) h = omega (arith, own.0, h.0, h.2)
+
+  pub free_run : (w : Handles) (slot : ℕ) → IsFreeSlot w slot → IsFreeRun w slot a.slots
+  free_run w slot free = subst (IsFreeRun w slot) (sym own.0) (run_of_one w slot free)
 
 -- What is joined stays so.
 
@@ -109,27 +124,69 @@ module _ (holding : Holding) (attributes : List (Option Attributes)) (table : se
     some = subst (λ n. FIRST_SLOT ≤ n) (sym cap) are.some;
   }
 
+  -- an object has one slot
+  pub few_slots : (slot : ℕ) → slots_at (attributes_in attributes) slot ≤ 1
+  few_slots slot = turn (get_or attributes slot None) (attributes_at attributes slot) (are.sized slot)
+    where
+      turn : (p : Option Attributes) → finmap.get (attributes_in attributes) slot ≡ p → HasSize p → slots_at (attributes_in attributes) slot ≤ 1
+      turn None e h = let none = slots_none (attributes_in attributes) slot e in omega (arith, none)
+      turn (Some a) e h = let many = slots_of (attributes_in attributes) slot a e in omega (arith, many, h.0)
+
+  pub one_slot : (slot : ℕ) → is_some (object_at holding.heap slot) ≡ true → slots_at (attributes_in attributes) slot ≡ 1
+  one_slot slot there =
+      let some = (first_in (handles_of holding attributes 0).slots (attributes_in attributes) are.handles.runs slot (are.handles.attributed slot ∙ there)).1 in
+      let few = few_slots slot in omega (arith, some, few)
+
+  -- which is nobody else's
+  owner_here : (slot : ℕ) → owner_of (attributes_in attributes) slot ≡ (if is_some (object_at holding.heap slot) then Some slot else None)
+  owner_here slot = turn (object_at holding.heap slot) refl
+    where
+      turn : (p : Option Object) → object_at holding.heap slot ≡ p → owner_of (attributes_in attributes) slot ≡ (if is_some p then Some slot else None)
+      turn None free = none_owns (attributes_in attributes) slot (λ first lies.
+          let few = few_slots first in
+          let same : first ≡ slot = omega (arith, lies.0, lies.1, few) in
+          let none : slots_at (attributes_in attributes) first ≡ 0 = ap (slots_at (attributes_in attributes)) same ∙ slots_none (attributes_in attributes) slot (nothing (finmap.get (attributes_in attributes) slot) (are.handles.attributed slot ∙ ap is_some free)) in
+          omega (arith, lies.1, none, same))
+      turn (Some o) there = is_owner (attributes_in attributes) (handles_of holding attributes 0).slots are.handles.runs slot slot
+          (first_in (handles_of holding attributes 0).slots (attributes_in attributes) are.handles.runs slot (are.handles.attributed slot ∙ ap is_some there))
+
+  abbrev part_from : ℕ → ℕ → Part
+  part_from selector slot = record { slot = slot; number = selector / 8 - slot }
+
+  -- so each selector reaches its object from the first byte on
+  pub part_is : (selector : ℕ) → part_of_selector (handles_of holding attributes 0) selector ≡ option_map whole (slot_of_selector (handles_of holding attributes 0) selector)
+  part_is selector = turn (selector == selector_of (selector / 8)) (object_at holding.heap (selector / 8)) (owner_here (selector / 8))
+    where
+      turn : (b : Bool) (p : Option Object) → owner_of (attributes_in attributes) (selector / 8) ≡ (if is_some p then Some (selector / 8) else None)
+          → (if b then option_map (part_from selector) (owner_of (attributes_in attributes) (selector / 8)) else None) ≡ option_map whole (if is_some p && b then Some (selector / 8) else None)
+      turn false None e = refl
+      turn false (Some o) e = refl
+      turn true None e = ap (option_map (part_from selector)) e
+      turn true (Some o) e = ap (option_map (part_from selector)) e
+          ∙ ap (λ k. let p : Part = record { slot = selector / 8; number = k } in Some p) (let none : selector / 8 - selector / 8 ≡ 0 = omega arith in none)
+
   -- a slot is free just where its selector is
   pub free_slot : (slot : ℕ) → IsUntaken table slot → IsFreeSlot (handles_of holding attributes 0) slot
   free_slot slot free =
       let many = are.selectors_many in
       let some = are.some in
       let gone : is_some (object_at holding.heap slot) ≡ false = sym (described_some holding.heap (kind_in attributes slot) slot) ∙ ap is_some (sym (are.described slot) ∙ free.2) in
-      ((free.0, (let below = free.1 in omega arith)), nothing (object_at holding.heap slot) gone)
+      ((free.0, (let below = free.1 in omega arith)), owner_here slot ∙ ap (λ b. if b then Some slot else None) gone)
 
   pub free_selector : (slot : ℕ) → IsFreeSlot (handles_of holding attributes 0) slot → IsUntaken table slot
   free_selector slot free =
       let many = are.selectors_many in
       let some = are.some in
-      (free.0.0, (let below = free.0.1 in omega arith), are.described slot ∙ ap (option_map (descriptor_for holding.heap (kind_in attributes slot) slot)) free.1)
+      (free.0.0, (let below = free.0.1 in omega arith), are.described slot ∙ ap (option_map (descriptor_for holding.heap (kind_in attributes slot) slot)) (unused_slot (handles_of holding attributes 0) are.handles slot free))
+
+  pub unused_in : {m : ℕ} {w : Handles} → handles_of holding attributes m ≡ w → (slot : ℕ) → IsFreeSlot w slot → object_at holding.heap slot ≡ None
+  unused_in shown slot known = unused_slot (handles_of holding attributes 0) are.handles slot (subst (λ v. IsFreeSlot v slot) (sym shown) known)
 
   -- an object's slot is one
   pub slot_there : (slot : ℕ) → is_some (object_at holding.heap slot) ≡ true → (FIRST_SLOT ≤ slot) × (slot < holding.cap)
-  slot_there slot there = from (object_at holding.heap slot) there (are.handles.slotted slot)
-    where
-      from : (p : Option Object) → is_some p ≡ true → IfSome p (λ _. IsSlot (handles_of holding attributes 0) slot) → (FIRST_SLOT ≤ slot) × (slot < holding.cap)
-      from None t h = absurd (false≢true t)
-      from (Some o) t h = (h.0, (let some = are.some in let below = h.1 in omega arith))
+  slot_there slot there =
+      let n : IsSlot (handles_of holding attributes 0) slot = numbered (handles_of holding attributes 0) are.handles slot there in
+      (n.0, (let some = are.some in let below = n.1 in omega arith))
 
   -- each selector says what its object holds
   pub kinds_are : (slot : ℕ) → kind_at table slot ≡ kind_in attributes slot

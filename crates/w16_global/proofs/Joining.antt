@@ -1,9 +1,9 @@
 -- What the steps that calls are made of leave joined, and what they say of the handles.
-use Rattle.w16_global.proofs.Common.{◌≡◌, ℕ, ◌-◌, ◌<◌, ◌≤◌, if◌then◌else◌, nat_lt, true, IfOk, OnOk, IfErr, List, length, get_or, set, Option, Some, None, Result, Ok, Err, is_some, option_map, unwrap_or, refl, sym, ap, ◌∙◌, subst, arith, false≢true, lt-ltb, le-ltb, get_or-set_same, get_or-set_other, length-set, Attributes, Kind, Refusal, FIRST_SLOT, locks_at, without_slot, Heap, Object, IsHeap, object_at, with_object, removed, touched, newest, oldest, Enters, after_lock, after_unlock, after_free, after_touch, after_newest, after_oldest, refused_order, Handles, AreHandles, IsFreeSlot, touched_heap, newest_heap, oldest_heap, ordered, other_handles, lock_ok, unlock_ok, without_object, with_absent_object, Kept, descriptor_at, unset, SelKind, Holding, attributes_in, handles_of, described, kind_for, HasSize, AreJoined}
+use Rattle.w16_global.proofs.Common.{◌≡◌, ℕ, ◌-◌, ◌<◌, ◌≤◌, if◌then◌else◌, nat_lt, true, IfOk, OnOk, IfErr, List, length, get_or, set, Option, Some, None, Result, Ok, Err, is_some, option_map, unwrap_or, refl, sym, ap, ◌∙◌, subst, arith, false≢true, lt-ltb, le-ltb, get_or-set_same, get_or-set_other, length-set, Attributes, Kind, Refusal, FIRST_SLOT, locks_at, without_slot, Heap, Object, IsHeap, object_at, with_object, removed, touched, newest, oldest, Enters, after_lock, after_unlock, after_free, after_touch, after_newest, after_oldest, refused_order, Handles, AreHandles, IsFreeSlot, touched_heap, newest_heap, oldest_heap, ordered, other_handles, lock_ok, unlock_ok, without_object, with_absent_object, unused_slot, Kept, unset, SelKind, Holding, attributes_in, handles_of, described, kind_for, HasSize, AreJoined}
 use Rattle.std.specs.FinMap as finmap
 use Rattle.w16_model.specs.declared.Refusal.TheVariants as refusals
 use Rattle.w16_selectors.specs.Descriptors as selectors
-use Rattle.w16_global.proofs.Joined.{attributes_at, attributes_set, attributes_unset, joined_same, joined_set, slot_there}
+use Rattle.w16_global.proofs.Joined.{attributes_at, attributes_set, attributes_unset, free_run, joined_same, joined_set, own_run, slot_there, some_slot}
 use Rattle.w16_global.proofs.Described.{lock_same, unlock_same, removed_here, removed_other, entered_here, entered_other}
 
 -- an answer that is good is good of what it answers
@@ -36,7 +36,7 @@ module _ {h : Holding} {xs : List (Option Attributes)} {t : selectors.Descriptor
   -- and a step that changes the order of use alone
   pub ordered_joined : (order : List ℕ) → IsHeap (record h.heap { order = order }) → new.heap ≡ record h.heap { order = order } → AreJoined new xs t
   ordered_joined order sound is =
-      joined_same h xs t are new cap (subst AreHandles (ap (λ (k : Heap). record (handles_of h xs 0) { heap = k }) (sym is) ∙ same_slots) (other_handles (handles_of h xs 0) are.handles (record h.heap { order = order }) sound refl refl (λ q. refl)))
+      joined_same h xs t are new cap (subst AreHandles (ap (λ (k : Heap). record (handles_of h xs 0) { heap = k }) (sym is) ∙ same_slots) (other_handles (handles_of h xs 0) are.handles (record h.heap { order = order }) sound refl refl (λ q. refl) are.handles.sized))
       (λ holds q. ap (λ (k : Heap). described k holds q) is)
 
   -- an object that was used
@@ -125,12 +125,15 @@ module _ {h : Holding} {xs : List (Option Attributes)} {t : selectors.Descriptor
       ∙ ap (λ (v : Handles). record v { heap = new.heap; attributes = finmap.insert v.attributes slot a }) shown
 
   -- an absent one
+  pub entered_known : (kind : Kind) → new.heap ≡ with_object h.heap slot (record { kind = kind; locks = 0; bytes = None }) → Enters w.heap slot kind new.heap
+  entered_known kind is = subst (λ (v : Handles). Enters v.heap slot kind new.heap) shown (record { unused = unused_slot (handles_of h xs 0) are.handles slot free; entered = is })
+
   pub entered_joined : HasSize (Some a) → (kind : Kind) (holds : SelKind) → holds ≡ kind_for (Some a) → (after : selectors.DescriptorTable) → new.heap ≡ with_object h.heap slot (record { kind = kind; locks = 0; bytes = None }) → after ≡ set t slot (Some (unset holds)) → AreJoined new (set xs slot (Some a)) after
   entered_joined own_size kind holds holds_is after is taken =
       let entered : Heap = with_object h.heap slot (record { kind = kind; locks = 0; bytes = None }) in
-      let enters : Enters h.heap slot kind entered = record { unused = free.1; entered = refl } in
+      let enters : Enters h.heap slot kind entered = record { unused = unused_slot (handles_of h xs 0) are.handles slot free; entered = refl } in
       joined_set h xs t are new slot (Some a) (Some (unset holds)) after cap within own_size
-      (subst AreHandles (λ i. record { slots = sym cap i - FIRST_SLOT; heap = sym is i; attributes = sym (attributes_set xs slot a within) i; moved = 0 }) (with_absent_object (handles_of h xs 0) are.handles a slot kind entered free enters))
+      (subst AreHandles (λ i. record { slots = sym cap i - FIRST_SLOT; heap = sym is i; attributes = sym (attributes_set xs slot a within) i; moved = 0 }) (with_absent_object (handles_of h xs 0) are.handles a slot kind entered (some_slot a own_size) (own_run a own_size) (free_run a own_size (handles_of h xs 0) slot free) enters))
       (λ holds q n. ap (λ (k : Heap). described k holds q) is ∙ entered_other holds h.heap slot kind q n)
       (ap (λ (k : Heap). described k (kind_for (Some a)) slot) is ∙ entered_here (kind_for (Some a)) h.heap slot kind ∙ ap (λ k. Some (unset k)) (sym holds_is))
       (ap length taken ∙ length-set t slot (Some (unset holds)))

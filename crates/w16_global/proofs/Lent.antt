@@ -1,5 +1,5 @@
 -- An object's bytes, lent to a work.
-use Rattle.w16_global.proofs.Common.{◌≡◌, ℕ, ◌+◌, ◌-◌, ◌<◌, ◌≤◌, IsSomeAnd, List, ◌++◌, length, take, drop, All, Option, Some, None, option_map, refl, sym, ap, ◌∙◌, subst, arith, length-drop, slice_range, Vec, with_items, length-take-le, take_at, All-take, All-drop, drop-append-add, part, put_part, Attributes, Block, after_write, AreHandles, Heap, Object, object_at, bytes_at, block_with, other_handles, same_updated, written_heap, counted, with_items-put_part, bytes_here, ends_in_memory, ArenaState, Global, handles_of, AreJoined, Lends, AreParts, HasPart, Holding, holding_of}
+use Rattle.w16_global.proofs.Common.{◌≡◌, ℕ, ◌+◌, ◌-◌, ◌<◌, ◌≤◌, IsSomeAnd, List, ◌++◌, length, take, drop, All, Option, Some, None, option_map, refl, sym, ap, ◌∙◌, subst, arith, length-drop, slice_range, Vec, with_items, length-take-le, take_at, All-take, All-drop, drop-append-add, part, put_part, Attributes, Block, after_write, AreHandles, Heap, Object, object_at, bytes_at, block_with, other_handles, same_updated, written_sized, written_heap, counted, with_items-put_part, bytes_here, ends_in_memory, ArenaState, Global, handles_of, AreJoined, Lends, AreParts, HasPart, Holding, holding_of}
 use Rattle.w16_selectors.specs.Descriptors as selectors
 use Rattle.w16_global.proofs.Described.{write_same}
 use Rattle.w16_global.proofs.Joined.{joined_same}
@@ -100,7 +100,8 @@ lent_joined {h} {xs} {t} are new slot done lent {count} said = of_object (object
         let after : Heap = after_write h.heap slot 0 lent.after in
         let handles : AreHandles (record (handles_of h xs 0) { heap = after }) =
         other_handles (handles_of h xs 0) are.handles after (written_heap h.heap are.handles.heap slot o there lent.bytes has 0 lent.after fits lent.are_bytes) refl refl
-        (same_updated h.heap.objects slot (λ (o : Object). record o { bytes = option_map (λ (b : List ℕ). put_part b 0 lent.after) o.bytes })) in
+        (same_updated h.heap.objects slot (λ (o : Object). record o { bytes = option_map (λ (b : List ℕ). put_part b 0 lent.after) o.bytes }))
+        (written_sized (handles_of h xs 0) are.handles slot 0 lent.after o lent.bytes there has fits) in
         subst (λ k. AreJoined k xs t) (sym said) (joined_same h xs t are (record h { heap = after; written = count }) refl handles (λ holds. write_same holds h.heap slot 0 lent.after lent.bytes o there has fits))
 
     of_object : (p : Option Object) → object_at h.heap slot ≡ p → (elim p as (λ _. Option (List ℕ)) [ Some o ↦ o.bytes | None ↦ None ]) ≡ Some lent.bytes → AreJoined new xs t

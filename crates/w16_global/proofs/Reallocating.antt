@@ -1,8 +1,8 @@
 -- What is joined, where an object got another size, for which others may have been discarded or have slid.
-use Rattle.w16_global.proofs.Common.{◌≡◌, ◌≢◌, ℕ, ◌-◌, ◌<◌, ◌≤◌, inl, inr, Bool, true, false, cond, not, ◌&&◌, nat_le, nat_lt, if◌then◌else◌, IsSomeAnd, All, List, [], take, length, get_or, set, Option, Some, None, is_some, unwrap_or, refl, sym, ap, ◌∙◌, subst, false≢true, cases_eq, le-leb, lt-leb, get_or-set_same, get_or-set_other, length-set, Attributes, RoomOptions, FIRST_SLOT, growth_for, Heap, Object, IsHeap, object_at, bytes_at, is_pinned_object, with_newest, with_ordered, Asked, IsNew, IsGrown, Reallocates, Settles, discarded, moved_bytes, discards_needed, snapshot_of, stays_for, KeepsOthers, Handles, AreHandles, AreResized, IsResized, KeepsRest, IsCase, others_law, asked, by_case, none_discarded, heap_law, rest_law, reallocated_handles, HasDiscardedFor, reallocation_prefix, descriptor_at, kind_at, kind_of, Descriptor, Holding, attributes_in, handles_of, described, followed, forgotten, kind_in, AreJoined}
+use Rattle.w16_global.proofs.Common.{◌≡◌, ◌≢◌, ℕ, ◌-◌, ◌<◌, ◌≤◌, inl, inr, Bool, true, cond, not, ◌&&◌, nat_le, IsSomeAnd, All, List, [], take, length, get_or, set, Option, Some, None, is_some, unwrap_or, refl, sym, ap, ◌∙◌, subst, false≢true, cases_eq, le-leb, lt-leb, get_or-set_same, get_or-set_other, length-set, Attributes, RoomOptions, FIRST_SLOT, growth_for, Heap, Object, IsHeap, object_at, bytes_at, is_pinned_object, with_newest, with_ordered, Asked, IsNew, IsGrown, Reallocates, Settles, discarded, discards_needed, snapshot_of, stays_for, KeepsOthers, Handles, AreHandles, AreResized, IsResized, KeepsRest, IsCase, IsSized, REACH, slots_at, bytes_in, sized_is, other_handles, eligible, blocks, is_member, Discardable, cases_Bool, arith, others_law, asked, by_case, none_discarded, heap_law, rest_law, HasDiscardedFor, reallocation_prefix, descriptor_at, kind_at, kind_of, Descriptor, Holding, attributes_in, handles_of, described, followed, forgotten, kind_in, AreJoined}
 use Rattle.std.specs.FinMap as finmap
 use Rattle.w16_selectors.specs.Descriptors as selectors
-use Rattle.w16_global.proofs.Joined.{described_some, followed_kind, forgotten_kind, kinds_are, slot_there}
+use Rattle.w16_global.proofs.Joined.{followed_kind, forgotten_kind, kinds_are, one_slot, slot_there}
 use Rattle.w16_global.proofs.Described.{made_here}
 use Rattle.w16_global.proofs.Forgotten.{each_discarded, still_taken, was_there}
 use Rattle.w16_global.proofs.Sliding.{StandStill, each_known, followed_known, says_all}
@@ -105,21 +105,49 @@ module _ {h : Holding} {xs : List (Option Attributes)} {t : selectors.Descriptor
       from_bytes None f = absurd f
       from_bytes (Some o) f = refl
 
+  -- each other one is there as it was, with as many slots as it needs
+  kept : (q : ℕ) → q ≢ slot → (is_some (object_at new.heap q) ≡ is_some (object_at h.heap q)) × IsSized (slots_at (attributes_in xs) q) (bytes_at new.heap q)
+  kept q other = elim (cases_Bool (is_member q (take has.prefix (eligible (blocks h.heap) h.heap.order (Some slot))))) [
+    | inl t ↦ gone (object_at h.heap q) (keeps.discarded q t)
+    | inr f ↦
+        let same : object_at new.heap q ≡ object_at h.heap q = keeps.kept q (λ e. let at : slot ≡ q = cc in other (sym at)) (λ t. false≢true (sym f ∙ t)) in
+        (ap is_some same, sized_is refl (ap bytes_in same) (are.handles.sized q))
+  ]
+    where
+      gone : (p : Option Object) → IsSomeAnd p (λ o. (o.kind ≡ Discardable) × (o.locks ≡ 0) × (is_some o.bytes ≡ true) × (object_at new.heap q ≡ Some (record o { bytes = None })))
+          → (is_some (object_at new.heap q) ≡ is_some p) × IsSized (slots_at (attributes_in xs) q) (bytes_at new.heap q)
+      gone None g = absurd g
+      gone (Some o) g = (ap is_some g.3, sized_is refl (ap bytes_in g.3) tt)
+
+  -- so what is left are handles
+  handles : n ≤ REACH → AreHandles (record (handles_of h xs 0) { heap = new.heap })
+  handles small = turn (object_at h.heap slot) (rest_law h.heap new.heap slot n options are.handles.heap reallocated)
+    where
+      fit : (q : ℕ) → q ≡ slot → (b : Option (List ℕ)) → IsSomeAnd b (λ bytes. length bytes ≡ n) → IsSized (slots_at (attributes_in xs) q) b
+      fit q e None g = tt
+      fit q e (Some bytes) g = let one = one_slot h xs t are q (ap (λ k. is_some (object_at h.heap k)) e ∙ there) in omega (arith, one, small, g)
+
+      turn : (p : Option Object) → IsSomeAnd p (λ o. KeepsRest h.heap slot n o options new.heap) → AreHandles (record (handles_of h xs 0) { heap = new.heap })
+      turn None r = absurd r
+      turn (Some o) r = other_handles (handles_of h xs 0) are.handles new.heap sound r.low r.grain
+          (λ q. elim (cases_eq q slot) [ inl e ↦ ap (λ k. is_some (object_at new.heap k)) e ∙ made ∙ sym (ap (λ k. is_some (object_at h.heap k)) e ∙ there) | inr other ↦ (kept q other).0 ])
+          (λ q. elim (cases_eq q slot) [ inl e ↦ fit q e (bytes_at new.heap q) (subst (λ k. IsSomeAnd (bytes_at new.heap k) (λ bytes. length bytes ≡ n)) (sym e) sized) | inr other ↦ (kept q other).1 ])
+
   -- and has its own once selectors have followed
   pub known_followed : (from to : ℕ) (told second : selectors.DescriptorTable) → ((q : ℕ) → descriptor_at told q ≡ forgotten new.discarded t q) → ((q : ℕ) → descriptor_at second q ≡ followed new.heap from to told q)
       → is_some (descriptor_at second slot) ≡ true
   known_followed from to told second forgot follows = followed_known new.heap from to told second slot made (known_told told forgot slot made) (follows slot)
 
-  pub reallocated_joined : (at from to : ℕ) (told second after : selectors.DescriptorTable) → ((q : ℕ) → q ≢ slot → StandStill h.heap new.heap from to q) → finmap.get new.heap.places slot ≡ Some at
+  pub reallocated_joined : n ≤ REACH → (at from to : ℕ) (told second after : selectors.DescriptorTable) → ((q : ℕ) → q ≢ slot → StandStill h.heap new.heap from to q) → finmap.get new.heap.places slot ≡ Some at
       → ((q : ℕ) → descriptor_at told q ≡ forgotten new.discarded t q) → length told ≡ length t → ((q : ℕ) → descriptor_at second q ≡ followed new.heap from to told q) → length second ≡ length told
       → after ≡ set second slot (Some (record { base = at; limit = n - 1; present = true; kind = kind_at second slot })) → AreJoined new xs after
-  reallocated_joined at from to told second after still placed forgot many_told follows many_second is =
+  reallocated_joined small at from to told second after still placed forgot many_told follows many_second is =
       let d : Descriptor = record { base = at; limit = n - 1; present = true; kind = kind_at second slot } in
       let many : length second ≡ length t = many_second ∙ many_told in
       let kind_is : kind_at second slot ≡ kind_in xs slot =
       ap kind_of (follows slot) ∙ followed_kind new.heap from to told slot made ∙ ap kind_of (forgot slot) ∙ forgotten_kind new.discarded t slot ∙ kinds_are h xs t are slot in
       record {
-        handles = subst AreHandles (λ i. record { slots = sym cap i - FIRST_SLOT; heap = new.heap; attributes = attributes_in xs; moved = 0 }) (reallocated_handles (handles_of h xs 0) are.handles slot n options new.heap reallocated);
+        handles = subst AreHandles (λ i. record { slots = sym cap i - FIRST_SLOT; heap = new.heap; attributes = attributes_in xs; moved = 0 }) (handles small);
         described = λ q. ap (λ (l : selectors.DescriptorTable). get_or l q None) is ∙ elim (cases_eq q slot) as (λ _. get_or (set second slot (Some d)) q None ≡ described new.heap (kind_in xs q) q) [
           | inl e ↦ ap (λ k. get_or (set second slot (Some d)) k None) e ∙ get_or-set_same second slot (Some d) None (subst (λ k. slot < k) (sym many) in_table)
               ∙ sym (ap (λ k. described new.heap (kind_in xs k) k) e ∙ ap (λ k. described new.heap k slot) (sym kind_is) ∙ made_here (kind_at second slot) new.heap slot n at (bytes_at new.heap slot) refl sized placed)

@@ -1,5 +1,6 @@
 -- What GlobalReAlloc and GlobalDiscard answer.
-use Rattle.w16_global.proofs.Common.{◌≡◌, ℕ, ◌-◌, ◌≤◌, if◌then◌else◌, length, ◌||◌, ◌==◌, ◌&&◌, inl, inr, Bool, true, false, cond, MatchBool, MatchOption, List, Option, Some, None, Result, Ok, Err, option_map, unwrap_or, refl, sym, ap, ◌∙◌, subst, arith, ne_eqb, cases_eq, le-ltb, Kind, RoomOptions, Refusal, LARGEST_SIZE, GMEM_MOVEABLE, GMEM_MODIFY, GMEM_ZEROINIT, Heap, Object, object_at, bytes_at, is_fixed, is_discardable, absent, with_ordered, with_newest, Reallocates, moved_bytes, after_discard, Handles, handle_of, slot_of_handle, global_size, has_flag, rounded_size, owns, is_owned, realloc_options, kind_modified, modified, IsNull, AnswersHandle, AnswersDiscard, Empties, Resizes, ReAllocsOwn, GlobalReAllocs, GlobalDiscards, discard_absent, one_outcome_law, taken_here, taken_other, counted, none_moved, unmoved, zeroed_behind}
+use Rattle.w16_global.proofs.Common.{◌≡◌, ℕ, ◌-◌, ◌≤◌, if◌then◌else◌, length, ◌||◌, ◌==◌, ◌&&◌, inl, inr, Bool, true, false, cond, MatchBool, MatchOption, List, Option, Some, None, Result, Ok, Err, option_map, unwrap_or, refl, sym, ap, ◌∙◌, subst, arith, ne_eqb, cases_eq, le-ltb, Kind, RoomOptions, Refusal, LARGEST_SIZE, GMEM_MOVEABLE, GMEM_MODIFY, GMEM_ZEROINIT, Heap, Object, object_at, bytes_at, is_fixed, is_discardable, absent, with_ordered, with_newest, Reallocates, moved_bytes, after_discard, Handles, handle_of, slot_of_handle, global_size, has_flag, rounded_size, owns, is_owned, realloc_options, kind_modified, modified, Anew, ResizesObject, rekeyed, with_run, slots_at, slots_for, slots_of, names_law, IsSomeAnd, is_some, map, eq-eqb, Attributes, FinMap, nat_cmp, nat_cmp_total, nat_cmp-IsAntisymmetric, same_map, inserted_here, inserted_other, IsNull, AnswersHandle, AnswersDiscard, Empties, Resizes, ReAllocsOwn, GlobalReAllocs, GlobalDiscards, discard_absent, one_outcome_law, taken_here, taken_other, counted, none_moved, unmoved, zeroed_behind}
+use Rattle.std.specs.FinMap as finmap
 use Rattle.w16_model.specs.declared.Kind.TheVariants as kinds
 use Rattle.w16_model.specs.declared.Refusal.TheVariants as refusals
 
@@ -50,6 +51,17 @@ not_null w handle slot found = ne_eqb handle 0 (λ e. turn (object_at w.heap 0) 
     turn None e = cc
     turn (Some o) e = by_kind o.kind e
 
+-- a run at the same slot, and as long, is the same
+same_run : (m : FinMap nat_cmp Attributes) (slot count : ℕ) → slots_at m slot ≡ count → with_run m slot slot count ≡ m
+same_run m slot count long = turn (finmap.get m slot) refl
+  where
+    turn : (p : Option Attributes) → finmap.get m slot ≡ p → (elim p as (λ _. FinMap nat_cmp Attributes) [ Some a ↦ finmap.insert (finmap.remove m slot) slot (record a { slots = count }) | None ↦ m ]) ≡ m
+    turn None there = refl
+    turn (Some a) there = same_map nat_cmp_total nat_cmp-IsAntisymmetric (finmap.insert (finmap.remove m slot) slot (record a { slots = count })) m (λ q. elim (cases_eq q slot) [
+      | inl e ↦ inserted_here (finmap.remove m slot) slot (record a { slots = count }) q e ∙ ap (λ n. let b : Attributes = record a { slots = n } in Some b) (sym long ∙ slots_of m slot a there) ∙ sym (ap (finmap.get m) e ∙ there)
+      | inr d ↦ inserted_other (finmap.remove m slot) slot (record a { slots = count }) q d ∙ taken_other m slot q d
+    ])
+
 -- What GlobalReAlloc answers for an object, from the handles w, where v is w with nothing moved last.
 module _ (w v : Handles) (v_is : v ≡ record w { moved = 0 }) (handle size flags slot : ℕ) (found : slot_of_handle v handle ≡ Some slot) (new : Handles) where
   found_in : slot_of_handle w handle ≡ Some slot
@@ -74,7 +86,7 @@ module _ (w v : Handles) (v_is : v ≡ record w { moved = 0 }) (handle size flag
   -- Of one that none owns.
   module _ (free : is_owned v slot ≡ false) where
     abbrev by_size : ℕ → Bool → Type 0
-    by_size answer none = MatchBool none (Empties w handle slot flags answer new) (Resizes w handle slot flags size answer new)
+    by_size answer none = MatchBool none (Empties w handle slot flags answer new) (Resizes w slot flags size answer new)
 
     abbrev by_modify : ℕ → Bool → Type 0
     by_modify answer m = MatchBool m (AnswersHandle w handle (modified w.heap slot (kind_modified flags)) answer new) (by_size answer (size == 0))
@@ -82,7 +94,7 @@ module _ (w v : Handles) (v_is : v ≡ record w { moved = 0 }) (handle size flag
     answers : (answer : ℕ) (m : Bool) → has_flag flags GMEM_MODIFY ≡ m → by_modify answer m → GlobalReAllocs w handle size flags answer new
     answers answer m e h = subst (λ b. MatchBool b (IsNull w answer new) (ReAllocsOwn w handle size flags answer new)) (sym (owns_is ∙ free)) (subst (λ p. MatchOption p (IsNull w answer new) (λ slot. MatchBool (has_flag flags GMEM_MODIFY)
         (AnswersHandle w handle (modified w.heap slot (kind_modified flags)) answer new)
-        (MatchBool (size == 0) (Empties w handle slot flags answer new) (Resizes w handle slot flags size answer new))))
+        (MatchBool (size == 0) (Empties w handle slot flags answer new) (Resizes w slot flags size answer new))))
         (sym found_in) (subst (by_modify answer) (sym e) h))
 
     -- another kind
@@ -90,12 +102,33 @@ module _ (w v : Handles) (v_is : v ≡ record w { moved = 0 }) (handle size flag
     answers_modified kind kind_is modify rest = answers handle true modify
         (refl, rest ∙ (λ i. record (v_is i) { heap = modified (v_is i).heap slot (kind_is i) }) ∙ (λ i. record w { heap = modified w.heap slot (kind_modified flags); moved = sym (modified_unmoved w.heap slot (kind_modified flags)) i }))
 
-    module _ (kept : has_flag flags GMEM_MODIFY ≡ false) (some : size ≡ 0 → ⊥) (small : size ≤ LARGEST_SIZE) (n : ℕ) (n_is : n ≡ rounded_size size) (options : RoomOptions) (way_is : options ≡ realloc_options flags) where
+    module _ (one : is_some (object_at v.heap slot) ≡ true → slots_at v.attributes slot ≡ 1) (kept : has_flag flags GMEM_MODIFY ≡ false) (some : size ≡ 0 → ⊥) (small : size ≤ LARGEST_SIZE) (n : ℕ) (n_is : n ≡ rounded_size size) (options : RoomOptions) (way_is : options ≡ realloc_options flags) where
       sized : (answer : ℕ) (answered : Bool) → Reallocates w.heap slot (rounded_size size) (realloc_options flags) answered new.heap → MatchBool answered (AnswersHandle w handle new.heap answer new) (IsNull w answer new)
           → GlobalReAllocs w handle size flags answer new
       sized answer answered r h = answers answer false kept (subst (by_size answer) (sym (ne_eqb size 0 some)) (subst (λ long. MatchBool long (IsNull w answer new)
-          ((answered : Bool) × (heap : Heap) × Reallocates w.heap slot (rounded_size size) (realloc_options flags) answered heap × MatchBool answered (AnswersHandle w handle heap answer new) (IsNull w answer new)))
-          (sym (le-ltb LARGEST_SIZE size small)) (answered, new.heap, r, h)))
+          (IsSomeAnd (object_at w.heap slot) (ResizesObject w slot flags size answer new)))
+          (sym (le-ltb LARGEST_SIZE size small)) (of_object (object_at w.heap slot) refl ((names_law w handle slot).0.0 found_in))))
+        where
+          count : slots_for (rounded_size size) ≡ 1
+          count = omega (arith, small)
+
+          outcome : (o : Object) → handle ≡ handle_of o.kind slot → slots_at w.attributes slot ≡ 1 → (b : Bool) → MatchBool b (AnswersHandle w handle new.heap answer new) (IsNull w answer new)
+              → MatchBool b (Anew w slot o.kind slot (slots_for (rounded_size size)) new.heap answer new) (IsNull w answer new)
+          outcome o named own false h = h
+          outcome o named own true h = (
+            h.0 ∙ named,
+            h.1 ∙ (λ i. record w {
+              heap = ap (λ b. if b then new.heap else (record new.heap { objects = rekeyed new.heap.objects slot slot; places = rekeyed new.heap.places slot slot; order = map (λ q. if q == slot then slot else q) new.heap.order })) (sym (eq-eqb slot slot refl)) i;
+              attributes = sym (same_run w.attributes slot (slots_for (rounded_size size)) (own ∙ sym count)) i;
+              moved = moved_bytes w.heap new.heap;
+            }),
+          )
+
+          of_object : (p : Option Object) → object_at w.heap slot ≡ p → IsSomeAnd p (λ o. handle ≡ handle_of o.kind slot) → IsSomeAnd p (ResizesObject w slot flags size answer new)
+          of_object None there g = absurd g
+          of_object (Some o) there named =
+              let own : slots_at w.attributes slot ≡ 1 = subst (λ (x : Handles). is_some (object_at x.heap slot) ≡ true → slots_at x.attributes slot ≡ 1) v_is one (ap is_some there) in
+              inr (slot, inl ((λ k below. absurd (omega (arith, below, count, own))), refl), answered, new.heap, r, outcome o named own answered h)
 
       asked : (answered : Bool) → Reallocates v.heap slot n options answered new.heap → Reallocates w.heap slot (rounded_size size) (realloc_options flags) answered new.heap
       asked answered h =

@@ -1,8 +1,8 @@
 -- What is joined, where objects have slid and their selectors followed.
-use Rattle.w16_global.proofs.Common.{◌≡◌, ◌≢◌, ℕ, ◌-◌, ◌<◌, ◌≤◌, ◌⊎◌, inl, inr, Bool, true, false, ◌&&◌, nat_le, nat_lt, if◌then◌else◌, IfSome, IsSomeAnd, MatchBool, All, List, [], take, length, get_or, set, Option, Some, None, option_map, is_some, refl, sym, ap, ◌∙◌, subst, arith, leb-false, ltb-false, eq-eqb, ne_eqb, false≢true, cases_eq, cases_Bool, get_or-set_same, get_or-set_other, length-set, Attributes, Kind, RoomOptions, FIRST_SLOT, Heap, Object, IsHeap, blocks, object_at, bytes_at, with_newest, with_ordered, Allocates, AreNew, Compacts, IsNew, MakesRoom, Request, Settles, compaction_prefix, discarded, most_room, discards_needed, stays_for, moved_bytes, Discardable, eligible, is_member, KeepsOthers, inserted_here, others_law, HasDiscarded, first_eligible, Handles, AreHandles, IsFreeSlot, with_new_object, moved_handles, compacted_handles, descriptor_at, kind_at, kind_of, unset, Descriptor, SelKind, Holding, attributes_in, handles_of, descriptor_for, described, followed, forgotten, kind_for, kind_in, HasSize, AreJoined, GlobalCompacts}
+use Rattle.w16_global.proofs.Common.{◌≡◌, ◌≢◌, ℕ, ◌-◌, ◌<◌, ◌≤◌, ◌⊎◌, inl, inr, Bool, true, false, ◌&&◌, nat_le, nat_lt, if◌then◌else◌, IfSome, IsSomeAnd, MatchBool, All, List, [], take, length, get_or, set, Option, Some, None, option_map, is_some, refl, sym, ap, ◌∙◌, subst, arith, leb-false, ltb-false, eq-eqb, ne_eqb, false≢true, cases_eq, cases_Bool, get_or-set_same, get_or-set_other, length-set, Attributes, Kind, RoomOptions, FIRST_SLOT, Heap, Object, IsHeap, blocks, object_at, bytes_at, with_newest, with_ordered, Allocates, AreNew, Compacts, IsNew, MakesRoom, Request, Settles, compaction_prefix, discarded, most_room, discards_needed, stays_for, moved_bytes, Discardable, eligible, is_member, KeepsOthers, inserted_here, others_law, HasDiscarded, first_eligible, Handles, AreHandles, IsFreeSlot, IsSized, REACH, unused_slot, with_new_object, moved_handles, compacted_handles, descriptor_at, kind_at, kind_of, unset, Descriptor, SelKind, Holding, attributes_in, handles_of, descriptor_for, described, followed, forgotten, kind_for, kind_in, HasSize, AreJoined, GlobalCompacts}
 use Rattle.std.specs.FinMap as finmap
 use Rattle.w16_selectors.specs.Descriptors as selectors
-use Rattle.w16_global.proofs.Joined.{attributes_set, described_some, followed_kind, kinds_are, sized_set}
+use Rattle.w16_global.proofs.Joined.{attributes_set, described_some, followed_kind, free_run, kinds_are, own_run, sized_set, some_slot}
 use Rattle.w16_global.proofs.Described.{made_here, same_described}
 use Rattle.w16_global.proofs.Forgotten.{gone_says, each_discarded, still_taken, was_there}
 
@@ -132,15 +132,20 @@ module _ {h : Holding} {xs : List (Option Attributes)} {t : selectors.Descriptor
         long None f = absurd f
         long (Some b) f = f.0
 
+    -- as many as its slot's selector reaches
+    fit : n ≤ REACH → HasSize (Some a) → (b : Option (List ℕ)) → IsSomeAnd b (AreNew options.zero n) → IsSized a.slots b
+    fit small own_size None f = tt
+    fit small own_size (Some b) f = let long = f.0 in omega (arith, own_size.0, small, long)
+
     -- the object is there
     made : is_some (object_at new.heap slot) ≡ true
     made = ap (λ (g : Heap). is_some (object_at g slot)) s.4.same ∙ ap is_some (inserted_here (discarded h.heap s.0 (Some slot)).objects slot s.2 slot refl)
 
-    pub allocated_joined : HasSize (Some a) → (holds : SelKind) → holds ≡ kind_for (Some a) → (at from to : ℕ) (after : selectors.DescriptorTable) → ((q : ℕ) → q ≢ slot → StandStill h.heap new.heap from to q) → finmap.get new.heap.places slot ≡ Some at
+    pub allocated_joined : n ≤ REACH → HasSize (Some a) → (holds : SelKind) → holds ≡ kind_for (Some a) → (at from to : ℕ) (after : selectors.DescriptorTable) → ((q : ℕ) → q ≢ slot → StandStill h.heap new.heap from to q) → finmap.get new.heap.places slot ≡ Some at
         → (told first second : selectors.DescriptorTable) → ((q : ℕ) → descriptor_at told q ≡ forgotten new.discarded t q) → length told ≡ length t
         → first ≡ set told slot (Some (unset holds)) → ((q : ℕ) → descriptor_at second q ≡ followed new.heap from to first q) → length second ≡ length first
         → after ≡ set second slot (Some (record { base = at; limit = n - 1; present = true; kind = kind_at second slot })) → AreJoined new (set xs slot (Some a)) after
-    allocated_joined own_size holds holds_is at from to after still placed told first second forgot many_told first_is follows many_second taken =
+    allocated_joined small own_size holds holds_is at from to after still placed told first second forgot many_told first_is follows many_second taken =
         let d : Descriptor = record { base = at; limit = n - 1; present = true; kind = kind_at second slot } in
         let in_told : slot < length told = subst (λ k. slot < k) (sym many_told) in_table in
         let many : length second ≡ length t = many_second ∙ ap length first_is ∙ length-set told slot (Some (unset holds)) ∙ many_told in
@@ -148,7 +153,7 @@ module _ {h : Holding} {xs : List (Option Attributes)} {t : selectors.Descriptor
         let kind_is : kind_at second slot ≡ kind_for (Some a) = ap kind_of (follows slot) ∙ followed_kind new.heap from to first slot made ∙ own ∙ holds_is in
         record {
           handles = subst AreHandles (λ i. record { slots = sym cap i - FIRST_SLOT; heap = new.heap; attributes = sym (attributes_set xs slot a within) i; moved = 0 })
-              (with_new_object (handles_of h xs 0) are.handles a slot s.0 s.2 (with_newest slot s.2) (stays_for slot options) new.heap free.0 s.4);
+              (with_new_object (handles_of h xs 0) are.handles a slot s.0 s.2 (with_newest slot s.2) (stays_for slot options) new.heap (some_slot a own_size) (own_run a own_size) (free_run a own_size (handles_of h xs 0) slot free) (fit small own_size s.2.bytes s.3.new_bytes) s.4);
           described = λ q. elim (cases_eq q slot) [
             | inl e ↦ ap (λ (l : selectors.DescriptorTable). get_or l q None) taken ∙ ap (λ k. get_or (set second slot (Some d)) k None) e
                 ∙ get_or-set_same second slot (Some d) None (subst (λ k. slot < k) (sym many) in_table)
@@ -169,9 +174,12 @@ module _ {h : Holding} {xs : List (Option Attributes)} {t : selectors.Descriptor
     pub slot_left : (told : selectors.DescriptorTable) → ((q : ℕ) → descriptor_at told q ≡ forgotten new.discarded t q) → length told ≡ length t → selectors.IsUntaken told slot
     slot_left told forgot many_told = (free.0.0, subst (λ k. slot < k) (sym many_told) in_table, unset_still)
       where
+        unused : object_at h.heap slot ≡ None
+        unused = unused_slot (handles_of h xs 0) are.handles slot free
+
         not_its_own : is_member slot (take s.0 (eligible (blocks h.heap) h.heap.order (Some slot))) ≡ false
         not_its_own = elim (cases_Bool (is_member slot (take s.0 (eligible (blocks h.heap) h.heap.order (Some slot))))) [
-          | inl m ↦ absurd (there (object_at h.heap slot) free.1 (keeps.discarded slot m))
+          | inl m ↦ absurd (there (object_at h.heap slot) unused (keeps.discarded slot m))
           | inr out ↦ out
         ]
           where
@@ -181,7 +189,7 @@ module _ {h : Holding} {xs : List (Option Attributes)} {t : selectors.Descriptor
 
         unset_still : descriptor_at told slot ≡ None
         unset_still = forgot slot ∙ ap (λ b. if b then Some (unset (kind_at t slot)) else descriptor_at t slot) (ap (is_member slot) ids_are ∙ not_its_own)
-            ∙ are.described slot ∙ ap (option_map (descriptor_for h.heap (kind_in xs slot) slot)) free.1
+            ∙ are.described slot ∙ ap (option_map (descriptor_for h.heap (kind_in xs slot) slot)) unused
 
     -- each object has a descriptor once the others were told, and its own is taken
     pub known_told : (holds : SelKind) (told first : selectors.DescriptorTable) → ((q : ℕ) → descriptor_at told q ≡ forgotten new.discarded t q) → length told ≡ length t → first ≡ set told slot (Some (unset holds))

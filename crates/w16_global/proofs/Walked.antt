@@ -1,5 +1,5 @@
 -- A walk that names objects by their handles, from one that names them by their slots.
-use Rattle.w16_global.proofs.Common.{◌≡◌, ℕ, ◌+◌, ◌<◌, ◌≤◌, ◌⊎◌, inl, inr, Option, Some, None, option_map, refl, sym, ap, ◌∙◌, subst, Item, Owner, Heap, handle_of, IsItem, IsFirstItem, by_its_id}
+use Rattle.w16_global.proofs.Common.{◌≡◌, ℕ, ◌<◌, ◌≤◌, ◌⊎◌, inl, inr, Option, Some, None, option_map, refl, sym, ap, ◌∙◌, subst, Item, Owner, Heap, handle_of, IsItem, IsFirstItem, by_its_id}
 
 -- the item with its owner's handle in place of its id
 abbrev pub renamed : Item → Item

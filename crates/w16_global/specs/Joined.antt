@@ -6,14 +6,14 @@ use Rattle.std.specs.FinMap as finmap
 use Rattle.std.specs.FinMap.{FinMap}
 use Rattle.w16_model.specs.declared.Attributes.{Attributes}
 use Rattle.w16_model.specs.declared.Owned.{Owned}
-use Rattle.w16_model.specs.declared.TheConstants.{FIRST_SLOT, GRAIN, GMEM_MODIFY, GMEM_ZEROINIT}
+use Rattle.w16_model.specs.declared.TheConstants.{FIRST_SLOT, GRAIN, REACH, GMEM_MODIFY, GMEM_ZEROINIT}
 use Rattle.w16_model.specs.Calls.{global_size, has_flag, rounded_size}
 use Rattle.w16_model.specs.Codes.{handles_code}
 use Rattle.w16_model.specs.Discards.{is_member}
 use Rattle.w16_model.specs.Heap.{Heap, Object, IsMultiple, object_at}
 use Rattle.w16_model.specs.Table.{by_id}
 use Rattle.w16_model.specs.Owned.{owned_in}
-use Rattle.w16_model.specs.Handles.{Handles, AreHandles}
+use Rattle.w16_model.specs.Handles.{Handles, AreHandles, Part}
 use Rattle.w16_selectors.specs.Descriptors as selectors
 use Rattle.w16_selectors.specs.Descriptors.{descriptor_at, kind_at, unset}
 use Rattle.w16_selectors.specs.declared.Descriptor.{Descriptor}
@@ -47,6 +47,10 @@ abbrev pub zeroed_behind : Handles → ℕ → ℕ → ℕ → ℕ → ℕ
 zeroed_behind old handle size flags answer = if (answer == 0) || has_flag flags GMEM_MODIFY then 0
     else (if has_flag flags GMEM_ZEROINIT then rounded_size size - global_size old handle else 0)
 
+-- what the selector of an object of one slot reaches: all of it
+abbrev pub whole : ℕ → Part
+whole slot = record { slot = slot; number = 0 }
+
 -- what an object of these attributes holds
 abbrev pub kind_for : Option Attributes → SelKind
 kind_for attributes = if unwrap_or (option_map (λ (o : Owned). o.code) (owned_in attributes)) false then Code else Data
@@ -54,9 +58,9 @@ kind_for attributes = if unwrap_or (option_map (λ (o : Owned). o.code) (owned_i
 abbrev pub kind_in : List (Option Attributes) → ℕ → SelKind
 kind_in attributes slot = kind_for (slice_index_or attributes slot None)
 
--- the bytes of an owned object are some whole grains
+-- an object has one slot, and the bytes of an owned one are some whole grains, which that slot's selector reaches
 abbrev pub HasSize : Option Attributes → Type 0
-HasSize attributes = IfSome (owned_in attributes) (λ (o : Owned). (0 < o.size) × IsMultiple GRAIN o.size)
+HasSize attributes = IfSome attributes (λ (a : Attributes). (a.slots ≡ 1) × IfSome a.owned (λ (o : Owned). (0 < o.size) × IsMultiple GRAIN o.size × (o.size ≤ REACH)))
 
 -- the descriptor of an object that holds this: where it stands, and the offset of its last byte
 abbrev pub descriptor_for : Heap → SelKind → ℕ → Object → Descriptor
@@ -81,7 +85,7 @@ abbrev pub forgotten : List ℕ → selectors.DescriptorTable → ℕ → Option
 forgotten ids table slot = if is_member slot ids then Some (unset (kind_at table slot)) else descriptor_at table slot
 
 -- what holds of them: they stand for handles, whatever was moved last, each selector says its object's base and limit, and whether it is code,
--- and what modules own has a size
+-- each object has one slot, and what modules own has a size
 pub record AreJoined (holding : Holding) (attributes : List (Option Attributes)) (table : selectors.DescriptorTable) : Type 0 where
   pub handles : AreHandles (handles_of holding attributes 0)
   pub described : (slot : ℕ) → descriptor_at table slot ≡ described holding.heap (kind_in attributes slot) slot

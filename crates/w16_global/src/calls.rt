@@ -1,5 +1,5 @@
 //! The calls of programs, as the manual of Windows 3.1 names them.
-ghost use Rattle.std.specs.Prelude.{◌≡◌, ◌+◌, ◌^◌, ◌<◌, ◌≤◌, ℕ, if◌then◌else◌, IfSome, IfNone, None, length};
+ghost use Rattle.std.specs.Prelude.{◌≡◌, ◌+◌, ◌^◌, ◌<◌, ◌≤◌, ℕ, if◌then◌else◌, IfSome, IfNone, None, length, option_map};
 ghost use Rattle.std.specs.FinMap as finmap;
 ghost use Rattle.w16_model.specs.Changes.{without};
 ghost use Rattle.w16_model.specs.Heap.{is_discardable};
@@ -11,7 +11,7 @@ ghost use Rattle.w16_model.specs.Walk.{IsFirstItem, IsItem, IsItemAt, IsItemCoun
 ghost use Rattle.w16_model.specs.Handles as handles;
 ghost use Rattle.w16_model.specs.Owned as owned;
 ghost use Rattle.w16_region.specs.Bytes.{counted};
-ghost use Rattle.w16_global.specs.Joined.{zeroed};
+ghost use Rattle.w16_global.specs.Joined.{whole, zeroed};
 
 use crate::global::Global16;
 use std::alloc::Allocator;
@@ -37,9 +37,10 @@ impl<A: Allocator + Copy> Global16<A> {
         }
     }
 
-    /// The slot of the object whose selector this is.
+    /// The slot of the object whose selector this is, which reaches the object from the first byte on.
     pub(crate) fn slot_of_selector(&self, selector: u16) -> Option<u16>
-        ensures { result ≡ handles.slot_of_selector self.now.handles selector }
+        ensures slot { result ≡ handles.slot_of_selector self.now.handles selector }
+        ensures part { handles.part_of_selector self.now.handles selector ≡ option_map whole result }
     {
         self.selectors.find(selector).map(|_| slot_of(selector))
     }
@@ -376,13 +377,14 @@ pub(crate) fn alloc_options(flags: u16) -> RoomOptions
     }
 }
 
-/// The attributes that flags ask for, of an object that no module owns.
+/// The attributes that flags ask for, of an object of one slot that no module owns.
 fn attributes_asked(flags: u16) -> Attributes
-    ensures { result ≡ record { shared = calls.has_flag flags GMEM_DDESHARE; owned = None } }
+    ensures { result ≡ record { shared = calls.has_flag flags GMEM_DDESHARE; owned = None; slots = 1 } }
 {
     Attributes {
         shared: has_flag(flags, GMEM_DDESHARE),
         owned: None,
+        slots: 1,
     }
 }
 

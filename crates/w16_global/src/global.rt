@@ -16,7 +16,7 @@ use crate::follow::{follow, forget};
 use crate::objects::Objects;
 use std::alloc::{AllocError, Allocator, Global};
 use std::marker::Model;
-use w16_model::{Attributes, FIRST_SLOT, GRAIN, Kind, MOST_SLOTS, Refusal, RoomOptions};
+use w16_model::{Attributes, FIRST_SLOT, GRAIN, Kind, MOST_SLOTS, REACH, Refusal, RoomOptions};
 use w16_selectors::{SelKind, Selectors};
 
 /// The global heap: objects that are named by handles, and whose bytes are reached through selectors. Its value is `Global`: the handles, and
@@ -77,7 +77,7 @@ impl<A: Allocator + Copy> Global16<A> {
         self.selectors.take(slot, kind_for(attributes));
     }
 
-    /// A new object in a free slot, of so many bytes, a multiple of the grain, if there is room for it as the options have it. The selectors of
+    /// A new object in a free slot, of so many bytes, a multiple of the grain that one selector reaches, if there is room for it as the options have it. The selectors of
     /// objects that were discarded for it, or have slid, follow.
     pub(crate) fn allocate(
         &mut self,
@@ -90,6 +90,7 @@ impl<A: Allocator + Copy> Global16<A> {
         requires free { IsFreeSlot self.old.handles slot }
         requires some { 0 < size }
         requires rounded { IsMultiple GRAIN size }
+        requires small { size ≤ REACH }
         requires sized { joined.HasSize (Some attributes) }
         ensures allocated { Allocates self.old.handles.heap slot size kind 0 options result self.new.handles.heap }
         ensures rest { self.new.handles ≡ record self.old.handles {
@@ -111,12 +112,13 @@ impl<A: Allocator + Copy> Global16<A> {
         true
     }
 
-    /// So many bytes, above 0 and a multiple of the grain, for an object that is there, if there is room for them as the options have it. Its
+    /// So many bytes, above 0, a multiple of the grain and no more than one selector reaches, for an object that is there, if there is room for them as the options have it. Its
     /// selector follows, and so do those of objects that were discarded for it, or have slid.
     pub(crate) fn reallocate(&mut self, slot: u16, size: u32, options: RoomOptions) -> bool
         requires object { IsSome (object_at self.old.handles.heap slot) }
         requires some { 0 < size }
         requires rounded { IsMultiple GRAIN size }
+        requires small { size ≤ REACH }
         ensures reallocated { Reallocates self.old.handles.heap slot size options result self.new.handles.heap }
         ensures rest { self.new.handles ≡ record self.old.handles {
           heap = self.new.handles.heap;

@@ -1,18 +1,17 @@
 //! Objects that modules own: they come without bytes, get them from a loader, and go with their module, whatever programs hold.
-ghost use Rattle.std.specs.Prelude.{◌≡◌, ◌/◌, ◌<◌, IsTrue, IsFalse, IfSome, IfNone, Some, true, false, option_map, unwrap_or};
-ghost use Rattle.w16_model.specs.Calls.{HasNoSlot};
+ghost use Rattle.std.specs.Prelude.{◌≡◌, ◌/◌, ◌<◌, ◌≤◌, IsTrue, IsFalse, IfSome, IfNone, Some, true, false, option_map, unwrap_or};
 ghost use Rattle.w16_model.specs.Handles as handles;
 ghost use Rattle.w16_model.specs.Heap.{IsMultiple};
 ghost use Rattle.w16_model.specs.Owned.{TakesOwned, Revives, without_slot};
 ghost use Rattle.w16_model.specs.Owned as owned;
 ghost use Rattle.w16_model.specs.Request.{moved_bytes};
 ghost use Rattle.w16_region.specs.Bytes.{counted};
-ghost use Rattle.w16_global.specs.Owned.{LacksBytes};
+ghost use Rattle.w16_global.specs.Owned.{HasNoSlot, LacksBytes};
 
 use crate::global::Global16;
 use std::alloc::Allocator;
 use w16_model::names::handle_of;
-use w16_model::{Attributes, GRAIN, Kind, Owned, RoomOptions};
+use w16_model::{Attributes, GRAIN, Kind, Owned, REACH, RoomOptions};
 
 /// Others may slide and be discarded, as for an allocation with no flags.
 const REVIVAL_OPTIONS: RoomOptions = RoomOptions {
@@ -24,10 +23,11 @@ const REVIVAL_OPTIONS: RoomOptions = RoomOptions {
 
 impl<A: Allocator + Copy> Global16<A> {
     /// A new object in the lowest free slot, owned by a module: its handle, none where no slot is free. It has no bytes until it is revived,
-    /// and then `owned.size` of them, above 0 and a multiple of 32.
+    /// and then `owned.size` of them, above 0, a multiple of 32, and at most 65,536.
     pub fn take_owned(&mut self, kind: Kind, owned: Owned) -> Option<u16>
         requires some { 0 < owned.size }
         requires rounded { IsMultiple GRAIN owned.size }
+        requires small { owned.size ≤ REACH }
         ensures taken { IfSome result (λ handle. TakesOwned self.old.handles kind owned handle self.new.handles) }
         ensures none { IfNone result (HasNoSlot self.old.handles × (self.new ≡ self.old)) }
         ensures written { self.new.written ≡ self.old.written }
@@ -36,6 +36,7 @@ impl<A: Allocator + Copy> Global16<A> {
         let attributes = Attributes {
             shared: false,
             owned: Some(owned),
+            slots: 1,
         };
         self.enter(slot, kind, attributes);
         Some(handle_of(kind, slot))
@@ -74,16 +75,6 @@ impl<A: Allocator + Copy> Global16<A> {
         if let Some(slot) = self.slot_of_handle(handle) {
             self.remove(slot);
         }
-    }
-
-    /// Whether a handle's object is code, with bytes or without: false for a bad handle, and for an object that no module owns.
-    pub fn is_code(&self, handle: u16) -> bool
-        ensures { result ≡ unwrap_or (option_map (owned.is_code self.now.handles) (handles.slot_of_handle self.now.handles handle)) false }
-    {
-        let Some(slot) = self.slot_of_handle(handle) else {
-            return false;
-        };
-        self.is_code_at(slot)
     }
 
     /// Whether a slot's object is code.

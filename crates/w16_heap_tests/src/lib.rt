@@ -27,8 +27,6 @@ macro_rules! heap {
 }
 
 #[cfg(test)]
-mod blocks;
-#[cfg(test)]
 mod model;
 #[cfg(test)]
 mod options;

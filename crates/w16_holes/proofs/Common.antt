@@ -11,6 +11,7 @@ pub use Rattle.std.specs.List.{fold, position, position_from}
 pub use Rattle.std.specs.Prelude.{slice_index}
 pub use Rattle.w16_holes.specs.Cells.{AreCells, IsApart, IsBeginOf, IsInside, spans}
 pub use Rattle.w16_holes.specs.Holes.{AreHoles, AreSameIn, AreSameOutside, Free, IsFree, IsPart, IsPlace, IsUsed, Range, add_span, joined, last_before, length_at, length_to, longest, lowest, size_of, taken}
+pub use Rattle.w16_holes.specs.declared.holes.TheConstants.{LAST_END}
 pub use Rattle.w16_holes.specs.Law.{BytesLaw, IsIn, JoinedLaw, TakenLaw}
 pub use Rattle.w16_holes.specs.Thread.{AreThreaded, HasRoom, HasWords, IsThread, first_of, next_above, no_hole, put_hole, put_link, put_words, room}
 pub use Rattle.w16_holes.specs.declared.side.SideHoles.TheInside.{Inside}

@@ -1,5 +1,5 @@
 -- The cells of a range after a part was taken or put.
-use Rattle.w16_holes.proofs.Common.{ℕ, zero, suc, [], ◌∷◌, refl, ◌≡◌, ◌<◌, ◌+◌, ◌*◌, ◌-◌, List, set, Some, arith, sym, ap, ◌∙◌, subst, slice_index, length-set, last_below, Range, Free, AreHoles, IsPart, IsFree, IsUsed, spans, AreCells, IsApart, IsInside, IsBeginOf}
+use Rattle.w16_holes.proofs.Common.{ℕ, zero, suc, [], ◌∷◌, refl, ◌≡◌, ◌<◌, ◌+◌, ◌*◌, ◌-◌, List, set, Some, arith, sym, ap, ◌∙◌, subst, slice_index, length-set, last_below, Range, Free, AreHoles, IsPart, IsFree, IsUsed, spans, LAST_END, AreCells, IsApart, IsInside, IsBeginOf}
 use Rattle.w16_holes.proofs.Told.{IsTake, IsPut, take_apart, take_kept, put_apart, put_kept}
 use Rattle.w16_holes.proofs.Look.{are_holes}
 
@@ -27,6 +27,7 @@ AreCells-sets r ns i j v w cells apart inside = record {
   ordered = cells.ordered;
   small = cells.small;
   long = subst (λ (n : ℕ). r.hi - r.lo < r.grain * n) (sym (length-set (set ns i v) j w ∙ length-set ns i v)) cells.long;
+  reserved = subst (λ (n : ℕ). LAST_END - r.lo < r.grain * n) (sym (length-set (set ns i v) j w ∙ length-set ns i v)) cells.reserved;
   apart = apart;
   inside = inside;
 }

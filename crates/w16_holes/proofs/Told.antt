@@ -1,5 +1,5 @@
 -- What the list of holes tells of the cells.
-use Rattle.w16_holes.proofs.Common.{ℕ, zero, suc, ◌≡◌, ◌<◌, ◌≤◌, ◌+◌, ◌*◌, ◌-◌, ◌^◌, ◌⊎◌, List, [], ◌∷◌, length, set, replicate, Option, Some, None, arith, refl, sym, ap, ◌∙◌, subst, inl, inr, slice_index, cases_lt, lt-ltb, le-ltb, get_or-set_same, get_or-set_other, length-set, length-replicate, set-get_or, IsMultiple, last_below, Range, add_span, taken, joined, IsFree, IsUsed, spans, IsApart, IsInside, AreCells, IsBeginOf}
+use Rattle.w16_holes.proofs.Common.{ℕ, zero, suc, ◌≡◌, ◌<◌, ◌≤◌, ◌+◌, ◌*◌, ◌-◌, ◌^◌, ◌⊎◌, List, [], ◌∷◌, length, set, replicate, Option, Some, None, arith, refl, sym, ap, ◌∙◌, subst, inl, inr, slice_index, cases_lt, lt-ltb, le-ltb, get_or-set_same, get_or-set_other, length-set, length-replicate, set-get_or, IsMultiple, last_below, Range, add_span, taken, joined, IsFree, IsUsed, spans, IsApart, IsInside, LAST_END, AreCells, IsBeginOf}
 use Rattle.w16_holes.proofs.Units.{up, above, below, at_most}
 use Rattle.w16_holes.proofs.Change.{IsApart-set, IsInside-set, taken_end, taken_inside, joined_is}
 
@@ -78,9 +78,6 @@ module _ (g : ℕ) (ns : List ℕ) (q : ℕ) (apart : IsApart g ns) where
     pub begin_lt : k < q
     begin_lt = last.0
 
-    pub begin_some : 0 < slice_index ns k
-    begin_some = last.1
-
     pub begin_ends : g * k + slice_index ns k ≡ g * q → IsBeginOf g q ns k
     begin_ends e = inl (last.0, last.1, e)
 
@@ -137,9 +134,6 @@ module _ {g u size : ℕ} {ns : List ℕ} {a b p q : ℕ} (t : IsTake g u size n
 
   pub take_next : q < length ns
   take_next = let le = take_end in below g q (length ns) (omega arith)
-
-  pub take_place : p + 1 ≤ length ns
-  take_place = let le = take_end in let r = below g p (length ns) (omega arith) in omega arith
 
   module _ (k : ℕ) (is : Some k ≡ last_below ns (p + 1)) where
     told : IsLastOf ns (p + 1) (Some k)
@@ -367,8 +361,8 @@ pub spans_one : (g n u m : ℕ) → spans g u (set (replicate (n + 1) 0) 0 m) �
 spans_one g n u m = let e : n + 1 ≡ suc n = omega arith in rw e (ap (add_span u (u + m)) (spans_zeros g n (u + g)))
 
 -- the cells of a range that is one hole
-pub AreCells-one : (r : Range) (n : ℕ) → 0 < r.grain → IsMultiple r.grain r.lo → r.lo ≤ r.hi → r.hi < 2 ^ 32 → r.hi - r.lo < r.grain * (n + 1) → AreCells r (set (replicate (n + 1) 0) 0 (r.hi - r.lo))
-AreCells-one r n some from ordered small long =
+pub AreCells-one : (r : Range) (n : ℕ) → 0 < r.grain → IsMultiple r.grain r.lo → r.lo ≤ r.hi → r.hi < 2 ^ 32 → r.hi - r.lo < r.grain * (n + 1) → LAST_END - r.lo < r.grain * (n + 1) → AreCells r (set (replicate (n + 1) 0) 0 (r.hi - r.lo))
+AreCells-one r n some from ordered small long reserved =
     let zeros : List ℕ = replicate (n + 1) 0 in
     let all : length zeros ≡ n + 1 = length-replicate (n + 1) 0 in
     let same = length-set zeros 0 (r.hi - r.lo) in
@@ -379,6 +373,7 @@ AreCells-one r n some from ordered small long =
       ordered = ordered;
       small = small;
       long = subst (λ (m : ℕ). r.hi - r.lo < r.grain * m) (sym (same ∙ all)) long;
+      reserved = subst (λ (m : ℕ). LAST_END - r.lo < r.grain * m) (sym (same ∙ all)) reserved;
       apart = IsApart-set r.grain zeros 0 (r.hi - r.lo) (omega arith) (record { apart = λ k j has. let z = none k in absurd (omega arith) }) (λ has j lt. absurd (omega arith)) (λ has j lt other. let z = none j in absurd (omega arith));
       inside = IsInside-set r.grain zeros 0 (r.hi - r.lo) (omega arith) (r.hi - r.lo) (record { inside = λ k has. let z = none k in absurd (omega arith) }) (λ has. omega arith);
     }

@@ -3,6 +3,7 @@ use Rattle.std.specs.Prelude.{◌⊎◌, ℕ, ◌<◌, ◌≤◌, ◌≡◌, ◌
 use Rattle.w16_model.specs.declared.Span.{Span}
 use Rattle.w16_model.specs.Heap.{IsMultiple}
 use Rattle.w16_holes.specs.Holes.{Range, add_span}
+use Rattle.w16_holes.specs.declared.holes.TheConstants.{LAST_END}
 
 -- the holes that cells tell, the first of which is for place p
 abbrev pub spans : ℕ → ℕ → List ℕ → List Span
@@ -17,13 +18,14 @@ pub record IsApart (g : ℕ) (ns : List ℕ) : Type 0 where
 pub record IsInside (g size : ℕ) (ns : List ℕ) : Type 0 where
   pub inside : (k : ℕ) → 0 < slice_index ns k → g * k + slice_index ns k ≤ size
 
--- the cells of a range: one for each place in it, its end among them
+-- the cells of a range: one for each place in it, its end among them, and for each up to the highest end that it may be given later
 pub record AreCells (r : Range) (ns : List ℕ) : Type 0 where
   pub some : 0 < r.grain
   pub from : IsMultiple r.grain r.lo
   pub ordered : r.lo ≤ r.hi
   pub small : r.hi < 2 ^ 32
   pub long : r.hi - r.lo < r.grain * length ns
+  pub reserved : LAST_END - r.lo < r.grain * length ns
   pub apart : IsApart r.grain ns
   pub inside : IsInside r.grain (r.hi - r.lo) ns
 

@@ -6,6 +6,9 @@ ghost use Rattle.w16_holes.specs.Holes.{Range, AreHoles, IsFree, IsUsed, IsPlace
 use std::alloc::Allocator;
 use w16_region::Space;
 
+/// The highest end that a range may be given later, in bytes: where a segment of the largest size ends.
+pub const LAST_END: u32 = 65_536;
+
 /// What is known of holes apart from any space: their range, and the list of them by address.
 pub trait HoleList {
     /// Where memory comes from that is kept beside them.
@@ -16,6 +19,14 @@ pub trait HoleList {
 
     /// The holes, by address.
     ghost holes: { Self → List Span };
+
+    /// Moves the end of the range up to `end`, at most [`LAST_END`]. No hole has a byte of what is new until `put` makes it one. No memory
+    /// is taken.
+    fn set_end(&mut self, end: u32)
+        requires later { (range self.old).hi ≤ end }
+        requires reserved { end ≤ LAST_END }
+        ensures range { range self.new ≡ record (range self.old) { hi = end } }
+        ensures holes { holes self.new ≡ holes self.old };
 }
 
 /// The holes of a range of a space: its parts that are free, by address. No two touch.

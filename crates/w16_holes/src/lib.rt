@@ -15,6 +15,6 @@ mod side;
 mod threaded;
 
 pub use grain::{units_in, units_over};
-pub use holes::{HoleList, Holes};
+pub use holes::{HoleList, Holes, LAST_END};
 pub use side::SideHoles;
 pub use threaded::ThreadedHoles;

@@ -5,7 +5,7 @@ ghost use Rattle.w16_holes.specs.Holes.{AreHoles, IsFree, IsUsed, IsPlace, IsPar
 ghost use Rattle.w16_holes.specs.Cells.{IsApart, IsInside, IsBeginOf};
 ghost use Rattle.w16_tree.specs.Last.{last_below};
 
-use crate::{HoleList, Holes, units_in};
+use crate::{HoleList, Holes, LAST_END, units_in};
 use std::alloc::{AllocError, Allocator, Global};
 use std::marker::Model;
 use w16_region::Space;
@@ -96,14 +96,14 @@ impl<A: Allocator> Model for SideHoles<A> {
 
 impl<A: Allocator> SideHoles<A> {
     /// The range [lo, hi), all free, at multiples of the grain. All the memory that it ever has is
-    /// taken here; fails where there is not enough.
+    /// taken here, for an end at [`LAST_END`] too; fails where there is not enough.
     pub fn new(alloc: A, lo: u32, hi: u32, grain: u32) -> Result<SideHoles<A>, AllocError>
         requires bounds { lo ≤ hi }
         requires some { 0 < grain }
         requires grained { IsMultiple grain lo }
         ensures { IfOk result (λ made. made ≡ record { range = record { lo = lo; hi = hi; grain = grain }; holes = add_span lo hi [] }) }
     {
-        let units = ((hi - lo) / grain) as usize;
+        let units = ((hi.max(LAST_END) - lo) / grain) as usize;
         let mut lengths = Maxima::zeros(alloc, units + 1)?;
         lengths.set(0, hi - lo);
         Ok(SideHoles {
@@ -190,6 +190,10 @@ impl<A: Allocator + Copy> HoleList for SideHoles<A> {
     ghost range = { λ h. h.range };
 
     ghost holes = { λ h. h.holes };
+
+    fn set_end(&mut self, end: u32) {
+        self.hi = end;
+    }
 }
 
 impl<S: Space, A: Allocator + Copy> Holes<S> for SideHoles<A> {

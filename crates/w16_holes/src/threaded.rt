@@ -154,6 +154,10 @@ impl<A: Allocator + Copy> HoleList for ThreadedHoles<A> {
     ghost range = { λ h. h.range };
 
     ghost holes = { λ h. h.holes };
+
+    fn set_end(&mut self, end: u32) {
+        self.side.set_end(end);
+    }
 }
 
 impl<A: Allocator + Copy> Holes<Region<A>> for ThreadedHoles<A> {

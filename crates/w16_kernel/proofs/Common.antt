@@ -1,5 +1,5 @@
 -- The names of definitions and of lower crates that the proofs of this crate cite, passed on from one place. Declares nothing.
-pub use Rattle.std.proofs.Common.{Err, None, Option, Some, filter, if◌then◌else◌, nat_le, rules, vec_capacity, vec_len, ◌==◌}
+pub use Rattle.std.proofs.Common.{Err, None, Option, Some, filter, if◌then◌else◌, nat_le, rules, vec_capacity, vec_len, ◌*◌, ◌==◌}
 pub use Rattle.std.proofs.lemmas.List.{map_push}
 pub use Rattle.std.proofs.lemmas.List.Elements.{All-from_get_or}
 pub use Rattle.std.proofs.lemmas.List.{length-map, length-take-le, take_all}
@@ -48,9 +48,10 @@ pub use Rattle.w16_writes.specs.LastWrite.{AllKeepWritten, KeepsWritten, ReadsBa
 pub use Rattle.w16_model.proofs.Listed.{walk_law}
 pub use Rattle.w16_model.specs.Law.{HasOneWalk}
 pub use Rattle.w16_model.proofs.Naming.{names_law}
+pub use Rattle.w16_model.proofs.Runs.{numbered, reach_law, slots_none}
 pub use Rattle.w16_model.specs.Calls.{alloc_options, global_handle, kind_asked}
 pub use Rattle.w16_model.specs.Calls.HandleCommand.{GlobalCompact, GlobalFree, Moved}
-pub use Rattle.w16_model.specs.Handles.{IsSlot, dword_of, selector_of, slot_of_handle}
+pub use Rattle.w16_model.specs.Handles.{Part, dword_of, reached, slots_at, selector_of, slot_of_handle}
 pub use Rattle.w16_model.specs.Owned.{is_owned}
 pub use Rattle.w16_model.specs.declared.Owned.{Owned}
 pub use Rattle.std.proofs.lemmas.Bool.{cases_eq, le-leb}
@@ -64,7 +65,8 @@ pub use Rattle.w16_model.specs.CallLaws.{IsAbout, IsKeptOrDiscarded, OnlyLeave, 
 pub use Rattle.w16_model.proofs.CallOutcomes.{outcome}
 pub use Rattle.w16_loading.specs.Resizes.ResizeCommand.{GlobalDiscard, GlobalReAlloc}
 pub use Rattle.w16_model.specs.Outcomes.Call.{Calls, ReAllocs}
-pub use Rattle.w16_model.specs.declared.TheConstants.{GMEM_MOVEABLE}
+pub use Rattle.w16_model.specs.declared.TheConstants.{GMEM_MOVEABLE, REACH}
+pub use Rattle.w16_model.specs.declared.Attributes.{Attributes}
 pub use Rattle.w16_model.proofs.Bystanders.{bystanders_law}
 pub use Rattle.w16_model.proofs.CallLaws.{rest_of}
 pub use Rattle.w16_model.proofs.CallOrders.{allocated, compacted, resized, stays}

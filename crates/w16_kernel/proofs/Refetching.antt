@@ -5,7 +5,7 @@ use Rattle.w16_loading.specs.Owner.Owner.{OfSegment, Script}
 use Rattle.w16_model.specs.declared.FarFault.TheVariants.{NotPresent}
 use Rattle.w16_loader.specs.declared.table.SegmentOf.{SegmentOf}
 use Rattle.w16_loader.specs.declared.segment_fetch.SegmentSource.{SegmentSource}
-use Rattle.w16_kernel.proofs.Absent.{lacks, slot_is, slot_of}
+use Rattle.w16_kernel.proofs.Absent.{lacks, slot_is}
 
 -- Look-ups that find nothing, and a module.
 
@@ -60,71 +60,66 @@ in_file world is slot source s = (s.segment.has.0, turn _ (slice_get s.m.tables.
 
 -- An access that met an object without bytes.
 module _ (honest : Type 0) (handles : Handles) (modules : Modules) (loads : FinMap nat_cmp Load) (files : List (List ℕ × List ℕ)) (failures : ℕ) (is : IsLoadingOver honest (loading_of handles modules loads files failures))
-    (selector : ℕ) (absent : IsAbsent handles selector) (few : selector < 65536) where
+    (selector : ℕ) (absent : IsAbsent handles selector) (few : selector < 65536) (name : ℕ) (named : name ≡ offset_in (global_handle handles selector)) where
   abbrev old : LoadingWorld
   old = loading_of handles modules loads files failures
 
-  here : far_slot handles selector ≡ selector / 8
-  here = slot_is handles selector absent few ∙ slot_of handles selector absent few
+  pub here : far_slot handles selector ≡ name / 8
+  here = slot_is handles is.0.handles selector absent few name named
 
-  needs : (p : Option Owned) → owned_at handles (selector / 8) ≡ p → needs_fetch (FarAnswer.Fault NotPresent) old selector ≡ is_some p
+  needs : (p : Option Owned) → owned_at handles (name / 8) ≡ p → needs_fetch (FarAnswer.Fault NotPresent) old selector ≡ is_some p
   needs p e = ap (λ q. is_some (owned_at handles q)) here ∙ ap is_some e
 
   -- the object is no module's
-  pub not_needed : owned_at handles (selector / 8) ≡ None → needs_fetch (FarAnswer.Fault NotPresent) old selector ≡ false
+  pub not_needed : owned_at handles (name / 8) ≡ None → needs_fetch (FarAnswer.Fault NotPresent) old selector ≡ false
   not_needed none = needs None none
 
   -- it is a module's
-  owned_needs : (size : ℕ) (code : Bool) → owned_at handles (selector / 8) ≡ Some (record { size = size; code = code }) → needs_fetch (FarAnswer.Fault NotPresent) old selector ≡ true
+  owned_needs : (size : ℕ) (code : Bool) → owned_at handles (name / 8) ≡ Some (record { size = size; code = code }) → needs_fetch (FarAnswer.Fault NotPresent) old selector ≡ true
   owned_needs size code owned = needs (Some (record { size = size; code = code })) owned
 
-  named_so : (size : ℕ) (code : Bool) → owned_at handles (selector / 8) ≡ Some (record { size = size; code = code }) → (name : ℕ) → name ≡ offset_in (global_handle handles selector) → LacksBytes handles name × (name / 8 ≡ selector / 8)
-  named_so size code owned name named =
-      let l : LacksBytes handles name × (name / 8 ≡ absent.slot) =
-      lacks handles selector absent few name named (ap (λ q. is_some (owned_at handles q)) (slot_of handles selector absent few) ∙ ap is_some owned) in
-      (l.0, l.1 ∙ slot_of handles selector absent few)
+  named_so : (size : ℕ) (code : Bool) → owned_at handles (name / 8) ≡ Some (record { size = size; code = code }) → LacksBytes handles name
+  named_so size code owned = lacks handles is.0.handles selector absent few name named (ap is_some owned)
 
   -- a resource of one
-  module _ (loaded : is_some (finmap.get loads (selector / 8)) ≡ true) where
-    owner : (size : ℕ) × (owned_at handles (selector / 8) ≡ Some (record { size = size; code = false }))
-    owner = turn (finmap.get loads (selector / 8)) refl loaded
+  module _ (loaded : is_some (finmap.get loads (name / 8)) ≡ true) where
+    owner : (size : ℕ) × (owned_at handles (name / 8) ≡ Some (record { size = size; code = false }))
+    owner = turn (finmap.get loads (name / 8)) refl loaded
       where
-        turn : (p : Option Load) → finmap.get loads (selector / 8) ≡ p → is_some p ≡ true → (size : ℕ) × (owned_at handles (selector / 8) ≡ Some (record { size = size; code = false }))
+        turn : (p : Option Load) → finmap.get loads (name / 8) ≡ p → is_some p ≡ true → (size : ℕ) × (owned_at handles (name / 8) ≡ Some (record { size = size; code = false }))
         turn None e h = absurd (false≢true h)
         turn (Some load) e h =
-            let r = loaded_of old is.0 (selector / 8) load e in
-            let o = resource_owned old is.0 (selector / 8) load.handle load.place r.0 r.1 in
+            let r = loaded_of old is.0 (name / 8) load e in
+            let o = resource_owned old is.0 (name / 8) load.handle load.place r.0 r.1 in
             (rounded_size o.0.length_in, o.1.owned)
 
     pub resource_needed : needs_fetch (FarAnswer.Fault NotPresent) old selector ≡ true
     resource_needed = owned_needs owner.0 false owner.1
 
-    pub resource_fetched : (name : ℕ) → name ≡ offset_in (global_handle handles selector) → (fault : Option FetchFault) (new : LoadingWorld)
+    pub resource_fetched : (fault : Option FetchFault) (new : LoadingWorld)
         → (LacksBytes handles name → IsSome (finmap.get loads (name / 8)) → StoreFetch honest old (name / 8) fault new) → StoreFetch honest old (far_slot handles selector) fault new
-    resource_fetched name named fault new fetch =
-        let l : LacksBytes handles name × (name / 8 ≡ selector / 8) = named_so owner.0 false owner.1 name named in
-        subst (λ q. StoreFetch honest old q fault new) (l.1 ∙ sym here) (fetch l.0 (ap (λ q. is_some (finmap.get loads q)) l.1 ∙ loaded))
+    resource_fetched fault new fetch = subst (λ q. StoreFetch honest old q fault new) (sym here) (fetch (named_so owner.0 false owner.1) loaded)
 
   -- or a segment
-  module _ {A : Type 0} (source : SegmentSource A) (s : IsSourceFor old (selector / 8) source) where
-    owned : (g : Segment) × IsObjectOf old (selector / 8) g.kind g.size g.is_code
-    owned = segment_owned old is.0 (selector / 8) s.handle source.number s.m s.segment
+  module _ {A : Type 0} (source : SegmentSource A) (s : IsSourceFor old (name / 8) source) where
+    owned : (g : Segment) × IsObjectOf old (name / 8) g.kind g.size g.is_code
+    owned = segment_owned old is.0 (name / 8) s.handle source.number s.m s.segment
 
     pub needed : needs_fetch (FarAnswer.Fault NotPresent) old selector ≡ true
     needed = owned_needs owned.0.size owned.0.is_code owned.1.owned
 
-    pub fetched : (name : ℕ) → name ≡ offset_in (global_handle handles selector) → (fault : Option FetchFault) (next : Handles) (left : List (List ℕ × List ℕ)) (count : ℕ) → left ≡ files → failures ≤ count
+    pub fetched : (fault : Option FetchFault) (next : Handles) (left : List (List ℕ × List ℕ)) (count : ℕ) → left ≡ files → failures ≤ count
         → (LacksBytes handles name → AnyFetches old (name / 8) fault (loading_of next modules loads files failures))
         → (honest → LacksBytes handles name → IsFetchable old (name / 8) source.number source.file.now source.module.now source.values.now → FetchesCounted ne_format old (name / 8) fault (loading_of next modules loads left count))
         → StoreFetch honest old (far_slot handles selector) fault (loading_of next modules loads left count)
-    fetched name named fault next left count same counted any exact =
-        let l : LacksBytes handles name × (name / 8 ≡ selector / 8) = named_so owned.0.size owned.0.is_code owned.1.owned name named in
-        let at : name / 8 ≡ far_slot handles selector = l.1 ∙ sym here in
+    fetched fault next left count same counted any exact =
+        let l : LacksBytes handles name = named_so owned.0.size owned.0.is_code owned.1.owned in
+        let at : name / 8 ≡ far_slot handles selector = sym here in
         record {
           files = same;
           counted = counted;
-          any = subst (λ q. AnyFetches old q fault (loading_of next modules loads left failures)) at (subst (λ (fs : List (List ℕ × List ℕ)). AnyFetches old (name / 8) fault (loading_of next modules loads fs failures)) (sym same) (any l.0));
-          exact = λ h. subst (λ q. FetchesCounted ne_format old q fault (loading_of next modules loads left count)) at (exact h l.0 (
-              record { sound = is.0; of_files = is.1 h; handle = s.handle; m = s.m; segment = subst (λ q. IsSegmentOf old q s.handle source.number s.m) (sym l.1) s.segment; source = s.source_of; tables = s.tables }
+          any = subst (λ q. AnyFetches old q fault (loading_of next modules loads left failures)) at (subst (λ (fs : List (List ℕ × List ℕ)). AnyFetches old (name / 8) fault (loading_of next modules loads fs failures)) (sym same) (any l));
+          exact = λ h. subst (λ q. FetchesCounted ne_format old q fault (loading_of next modules loads left count)) at (exact h l (
+              record { sound = is.0; of_files = is.1 h; handle = s.handle; m = s.m; segment = s.segment; source = s.source_of; tables = s.tables }
               ));
         }

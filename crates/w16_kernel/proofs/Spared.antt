@@ -1,5 +1,5 @@
 -- Which local heaps a call of a program for bytes spares, told by how many discardable objects there are before and after.
-use Rattle.w16_kernel.proofs.Common.{◌≡◌, ◌≢◌, ℕ, ◌+◌, ◌≤◌, ◌/◌, inl, inr, Bool, true, false, cond, not, ◌&&◌, ◌==◌, nat_le, if◌then◌else◌, IfSome, IsSomeAnd, List, [], ◌∷◌, length, filter, Option, Some, None, option_map, unwrap_or, is_some, refl, sym, ap, ◌∙◌, subst, arith, false≢true, cases_eq, le-leb, length-filter, count_by-le-length, nat_cmp, nat_cmp_total, nat_cmp-IsAntisymmetric, same_map, get-retain_keys, Kind, Fixed, Moveable, Discardable, FinMap, Heap, Object, IsHeap, Table, object_at, bytes_at, bytes_in, is_discardable, is_in_order, is_member, without, Handles, AreHandles, handle_of, slot_of_handle, kind_asked, alloc_options, realloc_options, rounded_size, CallStep, Outcome, IsUnmoved, IsLocked, IsUnlocked, IsFreed, IsNewest, IsOldest, IsEntered, IsAllocated, IsCompacted, IsModified, IsDiscarded, IsResized, IsAbout, IsKeptOrDiscarded, OnlyLeave, handle_in, may_change, names_law, taken_here, taken_other, outcome, answer_in, GlobalFree, GlobalCompact, GlobalReAlloc, GlobalDiscard, Calls, ReAllocs, GMEM_MOVEABLE, IsSlot, Reply, Word, Dword, World, Command, OfLoading, OfHandles, OfResizes, IsWorldOver, Unswept, object_slot, word_of, discardable_beside, bystanders_law, rest_of, allocated, compacted, resized, stays, filter_swapped, other_of, twice_out, without_out, IsLocalIn, has_range, left_in, OthersStay}
+use Rattle.w16_kernel.proofs.Common.{◌≡◌, ◌≢◌, ℕ, ◌≤◌, ◌/◌, inl, inr, Bool, true, false, cond, not, ◌&&◌, ◌==◌, nat_le, if◌then◌else◌, IfSome, IsSomeAnd, List, [], ◌∷◌, length, filter, Option, Some, None, option_map, unwrap_or, is_some, refl, sym, ap, ◌∙◌, subst, arith, false≢true, cases_eq, le-leb, length-filter, count_by-le-length, nat_cmp, nat_cmp_total, nat_cmp-IsAntisymmetric, same_map, get-retain_keys, Kind, Fixed, Moveable, Discardable, FinMap, Heap, Object, Table, object_at, bytes_at, bytes_in, is_discardable, is_in_order, is_member, without, Handles, AreHandles, numbered, handle_of, slot_of_handle, kind_asked, alloc_options, realloc_options, rounded_size, CallStep, Outcome, IsUnmoved, IsLocked, IsUnlocked, IsFreed, IsNewest, IsOldest, IsEntered, IsAllocated, IsCompacted, IsModified, IsDiscarded, IsResized, IsKeptOrDiscarded, OnlyLeave, handle_in, may_change, names_law, taken_here, taken_other, outcome, answer_in, GlobalFree, GlobalCompact, GlobalReAlloc, GlobalDiscard, Calls, ReAllocs, GMEM_MOVEABLE, Reply, Word, Dword, World, Command, OfLoading, OfHandles, OfResizes, IsWorldOver, Unswept, object_slot, word_of, discardable_beside, bystanders_law, rest_of, allocated, compacted, resized, stays, filter_swapped, other_of, twice_out, without_out, IsLocalIn, has_range, left_in, OthersStay}
 use Rattle.std.specs.FinMap as finmap
 use Rattle.w16_model.specs.Calls as calls
 use Rattle.w16_model.specs.Calls.{Answer}
@@ -158,11 +158,11 @@ module _ (honest : Type 0) (old : World) (is : IsWorldOver honest old) (mid : Wo
 
   -- no object has the slot 0
   none_at_0 : is_member 0 order ≡ false
-  none_at_0 = is.0.heaps.handles.heap.in_order 0 ∙ turn (object_at old.loading.handles.heap 0) (is.0.heaps.handles.slotted 0)
+  none_at_0 = is.0.heaps.handles.heap.in_order 0 ∙ turn (object_at old.loading.handles.heap 0) refl
     where
-      turn : (p : Option Object) → IfSome p (λ _. IsSlot old.loading.handles 0) → is_in_order p ≡ false
-      turn None h = refl
-      turn (Some o) h = absurd (let low = h.0 in omega (arith, low))
+      turn : (p : Option Object) → object_at old.loading.handles.heap 0 ≡ p → is_in_order p ≡ false
+      turn None there = refl
+      turn (Some o) there = absurd (let low = (numbered old.loading.handles is.0.heaps.handles 0 (ap is_some there)).0 in omega (arith, low))
 
   freed : (handle : ℕ) (answer : Option Answer) → mid.heaps ≡ old.heaps → IsSomeAnd answer (λ answer. CallStep old.loading.handles (Calls (GlobalFree handle)) answer mid.loading.handles)
       → OthersStay (Some (handle / 8)) (length (without (handle / 8) order)) mid.loading.handles.heap mid.heaps

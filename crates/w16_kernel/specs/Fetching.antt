@@ -3,7 +3,7 @@ use Rattle.std.specs.Prelude.{◌≡◌, ℕ, ◌⊎◌, true, false, Some, None
 use Rattle.w16_model.specs.declared.FarFault.{FarFault}
 use Rattle.w16_model.specs.Far.{far_slot}
 use Rattle.w16_model.specs.Far as far
-use Rattle.w16_model.specs.Handles.{Handles, slot_of_selector}
+use Rattle.w16_model.specs.Handles.{Handles, Part, part_of_selector}
 use Rattle.w16_model.specs.Heap.{bytes_at}
 use Rattle.w16_loading.specs.declared.FetchFault.{FetchFault}
 use Rattle.w16_loading.specs.Fetch.{needs_fetch}
@@ -18,9 +18,9 @@ use Rattle.w16_kernel.specs.Runs.{reply_of}
 
 -- a selector leads to an object without bytes
 pub record IsAbsent (handles : Handles) (selector : ℕ) : Type 0 where
-  pub slot : ℕ
-  pub named : slot_of_selector handles selector ≡ Some slot
-  pub without_bytes : bytes_at handles.heap slot ≡ None
+  pub place : Part
+  pub named : part_of_selector handles selector ≡ Some place
+  pub without_bytes : bytes_at handles.heap place.slot ≡ None
 
 -- What becomes of an access that met a fault. The object is fetched, and the access is to be made again; or it couldn't be fetched, or none had
 -- to be, and that is the reply.

@@ -1,5 +1,5 @@
 //! Far accesses, which fetch the objects of modules that they meet without bytes.
-ghost use Rattle.std.specs.Prelude.{◌≡◌, ◌≤◌, ◌/◌, ℕ, List, length, IfSome, IfNone, None};
+ghost use Rattle.std.specs.Prelude.{◌≡◌, ◌≤◌, ℕ, List, length, IfSome, IfNone, None};
 ghost use Rattle.std.specs.FinMap as finmap;
 ghost use Rattle.std.specs.FinMap.{FinMap};
 ghost use Rattle.std.specs.Ordering.{nat_cmp};
@@ -54,13 +54,13 @@ fn fetch_segment<S: Store + Drop, A: Allocator + Copy>(
 ) -> Result<(), Reply<'static>>
     requires loading { IsLoadingOver S.is_honest (loading_of global.old.handles library.old.registry library.old.resources (S.files library.old.store) (S.failures library.old.store)) }
     requires absent { IsAbsent global.old.handles selector }
-    requires segment { finmap.get library.old.resources (selector / 8) ≡ None }
+    requires segment { finmap.get library.old.resources (far.far_slot global.old.handles selector) ≡ None }
     ensures { Refetches S.is_honest (loading_of global.old.handles library.old.registry library.old.resources (S.files library.old.store) (S.failures library.old.store)) selector NotPresent result
         (loading_of global.new.handles library.new.registry library.new.resources (S.files library.new.store) (S.failures library.new.store)) }
 {
     // The low word is the object's handle.
     let handle = offset_in(global.global_handle(selector));
-    match segment_source(&library.registry, slot_of(selector)) {
+    match segment_source(&library.registry, slot_of(handle)) {
         None => Err(Reply::Fault(FarFault::NotPresent)),
         Some(source) => match fetch(
             &source,
@@ -87,11 +87,11 @@ fn fetch_selected<S: Store + Drop, A: Allocator + Copy>(
     ensures { Refetches S.is_honest (loading_of global.old.handles library.old.registry library.old.resources (S.files library.old.store) (S.failures library.old.store)) selector NotPresent result
         (loading_of global.new.handles library.new.registry library.new.resources (S.files library.new.store) (S.failures library.new.store)) }
 {
-    if !library.resources.owns(slot_of(selector)) {
-        return fetch_segment(global, library, selector);
-    }
     // The low word is the object's handle.
     let handle = offset_in(global.global_handle(selector));
+    if !library.resources.owns(slot_of(handle)) {
+        return fetch_segment(global, library, selector);
+    }
     match library.resources.fetch(
         &library.registry,
         global,

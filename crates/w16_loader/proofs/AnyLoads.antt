@@ -6,7 +6,7 @@ use Rattle.w16_loading.specs.Closure as closing
 use Rattle.w16_loading.specs.declared.FetchFault.TheVariants as fetches
 use Rattle.w16_loading.proofs.Fewest.{one_fewest}
 use Rattle.w16_loading.proofs.Fillings.{in_turn_as, one_heap}
-use Rattle.w16_loading.proofs.Named.{named_handles}
+use Rattle.w16_loading.proofs.Named.{named_heap}
 use Rattle.w16_loader.specs.declared.binding.BindFault.TheVariants as binds
 use Rattle.w16_loader.specs.declared.closure.Closure.{Closure}
 use Rattle.w16_loader.specs.declared.found.FileFault.TheVariants as faults
@@ -88,7 +88,7 @@ module _ (old : LoadingWorld) (meant : closing.Closure) (handles : List ℕ) (mi
     fewest : (failure : Option Failure) (heap : Heap) → Fills failure heap → InTurn GivesAnyFewest mid.handles.heap (fills_with modules 0 handles reads) failure heap
     fewest failure heap filled = in_turn_as GivesAny GivesAnyFewest
         (λ before slot bytes fault after sound f. ((f.0, f.1, f.2, one_fewest is_of_read before slot f.0 fault after sound f.2), one_heap is_of_read before slot f.0 fault after sound f.2))
-        mid.handles.heap heap (fills_with modules 0 handles reads) failure (subst (λ (w : LoadingWorld). IsHeap w.handles.heap) (sym u.after) (named_handles old closure u.choice is u.is_choice).heap)
+        mid.handles.heap heap (fills_with modules 0 handles reads) failure (subst (λ (w : LoadingWorld). IsHeap w.handles.heap) (sym u.after) (named_heap old closure u.choice is u.is_choice))
         (filled reads (are_read old closure handles mid u is_file modules bound) (are_unfilled old closure handles mid u is_file modules bound))
 
     pub filled_any : (heap : Heap) → Fills None heap → LoadsAny old meant (Says (slice_index_or handles 0 0)) (record mid { modules = modules; handles = record mid.handles { heap = heap } })

@@ -35,15 +35,6 @@ module _ (modules : Modules) (handle : ℕ) where
     pub bound_alike : (f g : Lookup) → AreAlike f g → bound_as f modules handle targets ≡ bound_as g modules handle targets
     bound_alike f g same = ap (put_in (module_at modules handle)) (λ i m. values_alike f g m targets same i)
 
-  -- the code puts the values of a module that is there
-  pub put_values : (m : Module) → Some m ≡ module_at modules handle → (named : Lookup) (targets : List (List Target)) (values : List (List Far)) → values ≡ values_for named m targets
-      → with_values modules handle values ≡ bound_as named modules handle targets
-  put_values m there named targets values are =
-      ap (λ p. put_in p (λ _. values)) (sym there) ∙ ap (λ vs. finmap.insert modules handle (Loaded (record m { values = vs }))) are ∙ ap (λ p. put_in p (λ n. values_for named n targets)) there
-
-  pub none_bound : None ≡ module_at modules handle → (named : Lookup) (targets : List (List Target)) → modules ≡ bound_as named modules handle targets
-  none_bound none named targets = ap (λ p. put_in p (λ n. values_for named n targets)) none
-
 -- what is put where something was taken away is as if nothing had been
 put_where_taken : {X : Type 0} (m : FinMap nat_cmp X) (id : ℕ) (x : X) → finmap.insert (finmap.remove m id) id x ≡ finmap.insert m id x
 put_where_taken m id x = same_map nat_cmp_total nat_cmp-IsAntisymmetric (finmap.insert (finmap.remove m id) id x) (finmap.insert m id x) (λ q. elim (cases_eq q id) [
@@ -59,9 +50,6 @@ module _ (old between new : Modules) (handle : ℕ) (values : List (List Far)) w
       put ∙ ap (λ modules. finmap.insert modules handle (Loaded other)) gone ∙ put_where_taken old handle (Loaded other)
       ∙ ap (λ (x : Module). finmap.insert old handle (Loaded x)) (bound ∙ ap (λ (x : Module). record x { values = values }) same)
       ∙ ap (λ p. put_in old handle p (λ _. values)) there
-
-  pub none_again : None ≡ module_at old handle → new ≡ old → new ≡ with_values old handle values
-  none_again none same = same ∙ ap (λ p. put_in old handle p (λ _. values)) none
 
 -- what a module's file says, and how many segments it has, doesn't depend on its values
 abbrev said_in : Files → ModuleFile → Option Named → Type 0

@@ -23,7 +23,7 @@ pub use Rattle.w16_format.proofs.Files.{accepted, has_room, is_format, read_back
 pub use Rattle.w16_format.proofs.Relocated.{is_relocated, words_same}
 pub use Rattle.w16_format.specs.Data.{target_of}
 pub use Rattle.w16_global.proofs.Common.{Global, IfNone, Lends, OnOk, cases_lt, common_steps, get-by_id, le-ltb, length-repeated, without_slot}
-pub use Rattle.w16_global.specs.Owned.{LacksBytes}
+pub use Rattle.w16_global.specs.Owned.{HasNoSlot, LacksBytes}
 pub use Rattle.w16_loader.specs.AnyClosing.{AreGood, Begins, ClosesAny, IsAlike, IsFoundOf, IsGood, IsSomeClosure, LeadsAny, any_format, closed_of, reached_of, said_by}
 pub use Rattle.w16_loader.specs.Binding.{AreSaid, AreTargets, AreValuesOf, IsBindFailure, IsFailure, IsForEach, IsSaid, IsStoredAs, all_bound, bound_as, fault_of_name, values_for, with_values}
 pub use Rattle.w16_loader.specs.Closing.{Files, IsFault, IsNewOrMeant, IsRead, IsSmall, IsThere, IsUnsound, around_in, fault_of, fault_of_check, found_in, meant_in, read_in, reading_in, reading_of, referent_of, said}
@@ -50,7 +50,7 @@ pub use Rattle.w16_loading.proofs.Absences.{none_gone, same_values}
 pub use Rattle.w16_loading.proofs.Bound.{world_without}
 pub use Rattle.w16_loading.proofs.Cascade.{gone_with, went}
 pub use Rattle.w16_loading.proofs.CodeLoads.{sound_values}
-pub use Rattle.w16_loading.proofs.Common.{All, All-from_Each, All-repeated, AllPairs-from_EachPair, AllZip, AllZip-left, Allocates, Answer, AnyCloses, AnyFetches, AnyLoadsBy, AreHandles, AreNew, AreSlots, Around, Bool, BuiltIn, Choice, Closes, Closure, Each-at, Each-from, Each-from_All, EachPair, EachPair-from_AllPairs, Failure, Far, FetchesFewest, Filling, Fills, FillsOne, FinMap, Format, Fulfils, Given, GivesAny, GivesAnyFewest, Giving, Go, Handles, Heap, IfOk, IfSome, Import, ImportName, InTurn, Internal, InternalEntry, IsChoice, IsFormat, IsFreeModule, IsFreeSlot, IsHeap, IsItsFiles, IsKeptOrDiscarded, IsModuleFile, IsNew, IsObjectOf, IsOwnedSize, IsSegmentData, IsSomeAnd, IsTrue, List, Loaded, LoadingWorld, Loads, LoadsBy, LoadsFile, LoadsNew, Lookup, MatchOption, MatchResult, Meant, Member, Module, ModuleFile, Modules, Named, New, Object, Read, Refused, Request, Resource, Says, Segment, SegmentData, Tables, Target, There, [], address_at, after_use, after_write, all_slots, and_parts, ap, append-nil, append_assoc, are_sound, arith, around, begun, bound, bytes_at, cases_Bool, cases_eq, cond, count_by, discarded, discards_needed, dll, drop, drop_all, eq-eqb, false, false≢true, fills, fills_from, fills_of, filter, flat_map, fold, followed, free_slots, get_or, given, given_from, handle_meant, handle_named, handle_of, heap_without, if◌then◌else◌, imported, importers_among, imports, inl, inr, inserted_here, inserted_other, is_fixed, is_idle, is_in_order, is_member, is_member-true, is_of_device, is_of_read, is_owned, is_some, left, length, length-drop, length-map, length-take-le, list_all, ltb-false, ltb-true, map, member_filter, module_at, module_in, name_of, named, nat_cmp, nat_cmp-IsAntisymmetric, nat_cmp_total, nat_lt, ne_eqb, not, numbered, object_at, option_map, option_or, outcome_of, owned_at, pairs_filter, position, position_or_len, range_with_len, read_of, refl, refusal_of, replicate, revival_options, rounded_size, same_map, segment_among, segment_bytes, segments_in, segments_of, slice_get, slice_get-get_or, slice_index, slice_index_or, slot_of_handle, subst, suc, sum_by-cons, sym, take, taken_here, taken_other, targets_of, true, true-is_member, unbound, undone, unwrap_or, usage_with, used_again, used_less, with_files, with_heap, with_modules, with_newest, with_object, with_segment, without_module, without_objects, without_values, zero, zip, ℕ, ◌%◌, ◌&&◌, ◌++◌, ◌+◌, ◌-◌, ◌/◌, ◌<◌, ◌==◌, ◌||◌, ◌∙◌, ◌∷◌, ◌≡◌, ◌≢◌, ◌≤◌, ◌⊎◌}
+pub use Rattle.w16_loading.proofs.Common.{All, All-from_Each, All-repeated, AllPairs-from_EachPair, AllZip, AllZip-left, Allocates, Answer, AnyCloses, AnyFetches, AnyLoadsBy, AreHandles, AreNew, AreSlots, Around, Bool, BuiltIn, Choice, Closes, Closure, Each-at, Each-from, Each-from_All, EachPair, EachPair-from_AllPairs, Failure, Far, FetchesFewest, Filling, Fills, FillsOne, FinMap, Format, Fulfils, Given, GivesAny, GivesAnyFewest, Giving, Go, Handles, Heap, IfOk, IfSome, Import, ImportName, InTurn, Internal, InternalEntry, IsChoice, IsFormat, IsFreeModule, IsFreeSlot, IsHeap, IsItsFiles, IsKeptOrDiscarded, IsModuleFile, IsNew, IsObjectOf, IsOwnedSize, IsSegmentData, IsSomeAnd, IsTrue, List, Loaded, LoadingWorld, Loads, LoadsBy, LoadsFile, LoadsNew, Lookup, MatchOption, MatchResult, Meant, Member, Module, ModuleFile, Modules, Named, New, Object, Read, Refused, Request, Resource, Says, Segment, SegmentData, Tables, Target, There, [], address_at, after_use, after_write, all_slots, and_parts, ap, append-nil, append_assoc, are_sound, arith, around, attributes_of, begun, bound, bytes_at, cases_Bool, cases_eq, cond, count_by, discarded, discards_needed, dll, drop, drop_all, eq-eqb, false, false≢true, fills, fills_from, fills_of, filter, flat_map, fold, followed, free_slots, get_or, given, given_from, handle_meant, handle_named, handle_of, heap_without, if◌then◌else◌, imported, importers_among, imports, inl, inr, inserted_here, inserted_other, is_fixed, is_idle, is_in_order, is_member, is_member-true, is_of_device, is_of_read, is_owned, is_some, left, length, length-drop, length-map, length-take-le, list_all, ltb-false, ltb-true, map, member_filter, module_at, module_in, name_of, named, nat_cmp, nat_cmp-IsAntisymmetric, nat_cmp_total, nat_lt, ne_eqb, not, numbered, object_at, option_map, option_or, outcome_of, owned_at, pairs_filter, position, position_or_len, range_with_len, read_of, refl, refusal_of, replicate, revival_options, rounded_size, same_map, segment_among, segment_bytes, segments_in, segments_of, slice_get, slice_get-get_or, slice_index, slice_index_or, slot_of_handle, subst, suc, sum_by-cons, sym, take, taken_here, taken_other, targets_of, true, true-is_member, unbound, undone, unwrap_or, usage_with, used_again, used_less, with_files, with_heap, with_modules, with_newest, with_object, with_segment, without_module, without_objects, without_values, zero, zip, ℕ, ◌%◌, ◌&&◌, ◌++◌, ◌+◌, ◌-◌, ◌/◌, ◌<◌, ◌==◌, ◌||◌, ◌∙◌, ◌∷◌, ◌≡◌, ◌≢◌, ◌≤◌, ◌⊎◌}
 unfoldable pub use Rattle.w16_loading.proofs.Common.{file_of, is_named, repeated}
 pub use Rattle.w16_loading.proofs.Filled.{fill_law}
 pub use Rattle.w16_loading.proofs.Fillings.{filled_other}
@@ -70,12 +70,15 @@ pub use Rattle.w16_loading.specs.Modules.{free_modules, value_of, with_handles}
 pub use Rattle.w16_loading.specs.declared.FetchFault.{FetchFault}
 pub use Rattle.w16_loading.specs.declared.FetchFault.TheVariants.{Damaged, NoRoom, Store}
 pub use Rattle.w16_loading.specs.declared.TheConstants.{FIRST_MODULE, LARGEST_OWNED, MOST_MODULES, MOST_USES}
-pub use Rattle.w16_model.proofs.Common.{HasNoSlot, by_id}
+pub use Rattle.w16_model.proofs.Common.{by_id}
 pub use Rattle.w16_model.proofs.Gaps.{Each-map}
 pub use Rattle.w16_model.proofs.KeptRest.{at_once}
 pub use Rattle.w16_model.proofs.KindChanges.{without_out}
 pub use Rattle.w16_model.proofs.Prefixes.{filter_same}
+pub use Rattle.w16_model.proofs.Runs.{IsIn, no_owner, none_owns, slots_beside, slots_with, unowned_beside, unused_slot}
+pub use Rattle.w16_model.specs.Handles.{owner_of}
 pub use Rattle.w16_model.specs.Owned.{Revives, TakesOwned}
+pub use Rattle.w16_model.specs.declared.Attributes.{Attributes}
 pub use Rattle.w16_model.specs.declared.Kind.{Kind}
 pub use Rattle.w16_model.specs.declared.Kind.TheVariants.{Discardable, Fixed, Moveable}
 pub use Rattle.w16_model.specs.declared.Owned.{Owned}

@@ -30,7 +30,7 @@ module _ (old new : Handles) (kind : Kind) (owned : Owned) (handle s : ℕ) (g :
 
   pub segment_taken : kind ≡ g.kind → owned ≡ record { size = g.size; code = g.is_code } → (rest : LoadingWorld) → with_handles rest new ≡ with_segment (with_handles rest old) (s, g)
   segment_taken same owns rest =
-      ap (with_handles rest) (t.rest ∙ (λ i. record old { heap = (t.entered.entered ∙ object) i; attributes = finmap.insert old.attributes (here i) (record { shared = false; owned = Some (owns i) }) }))
+      ap (with_handles rest) (t.rest ∙ (λ i. record old { heap = (t.entered.entered ∙ object) i; attributes = finmap.insert old.attributes (here i) (record { shared = false; owned = Some (owns i); slots = 1 }) }))
     where
       object : with_object old.heap t.slot (record { kind = kind; locks = 0; bytes = None }) ≡ with_object old.heap s (record { kind = g.kind; locks = 0; bytes = None })
       object = λ i. with_object old.heap (here i) (record { kind = same i; locks = 0; bytes = None })

@@ -1,6 +1,7 @@
 -- Segments that get objects in free slots, one after another.
-use Rattle.w16_loader.proofs.Common.{◌≡◌, ◌≢◌, ℕ, zero, suc, ◌+◌, ◌<◌, ◌≤◌, inl, inr, ◌⊎◌, Bool, true, false, cond, not, IsTrue, List, [], ◌∷◌, ◌++◌, length, map, fold, filter, zip, slice_get, Option, Some, None, is_some, refl, sym, ap, ◌∙◌, subst, arith, range_with_len, false≢true, cases_eq, FIRST_SLOT, HasNoSlot, is_member, Object, object_at, Handles, AreHandles, IsFreeSlot, Member, EachPair, Each-map, Each-from, All-from_Each, member_filter, true-is_member, inserted_here, inserted_other, filter_same, Segment, LoadingWorld, Modules, free_slots, with_segment, without_objects, zipped, taken_back_law, Takes}
+use Rattle.w16_loader.proofs.Common.{◌≡◌, ◌≢◌, ℕ, zero, suc, ◌+◌, ◌<◌, ◌≤◌, inl, inr, ◌⊎◌, Bool, true, false, cond, not, IsTrue, List, [], ◌∷◌, ◌++◌, length, map, fold, filter, zip, slice_get, Option, Some, None, is_some, refl, sym, ap, ◌∙◌, subst, arith, range_with_len, false≢true, cases_eq, FIRST_SLOT, HasNoSlot, is_member, Attributes, FinMap, nat_cmp, IsIn, owner_of, no_owner, none_owns, slots_beside, slots_with, unowned_beside, Handles, AreHandles, IsFreeSlot, Member, EachPair, Each-map, Each-from, All-from_Each, member_filter, true-is_member, filter_same, Segment, LoadingWorld, Modules, free_slots, attributes_of, with_segment, without_objects, zipped, taken_back_law, Takes}
 use Rattle.std.specs.List.{AllByRecursion as Each}
+use Rattle.std.specs.FinMap as finmap
 
 -- What all of them leave, and some behind others.
 
@@ -19,28 +20,32 @@ takes_beside modules (x ∷ xs) a b t = (t.0, takes_beside modules xs (with_segm
 
 -- The slots were free, and they differ.
 
-none_some : {X : Type 0} (x : X) → ◌≡◌ {A = Option X} None (Some x) → ⊥
-none_some x e = cc
+-- what has no owner beside a new run of one had none before, if that run's slot had none
+module _ (m : FinMap nat_cmp Attributes) (first : ℕ) (a : Attributes) (one : a.slots ≡ 1) where
+  own : owner_of (finmap.insert m first a) first ≡ None → ⊥
+  own none = no_owner (finmap.insert m first a) first none first (omega arith, omega (arith, one, slots_with m first a first refl))
 
-free_before : (a : LoadingWorld) (x : ℕ × Segment) (q : ℕ) → IsFreeSlot (with_segment a x).handles q → IsFreeSlot a.handles q × (x.0 ≢ q)
-free_before a x q f = turn (cases_eq q x.0)
-  where
-    put : Object
-    put = record { kind = x.1.kind; locks = 0; bytes = None }
+  unowned_before : (s : ℕ) → owner_of m first ≡ None → owner_of (finmap.insert m first a) s ≡ None → owner_of m s ≡ None
+  unowned_before s free none = none_owns m s (λ q lies. elim (cases_eq q first) [
+    | inl e ↦ let own : IsIn m s first = subst (IsIn m s) e lies in no_owner m first free first (omega arith, omega (arith, own.0, own.1))
+    | inr d ↦ no_owner (finmap.insert m first a) s none q (lies.0, omega (arith, lies.1, slots_beside m first a q d))
+  ])
 
-    turn : (q ≡ x.0) ⊎ (q ≢ x.0) → IsFreeSlot a.handles q × (x.0 ≢ q)
-    turn (inl e) = absurd (none_some put (sym f.1 ∙ inserted_here a.handles.heap.objects x.0 put q e))
-    turn (inr d) = ((f.0, sym (inserted_other a.handles.heap.objects x.0 put q d) ∙ f.1), λ e. d (sym e))
+free_before : (a : LoadingWorld) (x : ℕ × Segment) (q : ℕ) → IsFreeSlot a.handles x.0 → IsFreeSlot (with_segment a x).handles q → IsFreeSlot a.handles q × (x.0 ≢ q)
+free_before a x q free f = (
+  (f.0, unowned_before a.handles.attributes x.0 (attributes_of x.1) refl q free.1 f.1),
+  λ e. own a.handles.attributes x.0 (attributes_of x.1) refl (subst (λ s. owner_of (with_segment a x).handles.attributes s ≡ None) (sym e) f.1),
+)
 
 pub slots_free : (xs : List (ℕ × Segment)) (a b : LoadingWorld) → Takes a xs b → Each (λ x. IsFreeSlot a.handles x.0) xs
 slots_free [] a b t = tt
 slots_free (x ∷ xs) a b t =
-    (t.0, Each-map (λ (y : ℕ × Segment). IsFreeSlot (with_segment a x).handles y.0) (λ (y : ℕ × Segment). IsFreeSlot a.handles y.0) (λ y f. (free_before a x y.0 f).0) xs (slots_free xs (with_segment a x) b t.1))
+    (t.0, Each-map (λ (y : ℕ × Segment). IsFreeSlot (with_segment a x).handles y.0) (λ (y : ℕ × Segment). IsFreeSlot a.handles y.0) (λ y f. (free_before a x y.0 t.0 f).0) xs (slots_free xs (with_segment a x) b t.1))
 
 pub slots_apart : (xs : List (ℕ × Segment)) (a b : LoadingWorld) → Takes a xs b → EachPair (λ x y. x.0 ≢ y.0) xs
 slots_apart [] a b t = tt
 slots_apart (x ∷ xs) a b t =
-    (Each-map (λ (y : ℕ × Segment). IsFreeSlot (with_segment a x).handles y.0) (λ (y : ℕ × Segment). x.0 ≢ y.0) (λ y f. (free_before a x y.0 f).1) xs (slots_free xs (with_segment a x) b t.1), slots_apart xs (with_segment a x) b t.1)
+    (Each-map (λ (y : ℕ × Segment). IsFreeSlot (with_segment a x).handles y.0) (λ (y : ℕ × Segment). x.0 ≢ y.0) (λ y f. (free_before a x y.0 t.0 f).1) xs (slots_free xs (with_segment a x) b t.1), slots_apart xs (with_segment a x) b t.1)
 
 -- Each leaves one free slot fewer.
 
@@ -73,16 +78,23 @@ module _ (p less : ℕ → Bool) (q : ℕ) (has : p q ≡ true) (lacks : less q 
           ∙ ap (λ b. length (cond {A = List ℕ} b (a ∷ filter less rest) (filter less rest)) + 1) (sym (others a d))
 
 abbrev is_free : LoadingWorld → ℕ → Bool
-is_free world slot = not (is_some (object_at world.handles.heap slot))
+is_free world slot = not (is_some (owner_of world.handles.attributes slot))
+
+both_none : {X Y : Type 0} (p : Option X) (q : Option Y) → (p ≡ None → q ≡ None) → (q ≡ None → p ≡ None) → is_some p ≡ is_some q
+both_none None None h k = refl
+both_none None (Some y) h k = let e = h refl in cc
+both_none (Some x) None h k = let e = k refl in cc
+both_none (Some x) (Some y) h k = refl
 
 one_taken : (a : LoadingWorld) (x : ℕ × Segment) → IsFreeSlot a.handles x.0 → length (free_slots a.handles) ≡ length (free_slots (with_segment a x).handles) + 1
 one_taken a x f = one_fewer (is_free a) (is_free (with_segment a x)) x.0 (ap (λ p. not (is_some p)) f.1)
-    (ap (λ p. not (is_some p)) (inserted_here a.handles.heap.objects x.0 put x.0 refl))
-    (λ k d. ap (λ p. not (is_some p)) (inserted_other a.handles.heap.objects x.0 put k d))
+    (taken (owner_of (with_segment a x).handles.attributes x.0) (own a.handles.attributes x.0 (attributes_of x.1) refl))
+    (λ k d. ap not (both_none (owner_of (with_segment a x).handles.attributes k) (owner_of a.handles.attributes k) (unowned_before a.handles.attributes x.0 (attributes_of x.1) refl k f.1) (unowned_beside a.handles.attributes x.0 (attributes_of x.1) k refl d)))
     a.handles.slots FIRST_SLOT f.0.0 f.0.1
   where
-    put : Object
-    put = record { kind = x.1.kind; locks = 0; bytes = None }
+    taken : (p : Option ℕ) → (p ≡ None → ⊥) → not (is_some p) ≡ false
+    taken None h = absurd (h refl)
+    taken (Some q) h = refl
 
 pub fewer_slots : (xs : List (ℕ × Segment)) (a b : LoadingWorld) → Takes a xs b → length (free_slots a.handles) ≡ length (free_slots b.handles) + length xs
 fewer_slots [] a b t = ap (λ (w : LoadingWorld). length (free_slots w.handles)) (sym t) ∙ omega arith
@@ -97,12 +109,12 @@ none_in (x ∷ xs) out = absurd (out x (inl refl))
 
 pub no_free_slots : (h : Handles) → HasNoSlot h → length (free_slots h) ≡ 0
 no_free_slots h none = none_in (free_slots h) (λ q m.
-    let r : Member q (range_with_len FIRST_SLOT h.slots) × IsTrue (not (is_some (object_at h.heap q))) = member_filter (λ slot. not (is_some (object_at h.heap slot))) (range_with_len FIRST_SLOT h.slots) q m in
-    none q (in_range h.slots FIRST_SLOT q r.0, absent (object_at h.heap q) r.1))
+    let r : Member q (range_with_len FIRST_SLOT h.slots) × IsTrue (not (is_some (owner_of h.attributes q))) = member_filter (λ slot. not (is_some (owner_of h.attributes slot))) (range_with_len FIRST_SLOT h.slots) q m in
+    none q (in_range h.slots FIRST_SLOT q r.0, absent (owner_of h.attributes q) r.1))
   where
-    absent : (p : Option Object) → IsTrue (not (is_some p)) → p ≡ None
+    absent : (p : Option ℕ) → IsTrue (not (is_some p)) → p ≡ None
     absent None t = refl
-    absent (Some o) t = absurd (false≢true t)
+    absent (Some first) t = absurd (false≢true t)
 
 -- Slots of one module.
 

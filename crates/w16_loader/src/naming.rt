@@ -2,7 +2,7 @@
 ghost use Rattle.std.specs.Prelude.{◌≡◌, ◌≢◌, ◌≤◌, ◌<◌, ◌++◌, ◌∷◌, [], ℕ, List, length, map, zip, take, All, AllPairs, IsTrue, IsFalse, IfOk, IfErr, OnOk, OnErr, IfSome, IfNone, slice_index_or};
 ghost use Rattle.std.specs.FinMap as finmap;
 ghost use Rattle.std.specs.List.{AllZip};
-ghost use Rattle.w16_model.specs.Calls.{HasNoSlot};
+ghost use Rattle.w16_global.specs.Owned.{HasNoSlot};
 ghost use Rattle.w16_model.specs.Discards.{is_member};
 ghost use Rattle.w16_model.specs.Handles.{IsFreeSlot};
 ghost use Rattle.w16_ne.specs.Segments.{IsSized};

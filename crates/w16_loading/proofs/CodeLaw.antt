@@ -1,7 +1,7 @@
 -- The code that a script reads is always its file's, relocated: after each step of each family.
 use Rattle.w16_loading.proofs.Common.{ℕ, ◌+◌, Option, Some, None, sym, subst, Format, LoadingWorld, with_heap, FillsOne, Failure, InTurn, is_of_device, Closure, around, named, fills, Answer, Loads, Fulfils, after_use, undone, left, Fetches, IsLoadingWorld, IsOfFiles, CodeLaw}
 use Rattle.w16_loading.proofs.Fillings.{all_as_any}
-use Rattle.w16_loading.proofs.Named.{named_handles}
+use Rattle.w16_loading.proofs.Named.{named_heap}
 use Rattle.w16_loading.proofs.RefusedLoad.{undone_discards}
 use Rattle.w16_loading.proofs.KeptBytes.{kept_bytes}
 use Rattle.w16_loading.proofs.KeptCode.{code_kept, fetched_code}
@@ -22,7 +22,7 @@ module _ (format : Format) (old : LoadingWorld) (is : IsLoadingWorld old) (good 
       turn (Some failure) filled =
           let refused : LoadingWorld = undone old f.choice f.heap in
           code_kept format old refused (heap_kept format old refused.handles.heap (λ q t. kept_bytes old.handles.heap refused.handles.heap q ((undone_discards old is closure f.choice f.is_choice (Some failure) f.heap
-          (all_as_any is_of_device (named old closure f.choice).handles.heap f.heap (fills old closure f.choice) (Some failure) (named_handles old closure f.choice is.handles f.is_choice).heap filled)).objects q))) good
+          (all_as_any is_of_device (named old closure f.choice).handles.heap f.heap (fills old closure f.choice) (Some failure) (named_heap old closure f.choice is.handles f.is_choice) filled)).objects q))) good
 
   parts : Parts (Fetches format) (Loads format) (λ slice. Unit {0}) old Good
   parts = record {

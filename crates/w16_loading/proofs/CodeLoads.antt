@@ -1,8 +1,8 @@
 -- A load gives code the bytes that its files say, and leaves all other code as it was.
-use Rattle.w16_loading.proofs.Common.{◌≡◌, ◌≢◌, ℕ, ◌-◌, ◌<◌, inl, inr, ◌⊎◌, true, false, cond, ◌&&◌, List, [], ◌∷◌, ◌++◌, length, fold, map, slice_get, slice_index_or, Option, Some, None, IfSome, IsSomeAnd, is_some, option_map, unwrap_or, Ok, MatchResult, refl, sym, ap, ◌∙◌, subst, arith, ne_eqb, AllZip, list_all, false≢true, cases_eq, length-map, Heap, bytes_at, Member, EachPair, Each-at, EachPair-from_AllPairs, inserted_here, inserted_other, bytes_in, Format, ModuleFile, Segment, SegmentData, Far, Target, targets_of, numbered, Owned, LoadingWorld, Module, IsSegmentOf, module_at, with_heap, FillsOne, Filling, InTurn, is_of_device, Around, Closure, Found, reading, are_sound, followed, after, begun, dll, around, Read, Choice, IsChoice, Given, all_slots, given, segments_of, with_segment, bound, named, fills, read_of, segment_bytes, is_code, IsLoadingWorld, CodeIsItsFiles, IsItsFiles, ModulesAreItsFiles, IsOfFiles}
+use Rattle.w16_loading.proofs.Common.{◌≡◌, ◌≢◌, ℕ, ◌-◌, ◌<◌, inl, inr, ◌⊎◌, true, false, cond, ◌&&◌, List, [], ◌∷◌, ◌++◌, length, fold, map, slice_get, slice_index_or, Option, Some, None, IfSome, IsSomeAnd, is_some, option_map, unwrap_or, Ok, MatchResult, refl, sym, ap, ◌∙◌, subst, arith, ne_eqb, AllZip, list_all, false≢true, cases_eq, length-map, Heap, bytes_at, Member, EachPair, Each-at, EachPair-from_AllPairs, inserted_here, inserted_other, bytes_in, Format, ModuleFile, Segment, SegmentData, Far, Target, targets_of, numbered, Owned, LoadingWorld, Module, IsSegmentOf, module_at, with_heap, FillsOne, Filling, InTurn, is_of_device, Around, Closure, Found, reading, are_sound, followed, after, begun, dll, around, Read, Choice, IsChoice, Given, all_slots, given, segments_of, with_segment, bound, named, fills, read_of, segment_bytes, is_code, IsLoadingWorld, CodeIsItsFiles, IsItsFiles, ModulesAreItsFiles, IsOfFiles, unused_slot}
 use Rattle.std.specs.List.{AllByRecursion as Each}
 use Rattle.w16_loading.proofs.Undone.{chosen, fold_named, same_owned}
-use Rattle.w16_loading.proofs.Named.{named_handles, free_slot}
+use Rattle.w16_loading.proofs.Named.{named_heap, free_slot}
 use Rattle.w16_loading.proofs.Given.{place_member, one_place, index_place, given_found, given_slot, given_slots_differ, one_given, new_or_old, IsFilledBy, filled_by, filled_chosen}
 use Rattle.w16_loading.proofs.Readings.{read_by, IsRead, reading_is, follow_cases, after_keeps}
 use Rattle.w16_loading.proofs.KeptCode.{IsFilled, image_of, read_in, fills_bytes}
@@ -79,14 +79,14 @@ module _ (format : Format) (old : LoadingWorld) (is : IsLoadingWorld old) (closu
       (ap (λ f. read_in format f g.found.file) files ∙ of_file.0, of_file.1)
 
   bytes_are : (q : ℕ) → IfSome (bytes_at heap q) (λ b. (bytes_at (named old closure choice).handles.heap q ≡ Some b) ⊎ IsFilled (fills old closure choice) q b)
-  bytes_are q = fills_bytes is_of_device (named old closure choice).handles.heap heap (fills old closure choice) None (named_handles old closure choice is.handles good).heap filled q
+  bytes_are q = fills_bytes is_of_device (named old closure choice).handles.heap heap (fills old closure choice) None (named_heap old closure choice is.handles good) filled q
 
   -- code of modules that were there
   old_code : CodeIsItsFiles format old → (slot handle number : ℕ) (m : Module) → IsSegmentOf old slot handle number m → is_code new slot ≡ true → IfSome (bytes_at heap slot) (λ b. segment_bytes format new m number ≡ Some b)
   old_code code slot handle number m s coded = turn (bytes_at heap slot) (bytes_are slot)
     where
       out : Member slot (all_slots choice) → ⊥
-      out k = false≢true (sym (ap is_some (free_slot old closure choice good slot k).1) ∙ segment_object old is slot handle number m s)
+      out k = false≢true (sym (ap is_some (unused_slot old.handles is.handles slot (free_slot old closure choice good slot k))) ∙ segment_object old is slot handle number m s)
 
       apart : (x : ℕ × Segment) → Member x (segments_of gs) → slot ≢ x.0
       apart x k e = out (subst (λ q. Member q (all_slots choice)) (sym e) (chosen 0 closure.found choice.handles choice.slots x k))
@@ -110,7 +110,7 @@ module _ (format : Format) (old : LoadingWorld) (is : IsLoadingWorld old) (closu
       mine = place_member g.slots (number - 1) slot at
 
       absent : bytes_at (named old closure choice).handles.heap slot ≡ None
-      absent = still_absent old (segments_of gs) slot (ap bytes_in (free_slot old closure choice good slot (given_slot 0 closure.found choice.handles choice.slots g slot member mine)).1)
+      absent = still_absent old (segments_of gs) slot (ap bytes_in (unused_slot old.handles is.handles slot (free_slot old closure choice good slot (given_slot 0 closure.found choice.handles choice.slots g slot member mine))))
 
       imaged : (x : Filling) → IsFilledBy module_of g x → slot ≡ x.slot → segment_bytes format new (module_of g) number ≡ Some x.bytes
       imaged x h e =

@@ -1,5 +1,5 @@
 -- The steps of the families, but for loads, keep code as its files say it.
-use Rattle.w16_loading.proofs.Common.{◌≡◌, ◌≢◌, ℕ, ◌+◌, ◌-◌, inl, inr, ◌⊎◌, Bool, true, false, cond, not, ◌==◌, nat_lt, List, [], ◌∷◌, length, Option, Some, None, option_map, unwrap_or, refl, sym, ap, ◌∙◌, subst, nat_cmp, false≢true, cases_Bool, cases_eq, FarFault, BadSelector, NotPresent, Limit, put_part, is_member, Heap, object_at, bytes_at, after_touch, slot_of_selector, IsFreeSlot, global_lock, far_fault, far_slot, after_write, get-update_other, inserted_here, inserted_other, taken_here, taken_other, bytes_in, entered_heap, FetchFault, Format, Resource, Owned, LoadingWorld, Load, Module, Modules, module_at, module_in, with_heap, Loaded, BuiltIn, without_objects, Fetches, is_code, far_read, far_write, Go, Frees, used_less, without_module, without_orphans, is_left_over, Attributes, owned_in, refuses_write, attributes_for, with_resource, locked, IsLoadingWorld, IsOfFiles}
+use Rattle.w16_loading.proofs.Common.{◌≡◌, ◌≢◌, ℕ, ◌+◌, ◌-◌, inl, inr, ◌⊎◌, Bool, true, false, cond, not, ◌==◌, List, [], ◌∷◌, length, Option, Some, None, option_map, unwrap_or, refl, sym, ap, ◌∙◌, subst, nat_cmp, false≢true, cases_Bool, cases_eq, FarFault, BadSelector, NotPresent, Limit, put_part, is_member, Heap, object_at, bytes_at, after_touch, IsFreeSlot, global_lock, far_fault, far_slot, after_write, get-update_other, inserted_here, inserted_other, taken_here, taken_other, bytes_in, entered_heap, FetchFault, Format, Resource, Owned, LoadingWorld, Load, Module, Modules, module_at, module_in, with_heap, Loaded, BuiltIn, without_objects, Fetches, is_code, far_read, far_write, Go, Frees, used_less, without_module, without_orphans, is_left_over, Attributes, owned_in, refuses_write, attributes_for, with_resource, locked, IsLoadingWorld, IsOfFiles, unused_slot, Part, part_of_selector, is_past, far_at}
 use Rattle.std.specs.FinMap as finmap
 use Rattle.w16_loading.proofs.OwnedKept.{locked as owned_locked}
 use Rattle.w16_loading.proofs.Undone.{retained}
@@ -9,7 +9,7 @@ use Rattle.w16_loading.proofs.Bound.{world_used_less, world_without}
 use Rattle.w16_loading.proofs.Stepping.{without_load}
 use Rattle.w16_loading.proofs.FarCases.{read_cases, write_cases}
 use Rattle.w16_loading.proofs.KeptBytes as kept
-use Rattle.w16_loading.proofs.KeptBytes.{KeepsBytes, same_bytes, same_object, no_object, no_bytes}
+use Rattle.w16_loading.proofs.KeptBytes.{KeepsBytes, same_object, no_object, no_bytes}
 use Rattle.w16_loading.proofs.KeptCode.{KeepsCode, SameSource, FetchesCode, code_kept, same_source, as_it_was, fetched_code}
 
 module _ (format : Format) where
@@ -55,26 +55,26 @@ module _ (format : Format) where
 
   -- whether code is written to is asked of the object that is written to
   asked : (world : LoadingWorld) (selector offset n : ℕ) → far_fault world.handles selector offset n ≡ None → refuses_write world.handles selector ≡ is_code world (far_slot world.handles selector)
-  asked world selector offset n = turn (slot_of_selector world.handles selector)
+  asked world selector offset n = turn (part_of_selector world.handles selector)
     where
-      turn : (p : Option ℕ) → ◌≡◌ {A = Option FarFault} (elim p [
+      turn : (p : Option Part) → ◌≡◌ {A = Option FarFault} (elim p [
         | None ↦ Some BadSelector
-        | Some slot ↦ elim (bytes_at world.handles.heap slot) [
+        | Some p ↦ elim (bytes_at world.handles.heap p.slot) [
           | None ↦ Some NotPresent
-          | Some bytes ↦ cond (nat_lt (length bytes) (offset + n)) (Some Limit) None
+          | Some bytes ↦ cond (is_past (length bytes) p (offset + n)) (Some Limit) None
         ]
-      ]) None → unwrap_or (option_map (is_code world) p) false ≡ is_code world (unwrap_or p 0)
+      ]) None → unwrap_or (option_map (λ (p : Part). is_code world p.slot) p) false ≡ is_code world (unwrap_or p (record { slot = 0; number = 0 })).slot
       turn None e = cc
-      turn (Some slot) e = refl
+      turn (Some p) e = refl
 
   pub write_keeps : (selector offset : ℕ) (slice : List ℕ) (world : LoadingWorld) → KeepsCode format world (far_write selector offset slice world).1
   write_keeps selector offset slice world = write_cases (KeepsCode format world) world (as_before world) selector offset slice
-      (λ f e. heap_kept world (after_touch (after_write world.handles.heap (far_slot world.handles selector) offset slice) (far_slot world.handles selector)) (others (sym (asked world selector offset (length slice) e) ∙ f)))
+      (λ f e. heap_kept world (after_touch (after_write world.handles.heap (far_slot world.handles selector) (far_at world.handles selector offset) slice) (far_slot world.handles selector)) (others (sym (asked world selector offset (length slice) e) ∙ f)))
     where
       others : is_code world (far_slot world.handles selector) ≡ false → (q : ℕ) → is_code world q ≡ true
-          → KeepsBytes world.handles.heap (after_touch (after_write world.handles.heap (far_slot world.handles selector) offset slice) (far_slot world.handles selector)) q
-      others f q t = same_object world.handles.heap (after_touch (after_write world.handles.heap (far_slot world.handles selector) offset slice) (far_slot world.handles selector)) q
-          (get-update_other world.handles.heap.objects (far_slot world.handles selector) (λ o. record o { bytes = option_map (λ bytes. put_part bytes offset slice) o.bytes }) q (λ e. false≢true (sym f ∙ ap (is_code world) (sym e) ∙ t)))
+          → KeepsBytes world.handles.heap (after_touch (after_write world.handles.heap (far_slot world.handles selector) (far_at world.handles selector offset) slice) (far_slot world.handles selector)) q
+      others f q t = same_object world.handles.heap (after_touch (after_write world.handles.heap (far_slot world.handles selector) (far_at world.handles selector offset) slice) (far_slot world.handles selector)) q
+          (get-update_other world.handles.heap.objects (far_slot world.handles selector) (λ o. record o { bytes = option_map (λ bytes. put_part bytes (far_at world.handles selector offset) slice) o.bytes }) q (λ e. false≢true (sym f ∙ ap (is_code world) (sym e) ∙ t)))
 
   -- what is fetched in a world is its image
   pub world_fetches : (old : LoadingWorld) → IsLoadingWorld old → (slot : ℕ) → FetchesCode format old slot
@@ -189,7 +189,7 @@ module _ (format : Format) where
       not_code t = false≢true (sym (ap (λ p. unwrap_or (option_map (λ (o : Owned). o.code) p) false) (ap owned_in (inserted_here old.handles.attributes slot (attributes_for r) slot refl))) ∙ t)
 
       fetched : KeepsCode format made next
-      fetched = fetched_code format made slot fault next (entered_heap old.handles.heap is.handles.heap slot r.kind free.1) (λ h number m bytes s coded image. absurd (not_code coded)) f
+      fetched = fetched_code format made slot fault next (entered_heap old.handles.heap is.handles.heap slot r.kind (unused_slot old.handles is.handles slot free)) (λ h number m bytes s coded image. absurd (not_code coded)) f
 
   -- a lock
   pub locked_code : (old : LoadingWorld) (handle : ℕ) → Good old → Good (locked old handle).1

@@ -40,20 +40,21 @@ pub use Rattle.w16_loading.specs.Resizes.ResizeCommand.{GlobalDiscard, GlobalReA
 pub use Rattle.w16_loading.specs.Resource.{AnswersNone, LoadsNewResource, LoadsResource, LocksResource, attributes_for, free_resource, is_too_long, load_of, loaded_again, lock_outcome, locked, resource_at, resource_outcome, slot_of_resource, with_resource}
 pub use Rattle.w16_loading.specs.declared.FetchFault.{FetchFault}
 pub use Rattle.w16_loading.specs.declared.FetchFault.TheVariants.{Damaged, NoRoom, Store}
-pub use Rattle.w16_loading.specs.declared.TheConstants.{FIRST_MODULE, MOST_MODULES, MOST_USES}
+pub use Rattle.w16_loading.specs.declared.TheConstants.{FIRST_MODULE, LARGEST_OWNED, MOST_MODULES, MOST_USES}
 pub use Rattle.w16_model.proofs.Accesses.{Reached, reached}
 pub use Rattle.w16_model.proofs.Bystanders.{bystander, kept_or_discarded}
-pub use Rattle.w16_model.proofs.CallLaws.{contents}
+pub use Rattle.w16_model.proofs.CallLaws.{contents, same_slot}
 pub use Rattle.w16_model.proofs.CallOutcomes.{call_outcome, outcome}
-pub use Rattle.w16_model.proofs.Common.{All, Allocates, AllocatesFewest, AreHandles, AreNew, Asked, Bool, Call, Calls, FarAnswer, Fill, FinMap, GlobalLock, HandleCommand, Handles, Heap, IfOk, IfSome, IsAbout, IsAllocated, IsCompacted, IsCounted, IsDiscarded, IsEntered, IsFreeSlot, IsFreed, IsHeap, IsKeptOrDiscarded, IsLocked, IsModified, IsNew, IsNewest, IsOldest, IsResized, IsSame, IsSlot, IsSomeAnd, IsTrue, IsUnlocked, IsUnmoved, KeepsContents, KeepsOthers, List, MatchBool, MatchOption, Object, Outcome, ReAllocs, Request, Settles, StandsStill, Walked, Write, [], absent, after_touch, after_write, and_parts, ap, arith, attributes_asked, blocks, bytes_at, cases_Bool, cases_eq, cond, discarded, discards_needed, drop, eligible, entries_sorted, eq-eqb, eqb-true, false, false≢true, far_bytes, far_fault, far_slot, filter, find, fold, get-empty, get-entries, get_or, global_lock, handle_in, handle_of, if◌then◌else◌, inl, inr, is_fixed, is_in_order, is_member, is_owned, is_pinned_object, is_some, length, length-take-le, locks_at, ltb-false, ltb-true, map, nat_cmp, nat_cmp_total, nat_lt, ne_eqb, not, not-true, object_at, offset_in, option_map, owns, part, put_part, range_with_len, refl, refuses_write, replicate, rounded_size, selector_in, selector_of, slice_get, slot_of_handle, slot_of_selector, stays_for, subst, suc, sum_by-cons, sym, take, true, unwrap_or, update, with_newest, with_object, with_ordered, zero, ℕ, ◌&&◌, ◌++◌, ◌+◌, ◌-◌, ◌/◌, ◌<◌, ◌==◌, ◌||◌, ◌∙◌, ◌∷◌, ◌≡◌, ◌≢◌, ◌≤◌, ◌⊎◌}
+pub use Rattle.w16_model.proofs.Common.{All, Allocates, AllocatesFewest, AreHandles, AreNew, AreRuns, Asked, Bool, Call, Calls, FarAnswer, Fill, FinMap, GlobalLock, HandleCommand, Handles, Heap, IfOk, IfSome, IsAbout, IsAllocated, IsCompacted, IsCounted, IsDiscarded, IsEntered, IsFreeRun, IsFreeSlot, IsFreed, IsHeap, IsKeptOrDiscarded, IsLocked, IsModified, IsNew, IsNewest, IsOldest, IsResized, IsRun, IsSame, IsSized, IsSlot, IsSomeAnd, IsTrue, IsUnlocked, IsUnmoved, KeepsContents, KeepsOthers, List, MatchBool, MatchOption, Object, Outcome, Part, ReAllocs, Request, Resized, Settles, StandsStill, Walked, Write, [], absent, after_touch, after_write, and_parts, ap, arith, attributes_asked, blocks, bytes_at, cases_Bool, cases_eq, cond, discarded, discards_needed, drop, eligible, entries_sorted, eq-eqb, eqb-true, false, false≢true, far_at, far_bytes, far_fault, far_part, far_slot, filter, find, fold, get-empty, get-entries, get_or, global_lock, handle_in, handle_of, if◌then◌else◌, inl, inr, is_fixed, is_in_order, is_member, is_owned, is_past, is_pinned_object, is_some, length, length-take-le, locks_at, ltb-false, ltb-true, map, nat_cmp, nat_cmp_total, nat_lt, ne_eqb, not, not-true, object_at, offset_in, option_map, owns, part, part_of_selector, put_part, range_with_len, refl, refuses_write, replicate, rounded_size, selector_in, selector_of, slice_get, slot_of_handle, slot_of_selector, slots_at, slots_for, stays_for, subst, suc, sum_by-cons, sym, take, true, unwrap_or, update, with_newest, with_object, with_ordered, with_run, zero, ℕ, ◌&&◌, ◌++◌, ◌+◌, ◌*◌, ◌-◌, ◌/◌, ◌<◌, ◌==◌, ◌||◌, ◌∙◌, ◌∷◌, ◌≡◌, ◌≢◌, ◌≤◌, ◌⊎◌}
 unfoldable pub use Rattle.w16_model.proofs.Common.{repeated}
 pub use Rattle.w16_model.proofs.Discards.{is_member-true, true-is_member}
 pub use Rattle.w16_model.proofs.Fewest.{allocation_law}
 pub use Rattle.w16_model.proofs.Gaps.{All-from_Each, AllPairs-from_EachPair, Each-at, Each-from, Each-from_All, EachPair, EachPair-from_AllPairs, Member, filter_member, member_filter, pairs_filter}
 pub use Rattle.w16_model.proofs.Heaps.{IsBlockOf, found_member, get-update_other, get-update_same, keys_rise, member_found}
-pub use Rattle.w16_model.proofs.KeptHandles.{other_handles, read_handles, settled, with_absent_object, write_handles}
+pub use Rattle.w16_model.proofs.KeptHandles.{other_handles, read_handles, settled, sized_is, with_absent_object, write_handles}
 pub use Rattle.w16_model.proofs.KeptHeaps.{AreBytes, Stands, bytes_in, entered_heap, inserted_here, inserted_other, same_grained, same_placed, taken_here, taken_other, written_heap}
 pub use Rattle.w16_model.proofs.Others.{others_law}
+pub use Rattle.w16_model.proofs.Runs.{owned_slots, run_of_one, some_slots, unowned_beside, unused, unused_slot}
 pub use Rattle.w16_model.proofs.Outcomes.{address_law}
 pub use Rattle.w16_model.proofs.Parts.{All-repeated, length-put_part}
 pub use Rattle.w16_model.proofs.Prefixes.{filter_swapped}
@@ -69,7 +70,7 @@ pub use Rattle.w16_model.specs.declared.FarFault.TheVariants.{BadSelector, Limit
 pub use Rattle.w16_model.specs.declared.Kind.{Kind}
 pub use Rattle.w16_model.specs.declared.Kind.TheVariants.{Discardable, Moveable}
 pub use Rattle.w16_model.specs.declared.Owned.{Owned}
-pub use Rattle.w16_model.specs.declared.TheConstants.{FIRST_SLOT, GMEM_MOVEABLE}
+pub use Rattle.w16_model.specs.declared.TheConstants.{FIRST_SLOT, GMEM_MOVEABLE, REACH}
 pub use Rattle.w16_store.proofs.Naming.{is_named-Decides}
 unfoldable pub use Rattle.w16_store.specs.Files.{file_of}
 unfoldable pub use Rattle.w16_store.specs.Names.{is_named}

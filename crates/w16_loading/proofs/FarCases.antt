@@ -1,5 +1,5 @@
 -- A far access, by cases: it is refused, or it touches its object, and a write puts its bytes there first.
-use Rattle.w16_loading.proofs.Common.{◌≡◌, ℕ, Bool, true, false, cond, List, length, Option, Some, None, refl, FarFault, part, after_touch, Handles, refuses_write, FarAnswer, far_fault, far_slot, far_bytes, after_write, LoadingWorld, with_heap, far_read, far_write}
+use Rattle.w16_loading.proofs.Common.{◌≡◌, ℕ, Bool, true, false, cond, List, length, Option, Some, None, refl, FarFault, part, after_touch, Handles, refuses_write, FarAnswer, far_fault, far_slot, far_bytes, after_write, LoadingWorld, with_heap, far_read, far_write, far_at}
 use Rattle.w16_model.specs.declared.FarFault.TheVariants as faults
 use Rattle.w16_model.specs.Far as far_access
 
@@ -13,20 +13,20 @@ module _ (P : LoadingWorld → Type 0) (world : LoadingWorld) (good : P world) (
       turn : (p : Option FarFault) → P (record world {
         handles = (elim p as (λ _. FarAnswer × Handles) [
           | Some fault ↦ (FarAnswer.Fault fault, world.handles)
-          | None ↦ (FarAnswer.Bytes (part (far_bytes world.handles selector) offset n), record world.handles { heap = after_touch world.handles.heap (far_slot world.handles selector) })
+          | None ↦ (FarAnswer.Bytes (part (far_bytes world.handles selector) (far_at world.handles selector offset) n), record world.handles { heap = after_touch world.handles.heap (far_slot world.handles selector) })
         ]).1;
       })
       turn (Some fault) = good
       turn None = touched
 
-  pub write_cases : (slice : List ℕ) → (refuses_write world.handles selector ≡ false → far_fault world.handles selector offset (length slice) ≡ None → P (with_heap world (after_touch (after_write world.handles.heap slot offset slice) slot)))
+  pub write_cases : (slice : List ℕ) → (refuses_write world.handles selector ≡ false → far_fault world.handles selector offset (length slice) ≡ None → P (with_heap world (after_touch (after_write world.handles.heap slot (far_at world.handles selector offset) slice) slot)))
       → P (far_write selector offset slice world).1
   write_cases slice written = by_test (refuses_write world.handles selector) refl
     where
       turn : refuses_write world.handles selector ≡ false → (p : Option FarFault) → far_fault world.handles selector offset (length slice) ≡ p → P (record world {
         handles = (elim p as (λ _. FarAnswer × Handles) [
           | Some fault ↦ (FarAnswer.Fault fault, world.handles)
-          | None ↦ (FarAnswer.Done, record world.handles { heap = after_touch (after_write world.handles.heap (far_slot world.handles selector) offset slice) (far_slot world.handles selector) })
+          | None ↦ (FarAnswer.Done, record world.handles { heap = after_touch (after_write world.handles.heap (far_slot world.handles selector) (far_at world.handles selector offset) slice) (far_slot world.handles selector) })
         ]).1;
       })
       turn t (Some fault) e = good

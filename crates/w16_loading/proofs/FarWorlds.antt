@@ -1,5 +1,5 @@
 -- Far accesses keep what holds of every world.
-use Rattle.w16_loading.proofs.Common.{◌≡◌, ◌≢◌, ℕ, ◌+◌, ◌<◌, ◌≤◌, inl, inr, ◌⊎◌, List, length, All, Option, Some, None, IfSome, IsSomeAnd, option_map, refl, sym, ◌∙◌, subst, cases_eq, Kind, put_part, Object, object_at, after_touch, Handles, far_fault, far_slot, after_write, length-put_part, Reached, reached, get-update_same, get-update_other, read_handles, write_handles, LoadingWorld, far_read, far_write, IsLoadingWorld}
+use Rattle.w16_loading.proofs.Common.{◌≡◌, ◌≢◌, ℕ, ◌+◌, ◌<◌, ◌≤◌, inl, inr, ◌⊎◌, List, length, All, Option, Some, None, IfSome, IsSomeAnd, option_map, refl, sym, ◌∙◌, subst, cases_eq, Kind, put_part, Object, object_at, after_touch, Handles, far_fault, far_slot, after_write, length-put_part, Reached, reached, get-update_same, get-update_other, read_handles, write_handles, LoadingWorld, far_read, far_write, IsLoadingWorld, far_at}
 use Rattle.w16_loading.proofs.OwnedKept.{SameOwned}
 use Rattle.w16_loading.proofs.FarCases.{read_cases, write_cases}
 use Rattle.w16_loading.proofs.KeptWorlds.{IsOwned, world_stays}
@@ -21,27 +21,27 @@ abbrev replaced : ℕ → List ℕ → Object → Object
 replaced offset slice o = record o { bytes = option_map (λ bytes. put_part bytes offset slice) o.bytes }
 
 write_owned : (old : Handles) (selector offset : ℕ) (slice : List ℕ) (q : ℕ) (kind : Kind) (size : ℕ) → IsOwned old.heap q kind size → far_fault old selector offset (length slice) ≡ None
-    → IsOwned (after_touch (after_write old.heap (far_slot old selector) offset slice) (far_slot old selector)) q kind size
+    → IsOwned (after_touch (after_write old.heap (far_slot old selector) (far_at old selector offset) slice) (far_slot old selector)) q kind size
 write_owned old selector offset slice q kind size h e = by_id (cases_eq q (far_slot old selector))
   where
-    r : Reached old (far_slot old selector) (offset + length slice)
+    r : Reached old (far_slot old selector) (far_at old selector offset + length slice)
     r = reached old selector offset (length slice) e
 
-    written : IsSomeAnd (object_at old.heap (far_slot old selector)) (λ o. (o.kind ≡ kind) × IfSome o.bytes (λ b. length b ≡ size)) → IsSomeAnd (option_map (replaced offset slice) (object_at old.heap (far_slot old selector))) (λ o. (o.kind ≡ kind) × IfSome o.bytes (λ b. length b ≡ size))
-    written k = subst (λ p. IsSomeAnd (option_map (replaced offset slice) p) (λ o. (o.kind ≡ kind) × IfSome o.bytes (λ b. length b ≡ size))) (sym r.there) (same.0, sized r.object.bytes r.has same.1)
+    written : IsSomeAnd (object_at old.heap (far_slot old selector)) (λ o. (o.kind ≡ kind) × IfSome o.bytes (λ b. length b ≡ size)) → IsSomeAnd (option_map (replaced (far_at old selector offset) slice) (object_at old.heap (far_slot old selector))) (λ o. (o.kind ≡ kind) × IfSome o.bytes (λ b. length b ≡ size))
+    written k = subst (λ p. IsSomeAnd (option_map (replaced (far_at old selector offset) slice) p) (λ o. (o.kind ≡ kind) × IfSome o.bytes (λ b. length b ≡ size))) (sym r.there) (same.0, sized r.object.bytes r.has same.1)
       where
         same : (r.object.kind ≡ kind) × IfSome r.object.bytes (λ b. length b ≡ size)
         same = subst (λ p. IsSomeAnd p (λ o. (o.kind ≡ kind) × IfSome o.bytes (λ b. length b ≡ size))) r.there k
 
-        sized : (p : Option (List ℕ)) → p ≡ Some r.bytes → IfSome p (λ b. length b ≡ size) → IfSome (option_map (λ bytes. put_part bytes offset slice) p) (λ b. length b ≡ size)
+        sized : (p : Option (List ℕ)) → p ≡ Some r.bytes → IfSome p (λ b. length b ≡ size) → IfSome (option_map (λ bytes. put_part bytes (far_at old selector offset) slice) p) (λ b. length b ≡ size)
         sized None e h = tt
-        sized (Some b) e h = let is_b : b ≡ r.bytes = cc in length-put_part b offset slice (subst (λ x. offset + length slice ≤ length x) (sym is_b) r.fits) ∙ h
+        sized (Some b) e h = let is_b : b ≡ r.bytes = cc in length-put_part b (far_at old selector offset) slice (subst (λ x. far_at old selector offset + length slice ≤ length x) (sym is_b) r.fits) ∙ h
 
-    by_id : (q ≡ far_slot old selector) ⊎ (q ≢ far_slot old selector) → IsOwned (after_touch (after_write old.heap (far_slot old selector) offset slice) (far_slot old selector)) q kind size
-    by_id (inl same) = subst (λ x. IsOwned (after_write old.heap (far_slot old selector) offset slice) x kind size) (sym same)
-        (subst (λ p. IsSomeAnd p (λ o. (o.kind ≡ kind) × IfSome o.bytes (λ b. length b ≡ size))) (sym (get-update_same old.heap.objects (far_slot old selector) (replaced offset slice)))
+    by_id : (q ≡ far_slot old selector) ⊎ (q ≢ far_slot old selector) → IsOwned (after_touch (after_write old.heap (far_slot old selector) (far_at old selector offset) slice) (far_slot old selector)) q kind size
+    by_id (inl same) = subst (λ x. IsOwned (after_write old.heap (far_slot old selector) (far_at old selector offset) slice) x kind size) (sym same)
+        (subst (λ p. IsSomeAnd p (λ o. (o.kind ≡ kind) × IfSome o.bytes (λ b. length b ≡ size))) (sym (get-update_same old.heap.objects (far_slot old selector) (replaced (far_at old selector offset) slice)))
         (written (subst (λ x. IsOwned old.heap x kind size) same h)))
-    by_id (inr other) = subst (λ p. IsSomeAnd p (λ o. (o.kind ≡ kind) × IfSome o.bytes (λ b. length b ≡ size))) (sym (get-update_other old.heap.objects (far_slot old selector) (replaced offset slice) q other)) h
+    by_id (inr other) = subst (λ p. IsSomeAnd p (λ o. (o.kind ≡ kind) × IfSome o.bytes (λ b. length b ≡ size))) (sym (get-update_other old.heap.objects (far_slot old selector) (replaced (far_at old selector offset) slice) q other)) h
 
 pub write_world : (selector offset : ℕ) (slice : List ℕ) → All (λ b. b < 256) slice → (world : LoadingWorld) → IsLoadingWorld world → IsLoadingWorld (far_write selector offset slice world).1
 write_world selector offset slice ours world is =

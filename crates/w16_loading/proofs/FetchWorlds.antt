@@ -1,7 +1,7 @@
 -- A fetch keeps what holds of every world, whatever the store answers: what it gives has the size that the world has of it.
-use Rattle.w16_loading.proofs.Common.{◌≡◌, ◌≢◌, ℕ, ◌-◌, ◌<◌, ◌≤◌, ◌==◌, inl, inr, ◌⊎◌, Bool, true, false, cond, List, [], length, Option, Some, None, IfSome, IsSomeAnd, MatchOption, MatchResult, is_some, option_map, slice_get, slice_index_or, Result, Ok, Err, refl, sym, ap, ◌∙◌, subst, arith, ne_eqb, cases_eq, AllZip-left, Kind, Owned, Heap, Object, IsHeap, object_at, rounded_size, owned_at, other_handles, file_of, FetchFault, Format, IsFormat, IsModuleFile, IsSegmentData, ModuleFile, Tables, Segment, SegmentData, Resource, Far, numbered, LoadingWorld, Module, IsSegmentOf, IsResourceOf, Fills, FillsOne, is_of_device, is_of_read, Fetches, IsImage, read_of, segment_bytes, resource_bytes, AnyFetches, IsOwnedSize, IsLoadingWorld, IsObjectOf, IsItsFiles, ModulesAreItsFiles}
+use Rattle.w16_loading.proofs.Common.{◌≡◌, ◌≢◌, ℕ, ◌-◌, ◌<◌, ◌≤◌, ◌==◌, inl, inr, ◌⊎◌, Bool, true, false, cond, List, [], length, Option, Some, None, IfSome, IsSomeAnd, MatchOption, MatchResult, is_some, option_map, slice_get, slice_index_or, Result, Ok, Err, refl, sym, ap, ◌∙◌, subst, arith, ne_eqb, cases_eq, AllZip-left, Kind, Owned, Heap, Object, IsHeap, object_at, rounded_size, owned_at, other_handles, file_of, FetchFault, Format, IsFormat, IsModuleFile, IsSegmentData, ModuleFile, Tables, Segment, SegmentData, Resource, Far, numbered, LoadingWorld, Module, IsSegmentOf, IsResourceOf, Fills, FillsOne, is_of_device, is_of_read, Fetches, IsImage, read_of, segment_bytes, resource_bytes, AnyFetches, IsOwnedSize, IsLoadingWorld, IsObjectOf, IsItsFiles, ModulesAreItsFiles, IsSized, bytes_at, slots_at, slots_for, owned_slots}
 use Rattle.w16_loading.specs.declared.FetchFault.TheVariants as faults
-use Rattle.w16_loading.proofs.Fillings.{SameRange, one_does, one_there, one_range, one_heap, filled_object, filled_other}
+use Rattle.w16_loading.proofs.Fillings.{SameRange, one_does, one_there, one_range, one_heap, filled_object, filled_other, filled_sized}
 use Rattle.w16_loading.proofs.Readings.{read_by}
 use Rattle.w16_loading.proofs.KeptWorlds.{IsOwned, kept_left, left_owned, world_stays}
 use Rattle.w16_loading.proofs.Owners.{of_segment, of_resource}
@@ -106,12 +106,21 @@ module _ (format : Format) (is_format : IsFormat format) (old : LoadingWorld) (i
 pub fetched_world : (old : LoadingWorld) → IsLoadingWorld old → (slot : ℕ) (fault : Option FetchFault) (new : LoadingWorld) → AnyFetches old slot fault new → IsLoadingWorld new
 fetched_world old is slot fault new f = subst IsLoadingWorld (sym f.rest) (world_stays old is (record old.handles { heap = new.handles.heap })
     (other_handles old.handles is.handles new.handles.heap (one_heap is_of_read old.handles.heap slot f.bytes fault new.handles.heap is.handles.heap f.filled) range.lo range.grain
-    (one_there is_of_read old.handles.heap slot f.bytes fault new.handles.heap is.handles.heap f.filled)) (λ q. refl)
+    (one_there is_of_read old.handles.heap slot f.bytes fault new.handles.heap is.handles.heap f.filled)
+    (λ q. (one_does (λ a b. IsSized (slots_at old.handles.attributes q) (bytes_at a q) → IsSized (slots_at old.handles.attributes q) (bytes_at b q)) (λ a k. k) (λ a b c x y k. y (x k)) is_of_read old.handles.heap slot f.bytes fault new.handles.heap is.handles.heap
+    (λ g. filled_sized old.handles.heap slot f.bytes new.handles.heap is.handles.heap g q (slots_at old.handles.attributes q) (enough q)) f.filled).0 (is.handles.sized q))) (λ q. refl)
     (λ q kind size code h. (one_does (λ a b. IsOwned a q kind size → IsOwned b q kind size) (λ a k. k) (λ a b c x y k. y (x k)) is_of_read old.handles.heap slot f.bytes fault new.handles.heap is.handles.heap
     (λ g. filled_owned old.handles.heap slot f.bytes new.handles.heap is.handles.heap g q kind size (long q kind size code h)) f.filled).0 h.object))
   where
     range : SameRange old.handles.heap new.handles.heap
     range = one_range is_of_read old.handles.heap slot f.bytes fault new.handles.heap is.handles.heap f.filled
+
+    enough : (q : ℕ) → q ≡ slot → slots_at old.handles.attributes q ≡ slots_for (length f.bytes)
+    enough q e = ap (slots_at old.handles.attributes) e ∙ by (owned_at old.handles slot) (owned_slots old.handles is.handles slot) f.image
+      where
+        by : (p : Option Owned) → IfSome p (λ (o : Owned). slots_at old.handles.attributes slot ≡ slots_for o.size) → IsSomeAnd p (λ (o : Owned). length f.bytes ≡ o.size) → slots_at old.handles.attributes slot ≡ slots_for (length f.bytes)
+        by None h k = absurd k
+        by (Some o) h k = h ∙ ap slots_for (sym k)
 
     long : (q : ℕ) (kind : Kind) (size : ℕ) (code : Bool) → IsObjectOf old q kind size code → q ≡ slot → length f.bytes ≡ size
     long q kind size code h e = subst (λ p. IsSomeAnd p (λ (o : Owned). length f.bytes ≡ o.size)) (ap (owned_at old.handles) (sym e) ∙ h.owned) f.image

@@ -1,7 +1,7 @@
 -- The requests of loads and fetches discard as few as they can, since each is an allocation whose new bytes are given.
 use Rattle.w16_loading.proofs.Common.{◌≡◌, ℕ, Bool, true, false, List, length, Option, Some, None, refl, sym, ap, ◌∙◌, subst, false≢true, Heap, Object, IsHeap, with_newest, Request, IsNew, Allocates, discards_needed, AllocatesFewest, revival_options, allocation_law, FetchFault, NoRoom, Store, Damaged, Fills, FillsOne, asked_of, is_of_device, named, fills, GivesFewest, FetchFewestLaw, LoadFewestLaw}
 use Rattle.w16_loading.proofs.Fillings.{in_turn_as, one_heap}
-use Rattle.w16_loading.proofs.Named.{named_handles}
+use Rattle.w16_loading.proofs.Named.{named_heap}
 
 -- what is filled is allocated
 pub fill_allocates : (old : Heap) (slot : ℕ) (bytes : List ℕ) (answered : Bool) (new : Heap) → (f : Fills old slot bytes answered new) → Allocates old slot (length bytes) f.before.kind f.before.locks revival_options answered new
@@ -35,4 +35,4 @@ fetch_fewest_law format old new slot fault is f = one_fewest is_of_device old.ha
 pub load_fewest_law : LoadFewestLaw
 load_fewest_law old closure choice failure heap is good filled = in_turn_as (FillsOne is_of_device) GivesFewest
     (λ before slot bytes fault after is f. (one_fewest is_of_device before slot bytes fault after is f, one_heap is_of_device before slot bytes fault after is f))
-    (named old closure choice).handles.heap heap (fills old closure choice) failure (named_handles old closure choice is.handles good).heap filled
+    (named old closure choice).handles.heap heap (fills old closure choice) failure (named_heap old closure choice is.handles good) filled

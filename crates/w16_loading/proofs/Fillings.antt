@@ -1,5 +1,5 @@
 -- What becomes of a heap while objects get bytes: of one, and of several, one after another.
-use Rattle.w16_loading.proofs.Common.{◌≡◌, ◌≢◌, ℕ, inl, inr, ◌⊎◌, Bool, true, false, List, [], ◌∷◌, length, fold, take, Option, Some, None, IsSomeAnd, is_some, refl, sym, ap, ◌∙◌, subst, false≢true, cases_eq, Discardable, eligible, Heap, Object, IsHeap, blocks, object_at, with_newest, with_ordered, absent, Request, Asked, Settles, discarded, discards_needed, stays_for, KeepsOthers, IsKeptOrDiscarded, revival_options, Member, Each-at, inserted_here, settled, others_law, kept_or_discarded, FetchFault, Giving, Fills, FillsOne, Filling, Failure, InTurn, asked_of, is_of_read, GivesAny, FillsLaw}
+use Rattle.w16_loading.proofs.Common.{◌≡◌, ◌≢◌, ℕ, inl, inr, ◌⊎◌, Bool, true, false, List, [], ◌∷◌, length, fold, take, Option, Some, None, IsSomeAnd, is_some, refl, sym, ap, ◌∙◌, subst, false≢true, cases_eq, Discardable, eligible, Heap, Object, IsHeap, blocks, object_at, with_newest, with_ordered, absent, Request, Asked, Settles, discarded, discards_needed, stays_for, KeepsOthers, IsKeptOrDiscarded, revival_options, Member, Each-at, inserted_here, settled, others_law, kept_or_discarded, FetchFault, Giving, Fills, FillsOne, Filling, Failure, InTurn, asked_of, is_of_read, GivesAny, FillsLaw, IsSized, bytes_at, bytes_in, sized_is, slots_for}
 use Rattle.std.specs.List.{AllByRecursion as Each}
 use Rattle.w16_loading.specs.declared.FetchFault.TheVariants as faults
 
@@ -143,6 +143,27 @@ one_there may_fail old slot bytes fault new is f = (one_does AreThere (λ h q. r
 
 pub any_there : (old new : Heap) (xs : List Filling) (failure : Option Failure) → IsHeap old → InTurn GivesAny old xs failure new → AreThere old new
 any_there old new xs failure is f = (any_do AreThere (λ h q. refl) (λ a b c x y q. y q ∙ x q) old new xs failure is (λ x m a b bytes h long g. filled_there a x.slot bytes b h g) f).0
+
+-- Where an object has as many slots as its new bytes need, it still has.
+
+pub kept_sized : (old new : Heap) (q n : ℕ) → IsKeptOrDiscarded old new q → IsSized n (bytes_at old q) → IsSized n (bytes_at new q)
+kept_sized old new q n (inl e) h = sized_is refl (ap bytes_in e) h
+kept_sized old new q n (inr k) h = turn (object_at old q) k
+  where
+    turn : (p : Option Object) → IsSomeAnd p (IsLost new q) → IsSized n (bytes_at new q)
+    turn None k = absurd k
+    turn (Some o) k = sized_is refl (ap bytes_in k.3) tt
+
+pub filled_sized : (old : Heap) (slot : ℕ) (bytes : List ℕ) (new : Heap) → IsHeap old → Fills old slot bytes true new → (q n : ℕ) → (q ≡ slot → n ≡ slots_for (length bytes)) → IsSized n (bytes_at old q) → IsSized n (bytes_at new q)
+filled_sized old slot bytes new is f q n enough h = elim (cases_eq q slot) [
+  | inl e ↦ sized_is refl (ap bytes_in (ap (object_at new) e ∙ filled_object old slot bytes new f)) (enough e)
+  | inr d ↦ kept_sized old new q n (filled_other old slot bytes new f is q d) h
+]
+
+pub any_sized : (old new : Heap) (xs : List Filling) (failure : Option Failure) → IsHeap old → InTurn GivesAny old xs failure new → (q n : ℕ) → ((x : Filling) → Member x xs → q ≡ x.slot → n ≡ slots_for (length x.bytes))
+    → IsSized n (bytes_at old q) → IsSized n (bytes_at new q)
+any_sized old new xs failure is f q n enough = (any_do (λ a b. IsSized n (bytes_at a q) → IsSized n (bytes_at b q)) (λ a k. k) (λ a b c x y k. y (x k)) old new xs failure is
+    (λ x m a b bytes h long g. filled_sized a x.slot bytes b h g q n (λ e. enough x m e ∙ ap slots_for (sym long))) f).0
 
 -- The range and the grain stay.
 

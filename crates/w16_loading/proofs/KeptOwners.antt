@@ -1,5 +1,5 @@
 -- An object that is there keeps its owner, or is gone with it, whatever the store answers.
-use Rattle.w16_loading.proofs.Common.{◌≡◌, ◌≢◌, ℕ, inl, inr, ◌-◌, ◌==◌, Bool, true, false, cond, not, List, [], ◌∷◌, length, Option, Some, None, is_some, refl, sym, ap, ◌∙◌, subst, false≢true, FarFault, part, is_member, FarAnswer, far_fault, IsFreeSlot, Handles, object_at, after_touch, owned_in, owned_at, refuses_write, Member, inserted_other, AnyFetches, AnyLoads, GivesAny, Closure, far_read, far_write, Segment, Failure, Frees, Go, used_less, without_module, IsLoadingWorld, KeepsOwner, OwnersLaw, Answer, Fulfils, left, undone, LoadingWorld, Module, module_at, with_heap, Loaded, given, named, segments_of, without_objects, attributes_for, locked}
+use Rattle.w16_loading.proofs.Common.{◌≡◌, ◌≢◌, ℕ, inl, inr, ◌-◌, ◌==◌, Bool, true, false, cond, not, List, [], ◌∷◌, length, Option, Some, None, is_some, refl, sym, ap, ◌∙◌, subst, false≢true, FarFault, part, is_member, FarAnswer, far_fault, IsFreeSlot, Handles, object_at, after_touch, owned_in, owned_at, refuses_write, Member, inserted_other, AnyFetches, AnyLoads, GivesAny, Closure, far_read, far_write, Segment, Failure, Frees, Go, used_less, without_module, IsLoadingWorld, KeepsOwner, OwnersLaw, Answer, Fulfils, left, undone, LoadingWorld, Module, module_at, with_heap, Loaded, given, named, segments_of, without_objects, attributes_for, locked, unused_slot}
 use Rattle.std.specs.FinMap as finmap
 use Rattle.w16_model.specs.declared.FarFault.TheVariants as far
 use Rattle.w16_model.specs.Far as far_access
@@ -21,7 +21,7 @@ module _ (old : LoadingWorld) (is : IsLoadingWorld old) (q : ℕ) (there : is_so
   as_in w v e (inr none) = inr (e ∙ none)
 
   not_free : (slot : ℕ) → IsFreeSlot old.handles slot → q ≢ slot
-  not_free slot free e = false≢true (sym (ap is_some (ap (object_at old.handles.heap) e ∙ free.1)) ∙ there)
+  not_free slot free e = false≢true (sym (ap is_some (ap (object_at old.handles.heap) e ∙ unused_slot old.handles is.handles slot free)) ∙ there)
 
   read : (selector offset n : ℕ) (w : LoadingWorld) → Kept w → Kept (far_read selector offset n w).1
   read selector offset n w = turn (far_fault w.handles selector offset n)
@@ -29,7 +29,7 @@ module _ (old : LoadingWorld) (is : IsLoadingWorld old) (q : ℕ) (there : is_so
       turn : (p : Option FarFault) → Kept w → Kept (record w {
         handles = (elim p as (λ _. FarAnswer × Handles) [
           | Some fault ↦ (FarAnswer.Fault fault, w.handles)
-          | None ↦ (FarAnswer.Bytes (part (far_access.far_bytes w.handles selector) offset n), record w.handles { heap = after_touch w.handles.heap (far_access.far_slot w.handles selector) })
+          | None ↦ (FarAnswer.Bytes (part (far_access.far_bytes w.handles selector) (far_access.far_at w.handles selector offset) n), record w.handles { heap = after_touch w.handles.heap (far_access.far_slot w.handles selector) })
         ]).1;
       })
       turn None k = k
@@ -41,7 +41,7 @@ module _ (old : LoadingWorld) (is : IsLoadingWorld old) (q : ℕ) (there : is_so
       plain : (p : Option FarFault) → Kept w → Kept (record w {
         handles = (elim p as (λ _. FarAnswer × Handles) [
           | Some fault ↦ (FarAnswer.Fault fault, w.handles)
-          | None ↦ (FarAnswer.Done, record w.handles { heap = after_touch (far_access.after_write w.handles.heap (far_access.far_slot w.handles selector) offset slice) (far_access.far_slot w.handles selector) })
+          | None ↦ (FarAnswer.Done, record w.handles { heap = after_touch (far_access.after_write w.handles.heap (far_access.far_slot w.handles selector) (far_access.far_at w.handles selector offset) slice) (far_access.far_slot w.handles selector) })
         ]).1;
       })
       plain None k = k

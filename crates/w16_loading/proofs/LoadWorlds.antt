@@ -1,8 +1,8 @@
 -- A load that has come to its end keeps what holds of every world.
-use Rattle.w16_loading.proofs.Common.{◌≡◌, ◌≢◌, ℕ, zero, suc, ◌+◌, ◌-◌, ◌<◌, ◌≤◌, ◌==◌, inl, inr, ◌⊎◌, Bool, true, false, cond, List, [], ◌∷◌, length, fold, filter, map, zip, slice_get, slice_index_or, Option, Some, None, IfSome, IsSomeAnd, MatchOption, is_some, refl, sym, ap, ◌∙◌, subst, arith, eq-eqb, AllZip, nat_cmp, false≢true, cases_eq, AllZip-left, Kind, Heap, Object, IsHeap, object_at, AreHandles, owned_in, owned_at, Member, EachPair, Each-at, Each-from_All, EachPair-from_AllPairs, filter_member, true-is_member, inserted_here, other_handles, is_named, MOST_USES, IsModuleFile, IsSegmentData, Segment, LoadingWorld, Load, Module, Named, IsFreeModule, IsSegmentOf, name_of, module_at, module_in, importers, usage, usage_with, with_heap, Loaded, Filling, InTurn, Closure, Referent, around, New, attributes_of, Choice, IsChoice, Given, all_slots, given, segments_of, with_segment, bound, imports_at, handle_meant, named, fills, GivesAny, IsLoadingWorld, IsModule, IsObjectOf}
+use Rattle.w16_loading.proofs.Common.{◌≡◌, ◌≢◌, ℕ, zero, suc, ◌+◌, ◌-◌, ◌<◌, ◌≤◌, ◌==◌, inl, inr, ◌⊎◌, Bool, true, false, cond, List, [], ◌∷◌, length, fold, filter, map, zip, slice_get, slice_index_or, Option, Some, None, IfSome, IsSomeAnd, MatchOption, is_some, refl, sym, ap, ◌∙◌, subst, arith, eq-eqb, AllZip, nat_cmp, false≢true, cases_eq, AllZip-left, Kind, Heap, Object, IsHeap, object_at, AreHandles, owned_in, owned_at, Member, EachPair, Each-at, Each-from_All, EachPair-from_AllPairs, filter_member, true-is_member, inserted_here, other_handles, is_named, MOST_USES, IsModuleFile, IsSegmentData, Segment, LoadingWorld, Load, Module, Named, IsFreeModule, IsSegmentOf, name_of, module_at, module_in, importers, usage, usage_with, with_heap, Loaded, Filling, InTurn, Closure, Referent, around, New, attributes_of, Choice, IsChoice, Given, all_slots, given, segments_of, with_segment, bound, imports_at, handle_meant, named, fills, GivesAny, IsLoadingWorld, IsModule, IsObjectOf, slots_at, slots_for, owned_slots, unused_slot, Owned, SegmentData}
 use Rattle.std.specs.FinMap as finmap
 use Rattle.w16_loading.proofs.Undone.{chosen, fold_named, same_owned}
-use Rattle.w16_loading.proofs.Fillings.{SameRange, any_do, any_kept, any_there, any_range}
+use Rattle.w16_loading.proofs.Fillings.{SameRange, any_do, any_kept, any_there, any_range, any_sized}
 use Rattle.w16_loading.proofs.Named.{AreApart, given_slots_apart, named_handles, free_slot}
 use Rattle.w16_loading.proofs.Given.{given_found, given_slot, given_slots_differ, one_given, member_place, place_member, zip_place, index_place, one_place, given_long, given_handle, given_segment, segment_given, at_place, given_index, one_named, put_all, put_named, put_here, named_back, IsFilledBy, filled_by, zip_member, new_or_old}
 use Rattle.w16_loading.proofs.Given.{loaded_is}
@@ -57,13 +57,6 @@ module _ (old : LoadingWorld) (is : IsLoadingWorld old) (closure : Closure) (cho
   abbrev new : LoadingWorld
   new = with_heap begun heap
 
-  filled_handles : AreHandles (record begun.handles { heap = heap })
-  filled_handles =
-      let is_heap : IsHeap begun.handles.heap = (named_handles old closure choice is.handles good).heap in
-      let range : SameRange begun.handles.heap heap = any_range begun.handles.heap heap (fills old closure choice) None is_heap filled in
-      other_handles begun.handles (named_handles old closure choice is.handles good) heap (any_kept begun.handles.heap heap (fills old closure choice) None is_heap filled).0 range.lo range.grain
-      (any_there begun.handles.heap heap (fills old closure choice) None is_heap filled)
-
   slots_differ : EachPair (λ a b. a ≢ b) (all_slots choice)
   slots_differ = EachPair-from_AllPairs (λ (a b : ℕ). a ≢ b) (all_slots choice) good.slots.apart
 
@@ -73,12 +66,25 @@ module _ (old : LoadingWorld) (is : IsLoadingWorld old) (closure : Closure) (cho
   segments_differ : AreApart (segments_of gs)
   segments_differ = given_slots_apart 0 closure.found choice.handles choice.slots slots_differ
 
+  -- each segment is small enough for one slot
+  small : (x : ℕ × Segment) → Member x (segments_of gs) → 1 ≡ slots_for x.1.size
+  small x m =
+      let r : (g : Given) × Member g gs × Member x (zip g.slots g.found.read.tables.segments) = segment_given gs x m in
+      let p : (i : ℕ) × (slice_get (zip r.0.slots r.0.found.read.tables.segments) i ≡ Some x) = member_place (zip r.0.slots r.0.found.read.tables.segments) x r.2 in
+      let file : IsModuleFile r.0.found.read = facts.files r.0.found (given_found 0 closure.found choice.handles choice.slots r.0 r.1) in
+      of_data (slice_get r.0.found.read.segments p.0) (subst (λ a. MatchOption a (Unit {0}) (λ y. IsSomeAnd (slice_get r.0.found.read.segments p.0) (IsSegmentData y))) (zip_place r.0.slots r.0.found.read.tables.segments p.0 x p.1).1
+      (AllZip-left IsSegmentData r.0.found.read.tables.segments r.0.found.read.segments file.segments p.0))
+    where
+      of_data : (d : Option SegmentData) → IsSomeAnd d (IsSegmentData x.1) → 1 ≡ slots_for x.1.size
+      of_data None h = absurd h
+      of_data (Some d) h = omega (arith, h.some, h.small)
+
   begun_handles : AreHandles begun.handles
-  begun_handles = named_handles old closure choice is.handles good
+  begun_handles = named_handles old closure choice is.handles good small
 
   -- a slot of a new segment was free
   was_free : (x : ℕ × Segment) → Member x (segments_of gs) → object_at old.handles.heap x.0 ≡ None
-  was_free x m = (free_slot old closure choice good x.0 (chosen 0 closure.found choice.handles choice.slots x m)).1
+  was_free x m = unused_slot old.handles is.handles x.0 (free_slot old closure choice good x.0 (chosen 0 closure.found choice.handles choice.slots x m))
 
   -- a handle of a new module was free
   free_handle : (g : Given) → Member g gs → IsFreeModule old.modules g.handle
@@ -99,6 +105,20 @@ module _ (old : LoadingWorld) (is : IsLoadingWorld old) (closure : Closure) (cho
       (AllZip-left IsSegmentData r.0.found.read.tables.segments r.0.found.read.segments file.segments f.place) in
       let is_data : IsSegmentData f.segment f.its_data = subst (λ p. IsSomeAnd p (IsSegmentData f.segment)) f.data_at both in
       (f.segment, given_segment gs r.0 (x.slot, f.segment) r.1 (zip_member r.0.slots r.0.found.read.tables.segments f.place x.slot f.segment f.slot_at f.segment_at), ap length f.image ∙ (is_data.image f.its_values).0)
+
+  filled_handles : AreHandles (record begun.handles { heap = heap })
+  filled_handles =
+      let range : SameRange begun.handles.heap heap = any_range begun.handles.heap heap (fills old closure choice) None begun_handles.heap filled in
+      other_handles begun.handles begun_handles heap (any_kept begun.handles.heap heap (fills old closure choice) None begun_handles.heap filled).0 range.lo range.grain
+      (any_there begun.handles.heap heap (fills old closure choice) None begun_handles.heap filled)
+      (λ q. any_sized begun.handles.heap heap (fills old closure choice) None begun_handles.heap filled q (slots_at begun.handles.attributes q) (enough q) (begun_handles.sized q))
+    where
+      enough : (q : ℕ) (y : Filling) → Member y (fills old closure choice) → q ≡ y.slot → slots_at begun.handles.attributes q ≡ slots_for (length y.bytes)
+      enough q y n e =
+          let s : (segment : Segment) × Member {X = ℕ × Segment} (y.slot, segment) (segments_of gs) × (length y.bytes ≡ segment.size) = sized y n in
+          ap (slots_at begun.handles.attributes) e
+          ∙ subst (λ p. IfSome p (λ (o : Owned). slots_at begun.handles.attributes y.slot ≡ slots_for o.size)) (named_new old (segments_of gs) segments_differ (y.slot, s.0) s.1).1 (owned_slots begun.handles begun_handles y.slot)
+          ∙ ap slots_for (sym s.2)
 
   -- a new segment's object
   made : (x : ℕ × Segment) → Member x (segments_of gs) → IsObjectOf new x.0 x.1.kind x.1.size x.1.is_code
@@ -247,7 +267,7 @@ module _ (old : LoadingWorld) (is : IsLoadingWorld old) (closure : Closure) (cho
 
   -- a new segment's slot had no object
   slot_free : (q i : ℕ) (g : Given) → Member g gs → slice_get g.slots i ≡ Some q → object_at old.handles.heap q ≡ None
-  slot_free q i g m e = (free_slot old closure choice good q (given_slot 0 closure.found choice.handles choice.slots g q m (place_member g.slots i q e))).1
+  slot_free q i g m e = unused_slot old.handles is.handles q (free_slot old closure choice good q (given_slot 0 closure.found choice.handles choice.slots g q m (place_member g.slots i q e)))
 
   abbrev IsNew : ℕ → Module → Type 0
   IsNew a m = (g : Given) × Member g gs × (g.handle ≡ a) × (m ≡ module_of g)

@@ -1,5 +1,5 @@
 -- Calls on handles leave what a module owns: no object comes to be one's, or ceases to.
-use Rattle.w16_loading.proofs.Common.{◌≡◌, ℕ, inl, inr, false, Option, Some, None, is_some, option_map, unwrap_or, refl, sym, ap, ◌∙◌, false≢true, cases_eq, Attributes, Owned, object_at, Handles, AreHandles, slot_of_handle, owned_in, owned_at, is_owned, owns, global_lock, GlobalLock, Call, Outcome, attributes_asked, Calls, IsSame, IsUnmoved, IsLocked, IsUnlocked, IsFreed, IsNewest, IsOldest, IsEntered, IsAllocated, IsCompacted, IsModified, IsDiscarded, IsResized, call_outcome, KeepsContents, contents, inserted_here, inserted_other, taken_here, taken_other}
+use Rattle.w16_loading.proofs.Common.{◌≡◌, ℕ, inl, inr, false, Option, Some, None, is_some, option_map, unwrap_or, refl, sym, ap, ◌∙◌, false≢true, cases_eq, Attributes, Owned, object_at, Handles, AreHandles, slot_of_handle, owned_in, owned_at, is_owned, owns, global_lock, GlobalLock, Call, Outcome, attributes_asked, Calls, IsSame, IsUnmoved, IsLocked, IsUnlocked, IsFreed, IsNewest, IsOldest, IsEntered, IsAllocated, IsCompacted, IsModified, IsDiscarded, IsResized, call_outcome, KeepsContents, contents, inserted_here, inserted_other, taken_here, taken_other, Resized, FinMap, nat_cmp, slots_for, rounded_size, unused, some_slots, same_slot}
 use Rattle.std.specs.FinMap as finmap
 use Rattle.w16_model.specs.Calls.{Answer}
 
@@ -21,10 +21,10 @@ module _ (old : Handles) (is : AreHandles old) (call : Call) (answer : Answer) (
   same e q = ap (λ a. owned_in (finmap.get a q)) e
 
   -- a free slot gets an object of no module's
-  given : (slot flags : ℕ) → object_at old.heap slot ≡ None → new.attributes ≡ finmap.insert old.attributes slot (attributes_asked flags) → SameOwned old new
-  given slot flags none e q = ap (λ a. owned_in (finmap.get a q)) e ∙ elim (cases_eq q slot) [
-    | inl e ↦ ap owned_in (inserted_here old.attributes slot (attributes_asked flags) q e) ∙ sym (none_owned (finmap.get old.attributes q) (is.attributed q ∙ ap is_some (ap (object_at old.heap) e ∙ none)))
-    | inr d ↦ ap owned_in (inserted_other old.attributes slot (attributes_asked flags) q d)
+  given : (slot flags size : ℕ) → object_at old.heap slot ≡ None → new.attributes ≡ finmap.insert old.attributes slot (attributes_asked flags size) → SameOwned old new
+  given slot flags size none e q = ap (λ a. owned_in (finmap.get a q)) e ∙ elim (cases_eq q slot) [
+    | inl e ↦ ap owned_in (inserted_here old.attributes slot (attributes_asked flags size) q e) ∙ sym (none_owned (finmap.get old.attributes q) (is.attributed q ∙ ap is_some (ap (object_at old.heap) e ∙ none)))
+    | inr d ↦ ap owned_in (inserted_other old.attributes slot (attributes_asked flags size) q d)
   ]
 
   -- an object of no module's goes
@@ -32,6 +32,17 @@ module _ (old : Handles) (is : AreHandles old) (call : Call) (answer : Answer) (
   freed handle slot found own e q = ap (λ a. owned_in (finmap.get a q)) e ∙ elim (cases_eq q slot) [
     | inl e ↦ ap owned_in (taken_here old.attributes slot q e) ∙ sym (no_owner (owned_at old q) (ap (is_owned old) e ∙ sym (ap (λ p. unwrap_or (option_map (is_owned old) p) false) found) ∙ own))
     | inr d ↦ ap owned_in (taken_other old.attributes slot q d)
+  ]
+
+  -- an object gets another run, which begins where it did
+  another_run : (r : Resized old call answer new) (p : Option Attributes) → finmap.get old.attributes r.slot ≡ p → (q : ℕ)
+      → owned_in (finmap.get (elim p as (λ _. FinMap nat_cmp Attributes) [ Some a ↦ finmap.insert (finmap.remove old.attributes r.slot) r.first (record a { slots = slots_for (rounded_size r.size) }) | None ↦ old.attributes ]) q) ≡ owned_at old q
+  another_run r None there q = refl
+  another_run r (Some a) there q = elim (cases_eq q r.first) [
+    | inl e ↦ ap owned_in (inserted_here (finmap.remove old.attributes r.slot) r.first (record a { slots = slots_for (rounded_size r.size) }) q e)
+        ∙ sym (ap owned_in (ap (finmap.get old.attributes) (e ∙ same_slot old new is call answer r) ∙ there))
+    | inr d ↦ ap owned_in (inserted_other (finmap.remove old.attributes r.slot) r.first (record a { slots = slots_for (rounded_size r.size) }) q d
+        ∙ taken_other old.attributes r.slot q (λ e. d (e ∙ sym (same_slot old new is call answer r))))
   ]
 
   pub owned_by : Outcome old call answer new → SameOwned old new
@@ -42,12 +53,12 @@ module _ (old : Handles) (is : AreHandles old) (call : Call) (answer : Answer) (
   owned_by (IsFreed f) = freed f.handle f.slot f.named.found f.own (ap (λ (h : Handles). h.attributes) f.rest)
   owned_by (IsNewest n) = same (ap (λ (h : Handles). h.attributes) n.rest)
   owned_by (IsOldest n) = same (ap (λ (h : Handles). h.attributes) n.rest)
-  owned_by (IsEntered e) = given e.slot e.flags e.free.1 (ap (λ (h : Handles). h.attributes) e.rest)
-  owned_by (IsAllocated a) = given a.slot a.flags a.free.1 (ap (λ (h : Handles). h.attributes) a.rest)
+  owned_by (IsEntered e) = given e.slot e.flags e.size (unused old is e.slot (slots_for (rounded_size e.size)) (some_slots (rounded_size e.size)) e.free) (ap (λ (h : Handles). h.attributes) e.rest)
+  owned_by (IsAllocated a) = given a.slot a.flags a.size (unused old is a.slot (slots_for (rounded_size a.size)) (some_slots (rounded_size a.size)) a.free) (ap (λ (h : Handles). h.attributes) a.rest)
   owned_by (IsCompacted c) = same (ap (λ (h : Handles). h.attributes) c.rest)
   owned_by (IsModified m) = same (ap (λ (h : Handles). h.attributes) m.rest)
   owned_by (IsDiscarded d) = same (ap (λ (h : Handles). h.attributes) d.rest)
-  owned_by (IsResized r) = same (ap (λ (h : Handles). h.attributes) r.rest)
+  owned_by (IsResized r) = λ q. ap (λ (h : Handles). owned_at h q) r.rest ∙ another_run r (finmap.get old.attributes r.slot) refl q
 
 -- a lock keeps them in any handles
 pub locked : (old : Handles) (handle : ℕ) → SameOwned old (global_lock old handle).1

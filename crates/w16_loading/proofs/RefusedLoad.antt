@@ -1,11 +1,11 @@
 -- A refused load leaves all but its discards as it was.
-use Rattle.w16_loading.proofs.Common.{◌≡◌, ◌≢◌, ℕ, ◌+◌, ◌<◌, ◌≤◌, inl, inr, ◌⊎◌, Bool, true, false, List, [], ◌∷◌, fold, flat_map, slice_index_or, All, Option, Some, None, IfSome, IsSomeAnd, refl, sym, ap, ◌∙◌, subst, arith, false≢true, cases_Bool, is_member, Heap, Object, IsHeap, object_at, IsKeptOrDiscarded, Member, Each-from, Each-from_All, is_member-true, true-is_member, FIRST_MODULE, MOST_MODULES, MOST_USES, FetchFault, LoadingWorld, Module, Named, IsFreeModule, with_heap, Loaded, Giving, FillsOne, Filling, Failure, InTurn, is_of_device, heap_without, Closure, Found, Choice, IsChoice, all_slots, given, given_from, segments_of, with_segment, with_modules, bound, named, fills_of, fills, Answer, Fulfils, after_use, undone, left, outcome_of, refusal_of, Says, GivesAny, IsLoadingWorld, OnlyDiscards, IsRefusal, RefusedLoadLaw, AnyRefusedLoadLaw, EarlyRefusalLaw}
+use Rattle.w16_loading.proofs.Common.{◌≡◌, ◌≢◌, ℕ, ◌+◌, ◌<◌, ◌≤◌, inl, inr, ◌⊎◌, Bool, true, false, List, [], ◌∷◌, fold, flat_map, slice_index_or, All, Option, Some, None, IfSome, IsSomeAnd, refl, sym, ap, ◌∙◌, subst, arith, false≢true, cases_Bool, is_member, Heap, Object, IsHeap, object_at, IsKeptOrDiscarded, Member, Each-from, Each-from_All, is_member-true, true-is_member, FIRST_MODULE, MOST_MODULES, MOST_USES, FetchFault, LoadingWorld, Module, Named, IsFreeModule, with_heap, Loaded, Giving, FillsOne, Filling, Failure, InTurn, is_of_device, heap_without, Closure, Found, Choice, IsChoice, all_slots, given, given_from, segments_of, with_segment, with_modules, bound, named, fills_of, fills, Answer, Fulfils, after_use, undone, left, outcome_of, refusal_of, Says, GivesAny, IsLoadingWorld, OnlyDiscards, IsRefusal, RefusedLoadLaw, AnyRefusedLoadLaw, EarlyRefusalLaw, unused_slot}
 use Rattle.std.specs.List.{AllByRecursion as Each}
 use Rattle.std.specs.FinMap as finmap
 use Rattle.w16_loading.specs.declared.FetchFault.TheVariants as faults
 use Rattle.w16_loading.proofs.Undone.{chosen, IsNamed, fold_named}
 use Rattle.w16_loading.proofs.Fillings.{IsLost, SameRange, ranges, any_range, any_kept, in_turn_as, to_any}
-use Rattle.w16_loading.proofs.Named.{named_handles, free_slot}
+use Rattle.w16_loading.proofs.Named.{named_heap, free_slot}
 use Rattle.w16_loading.proofs.Given.{filled_chosen}
 use Rattle.w16_loading.proofs.Stepping.{loaded, any_loaded}
 use Rattle.w16_loading.proofs.Released.{released_heap, left_object, gone_object}
@@ -23,7 +23,7 @@ module _ (old : LoadingWorld) (is : IsLoadingWorld old) (closure : Closure) (cho
   named_is = fold_named old (segments_of (given closure choice))
 
   begun_is : IsHeap begun
-  begun_is = (named_handles old closure choice is.handles good).heap
+  begun_is = (named_heap old closure choice is.handles good)
 
   kept : IsHeap heap × ((q : ℕ) → Each (λ x. q ≢ x.slot) (fills old closure choice) → IsKeptOrDiscarded begun heap q)
   kept = any_kept begun heap (fills old closure choice) failure begun_is filled
@@ -51,7 +51,7 @@ module _ (old : LoadingWorld) (is : IsLoadingWorld old) (closure : Closure) (cho
       turn (inr h) = inr (subst (λ p. IsSomeAnd p (IsLost (heap_without gone heap) q)) before (lost (object_at begun q) h))
 
   own_gone : (q : ℕ) → gone q ≡ true → object_at (heap_without gone heap) q ≡ object_at old.handles.heap q
-  own_gone q t = gone_object heap kept.0 gone q t ∙ sym (free_slot old closure choice good q (is_member-true q (all_slots choice) t)).1
+  own_gone q t = gone_object heap kept.0 gone q t ∙ sym (unused_slot old.handles is.handles q (free_slot old closure choice good q (is_member-true q (all_slots choice) t)))
 
   range : SameRange old.handles.heap heap
   range = ranges old.handles.heap begun heap (record { lo = ap (λ (w : LoadingWorld). w.handles.heap.lo) named_is.rest; hi = ap (λ (w : LoadingWorld). w.handles.heap.hi) named_is.rest; grain = ap (λ (w : LoadingWorld). w.handles.heap.grain) named_is.rest })
@@ -111,7 +111,7 @@ fulfils_as f g turns old is closure answer new h = record {
   is_choice = h.is_choice;
   failure = h.failure;
   heap = h.heap;
-  filled = in_turn_as f g turns (named old closure h.choice).handles.heap h.heap (fills old closure h.choice) h.failure (named_handles old closure h.choice is.handles h.is_choice).heap h.filled;
+  filled = in_turn_as f g turns (named old closure h.choice).handles.heap h.heap (fills old closure h.choice) h.failure (named_heap old closure h.choice is.handles h.is_choice) h.filled;
   answered = h.answered;
   after = h.after;
 }

@@ -1,5 +1,5 @@
 -- The calls on resources keep what holds of every world.
-use Rattle.w16_loading.proofs.Common.{◌≡◌, ◌≢◌, ℕ, ◌+◌, ◌-◌, ◌<◌, ◌≤◌, inl, inr, ◌⊎◌, Bool, true, false, ◌&&◌, ◌==◌, length, Option, Some, None, IfSome, IsSomeAnd, is_some, slice_get, refl, sym, ap, ◌∙◌, subst, arith, eq-eqb, ne_eqb, nat_cmp, FinMap, false≢true, cases_eq, Kind, Object, object_at, IsFreeSlot, HandleCommand, rounded_size, global_lock, Member, inserted_here, inserted_other, taken_here, taken_other, with_absent_object, MOST_USES, Resource, numbered, Attributes, Owned, owned_in, owned_at, LoadingWorld, Load, Module, IsResourceOf, module_at, attributes_for, is_too_long, resource_at, load_of, with_resource, locked, IsLoadingWorld, IsObjectOf, IsLoad, Calls}
+use Rattle.w16_loading.proofs.Common.{◌≡◌, ◌≢◌, ℕ, ◌+◌, ◌-◌, ◌<◌, ◌≤◌, inl, inr, ◌⊎◌, Bool, true, false, ◌&&◌, ◌==◌, length, Option, Some, None, IfSome, IsSomeAnd, is_some, slice_get, refl, sym, ap, ◌∙◌, subst, arith, eq-eqb, ne_eqb, nat_cmp, FinMap, false≢true, cases_eq, Kind, Object, object_at, IsFreeSlot, HandleCommand, rounded_size, global_lock, Member, inserted_here, inserted_other, taken_here, taken_other, with_absent_object, MOST_USES, Resource, numbered, Attributes, Owned, owned_in, owned_at, LoadingWorld, Load, Module, IsResourceOf, module_at, attributes_for, is_too_long, resource_at, load_of, with_resource, locked, IsLoadingWorld, IsObjectOf, IsLoad, Calls, unused_slot, run_of_one, slots_for, LARGEST_OWNED, ltb-false, nat_lt, ◌||◌}
 use Rattle.std.specs.FinMap as finmap
 use Rattle.w16_loading.proofs.Importers.{there_entry}
 use Rattle.w16_loading.proofs.Given.{member_place}
@@ -67,6 +67,15 @@ module _ (old : LoadingWorld) (is : IsLoadingWorld old) (slot : ℕ) (load : Loa
 
 -- A new object for a resource that isn't loaded.
 
+-- one slot is enough for a resource that isn't too long
+one_slot : (r : Resource) → is_too_long r ≡ false → 1 ≡ slots_for (rounded_size r.length_in)
+one_slot r = turn (r.length_in == 0) (nat_lt LARGEST_OWNED r.length_in) refl
+  where
+    turn : (a b : Bool) → nat_lt LARGEST_OWNED r.length_in ≡ b → (a || b) ≡ false → 1 ≡ slots_for (rounded_size r.length_in)
+    turn true b t e = cc
+    turn false true t e = cc
+    turn false false t e = omega (arith, ltb-false LARGEST_OWNED r.length_in t)
+
 module _ (old : LoadingWorld) (is : IsLoadingWorld old) (slot : ℕ) (free : IsFreeSlot old.handles slot) (handle place : ℕ) (r : Resource) (at : resource_at old handle place ≡ Some r) (short : is_too_long r ≡ false) (unloaded : load_of old handle place ≡ None) where
   abbrev made : LoadingWorld
   made = with_resource old slot handle place r
@@ -82,7 +91,7 @@ module _ (old : LoadingWorld) (is : IsLoadingWorld old) (slot : ℕ) (free : IsF
 
   -- an owned object is another one, and stays
   other_slot : (q : ℕ) (kind : Kind) (size : ℕ) (code : Bool) → IsObjectOf old q kind size code → q ≢ slot
-  other_slot q kind size code h e = false≢true (sym (ap is_some (ap (object_at old.handles.heap) e ∙ free.1)) ∙ object_there old q kind size code h)
+  other_slot q kind size code h e = false≢true (sym (ap is_some (ap (object_at old.handles.heap) e ∙ unused_slot old.handles is.handles slot free)) ∙ object_there old q kind size code h)
 
   still : (q : ℕ) (kind : Kind) (size : ℕ) (code : Bool) → IsObjectOf old q kind size code → IsObjectOf made q kind size code
   still q kind size code h = record {
@@ -125,7 +134,7 @@ module _ (old : LoadingWorld) (is : IsLoadingWorld old) (slot : ℕ) (free : IsF
   loads_stay : (q : ℕ) (l : Load) → finmap.get old.loads q ≡ Some l → (n : ℕ) × (finmap.get made.loads q ≡ Some (record l { loads = n }))
   loads_stay q l e =
       let r : (m : Module) × IsResourceOf old q l.handle l.place m = loaded_of old is q l e in
-      (l.loads, inserted_other old.loads slot first q (λ same. false≢true (sym (ap is_some (ap (object_at old.handles.heap) same ∙ free.1)) ∙ resource_object old is q l.handle l.place r.0 r.1)) ∙ e)
+      (l.loads, inserted_other old.loads slot first q (λ same. false≢true (sym (ap is_some (ap (object_at old.handles.heap) same ∙ unused_slot old.handles is.handles slot free)) ∙ resource_object old is q l.handle l.place r.0 r.1)) ∙ e)
 
   its_module : (p : Option Module) → elim p as (λ _. Option Resource) [ None ↦ None | Some n ↦ numbered n.tables.resources place ] ≡ Some r → (m : Module) × (p ≡ Some m)
   its_module None e = cc
@@ -139,7 +148,7 @@ module _ (old : LoadingWorld) (is : IsLoadingWorld old) (slot : ℕ) (free : IsF
 
   pub made_world : IsLoadingWorld made
   made_world = extends (λ _ _. ⊥) IsFirst old made is (record {
-    handles = with_absent_object old.handles is.handles owner slot r.kind made.handles.heap free (record { unused = free.1; entered = refl });
+    handles = with_absent_object old.handles is.handles owner slot r.kind made.handles.heap (omega arith) (one_slot r short) (run_of_one old.handles slot free) (record { unused = unused_slot old.handles is.handles slot free; entered = refl });
     numbers = is.numbers;
     names = is.names;
     sources = λ h m e. inl (m, e, same_module m);
@@ -152,7 +161,7 @@ module _ (old : LoadingWorld) (is : IsLoadingWorld old) (slot : ℕ) (free : IsF
     new_module = λ h m x. absurd x;
     new_slots = λ h m q x k. absurd x;
     one_new = λ q a i b j m n x y s t. absurd x;
-    new_load = λ q l x. (first_load q l x, ap (object_at old.handles.heap) x.0 ∙ free.1);
+    new_load = λ q l x. (first_load q l x, ap (object_at old.handles.heap) x.0 ∙ unused_slot old.handles is.handles slot free);
     new_place = λ s t l other x e g. (
       λ y. x.0 ∙ sym y.0,
       λ count has. none_of_place t (record other { loads = count }) has (e ∙ ap (λ (k : Load). k.handle) x.1) (g ∙ ap (λ (k : Load). k.place) x.1),

@@ -1,5 +1,5 @@
 -- A world without some objects: what stays of it.
-use Rattle.w16_loading.proofs.Common.{◌≡◌, ℕ, inl, inr, Bool, true, false, cond, not, length, None, IfSome, IsSomeAnd, is_some, sym, ap, ◌∙◌, subst, nat_cmp, FinMap, false≢true, cases_Bool, Kind, Object, Handles, AreHandles, IsSlot, owned_in, owned_at, LoadingWorld, Load, Modules, heap_without, without_objects, IsObjectOf}
+use Rattle.w16_loading.proofs.Common.{◌≡◌, ℕ, inl, inr, Bool, true, false, cond, not, length, None, IfSome, IsSomeAnd, is_some, sym, ap, ◌∙◌, subst, nat_cmp, FinMap, false≢true, cases_Bool, Kind, Object, Handles, AreHandles, owned_in, owned_at, LoadingWorld, Load, Modules, heap_without, without_objects, IsObjectOf, Option, unwrap_or, option_map, Attributes, IsRun, slots_at, sized_is, bytes_in, refl, arith, ◌+◌, ◌≤◌}
 use Rattle.std.specs.FinMap as finmap
 use Rattle.w16_loading.proofs.Undone.{retained}
 use Rattle.w16_loading.proofs.Released.{released_heap}
@@ -11,6 +11,16 @@ value_left m gone q t = retained m gone q ∙ ap (λ b. cond (not b) (finmap.get
 pub value_gone : {X : Type 0} (m : FinMap nat_cmp X) (gone : ℕ → Bool) (q : ℕ) → gone q ≡ true → finmap.get (finmap.retain_keys m (λ k. not (gone k))) q ≡ None
 value_gone m gone q t = retained m gone q ∙ ap (λ b. cond (not b) (finmap.get m q) None) t
 
+-- no object has more slots then
+abbrev slots_in : Option Attributes → ℕ
+slots_in p = unwrap_or (option_map (λ (a : Attributes). a.slots) p) 0
+
+fewer_slots : (old : Handles) (gone : ℕ → Bool) (q : ℕ) → slots_at (finmap.retain_keys old.attributes (λ q. not (gone q))) q ≤ slots_at old.attributes q
+fewer_slots old gone q = elim (cases_Bool (gone q)) [
+  | inl t ↦ let none : slots_at (finmap.retain_keys old.attributes (λ q. not (gone q))) q ≡ 0 = ap slots_in (value_gone old.attributes gone q t) in omega (arith, none)
+  | inr t ↦ let same : slots_at (finmap.retain_keys old.attributes (λ q. not (gone q))) q ≡ slots_at old.attributes q = ap slots_in (value_left old.attributes gone q t) in omega (arith, same)
+]
+
 -- handles without some objects are handles
 pub released_handles : (old : Handles) → AreHandles old → (gone : ℕ → Bool) → AreHandles (record old { heap = heap_without gone old.heap; attributes = finmap.retain_keys old.attributes (λ q. not (gone q)) })
 released_handles old is gone = record {
@@ -18,13 +28,25 @@ released_handles old is gone = record {
   low = is.low;
   grain = is.grain;
   few = is.few;
-  slotted = λ q. elim (cases_Bool (gone q)) [
-    | inl t ↦ subst (λ p. IfSome p (λ _. IsSlot old q)) (sym (value_gone old.heap.objects gone q t)) tt
-    | inr t ↦ subst (λ p. IfSome p (λ _. IsSlot old q)) (sym (value_left old.heap.objects gone q t)) (is.slotted q)
-  ];
+  runs = record {
+    each = λ q. elim (cases_Bool (gone q)) [
+      | inl t ↦ subst (λ p. IfSome p (IsRun old.slots q)) (sym (value_gone old.attributes gone q t)) tt
+      | inr t ↦ subst (λ p. IfSome p (IsRun old.slots q)) (sym (value_left old.attributes gone q t)) (is.runs.each q)
+    ];
+    apart = λ q other less some. elim (cases_Bool (gone other)) [
+      | inl t ↦ absurd (false≢true (sym (ap is_some (value_gone old.attributes gone other t)) ∙ some))
+      | inr t ↦
+          let bound : q + slots_at old.attributes q ≤ other = is.runs.apart q other less (sym (ap is_some (value_left old.attributes gone other t)) ∙ some) in
+          omega (arith, bound, fewer_slots old gone q)
+    ];
+  };
   attributed = λ q. elim (cases_Bool (gone q)) [
     | inl t ↦ ap is_some (value_gone old.attributes gone q t) ∙ sym (ap is_some (value_gone old.heap.objects gone q t))
     | inr t ↦ ap is_some (value_left old.attributes gone q t) ∙ is.attributed q ∙ sym (ap is_some (value_left old.heap.objects gone q t))
+  ];
+  sized = λ q. elim (cases_Bool (gone q)) [
+    | inl t ↦ sized_is refl (ap bytes_in (value_gone old.heap.objects gone q t)) tt
+    | inr t ↦ sized_is (ap slots_in (value_left old.attributes gone q t)) (ap bytes_in (value_left old.heap.objects gone q t)) (is.sized q)
   ];
 }
 

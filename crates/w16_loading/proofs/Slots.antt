@@ -1,6 +1,7 @@
 -- Slots for the segments of a load are there exactly where as many are free.
-use Rattle.w16_loading.proofs.Common.{◌≡◌, ◌≢◌, ℕ, zero, suc, ◌+◌, ◌-◌, ◌<◌, ◌≤◌, inl, inr, Bool, not, IsTrue, List, [], ◌∷◌, ◌++◌, length, take, drop, flat_map, Option, Some, None, is_some, refl, sym, ap, ◌∙◌, subst, arith, length-append, AllZip, range_with_len, false≢true, cases_eq, take-append-drop, append_assoc, length-take-le, length-drop, sum_by-cons, FIRST_SLOT, Object, object_at, Handles, IsFreeSlot, Member, EachPair, Each-at, Each-from, Each-from_All, All-from_Each, EachPair-from_AllPairs, AllPairs-from_EachPair, pairs_filter, member_filter, filter_member, Found, AreSlots, free_slots, segments_in, SlotsLaw}
+use Rattle.w16_loading.proofs.Common.{◌≡◌, ◌≢◌, ℕ, zero, suc, ◌+◌, ◌-◌, ◌<◌, ◌≤◌, inl, inr, Bool, not, IsTrue, List, [], ◌∷◌, ◌++◌, length, take, drop, flat_map, Option, Some, None, is_some, refl, sym, ap, ◌∙◌, subst, arith, length-append, AllZip, range_with_len, false≢true, cases_eq, take-append-drop, append_assoc, length-take-le, length-drop, sum_by-cons, FIRST_SLOT, Handles, IsFreeSlot, Member, EachPair, Each-at, Each-from, Each-from_All, All-from_Each, EachPair-from_AllPairs, AllPairs-from_EachPair, pairs_filter, member_filter, filter_member, Found, AreSlots, free_slots, segments_in, SlotsLaw}
 use Rattle.std.specs.List.{AllByRecursion as Each}
+use Rattle.w16_model.specs.Handles.{owner_of}
 use Rattle.w16_loading.proofs.Given.{first_apart}
 
 -- Numbers of which no two are equal, all of them in a list, are no more than that has.
@@ -39,16 +40,16 @@ range_apart (suc n) a = (Each-from (λ b. a ≢ b) (range_with_len (a + 1) n) (�
 
 module _ (handles : Handles) where
   abbrev is_free : ℕ → Bool
-  is_free slot = not (is_some (object_at handles.heap slot))
+  is_free slot = not (is_some (owner_of handles.attributes slot))
 
   free_is : (q : ℕ) → Member q (free_slots handles) → IsFreeSlot handles q
   free_is q m =
       let r : Member q (range_with_len FIRST_SLOT handles.slots) × IsTrue (is_free q) = member_filter is_free (range_with_len FIRST_SLOT handles.slots) q m in
-      (in_range handles.slots FIRST_SLOT q r.0, none (object_at handles.heap q) r.1)
+      (in_range handles.slots FIRST_SLOT q r.0, none (owner_of handles.attributes q) r.1)
     where
-      none : (p : Option Object) → IsTrue (not (is_some p)) → p ≡ None
+      none : (p : Option ℕ) → IsTrue (not (is_some p)) → p ≡ None
       none None t = refl
-      none (Some o) t = absurd (false≢true t)
+      none (Some first) t = absurd (false≢true t)
 
   is_free_slot : (q : ℕ) → IsFreeSlot handles q → Member q (free_slots handles)
   is_free_slot q f = filter_member is_free (range_with_len FIRST_SLOT handles.slots) q (range_has handles.slots FIRST_SLOT q f.0.0 f.0.1) (ap (λ p. not (is_some p)) f.1)
@@ -101,6 +102,6 @@ slots_law world found = (λ le. chosen le, λ s. enough s.0 s.1)
             many = r.2;
             free = All-from_Each (IsFreeSlot world.handles) (flat_map (λ s. s) r.0) (first_each (IsFreeSlot world.handles) (flat_map (λ s. s) r.0) r.1
                 (subst (Each (IsFreeSlot world.handles)) (sym r.3) (Each-from (IsFreeSlot world.handles) (free_slots world.handles) (free_is world.handles))));
-            apart = AllPairs-from_EachPair (λ (a b : ℕ). a ≢ b) (flat_map (λ s. s) r.0) (first_apart (flat_map (λ s. s) r.0) r.1 (subst (EachPair (λ (a b : ℕ). a ≢ b)) (sym r.3) (pairs_filter (λ (a b : ℕ). a ≢ b) (λ slot. not (is_some (object_at world.handles.heap slot))) (range_with_len FIRST_SLOT world.handles.slots) (range_apart world.handles.slots FIRST_SLOT))));
+            apart = AllPairs-from_EachPair (λ (a b : ℕ). a ≢ b) (flat_map (λ s. s) r.0) (first_apart (flat_map (λ s. s) r.0) r.1 (subst (EachPair (λ (a b : ℕ). a ≢ b)) (sym r.3) (pairs_filter (λ (a b : ℕ). a ≢ b) (λ slot. not (is_some (owner_of world.handles.attributes slot))) (range_with_len FIRST_SLOT world.handles.slots) (range_apart world.handles.slots FIRST_SLOT))));
           },
         )

@@ -1,10 +1,10 @@
 -- Loads of modules and of resources spare every object that was there.
-use Rattle.w16_loading.proofs.Common.{◌≡◌, ◌≢◌, ℕ, inl, inr, ◌⊎◌, Bool, true, false, cond, nat_lt, ◌+◌, MatchBool, MatchOption, fold, List, Option, Some, None, is_some, refl, sym, ap, ◌∙◌, subst, false≢true, cases_Bool, is_member, Heap, object_at, IsFreeSlot, AreHandles, handle_of, Member, is_member-true, inserted_other, with_absent_object, FetchFault, Resource, LoadingWorld, Load, with_heap, Failure, InTurn, heap_without, Closure, Choice, IsChoice, all_slots, bound, fills, given, named, segments_of, with_segment, Answer, Fulfils, left, undone, AnyFetches, AnyLoads, GivesAny, IsLoadingWorld, Reply, Word, MOST_USES, LoadsResource, LoadsNewResource, AnswersNone, attributes_for, is_too_long, load_of, loaded_again, resource_at, resource_outcome, with_resource}
+use Rattle.w16_loading.proofs.Common.{◌≡◌, ◌≢◌, ℕ, inl, inr, ◌⊎◌, Bool, true, false, cond, nat_lt, ◌+◌, MatchBool, MatchOption, fold, List, Option, Some, None, is_some, refl, sym, ap, ◌∙◌, subst, false≢true, cases_Bool, is_member, Heap, object_at, IsFreeSlot, handle_of, Member, is_member-true, inserted_other, FetchFault, Resource, LoadingWorld, Load, with_heap, Failure, InTurn, heap_without, Closure, Choice, IsChoice, all_slots, bound, fills, given, named, segments_of, with_segment, Answer, Fulfils, left, undone, AnyFetches, AnyLoads, GivesAny, IsLoadingWorld, Reply, Word, MOST_USES, LoadsResource, LoadsNewResource, AnswersNone, is_too_long, load_of, loaded_again, resource_at, resource_outcome, with_resource, unused_slot, IsHeap, entered_heap}
 use Rattle.std.specs.FinMap as finmap
 use Rattle.w16_loading.specs.declared.FetchFault.TheVariants as faults
 use Rattle.w16_loading.proofs.Fillings.{any_do}
 use Rattle.w16_loading.proofs.Given.{filled_chosen}
-use Rattle.w16_loading.proofs.Named.{free_slot, named_handles}
+use Rattle.w16_loading.proofs.Named.{free_slot, named_heap}
 use Rattle.w16_loading.proofs.Spared.{IsSpared, left_alone, same_spared, spared_then, spared_without, filled_spared, fetch_spares}
 use Rattle.w16_loading.proofs.Stepping.{any_loaded}
 use Rattle.w16_loading.proofs.Undone.{IsNamed, chosen, fold_named}
@@ -14,7 +14,7 @@ module _ (old : LoadingWorld) (is : IsLoadingWorld old) (q : ℕ) (there : is_so
   Spared world = IsSpared old.handles.heap world.handles.heap q
 
   not_free : (slot : ℕ) → IsFreeSlot old.handles slot → q ≢ slot
-  not_free slot free e = false≢true (sym (ap is_some (ap (object_at old.handles.heap) e ∙ free.1)) ∙ there)
+  not_free slot free e = false≢true (sym (ap is_some (ap (object_at old.handles.heap) e ∙ unused_slot old.handles is.handles slot free)) ∙ there)
 
   -- Modules.
 
@@ -33,7 +33,7 @@ module _ (old : LoadingWorld) (is : IsLoadingWorld old) (q : ℕ) (there : is_so
     named_spared = left_alone old.handles.heap begun q (named_is.others q (λ x m. not_chosen x.0 (chosen 0 closure.found choice.handles choice.slots x m))) (ap (λ (w : LoadingWorld). finmap.get w.handles.heap.places q) named_is.rest)
 
     all_filled : IsSpared begun heap q
-    all_filled = (any_do (λ a b. IsSpared a b q) (λ h. same_spared h q) (λ a b c. spared_then a b c q) begun heap (fills old closure choice) failure (named_handles old closure choice is.handles good).heap
+    all_filled = (any_do (λ a b. IsSpared a b q) (λ h. same_spared h q) (λ a b c. spared_then a b c q) begun heap (fills old closure choice) failure (named_heap old closure choice is.handles good)
         (λ x m a b bytes h long g. filled_spared a x.slot bytes b h g q (not_chosen x.slot (filled_chosen (bound old closure choice) closure.found choice.handles choice.slots x m))) filled).0
 
     load_spared : IsSpared old.handles.heap heap q
@@ -67,13 +67,13 @@ module _ (old : LoadingWorld) (is : IsLoadingWorld old) (q : ℕ) (there : is_so
     fresh : (r : Resource) → LoadsNewResource AnyFetches old handle place r reply new → Spared new
     fresh r f = outcome_is (resource_outcome f.fault (handle_of r.kind f.slot) f.next old) f.outcome (turn f.fault)
       where
-        are : AreHandles (with_resource old f.slot handle place r).handles
-        are = with_absent_object old.handles is.handles (attributes_for r) f.slot r.kind (with_resource old f.slot handle place r).handles.heap f.free (record { unused = f.free.1; entered = refl })
+        are : IsHeap (with_resource old f.slot handle place r).handles.heap
+        are = entered_heap old.handles.heap is.handles.heap f.slot r.kind (unused_slot old.handles is.handles f.slot f.free)
 
         next_spared : Spared f.next
         next_spared = spared_then old.handles.heap (with_resource old f.slot handle place r).handles.heap f.next.handles.heap q
             (left_alone old.handles.heap (with_resource old f.slot handle place r).handles.heap q (inserted_other old.handles.heap.objects f.slot (record { kind = r.kind; locks = 0; bytes = None }) q (not_free f.slot f.free)) refl)
-            (fetch_spares (with_resource old f.slot handle place r) are.heap f.slot f.fault f.next f.fetched q (not_free f.slot f.free))
+            (fetch_spares (with_resource old f.slot handle place r) are f.slot f.fault f.next f.fetched q (not_free f.slot f.free))
 
         turn : (fault : Option FetchFault) → Spared (resource_outcome fault (handle_of r.kind f.slot) f.next old).1
         turn None = next_spared

@@ -1,11 +1,12 @@
 -- Far accesses and locks of resources spare every object that isn't theirs, and leave theirs where it stands.
-use Rattle.w16_loading.proofs.Common.{◌≡◌, ◌≢◌, ℕ, ◌≤◌, ◌/◌, ◌==◌, ◌&&◌, Bool, true, false, cond, MatchBool, MatchOption, IfSome, List, Option, Some, None, is_some, option_map, unwrap_or, refl, sym, ap, ◌∙◌, subst, arith, false≢true, FIRST_SLOT, put_part, repeated, KeepsContents, global_lock, GlobalLock, FarAnswer, FarCommand, after_write, far_slot, Write, Fill, Handles, AreHandles, IsSlot, handle_of, offset_in, selector_in, selector_of, slot_of_handle, slot_of_selector, Object, bytes_at, object_at, StandsStill, after_touch, Calls, bystander, contents, call_outcome, get-update_other, FetchFault, AnyFetches, pointer_in, FarStep, Accesses, far_read, far_write, gives, needs_fetch, is_of_read, IsLoadingWorld, LoadingWorld, Load, Reply, Dword, Failed, LocksResource, lock_outcome, locked, slot_of_resource}
+use Rattle.w16_loading.proofs.Common.{◌≡◌, ◌≢◌, ℕ, ◌/◌, ◌==◌, Bool, true, false, cond, MatchBool, MatchOption, List, Option, Some, None, is_some, option_map, unwrap_or, refl, sym, ap, ◌∙◌, subst, arith, put_part, repeated, KeepsContents, global_lock, GlobalLock, FarAnswer, FarCommand, after_write, far_slot, Write, Fill, Handles, AreHandles, handle_of, offset_in, selector_in, slot_of_handle, Object, bytes_at, object_at, StandsStill, after_touch, Calls, bystander, contents, call_outcome, get-update_other, FetchFault, AnyFetches, pointer_in, FarStep, Accesses, far_read, far_write, gives, needs_fetch, IsLoadingWorld, LoadingWorld, Load, Reply, Dword, Failed, LocksResource, lock_outcome, locked, slot_of_resource, Part, part_of_selector, IsSomeAnd, far_at}
 use Rattle.std.specs.FinMap as finmap
 use Rattle.w16_model.specs.Far.FarCommand.{Read}
 use Rattle.w16_loading.specs.declared.FetchFault.TheVariants as faults
+use Rattle.w16_model.proofs.Runs.{numbered}
 use Rattle.w16_loading.proofs.FarCases.{read_cases, write_cases}
 use Rattle.w16_loading.proofs.FetchWorlds.{fetched_world}
-use Rattle.w16_loading.proofs.Fillings.{lost, one_there}
+use Rattle.w16_loading.proofs.Fillings.{lost}
 use Rattle.w16_loading.proofs.Spared.{HasPinned, IsSpared, fetch_spares, fetch_stands, left_alone, same_spared, spared_then, stands_then, stays_put}
 
 -- What holds of a world before an access or a lock, and of each that a fetch leaves, and so of what the access or the lock leaves.
@@ -95,29 +96,24 @@ module _ (old : LoadingWorld) (is : IsLoadingWorld old) (q : ℕ) (there : is_so
   -- Far accesses.
 
   -- a selector of no object reaches the slot 0, which no object has
-  not_reached : (selector : ℕ) → slot_of_selector old.handles selector ≢ Some q → q ≢ far_slot old.handles selector
-  not_reached selector out = turn (slot_of_selector old.handles selector) out
+  not_reached : (selector : ℕ) → (IsSomeAnd (part_of_selector old.handles selector) (λ (p : Part). p.slot ≡ q) → ⊥) → q ≢ far_slot old.handles selector
+  not_reached selector out = turn (part_of_selector old.handles selector) out
     where
-      slotted : (p : Option Object) → is_some p ≡ true → IfSome p (λ _. IsSlot old.handles q) → IsSlot old.handles q
-      slotted None t h = absurd (false≢true t)
-      slotted (Some o) t h = h
-
-      turn : (p : Option ℕ) → p ≢ Some q → q ≢ unwrap_or p 0
-      turn None out e = let low : FIRST_SLOT ≤ q = (slotted (object_at old.handles.heap q) there (is.handles.slotted q)).0 in omega (arith, low, e)
-      turn (Some slot) out e = out (ap Some (sym e))
+      turn : (p : Option Part) → (IsSomeAnd p (λ (p : Part). p.slot ≡ q) → ⊥) → q ≢ (unwrap_or p (record { slot = 0; number = 0 })).slot
+      turn None out e = omega (arith, (numbered old.handles is.handles q there).0, e)
+      turn (Some p) out e = out (sym e)
 
   -- a fetch leaves each selector's slot
   same_slot : (slot selector : ℕ) (fault : Option FetchFault) (next : LoadingWorld) → AnyFetches old slot fault next → far_slot next.handles selector ≡ far_slot old.handles selector
-  same_slot slot selector fault next f = ap (λ b. unwrap_or (cond {A = Option ℕ} (b && (selector == selector_of (selector / 8))) (Some (selector / 8)) None) 0)
-      (one_there is_of_read old.handles.heap slot f.bytes fault next.handles.heap is.handles.heap f.filled (selector / 8))
+  same_slot slot selector fault next f = ap (λ (w : LoadingWorld). far_slot w.handles selector) f.rest
 
-  pub access_spares : (command : FarCommand) → slot_of_selector old.handles (selector_in (pointer_in command)) ≢ Some q → FarStep AnyFetches old command reply new → Spared new
+  pub access_spares : (command : FarCommand) → (IsSomeAnd (part_of_selector old.handles (selector_in (pointer_in command))) (λ (p : Part). p.slot ≡ q) → ⊥) → FarStep AnyFetches old command reply new → Spared new
   access_spares command out step = access_does (λ w. Spared w × (q ≢ far_slot w.handles selector)) Spared old new reply (same_spared old.handles.heap q, other) command
       (λ fault next f. (fetch_spares old is.handles.heap (far_slot old.handles selector) fault next f q other, λ e. other (e ∙ same_slot (far_slot old.handles selector) selector fault next f)))
       (λ w p. p.0) (λ offset n w p. read_cases Spared w p.0 selector offset n p.0)
-      (λ offset slice w p. write_cases Spared w p.0 selector offset slice (λ t e. spared_then old.handles.heap w.handles.heap (after_touch (after_write w.handles.heap (far_slot w.handles selector) offset slice) (far_slot w.handles selector)) q p.0
-      (left_alone w.handles.heap (after_touch (after_write w.handles.heap (far_slot w.handles selector) offset slice) (far_slot w.handles selector)) q
-      (get-update_other w.handles.heap.objects (far_slot w.handles selector) (λ (o : Object). record o { bytes = option_map (λ bytes. put_part bytes offset slice) o.bytes }) q p.1) refl))) step
+      (λ offset slice w p. write_cases Spared w p.0 selector offset slice (λ t e. spared_then old.handles.heap w.handles.heap (after_touch (after_write w.handles.heap (far_slot w.handles selector) (far_at w.handles selector offset) slice) (far_slot w.handles selector)) q p.0
+      (left_alone w.handles.heap (after_touch (after_write w.handles.heap (far_slot w.handles selector) (far_at w.handles selector offset) slice) (far_slot w.handles selector)) q
+      (get-update_other w.handles.heap.objects (far_slot w.handles selector) (λ (o : Object). record o { bytes = option_map (λ bytes. put_part bytes (far_at w.handles selector offset) slice) o.bytes }) q p.1) refl))) step
     where
       selector : ℕ
       selector = selector_in (pointer_in command)

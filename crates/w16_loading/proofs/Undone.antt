@@ -1,5 +1,5 @@
 -- Names that are taken back leave the same world.
-use Rattle.w16_loading.proofs.Common.{◌≡◌, ◌≢◌, ℕ, ◌+◌, inl, inr, ◌⊎◌, Bool, true, false, cond, not, List, [], ◌∷◌, ◌++◌, fold, filter, flat_map, zip, Option, Some, None, All, is_some, refl, sym, ap, ◌∙◌, subst, nat_cmp_total, nat_cmp, FinMap, same_map, nat_cmp-IsAntisymmetric, get-retain_keys, false≢true, cases_Bool, is_member, object_at, is_in_order, AreHandles, IsFreeSlot, owned_in, owned_at, Member, Each-from_All, Each-at, is_member-true, true-is_member, inserted_other, Segment, LoadingWorld, with_heap, Found, given, given_from, all_slots, segments_of, with_segment, attributes_of, without_objects, TakenBackLaw, UndoneLaw}
+use Rattle.w16_loading.proofs.Common.{◌≡◌, ◌≢◌, ℕ, ◌+◌, inl, inr, ◌⊎◌, Bool, true, false, cond, not, List, [], ◌∷◌, ◌++◌, fold, filter, flat_map, zip, Option, Some, None, All, is_some, refl, sym, ap, ◌∙◌, subst, nat_cmp_total, nat_cmp, FinMap, same_map, nat_cmp-IsAntisymmetric, get-retain_keys, false≢true, cases_Bool, is_member, object_at, is_in_order, AreHandles, IsFreeSlot, owned_in, owned_at, Member, Each-from_All, Each-at, is_member-true, true-is_member, inserted_other, Segment, LoadingWorld, with_heap, Found, given, given_from, all_slots, segments_of, with_segment, attributes_of, without_objects, TakenBackLaw, UndoneLaw, unused_slot}
 use Rattle.std.specs.FinMap as finmap
 
 -- Slots of segments are slots that were chosen.
@@ -104,14 +104,14 @@ module _ (old : LoadingWorld) (is : AreHandles old.handles) (slots : List ℕ) (
       attributes : finmap.retain_keys new.handles.attributes (λ q. not (gone q)) ≡ old.handles.attributes
       attributes = unchanged old.handles.attributes new.handles.attributes (λ q t. none (finmap.get old.handles.attributes q) (is.attributed q ∙ ap is_some (no_object q t))) (λ q t. n.attributes q (out q t))
 
-free_objects : (old : LoadingWorld) (slots : List ℕ) → All (IsFreeSlot old.handles) slots → (q : ℕ) → Member q slots → object_at old.handles.heap q ≡ None
-free_objects old slots free q m = (Each-at (IsFreeSlot old.handles) slots (Each-from_All (IsFreeSlot old.handles) slots free) q m).1
+free_objects : (old : LoadingWorld) → AreHandles old.handles → (slots : List ℕ) → All (IsFreeSlot old.handles) slots → (q : ℕ) → Member q slots → object_at old.handles.heap q ≡ None
+free_objects old is slots free q m = unused_slot old.handles is q (Each-at (IsFreeSlot old.handles) slots (Each-from_All (IsFreeSlot old.handles) slots free) q m)
 
 pub taken_back_law : TakenBackLaw
-taken_back_law old slots xs is free inside = taken_away old is slots (free_objects old slots free) xs
+taken_back_law old slots xs is free inside = taken_away old is slots (free_objects old is slots free) xs
     (λ x m. is_member-true x.0 slots (Each-at (λ (x : ℕ × Segment). is_member x.0 slots ≡ true) xs (Each-from_All (λ (x : ℕ × Segment). is_member x.0 slots ≡ true) xs inside) x m))
     (fold with_segment old xs) (fold_named old xs)
 
 pub undone_law : UndoneLaw
-undone_law old closure choice is chosen_well = ap (λ (w : LoadingWorld). with_heap old w.handles.heap) (taken_away old is (all_slots choice) (free_objects old (all_slots choice) chosen_well.slots.free) (segments_of (given closure choice))
+undone_law old closure choice is chosen_well = ap (λ (w : LoadingWorld). with_heap old w.handles.heap) (taken_away old is (all_slots choice) (free_objects old is (all_slots choice) chosen_well.slots.free) (segments_of (given closure choice))
     (chosen 0 closure.found choice.handles choice.slots) (fold with_segment old (segments_of (given closure choice))) (fold_named old (segments_of (given closure choice))))

@@ -1,6 +1,6 @@
 -- Each step of each family keeps what holds of every world, whatever the store answers.
-use Rattle.w16_loading.proofs.Common.{◌<◌, All, Option, Some, None, refl, sym, ap, subst, Heap, FarCommand, other_handles, All-repeated, LoadingWorld, with_heap, Failure, InTurn, Closure, around, named, fills, Answer, Fulfils, undone, left, GivesAny, AnyFetches, AnyLoads, LoadingCommand, IsLoadingCommand, IsLoadingWorld, OnlyDiscards, AnyKeepsWorldsLaw, KeepsWorldsLaw}
-use Rattle.w16_loading.proofs.Fillings.{lost}
+use Rattle.w16_loading.proofs.Common.{◌<◌, All, Option, Some, None, refl, sym, ap, subst, Heap, FarCommand, other_handles, All-repeated, LoadingWorld, with_heap, Failure, InTurn, Closure, around, named, fills, Answer, Fulfils, undone, left, GivesAny, AnyFetches, AnyLoads, LoadingCommand, IsLoadingCommand, IsLoadingWorld, OnlyDiscards, AnyKeepsWorldsLaw, KeepsWorldsLaw, slots_at}
+use Rattle.w16_loading.proofs.Fillings.{lost, kept_sized}
 use Rattle.w16_loading.proofs.RefusedLoad.{undone_discards}
 use Rattle.w16_loading.proofs.KeptWorlds.{kept_left, left_owned, world_stays, recounted}
 use Rattle.w16_loading.proofs.CallsKept.{handles_world, resizes_world}
@@ -18,7 +18,8 @@ use Rattle.w16_loading.proofs.Owners.{object_there}
 -- what a refused load leaves
 discards_world : (old : LoadingWorld) → IsLoadingWorld old → (heap : Heap) → OnlyDiscards old.handles.heap heap → IsLoadingWorld (with_heap old heap)
 discards_world old is heap d = world_stays old is (record old.handles { heap = heap })
-    (other_handles old.handles is.handles heap d.sound (ap (λ (h : Heap). h.lo) d.rest) (ap (λ (h : Heap). h.grain) d.rest) (λ q. lost old.handles.heap heap q (d.objects q))) (λ q. refl)
+    (other_handles old.handles is.handles heap d.sound (ap (λ (h : Heap). h.lo) d.rest) (ap (λ (h : Heap). h.grain) d.rest) (λ q. lost old.handles.heap heap q (d.objects q))
+    (λ q. kept_sized old.handles.heap heap q (slots_at old.handles.attributes q) (d.objects q) (is.handles.sized q))) (λ q. refl)
     (λ q kind size code h. left_owned old.handles.heap heap q kind size (kept_left old.handles.heap heap q (object_there old q kind size code h) (d.objects q)) h.object)
 
 module _ (old : LoadingWorld) (is : IsLoadingWorld old) where

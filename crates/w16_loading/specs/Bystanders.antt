@@ -3,7 +3,7 @@ use Rattle.std.specs.Prelude.{◌≡◌, ℕ, ◌⊎◌, Bool, true, false, is_s
 use Rattle.w16_model.specs.declared.TheConstants.{GMEM_MOVEABLE}
 use Rattle.w16_model.specs.CallLaws.{IsAbout, IsKeptOrDiscarded, may_move_own}
 use Rattle.w16_model.specs.Effects.{pointer_in}
-use Rattle.w16_model.specs.Handles.{Handles, selector_in, slot_of_handle, slot_of_selector}
+use Rattle.w16_model.specs.Handles.{Handles, Part, selector_in, slot_of_handle, part_of_selector}
 use Rattle.w16_model.specs.Heap.{object_at, is_pinned_object}
 use Rattle.w16_model.specs.Law.{StandsStill}
 use Rattle.w16_model.specs.Outcomes.{Call}
@@ -29,7 +29,7 @@ call_of (GlobalDiscard handle) = ReAllocs handle 0 GMEM_MOVEABLE
 abbrev pub IsStepAbout : Handles → LoadingCommand → ℕ → Type 0
 IsStepAbout old (OfHandles command) q = IsAbout old (Calls command) q
 IsStepAbout old (OfResizes command) q = IsAbout old (call_of command) q
-IsStepAbout old (OfFar command) q = slot_of_selector old (selector_in (pointer_in command)) ≡ Some q
+IsStepAbout old (OfFar command) q = IsSomeAnd (part_of_selector old (selector_in (pointer_in command))) (λ (p : Part). p.slot ≡ q)
 IsStepAbout old (OfResources (LockResource handle)) q = slot_of_handle old handle ≡ Some q
 IsStepAbout old command q = ⊥
 

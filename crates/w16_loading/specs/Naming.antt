@@ -2,10 +2,10 @@
 use Rattle.std.specs.Prelude.{◌≡◌, ◌≢◌, ℕ, ◌+◌, ◌==◌, ◌||◌, false, not, is_some, sum_by, if◌then◌else◌, List, [], ◌∷◌, length, map, filter, fold, flat_map, zip, All, AllPairs, Some, None, slice_index_or}
 use Rattle.std.specs.List.{AllZip, range_with_len}
 use Rattle.std.specs.FinMap as finmap
-use Rattle.w16_model.specs.Heap.{is_fixed, object_at}
+use Rattle.w16_model.specs.Heap.{is_fixed}
 use Rattle.w16_model.specs.Changes.{with_object}
 use Rattle.w16_model.specs.declared.Attributes.{Attributes}
-use Rattle.w16_model.specs.Handles.{Handles, IsFreeSlot}
+use Rattle.w16_model.specs.Handles.{Handles, IsFreeSlot, owner_of}
 use Rattle.w16_model.specs.declared.TheConstants.{FIRST_SLOT}
 use Rattle.w16_loading.specs.File.{Segment, SegmentData, Far, targets_of}
 use Rattle.w16_loading.specs.Fill.{Filling}
@@ -30,7 +30,7 @@ pub record AreSlots (world : LoadingWorld) (found : List Found) (slots : List (L
 
 -- The slots that no object has. There are slots for all segments exactly where these are as many.
 abbrev pub free_slots : Handles → List ℕ
-free_slots handles = filter (λ slot. not (is_some (object_at handles.heap slot))) (range_with_len FIRST_SLOT handles.slots)
+free_slots handles = filter (λ slot. not (is_some (owner_of handles.attributes slot))) (range_with_len FIRST_SLOT handles.slots)
 
 abbrev pub segments_in : List Found → ℕ
 segments_in found = sum_by (λ f. length f.read.tables.segments) found
@@ -94,7 +94,7 @@ segments_of gs = flat_map (λ g. zip g.slots g.found.read.tables.segments) gs
 
 -- a module owns it
 abbrev pub attributes_of : Segment → Attributes
-attributes_of s = record { shared = false; owned = Some (record { size = s.size; code = s.is_code }) }
+attributes_of s = record { shared = false; owned = Some (record { size = s.size; code = s.is_code }); slots = 1 }
 
 abbrev pub with_segment : LoadingWorld → ℕ × Segment → LoadingWorld
 with_segment world x = record world {

@@ -42,7 +42,7 @@ loaded_again old r x =
 
 -- a module owns it
 abbrev pub attributes_for : Resource → Attributes
-attributes_for r = record { shared = false; owned = Some (record { size = rounded_size r.length_in; code = false }) }
+attributes_for r = record { shared = false; owned = Some (record { size = rounded_size r.length_in; code = false }); slots = 1 }
 
 -- a new object without bytes for it
 abbrev pub with_resource : LoadingWorld → ℕ → ℕ → ℕ → Resource → LoadingWorld

@@ -9,7 +9,7 @@ pub use Rattle.w16_arena.proofs.Common.{IsLaid, IsPlaced, IsSameRange, block_tab
 pub use Rattle.w16_arena.proofs.Lookups.{in_list, no_entry}
 pub use Rattle.w16_arena.proofs.Parts.{AreParts}
 pub use Rattle.w16_arena.specs.declared.new_place.Placed.{Placed}
-pub use Rattle.w16_global.proofs.Common.{ArenaState, Compacts, Global, IfErr, IfNone, IsSlot, KeepsRest, Lends, OnOk, Reallocates, Steps, cases_lt, common_steps, contents, counted, empty_table, entry_is, entry_of, get-by_id, get_or-set_other, get_or-set_same, heap_kept, if◌then◌else◌, is_heap, length-set, locks_at, moved_bytes, no_block, object_here, place_here, set, size_here, sound, ◌++◌}
+pub use Rattle.w16_global.proofs.Common.{ArenaState, Compacts, Global, IfErr, IfNone, KeepsRest, Lends, OnOk, Reallocates, Steps, cases_lt, common_steps, contents, counted, empty_table, entry_is, entry_of, get-by_id, get_or-set_other, get_or-set_same, heap_kept, if◌then◌else◌, is_heap, length-set, locks_at, moved_bytes, no_block, numbered, object_here, place_here, set, size_here, sound, ◌++◌}
 pub use Rattle.w16_holes.proofs.Common.{position, position-Some}
 pub use Rattle.w16_loading.proofs.Common.{position_or_len}
 pub use Rattle.w16_local.specs.Acts.{Acted, ActedIn, Done, Idle, IsLent, IsLentOnce, IsSize, MayAct, MayActIn, MayActOver, Writes}

@@ -1,5 +1,5 @@
 -- What a local heap's table tells of its heap: names, near pointers, sizes.
-use Rattle.w16_local.proofs.Common.{◌≡◌, ◌≢◌, ℕ, ◌+◌, ◌*◌, ◌/◌, ◌%◌, ◌<◌, ◌≤◌, ◌⊎◌, inl, inr, ◌==◌, nat_lt, lt-ltb, le-ltb, ne_eqb, eq-eqb, is_ok, Result, Ok, Err, Bool, true, false, not, cond, if◌then◌else◌, IfSome, is_some, List, length, slice_range, Option, Some, None, option_map, unwrap_or, refl, sym, ap, ◌∙◌, subst, arith, cases_lt, Block, Entry, Refusal, locks_at, absent, removed, after_discard, after_free, block_end, Heap, Object, IsHeap, object_at, bytes_at, is_fixed, is_discardable, IsMultiple, Table, block_with, entry_at, heap_in, object_in, Each-at, Each-from_All, laid_each, member_with, AreParts, in_list, is_heap, object_here, place_here, size_here, IsLocalTable, id_at, id_named, name_at, name_of, LMEM_DISCARDABLE, LMEM_DISCARDED, local_flags_of, names_law, IsOver}
+use Rattle.w16_local.proofs.Common.{◌≡◌, ◌≢◌, ℕ, ◌+◌, ◌*◌, ◌/◌, ◌%◌, ◌<◌, ◌≤◌, ◌⊎◌, inl, inr, ◌==◌, nat_lt, lt-ltb, le-ltb, ne_eqb, eq-eqb, is_ok, Result, Ok, Err, Bool, true, false, not, cond, if◌then◌else◌, IfSome, is_some, List, length, slice_range, Option, Some, None, option_map, unwrap_or, refl, sym, ap, ◌∙◌, subst, arith, cases_lt, Block, Entry, Refusal, locks_at, absent, removed, after_discard, after_free, block_end, Heap, Object, IsHeap, object_at, bytes_at, is_fixed, is_discardable, IsMultiple, Table, block_with, entry_at, heap_in, object_in, Each-at, Each-from_All, laid_each, member_with, AreParts, is_heap, object_here, place_here, size_here, IsLocalTable, id_at, id_named, name_at, name_of, LMEM_DISCARDABLE, LMEM_DISCARDED, local_flags_of, names_law, IsOver}
 use Rattle.std.specs.FinMap as finmap
 use Rattle.w16_model.specs.declared.Refusal.TheVariants as refusals
 

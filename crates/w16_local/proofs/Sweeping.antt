@@ -1,5 +1,5 @@
 -- Heaps that go with the bytes of their segments, listed slot by listed slot.
-use Rattle.w16_local.proofs.Common.{◌≡◌, ◌≢◌, ℕ, ◌+◌, ◌-◌, ◌*◌, ◌<◌, ◌≤◌, inl, inr, Bool, true, false, cond, nat_le, IfSome, IsSomeAnd, List, length, get_or, Option, Some, None, option_map, is_some, refl, sym, ap, ◌∙◌, subst, arith, nat_cmp_total, nat_cmp, FinMap, same_map, nat_cmp-IsAntisymmetric, get-retain_keys, cases_Bool, cases_eq, false≢true, Handles, AreHandles, IsSlot, slot_of_selector, Heap, Object, bytes_at, object_at, Table, has_range, left_in, AreListed, IsListed, tables_of, AreSwept}
+use Rattle.w16_local.proofs.Common.{◌≡◌, ◌≢◌, ℕ, ◌+◌, ◌-◌, ◌*◌, ◌<◌, ◌≤◌, inl, inr, Bool, true, false, cond, nat_le, IsSomeAnd, List, length, get_or, Option, Some, None, option_map, is_some, refl, sym, ap, ◌∙◌, subst, arith, nat_cmp_total, nat_cmp, FinMap, same_map, nat_cmp-IsAntisymmetric, get-retain_keys, cases_Bool, cases_eq, false≢true, Handles, AreHandles, numbered, slot_of_selector, Heap, Object, bytes_at, object_at, Table, has_range, left_in, AreListed, IsListed, tables_of, AreSwept}
 use Rattle.std.specs.FinMap as finmap
 use Rattle.w16_model.proofs.Naming.{names_law}
 use Rattle.w16_local.proofs.Locals.{tables_at}
@@ -24,11 +24,11 @@ module _ (h : Handles) (slot : ℕ) where
       turn (Some o) there = sym (ap (option_map (length {A = ℕ})) (none slot ((names_law h (8 * slot + 7) slot).1.1 (subst (λ (p : Option Object). IsSomeAnd p (λ _. 8 * slot + 7 ≡ 8 * slot + 7)) (sym there) refl))))
 
   pub size_past : AreHandles h → 8192 ≤ slot → None ≡ option_map (length {A = ℕ}) (bytes_at h.heap slot)
-  size_past are past = turn (object_at h.heap slot) refl (are.slotted slot)
+  size_past are past = turn (object_at h.heap slot) refl
     where
-      turn : (p : Option Object) → object_at h.heap slot ≡ p → IfSome p (λ _. IsSlot h slot) → None ≡ option_map (length {A = ℕ}) (bytes_at h.heap slot)
-      turn None there s = sym (ap (option_map (length {A = ℕ})) (without there))
-      turn (Some o) there s = absurd (let few = are.few in let below = s.1 in omega (arith, few, below, past))
+      turn : (p : Option Object) → object_at h.heap slot ≡ p → None ≡ option_map (length {A = ℕ}) (bytes_at h.heap slot)
+      turn None there = sym (ap (option_map (length {A = ℕ})) (without there))
+      turn (Some o) there = absurd (let few = are.few in let below = (numbered h are slot (ap is_some there)).1 in omega (arith, few, below, past))
 
 module _ (heap : Heap) where
   -- whether these bytes have a table's range

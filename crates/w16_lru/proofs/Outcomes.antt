@@ -4,6 +4,11 @@ use Rattle.std.specs.List.{AllByRecursion as Each}
 use Rattle.w16_lru.proofs.Members.{without-absent, fewer, member_below, few}
 use Rattle.w16_lru.proofs.Ways.{follow-leads, length-follow, follow-next, leads-behind, leads-some, leads-no, leads-none, leads-stuck, each_at, each-drop, slice_get-behind}
 use Rattle.w16_lru.proofs.Rings.{ring-out, ring-oldest, ring-newest}
+use Rattle.std.proofs.Common.{length-set, set}
+use Rattle.std.proofs.lemmas.List.{length-map}
+use Rattle.w16_lru.specs.Uses.{renamed}
+use Rattle.w16_lru.proofs.Ways.{each_other}
+use Rattle.w16_lru.proofs.Renamed.{relinked, none_renamed, ring-renamed}
 
 -- the ids of a ring are followed along its links
 pub kept : (cap members : ℕ) (after before ids : List ℕ) → IsRing cap after before ids → length ids ≡ members → IsRing cap after before (ids_of cap after members)
@@ -44,6 +49,13 @@ pub exchanged_before : {Z : Type 0} (table : Vec ℕ Z) (links seen_links seen n
 exchanged_before table links seen_links seen new p x alike same e =
     exchanged_after table seen new (slice_index seen_links p) (slice_index seen_links x) same e
     ∙ ap (λ (l : List ℕ). swap table.items (slice_index l p) (slice_index l x)) alike
+
+-- the items of a table in which a number takes another's place
+pub relinked_items : {Z : Type 0} (table : Vec ℕ Z) (seen new : List ℕ) (from id to : ℕ) → seen ≡ table.items → new ≡ relinked seen from id to → (with_items table new).items ≡ relinked table.items from id to
+relinked_items table seen new from id to same e =
+    let long : length new ≡ table.len = ap length e ∙ length-set (set (set seen to (slice_index seen id)) from to) id id
+    ∙ length-set (set seen to (slice_index seen id)) from to ∙ length-set seen to (slice_index seen id) ∙ ap length same ∙ sym table.ok.0 in
+    with_items_is table new long ∙ e ∙ ap (λ (l : List ℕ). relinked l from id to) same
 
 module _ (cap members : ℕ) (after before : List ℕ) (now : Uses) (ring : IsRing cap after before (ids_of cap after members)) (view : uses_of cap after members ≡ now) where
   ids_are : ids_of cap after members ≡ now.ids
@@ -135,12 +147,35 @@ module _ (cap members : ℕ) (after before : List ℕ) (now : Uses) (ring : IsRi
   pub fits : members ≤ cap
   fits = let bound = few now are_uses in let long = count in let e = cap_is in omega arith
 
+  -- One that is no member takes the place of another.
+  module _ (id to next : ℕ) (lt : id < cap) (is_next : next ≡ get_or after id next) where
+    pub none_there : next ≡ id → now ≡ with_ids now (renamed id to now.ids)
+    none_there self = ap (with_ids now) (sym (none_renamed id to now.ids (each_other id now.ids (alone_none id next lt is_next self))))
+
+    module _ (to_lt : to < cap) (none : is_member to now.ids ≡ false) (other : next ≢ id) {front : ℕ} (leads : front ≡ get_or before id front)
+        (forward backward : List ℕ) (a : forward ≡ relinked after front id to) (b : backward ≡ relinked before next id to) where
+      ring_renamed : IsRing cap forward backward (renamed id to now.ids)
+      ring_renamed =
+          let next_is = read_after id next (omega arith) is_next in let front_is = read_before id front (omega arith) leads in
+          let linked : slice_index after id ≢ id = λ e. other (next_is ∙ e) in
+          let another : id ≢ to = λ e. linked (ap (slice_index after) e ∙ ring_now.alone to to_lt none ∙ sym e) in
+          rw (a ∙ ap (λ p. relinked after p id to) front_is, b ∙ ap (λ p. relinked before p id to) next_is) (ring-renamed id to another cap after before now.ids ring_now lt to_lt linked none)
+
+      as_many_renamed : length (renamed id to now.ids) ≡ members
+      as_many_renamed = length-map now.ids _ ∙ count
+
+      pub renamed_kept : IsRing cap forward backward (ids_of cap forward members)
+      renamed_kept = kept cap members forward backward (renamed id to now.ids) ring_renamed as_many_renamed
+
+      pub renamed_value : uses_of cap forward members ≡ with_ids now (renamed id to now.ids)
+      renamed_value = viewed cap members forward backward (renamed id to now.ids) ring_renamed as_many_renamed ∙ (λ i. record { cap = cap_is i; ids = renamed id to now.ids })
+
   -- What is linked to another is a member.
   module _ (id next : ℕ) (lt : id < cap) (is_next : next ≡ get_or after id next) (other : next ≢ id) where
     linked : slice_index after id ≢ id
     linked e = other (read_after id next (omega arith) is_next ∙ e)
 
-    there : is_member id now.ids ≡ true
+    pub there : is_member id now.ids ≡ true
     there = turn (is_member id now.ids) refl
       where
         turn : (t : Bool) → is_member id now.ids ≡ t → t ≡ true

@@ -1,5 +1,5 @@
 -- A walk over the members of an order.
-use Rattle.w16_lru.proofs.Common.{ℕ, zero, suc, ◌≡◌, ◌+◌, ◌-◌, ◌<◌, ◌≤◌, List, [], ◌∷◌, length, drop, Option, Some, None, is_some, arith, refl, sym, ap, ◌∙◌, slice_get, false≢true, Uses}
+use Rattle.w16_lru.proofs.Common.{ℕ, zero, suc, ◌≡◌, ◌+◌, ◌-◌, ◌<◌, ◌≤◌, List, [], ◌∷◌, length, drop, Option, Some, is_some, arith, sym, ap, ◌∙◌, slice_get, false≢true, Uses}
 
 pub inside_got : (ids : List ℕ) (i id : ℕ) → Some id ≡ slice_get ids i → i < length ids
 inside_got [] i id e = absurd (false≢true (sym (ap is_some e)))

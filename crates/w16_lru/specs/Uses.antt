@@ -1,5 +1,5 @@
 -- The order of use: ids, each at most once, oldest first.
-use Rattle.std.specs.Prelude.{◌≡◌, ◌<◌, ℕ, List, All, AllPairs}
+use Rattle.std.specs.Prelude.{◌≡◌, ◌<◌, ◌==◌, ℕ, if◌then◌else◌, List, map, All, AllPairs}
 use Rattle.w16_model.specs.Changes.{newest, oldest}
 use Rattle.w16_lru.specs.declared.End.{End}
 use Rattle.w16_lru.specs.declared.End.TheVariants.{Oldest, Newest}
@@ -18,3 +18,7 @@ pub record AreUses (uses : Uses) : Type 0 where
 abbrev pub at_end : End → ℕ → List ℕ → List ℕ
 at_end Oldest id ids = oldest id ids
 at_end Newest id ids = newest id ids
+
+-- the ids with one in another's place
+abbrev pub renamed : ℕ → ℕ → List ℕ → List ℕ
+renamed id to ids = map (λ q. if q == id then to else q) ids

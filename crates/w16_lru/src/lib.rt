@@ -3,11 +3,11 @@
 //! No call but the constructor takes memory, and each but [`Order::nth`] takes constant time.
 #![tactic(auto)]
 
-ghost use Rattle.std.specs.Prelude.{◌≡◌, ◌+◌, ◌<◌, ℕ, [], Some, None, false, length, slice_get, slice_index, IfOk};
+ghost use Rattle.std.specs.Prelude.{◌≡◌, ◌+◌, ◌<◌, ℕ, [], Some, None, false, length, slice_get, slice_index, slice_set, IfOk};
 ghost use Rattle.std.specs.List.{range_with_len, swap};
 ghost use Rattle.w16_model.specs.Discards.{is_member};
 ghost use Rattle.w16_model.specs.Changes.{newest, oldest, without};
-ghost use Rattle.w16_lru.specs.Uses.{AreUses, at_end};
+ghost use Rattle.w16_lru.specs.Uses.{AreUses, at_end, renamed};
 
 mod oldest_first;
 
@@ -71,6 +71,13 @@ impl<A: Allocator> Order<A> {
         ensures { result ≡ length self.now.ids }
     {
         self.members
+    }
+
+    /// Whether an id is a member.
+    pub fn contains(&self, id: u32) -> bool
+        ensures { result ≡ is_member id self.now.ids }
+    {
+        id < self.cap && self.after[id as usize] != id
     }
 
     /// How many members there are beside an id, which needn't be one.
@@ -186,6 +193,24 @@ impl<A: Allocator> Order<A> {
         exchange(&mut self.after, &mut self.before, front, id);
         self.members -= 1;
     }
+
+    /// An id that is no member takes the place of another, which is none any more. Where the other was
+    /// none, nothing changes.
+    pub fn rename(&mut self, id: u32, to: u32)
+        requires id { id < self.old.cap }
+        requires to { to < self.old.cap }
+        requires free { is_member to self.old.ids ≡ false }
+        ensures value { self.new ≡ record self.old { ids = renamed id to self.old.ids } }
+        ensures uses { AreUses self.new }
+    {
+        let behind = self.after[id as usize];
+        if behind == id {
+            return;
+        }
+        let front = self.before[id as usize];
+        relink(&mut self.after, front, id, to);
+        relink(&mut self.before, behind, id, to);
+    }
 }
 
 /// A table of the numbers up to `cap`, each linked to itself.
@@ -211,4 +236,16 @@ fn exchange(after: &mut [u32], before: &mut [u32], front: u32, id: u32)
 {
     before.swap(after[front as usize] as usize, after[id as usize] as usize);
     after.swap(front as usize, id as usize);
+}
+
+/// Gives `to` the link of `id`, and `from`, which is linked to `id`, is linked to `to`. So `id` is alone.
+fn relink(links: &mut [u32], from: u32, id: u32, to: u32)
+    requires from { from < length links.old }
+    requires id { id < length links.old }
+    requires to { to < length links.old }
+    ensures { links.new ≡ slice_set (slice_set (slice_set links.old to (slice_index links.old id)) from to) id id }
+{
+    links[to as usize] = links[id as usize];
+    links[from as usize] = to;
+    links[id as usize] = id;
 }

@@ -6,7 +6,7 @@ pub use Rattle.w16_loading.proofs.AnySteps.{requests_fewest_law}
 pub use Rattle.w16_loading.proofs.Begun.{empty_of_files_law}
 pub use Rattle.w16_loading.proofs.Bystanders.{bystanders_law, pinned_law}
 pub use Rattle.w16_loading.proofs.CodeLaw.{code_law}
-pub use Rattle.w16_loading.proofs.Common.{Accesses, AddsBuiltIn, All, All-from_Each, AllPairs-from_EachPair, Allocates, AllocatesFewest, AreHandles, AreNew, Asked, Bool, BuiltIn, Builtin, Calls, Dword, Each-at, Each-from_All, Failed, FamilyStep, FarAnswer, FarCommand, Fetches, Fill, FinMap, FindResource, Format, GetModuleHandle, GetModuleUsage, GetProcAddress, GlobalReAlloc, HandleCommand, HandleReplies, Handles, Heap, IfOk, IfSome, IsBlockOf, IsHeap, IsLoadingCommand, IsLoadingWorld, IsNew, IsOfFiles, IsSomeAnd, IsTrue, KeepsContents, KeepsOthers, List, LoadLibrary, LoadModule, LoadResource, LoadingCommand, LoadingStep, LoadingWorld, Loads, LockResource, MatchBool, MatchOption, Member, ModuleCommand, ModuleStep, Object, OfFar, OfHandles, OfModules, OfResizes, OfResources, Reached, Reply, ResizeCommand, ResizeReplies, ResourceCommand, ResourceStep, Settles, SizeofResource, StandsStill, Word, Write, [], absent, address_law, after_touch, after_write, allocation_law, and_parts, answer_in, ap, arith, blocks, built_in, bytes_at, bytes_in, call_outcome, cases_Bool, cases_eq, cond, contents, discarded, discards_needed, eligible, entries_sorted, eq-eqb, eqb-true, false, false≢true, far_bytes, far_fault, far_read, far_reads_file, far_slot, far_write, found_member, get-empty, get-entries, get-retain_keys, get-update_other, get-update_same, get_or, gives, handle_named, inl, inr, inserted_here, inserted_other, is_fixed, is_in_order, is_member, is_pinned_object, is_some, keys_rise, length, length-put_part, ltb-true, member_found, module_at, nat_cmp, nat_cmp-IsAntisymmetric, nat_cmp_total, nat_lt, ne_eqb, needs_fetch, not, object_at, offset_in, option_map, other_handles, others_law, owned_at, part, put_part, reached, reads_files, refl, refuses_write, replicate, reply_of_far, same_map, selector_in, slot_of_selector, stays_for, subst, suc, sym, take, taken_here, taken_other, true, unwrap_or, with_newest, with_object, with_ordered, written_heap, zero, ℕ, ◌&&◌, ◌+◌, ◌-◌, ◌/◌, ◌<◌, ◌==◌, ◌||◌, ◌∙◌, ◌∷◌, ◌≡◌, ◌≢◌, ◌≤◌, ◌⊎◌}
+pub use Rattle.w16_loading.proofs.Common.{Accesses, AddsBuiltIn, All, All-from_Each, AllPairs-from_EachPair, Allocates, AllocatesFewest, AreHandles, AreNew, Asked, Bool, BuiltIn, Builtin, Calls, Dword, Each-at, Each-from_All, Failed, FamilyStep, FarAnswer, FarCommand, Fetches, Fill, FinMap, FindResource, Format, GetModuleHandle, GetModuleUsage, GetProcAddress, GlobalReAlloc, HandleCommand, HandleReplies, Handles, Heap, IfOk, IfSome, IsBlockOf, IsHeap, IsLoadingCommand, IsLoadingWorld, IsNew, IsOfFiles, IsSomeAnd, IsTrue, KeepsContents, KeepsOthers, List, LoadLibrary, LoadModule, LoadResource, LoadingCommand, LoadingStep, LoadingWorld, Loads, LockResource, MatchBool, MatchOption, Member, ModuleCommand, ModuleStep, Object, OfFar, OfHandles, OfModules, OfResizes, OfResources, Reached, Reply, ResizeCommand, ResizeReplies, ResourceCommand, ResourceStep, Settles, SizeofResource, StandsStill, Word, Write, [], absent, address_law, after_touch, after_write, allocation_law, and_parts, answer_in, ap, arith, blocks, built_in, bytes_at, bytes_in, call_outcome, cases_Bool, cases_eq, cond, contents, discarded, discards_needed, eligible, entries_sorted, eq-eqb, eqb-true, false, false≢true, far_at, far_bytes, far_fault, far_read, far_reads_file, far_slot, far_write, found_member, get-empty, get-entries, get-retain_keys, get-update_other, get-update_same, get_or, gives, handle_named, inl, inr, inserted_here, inserted_other, is_fixed, is_in_order, is_member, is_pinned_object, is_some, keys_rise, length, length-put_part, ltb-true, member_found, module_at, nat_cmp, nat_cmp-IsAntisymmetric, nat_cmp_total, nat_lt, ne_eqb, needs_fetch, not, object_at, offset_in, option_map, other_handles, others_law, owned_at, part, put_part, reached, reads_files, refl, refuses_write, replicate, reply_of_far, same_map, selector_in, slot_of_selector, stays_for, subst, suc, sym, take, taken_here, taken_other, true, unwrap_or, with_newest, with_object, with_ordered, written_heap, zero, ℕ, ◌&&◌, ◌+◌, ◌-◌, ◌/◌, ◌<◌, ◌==◌, ◌||◌, ◌∙◌, ◌∷◌, ◌≡◌, ◌≢◌, ◌≤◌, ◌⊎◌}
 unfoldable pub use Rattle.w16_loading.proofs.Common.{repeated}
 pub use Rattle.w16_loading.proofs.KeptBytes.{KeepsBytes, same_object}
 pub use Rattle.w16_loading.proofs.KeptCode.{KeepsCode, as_it_was, code_kept, same_source}
@@ -40,7 +40,7 @@ pub use Rattle.w16_model.proofs.Common.{Answer, AreResized, Bytes, Enters, Fault
 pub use Rattle.w16_model.proofs.Empty.{empty_law}
 pub use Rattle.w16_model.proofs.Fewest.{compaction_law, global_alloc_law, global_compact_law, lacking}
 pub use Rattle.w16_model.proofs.Heaps.{block_member, member_block}
-pub use Rattle.w16_model.proofs.KeptHandles.{same_updated}
+pub use Rattle.w16_model.proofs.KeptHandles.{same_updated, written_sized}
 pub use Rattle.w16_model.proofs.KeptRest.{rest_law}
 pub use Rattle.w16_model.proofs.KindChanges.{rest_order, twice_out}
 pub use Rattle.w16_model.proofs.Laid.{laid_each}

@@ -1,5 +1,5 @@
 -- A far access leaves each local heap but for bytes of its objects.
-use Rattle.w16_machine.proofs.Common.{◌≡◌, ℕ, Bool, true, false, ◌+◌, ◌≤◌, ◌<◌, inl, inr, cond, IsSomeAnd, List, length, slice_range, Option, Some, None, option_map, refl, sym, ap, ◌∙◌, subst, arith, nat_cmp_total, same_map, nat_cmp-IsAntisymmetric, cases_eq, le-leb, Block, Entry, FarFault, ReadOnly, refuses_write, part, put_part, repeated, block_end, Object, object_at, after_touch, Handles, selector_in, offset_in, FarCommand, FarAnswer, FarStep, far_fault, far_slot, far_bytes, data_write, after_write, Read, Write, Fill, Bytes, Fault, Table, IsTable, heap_in, object_in, block_with, entry_at, Reached, reached, Each-at, Member, get-update_same, get-update_other, bytes_in, laid_each, length-put_part, object_is, member_with, length_range, far_answer_in, World, LocalHeap, AreLocalHeaps, IsLocalIn, segment_bytes, heap_of, after_loading, HasSameObjects, FarLaw, but_bytes, HasSameSizes, size_at}
+use Rattle.w16_machine.proofs.Common.{◌≡◌, ℕ, Bool, true, false, ◌+◌, ◌≤◌, ◌<◌, inl, inr, cond, IsSomeAnd, List, length, slice_range, Option, Some, None, option_map, refl, sym, ap, ◌∙◌, subst, arith, nat_cmp_total, same_map, nat_cmp-IsAntisymmetric, cases_eq, le-leb, Block, Entry, FarFault, ReadOnly, refuses_write, part, put_part, repeated, block_end, Object, object_at, after_touch, Handles, selector_in, offset_in, FarCommand, FarAnswer, FarStep, far_fault, far_slot, far_at, far_bytes, data_write, after_write, Read, Write, Fill, Bytes, Fault, Table, IsTable, heap_in, object_in, block_with, entry_at, Reached, reached, Each-at, Member, get-update_same, get-update_other, bytes_in, laid_each, length-put_part, object_is, member_with, length_range, far_answer_in, World, LocalHeap, AreLocalHeaps, IsLocalIn, segment_bytes, heap_of, after_loading, HasSameObjects, FarLaw, but_bytes, HasSameSizes, size_at}
 use Rattle.std.specs.FinMap as finmap
 use Rattle.w16_model.specs.Far.{far_read, far_write}
 use Rattle.w16_model.specs.Far.FarAnswer.{Done}
@@ -15,30 +15,33 @@ module _ (old : Handles) (selector offset : ℕ) where
   abbrev slot : ℕ
   slot = far_slot old selector
 
+  abbrev place : ℕ
+  place = far_at old selector offset
+
   pub read_same : (n : ℕ) → SameAfter old (far_read old selector offset n)
   read_same n = turn (far_fault old selector offset n)
     where
-      turn : (f : Option FarFault) → SameAfter old (elim f [ Some fault ↦ (Fault fault, old) | None ↦ (Bytes (part (far_bytes old selector) offset n), record old { heap = after_touch old.heap slot }) ])
+      turn : (f : Option FarFault) → SameAfter old (elim f [ Some fault ↦ (Fault fault, old) | None ↦ (Bytes (part (far_bytes old selector) place n), record old { heap = after_touch old.heap slot }) ])
       turn (Some fault) = λ q. refl
       turn None = λ q. refl
 
-  written_same : (slice : List ℕ) → Reached old slot (offset + length slice) → HasSameSizes old (record old { heap = after_touch (after_write old.heap slot offset slice) slot })
+  written_same : (slice : List ℕ) → Reached old slot (place + length slice) → HasSameSizes old (record old { heap = after_touch (after_write old.heap slot place slice) slot })
   written_same slice r q = elim (cases_eq q slot) [
     | inl e ↦
-        ap (λ i. option_map length (bytes_in (object_at (after_write old.heap slot offset slice) i))) e
-        ∙ ap (λ p. option_map length (bytes_in p)) (get-update_same old.heap.objects slot (λ (o : Object). record o { bytes = option_map (λ bytes. put_part bytes offset slice) o.bytes })
-        ∙ ap (option_map (λ (o : Object). let p : Object = record o { bytes = option_map (λ bytes. put_part bytes offset slice) o.bytes } in p)) r.there)
-        ∙ ap (λ b. option_map length (option_map (λ (bytes : List ℕ). put_part bytes offset slice) b)) r.has
-        ∙ ap Some (length-put_part r.bytes offset slice r.fits)
+        ap (λ i. option_map length (bytes_in (object_at (after_write old.heap slot place slice) i))) e
+        ∙ ap (λ p. option_map length (bytes_in p)) (get-update_same old.heap.objects slot (λ (o : Object). record o { bytes = option_map (λ bytes. put_part bytes place slice) o.bytes })
+        ∙ ap (option_map (λ (o : Object). let p : Object = record o { bytes = option_map (λ bytes. put_part bytes place slice) o.bytes } in p)) r.there)
+        ∙ ap (λ b. option_map length (option_map (λ (bytes : List ℕ). put_part bytes place slice) b)) r.has
+        ∙ ap Some (length-put_part r.bytes place slice r.fits)
         ∙ sym (ap (λ i. size_at old i) e ∙ ap (option_map length) r.here)
-    | inr d ↦ ap (λ p. option_map length (bytes_in p)) (get-update_other old.heap.objects slot (λ (o : Object). record o { bytes = option_map (λ bytes. put_part bytes offset slice) o.bytes }) q d)
+    | inr d ↦ ap (λ p. option_map length (bytes_in p)) (get-update_other old.heap.objects slot (λ (o : Object). record o { bytes = option_map (λ bytes. put_part bytes place slice) o.bytes }) q d)
   ]
 
   data_same : (slice : List ℕ) → SameAfter old (data_write old selector offset slice)
   data_same slice = turn (far_fault old selector offset (length slice)) refl
     where
       turn : (f : Option FarFault) → far_fault old selector offset (length slice) ≡ f
-          → SameAfter old (elim f [ Some fault ↦ (Fault fault, old) | None ↦ (Done, record old { heap = after_touch (after_write old.heap slot offset slice) slot }) ])
+          → SameAfter old (elim f [ Some fault ↦ (Fault fault, old) | None ↦ (Done, record old { heap = after_touch (after_write old.heap slot place slice) slot }) ])
       turn (Some fault) e = λ q. refl
       turn None e = written_same slice (reached old selector offset (length slice) e)
 

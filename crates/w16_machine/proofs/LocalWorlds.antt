@@ -1,5 +1,5 @@
 -- Each step of each family keeps what holds of local heaps.
-use Rattle.w16_machine.proofs.Common.{◌≡◌, ◌≢◌, ℕ, ◌<◌, ◌≤◌, inl, inr, Bool, true, false, cond, nat_le, IfSome, IsSomeAnd, List, length, All, Option, Some, None, option_map, refl, sym, ap, ◌∙◌, subst, arith, leb-true, nat_cmp, FinMap, get-retain_keys, nat_cmp-IsAntisymmetric, cases_eq, Heap, Object, object_at, bytes_at, after_write, AreHandles, Table, heap_in, other_handles, same_updated, bytes_in, inserted_here, inserted_other, written_heap, put_part, World, Reply, Word, Done, LocalHeap, AreLocalHeaps, IsLocalIn, AreNamed, Becomes, Acts, segment_bytes, heap_of, has_range, left_in, new_table, with_table, with_local, LocalCommand, LocalStep, DS, after_loading}
+use Rattle.w16_machine.proofs.Common.{◌≡◌, ◌≢◌, ℕ, ◌<◌, ◌≤◌, inl, inr, Bool, true, false, cond, nat_le, IfSome, IsSomeAnd, List, length, All, Option, Some, None, option_map, refl, sym, ap, ◌∙◌, subst, arith, leb-true, nat_cmp, FinMap, get-retain_keys, nat_cmp-IsAntisymmetric, cases_eq, Heap, Object, object_at, bytes_at, after_write, AreHandles, Table, heap_in, other_handles, same_updated, written_sized, bytes_in, inserted_here, inserted_other, written_heap, put_part, World, Reply, Word, Done, LocalHeap, AreLocalHeaps, IsLocalIn, AreNamed, Becomes, Acts, segment_bytes, heap_of, has_range, left_in, new_table, with_table, with_local, LocalCommand, LocalStep, DS, after_loading}
 use Rattle.std.specs.FinMap as finmap
 use Rattle.w16_machine.proofs.LocalFacts.{IsThere, current_there, local_here, heap_here, object_of, segment_after, segment_other}
 use Rattle.w16_machine.proofs.LocalBegins.{begin_law, new_local}
@@ -64,6 +64,7 @@ module _ (old : World) (is : AreLocalHeaps old) where
     written o has has_bytes bytes long are_bytes = other_handles old.loading.handles is.handles (after_write old.loading.handles.heap at.slot 0 bytes)
         (written_heap old.loading.handles.heap is.handles.heap at.slot o has at.bytes has_bytes 0 bytes (omega (arith, long)) are_bytes) refl refl
         (same_updated old.loading.handles.heap.objects at.slot (λ (o : Object). record o { bytes = option_map (λ old. put_part old 0 bytes) o.bytes }))
+        (written_sized old.loading.handles is.handles at.slot 0 bytes o at.bytes has has_bytes (omega (arith, long)))
 
     acts_world : (P : Heap → Type 0) (new : World) → ((heap : Heap) → P heap → AreNamed heap) → Acts old at P new → AreLocalHeaps new
     acts_world P new named a =

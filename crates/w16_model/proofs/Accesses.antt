@@ -1,17 +1,6 @@
 -- What a far access without a fault reaches.
-use Rattle.w16_model.proofs.Common.{◌≡◌, ℕ, ◌+◌, ◌/◌, ◌≤◌, Bool, true, false, if◌then◌else◌, ◌&&◌, ◌==◌, nat_lt, is_some, List, length, Option, Some, None, unwrap_or, refl, ap, ◌∙◌, ltb-false, FarFault, BadSelector, NotPresent, Limit, Object, object_at, bytes_at, Handles, slot_of_selector, selector_of, far_fault, far_slot}
+use Rattle.w16_model.proofs.Common.{◌≡◌, ℕ, ◌+◌, ◌*◌, ◌≤◌, Bool, true, false, cond, ◌||◌, if◌then◌else◌, nat_lt, List, length, Option, Some, None, unwrap_or, refl, ap, ◌∙◌, arith, ltb-true, ltb-false, FarFault, BadSelector, NotPresent, Limit, REACH, Object, object_at, bytes_at, Handles, Part, part_of_selector, far_fault, far_slot, far_at, is_past}
 use Rattle.w16_model.proofs.KeptHeaps.{bytes_in}
-
--- the slot of an access without a fault is its selector's
-pub slot_of_access : (handles : Handles) (selector offset n : ℕ) → far_fault handles selector offset n ≡ None → far_slot handles selector ≡ selector / 8
-slot_of_access handles selector offset n = from (is_some (object_at handles.heap (selector / 8)) && (selector == selector_of (selector / 8)))
-  where
-    from : (b : Bool) → (elim (if b then Some (selector / 8) else None) as (λ _. Option FarFault) [
-      | None ↦ Some BadSelector
-      | Some slot ↦ elim (bytes_at handles.heap slot) [ None ↦ Some NotPresent | Some bytes ↦ if nat_lt (length bytes) (offset + n) then Some Limit else None ]
-    ]) ≡ None → unwrap_or (if b then Some (selector / 8) else None) 0 ≡ selector / 8
-    from true e = refl
-    from false e = cc
 
 -- a slot's object has so many bytes or more
 pub record Reached (handles : Handles) (slot end : ℕ) : Type 0 where
@@ -26,36 +15,59 @@ pub record Reached (handles : Handles) (slot end : ℕ) : Type 0 where
 abbrev IsNone : Option FarFault → Type 0
 IsNone fault = fault ≡ None
 
--- the fault of an access up to an end in these bytes, and in those there are
-abbrev limit_fault : ℕ → List ℕ → Option FarFault
-limit_fault end bytes = if nat_lt (length bytes) end then Some Limit else None
+-- the fault of an access up to an end in the bytes that a selector reaches, and in those there are
+abbrev limit_fault : Part → ℕ → List ℕ → Option FarFault
+limit_fault p end bytes = if is_past (length bytes) p end then Some Limit else None
 
-abbrev bytes_fault : ℕ → Option (List ℕ) → Option FarFault
-bytes_fault end b = elim b [ None ↦ Some NotPresent | Some bytes ↦ limit_fault end bytes ]
+abbrev bytes_fault : Part → ℕ → Option (List ℕ) → Option FarFault
+bytes_fault p end b = elim b [ None ↦ Some NotPresent | Some bytes ↦ limit_fault p end bytes ]
 
--- an access without a fault reaches one
-pub reached : (handles : Handles) (selector offset n : ℕ) → far_fault handles selector offset n ≡ None → Reached handles (far_slot handles selector) (offset + n)
-reached handles selector offset n = turn (slot_of_selector handles selector)
+abbrev nowhere : Part
+nowhere = record { slot = 0; number = 0 }
+
+-- an access without a fault reaches one, within its selector's reach
+abbrev Both : Handles → ℕ → ℕ → Part → Type 0
+Both handles offset n p = Reached handles p.slot (REACH * p.number + offset + n) × (offset + n ≤ REACH)
+
+both_reached : (handles : Handles) (selector offset n : ℕ) → far_fault handles selector offset n ≡ None → Reached handles (far_slot handles selector) (far_at handles selector offset + n) × (offset + n ≤ REACH)
+both_reached handles selector offset n = turn (part_of_selector handles selector)
   where
-    inside : (end : ℕ) (bytes : List ℕ) (b : Bool) → nat_lt (length bytes) end ≡ b → IsNone (if b then Some Limit else None) → end ≤ length bytes
-    inside end bytes true t e = cc
-    inside end bytes false t e = ltb-false (length bytes) end t
+    inside : (p : Part) (bytes : List ℕ) (a b : Bool) → nat_lt REACH (offset + n) ≡ a → nat_lt (length bytes) (REACH * p.number + (offset + n)) ≡ b → IsNone (if a || b then Some Limit else None) → (REACH * p.number + offset + n ≤ length bytes) × (offset + n ≤ REACH)
+    inside p bytes true b s t e = cc
+    inside p bytes false true s t e = cc
+    inside p bytes false false s t e = (omega (arith, ltb-false (length bytes) (REACH * p.number + (offset + n)) t), ltb-false REACH (offset + n) s)
 
-    of_bytes : (slot end : ℕ) (o : Object) → object_at handles.heap slot ≡ Some o → (b : Option (List ℕ)) → o.bytes ≡ b → IsNone (bytes_fault end b) → Reached handles slot end
-    of_bytes slot end o there None has e = cc
-    of_bytes slot end o there (Some bytes) has e = record {
-      object = o;
-      bytes = bytes;
-      there = there;
-      has = has;
-      here = ap bytes_in there ∙ has;
-      fits = inside end bytes (nat_lt (length bytes) end) refl e;
-    }
+    of_bytes : (p : Part) (o : Object) → object_at handles.heap p.slot ≡ Some o → (b : Option (List ℕ)) → o.bytes ≡ b → IsNone (bytes_fault p (offset + n) b) → Both handles offset n p
+    of_bytes p o there None has e = cc
+    of_bytes p o there (Some bytes) has e =
+        let fits : (REACH * p.number + offset + n ≤ length bytes) × (offset + n ≤ REACH) = inside p bytes (nat_lt REACH (offset + n)) (nat_lt (length bytes) (REACH * p.number + (offset + n))) refl refl e in
+        (record { object = o; bytes = bytes; there = there; has = has; here = ap bytes_in there ∙ has; fits = fits.0 }, fits.1)
 
-    of_object : (slot end : ℕ) (p : Option Object) → object_at handles.heap slot ≡ p → IsNone (bytes_fault end (bytes_in p)) → Reached handles slot end
-    of_object slot end None there e = cc
-    of_object slot end (Some o) there e = of_bytes slot end o there o.bytes refl e
+    of_object : (p : Part) (q : Option Object) → object_at handles.heap p.slot ≡ q → IsNone (bytes_fault p (offset + n) (bytes_in q)) → Both handles offset n p
+    of_object p None there e = cc
+    of_object p (Some o) there e = of_bytes p o there o.bytes refl e
 
-    turn : (s : Option ℕ) → IsNone (elim s [ None ↦ Some BadSelector | Some slot ↦ bytes_fault (offset + n) (bytes_at handles.heap slot) ]) → Reached handles (unwrap_or s 0) (offset + n)
+    turn : (r : Option Part) → IsNone (elim r [ None ↦ Some BadSelector | Some p ↦ bytes_fault p (offset + n) (bytes_at handles.heap p.slot) ]) → Both handles offset n (unwrap_or r nowhere)
     turn None e = cc
-    turn (Some slot) e = of_object slot (offset + n) (object_at handles.heap slot) refl e
+    turn (Some p) e = of_object p (object_at handles.heap p.slot) refl e
+
+pub reached : (handles : Handles) (selector offset n : ℕ) → far_fault handles selector offset n ≡ None → Reached handles (far_slot handles selector) (far_at handles selector offset + n)
+reached handles selector offset n free = (both_reached handles selector offset n free).0
+
+pub near : (handles : Handles) (selector offset n : ℕ) → far_fault handles selector offset n ≡ None → offset + n ≤ REACH
+near handles selector offset n free = (both_reached handles selector offset n free).1
+
+-- and one to bytes that the selector reaches is without a fault
+pub reached_fault : (handles : Handles) (selector offset n : ℕ) (p : Part) (bytes : List ℕ) → part_of_selector handles selector ≡ Some p → bytes_at handles.heap p.slot ≡ Some bytes → offset + n ≤ REACH → REACH * p.number + (offset + n) ≤ length bytes
+    → far_fault handles selector offset n ≡ None
+reached_fault handles selector offset n p bytes found has near fits =
+    ap (λ (s : Option Part). elim s as (λ _. Option FarFault) [ None ↦ Some BadSelector | Some p ↦ bytes_fault p (offset + n) (bytes_at handles.heap p.slot) ]) found
+    ∙ ap (bytes_fault p (offset + n)) has
+    ∙ ap (λ b. cond {A = Option FarFault} b (Some Limit) None) (ap (λ b. b || nat_lt (length bytes) (REACH * p.number + (offset + n))) (short REACH (offset + n) near) ∙ short (length bytes) (REACH * p.number + (offset + n)) fits)
+  where
+    short : (a b : ℕ) → b ≤ a → nat_lt a b ≡ false
+    short a b le = turn (nat_lt a b) refl
+      where
+        turn : (t : Bool) → nat_lt a b ≡ t → nat_lt a b ≡ false
+        turn false t = t
+        turn true t = absurd (omega (arith, le, ltb-true a b t))

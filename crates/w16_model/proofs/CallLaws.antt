@@ -1,24 +1,19 @@
 -- The laws of each call on handles, by its outcome.
-use Rattle.w16_model.proofs.Common.{◌≡◌, ℕ, ◌+◌, ◌-◌, ◌<◌, inl, inr, Bool, true, false, not, IsTrue, IsSomeAnd, List, [], ◌∷◌, length, map, take, filter, sum_by, Option, Some, None, option_map, is_some, unwrap_or, refl, sym, ap, ◌∙◌, subst, arith, eq-eqb, ne_eqb, entries_sorted, false≢true, cases_eq, sum_by-cons, Block, Kind, eligible, is_member, Heap, Object, IsHeap, blocks, object_at, bytes_at, hold_of_object, with_object, moved_bytes, is_elsewhere, Handles, AreHandles, slot_of_handle, handle_of, Answer, rounded_size, kind_asked, Word, Dword, KeepsRest, MovesLittle, realloc_options, Call, Outcome, Resized, counts_moved, IsSame, IsUnmoved, IsLocked, IsUnlocked, IsFreed, IsNewest, IsOldest, IsEntered, IsAllocated, IsCompacted, IsModified, IsDiscarded, IsResized, KeepsContents, may_change, ContentsLaw, SlotsLaw, IsMoved, size_at, IsSumOfMoved, MovedLaw}
+use Rattle.w16_model.proofs.Common.{◌≡◌, ℕ, ◌+◌, ◌-◌, ◌<◌, inl, inr, Bool, true, false, not, IsTrue, IsSomeAnd, List, [], ◌∷◌, length, map, take, filter, sum_by, Option, Some, None, option_map, is_some, unwrap_or, refl, sym, ap, ◌∙◌, subst, arith, eq-eqb, ne_eqb, entries_sorted, false≢true, sum_by-cons, Block, Kind, eligible, is_member, Heap, Object, IsHeap, blocks, object_at, hold_of_object, moved_bytes, is_elsewhere, Handles, AreHandles, slot_of_handle, handle_of, Answer, rounded_size, kind_asked, Word, Dword, KeepsRest, MovesLittle, Reallocates, realloc_options, Call, Outcome, Resized, counts_moved, IsSame, IsUnmoved, IsLocked, IsUnlocked, IsFreed, IsNewest, IsOldest, IsEntered, IsAllocated, IsCompacted, IsModified, IsDiscarded, IsResized, KeepsContents, may_change, ContentsLaw, SlotsLaw, IsMoved, size_at, IsSumOfMoved, MovedLaw}
 use Rattle.std.specs.FinMap as finmap
 use Rattle.std.specs.List.{AllByRecursion as Each}
 use Rattle.w16_model.proofs.Gaps.{Member, EachPair, AllPairs-from_EachPair, member_filter, filter_member, pairs_filter}
 use Rattle.w16_model.proofs.Starts.{member_map}
 use Rattle.w16_model.proofs.Discards.{is_member-true, true-is_member}
 use Rattle.w16_model.proofs.Heaps.{IsBlockOf, block_member, member_block, blocks_rise, keys_rise}
-use Rattle.w16_model.proofs.KeptHeaps.{inserted_here, inserted_other, bytes_in}
+use Rattle.w16_model.proofs.KeptHeaps.{bytes_in}
+use Rattle.w16_model.proofs.KeptHandles.{put_bytes}
+use Rattle.w16_model.proofs.Housed.{stays, housed_here}
 use Rattle.w16_model.proofs.KeptRest.{absents_rest, rest_law}
 use Rattle.w16_model.proofs.Reallocations.{moves_law}
 use Rattle.w16_model.proofs.Fewest.{some_handle}
 use Rattle.w16_model.proofs.ResizedHandles.{found_some}
 use Rattle.w16_model.proofs.CallOutcomes.{outcome, none_moved}
-
--- an object that is put with the bytes that it had
-put_bytes : (heap : Heap) (id : ℕ) (before after : Object) → object_at heap id ≡ Some before → after.bytes ≡ before.bytes → (q : ℕ) → bytes_at (with_object heap id after) q ≡ bytes_at heap q
-put_bytes heap id before after there same q = elim (cases_eq q id) [
-  | inl e ↦ ap bytes_in (inserted_here heap.objects id after q e) ∙ same ∙ sym (ap bytes_in (ap (object_at heap) e ∙ there))
-  | inr d ↦ ap bytes_in (inserted_other heap.objects id after q d)
-]
 
 -- What is kept.
 module _ (old new : Handles) (call : Call) (answer : Answer) where
@@ -39,11 +34,21 @@ module _ (old new : Handles) (call : Call) (answer : Answer) where
 
 -- What an answered reallocation leaves, and what it moves.
 module _ (old new : Handles) (is : AreHandles old) (call : Call) (answer : Answer) where
+  -- The object keeps its slot, since one is enough for the largest size.
+  pub same_slot : (r : Resized old call answer new) → r.first ≡ r.slot
+  same_slot r = stays old is r.slot r.object r.named.there (rounded_size r.size) (realloc_options r.flags) r.first (omega (arith, r.small)) r.gets
+
+  pub heap_of : (r : Resized old call answer new) → r.heap ≡ new.heap
+  heap_of r = sym (ap (λ (h : Handles). h.heap) r.rest ∙ housed_here old is r.slot (rounded_size r.size) (realloc_options r.flags) r.object r.named.there r.first r.gets r.heap r.resized (sym (same_slot r)))
+
+  pub resized_of : (r : Resized old call answer new) → Reallocates old.heap r.slot (rounded_size r.size) (realloc_options r.flags) true new.heap
+  resized_of r = subst (Reallocates old.heap r.slot (rounded_size r.size) (realloc_options r.flags) true) (heap_of r) r.resized
+
   pub rest_of : (r : Resized old call answer new) → KeepsRest old.heap r.slot (rounded_size r.size) r.object (realloc_options r.flags) new.heap
-  rest_of r = subst (λ p. IsSomeAnd p (λ o. KeepsRest old.heap r.slot (rounded_size r.size) o (realloc_options r.flags) new.heap)) r.named.there (rest_law old.heap new.heap r.slot (rounded_size r.size) (realloc_options r.flags) is.heap r.resized)
+  rest_of r = subst (λ p. IsSomeAnd p (λ o. KeepsRest old.heap r.slot (rounded_size r.size) o (realloc_options r.flags) new.heap)) r.named.there (rest_law old.heap new.heap r.slot (rounded_size r.size) (realloc_options r.flags) is.heap (resized_of r))
 
   pub moves_of : (r : Resized old call answer new) → MovesLittle old.heap r.slot (rounded_size r.size) r.object (realloc_options r.flags) new.heap
-  moves_of r = subst (λ p. IsSomeAnd p (λ o. MovesLittle old.heap r.slot (rounded_size r.size) o (realloc_options r.flags) new.heap)) r.named.there (moves_law old.heap new.heap r.slot (rounded_size r.size) (realloc_options r.flags) is.heap r.resized)
+  moves_of r = subst (λ p. IsSomeAnd p (λ o. MovesLittle old.heap r.slot (rounded_size r.size) o (realloc_options r.flags) new.heap)) r.named.there (moves_law old.heap new.heap r.slot (rounded_size r.size) (realloc_options r.flags) is.heap (resized_of r))
 
   abbrev Kept : Handles → Type 0
   Kept h = (h.slots ≡ old.slots) × (h.heap.lo ≡ old.heap.lo) × (h.heap.hi ≡ old.heap.hi)
@@ -163,7 +168,7 @@ module _ (old new : Handles) (is : AreHandles old) (call : Call) (answer : Answe
   counted (IsCompacted c) t = by_rest (ap (λ (h : Handles). h.moved) c.rest)
   counted (IsModified m) c = by_rest (ap (λ (h : Handles). h.moved) m.rest)
   counted (IsDiscarded d) c = by_rest (ap (λ (h : Handles). h.moved) d.rest ∙ ap (moved_bytes old.heap) (sym (ap (λ (h : Handles). h.heap) d.rest)))
-  counted (IsResized r) c = by_rest (ap (λ (h : Handles). h.moved) r.rest)
+  counted (IsResized r) c = by_rest (ap (λ (h : Handles). h.moved) r.rest ∙ ap (moved_bytes old.heap) (heap_of old new is call answer r))
 
   -- a handle isn't 0
   never : (handle slot : ℕ) → slot_of_handle old handle ≡ Some slot → answer ≡ Word handle → answer ≡ Word 0 → ⊥
@@ -185,7 +190,7 @@ module _ (old new : Handles) (is : AreHandles old) (call : Call) (answer : Answe
   refused (IsCompacted c) t z = let both : ◌≡◌ {A = Answer} (Dword c.longest) (Word 0) = sym c.answered ∙ z in cc
   refused (IsModified m) c z = absurd (never m.handle m.slot m.named.found m.answered z)
   refused (IsDiscarded d) c z = absurd (never d.handle d.slot d.named.found d.answered z)
-  refused (IsResized r) c z = absurd (never r.handle r.slot r.named.found r.answered z)
+  refused (IsResized r) c z = absurd (new_handle r.object.kind r.first r.answered z)
 
   other : Outcome old call answer new → counts_moved call ≡ false → new.moved ≡ old.moved
   other (IsSame s e) c = ap (λ (h : Handles). h.moved) e

@@ -1,5 +1,5 @@
 -- What each call does to the order of use.
-use Rattle.w16_model.proofs.Common.{◌≡◌, ℕ, ◌+◌, ◌<◌, inl, inr, Bool, true, false, cond, not, ◌&&◌, ◌==◌, MatchBool, IsTrue, IsSomeAnd, List, [], ◌∷◌, ◌++◌, take, filter, Option, Some, None, Result, Ok, Err, is_some, refl, sym, ap, ◌∙◌, subst, arith, eq-eqb, ne_eqb, false≢true, and_parts, filter-append, Kind, Fixed, Moveable, Discardable, Refusal, RoomOptions, eligible, is_member, is_pinned, Heap, Object, IsHeap, blocks, object_at, bytes_at, is_fixed, is_discardable, is_in_order, without, newest, oldest, touched, with_ordered, with_newest, removed, Settles, Allocates, IsNew, discarded, stays_for, discards_needed, Enters, Handles, AreHandles, slot_of_handle, selector_of, far_pointer, Answer, rounded_size, kind_asked, alloc_options, is_absent_asked, Word, Dword, KeepsOthers, KeepsRest, without_all, is_revived, realloc_options, Call, Outcome, IsSame, IsUnmoved, IsLocked, IsUnlocked, IsFreed, IsNewest, IsOldest, IsEntered, IsAllocated, IsCompacted, IsModified, IsDiscarded, IsResized, OnlyLeave, OthersStand, may_order, UnorderedLaw, OthersOrderLaw, NewObjectLaw, handle_in, IsAbout, UseLaw, IsNewestOf, global_lock, handle_or_0, after_lock, refused_order}
+use Rattle.w16_model.proofs.Common.{◌≡◌, ℕ, ◌+◌, ◌<◌, inl, inr, Bool, true, false, cond, not, ◌&&◌, ◌==◌, MatchBool, IsTrue, IsSomeAnd, List, [], ◌∷◌, ◌++◌, take, filter, Option, Some, None, Result, Ok, Err, is_some, refl, sym, ap, ◌∙◌, subst, arith, eq-eqb, ne_eqb, false≢true, and_parts, filter-append, Kind, Fixed, Moveable, Discardable, Refusal, RoomOptions, eligible, is_member, is_pinned, Heap, Object, IsHeap, blocks, object_at, bytes_at, is_fixed, is_discardable, is_in_order, without, newest, oldest, touched, with_ordered, with_newest, removed, Settles, Allocates, IsNew, discarded, stays_for, discards_needed, Enters, Handles, AreHandles, slots_for, slot_of_handle, selector_of, far_pointer, Answer, rounded_size, kind_asked, alloc_options, is_absent_asked, Word, Dword, KeepsOthers, KeepsRest, without_all, is_revived, realloc_options, Call, Outcome, IsSame, IsUnmoved, IsLocked, IsUnlocked, IsFreed, IsNewest, IsOldest, IsEntered, IsAllocated, IsCompacted, IsModified, IsDiscarded, IsResized, OnlyLeave, OthersStand, may_order, UnorderedLaw, OthersOrderLaw, NewObjectLaw, handle_in, IsAbout, UseLaw, IsNewestOf, global_lock, handle_or_0, after_lock, refused_order}
 use Rattle.w16_model.specs.declared.Refusal.TheVariants as refusals
 use Rattle.w16_model.proofs.Gaps.{Member}
 use Rattle.w16_model.proofs.Discards.{is_member-true}
@@ -8,6 +8,7 @@ use Rattle.w16_model.proofs.KeptHandles.{settled}
 use Rattle.w16_model.proofs.KindChanges.{twice_out, rest_order}
 use Rattle.w16_model.proofs.KeptRest.{absents_order, all_stay, at_once, no_more}
 use Rattle.w16_model.proofs.Others.{others_law}
+use Rattle.w16_model.proofs.Runs.{some_slots, unused}
 use Rattle.w16_model.proofs.CallOutcomes.{outcome}
 use Rattle.w16_model.proofs.CallLaws.{rest_of}
 
@@ -139,7 +140,7 @@ module _ (old new : Handles) (is : AreHandles old) (call : Call) (answer : Answe
   others (IsNewest n) = of_named n.handle n.slot (ap handle_in n.asked) n.named.found (ap (λ (h : Handles). without n.slot h.heap.order) n.rest ∙ newest_rest n.slot old.heap.order)
   others (IsOldest n) = of_named n.handle n.slot (ap handle_in n.asked) n.named.found (ap (λ (h : Handles). without n.slot h.heap.order) n.rest ∙ oldest_rest n.slot old.heap.order)
   others (IsEntered e) = inl (same old.heap new.heap (ap (λ (h : Heap). h.order) e.entered.entered))
-  others (IsAllocated a) = inr (a.slot, inr a.free.1, allocated old.heap new.heap is.heap a.slot a.count (alloc_options a.flags) a.object a.settled)
+  others (IsAllocated a) = inr (a.slot, inr (unused old is a.slot (slots_for (rounded_size a.size)) (some_slots (rounded_size a.size)) a.free), allocated old.heap new.heap is.heap a.slot a.count (alloc_options a.flags) a.object a.settled)
   others (IsCompacted c) = inl (compacted old.heap new.heap is.heap c.count c.settled)
   others (IsModified m) = of_named m.handle m.slot (ap handle_in m.asked) m.named.found m.changes.rest
   others (IsDiscarded d) = of_named d.handle d.slot (ap handle_in d.asked) d.named.found (ap (λ (h : Handles). without d.slot h.heap.order) d.rest ∙ twice_out d.slot old.heap.order)

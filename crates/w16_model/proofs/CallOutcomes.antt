@@ -1,5 +1,5 @@
 -- Each call on handles has one of the outcomes.
-use Rattle.w16_model.proofs.Common.{◌≡◌, ℕ, ◌+◌, ◌-◌, ◌≤◌, ◌⊎◌, inl, inr, Bool, true, false, cond, not, ◌||◌, ◌==◌, if◌then◌else◌, MatchBool, MatchOption, IsSomeAnd, IfSome, nat_lt, IfOk, List, [], ◌∷◌, filter, sum_by, Option, Some, None, Result, Ok, Err, is_some, unwrap_or, refl, sym, ap, ◌∙◌, subst, arith, eq-eqb, ltb-false, false≢true, Block, Refusal, GMEM_MOVEABLE, GMEM_MODIFY, LARGEST_SIZE, Heap, Object, blocks, object_at, is_fixed, is_discardable, with_object, with_ordered, with_newest, newest, oldest, touched, removed, IsNew, Request, Allocates, MakesRoom, Reallocates, most_room, compaction_prefix, discards_needed, moved_bytes, is_elsewhere, Enters, after_lock, after_unlock, after_free, after_modify, after_discard, refused_order, Handles, AreHandles, slot_of_handle, selector_of, far_pointer, handle_of, owns, HandleCommand, Answer, HandleStep, GlobalAllocs, GlobalCompacts, free_own, global_free, global_lock, global_unlock, handle_or_0, locks_at, alloc_options, kind_asked, rounded_size, is_absent_asked, has_flag, Word, Dword, Walked, GlobalAlloc, GlobalFree, GlobalLock, GlobalUnlock, GlobalSize, GlobalFlags, GlobalHandle, GetSelectorBase, GetSelectorLimit, GlobalCompact, GlobalLRUNewest, GlobalLRUOldest, Moved, Walk, ChangesKind, realloc_options, kind_modified, modified, IsNull, AnswersHandle, AnswersDiscard, Empties, Resizes, ReAllocsOwn, GlobalReAllocs, Call, IsNamed, Orders, Outcome, CallOutcomesLaw, counts_moved, Calls, ReAllocs, IsSame, IsUnmoved, IsLocked, IsUnlocked, IsFreed, IsNewest, IsOldest, IsEntered, IsAllocated, IsCompacted, IsModified, IsDiscarded, IsResized}
+use Rattle.w16_model.proofs.Common.{◌≡◌, ℕ, ◌+◌, ◌-◌, ◌≤◌, ◌⊎◌, inl, inr, Bool, true, false, cond, not, ◌||◌, ◌==◌, if◌then◌else◌, MatchBool, MatchOption, IsSomeAnd, IfSome, nat_lt, IfOk, List, [], ◌∷◌, filter, sum_by, Option, Some, None, Result, Ok, Err, is_some, unwrap_or, refl, sym, ap, ◌∙◌, subst, arith, eq-eqb, ltb-false, false≢true, Block, Refusal, GMEM_MOVEABLE, GMEM_MODIFY, LARGEST_SIZE, Heap, Object, blocks, object_at, is_fixed, is_discardable, with_object, with_ordered, with_newest, newest, oldest, touched, removed, IsNew, Request, Allocates, MakesRoom, Reallocates, most_room, compaction_prefix, discards_needed, moved_bytes, is_elsewhere, Enters, after_lock, after_unlock, after_free, after_modify, after_discard, refused_order, Handles, AreHandles, slots_for, slot_of_handle, selector_of, far_pointer, handle_of, owns, HandleCommand, Answer, HandleStep, GlobalAllocs, GlobalCompacts, free_own, global_free, global_lock, global_unlock, handle_or_0, locks_at, alloc_options, kind_asked, rounded_size, is_absent_asked, has_flag, Word, Dword, Walked, GlobalAlloc, GlobalFree, GlobalLock, GlobalUnlock, GlobalSize, GlobalFlags, GlobalHandle, GetSelectorBase, GetSelectorLimit, GlobalCompact, GlobalLRUNewest, GlobalLRUOldest, Moved, Walk, ChangesKind, realloc_options, kind_modified, modified, IsNull, AnswersHandle, AnswersDiscard, Empties, GetsRun, Anew, ResizesObject, Resizes, ReAllocsOwn, GlobalReAllocs, Call, IsNamed, Orders, Outcome, Resized, CallOutcomesLaw, counts_moved, Calls, ReAllocs, IsSame, IsUnmoved, IsLocked, IsUnlocked, IsFreed, IsNewest, IsOldest, IsEntered, IsAllocated, IsCompacted, IsModified, IsDiscarded, IsResized}
 use Rattle.std.specs.FinMap as finmap
 use Rattle.w16_model.specs.declared.Refusal.TheVariants as refusals
 use Rattle.w16_model.proofs.Gaps.{Member}
@@ -229,8 +229,12 @@ module _ (old : Handles) (call : Call) (reply : Answer) (new : Handles) where
 
   -- GlobalReAlloc and GlobalDiscard
   module _ (is : AreHandles old) (handle size flags answer : ℕ) (asked : call ≡ ReAllocs handle size flags) (says : reply ≡ Word answer) where
-    null : IsNull old answer new → Out
-    null g = IsUnmoved (ap counts_moved asked) g.1
+    -- its outcome, and that it is NULL, answers its handle, or gives another size
+    abbrev Told : Type 0
+    Told = Out × ((answer ≡ 0) ⊎ (answer ≡ handle) ⊎ Resized old call reply new)
+
+    null : IsNull old answer new → Told
+    null g = (IsUnmoved (ap counts_moved asked) g.1, inl g.0)
 
     left : (heap : Heap) → AnswersHandle old handle heap answer new → heap ≡ new.heap
     left heap g = sym (ap (λ (h : Handles). h.heap) g.1)
@@ -238,8 +242,8 @@ module _ (old : Handles) (call : Call) (reply : Answer) (new : Handles) where
     rest : (heap : Heap) → AnswersHandle old handle heap answer new → new ≡ record old { heap = new.heap; moved = moved_bytes old.heap new.heap }
     rest heap g = g.1 ∙ ap (λ (h : Heap). record old { heap = h; moved = moved_bytes old.heap h }) (left heap g)
 
-    unmoved : (heap : Heap) → heap ≡ old.heap → AnswersHandle old handle heap answer new → Out
-    unmoved heap e g = IsUnmoved (ap counts_moved asked) (g.1 ∙ (λ i. record old { heap = e i; moved = moved_bytes old.heap (e i) }) ∙ ap (λ n. record old { moved = n }) (none_moved old.heap old.heap refl))
+    unmoved : (heap : Heap) → heap ≡ old.heap → AnswersHandle old handle heap answer new → Told
+    unmoved heap e g = (IsUnmoved (ap counts_moved asked) (g.1 ∙ (λ i. record old { heap = e i; moved = moved_bytes old.heap (e i) }) ∙ ap (λ n. record old { moved = n }) (none_moved old.heap old.heap refl)), inr (inl g.0))
 
     -- what a change of kind does to an object
     abbrev Law : ℕ → Object → Type 0
@@ -247,78 +251,93 @@ module _ (old : Handles) (call : Call) (reply : Answer) (new : Handles) where
         ((is_fixed o.kind || is_fixed (kind_modified flags)) ≡ true → after_modify old.heap slot (kind_modified flags) ≡ Err refusals.Fixed)
         × ((is_fixed o.kind || is_fixed (kind_modified flags)) ≡ false → (new : Heap) × (after_modify old.heap slot (kind_modified flags) ≡ Ok new) × ChangesKind old.heap slot o (kind_modified flags) new)
 
-    modifies : owns old handle ≡ false → (slot : ℕ) (o : Object) → IsNamed old handle slot o → AnswersHandle old handle (modified old.heap slot (kind_modified flags)) answer new → Out
+    modifies : owns old handle ≡ false → (slot : ℕ) (o : Object) → IsNamed old handle slot o → AnswersHandle old handle (modified old.heap slot (kind_modified flags)) answer new → Told
     modifies own slot o n g = turn (is_fixed o.kind || is_fixed (kind_modified flags)) refl (subst (λ p. IfSome p (Law slot)) n.there (kind_law old.heap slot (kind_modified flags) is.heap))
       where
-        turn : (b : Bool) → (is_fixed o.kind || is_fixed (kind_modified flags)) ≡ b → Law slot o → Out
+        turn : (b : Bool) → (is_fixed o.kind || is_fixed (kind_modified flags)) ≡ b → Law slot o → Told
         turn true t law = unmoved (modified old.heap slot (kind_modified flags)) (ap (λ (r : Result Heap Refusal). elim r [ Ok new ↦ new | Err _ ↦ old.heap ]) (law.0 t)) g
         turn false t law =
             let c : (heap : Heap) × (after_modify old.heap slot (kind_modified flags) ≡ Ok heap) × ChangesKind old.heap slot o (kind_modified flags) heap = law.1 t in
-            let same : c.0 ≡ new.heap = sym (ap (λ (r : Result Heap Refusal). elim r [ Ok new ↦ new | Err _ ↦ old.heap ]) c.1) ∙ left (modified old.heap slot (kind_modified flags)) g in
-            IsModified (record {
-              handle = handle;
-              size = size;
-              flags = flags;
-              slot = slot;
-              object = o;
-              asked = asked;
-              answered = says ∙ ap Word g.0;
-              named = n;
-              own = own;
-              modified = subst (λ (h : Heap). after_modify old.heap slot (kind_modified flags) ≡ Ok h) same c.1;
-              changes = subst (ChangesKind old.heap slot o (kind_modified flags)) same c.2;
-              rest = rest (modified old.heap slot (kind_modified flags)) g;
-            })
+            let same : c.0 ≡ new.heap = sym (ap (λ (r : Result Heap Refusal). elim r [ Ok new ↦ new | Err _ ↦ old.heap ]) c.1) ∙ left (modified old.heap slot (kind_modified flags)) g in (
+              IsModified (record {
+                handle = handle;
+                size = size;
+                flags = flags;
+                slot = slot;
+                object = o;
+                asked = asked;
+                answered = says ∙ ap Word g.0;
+                named = n;
+                own = own;
+                modified = subst (λ (h : Heap). after_modify old.heap slot (kind_modified flags) ≡ Ok h) same c.1;
+                changes = subst (ChangesKind old.heap slot o (kind_modified flags)) same c.2;
+                rest = rest (modified old.heap slot (kind_modified flags)) g;
+              }),
+              inr (inl g.0),
+            )
 
-    discards : owns old handle ≡ false → (slot : ℕ) (o : Object) → IsNamed old handle slot o → AnswersDiscard old handle answer new (after_discard old.heap slot) → Out
+    discards : owns old handle ≡ false → (slot : ℕ) (o : Object) → IsNamed old handle slot o → AnswersDiscard old handle answer new (after_discard old.heap slot) → Told
     discards own slot o n g = turn (nat_lt 0 o.locks) (is_discardable o.kind) refl refl (subst (AnswersDiscard old handle answer new) (discard_is old.heap slot (Some o) n.there) g)
       where
-        turn : (locked discardable : Bool) → nat_lt 0 o.locks ≡ locked → is_discardable o.kind ≡ discardable → AnswersDiscard old handle answer new (discard_answer old.heap slot locked discardable) → Out
+        turn : (locked discardable : Bool) → nat_lt 0 o.locks ≡ locked → is_discardable o.kind ≡ discardable → AnswersDiscard old handle answer new (discard_answer old.heap slot locked discardable) → Told
         turn true discardable t d g = null g
-        turn false true t d g = IsDiscarded (record { handle = handle; size = size; flags = flags; slot = slot; object = o; asked = asked; answered = says ∙ ap Word g.0; named = n; own = own; unlocked = none_locked o.locks t; discardable = d; rest = g.1 })
+        turn false true t d g = (IsDiscarded (record { handle = handle; size = size; flags = flags; slot = slot; object = o; asked = asked; answered = says ∙ ap Word g.0; named = n; own = own; unlocked = none_locked o.locks t; discardable = d; rest = g.1 }), inr (inl g.0))
         turn false false t d g = null g
 
-    reallocates : GlobalReAllocs old handle size flags answer new → Out
+    pub reallocates : GlobalReAllocs old handle size flags answer new → Told
     reallocates step = by_owner (owns old handle) refl step
       where
-        empties : owns old handle ≡ false → (slot : ℕ) (o : Object) → IsNamed old handle slot o → (m : Bool) → MatchBool m (AnswersDiscard old handle answer new (after_discard old.heap slot)) (IsNull old answer new) → Out
+        empties : owns old handle ≡ false → (slot : ℕ) (o : Object) → IsNamed old handle slot o → (m : Bool) → MatchBool m (AnswersDiscard old handle answer new (after_discard old.heap slot)) (IsNull old answer new) → Told
         empties own slot o n true g = discards own slot o n g
         empties own slot o n false g = null g
 
-        answers : (has_flag flags GMEM_MODIFY ≡ false) × ((size == 0) ≡ false) → owns old handle ≡ false → (slot : ℕ) (o : Object) → IsNamed old handle slot o → (answered : Bool) (heap : Heap) → Reallocates old.heap slot (rounded_size size) (realloc_options flags) answered heap → MatchBool answered (AnswersHandle old handle heap answer new) (IsNull old answer new) → Out
-        answers a own slot o n true heap r g = IsResized (record {
+        told : Resized old call reply new → Told
+        told r = (IsResized r, inr (inr r))
+
+        answers : (has_flag flags GMEM_MODIFY ≡ false) × ((size == 0) ≡ false) → owns old handle ≡ false → (slot : ℕ) (o : Object) → IsNamed old handle slot o → nat_lt LARGEST_SIZE size ≡ false
+            → (first : ℕ) → GetsRun old slot o (realloc_options flags) (slots_for (rounded_size size)) first → (answered : Bool) (heap : Heap) → Reallocates old.heap slot (rounded_size size) (realloc_options flags) answered heap
+            → MatchBool answered (Anew old slot o.kind first (slots_for (rounded_size size)) heap answer new) (IsNull old answer new) → Told
+        answers a own slot o n short first gets true heap r g = told (record {
           handle = handle;
           size = size;
           flags = flags;
           slot = slot;
           object = o;
+          first = first;
+          heap = heap;
           asked = asked;
           answered = says ∙ ap Word g.0;
           named = n;
           own = own;
           sized = a;
-          resized = subst (Reallocates old.heap slot (rounded_size size) (realloc_options flags) true) (left heap g) r;
-          rest = rest heap g;
+          small = ltb-false LARGEST_SIZE size short;
+          gets = gets;
+          resized = r;
+          rest = g.1;
         })
-        answers a own slot o n false heap r g = null g
+        answers a own slot o n short first gets false heap r g = null g
 
-        resizes : (has_flag flags GMEM_MODIFY ≡ false) × ((size == 0) ≡ false) → owns old handle ≡ false → (slot : ℕ) (o : Object) → IsNamed old handle slot o → (long : Bool) → MatchBool long (IsNull old answer new) ((answered : Bool) × (heap : Heap) × Reallocates old.heap slot (rounded_size size) (realloc_options flags) answered heap × MatchBool answered (AnswersHandle old handle heap answer new) (IsNull old answer new)) → Out
-        resizes a own slot o n true g = null g
-        resizes a own slot o n false g = answers a own slot o n g.0 g.1 g.2 g.3
+        of_object : (has_flag flags GMEM_MODIFY ≡ false) × ((size == 0) ≡ false) → owns old handle ≡ false → (slot : ℕ) (o : Object) → IsNamed old handle slot o → nat_lt LARGEST_SIZE size ≡ false → ResizesObject old slot flags size answer new o → Told
+        of_object a own slot o n short (inl g) = null g.1
+        of_object a own slot o n short (inr g) = answers a own slot o n short g.0 g.1 g.2 g.3 g.4 g.5
 
-        sized : has_flag flags GMEM_MODIFY ≡ false → owns old handle ≡ false → (slot : ℕ) (o : Object) → IsNamed old handle slot o → (none : Bool) → (size == 0) ≡ none → MatchBool none (Empties old handle slot flags answer new) (Resizes old handle slot flags size answer new) → Out
+        resizes : (has_flag flags GMEM_MODIFY ≡ false) × ((size == 0) ≡ false) → owns old handle ≡ false → (slot : ℕ) (o : Object) → IsNamed old handle slot o → (long : Bool) → nat_lt LARGEST_SIZE size ≡ long → MatchBool long (IsNull old answer new) (IsSomeAnd (object_at old.heap slot) (ResizesObject old slot flags size answer new)) → Told
+        resizes a own slot o n true t g = null g
+        resizes a own slot o n false t g = of_object a own slot o n t (subst (λ p. IsSomeAnd p (ResizesObject old slot flags size answer new)) n.there g)
+
+        sized : has_flag flags GMEM_MODIFY ≡ false → owns old handle ≡ false → (slot : ℕ) (o : Object) → IsNamed old handle slot o → (none : Bool) → (size == 0) ≡ none → MatchBool none (Empties old handle slot flags answer new) (Resizes old slot flags size answer new) → Told
         sized m own slot o n true z g = empties own slot o n (has_flag flags GMEM_MOVEABLE) g
-        sized m own slot o n false z g = resizes (m, z) own slot o n (nat_lt LARGEST_SIZE size) g
+        sized m own slot o n false z g = resizes (m, z) own slot o n (nat_lt LARGEST_SIZE size) refl g
 
-        by_modify : owns old handle ≡ false → (slot : ℕ) (o : Object) → IsNamed old handle slot o → (m : Bool) → has_flag flags GMEM_MODIFY ≡ m → MatchBool m (AnswersHandle old handle (modified old.heap slot (kind_modified flags)) answer new) (MatchBool (size == 0) (Empties old handle slot flags answer new) (Resizes old handle slot flags size answer new)) → Out
+        by_modify : owns old handle ≡ false → (slot : ℕ) (o : Object) → IsNamed old handle slot o → (m : Bool) → has_flag flags GMEM_MODIFY ≡ m → MatchBool m (AnswersHandle old handle (modified old.heap slot (kind_modified flags)) answer new) (MatchBool (size == 0) (Empties old handle slot flags answer new) (Resizes old slot flags size answer new)) → Told
         by_modify own slot o n true m g = modifies own slot o n g
         by_modify own slot o n false m g = sized m own slot o n (size == 0) refl g
 
-        turn : owns old handle ≡ false → (p : Option ℕ) → slot_of_handle old handle ≡ p → MatchOption p (IsNull old answer new) (λ slot. MatchBool (has_flag flags GMEM_MODIFY) (AnswersHandle old handle (modified old.heap slot (kind_modified flags)) answer new) (MatchBool (size == 0) (Empties old handle slot flags answer new) (Resizes old handle slot flags size answer new))) → Out
+        turn : owns old handle ≡ false → (p : Option ℕ) → slot_of_handle old handle ≡ p → MatchOption p (IsNull old answer new) (λ slot. MatchBool (has_flag flags GMEM_MODIFY) (AnswersHandle old handle (modified old.heap slot (kind_modified flags)) answer new) (MatchBool (size == 0) (Empties old handle slot flags answer new) (Resizes old slot flags size answer new))) → Told
         turn own None is_found g = null g
         turn own (Some slot) is_found g = let n : (o : Object) × IsNamed old handle slot o = named handle slot is_found in by_modify own slot n.0 n.1 (has_flag flags GMEM_MODIFY) refl g
 
-        by_owner : (b : Bool) → owns old handle ≡ b → MatchBool b (IsNull old answer new) (ReAllocsOwn old handle size flags answer new) → Out
+        by_owner : (b : Bool) → owns old handle ≡ b → MatchBool b (IsNull old answer new) (ReAllocsOwn old handle size flags answer new) → Told
         by_owner true own g = null g
         by_owner false own g = turn own (slot_of_handle old handle) refl g
 
@@ -342,5 +361,5 @@ call_outcome old new command answer step = absurd step
 
 pub outcome : CallOutcomesLaw
 outcome old new (Calls command) answer is step = call_outcome old new command answer step
-outcome old new (ReAllocs handle size flags) (Word answer) is step = reallocates old (ReAllocs handle size flags) (Word answer) new is handle size flags answer refl refl step
+outcome old new (ReAllocs handle size flags) (Word answer) is step = (reallocates old (ReAllocs handle size flags) (Word answer) new is handle size flags answer refl refl step).0
 outcome old new call answer is step = absurd step

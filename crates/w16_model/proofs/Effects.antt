@@ -1,5 +1,5 @@
 -- What calls do, and when accesses are answered.
-use Rattle.w16_model.proofs.Common.{◌≡◌, ℕ, ◌+◌, ◌-◌, ◌<◌, ◌≤◌, ◌==◌, ◌||◌, Bool, true, false, cond, not, nat_lt, MatchBool, MatchOption, IfSome, List, length, Option, Some, None, Result, Ok, Err, option_map, unwrap_or, is_some, refl, sym, ap, ◌∙◌, subst, arith, ne_eqb, ltb-true, Refusal, FarFault, BadSelector, ReadOnly, NotPresent, Limit, Kind, Moveable, Discardable, GMEM_MODIFY, GMEM_DISCARDABLE, Heap, Object, object_at, bytes_at, is_fixed, is_discardable, part, repeated, with_object, with_ordered, touched, removed, absent, after_lock, after_unlock, after_free, after_discard, after_modify, after_touch, Handles, slot_of_selector, selector_of, selector_in, offset_in, far_pointer, owns, refuses_write, Answer, global_lock, global_unlock, global_free, free_own, locks_at, has_flag, Word, Dword, IsNull, AnswersHandle, AnswersDiscard, Empties, Resizes, ReAllocsOwn, GlobalReAllocs, modified, kind_modified, IsNamed, ChangesKind, FarAnswer, far_fault, far_slot, far_bytes, far_read, data_write, far_write, after_write, Read, Write, Fill, Bytes, Done, Fault, LockLaw, UnlockLaw, FreeLaw, ModifyLaw, DiscardLaw, AnsweredLaw}
+use Rattle.w16_model.proofs.Common.{◌≡◌, ℕ, ◌+◌, ◌*◌, ◌-◌, ◌<◌, ◌≤◌, ◌==◌, ◌||◌, Bool, true, false, cond, not, nat_lt, MatchBool, MatchOption, IfSome, List, length, Option, Some, None, Result, Ok, Err, option_map, unwrap_or, is_some, refl, sym, ap, ◌∙◌, subst, arith, ne_eqb, Refusal, FarFault, ReadOnly, REACH, Kind, Moveable, Discardable, GMEM_MODIFY, GMEM_DISCARDABLE, Heap, Object, object_at, bytes_at, is_fixed, is_discardable, part, repeated, with_object, with_ordered, touched, removed, absent, after_lock, after_unlock, after_free, after_discard, after_modify, after_touch, Handles, Part, part_of_selector, selector_of, selector_in, offset_in, far_pointer, owns, refuses_write, Answer, global_lock, global_unlock, global_free, free_own, locks_at, has_flag, Word, Dword, IsNull, AnswersHandle, AnswersDiscard, Empties, Resizes, ReAllocsOwn, GlobalReAllocs, modified, kind_modified, IsNamed, ChangesKind, FarAnswer, far_fault, far_slot, far_at, far_bytes, far_read, data_write, far_write, after_write, Read, Write, Fill, Bytes, Done, Fault, LockLaw, UnlockLaw, FreeLaw, ModifyLaw, DiscardLaw, AnsweredLaw}
 use Rattle.std.specs.FinMap as finmap
 use Rattle.w16_model.specs.declared.Refusal.TheVariants as refusals
 use Rattle.w16_model.proofs.Heaps.{get-update_same}
@@ -7,6 +7,7 @@ use Rattle.w16_model.proofs.KeptHeaps.{inserted_here, taken_here}
 use Rattle.w16_model.proofs.KindChanges.{kind_law}
 use Rattle.w16_model.proofs.Absence.{answer as discard_answer, discard_is}
 use Rattle.w16_model.proofs.Parts.{length-repeated}
+use Rattle.w16_model.proofs.Accesses.{reached_fault}
 
 module _ (old : Handles) (handle slot : ℕ) (o : Object) (n : IsNamed old handle slot o) where
   -- GlobalLock
@@ -62,9 +63,9 @@ module _ (old : Handles) (handle slot : ℕ) (o : Object) (n : IsNamed old handl
 
   -- GlobalReAlloc
   module _ (new : Handles) (size flags answer : ℕ) (own : owns old handle ≡ false) (step : GlobalReAllocs old handle size flags answer new) where
-    reallocs : MatchBool (has_flag flags GMEM_MODIFY) (AnswersHandle old handle (modified old.heap slot (kind_modified flags)) answer new) (MatchBool (size == 0) (Empties old handle slot flags answer new) (Resizes old handle slot flags size answer new))
+    reallocs : MatchBool (has_flag flags GMEM_MODIFY) (AnswersHandle old handle (modified old.heap slot (kind_modified flags)) answer new) (MatchBool (size == 0) (Empties old handle slot flags answer new) (Resizes old slot flags size answer new))
     reallocs = subst (λ (s : Option ℕ). MatchOption s (IsNull old answer new) (λ slot. MatchBool (has_flag flags GMEM_MODIFY)
-        (AnswersHandle old handle (modified old.heap slot (kind_modified flags)) answer new) (MatchBool (size == 0) (Empties old handle slot flags answer new) (Resizes old handle slot flags size answer new)))) n.found
+        (AnswersHandle old handle (modified old.heap slot (kind_modified flags)) answer new) (MatchBool (size == 0) (Empties old handle slot flags answer new) (Resizes old slot flags size answer new)))) n.found
         (subst (λ b. MatchBool b (IsNull old answer new) (ReAllocsOwn old handle size flags answer new)) own step)
 
 pub lock_law : LockLaw
@@ -90,7 +91,7 @@ free_law old new handle slot o answer n own free step =
 
 pub modify_law : ModifyLaw
 modify_law old new handle slot size flags o answer is n own modify loose step =
-    let again : AnswersHandle old handle (modified old.heap slot (kind_modified flags)) answer new = subst (λ b. MatchBool b (AnswersHandle old handle (modified old.heap slot (kind_modified flags)) answer new) (MatchBool (size == 0) (Empties old handle slot flags answer new) (Resizes old handle slot flags size answer new))) modify
+    let again : AnswersHandle old handle (modified old.heap slot (kind_modified flags)) answer new = subst (λ b. MatchBool b (AnswersHandle old handle (modified old.heap slot (kind_modified flags)) answer new) (MatchBool (size == 0) (Empties old handle slot flags answer new) (Resizes old slot flags size answer new))) modify
     (reallocs old handle slot o n new size flags answer own step) in
     let law : ((is_fixed o.kind || is_fixed (kind_modified flags)) ≡ true → after_modify old.heap slot (kind_modified flags) ≡ Err refusals.Fixed)
     × ((is_fixed o.kind || is_fixed (kind_modified flags)) ≡ false → (heap : Heap) × (after_modify old.heap slot (kind_modified flags) ≡ Ok heap) × ChangesKind old.heap slot o (kind_modified flags) heap) =
@@ -120,36 +121,27 @@ discard_law old new handle slot flags o answer n own keeps moveable may free ste
     )
 
 -- Far accesses.
-module _ (old : Handles) (selector offset n slot : ℕ) (bytes : List ℕ) (found : slot_of_selector old selector ≡ Some slot) (has : bytes_at old.heap slot ≡ Some bytes) (fits : offset + n ≤ length bytes) where
+module _ (old : Handles) (selector offset n : ℕ) (p : Part) (bytes : List ℕ) (found : part_of_selector old selector ≡ Some p) (has : bytes_at old.heap p.slot ≡ Some bytes) (near : offset + n ≤ REACH) (fits : REACH * p.number + (offset + n) ≤ length bytes) where
   no_fault : far_fault old selector offset n ≡ None
-  no_fault = ap (λ (s : Option ℕ). elim s as (λ _. Option FarFault) [
-    | None ↦ Some BadSelector
-    | Some slot ↦ elim (bytes_at old.heap slot) [ None ↦ Some NotPresent | Some bytes ↦ cond (nat_lt (length bytes) (offset + n)) (Some Limit) None ]
-  ]) found
-      ∙ ap (λ (b : Option (List ℕ)). elim b as (λ _. Option FarFault) [ None ↦ Some NotPresent | Some bytes ↦ cond (nat_lt (length bytes) (offset + n)) (Some Limit) None ]) has
-      ∙ ap (λ b. cond {A = Option FarFault} b (Some Limit) None) (short (nat_lt (length bytes) (offset + n)) refl)
-    where
-      short : (b : Bool) → nat_lt (length bytes) (offset + n) ≡ b → nat_lt (length bytes) (offset + n) ≡ false
-      short false t = t
-      short true t = absurd (omega (arith, fits, ltb-true (length bytes) (offset + n) t))
+  no_fault = reached_fault old selector offset n p bytes found has near fits
 
-  read_answered : (far_read old selector offset n).0 ≡ Bytes (part (far_bytes old selector) offset n)
+  read_answered : (far_read old selector offset n).0 ≡ Bytes (part (far_bytes old selector) (far_at old selector offset) n)
   read_answered = ap (λ (f : Option FarFault). (elim f as (λ _. FarAnswer × Handles) [
     | Some fault ↦ (Fault fault, old)
-    | None ↦ (Bytes (part (far_bytes old selector) offset n), record old { heap = after_touch old.heap (far_slot old selector) })
+    | None ↦ (Bytes (part (far_bytes old selector) (far_at old selector offset) n), record old { heap = after_touch old.heap (far_slot old selector) })
   ]).0) no_fault
 
   write_answered : (slice : List ℕ) → length slice ≡ n → refuses_write old selector ≡ false → (far_write old selector offset slice).0 ≡ Done
   write_answered slice long may = ap (λ b. (cond {A = FarAnswer × Handles} b (Fault ReadOnly, old) (data_write old selector offset slice)).0) may
       ∙ ap (λ (f : Option FarFault). (elim f as (λ _. FarAnswer × Handles) [
         | Some fault ↦ (Fault fault, old)
-        | None ↦ (Done, record old { heap = after_touch (after_write old.heap (far_slot old selector) offset slice) (far_slot old selector) })
+        | None ↦ (Done, record old { heap = after_touch (after_write old.heap (far_slot old selector) (far_at old selector offset) slice) (far_slot old selector) })
       ]).0) (ap (far_fault old selector offset) long ∙ no_fault)
 
 pub answered_law : AnsweredLaw
-answered_law old new (Read pointer count) answer slot bytes found has fits may step fault e =
-    let both : ◌≡◌ {A = FarAnswer} (Fault fault) (Bytes (part (far_bytes old (selector_in pointer)) (offset_in pointer) count)) = sym e ∙ step.0 ∙ read_answered old (selector_in pointer) (offset_in pointer) count slot bytes found has fits in cc
-answered_law old new (Write pointer slice) answer slot bytes found has fits may step fault e =
-    let both : ◌≡◌ {A = FarAnswer} (Fault fault) Done = sym e ∙ step.0 ∙ write_answered old (selector_in pointer) (offset_in pointer) (length slice) slot bytes found has fits slice refl (may refl) in cc
-answered_law old new (Fill pointer count byte) answer slot bytes found has fits may step fault e =
-    let both : ◌≡◌ {A = FarAnswer} (Fault fault) Done = sym e ∙ step.0 ∙ write_answered old (selector_in pointer) (offset_in pointer) count slot bytes found has fits (repeated count byte) (length-repeated count byte) (may refl) in cc
+answered_law old new (Read pointer count) answer p bytes found has near fits may step fault e =
+    let both : ◌≡◌ {A = FarAnswer} (Fault fault) (Bytes (part (far_bytes old (selector_in pointer)) (far_at old (selector_in pointer) (offset_in pointer)) count)) = sym e ∙ step.0 ∙ read_answered old (selector_in pointer) (offset_in pointer) count p bytes found has near fits in cc
+answered_law old new (Write pointer slice) answer p bytes found has near fits may step fault e =
+    let both : ◌≡◌ {A = FarAnswer} (Fault fault) Done = sym e ∙ step.0 ∙ write_answered old (selector_in pointer) (offset_in pointer) (length slice) p bytes found has near fits slice refl (may refl) in cc
+answered_law old new (Fill pointer count byte) answer p bytes found has near fits may step fault e =
+    let both : ◌≡◌ {A = FarAnswer} (Fault fault) Done = sym e ∙ step.0 ∙ write_answered old (selector_in pointer) (offset_in pointer) count p bytes found has near fits (repeated count byte) (length-repeated count byte) (may refl) in cc

@@ -1,5 +1,6 @@
 -- The handles in which nothing is allocated.
-use Rattle.w16_model.proofs.Common.{◌≡◌, ℕ, ◌<◌, IfSome, All, Option, Some, None, is_some, refl, sym, ap, ◌∙◌, subst, arith, nat_cmp, get-empty, Block, GRAIN, Object, IsHeap, IsCounted, IsMultiple, empty_heap, blocks, is_in_order, IsSlot, empty_handles, EmptyLaw}
+use Rattle.w16_model.proofs.Common.{◌≡◌, ℕ, ◌<◌, IfSome, All, Option, Some, None, is_some, refl, sym, ap, ◌∙◌, subst, arith, nat_cmp, get-empty, Block, GRAIN, Object, IsHeap, IsCounted, IsMultiple, empty_heap, blocks, is_in_order, false≢true, Attributes, IsRun, IsSized, slots_at, EmptyLaw}
+use Rattle.std.specs.FinMap as finmap
 use Rattle.w16_model.proofs.Gaps.{Each-from, All-from_Each}
 use Rattle.w16_model.proofs.Heaps.{IsBlockOf, member_block}
 use Rattle.w16_model.proofs.Places.{placed_from}
@@ -25,6 +26,10 @@ empty_law memory slots few = record {
   low = refl;
   grain = refl;
   few = few;
-  slotted = λ q. subst (λ (o : Option Object). IfSome o (λ _. IsSlot (empty_handles memory slots) q)) (sym (get-empty nat_cmp q)) tt;
+  runs = record {
+    each = λ q. subst (λ (a : Option Attributes). IfSome a (IsRun slots q)) (sym (get-empty nat_cmp q)) tt;
+    apart = λ q other less some. absurd (false≢true (sym (ap is_some (get-empty {X = Attributes} nat_cmp other)) ∙ some));
+  };
   attributed = λ q. ap is_some (get-empty nat_cmp q) ∙ ap (λ (o : Option Object). is_some o) (sym (get-empty nat_cmp q));
+  sized = λ q. subst (λ (o : Option Object). IsSized (slots_at finmap.empty q) (elim o [ Some o ↦ o.bytes | None ↦ None ])) (sym (get-empty nat_cmp q)) tt;
 }

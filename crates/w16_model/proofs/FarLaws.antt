@@ -1,40 +1,44 @@
 -- What a far access does: to its object's bytes, to all others, and to the order of use.
-use Rattle.w16_model.proofs.Common.{◌≡◌, ◌≢◌, ℕ, ◌+◌, ◌≤◌, Bool, true, false, cond, nat_lt, IsSomeAnd, List, [], length, Option, Some, None, option_map, unwrap_or, refl, sym, ap, ◌∙◌, subst, arith, ltb-true, FarFault, BadSelector, ReadOnly, NotPresent, Limit, part, put_part, repeated, is_member, Heap, Object, object_at, bytes_at, is_in_order, newest, touched, after_touch, Handles, AreHandles, Gives, slot_of_selector, selector_of, selector_in, offset_in, refuses_write, FarAnswer, far_fault, far_slot, far_bytes, far_read, data_write, far_write, after_write, Read, Write, Fill, Bytes, Done, Fault, IsWritten, Reaches, FarEffect, FarEffectLaw, ReadBackLaw}
-use Rattle.w16_model.proofs.Accesses.{Reached, reached}
+use Rattle.w16_model.proofs.Common.{◌≡◌, ◌≢◌, ℕ, ◌+◌, ◌*◌, ◌≤◌, Bool, true, false, cond, IsSomeAnd, List, [], length, Option, Some, None, option_map, unwrap_or, refl, sym, ap, ◌∙◌, subst, arith, FarFault, BadSelector, ReadOnly, NotPresent, Limit, REACH, part, put_part, repeated, is_member, Heap, Object, object_at, bytes_at, is_in_order, newest, touched, after_touch, Handles, AreHandles, Gives, Part, part_of_selector, selector_in, offset_in, refuses_write, FarAnswer, is_past, far_fault, far_part, far_slot, far_at, far_bytes, far_read, data_write, far_write, after_write, Read, Write, Fill, Bytes, Done, Fault, IsWritten, Reaches, FarEffect, FarEffectLaw, ReadBackLaw}
+use Rattle.w16_model.proofs.Accesses.{Reached, reached, near, reached_fault}
 use Rattle.w16_model.proofs.Heaps.{get-update_same, get-update_other}
 use Rattle.w16_model.proofs.KeptHeaps.{bytes_in}
-use Rattle.w16_model.proofs.Naming.{names_law}
 use Rattle.w16_model.proofs.Parts.{length-put_part, take-put_part, part-put_part, drop-put_part}
 
 -- an access without a fault has a selector
-selector_found : (handles : Handles) (selector offset n : ℕ) → far_fault handles selector offset n ≡ None → slot_of_selector handles selector ≡ Some (far_slot handles selector)
-selector_found handles selector offset n = turn (slot_of_selector handles selector)
+selector_found : (handles : Handles) (selector offset n : ℕ) → far_fault handles selector offset n ≡ None → part_of_selector handles selector ≡ Some (far_part handles selector)
+selector_found handles selector offset n = turn (part_of_selector handles selector)
   where
-    turn : (s : Option ℕ) → (elim s as (λ _. Option FarFault) [
+    turn : (s : Option Part) → (elim s as (λ _. Option FarFault) [
       | None ↦ Some BadSelector
-      | Some slot ↦ elim (bytes_at handles.heap slot) [ None ↦ Some NotPresent | Some bytes ↦ cond (nat_lt (length bytes) (offset + n)) (Some Limit) None ]
-    ]) ≡ None → s ≡ Some (unwrap_or s 0)
+      | Some p ↦ elim (bytes_at handles.heap p.slot) [ None ↦ Some NotPresent | Some bytes ↦ cond (is_past (length bytes) p (offset + n)) (Some Limit) None ]
+    ]) ≡ None → s ≡ Some (unwrap_or s (record { slot = 0; number = 0 }))
     turn None e = cc
-    turn (Some slot) e = refl
+    turn (Some p) e = refl
 
 module _ (old : Handles) (is : AreHandles old) (selector offset : ℕ) where
   abbrev slot : ℕ
   slot = far_slot old selector
 
+  abbrev begin : ℕ
+  begin = REACH * (far_part old selector).number
+
   member : (b : Bool) → is_in_order (object_at old.heap slot) ≡ b → is_member slot old.heap.order ≡ b
   member b t = is.heap.in_order slot ∙ t
 
   -- its object has other bytes, and was used
-  reaches : (n : ℕ) → far_fault old selector offset n ≡ None → (becomes : List ℕ → List ℕ → Type 0) (heap : Heap) → heap ≡ record old.heap { objects = heap.objects }
-      → ((o : Object) (bytes : List ℕ) → object_at old.heap slot ≡ Some o → o.bytes ≡ Some bytes → offset + n ≤ length bytes → (after : List ℕ) × becomes bytes after × (object_at heap slot ≡ Some (record o { bytes = Some after })))
-      → ((q : ℕ) → q ≢ slot → object_at heap q ≡ object_at old.heap q) → Reaches old selector becomes (record old { heap = after_touch heap slot })
+  reaches : (n : ℕ) → far_fault old selector offset n ≡ None → (becomes : ℕ → List ℕ → List ℕ → Type 0) (heap : Heap) → heap ≡ record old.heap { objects = heap.objects }
+      → ((o : Object) (bytes : List ℕ) → object_at old.heap slot ≡ Some o → o.bytes ≡ Some bytes → begin + offset + n ≤ length bytes → (after : List ℕ) × becomes begin bytes after × (object_at heap slot ≡ Some (record o { bytes = Some after })))
+      → ((q : ℕ) → q ≢ slot → object_at heap q ≡ object_at old.heap q) → Reaches old selector (offset + n) becomes (record old { heap = after_touch heap slot })
   reaches n free becomes heap rest changes others =
-      let r : Reached old slot (offset + n) = reached old selector offset n free in
+      let r : Reached old slot (begin + offset + n) = reached old selector offset n free in
       record {
         slot = slot;
+        number = (far_part old selector).number;
+        near = near old selector offset n free;
         found = selector_found old selector offset n free;
-        object = subst (λ p. IsSomeAnd p (λ o. IsSomeAnd o.bytes (λ bytes. (after : List ℕ) × becomes bytes after × (object_at heap slot ≡ Some (record o { bytes = Some after }))))) (sym r.there)
-            (subst (λ b. IsSomeAnd b (λ bytes. (after : List ℕ) × becomes bytes after × (object_at heap slot ≡ Some (record r.object { bytes = Some after })))) (sym r.has) (changes r.object r.bytes r.there r.has r.fits));
+        object = subst (λ p. IsSomeAnd p (λ o. IsSomeAnd o.bytes (λ bytes. (after : List ℕ) × becomes begin bytes after × (object_at heap slot ≡ Some (record o { bytes = Some after }))))) (sym r.there)
+            (subst (λ b. IsSomeAnd b (λ bytes. (after : List ℕ) × becomes begin bytes after × (object_at heap slot ≡ Some (record r.object { bytes = Some after })))) (sym r.has) (changes r.object r.bytes r.there r.has r.fits));
         others = others;
         newest = λ t. ap (λ (h : Heap). touched slot h.order) rest ∙ ap (λ b. cond {A = List ℕ} b (newest slot old.heap.order) old.heap.order) (member true t);
         unlisted = λ t. ap (λ (h : Heap). touched slot h.order) rest ∙ ap (λ b. cond {A = List ℕ} b (newest slot old.heap.order) old.heap.order) (member false t);
@@ -43,41 +47,41 @@ module _ (old : Handles) (is : AreHandles old) (selector offset : ℕ) where
 
   -- what holds of the outcome of a read, and of a write
   read : (n : ℕ) (P : FarAnswer → Handles → Type 0) → ((fault : FarFault) → P (Fault fault) old)
-      → ((bytes : List ℕ) (new : Handles) → Reaches old selector (λ before after. (after ≡ before) × (bytes ≡ part before offset n)) new → P (Bytes bytes) new) → P (far_read old selector offset n).0 (far_read old selector offset n).1
+      → ((bytes : List ℕ) (new : Handles) → Reaches old selector (offset + n) (λ from before after. (after ≡ before) × (bytes ≡ part before (from + offset) n)) new → P (Bytes bytes) new) → P (far_read old selector offset n).0 (far_read old selector offset n).1
   read n P fails done = turn (far_fault old selector offset n) refl
     where
       turn : (f : Option FarFault) → far_fault old selector offset n ≡ f
-          → P (elim f as (λ _. FarAnswer × Handles) [ Some fault ↦ (Fault fault, old) | None ↦ (Bytes (part (far_bytes old selector) offset n), record old { heap = after_touch old.heap slot }) ]).0
-          (elim f as (λ _. FarAnswer × Handles) [ Some fault ↦ (Fault fault, old) | None ↦ (Bytes (part (far_bytes old selector) offset n), record old { heap = after_touch old.heap slot }) ]).1
+          → P (elim f as (λ _. FarAnswer × Handles) [ Some fault ↦ (Fault fault, old) | None ↦ (Bytes (part (far_bytes old selector) (begin + offset) n), record old { heap = after_touch old.heap slot }) ]).0
+          (elim f as (λ _. FarAnswer × Handles) [ Some fault ↦ (Fault fault, old) | None ↦ (Bytes (part (far_bytes old selector) (begin + offset) n), record old { heap = after_touch old.heap slot }) ]).1
       turn (Some fault) e = fails fault
-      turn None e = done (part (far_bytes old selector) offset n) (record old { heap = after_touch old.heap slot })
-          (reaches n e (λ before after. (after ≡ before) × (part (far_bytes old selector) offset n ≡ part before offset n)) old.heap refl
-          (λ o bytes there has fits. (bytes, (refl, ap (λ p. part (unwrap_or p []) offset n) (ap bytes_in there ∙ has)), there ∙ ap (λ b. Some (record o { bytes = b })) has)) (λ q d. refl))
+      turn None e = done (part (far_bytes old selector) (begin + offset) n) (record old { heap = after_touch old.heap slot })
+          (reaches n e (λ from before after. (after ≡ before) × (part (far_bytes old selector) (begin + offset) n ≡ part before (from + offset) n)) old.heap refl
+          (λ o bytes there has fits. (bytes, (refl, ap (λ p. part (unwrap_or p []) (begin + offset) n) (ap bytes_in there ∙ has)), there ∙ ap (λ b. Some (record o { bytes = b })) has)) (λ q d. refl))
 
-  write : (slice : List ℕ) (P : FarAnswer → Handles → Type 0) → ((fault : FarFault) → P (Fault fault) old) → ((new : Handles) → Reaches old selector (λ before after. IsWritten before offset slice after) new → P Done new)
+  write : (slice : List ℕ) (P : FarAnswer → Handles → Type 0) → ((fault : FarFault) → P (Fault fault) old) → ((new : Handles) → Reaches old selector (offset + length slice) (λ from before after. IsWritten before (from + offset) slice after) new → P Done new)
       → P (far_write old selector offset slice).0 (far_write old selector offset slice).1
   write slice P fails done = by_code (refuses_write old selector)
     where
       turn : (f : Option FarFault) → far_fault old selector offset (length slice) ≡ f
-          → P (elim f as (λ _. FarAnswer × Handles) [ Some fault ↦ (Fault fault, old) | None ↦ (Done, record old { heap = after_touch (after_write old.heap slot offset slice) slot }) ]).0
-          (elim f as (λ _. FarAnswer × Handles) [ Some fault ↦ (Fault fault, old) | None ↦ (Done, record old { heap = after_touch (after_write old.heap slot offset slice) slot }) ]).1
+          → P (elim f as (λ _. FarAnswer × Handles) [ Some fault ↦ (Fault fault, old) | None ↦ (Done, record old { heap = after_touch (after_write old.heap slot (begin + offset) slice) slot }) ]).0
+          (elim f as (λ _. FarAnswer × Handles) [ Some fault ↦ (Fault fault, old) | None ↦ (Done, record old { heap = after_touch (after_write old.heap slot (begin + offset) slice) slot }) ]).1
       turn (Some fault) e = fails fault
-      turn None e = done (record old { heap = after_touch (after_write old.heap slot offset slice) slot })
-          (reaches (length slice) e (λ before after. IsWritten before offset slice after) (after_write old.heap slot offset slice) refl
+      turn None e = done (record old { heap = after_touch (after_write old.heap slot (begin + offset) slice) slot })
+          (reaches (length slice) e (λ from before after. IsWritten before (from + offset) slice after) (after_write old.heap slot (begin + offset) slice) refl
           (λ o bytes there has fits. (
-            put_part bytes offset slice,
+            put_part bytes (begin + offset) slice,
             record {
               fits = fits;
-              long = length-put_part bytes offset slice fits;
-              below = take-put_part bytes offset slice offset (omega arith) (omega (arith, fits));
-              written = part-put_part bytes offset slice (length slice) refl (omega (arith, fits));
-              above = drop-put_part bytes offset slice (offset + length slice) (omega arith) fits;
+              long = length-put_part bytes (begin + offset) slice fits;
+              below = take-put_part bytes (begin + offset) slice (begin + offset) (omega arith) (omega (arith, fits));
+              written = part-put_part bytes (begin + offset) slice (length slice) refl (omega (arith, fits));
+              above = drop-put_part bytes (begin + offset) slice (begin + offset + length slice) (omega arith) fits;
             },
-            get-update_same old.heap.objects slot (λ (o : Object). record o { bytes = option_map (λ bytes. put_part bytes offset slice) o.bytes })
-                ∙ ap (option_map (λ (o : Object). record o { bytes = option_map (λ bytes. put_part bytes offset slice) o.bytes })) there
-                ∙ ap (λ b. Some (record o { bytes = option_map (λ bytes. put_part bytes offset slice) b })) has,
+            get-update_same old.heap.objects slot (λ (o : Object). record o { bytes = option_map (λ bytes. put_part bytes (begin + offset) slice) o.bytes })
+                ∙ ap (option_map (λ (o : Object). record o { bytes = option_map (λ bytes. put_part bytes (begin + offset) slice) o.bytes })) there
+                ∙ ap (λ b. Some (record o { bytes = option_map (λ bytes. put_part bytes (begin + offset) slice) b })) has,
           ))
-          (λ q d. get-update_other old.heap.objects slot (λ (o : Object). record o { bytes = option_map (λ bytes. put_part bytes offset slice) o.bytes }) q d))
+          (λ q d. get-update_other old.heap.objects slot (λ (o : Object). record o { bytes = option_map (λ bytes. put_part bytes (begin + offset) slice) o.bytes }) q d))
 
       by_code : (b : Bool) → P (cond {A = FarAnswer × Handles} b (Fault ReadOnly, old) (data_write old selector offset slice)).0 (cond {A = FarAnswer × Handles} b (Fault ReadOnly, old) (data_write old selector offset slice)).1
       by_code true = fails ReadOnly
@@ -96,43 +100,32 @@ far_effect_law old new (Fill pointer count byte) answer is step = given (FarEffe
     (write old is (selector_in pointer) (offset_in pointer) (repeated count byte) (FarEffect old (Fill pointer count byte)) (λ fault. refl) (λ new r. r))
 
 -- What was written is read back.
-module _ (mid : Handles) (selector offset : ℕ) (slice : List ℕ) (slot : ℕ) (object : Object) (after : List ℕ) (found : slot_of_selector mid selector ≡ Some slot) (there : object_at mid.heap slot ≡ Some object) (has : object.bytes ≡ Some after)
-    (fits : offset + length slice ≤ length after) where
-  no_fault : far_fault mid selector offset (length slice) ≡ None
-  no_fault = ap (λ (s : Option ℕ). elim s as (λ _. Option FarFault) [
-    | None ↦ Some BadSelector
-    | Some slot ↦ elim (bytes_at mid.heap slot) [ None ↦ Some NotPresent | Some bytes ↦ cond (nat_lt (length bytes) (offset + length slice)) (Some Limit) None ]
-  ]) found
-      ∙ ap (λ (b : Option (List ℕ)). elim b as (λ _. Option FarFault) [ None ↦ Some NotPresent | Some bytes ↦ cond (nat_lt (length bytes) (offset + length slice)) (Some Limit) None ]) (ap bytes_in there ∙ has)
-      ∙ ap (λ b. cond {A = Option FarFault} b (Some Limit) None) (short (nat_lt (length after) (offset + length slice)) refl)
-    where
-      short : (b : Bool) → nat_lt (length after) (offset + length slice) ≡ b → nat_lt (length after) (offset + length slice) ≡ false
-      short false t = t
-      short true t = absurd (omega (arith, fits, ltb-true (length after) (offset + length slice) t))
-
-  reads : (far_read mid selector offset (length slice)).0 ≡ Bytes (part after offset (length slice))
+module _ (mid : Handles) (selector offset : ℕ) (slice : List ℕ) (p : Part) (object : Object) (after : List ℕ) (found : part_of_selector mid selector ≡ Some p) (there : object_at mid.heap p.slot ≡ Some object) (has : object.bytes ≡ Some after)
+    (near : offset + length slice ≤ REACH) (fits : REACH * p.number + (offset + length slice) ≤ length after) where
+  reads : (far_read mid selector offset (length slice)).0 ≡ Bytes (part after (REACH * p.number + offset) (length slice))
   reads = ap (λ (f : Option FarFault). (elim f as (λ _. FarAnswer × Handles) [
     | Some fault ↦ (Fault fault, mid)
-    | None ↦ (Bytes (part (far_bytes mid selector) offset (length slice)), record mid { heap = after_touch mid.heap (far_slot mid selector) })
-  ]).0) no_fault
-      ∙ ap (λ (s : Option ℕ). Bytes (part (unwrap_or (bytes_at mid.heap (unwrap_or s 0)) []) offset (length slice))) found
-      ∙ ap (λ (b : Option (List ℕ)). Bytes (part (unwrap_or b []) offset (length slice))) (ap bytes_in there ∙ has)
+    | None ↦ (Bytes (part (far_bytes mid selector) (far_at mid selector offset) (length slice)), record mid { heap = after_touch mid.heap (far_slot mid selector) })
+  ]).0) (reached_fault mid selector offset (length slice) p after found (ap bytes_in there ∙ has) near fits)
+      ∙ ap (λ (s : Option Part). let p : Part = unwrap_or s (record { slot = 0; number = 0 }) in Bytes (part (unwrap_or (bytes_at mid.heap p.slot) []) (REACH * p.number + offset) (length slice))) found
+      ∙ ap (λ (b : Option (List ℕ)). Bytes (part (unwrap_or b []) (REACH * p.number + offset) (length slice))) (ap bytes_in there ∙ has)
+
+abbrev WrittenTo : Handles → Handles → ℕ → List ℕ → Type 0
+WrittenTo old mid pointer slice = Reaches old (selector_in pointer) (offset_in pointer + length slice) (λ begin before after. IsWritten before (begin + offset_in pointer) slice after) mid
 
 pub read_back_law : ReadBackLaw
 read_back_law old mid new pointer slice answer is written step =
-    let r : Reaches old (selector_in pointer) (λ before after. IsWritten before (offset_in pointer) slice after) mid = far_effect_law old mid (Write pointer slice) Done is written in
-    step.0 ∙ by_object r (object_at old.heap r.slot) r.object ((names_law old (selector_in pointer) r.slot).1.0 r.found)
+    let r : WrittenTo old mid pointer slice = far_effect_law old mid (Write pointer slice) Done is written in step.0 ∙ by_object r (object_at old.heap r.slot) r.object
   where
-    by_object : (r : Reaches old (selector_in pointer) (λ before after. IsWritten before (offset_in pointer) slice after) mid) (p : Option Object)
-        → IsSomeAnd p (λ o. IsSomeAnd o.bytes (λ bytes. (after : List ℕ) × IsWritten bytes (offset_in pointer) slice after × (object_at mid.heap r.slot ≡ Some (record o { bytes = Some after })))) → IsSomeAnd p (λ _. selector_in pointer ≡ selector_of r.slot)
+    by_bytes : (r : WrittenTo old mid pointer slice) (o : Object) (b : Option (List ℕ)) → IsSomeAnd b (λ bytes. (after : List ℕ) × IsWritten bytes (REACH * r.number + offset_in pointer) slice after × (object_at mid.heap r.slot ≡ Some (record o { bytes = Some after })))
         → (far_read mid (selector_in pointer) (offset_in pointer) (length slice)).0 ≡ Bytes slice
-    by_object r None h named = absurd h
-    by_object r (Some o) h named = by_bytes o.bytes h
-      where
-        by_bytes : (b : Option (List ℕ)) → IsSomeAnd b (λ bytes. (after : List ℕ) × IsWritten bytes (offset_in pointer) slice after × (object_at mid.heap r.slot ≡ Some (record o { bytes = Some after }))) → (far_read mid (selector_in pointer) (offset_in pointer) (length slice)).0 ≡ Bytes slice
-        by_bytes None h = absurd h
-        by_bytes (Some bytes) h =
-            let w : IsWritten bytes (offset_in pointer) slice h.0 = h.1 in
-            reads mid (selector_in pointer) (offset_in pointer) slice r.slot (record o { bytes = Some h.0 }) h.0
-            ((names_law mid (selector_in pointer) r.slot).1.1 (subst (λ p. IsSomeAnd p (λ _. selector_in pointer ≡ selector_of r.slot)) (sym h.2) named)) h.2 refl (omega (arith, w.fits, w.long))
-            ∙ ap Bytes w.written
+    by_bytes r o None h = absurd h
+    by_bytes r o (Some bytes) h =
+        let w : IsWritten bytes (REACH * r.number + offset_in pointer) slice h.0 = h.1 in
+        reads mid (selector_in pointer) (offset_in pointer) slice (record { slot = r.slot; number = r.number }) (record o { bytes = Some h.0 }) h.0
+        (ap (λ (h : Handles). part_of_selector h (selector_in pointer)) r.rest ∙ r.found) h.2 refl r.near (omega (arith, w.fits, w.long)) ∙ ap Bytes w.written
+
+    by_object : (r : WrittenTo old mid pointer slice) (p : Option Object) → IsSomeAnd p (λ o. IsSomeAnd o.bytes (λ bytes. (after : List ℕ) × IsWritten bytes (REACH * r.number + offset_in pointer) slice after × (object_at mid.heap r.slot ≡ Some (record o { bytes = Some after }))))
+        → (far_read mid (selector_in pointer) (offset_in pointer) (length slice)).0 ≡ Bytes slice
+    by_object r None h = absurd h
+    by_object r (Some o) h = by_bytes r o o.bytes h

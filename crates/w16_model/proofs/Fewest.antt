@@ -1,5 +1,5 @@
 -- Requests discard as few as they can, by the laws on what is needed and on what others keep.
-use Rattle.w16_model.proofs.Common.{◌≡◌, ℕ, ◌<◌, ◌⊎◌, inl, inr, Bool, true, false, cond, not, ◌||◌, ◌&&◌, ◌==◌, nat_le, List, take, Option, Some, None, refl, sym, ap, ◌∙◌, subst, arith, leb-false, ne_eqb, MatchBool, unwrap_or, false≢true, Block, Kind, Fixed, Moveable, Discardable, RoomOptions, longest_hole, IsLongestStretch, eligible, blocks_without, is_member, is_about, needed, room_for, none_discarded_if, Heap, IsHeap, blocks, with_newest, Request, IsNew, Allocates, MakesRoom, compaction_prefix, eligible_count, most_room, discards_needed, snapshot_of, Handles, handle_of, Enters, IsRefusedAlloc, IsEmptyFixed, IsTooLong, HasNoSlot, kind_asked, alloc_options, rounded_size, is_absent_asked, has_flag, GMEM_MOVEABLE, KeepsOthers, HasNoStretch, LacksRoom, AllocatesFewest, IsMostAfter, MakesMost, AllocationLaw, CompactionLaw, GlobalAllocLaw, GlobalCompactLaw}
+use Rattle.w16_model.proofs.Common.{◌≡◌, ℕ, ◌<◌, ◌⊎◌, inl, inr, Bool, true, false, cond, not, ◌||◌, ◌&&◌, ◌==◌, nat_le, List, take, Option, Some, None, refl, sym, ap, ◌∙◌, subst, arith, leb-false, ne_eqb, MatchBool, unwrap_or, false≢true, Block, Kind, Fixed, Moveable, Discardable, RoomOptions, longest_hole, IsLongestStretch, eligible, blocks_without, is_member, is_about, needed, room_for, none_discarded_if, Heap, IsHeap, blocks, with_newest, Request, IsNew, Allocates, MakesRoom, compaction_prefix, eligible_count, most_room, discards_needed, snapshot_of, Handles, handle_of, Enters, IsRefusedAlloc, IsEmptyFixed, IsTooLong, HasNoSlots, kind_asked, alloc_options, rounded_size, is_absent_asked, has_flag, GMEM_MOVEABLE, KeepsOthers, HasNoStretch, LacksRoom, AllocatesFewest, IsMostAfter, MakesMost, AllocationLaw, CompactionLaw, GlobalAllocLaw, GlobalCompactLaw}
 use Rattle.w16_model.proofs.Least.{discards_are_least, no_stretch, placed_filter}
 use Rattle.w16_model.proofs.Longest.{room_is_longest}
 use Rattle.w16_model.proofs.Starts.{hole_is_longest}
@@ -113,7 +113,7 @@ global_alloc_law old new flags size handle are (inl refused) = record {
   refused = λ _. (ap (λ (g : Handles). g.heap) refused.2, reason refused.0);
 }
   where
-    reason : IsRefusedAlloc old flags size → IsEmptyFixed flags size ⊎ IsTooLong size ⊎ HasNoSlot old ⊎ LacksRoom old.heap None (rounded_size size) (alloc_options flags)
+    reason : IsRefusedAlloc old flags size → IsEmptyFixed flags size ⊎ IsTooLong size ⊎ HasNoSlots old size ⊎ LacksRoom old.heap None (rounded_size size) (alloc_options flags)
     reason (inl fixed) = inl fixed
     reason (inr (inl long)) = inr (inl long)
     reason (inr (inr (inl full))) = inr (inr (inl full))

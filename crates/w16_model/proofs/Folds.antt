@@ -1,7 +1,6 @@
 -- What the plain program's loops compute.
 use Rattle.std.specs.List.{AllByRecursion as Each}
-use Rattle.w16_model.proofs.Common.{◌≡◌, ◌↔◌, ℕ, ◌+◌, ◌<◌, ◌≤◌, min, max, Bool, true, false, cond, ◌&&◌, nat_le, nat_lt, IsTrue, List, [], ◌∷◌, ◌++◌, append_assoc, length, drop, get_or, add-one, drop-cons, drop_of_length-le, map, filter, sum_by, All, AllPairs, refl, sym, ap, ◌∙◌, subst, arith, le-leb, lt-ltb, and_from, cond-true, cond-false, nat_tests, Block, Pinned, Span, Misses, block_end, first_from, is_loose, begins_in, loose_bytes, largest, spans_from, ArePlaced}
-use Rattle.std.proofs.lemmas.List.{append-nil}
+use Rattle.w16_model.proofs.Common.{◌≡◌, ◌↔◌, ℕ, ◌+◌, ◌<◌, ◌≤◌, min, Bool, true, false, cond, ◌&&◌, nat_le, nat_lt, IsTrue, List, [], ◌∷◌, length, drop, get_or, add-one, drop-cons, drop_of_length-le, map, filter, sum_by, All, AllPairs, refl, sym, ap, ◌∙◌, subst, arith, le-leb, lt-ltb, and_from, cond-true, cond-false, nat_tests, Block, Pinned, Misses, block_end, first_from, is_loose, begins_in, loose_bytes, ArePlaced}
 use Rattle.w16_model.proofs.Gaps.{Each-map, Each-from_All, All-from_Each, EachPair-from_AllPairs, AllPairs-from_EachPair, pack}
 use Rattle.w16_model.proofs.Longest.{sum_filter}
 use Rattle.w16_model.proofs.Least.{placed_filter}
@@ -18,14 +17,6 @@ first_from-min test hi e a (x ∷ xs) = turn (test x && nat_le a x.at) x.at _ _ 
     turn : (t : Bool) (at v w : ℕ) → v ≡ min e w → cond t (min at v) v ≡ min e (cond t (min at w) w)
     turn true at v w h = omega arith
     turn false at v w h = h
-
--- the first interval, and the others
-spans_from-first : (test : Block → Bool) (hi : ℕ) (xs : List Block) (a : ℕ) (places : List ℕ) → spans_from test hi xs (a ∷ []) ++ spans_from test hi xs places ≡ spans_from test hi xs (a ∷ places)
-spans_from-first test hi xs a places = turn (nat_lt a (first_from test hi xs a)) (record { from = a; to = first_from test hi xs a }) (spans_from test hi xs places)
-  where
-    turn : (b : Bool) (s : Span) (rest : List Span) → cond {A = List Span} b (s ∷ []) [] ++ rest ≡ cond b (s ∷ rest) rest
-    turn true s rest = refl
-    turn false s rest = refl
 
 -- One turn of a loop over the blocks, from the front.
 module _ (xs : List Block) (i : ℕ) (d : Block) (h : i < length xs) where
@@ -107,35 +98,3 @@ loose_bytes-all lo hi a b end bytes i xs placed h e k =
 -- where the blocks that pass a test end
 abbrev pub ends_of : (Block → Bool) → List Block → List ℕ
 ends_of test xs = map block_end (filter test xs)
-
--- the same, one turn of a loop on: the ends of the blocks from this one on
-module _ (test : Block → Bool) (xs : List Block) (i : ℕ) (d : Block) (h : i < length xs) where
-  pub ends_of-taken : IsTrue (test (get_or xs i d)) → ends_of test (drop i xs) ≡ block_end (get_or xs i d) ∷ ends_of test (drop (i + 1) xs)
-  ends_of-taken t = ap (ends_of test) (cut_here xs i d h) ∙ ap (map block_end) (cond-true (test (get_or xs i d)) _ _ t)
-
-  pub ends_of-passed : test (get_or xs i d) ≡ false → ends_of test (drop i xs) ≡ ends_of test (drop (i + 1) xs)
-  ends_of-passed t = ap (ends_of test) (cut_here xs i d h) ∙ ap (map block_end) (cond-false (test (get_or xs i d)) _ _ t)
-
-  pub largest-taken : (f : ℕ → ℕ) (most most' total : ℕ) → IsTrue (test (get_or xs i d)) → max most (largest (map f (ends_of test (drop i xs)))) ≡ total
-      → most' ≡ max most (f (block_end (get_or xs i d))) → max most' (largest (map f (ends_of test (drop (i + 1) xs)))) ≡ total
-  largest-taken f most most' total t k e =
-      let one : largest (map f (ends_of test (drop i xs))) ≡ max (f (block_end (get_or xs i d))) (largest (map f (ends_of test (drop (i + 1) xs)))) = ap (λ ends. largest (map f ends)) (ends_of-taken t) in
-      omega (arith, k, e, one)
-
-  pub largest-passed : (f : ℕ → ℕ) (most most' total : ℕ) → test (get_or xs i d) ≡ false → max most (largest (map f (ends_of test (drop i xs)))) ≡ total
-      → most' ≡ most → max most' (largest (map f (ends_of test (drop (i + 1) xs)))) ≡ total
-  largest-passed f most most' total t k e =
-      let one : largest (map f (ends_of test (drop i xs))) ≡ largest (map f (ends_of test (drop (i + 1) xs))) = ap (λ ends. largest (map f ends)) (ends_of-passed t) in
-      omega (arith, k, e, one)
-
-  pub spans-taken : (hi : ℕ) (spans spans' total : List Span) → IsTrue (test (get_or xs i d)) → spans ++ spans_from test hi xs (ends_of test (drop i xs)) ≡ total
-      → spans' ≡ spans ++ spans_from test hi xs (block_end (get_or xs i d) ∷ []) → spans' ++ spans_from test hi xs (ends_of test (drop (i + 1) xs)) ≡ total
-  spans-taken hi spans spans' total t k e =
-      ap (λ ss. ss ++ rest) e ∙ append_assoc spans _ rest ∙ ap (λ ss. spans ++ ss) (spans_from-first test hi xs (block_end (get_or xs i d)) (ends_of test (drop (i + 1) xs))) ∙ ap (λ ends. spans ++ spans_from test hi xs ends) (sym (ends_of-taken t)) ∙ k
-    where
-      rest : List Span
-      rest = spans_from test hi xs (ends_of test (drop (i + 1) xs))
-
-  pub spans-passed : (hi : ℕ) (spans spans' total : List Span) → test (get_or xs i d) ≡ false → spans ++ spans_from test hi xs (ends_of test (drop i xs)) ≡ total
-      → spans' ≡ spans → spans' ++ spans_from test hi xs (ends_of test (drop (i + 1) xs)) ≡ total
-  spans-passed hi spans spans' total t k e = ap (λ ss. ss ++ spans_from test hi xs (ends_of test (drop (i + 1) xs))) e ∙ ap (λ ends. spans ++ spans_from test hi xs ends) (sym (ends_of-passed t)) ∙ k

@@ -1,11 +1,12 @@
 -- Handles with one thing changed are handles, and each far access leaves such.
-use Rattle.w16_model.proofs.Common.{◌≡◌, ◌≢◌, ℕ, ◌+◌, ◌-◌, ◌<◌, ◌≤◌, inl, inr, Bool, true, false, cond, not, IfSome, IfOk, List, [], ◌∷◌, length, fold, take, All, Option, Some, None, option_map, is_some, refl, sym, ap, ◌∙◌, subst, nat_cmp, FinMap, false≢true, cases_eq, Block, RoomOptions, FarFault, is_pinned, eligible, Heap, Object, IsHeap, blocks, object_at, absent, with_object, with_ordered, removed, touched, update, Kind, Enters, after_lock, after_unlock, after_touch, Request, Settles, discarded, stays_for, Attributes, Handles, AreHandles, IsSlot, IsFreeSlot, selector_in, offset_in, part, put_part, repeated, FarAnswer, far_fault, far_slot, far_bytes, far_read, data_write, far_write, after_write, refuses_write, ReadOnly, Read, Write, Fill, Bytes, Done, Fault, FarLaw}
+use Rattle.w16_model.proofs.Common.{◌≡◌, ◌≢◌, ℕ, ◌+◌, ◌-◌, ◌<◌, ◌≤◌, inl, inr, Bool, true, false, cond, not, IfOk, List, [], ◌∷◌, length, fold, take, All, Option, Some, None, option_map, is_some, refl, sym, ap, ◌∙◌, subst, nat_cmp, FinMap, false≢true, cases_eq, Block, RoomOptions, FarFault, is_pinned, eligible, Heap, Object, IsHeap, blocks, object_at, absent, with_object, with_ordered, removed, touched, update, Kind, Enters, after_lock, after_unlock, after_touch, Request, Settles, discarded, stays_for, Attributes, Handles, AreHandles, IsFreeRun, IsOwnedRun, IsSized, slots_at, slots_for, bytes_at, selector_in, offset_in, part, put_part, repeated, FarAnswer, far_fault, far_slot, far_at, far_bytes, far_read, data_write, far_write, after_write, refuses_write, ReadOnly, Read, Write, Fill, Bytes, Done, Fault, FarLaw, AreRuns}
 use Rattle.std.specs.FinMap as finmap
-use Rattle.w16_model.proofs.Parts.{All-repeated}
+use Rattle.w16_model.proofs.Parts.{All-repeated, length-put_part}
 use Rattle.w16_model.proofs.CallOutcomes.{LockOf, UnlockOf, lock_is, unlock_is, ok_map}
 use Rattle.w16_model.proofs.Accesses.{Reached, reached}
 use Rattle.w16_model.proofs.Heaps.{get-update_same, get-update_other}
-use Rattle.w16_model.proofs.KeptHeaps.{inserted_here, inserted_other, entered_heap, taken_here, taken_other, touched_heap, removed_heap, locked_heap, unlocked_heap, written_heap}
+use Rattle.w16_model.proofs.Runs.{slots_with, slots_beside, slots_left, runs_with, runs_without}
+use Rattle.w16_model.proofs.KeptHeaps.{bytes_in, inserted_here, inserted_other, entered_heap, taken_here, taken_other, touched_heap, removed_heap, locked_heap, unlocked_heap, written_heap}
 
 -- Which ids have an object.
 
@@ -38,15 +39,33 @@ absents_range : (ids : List ℕ) (heap : Heap) → ((fold absent heap ids).lo �
 absents_range [] heap = (refl, refl)
 absents_range (id ∷ ids) heap = absents_range ids (absent heap id)
 
--- what holds anyway, and what holds where there is an object
-if_some : (p : Option Object) (P : Type 0) → P → IfSome p (λ _. P)
-if_some None P h = tt
-if_some (Some o) P h = h
+-- Slots for bytes.
 
-if_there : (p q : Option Object) (P : Type 0) → is_some p ≡ is_some q → IfSome q (λ _. P) → IfSome p (λ _. P)
-if_there None q P e h = tt
-if_there (Some o) None P e h = absurd (false≢true (sym e))
-if_there (Some o) (Some r) P e h = h
+-- as many slots for the same bytes
+pub sized_is : {n m : ℕ} {b c : Option (List ℕ)} → n ≡ m → b ≡ c → IsSized m c → IsSized n b
+sized_is {n} {m} {b} {c} e f h = subst (λ n. IsSized n b) (sym e) (subst (IsSized m) (sym f) h)
+
+-- an object that is put with the bytes that it had
+pub put_bytes : (heap : Heap) (id : ℕ) (before after : Object) → object_at heap id ≡ Some before → after.bytes ≡ before.bytes → (q : ℕ) → bytes_at (with_object heap id after) q ≡ bytes_at heap q
+put_bytes heap id before after there same q = elim (cases_eq q id) [
+  | inl e ↦ ap bytes_in (inserted_here heap.objects id after q e) ∙ same ∙ sym (ap bytes_in (ap (object_at heap) e ∙ there))
+  | inr d ↦ ap bytes_in (inserted_other heap.objects id after q d)
+]
+
+-- discards leave what they don't take
+no_bytes : (p : Option Object) → bytes_in (option_map (λ (o : Object). record o { bytes = None }) p) ≡ None
+no_bytes None = refl
+no_bytes (Some o) = refl
+
+pub absent_sized : (heap : Heap) (id q n : ℕ) → IsSized n (bytes_at heap q) → IsSized n (bytes_at (absent heap id) q)
+absent_sized heap id q n h = elim (cases_eq q id) [
+  | inl e ↦ subst (IsSized n) (sym (ap (bytes_at (absent heap id)) e ∙ ap bytes_in (get-update_same heap.objects id (λ (o : Object). record o { bytes = None })) ∙ no_bytes (object_at heap id))) tt
+  | inr d ↦ subst (IsSized n) (sym (ap bytes_in (get-update_other heap.objects id (λ (o : Object). record o { bytes = None }) q d))) h
+]
+
+absents_sized : (ids : List ℕ) (heap : Heap) (q n : ℕ) → IsSized n (bytes_at heap q) → IsSized n (bytes_at (fold absent heap ids) q)
+absents_sized [] heap q n h = h
+absents_sized (id ∷ ids) heap q n h = absents_sized ids (absent heap id) q n (absent_sized heap id q n h)
 
 -- what an answered request has settled
 pub settled : (old : Heap) (h : ℕ) (options : RoomOptions) (prefix : Option ℕ) (becomes : Object → Type 0) (order : Object → List ℕ → List ℕ) (new : Heap) → Request old h (record { options = options; prefix = prefix; becomes = becomes; order = order }) true new
@@ -60,22 +79,34 @@ LeavesFar outcome = AreHandles outcome.1
 
 -- the count of bytes moved is any
 pub moved_handles : (old : Handles) → AreHandles old → (moved : ℕ) → AreHandles (record old { moved = moved })
-moved_handles old is moved = record { heap = is.heap; low = is.low; grain = is.grain; few = is.few; slotted = is.slotted; attributed = is.attributed }
+moved_handles old is moved = record { heap = is.heap; low = is.low; grain = is.grain; few = is.few; runs = is.runs; attributed = is.attributed; sized = is.sized }
 
 module _ (old : Handles) (is : AreHandles old) where
-  -- another heap over the same memory, with objects at the same slots
-  pub other_handles : (heap : Heap) → IsHeap heap → heap.lo ≡ old.heap.lo → heap.grain ≡ old.heap.grain → ((q : ℕ) → is_some (object_at heap q) ≡ is_some (object_at old.heap q)) → AreHandles (record old { heap = heap })
-  other_handles heap sound lo grain same = record {
+  -- another heap over the same memory, with objects at the same slots, of bytes for which these are as many as they need
+  pub other_handles : (heap : Heap) → IsHeap heap → heap.lo ≡ old.heap.lo → heap.grain ≡ old.heap.grain → ((q : ℕ) → is_some (object_at heap q) ≡ is_some (object_at old.heap q))
+      → ((q : ℕ) → IsSized (slots_at old.attributes q) (bytes_at heap q)) → AreHandles (record old { heap = heap })
+  other_handles heap sound lo grain same sized = record {
     heap = sound;
     low = lo ∙ is.low;
     grain = grain ∙ is.grain;
     few = is.few;
-    slotted = λ q. if_there (object_at heap q) (object_at old.heap q) (IsSlot old q) (same q) (is.slotted q);
+    runs = is.runs;
     attributed = λ q. is.attributed q ∙ sym (same q);
+    sized = sized;
   }
 
+  -- the same, with one object in place of another that has as many bytes
+  replaced : (slot : ℕ) (before o : Object) (order : List ℕ → List ℕ) → object_at old.heap slot ≡ Some before → o.bytes ≡ before.bytes → IsHeap (with_ordered old.heap slot o order) → AreHandles (record old { heap = with_ordered old.heap slot o order })
+  replaced slot before o order there same sound = other_handles (with_ordered old.heap slot o order) sound refl refl (same_replaced old.heap.objects slot before o there)
+      (λ q. subst (IsSized (slots_at old.attributes q)) (sym (put_bytes old.heap slot before o there same q)) (is.sized q))
+
+  -- the runs with one more
+  more_runs : (slot : ℕ) (a : Attributes) → 0 < a.slots → IsOwnedRun a → IsFreeRun old slot a.slots → AreRuns old.slots (finmap.insert old.attributes slot a)
+  more_runs slot a some owned free = runs_with old.slots old.attributes is.runs slot a some owned (λ k l. ((free k l).0.0, (free k l).0.1, (free k l).1))
+
   -- A slot gets an object, in a heap that settles.
-  module _ (attributes : Attributes) (slot k : ℕ) (o : Object) (order : List ℕ → List ℕ) (stays : Block → Bool) (new : Heap) (numbered : IsSlot old slot) (settles : Settles old.heap stays (with_ordered (discarded old.heap k (Some slot)) slot o order) new) where
+  module _ (attributes : Attributes) (slot k : ℕ) (o : Object) (order : List ℕ → List ℕ) (stays : Block → Bool) (new : Heap) (some : 0 < attributes.slots) (owned : IsOwnedRun attributes) (free : IsFreeRun old slot attributes.slots)
+      (fit : IsSized attributes.slots o.bytes) (settles : Settles old.heap stays (with_ordered (discarded old.heap k (Some slot)) slot o order) new) where
     -- what was discarded for it
     abbrev pub ids : List ℕ
     ids = take k (eligible (blocks old.heap) old.heap.order (Some slot))
@@ -91,33 +122,36 @@ module _ (old : Handles) (is : AreHandles old) where
       low = ap (λ (h : Heap). h.lo) settles.same ∙ (absents_range ids old.heap).0 ∙ is.low;
       grain = ap (λ (h : Heap). h.grain) settles.same ∙ (absents_range ids old.heap).1 ∙ is.grain;
       few = is.few;
-      slotted = λ q. elim (cases_eq q slot) [
-        | inl e ↦ if_some (object_at new q) (IsSlot old q) (subst (IsSlot old) (sym e) numbered)
-        | inr d ↦ if_there (object_at new q) (object_at old.heap q) (IsSlot old q) (same_other q d) (is.slotted q)
-      ];
+      runs = more_runs slot attributes some owned free;
       attributed = λ q. elim (cases_eq q slot) [
         | inl e ↦ ap is_some (inserted_here old.attributes slot attributes q e) ∙ sym (ap is_some (ap (λ (h : Heap). object_at h q) settles.same ∙ inserted_here (fold absent old.heap ids).objects slot o q e))
         | inr d ↦ ap is_some (inserted_other old.attributes slot attributes q d) ∙ is.attributed q ∙ sym (same_other q d)
       ];
+      sized = λ q. elim (cases_eq q slot) [
+        | inl e ↦ sized_is (slots_with old.attributes slot attributes q e) (ap (λ (h : Heap). bytes_at h q) settles.same ∙ ap bytes_in (inserted_here (fold absent old.heap ids).objects slot o q e)) fit
+        | inr d ↦ sized_is (slots_beside old.attributes slot attributes q d) (ap (λ (h : Heap). bytes_at h q) settles.same ∙ ap bytes_in (inserted_other (fold absent old.heap ids).objects slot o q d))
+            (absents_sized ids old.heap q (slots_at old.attributes q) (is.sized q))
+      ];
     }
 
   -- and a slot gets an object without bytes
-  pub with_absent_object : (attributes : Attributes) (slot : ℕ) (kind : Kind) (new : Heap) → IsFreeSlot old slot → Enters old.heap slot kind new
+  pub with_absent_object : (attributes : Attributes) (slot : ℕ) (kind : Kind) (new : Heap) → 0 < attributes.slots → IsOwnedRun attributes → IsFreeRun old slot attributes.slots → Enters old.heap slot kind new
       → AreHandles (record old { heap = new; attributes = finmap.insert old.attributes slot attributes })
-  with_absent_object attributes slot kind new free enters =
+  with_absent_object attributes slot kind new some owned free enters =
       let o : Object = record { kind = kind; locks = 0; bytes = None } in
       subst (λ (h : Heap). AreHandles (record old { heap = h; attributes = finmap.insert old.attributes slot attributes })) (sym enters.entered) (record {
         heap = entered_heap old.heap is.heap slot kind enters.unused;
         low = is.low;
         grain = is.grain;
         few = is.few;
-        slotted = λ q. elim (cases_eq q slot) [
-          | inl e ↦ if_some (finmap.get (finmap.insert old.heap.objects slot o) q) (IsSlot old q) (subst (IsSlot old) (sym e) free.0)
-          | inr d ↦ subst (λ p. IfSome p (λ _. IsSlot old q)) (sym (inserted_other old.heap.objects slot o q d)) (is.slotted q)
-        ];
+        runs = more_runs slot attributes some owned free;
         attributed = λ q. elim (cases_eq q slot) [
           | inl e ↦ ap is_some (inserted_here old.attributes slot attributes q e) ∙ sym (ap is_some (inserted_here old.heap.objects slot o q e))
           | inr d ↦ ap is_some (inserted_other old.attributes slot attributes q d) ∙ is.attributed q ∙ sym (ap is_some (inserted_other old.heap.objects slot o q d))
+        ];
+        sized = λ q. elim (cases_eq q slot) [
+          | inl e ↦ sized_is refl (ap bytes_in (inserted_here old.heap.objects slot o q e)) tt
+          | inr d ↦ sized_is (slots_beside old.attributes slot attributes q d) (ap bytes_in (inserted_other old.heap.objects slot o q d)) (is.sized q)
         ];
       })
 
@@ -127,6 +161,7 @@ module _ (old : Handles) (is : AreHandles old) where
       let ids : List ℕ = take k (eligible (blocks old.heap) old.heap.order None) in
       other_handles new s.sound (ap (λ (h : Heap). h.lo) s.same ∙ (absents_range ids old.heap).0) (ap (λ (h : Heap). h.grain) s.same ∙ (absents_range ids old.heap).1)
       (λ q. ap is_some (ap (λ (h : Heap). object_at h q) s.same) ∙ absents_same ids old.heap q)
+      (λ q. sized_is refl (ap (λ (h : Heap). bytes_at h q) s.same) (absents_sized ids old.heap q (slots_at old.attributes q) (is.sized q)))
 
   -- the handles without an object
   pub without_object : (slot : ℕ) → AreHandles (record old { heap = removed old.heap slot; attributes = finmap.remove old.attributes slot })
@@ -135,13 +170,14 @@ module _ (old : Handles) (is : AreHandles old) where
     low = is.low;
     grain = is.grain;
     few = is.few;
-    slotted = λ q. elim (cases_eq q slot) [
-      | inl e ↦ subst (λ p. IfSome p (λ _. IsSlot old q)) (sym (taken_here old.heap.objects slot q e)) tt
-      | inr d ↦ subst (λ p. IfSome p (λ _. IsSlot old q)) (sym (taken_other old.heap.objects slot q d)) (is.slotted q)
-    ];
+    runs = runs_without old.slots old.attributes is.runs slot;
     attributed = λ q. elim (cases_eq q slot) [
       | inl e ↦ ap is_some (taken_here old.attributes slot q e) ∙ sym (ap is_some (taken_here old.heap.objects slot q e))
       | inr d ↦ ap is_some (taken_other old.attributes slot q d) ∙ is.attributed q ∙ sym (ap is_some (taken_other old.heap.objects slot q d))
+    ];
+    sized = λ q. elim (cases_eq q slot) [
+      | inl e ↦ sized_is refl (ap bytes_in (taken_here old.heap.objects slot q e)) tt
+      | inr d ↦ sized_is (slots_left old.attributes slot q d) (ap bytes_in (taken_other old.heap.objects slot q d)) (is.sized q)
     ];
   }
 
@@ -151,13 +187,11 @@ module _ (old : Handles) (is : AreHandles old) where
 
   -- with a lock more, or one less
   pub locked_kept : (slot : ℕ) (heap : Heap) → LockOf old.heap slot heap → Kept heap
-  locked_kept slot heap l = subst Kept (sym l.5) (other_handles (with_ordered old.heap slot (record l.0 { locks = l.0.locks + 1 }) (touched slot)) (locked_heap old.heap is.heap slot l.0 l.1 (ap not l.2) l.3 l.4) refl refl
-      (same_replaced old.heap.objects slot l.0 (record l.0 { locks = l.0.locks + 1 }) l.1))
+  locked_kept slot heap l = subst Kept (sym l.5) (replaced slot l.0 (record l.0 { locks = l.0.locks + 1 }) (touched slot) l.1 refl (locked_heap old.heap is.heap slot l.0 l.1 (ap not l.2) l.3 l.4))
 
   pub unlocked_kept : (slot : ℕ) (heap : Heap) → UnlockOf old.heap slot heap → Kept heap
   unlocked_kept slot heap (inl same) = subst Kept (sym same) is
-  unlocked_kept slot heap (inr u) = subst Kept (sym u.3) (other_handles (with_object old.heap slot (record u.0 { locks = u.0.locks - 1 })) (unlocked_heap old.heap is.heap slot u.0 u.1 u.2) refl refl
-      (same_replaced old.heap.objects slot u.0 (record u.0 { locks = u.0.locks - 1 }) u.1))
+  unlocked_kept slot heap (inr u) = subst Kept (sym u.3) (replaced slot u.0 (record u.0 { locks = u.0.locks - 1 }) (λ order. order) u.1 refl (unlocked_heap old.heap is.heap slot u.0 u.1 u.2))
 
   pub lock_ok : (slot : ℕ) → IfOk (after_lock old.heap slot) Kept
   lock_ok slot = ok_map (LockOf old.heap slot) Kept (after_lock old.heap slot) (locked_kept slot) (lock_is old.heap slot)
@@ -167,11 +201,11 @@ module _ (old : Handles) (is : AreHandles old) where
 
   -- the handles once an object was used
   touched_handles : (slot : ℕ) → AreHandles (record old { heap = after_touch old.heap slot })
-  touched_handles slot = other_handles (after_touch old.heap slot) (touched_heap old.heap is.heap slot) refl refl (λ _. refl)
+  touched_handles slot = other_handles (after_touch old.heap slot) (touched_heap old.heap is.heap slot) refl refl (λ _. refl) is.sized
 
   -- and with another order of it
   pub ordered_kept : (order : List ℕ) → IsHeap (record old.heap { order = order }) → Kept (record old.heap { order = order })
-  ordered_kept order sound = other_handles (record old.heap { order = order }) sound refl refl (λ _. refl)
+  ordered_kept order sound = other_handles (record old.heap { order = order }) sound refl refl (λ _. refl) is.sized
 
   -- Read
   pub read_handles : (selector offset n : ℕ) → AreHandles (far_read old selector offset n).1
@@ -179,10 +213,23 @@ module _ (old : Handles) (is : AreHandles old) where
     where
       turn : (f : Option FarFault) → LeavesFar (elim f [
         | Some fault ↦ (Fault fault, old)
-        | None ↦ (Bytes (part (far_bytes old selector) offset n), record old { heap = after_touch old.heap (far_slot old selector) })
+        | None ↦ (Bytes (part (far_bytes old selector) (far_at old selector offset) n), record old { heap = after_touch old.heap (far_slot old selector) })
       ])
       turn (Some fault) = is
       turn None = touched_handles (far_slot old selector)
+
+  -- as many bytes with a slice of them replaced
+  abbrev put : ℕ → List ℕ → Object → Object
+  put at slice o = record o { bytes = option_map (λ bytes. put_part bytes at slice) o.bytes }
+
+  pub written_sized : (slot at : ℕ) (slice : List ℕ) (o : Object) (bytes : List ℕ) → object_at old.heap slot ≡ Some o → o.bytes ≡ Some bytes → at + length slice ≤ length bytes
+      → (q : ℕ) → IsSized (slots_at old.attributes q) (bytes_at (after_write old.heap slot at slice) q)
+  written_sized slot at slice o bytes there has inside q = elim (cases_eq q slot) [
+    | inl e ↦ subst (IsSized (slots_at old.attributes q)) (sym (
+        ap (bytes_at (after_write old.heap slot at slice)) e ∙ ap bytes_in (get-update_same old.heap.objects slot (put at slice) ∙ ap (option_map (put at slice)) there) ∙ ap (option_map (λ bytes. put_part bytes at slice)) has))
+        (subst (IsSized (slots_at old.attributes q)) (ap (bytes_at old.heap) e ∙ ap bytes_in there ∙ has) (is.sized q) ∙ ap slots_for (sym (length-put_part bytes at slice inside)))
+    | inr d ↦ subst (IsSized (slots_at old.attributes q)) (sym (ap bytes_in (get-update_other old.heap.objects slot (put at slice) q d))) (is.sized q)
+  ]
 
   -- the handles with a slice of an object's bytes replaced
   pub written_handles : (slot at : ℕ) (slice : List ℕ) (o : Object) (bytes : List ℕ) → object_at old.heap slot ≡ Some o → o.bytes ≡ Some bytes → at + length slice ≤ length bytes → All (λ b. b < 256) slice
@@ -191,6 +238,7 @@ module _ (old : Handles) (is : AreHandles old) where
       other_handles (after_touch (after_write old.heap slot at slice) slot)
       (touched_heap (after_write old.heap slot at slice) (written_heap old.heap is.heap slot o there bytes has at slice inside new_bytes) slot) refl refl
       (same_updated old.heap.objects slot (λ o. record o { bytes = option_map (λ bytes. put_part bytes at slice) o.bytes }))
+      (written_sized slot at slice o bytes there has inside)
 
   -- Write to what may be written
   pub data_handles : (selector offset : ℕ) (slice : List ℕ) → All (λ b. b < 256) slice → AreHandles (data_write old selector offset slice).1
@@ -198,11 +246,11 @@ module _ (old : Handles) (is : AreHandles old) where
     where
       turn : (f : Option FarFault) → far_fault old selector offset (length slice) ≡ f → LeavesFar (elim f [
         | Some fault ↦ (Fault fault, old)
-        | None ↦ (Done, record old { heap = after_touch (after_write old.heap (far_slot old selector) offset slice) (far_slot old selector) })
+        | None ↦ (Done, record old { heap = after_touch (after_write old.heap (far_slot old selector) (far_at old selector offset) slice) (far_slot old selector) })
       ])
       turn (Some fault) e = is
-      turn None e = let r : Reached old (far_slot old selector) (offset + length slice) = reached old selector offset (length slice) e in
-          written_handles (far_slot old selector) offset slice r.object r.bytes r.there r.has r.fits new_bytes
+      turn None e = let r : Reached old (far_slot old selector) (far_at old selector offset + length slice) = reached old selector offset (length slice) e in
+          written_handles (far_slot old selector) (far_at old selector offset) slice r.object r.bytes r.there r.has r.fits new_bytes
 
   -- Write
   pub write_handles : (selector offset : ℕ) (slice : List ℕ) → All (λ b. b < 256) slice → AreHandles (far_write old selector offset slice).1

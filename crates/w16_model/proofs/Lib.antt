@@ -20,6 +20,7 @@ pub mod Sound
 pub mod Ranges
 pub mod Naming
 pub mod KeptHeaps
+pub mod Runs
 pub mod Accesses
 pub mod CallOutcomes
 pub mod KeptHandles
@@ -40,9 +41,12 @@ pub mod Growth
 pub mod Reallocations
 pub mod Absence
 pub mod KeptRest
+pub mod Rehoused
+pub mod Housed
 pub mod ResizedHandles
 pub mod CallLaws
 pub mod FarLaws
 pub mod CallOrders
 pub mod Bystanders
 pub mod Effects
+pub mod AtEnds

@@ -1,8 +1,9 @@
 -- What a request leaves where it stands, and that it isn't both refused and answered.
-use Rattle.w16_model.proofs.Common.{◌≡◌, ◌≢◌, ℕ, ◌<◌, inl, inr, Bool, true, false, cond, not, ◌&&◌, ◌||◌, ◌==◌, MatchBool, IsTrue, IfSome, IsSomeAnd, List, length, Option, Some, None, is_some, unwrap_or, refl, sym, ap, ◌∙◌, subst, arith, ne_eqb, false≢true, Block, RoomOptions, Pinned, Loose, GMEM_MOVEABLE, is_pinned, holds_still, Heap, Object, IsHeap, blocks, object_at, hold_of_object, is_pinned_object, with_newest, Settles, stays_for, Allocates, IsNew, Request, discards_needed, Enters, Handles, AreHandles, has_flag, alloc_options, kind_asked, rounded_size, AddressLaw, StandsStill, OutcomeLaw}
+use Rattle.w16_model.proofs.Common.{◌≡◌, ◌≢◌, ℕ, ◌<◌, inl, inr, Bool, true, false, cond, not, ◌&&◌, ◌||◌, ◌==◌, MatchBool, IsTrue, IfSome, IsSomeAnd, List, length, Option, Some, None, is_some, unwrap_or, refl, sym, ap, ◌∙◌, subst, arith, ne_eqb, false≢true, Block, RoomOptions, Pinned, Loose, GMEM_MOVEABLE, is_pinned, holds_still, Heap, Object, IsHeap, blocks, object_at, hold_of_object, is_pinned_object, with_newest, Settles, stays_for, Allocates, IsNew, Request, discards_needed, Enters, Handles, AreHandles, slots_for, has_flag, alloc_options, kind_asked, rounded_size, AddressLaw, StandsStill, OutcomeLaw}
 use Rattle.std.specs.FinMap as finmap
 use Rattle.w16_model.proofs.Gaps.{Each-at, Each-from_All}
 use Rattle.w16_model.proofs.Heaps.{IsBlockOf, block_member}
+use Rattle.w16_model.proofs.Runs.{unused, some_slots}
 use Rattle.w16_model.proofs.Prefixes.{none_about}
 
 module _ (old : Heap) (is : IsHeap old) (stays : Block → Bool) (heap new : Heap) (settles : Settles old stays heap new) where
@@ -107,4 +108,4 @@ outcome_law old new flags size handle is answers refused = elim refused [
       where
         turn : (b : Bool) → b ≡ false → Made old flags size answers.slot new.heap b → ⊥
         turn true e m = false≢true (sym e)
-        turn false e m = not_refused old is flags size answers.slot new.heap answers.free.1 m h.1
+        turn false e m = not_refused old is flags size answers.slot new.heap (unused old is answers.slot (slots_for (rounded_size size)) (some_slots (rounded_size size)) answers.free) m h.1

@@ -36,17 +36,6 @@ module _ (old : Heap) (is : IsHeap old) (id : ℕ) (before o : Object) (there : 
     hold = b.hold;
   }
 
-  pub block_other : (x : Block) → IsBlockOf old x → x.id ≢ id → IsBlockOf replaced x
-  block_other x b d = record {
-    object = b.object;
-    bytes = b.bytes;
-    is_there = inserted_other old.objects id o x.id d ∙ b.is_there;
-    has_bytes = b.has_bytes;
-    place = b.place;
-    size = b.size;
-    hold = b.hold;
-  }
-
   -- its own has its bytes
   own_bytes : (x : Block) → (b : IsBlockOf replaced x) → x.id ≡ id → o.bytes ≡ Some b.bytes
   own_bytes x b e =

@@ -1,20 +1,16 @@
 -- Each call keeps what holds of handles; GlobalReAlloc leaves the heap where it is NULL, and discards as few as it can.
-use Rattle.w16_model.proofs.Common.{◌≡◌, ◌≢◌, ℕ, ◌<◌, inl, inr, Bool, true, false, ◌||◌, ◌==◌, nat_lt, MatchBool, MatchOption, IfOk, IfSome, IsSomeAnd, take, Option, Some, None, Result, Ok, Err, is_some, option_map, unwrap_or, refl, sym, ap, ◌∙◌, subst, arith, ne_eqb, ltb-true, false≢true, cases_Bool, cases_eq, Kind, Discardable, Refusal, LARGEST_SIZE, GMEM_MODIFY, RoomOptions, eligible, is_member, Heap, Object, IsHeap, blocks, object_at, size_of, is_fixed, absent, newest, oldest, with_newest, Reallocates, moved_bytes, stays_for, HandleLaw, Call, Outcome, attributes_asked, Calls, ReAllocs, IsSame, IsUnmoved, IsLocked, IsUnlocked, IsFreed, IsNewest, IsOldest, IsEntered, IsAllocated, IsCompacted, IsModified, IsDiscarded, IsResized, after_modify, after_discard, Handles, AreHandles, slot_of_handle, handle_of, HandleCommand, Answer, GlobalCompacts, has_flag, rounded_size, kind_asked, alloc_options, Word, Dword, GlobalCompact, is_owned, ChangesKind, KeepsRest, LacksPlace, ReallocatesFewest, realloc_options, kind_modified, modified, IsNull, AnswersHandle, Empties, Resizes, ReAllocsOwn, ResizeLaw, NullLaw, ResizeFewestLaw}
+use Rattle.w16_model.proofs.Common.{◌≡◌, ◌≢◌, ℕ, ◌/◌, ◌<◌, ◌≤◌, ◌⊎◌, inl, inr, Bool, true, false, ◌||◌, ◌==◌, nat_lt, MatchBool, MatchOption, IfOk, IfSome, IsSomeAnd, List, Option, Some, None, Result, Ok, Err, is_some, option_map, unwrap_or, refl, sym, ap, ◌∙◌, subst, arith, ne_eqb, ltb-true, false≢true, cases_Bool, cases_eq, Kind, Fixed, Moveable, Discardable, Refusal, LARGEST_SIZE, REACH, GMEM_MODIFY, Heap, Object, IsHeap, object_at, bytes_at, size_of, is_fixed, absent, newest, oldest, with_newest, AreNew, Reallocates, moved_bytes, stays_for, HandleLaw, Call, Outcome, Resized, attributes_asked, Calls, ReAllocs, IsSame, IsUnmoved, IsLocked, IsUnlocked, IsFreed, IsNewest, IsOldest, IsEntered, IsAllocated, IsCompacted, IsModified, IsDiscarded, IsResized, after_modify, after_discard, Handles, AreHandles, IsSized, slots_at, slots_for, slot_of_handle, handle_of, HandleCommand, Answer, GlobalCompacts, has_flag, rounded_size, kind_asked, alloc_options, Word, Dword, GlobalCompact, is_owned, ChangesKind, LacksPlace, ReallocatesFewest, realloc_options, kind_modified, modified, IsNull, AnswersHandle, Empties, LacksRun, rehoused, Anew, ResizesObject, Resizes, ReAllocsOwn, GlobalReAllocs, ResizeLaw, NullLaw, ResizeFewestLaw, OneSlotLaw, OldHandleLaw}
 use Rattle.w16_model.specs.declared.Refusal.TheVariants as refusals
 use Rattle.w16_model.proofs.Fewest.{some_handle}
 use Rattle.w16_model.proofs.Naming.{names_law}
-use Rattle.w16_model.proofs.KeptHandles.{moved_handles, other_handles, same_updated, with_new_object, with_absent_object, without_object, settled_handles, locked_kept, unlocked_kept, ordered_kept}
-use Rattle.w16_model.proofs.KeptHeaps.{newest_heap, oldest_heap, ordered}
-use Rattle.w16_model.proofs.CallOutcomes.{outcome}
+use Rattle.w16_model.proofs.Runs.{some_slots}
+use Rattle.w16_model.proofs.Housed.{stays, housed_old, anew_handles}
+use Rattle.w16_model.proofs.KeptHandles.{sized_is, absent_sized, moved_handles, other_handles, same_updated, with_new_object, with_absent_object, without_object, settled_handles, locked_kept, unlocked_kept, ordered_kept}
+use Rattle.w16_model.proofs.KeptHeaps.{bytes_in, newest_heap, oldest_heap, ordered}
+use Rattle.w16_model.proofs.CallOutcomes.{outcome, reallocates}
 use Rattle.w16_model.proofs.KindChanges.{kind_law, kind_heap_law, modify_none}
 use Rattle.w16_model.proofs.Absence.{absent_heap, discard_heap_law, discard_absent}
-use Rattle.w16_model.proofs.Reallocations.{heap_law, fewest_law}
-use Rattle.w16_model.proofs.KeptRest.{rest_law}
-
--- what is there is there
-some_there : {A : Type 0} (p : Option A) (P : A → Type 0) → IsSomeAnd p P → is_some p ≡ true
-some_there None P h = absurd h
-some_there (Some o) P h = refl
+use Rattle.w16_model.proofs.Reallocations.{fewest_law}
 
 -- The handles that are left.
 module _ (old : Handles) (is : AreHandles old) where
@@ -23,6 +19,9 @@ module _ (old : Handles) (is : AreHandles old) where
   kind_handles slot kind o new there sound c = other_handles old is new sound c.range.0 c.range.2 (λ q. elim (cases_eq q slot) [
     | inl e ↦ ap is_some (ap (object_at new) e ∙ c.object) ∙ sym (ap is_some (ap (object_at old.heap) e ∙ there))
     | inr d ↦ ap is_some (c.others q d)
+  ]) (λ q. elim (cases_eq q slot) [
+    | inl e ↦ subst (IsSized (slots_at old.attributes q)) (ap bytes_in (ap (object_at old.heap) e ∙ there) ∙ sym (ap bytes_in (ap (object_at new) e ∙ c.object))) (is.sized q)
+    | inr d ↦ subst (IsSized (slots_at old.attributes q)) (sym (ap bytes_in (c.others q d))) (is.sized q)
   ])
 
   -- a change of kind, or none
@@ -46,7 +45,7 @@ module _ (old : Handles) (is : AreHandles old) where
   -- a discard
   absent_handles : (slot : ℕ) (o : Object) → object_at old.heap slot ≡ Some o → o.locks ≡ 0 → AreHandles (record old { heap = absent old.heap slot })
   absent_handles slot o there unlocked = other_handles old is (absent old.heap slot) (absent_heap old.heap is.heap slot o there unlocked) refl refl
-      (λ q. same_updated old.heap.objects slot (λ (o : Object). record o { bytes = None }) q)
+      (λ q. same_updated old.heap.objects slot (λ (o : Object). record o { bytes = None }) q) (λ q. absent_sized old.heap slot q (slots_at old.attributes q) (is.sized q))
 
   pub discarded_handles : (slot : ℕ) (heap : Heap) → after_discard old.heap slot ≡ Ok heap → AreHandles (record old { heap = heap })
   discarded_handles slot heap done =
@@ -54,27 +53,12 @@ module _ (old : Handles) (is : AreHandles old) where
       let sound : IsHeap heap = subst (λ (r : Result Heap Refusal). IfOk r IsHeap) done (discard_heap_law old.heap slot is.heap) in
       other_handles old is heap sound (ap (λ (h : Heap). h.lo) same) (ap (λ (h : Heap). h.grain) same)
       (λ q. ap (λ (h : Heap). is_some (object_at h q)) same ∙ same_updated old.heap.objects slot (λ (o : Object). record o { bytes = None }) q)
+      (λ q. sized_is refl (ap (λ (h : Heap). bytes_at h q) same) (absent_sized old.heap slot q (slots_at old.attributes q) (is.sized q)))
 
-  -- an answered reallocation
-  pub reallocated_handles : (slot n : ℕ) (options : RoomOptions) (heap : Heap) → Reallocates old.heap slot n options true heap → AreHandles (record old { heap = heap })
-  reallocated_handles slot n options heap r = turn (object_at old.heap slot) refl (rest_law old.heap heap slot n options is.heap r)
-    where
-      gone : (p r : Option Object) → IsSomeAnd p (λ o. (o.kind ≡ Discardable) × (o.locks ≡ 0) × (is_some o.bytes ≡ true) × (r ≡ Some (record o { bytes = None }))) → is_some r ≡ is_some p
-      gone None r h = absurd h
-      gone (Some o) r h = ap is_some h.3
-
-      turn : (p : Option Object) → object_at old.heap slot ≡ p → IsSomeAnd p (λ o. KeepsRest old.heap slot n o options heap) → AreHandles (record old { heap = heap })
-      turn None there k = absurd k
-      turn (Some o) there k = other_handles old is heap (heap_law old.heap heap slot n options true is.heap r) k.low k.grain (λ q. elim (cases_eq q slot) [
-        | inl e ↦ ap (λ i. is_some (object_at heap i)) e ∙ some_there (object_at heap slot) _ k.object ∙ sym (ap is_some (ap (object_at old.heap) e ∙ there))
-        | inr d ↦ elim (cases_Bool (is_member q (take k.count (eligible (blocks old.heap) old.heap.order (Some slot))))) [
-          | inl t ↦ gone (object_at old.heap q) (object_at heap q) (k.others.discarded q t)
-          | inr f ↦ ap is_some (k.others.kept q (λ e. d (one_slot q e)) (λ t. false≢true (sym f ∙ t)))
-        ]
-      ])
-        where
-          one_slot : (q : ℕ) → ◌≡◌ {A = Option ℕ} (Some slot) (Some q) → q ≡ slot
-          one_slot q e = let same : slot ≡ q = cc in sym same
+-- a new object has as many slots as it needs
+new_sized : (zeroed : Bool) (n : ℕ) (b : Option (List ℕ)) → IsSomeAnd b (AreNew zeroed n) → IsSized (slots_for n) b
+new_sized zeroed n None h = tt
+new_sized zeroed n (Some bytes) h = ap slots_for (sym h.0)
 
 -- Each call keeps what holds of handles.
 pub kept_by : (old new : Handles) (call : Call) (answer : Answer) → AreHandles old → Outcome old call answer new → AreHandles new
@@ -85,14 +69,15 @@ kept_by old new call answer is (IsUnlocked u) = subst AreHandles (sym u.rest) (u
 kept_by old new call answer is (IsFreed f) = subst AreHandles (sym f.rest) (without_object old is f.slot)
 kept_by old new call answer is (IsNewest n) = subst AreHandles (sym n.rest) (ordered_kept old is (newest n.slot old.heap.order) (newest_heap old.heap is.heap n.slot (ordered old.heap is.heap n.slot n.may)))
 kept_by old new call answer is (IsOldest n) = subst AreHandles (sym n.rest) (ordered_kept old is (oldest n.slot old.heap.order) (oldest_heap old.heap is.heap n.slot (ordered old.heap is.heap n.slot n.may)))
-kept_by old new call answer is (IsEntered e) = subst AreHandles (sym e.rest) (moved_handles _ (with_absent_object old is (attributes_asked e.flags) e.slot (kind_asked e.flags) new.heap e.free e.entered) (moved_bytes old.heap new.heap))
+kept_by old new call answer is (IsEntered e) = subst AreHandles (sym e.rest) (moved_handles _ (with_absent_object old is (attributes_asked e.flags e.size) e.slot (kind_asked e.flags) new.heap (some_slots (rounded_size e.size)) tt e.free e.entered) (moved_bytes old.heap new.heap))
 kept_by old new call answer is (IsAllocated a) = subst AreHandles (sym a.rest)
-    (moved_handles _ (with_new_object old is (attributes_asked a.flags) a.slot a.count a.object (with_newest a.slot a.object) (stays_for a.slot (alloc_options a.flags)) new.heap a.free.0 a.settled) (moved_bytes old.heap new.heap))
+    (moved_handles _ (with_new_object old is (attributes_asked a.flags a.size) a.slot a.count a.object (with_newest a.slot a.object) (stays_for a.slot (alloc_options a.flags)) new.heap (some_slots (rounded_size a.size)) tt a.free (new_sized (alloc_options a.flags).zero (rounded_size a.size) a.object.bytes a.is_new.new_bytes) a.settled) (moved_bytes old.heap new.heap))
 kept_by old new call answer is (IsCompacted c) = subst AreHandles (sym c.rest) (moved_handles _ (settled_handles old is c.count new.heap c.settled) (moved_bytes old.heap new.heap))
 kept_by old new call answer is (IsModified m) = subst AreHandles (sym m.rest) (moved_handles _
     (kind_handles old is m.slot (kind_modified m.flags) m.object new.heap m.named.there (subst (λ (r : Result Heap Refusal). IfOk r IsHeap) m.modified (kind_heap_law old.heap m.slot (kind_modified m.flags) is.heap)) m.changes) (moved_bytes old.heap new.heap))
 kept_by old new call answer is (IsDiscarded d) = subst AreHandles (sym d.rest) (moved_handles _ (absent_handles old is d.slot d.object d.named.there d.unlocked) (moved_bytes old.heap (absent old.heap d.slot)))
-kept_by old new call answer is (IsResized r) = subst AreHandles (sym r.rest) (moved_handles _ (reallocated_handles old is r.slot (rounded_size r.size) (realloc_options r.flags) new.heap r.resized) (moved_bytes old.heap new.heap))
+kept_by old new call answer is (IsResized r) = subst AreHandles (sym r.rest) (moved_handles _ (anew_handles old is r.slot (rounded_size r.size) (realloc_options r.flags) r.object r.named.there r.first r.gets r.heap r.resized
+    (sym (ap (λ p. unwrap_or (option_map (is_owned old) p) false) r.named.found) ∙ r.own)) (moved_bytes old.heap r.heap))
 
 pub handle_law : HandleLaw
 handle_law old new command answer is step = kept_by old new (Calls command) answer is (outcome old new (Calls command) answer is step)
@@ -129,7 +114,7 @@ null_law old new handle size flags is step = turn (outcome old new (ReAllocs han
     turn (IsUnmoved s e) = ap (λ (h : Handles). h.heap) e
     turn (IsModified m) = never m.handle m.slot m.named.found m.answered
     turn (IsDiscarded d) = never d.handle d.slot d.named.found d.answered
-    turn (IsResized r) = never r.handle r.slot r.named.found r.answered
+    turn (IsResized r) = let none : 0 ≡ handle_of r.object.kind r.first = (let e = r.answered in cc) in absurd (some_handle r.object.kind r.first (sym none))
     turn (IsLocked l) = absurd (other _ l.asked)
     turn (IsUnlocked u) = absurd (other _ u.asked)
     turn (IsFreed f) = absurd (other _ f.asked)
@@ -140,44 +125,107 @@ null_law old new handle size flags is step = turn (outcome old new (ReAllocs han
     turn (IsCompacted c) = absurd (other _ c.asked)
 
 -- Fewest discards.
-module _ (old new : Handles) (is : AreHandles old) (handle size flags answer slot : ℕ) (found : slot_of_handle old handle ≡ Some slot) where
+module _ (old new : Handles) (is : AreHandles old) (handle size flags answer slot : ℕ) where
   abbrev Fewest : Object → Type 0
-  Fewest o = (answer ≢ 0 → ReallocatesFewest old.heap slot (rounded_size size) o (realloc_options flags) true new.heap)
-      × (answer ≡ 0 → (size_of o < rounded_size size) × LacksPlace old.heap slot (rounded_size size) o (realloc_options flags) × (new.heap ≡ old.heap))
+  Fewest o = (answer ≢ 0 → (first : ℕ) × (heap : Heap) × (answer ≡ handle_of o.kind first) × (new.heap ≡ rehoused heap slot first) × ReallocatesFewest old.heap slot (rounded_size size) o (realloc_options flags) true heap)
+      × (answer ≡ 0 → (LacksRun old slot o (realloc_options flags) (slots_for (rounded_size size))
+      ⊎ ((size_of o < rounded_size size) × LacksPlace old.heap slot (rounded_size size) o (realloc_options flags))) × (new.heap ≡ old.heap))
 
-  some_of : (p : Option Object) (P Q : Object → Type 0) → ((o : Object) → P o → Q o) → IsSomeAnd p P → IsSomeAnd p Q
-  some_of None P Q f h = h
-  some_of (Some o) P Q f h = f o h
+  abbrev Few : Type 0
+  Few = IsSomeAnd (object_at old.heap slot) Fewest
 
-  answered_fewest : (answered : Bool) (heap : Heap) → Reallocates old.heap slot (rounded_size size) (realloc_options flags) answered heap → MatchBool answered (AnswersHandle old handle heap answer new) (IsNull old answer new) → IsSomeAnd (object_at old.heap slot) Fewest
-  answered_fewest true heap r again = some_of (object_at old.heap slot) (λ o. ReallocatesFewest old.heap slot (rounded_size size) o (realloc_options flags) true heap) Fewest
-      (λ o f. (
-        (λ _. subst (ReallocatesFewest old.heap slot (rounded_size size) o (realloc_options flags) true) (sym (ap (λ (h : Handles). h.heap) again.1)) f),
-        (λ none. absurd (found_some old handle slot found (sym again.0 ∙ none))),
-      ))
-      (fewest_law old.heap heap slot (rounded_size size) (realloc_options flags) true is.heap r)
-  answered_fewest false heap r null = some_of (object_at old.heap slot) (λ o. ReallocatesFewest old.heap slot (rounded_size size) o (realloc_options flags) false heap) Fewest
-      (λ o f. (
+  answered_fewest : (o : Object) → object_at old.heap slot ≡ Some o → (first : ℕ) (answered : Bool) (heap : Heap) → Reallocates old.heap slot (rounded_size size) (realloc_options flags) answered heap
+      → MatchBool answered (Anew old slot o.kind first (slots_for (rounded_size size)) heap answer new) (IsNull old answer new) → Fewest o
+  answered_fewest o there first true heap r anew = (
+    (λ _. (first, heap, anew.0, ap (λ (h : Handles). h.heap) anew.1, subst (λ p. IsSomeAnd p (λ o. ReallocatesFewest old.heap slot (rounded_size size) o (realloc_options flags) true heap)) there (fewest_law old.heap heap slot (rounded_size size) (realloc_options flags) true is.heap r))),
+    (λ none. absurd (some_handle o.kind first (sym anew.0 ∙ none))),
+  )
+  answered_fewest o there first false heap r null =
+      let f : ReallocatesFewest old.heap slot (rounded_size size) o (realloc_options flags) false heap = subst (λ p. IsSomeAnd p (λ o. ReallocatesFewest old.heap slot (rounded_size size) o (realloc_options flags) false heap)) there (fewest_law old.heap heap slot (rounded_size size) (realloc_options flags) false is.heap r) in (
         (λ some. absurd (some null.0)),
-        (λ _. ((f.refused refl).0, (f.refused refl).1, null_heap old new answer null)),
-      ))
-      (fewest_law old.heap heap slot (rounded_size size) (realloc_options flags) false is.heap r)
+        (λ _. (inr ((f.refused refl).0, (f.refused refl).1), null_heap old new answer null)),
+      )
+
+  object_fewest : (p : Option Object) → object_at old.heap slot ≡ p → IsSomeAnd p (ResizesObject old slot flags size answer new) → IsSomeAnd p Fewest
+  object_fewest None there g = absurd g
+  object_fewest (Some o) there (inl g) = ((λ some. absurd (some g.1.0)), (λ _. (inl g.0, null_heap old new answer g.1)))
+  object_fewest (Some o) there (inr g) = answered_fewest o there g.0 g.2 g.3 g.4 g.5
 
 pub resize_fewest_law : ResizeFewestLaw
 resize_fewest_law old new handle size flags answer is step slot found free same some small = turn (slot_of_handle old handle) found
     (subst (λ b. MatchBool b (IsNull old answer new) (ReAllocsOwn old handle size flags answer new)) (ap (λ p. unwrap_or (option_map (is_owned old) p) false) found ∙ free) step)
   where
-    resizes : (long : Bool) → nat_lt LARGEST_SIZE size ≡ long → MatchBool long (IsNull old answer new) ((answered : Bool) × (heap : Heap) × Reallocates old.heap slot (rounded_size size) (realloc_options flags) answered heap × MatchBool answered (AnswersHandle old handle heap answer new) (IsNull old answer new)) → IsSomeAnd (object_at old.heap slot) (Fewest old new is handle size flags answer slot found)
+    resizes : (long : Bool) → nat_lt LARGEST_SIZE size ≡ long → MatchBool long (IsNull old answer new) (IsSomeAnd (object_at old.heap slot) (ResizesObject old slot flags size answer new)) → Few old new is handle size flags answer slot
     resizes true long g = let over : LARGEST_SIZE < size = ltb-true LARGEST_SIZE size long in absurd (omega (arith, over, small))
-    resizes false long g = answered_fewest old new is handle size flags answer slot found g.0 g.1 g.2 g.3
+    resizes false long g = object_fewest old new is handle size flags answer slot (object_at old.heap slot) refl g
 
-    sized : (none : Bool) → (size == 0) ≡ none → MatchBool none (Empties old handle slot flags answer new) (Resizes old handle slot flags size answer new) → IsSomeAnd (object_at old.heap slot) (Fewest old new is handle size flags answer slot found)
+    sized : (none : Bool) → (size == 0) ≡ none → MatchBool none (Empties old handle slot flags answer new) (Resizes old slot flags size answer new) → Few old new is handle size flags answer slot
     sized true none g = absurd (false≢true (sym (ne_eqb size 0 (λ e. absurd (omega (arith, e, some)))) ∙ none))
     sized false none g = resizes (nat_lt LARGEST_SIZE size) refl g
 
-    modifies : (m : Bool) → has_flag flags GMEM_MODIFY ≡ m → MatchBool m (AnswersHandle old handle (modified old.heap slot (kind_modified flags)) answer new) (MatchBool (size == 0) (Empties old handle slot flags answer new) (Resizes old handle slot flags size answer new)) → IsSomeAnd (object_at old.heap slot) (Fewest old new is handle size flags answer slot found)
+    modifies : (m : Bool) → has_flag flags GMEM_MODIFY ≡ m → MatchBool m (AnswersHandle old handle (modified old.heap slot (kind_modified flags)) answer new) (MatchBool (size == 0) (Empties old handle slot flags answer new) (Resizes old slot flags size answer new)) → Few old new is handle size flags answer slot
     modifies true m g = absurd (false≢true (sym same ∙ m))
     modifies false m g = sized (size == 0) refl g
 
-    turn : (p : Option ℕ) → p ≡ Some slot → MatchOption p (IsNull old answer new) (λ slot. MatchBool (has_flag flags GMEM_MODIFY) (AnswersHandle old handle (modified old.heap slot (kind_modified flags)) answer new) (MatchBool (size == 0) (Empties old handle slot flags answer new) (Resizes old handle slot flags size answer new))) → IsSomeAnd (object_at old.heap slot) (Fewest old new is handle size flags answer slot found)
-    turn p e g = modifies (has_flag flags GMEM_MODIFY) refl (subst (λ (p : Option ℕ). MatchOption p (IsNull old answer new) (λ slot. MatchBool (has_flag flags GMEM_MODIFY) (AnswersHandle old handle (modified old.heap slot (kind_modified flags)) answer new) (MatchBool (size == 0) (Empties old handle slot flags answer new) (Resizes old handle slot flags size answer new)))) e g)
+    turn : (p : Option ℕ) → p ≡ Some slot → MatchOption p (IsNull old answer new) (λ slot. MatchBool (has_flag flags GMEM_MODIFY) (AnswersHandle old handle (modified old.heap slot (kind_modified flags)) answer new) (MatchBool (size == 0) (Empties old handle slot flags answer new) (Resizes old slot flags size answer new))) → Few old new is handle size flags answer slot
+    turn p e g = modifies (has_flag flags GMEM_MODIFY) refl (subst (λ (p : Option ℕ). MatchOption p (IsNull old answer new) (λ slot. MatchBool (has_flag flags GMEM_MODIFY) (AnswersHandle old handle (modified old.heap slot (kind_modified flags)) answer new) (MatchBool (size == 0) (Empties old handle slot flags answer new) (Resizes old slot flags size answer new)))) e g)
+
+-- Handles that stay, and those that go.
+module _ (old new : Handles) (is : AreHandles old) (call : Call) (reply : Answer) (r : Resized old call reply new) where
+  handle_is : r.handle ≡ handle_of r.object.kind r.slot
+  handle_is = subst (λ p. IsSomeAnd p (λ o. r.handle ≡ handle_of o.kind r.slot)) r.named.there ((names_law old r.handle r.slot).0.0 r.named.found)
+
+  -- a new handle is of another slot
+  moves : (answer handle : ℕ) → reply ≡ Word answer → r.handle ≡ handle → answer ≢ handle → r.slot ≢ r.first
+  moves answer handle says names d e = let both : answer ≡ handle_of r.object.kind r.first = (let g : ◌≡◌ {A = Answer} (Word answer) (Word (handle_of r.object.kind r.first)) = sym says ∙ r.answered in cc) in
+      d (both ∙ ap (handle_of r.object.kind) (sym e) ∙ sym handle_is ∙ names)
+
+  gone : r.slot ≢ r.first → object_at new.heap r.slot ≡ None
+  gone d = ap (λ (h : Handles). object_at h.heap r.slot) r.rest ∙ housed_old old is r.slot (rounded_size r.size) (realloc_options r.flags) r.object r.named.there r.first r.gets r.heap r.resized d
+
+-- a reallocation that answers is of its handle, or gives another size
+answered : (old new : Handles) (handle size flags answer : ℕ) → AreHandles old → GlobalReAllocs old handle size flags answer new → answer ≢ 0 → (answer ≡ handle) ⊎ Resized old (ReAllocs handle size flags) (Word answer) new
+answered old new handle size flags answer is step some = elim (reallocates old (ReAllocs handle size flags) (Word answer) new is handle size flags answer refl refl step).1 [
+  | inl none ↦ absurd (some none)
+  | inr told ↦ told
+]
+
+pub one_slot_law : OneSlotLaw
+one_slot_law old new handle size flags answer is step few some = elim (answered old new handle size flags answer is step some) [
+  | inl e ↦ e
+  | inr r ↦ stays_named r
+]
+  where
+    stays_named : Resized old (ReAllocs handle size flags) (Word answer) new → answer ≡ handle
+    stays_named r = elim (cases_eq answer handle) [
+      | inl e ↦ e
+      | inr d ↦
+          let named : r.handle ≡ handle = (let e = r.asked in cc) in
+          let size_is : r.size ≡ size = (let e = r.asked in cc) in
+          absurd (moves old new is (ReAllocs handle size flags) (Word answer) r answer handle refl named d
+          (sym (stays old is r.slot r.object r.named.there (rounded_size r.size) (realloc_options r.flags) r.first (subst (λ n. rounded_size n ≤ REACH) (sym size_is) few) r.gets)))
+    ]
+
+pub old_handle_law : OldHandleLaw
+old_handle_law old new handle size flags answer is step some d = elim (answered old new handle size flags answer is step some) [
+  | inl e ↦ absurd (d e)
+  | inr r ↦ is_bad r (slot_of_handle new handle) refl
+]
+  where
+    slot_named : (k : Kind) (slot : ℕ) → handle_of k slot / 8 ≡ slot
+    slot_named Fixed slot = omega arith
+    slot_named Moveable slot = omega arith
+    slot_named Discardable slot = omega arith
+
+    is_bad : Resized old (ReAllocs handle size flags) (Word answer) new → (p : Option ℕ) → slot_of_handle new handle ≡ p → slot_of_handle new handle ≡ None
+    is_bad r None e = e
+    is_bad r (Some q) e = absurd (there (object_at new.heap q) refl ((names_law new handle q).0.0 e))
+      where
+        named : r.handle ≡ handle
+        named = let e = r.asked in cc
+
+        there : (p : Option Object) → object_at new.heap q ≡ p → IsSomeAnd p (λ o. handle ≡ handle_of o.kind q) → ⊥
+        there None at h = h
+        there (Some o) at h =
+            let same : q ≡ r.slot = sym (slot_named o.kind q) ∙ ap (λ n. n / 8) (sym h ∙ sym named ∙ handle_is old new is (ReAllocs handle size flags) (Word answer) r) ∙ slot_named r.object.kind r.slot in
+            let none : ◌≡◌ {A = Option Object} (Some o) None = sym at ∙ ap (object_at new.heap) same ∙ gone old new is (ReAllocs handle size flags) (Word answer) r (moves old new is (ReAllocs handle size flags) (Word answer) r answer handle refl named d) in cc

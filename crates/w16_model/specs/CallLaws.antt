@@ -1,14 +1,14 @@
 -- The laws of each step on handles: what it keeps, what it counts, how it orders, what happens to objects that it isn't about. None says what
 -- the definitions of the calls say: each counts, lists and compares once more.
-use Rattle.std.specs.Prelude.{◌==◌, ◌&&◌, ◌≡◌, ◌≢◌, ℕ, ◌+◌, ◌<◌, ◌≤◌, ◌⊎◌, ◌↔◌, Bool, true, false, not, List, [], ◌∷◌, ◌++◌, length, take, drop, sum_by, AllPairs, Option, Some, None, IsSomeAnd, is_some, option_map, unwrap_or}
+use Rattle.std.specs.Prelude.{◌==◌, ◌&&◌, ◌≡◌, ◌≢◌, ℕ, ◌+◌, ◌*◌, ◌<◌, ◌≤◌, ◌⊎◌, ◌↔◌, Bool, true, false, not, List, [], ◌∷◌, ◌++◌, length, take, drop, sum_by, AllPairs, Option, Some, None, IsSomeAnd, is_some, option_map, unwrap_or}
 use Rattle.std.specs.FinMap as finmap
 use Rattle.w16_model.specs.declared.Kind.TheVariants.{Discardable}
-use Rattle.w16_model.specs.declared.TheConstants.{GMEM_MOVEABLE, GMEM_NOCOMPACT, GMEM_MODIFY}
+use Rattle.w16_model.specs.declared.TheConstants.{REACH, GMEM_MOVEABLE, GMEM_NOCOMPACT, GMEM_MODIFY}
 use Rattle.w16_model.specs.Bytes.{part, repeated}
 use Rattle.w16_model.specs.Discards.{is_member}
 use Rattle.w16_model.specs.Heap.{Heap, Object, object_at, bytes_at, is_in_order, is_pinned_object}
 use Rattle.w16_model.specs.Changes.{without}
-use Rattle.w16_model.specs.Handles.{Handles, AreHandles, slot_of_handle, slot_of_selector, selector_in, offset_in}
+use Rattle.w16_model.specs.Handles.{Handles, AreHandles, slot_of_handle, part_of_selector, selector_in, offset_in}
 use Rattle.w16_model.specs.Law.{StandsStill}
 use Rattle.w16_model.specs.Reallocation.{without_all}
 use Rattle.w16_model.specs.Calls.{Answer, HandleStep, AnswersAlloc, has_flag}
@@ -176,12 +176,14 @@ pub record IsWritten (before : List ℕ) (at : ℕ) (slice after : List ℕ) : T
   pub written : part after at (length slice) ≡ slice
   pub above : drop (at + length slice) after ≡ drop (at + length slice) before
 
--- what an access that isn't refused leaves: its object with bytes such as these, every other object, every address, and the rest; its object
--- is the newest where it is in the order
-pub record Reaches (old : Handles) (selector : ℕ) (becomes : List ℕ → List ℕ → Type 0) (new : Handles) : Type 0 where
+-- what an access up to an end that isn't refused leaves: its object with bytes such as these, from where its selector begins to reach, every
+-- other object, every address, and the rest; its object is the newest where it is in the order
+pub record Reaches (old : Handles) (selector end : ℕ) (becomes : ℕ → List ℕ → List ℕ → Type 0) (new : Handles) : Type 0 where
   pub slot : ℕ
-  pub found : slot_of_selector old selector ≡ Some slot
-  pub object : IsSomeAnd (object_at old.heap slot) (λ o. IsSomeAnd o.bytes (λ bytes. (after : List ℕ) × becomes bytes after × (object_at new.heap slot ≡ Some (record o { bytes = Some after }))))
+  pub number : ℕ
+  pub near : end ≤ REACH
+  pub found : part_of_selector old selector ≡ Some (record { slot = slot; number = number })
+  pub object : IsSomeAnd (object_at old.heap slot) (λ o. IsSomeAnd o.bytes (λ bytes. (after : List ℕ) × becomes (REACH * number) bytes after × (object_at new.heap slot ≡ Some (record o { bytes = Some after }))))
   pub others : (q : ℕ) → q ≢ slot → object_at new.heap q ≡ object_at old.heap q
   pub newest : is_in_order (object_at old.heap slot) ≡ true → IsNewestOf slot old.heap.order new.heap.order
   pub unlisted : is_in_order (object_at old.heap slot) ≡ false → new.heap.order ≡ old.heap.order
@@ -190,9 +192,9 @@ pub record Reaches (old : Handles) (selector : ℕ) (becomes : List ℕ → List
 -- a read answers these bytes and changes none; a write puts its bytes there; a fault changes nothing
 abbrev pub FarEffect : Handles → FarCommand → FarAnswer → Handles → Type 0
 FarEffect old command (Fault fault) new = new ≡ old
-FarEffect old (Read pointer count) (Bytes bytes) new = Reaches old (selector_in pointer) (λ before after. (after ≡ before) × (bytes ≡ part before (offset_in pointer) count)) new
-FarEffect old (Write pointer slice) Done new = Reaches old (selector_in pointer) (λ before after. IsWritten before (offset_in pointer) slice after) new
-FarEffect old (Fill pointer count byte) Done new = Reaches old (selector_in pointer) (λ before after. IsWritten before (offset_in pointer) (repeated count byte) after) new
+FarEffect old (Read pointer count) (Bytes bytes) new = Reaches old (selector_in pointer) (offset_in pointer + count) (λ begin before after. (after ≡ before) × (bytes ≡ part before (begin + offset_in pointer) count)) new
+FarEffect old (Write pointer slice) Done new = Reaches old (selector_in pointer) (offset_in pointer + length slice) (λ begin before after. IsWritten before (begin + offset_in pointer) slice after) new
+FarEffect old (Fill pointer count byte) Done new = Reaches old (selector_in pointer) (offset_in pointer + length (repeated count byte)) (λ begin before after. IsWritten before (begin + offset_in pointer) (repeated count byte) after) new
 FarEffect old command answer new = ⊥
 
 abbrev pub FarEffectLaw : Type 0

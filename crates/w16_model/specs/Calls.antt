@@ -6,7 +6,7 @@ use Rattle.w16_model.specs.declared.Kind.TheVariants.{Fixed, Moveable, Discardab
 use Rattle.w16_model.specs.declared.RoomOptions.{RoomOptions}
 use Rattle.w16_model.specs.declared.Refusal.{Refusal}
 use Rattle.w16_model.specs.declared.Refusal.TheVariants as refusals
-use Rattle.w16_model.specs.declared.TheConstants.{GRAIN, LARGEST_SIZE, GMEM_MOVEABLE, GMEM_NOCOMPACT, GMEM_NODISCARD, GMEM_ZEROINIT, GMEM_DISCARDABLE, GMEM_DDESHARE, GMEM_DISCARDED}
+use Rattle.w16_model.specs.declared.TheConstants.{GRAIN, REACH, LARGEST_SIZE, GMEM_MOVEABLE, GMEM_NOCOMPACT, GMEM_NODISCARD, GMEM_ZEROINIT, GMEM_DISCARDABLE, GMEM_DDESHARE, GMEM_DISCARDED}
 use Rattle.w16_model.specs.Heap.{Heap, Object, object_at, bytes_at, is_discardable}
 use Rattle.w16_model.specs.Request.{Allocates, Compacts, discards_needed, moved_bytes}
 use Rattle.w16_model.specs.OneObject.{Enters, after_lock, after_unlock, after_free, after_newest, after_oldest}
@@ -14,7 +14,7 @@ use Rattle.w16_model.specs.declared.Attributes.{Attributes}
 use Rattle.w16_model.specs.declared.Item.{Item}
 use Rattle.w16_model.specs.Walk.{IsWalk}
 use Rattle.w16_model.specs.Owned.{owns}
-use Rattle.w16_model.specs.Handles.{Handles, Gives, IsFreeSlot, slot_of_handle, slot_of_selector, handle_of, selector_of, far_pointer, dword_of}
+use Rattle.w16_model.specs.Handles.{Handles, Gives, IsFreeRun, HasNoRun, slots_for, reached, slot_of_handle, part_of_selector, handle_of, selector_of, far_pointer, dword_of}
 
 -- a call that names objects by handles or selectors, with its arguments as numbers
 pub data HandleCommand : Type 0 where
@@ -69,29 +69,29 @@ IsEmptyFixed flags size = (size ≡ 0) × (has_flag flags GMEM_MOVEABLE ≡ fals
 abbrev pub IsTooLong : ℕ → Type 0
 IsTooLong size = LARGEST_SIZE < size
 
--- where no slot is free,
-abbrev pub HasNoSlot : Handles → Type 0
-HasNoSlot old = (slot : ℕ) → IsFreeSlot old slot → ⊥
+-- where no run of free slots is long enough,
+abbrev pub HasNoSlots : Handles → ℕ → Type 0
+HasNoSlots old size = HasNoRun old (slots_for (rounded_size size))
 
 -- and where there is no room: no hole that is long enough, or no gap that could hold it, as the flags have it.
 abbrev pub HasNoRoom : Handles → ℕ → ℕ → Type 0
 HasNoRoom old flags size = (0 < size) × (discards_needed old.heap (rounded_size size) None (alloc_options flags) ≡ None)
 
 abbrev pub IsRefusedAlloc : Handles → ℕ → ℕ → Type 0
-IsRefusedAlloc old flags size = IsEmptyFixed flags size ⊎ IsTooLong size ⊎ HasNoSlot old ⊎ HasNoRoom old flags size
+IsRefusedAlloc old flags size = IsEmptyFixed flags size ⊎ IsTooLong size ⊎ HasNoSlots old size ⊎ HasNoRoom old flags size
 
--- else the object gets a free slot, whichever, and bytes as the heap allocates them; a moveable one of size 0 is absent
+-- else the object gets free slots in a row, whichever, and bytes as the heap allocates them; a moveable one of size 0 is absent
 pub record AnswersAlloc (old : Handles) (flags size handle : ℕ) (new : Handles) : Type 0 where
   pub small : size ≤ LARGEST_SIZE
   pub slot : ℕ
-  pub free : IsFreeSlot old slot
+  pub free : IsFreeRun old slot (slots_for (rounded_size size))
   pub named : handle ≡ handle_of (kind_asked flags) slot
   pub made : MatchBool (is_absent_asked flags size)
       (Enters old.heap slot (kind_asked flags) new.heap)
       (Allocates old.heap slot (rounded_size size) (kind_asked flags) 0 (alloc_options flags) true new.heap)
   pub rest : new ≡ record old {
     heap = new.heap;
-    attributes = finmap.insert old.attributes slot (record { shared = has_flag flags GMEM_DDESHARE; owned = None });
+    attributes = finmap.insert old.attributes slot (record { shared = has_flag flags GMEM_DDESHARE; owned = None; slots = slots_for (rounded_size size) });
     moved = moved_bytes old.heap new.heap;
   }
 
@@ -189,23 +189,23 @@ global_flags handles handle = elim (slot_of_handle handles handle) [
 
 -- GlobalHandle: the selector in the high word, and its object's handle in the low one; 0 where there is none
 abbrev pub global_handle : Handles → ℕ → ℕ
-global_handle handles selector = elim (slot_of_selector handles selector) [
+global_handle handles selector = elim (part_of_selector handles selector) [
   | None ↦ 0
-  | Some slot ↦ unwrap_or (option_map (λ (o : Object). dword_of selector (handle_of o.kind slot)) (object_at handles.heap slot)) 0
+  | Some p ↦ unwrap_or (option_map (λ (o : Object). dword_of selector (handle_of o.kind p.slot)) (object_at handles.heap p.slot)) 0
 ]
 
--- GetSelectorBase: the object's address; 0 for a bad selector or an absent object
+-- GetSelectorBase: the address of the first byte that it reaches; 0 for a bad selector or an absent object
 abbrev pub selector_base : Handles → ℕ → ℕ
-selector_base handles selector = elim (slot_of_selector handles selector) [
+selector_base handles selector = elim (part_of_selector handles selector) [
   | None ↦ 0
-  | Some slot ↦ unwrap_or (finmap.get handles.heap.places slot) 0
+  | Some p ↦ unwrap_or (option_map (λ at. at + REACH * p.number) (finmap.get handles.heap.places p.slot)) 0
 ]
 
--- GetSelectorLimit: the offset of the object's last byte; 0 for a bad selector or an absent object
+-- GetSelectorLimit: the offset of the last byte that it reaches; 0 for a bad selector or an absent object
 abbrev pub selector_limit : Handles → ℕ → ℕ
-selector_limit handles selector = elim (slot_of_selector handles selector) [
+selector_limit handles selector = elim (part_of_selector handles selector) [
   | None ↦ 0
-  | Some slot ↦ unwrap_or (option_map (λ bytes. length bytes - 1) (bytes_at handles.heap slot)) 0
+  | Some p ↦ unwrap_or (option_map (λ bytes. reached (length bytes) p - 1) (bytes_at handles.heap p.slot)) 0
 ]
 
 -- One step: the answer that may be given to a call, and the handles that it leaves.

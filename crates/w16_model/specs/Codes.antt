@@ -41,7 +41,7 @@ abbrev pub owned_code : Coded Owned
 owned_code = code_by (ℕ × Bool) (coded× coded_ℕ coded_bool) (λ o. (o.size, o.code)) (λ p. record { size = p.0; code = p.1 }) (λ _. refl)
 
 abbrev pub attributes_code : Coded Attributes
-attributes_code = code_by (Bool × Option Owned) (coded× coded_bool (coded_option owned_code)) (λ a. (a.shared, a.owned)) (λ p. record { shared = p.0; owned = p.1 }) (λ _. refl)
+attributes_code = code_by (Bool × (Option Owned × ℕ)) (coded× coded_bool (coded× (coded_option owned_code) coded_ℕ)) (λ a. (a.shared, (a.owned, a.slots))) (λ p. record { shared = p.0; owned = p.1.0; slots = p.1.1 }) (λ _. refl)
 
 abbrev pub handles_code : Coded Handles
 handles_code = code_by (ℕ × (Heap × (FinMap nat_cmp Attributes × ℕ))) (coded× coded_ℕ (coded× heap_code (coded× (finmap.code coded_ℕ attributes_code) coded_ℕ)))

@@ -1,9 +1,9 @@
 -- What a call does to the object that its handle names, and what it answers, where nothing refuses it; and when a far access is answered.
-use Rattle.std.specs.Prelude.{◌≡◌, ◌≢◌, ℕ, ◌+◌, ◌-◌, ◌<◌, ◌≤◌, Bool, true, false, if◌then◌else◌, nat_lt, List, length, Some, None, is_some}
-use Rattle.w16_model.specs.declared.TheConstants.{GMEM_MOVEABLE, GMEM_MODIFY}
+use Rattle.std.specs.Prelude.{◌≡◌, ◌≢◌, ℕ, ◌+◌, ◌*◌, ◌-◌, ◌<◌, ◌≤◌, Bool, true, false, if◌then◌else◌, nat_lt, List, length, Some, None, is_some}
+use Rattle.w16_model.specs.declared.TheConstants.{REACH, GMEM_MOVEABLE, GMEM_MODIFY}
 use Rattle.w16_model.specs.declared.FarFault.{FarFault}
 use Rattle.w16_model.specs.Heap.{Object, object_at, bytes_at, is_fixed, is_discardable}
-use Rattle.w16_model.specs.Handles.{Handles, AreHandles, slot_of_selector, selector_of, selector_in, offset_in, far_pointer}
+use Rattle.w16_model.specs.Handles.{Handles, AreHandles, Part, part_of_selector, selector_of, selector_in, offset_in, far_pointer}
 use Rattle.w16_model.specs.Owned.{owns, refuses_write}
 use Rattle.w16_model.specs.Calls.{Answer, HandleStep, has_flag}
 use Rattle.w16_model.specs.Calls.Answer.{Word, Dword}
@@ -55,8 +55,8 @@ writes (Read pointer count) = false
 writes (Write pointer bytes) = true
 writes (Fill pointer count byte) = true
 
--- an access to bytes that are there is answered, a write where the object may be written
+-- an access to bytes that are there, and that the selector reaches, is answered, a write where the object may be written
 abbrev pub AnsweredLaw : Type 0
-AnsweredLaw = (old new : Handles) (command : FarCommand) (answer : FarAnswer) (slot : ℕ) (bytes : List ℕ) → slot_of_selector old (selector_in (pointer_in command)) ≡ Some slot → bytes_at old.heap slot ≡ Some bytes
-    → offset_in (pointer_in command) + count_in command ≤ length bytes → (writes command ≡ true → refuses_write old (selector_in (pointer_in command)) ≡ false)
+AnsweredLaw = (old new : Handles) (command : FarCommand) (answer : FarAnswer) (p : Part) (bytes : List ℕ) → part_of_selector old (selector_in (pointer_in command)) ≡ Some p → bytes_at old.heap p.slot ≡ Some bytes
+    → offset_in (pointer_in command) + count_in command ≤ REACH → REACH * p.number + (offset_in (pointer_in command) + count_in command) ≤ length bytes → (writes command ≡ true → refuses_write old (selector_in (pointer_in command)) ≡ false)
     → FarStep old command answer new → (fault : FarFault) → answer ≢ Fault fault

@@ -1,5 +1,5 @@
 -- Far accesses: bytes at selector:offset.
-use Rattle.std.specs.Prelude.{ℕ, ◌+◌, ◌<◌, if◌then◌else◌, nat_lt, All, List, [], length, unwrap_or, Option, Some, None, option_map}
+use Rattle.std.specs.Prelude.{ℕ, ◌+◌, ◌*◌, ◌<◌, Bool, ◌||◌, if◌then◌else◌, nat_lt, All, List, [], length, unwrap_or, Option, Some, None, option_map}
 use Rattle.w16_model.specs.declared.FarFault.{FarFault}
 use Rattle.w16_model.specs.declared.FarFault.TheVariants.{BadSelector, ReadOnly, NotPresent, Limit}
 use Rattle.w16_model.specs.Bytes.{part, put_part, repeated}
@@ -7,7 +7,8 @@ use Rattle.w16_model.specs.Heap.{Heap, bytes_at}
 use Rattle.w16_model.specs.Changes.{update}
 use Rattle.w16_model.specs.OneObject.{after_touch}
 use Rattle.w16_model.specs.Owned.{refuses_write}
-use Rattle.w16_model.specs.Handles.{Handles, Gives, slot_of_selector, selector_in, offset_in}
+use Rattle.w16_model.specs.declared.TheConstants.{REACH}
+use Rattle.w16_model.specs.Handles.{Handles, Part, Gives, part_of_selector, selector_in, offset_in}
 
 -- an access to bytes that a far pointer points to
 pub data FarCommand : Type 0 where
@@ -29,19 +30,29 @@ pub data FarAnswer : Type 0 where
 
 -- An access is to n bytes at selector:offset. An answered one, of no bytes too, makes a discardable object the newest.
 
--- the first fault that a read meets: a selector of no object, an object without bytes, or bytes past its end
+-- whether an access up to an end goes past what a selector reaches of an object of this size: past the reach itself, or past the object
+abbrev pub is_past : ℕ → Part → ℕ → Bool
+is_past size p end = nat_lt REACH end || nat_lt size (REACH * p.number + end)
+
+-- the first fault that a read meets: a selector of no object, an object without bytes, or bytes that the selector doesn't reach
 abbrev pub far_fault : Handles → ℕ → ℕ → ℕ → Option FarFault
-far_fault handles selector offset n = elim (slot_of_selector handles selector) [
+far_fault handles selector offset n = elim (part_of_selector handles selector) [
   | None ↦ Some BadSelector
-  | Some slot ↦ elim (bytes_at handles.heap slot) [
+  | Some p ↦ elim (bytes_at handles.heap p.slot) [
     | None ↦ Some NotPresent
-    | Some bytes ↦ if nat_lt (length bytes) (offset + n) then Some Limit else None
+    | Some bytes ↦ if is_past (length bytes) p (offset + n) then Some Limit else None
   ]
 ]
 
--- the object that an access reaches, where there is no fault, and its bytes
+-- the object that an access reaches, where there is no fault, the place in it, and its bytes
+abbrev pub far_part : Handles → ℕ → Part
+far_part handles selector = unwrap_or (part_of_selector handles selector) (record { slot = 0; number = 0 })
+
 abbrev pub far_slot : Handles → ℕ → ℕ
-far_slot handles selector = unwrap_or (slot_of_selector handles selector) 0
+far_slot handles selector = (far_part handles selector).slot
+
+abbrev pub far_at : Handles → ℕ → ℕ → ℕ
+far_at handles selector offset = REACH * (far_part handles selector).number + offset
 
 abbrev pub far_bytes : Handles → ℕ → List ℕ
 far_bytes handles selector = unwrap_or (bytes_at handles.heap (far_slot handles selector)) []
@@ -50,7 +61,7 @@ far_bytes handles selector = unwrap_or (bytes_at handles.heap (far_slot handles 
 abbrev pub far_read : Handles → ℕ → ℕ → ℕ → FarAnswer × Handles
 far_read old selector offset n = elim (far_fault old selector offset n) [
   | Some fault ↦ (Fault fault, old)
-  | None ↦ (Bytes (part (far_bytes old selector) offset n), record old { heap = after_touch old.heap (far_slot old selector) })
+  | None ↦ (Bytes (part (far_bytes old selector) (far_at old selector offset) n), record old { heap = after_touch old.heap (far_slot old selector) })
 ]
 
 -- the heap with an object's bytes from a place on replaced
@@ -61,7 +72,7 @@ after_write heap slot at slice = record heap { objects = update heap.objects slo
 abbrev pub data_write : Handles → ℕ → ℕ → List ℕ → FarAnswer × Handles
 data_write old selector offset slice = elim (far_fault old selector offset (length slice)) [
   | Some fault ↦ (Fault fault, old)
-  | None ↦ (Done, record old { heap = after_touch (after_write old.heap (far_slot old selector) offset slice) (far_slot old selector) })
+  | None ↦ (Done, record old { heap = after_touch (after_write old.heap (far_slot old selector) (far_at old selector offset) slice) (far_slot old selector) })
 ]
 
 -- Write; code can't be written, with bytes or without

@@ -8,7 +8,7 @@ use Rattle.w16_model.specs.Discards.{eligible, blocks_without}
 use Rattle.w16_model.specs.Heap.{Heap, IsHeap, blocks}
 use Rattle.w16_model.specs.Request.{Allocates, Compacts, eligible_count}
 use Rattle.w16_model.specs.Handles.{Handles, AreHandles, handle_of}
-use Rattle.w16_model.specs.Calls.{GlobalAllocs, GlobalCompacts, IsEmptyFixed, IsTooLong, HasNoSlot, kind_asked, alloc_options, rounded_size}
+use Rattle.w16_model.specs.Calls.{GlobalAllocs, GlobalCompacts, IsEmptyFixed, IsTooLong, HasNoSlots, kind_asked, alloc_options, rounded_size}
 use Rattle.w16_model.specs.Law.{NoStretch, KeepsOthers}
 
 -- whichever way the others slide once the first j that may be are discarded, no n bytes in a row are free; h isn't counted
@@ -52,7 +52,7 @@ CompactsFewest old n answer new = MatchBool (n == 0) (IsMostAfter old (eligible_
 -- discarded none, and there was no room, unless it was refused for something else.
 pub record AllocFewest (old : Handles) (flags size handle : ℕ) (new : Handles) : Type 0 where
   pub answered : handle ≢ 0 → 0 < size → (slot : ℕ) × (handle ≡ handle_of (kind_asked flags) slot) × AllocatesFewest old.heap slot (rounded_size size) (alloc_options flags) true new.heap
-  pub refused : handle ≡ 0 → (new.heap ≡ old.heap) × (IsEmptyFixed flags size ⊎ IsTooLong size ⊎ HasNoSlot old ⊎ LacksRoom old.heap None (rounded_size size) (alloc_options flags))
+  pub refused : handle ≡ 0 → (new.heap ≡ old.heap) × (IsEmptyFixed flags size ⊎ IsTooLong size ⊎ HasNoSlots old size ⊎ LacksRoom old.heap None (rounded_size size) (alloc_options flags))
 
 -- The laws.
 

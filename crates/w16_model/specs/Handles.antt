@@ -1,15 +1,18 @@
 -- Handles: a global heap whose objects are named by handles and reached by selectors.
-use Rattle.std.specs.Prelude.{◌≡◌, ℕ, ◌+◌, ◌*◌, ◌/◌, ◌%◌, ◌<◌, ◌≤◌, ◌&&◌, ◌==◌, if◌then◌else◌, is_some, IfSome, Option, Some, None}
+use Rattle.std.specs.Prelude.{◌≡◌, ℕ, ◌+◌, ◌-◌, ◌*◌, ◌/◌, ◌%◌, ◌<◌, ◌≤◌, ◌&&◌, ◌==◌, if◌then◌else◌, nat_le, nat_lt, max, min, Bool, true, List, length, is_some, IfSome, option_map, unwrap_or, Option, Some, None}
+use Rattle.std.specs.List.{find}
 use Rattle.std.specs.Ordering.{nat_cmp}
 use Rattle.std.specs.FinMap as finmap
 use Rattle.std.specs.FinMap.{FinMap}
 use Rattle.w16_model.specs.declared.Kind.{Kind}
 use Rattle.w16_model.specs.declared.Kind.TheVariants.{Fixed, Moveable, Discardable}
 use Rattle.w16_model.specs.declared.Attributes.{Attributes}
-use Rattle.w16_model.specs.declared.TheConstants.{FIRST_SLOT, MOST_SLOTS, GRAIN}
-use Rattle.w16_model.specs.Heap.{Heap, IsHeap, empty_heap, object_at}
+use Rattle.w16_model.specs.declared.Owned.{Owned}
+use Rattle.w16_model.specs.declared.TheConstants.{FIRST_SLOT, MOST_SLOTS, GRAIN, REACH}
+use Rattle.w16_model.specs.Heap.{Heap, IsHeap, empty_heap, object_at, bytes_at}
 
--- An object's id in the heap is its slot, of which there are so many, numbered from the first one on.
+-- An object's id in the heap is its slot, of which there are so many, numbered from the first one on. It has so many slots in a row as its
+-- attributes say: its run, which begins at that slot.
 pub record Handles : Type 0 where
   pub slots : ℕ
   pub heap : Heap
@@ -24,9 +27,31 @@ empty_handles memory slots = record { slots = slots; heap = empty_heap 0 memory 
 abbrev pub IsSlot : Handles → ℕ → Type 0
 IsSlot handles slot = (FIRST_SLOT ≤ slot) × (slot < FIRST_SLOT + handles.slots)
 
--- a slot that no object has
+-- how many slots an object has, none where there is no object
+abbrev pub slots_at : FinMap nat_cmp Attributes → ℕ → ℕ
+slots_at attributes slot = unwrap_or (option_map (λ (a : Attributes). a.slots) (finmap.get attributes slot)) 0
+
+-- whether a slot is in a run
+abbrev pub has_slot : ℕ → ℕ × Attributes → Bool
+has_slot slot e = nat_le e.0 slot && nat_lt slot (e.0 + e.1.slots)
+
+-- the object in whose run a slot is
+abbrev pub owner_of : FinMap nat_cmp Attributes → ℕ → Option ℕ
+owner_of attributes slot = option_map (λ (e : ℕ × Attributes). e.0) (find (has_slot slot) (finmap.entries attributes))
+
+-- a slot that no object has, and so many of them in a row
 abbrev pub IsFreeSlot : Handles → ℕ → Type 0
-IsFreeSlot handles slot = IsSlot handles slot × (object_at handles.heap slot ≡ None)
+IsFreeSlot handles slot = IsSlot handles slot × (owner_of handles.attributes slot ≡ None)
+
+abbrev pub IsFreeRun : Handles → ℕ → ℕ → Type 0
+IsFreeRun handles first count = (k : ℕ) → k < count → IsFreeSlot handles (first + k)
+
+abbrev pub HasNoRun : Handles → ℕ → Type 0
+HasNoRun handles count = (first : ℕ) → IsFreeRun handles first count → ⊥
+
+-- how many slots an object of so many bytes needs: at least one
+abbrev pub slots_for : ℕ → ℕ
+slots_for size = max 1 ((size + (REACH - 1)) / REACH)
 
 -- A slot's selector is its number eight times, and its low three bits are set (profile: a local descriptor of the least privilege).
 abbrev pub selector_of : ℕ → ℕ
@@ -45,7 +70,19 @@ slot_of_handle handles handle = elim (object_at handles.heap (handle / 8)) [
   | None ↦ None
 ]
 
--- the slot of the object whose selector this is
+-- What a selector reaches: an object, by its slot, and which of the object's selectors it is, from 0.
+pub record Part : Type 0 where
+  pub slot : ℕ
+  pub number : ℕ
+
+abbrev pub part_of_selector : Handles → ℕ → Option Part
+part_of_selector handles selector = if selector == selector_of (selector / 8) then option_map (λ slot. record { slot = slot; number = selector / 8 - slot }) (owner_of handles.attributes (selector / 8)) else None
+
+-- how many bytes of an object of this size it reaches
+abbrev pub reached : ℕ → Part → ℕ
+reached size p = min REACH (size - REACH * p.number)
+
+-- the slot of the object whose first selector this is
 abbrev pub slot_of_selector : Handles → ℕ → Option ℕ
 slot_of_selector handles selector = if is_some (object_at handles.heap (selector / 8)) && (selector == selector_of (selector / 8)) then Some (selector / 8) else None
 
@@ -63,15 +100,32 @@ selector_in pointer = pointer / 65536
 abbrev pub offset_in : ℕ → ℕ
 offset_in pointer = pointer % 65536
 
--- what always holds of them: the heap is one, over memory from 0; the slots are few enough for their selectors to be words, the objects
--- have slots, and each object has its attributes
+-- an object that a module owns has as many slots as its size needs, with bytes or without
+abbrev pub IsOwnedRun : Attributes → Type 0
+IsOwnedRun a = IfSome a.owned (λ (o : Owned). a.slots ≡ slots_for o.size)
+
+-- an object has a slot at least, all of its slots are there, and none is another's
+abbrev pub IsRun : ℕ → ℕ → Attributes → Type 0
+IsRun slots slot a = (0 < a.slots) × (FIRST_SLOT ≤ slot) × (slot + a.slots ≤ FIRST_SLOT + slots) × IsOwnedRun a
+
+pub record AreRuns (slots : ℕ) (attributes : FinMap nat_cmp Attributes) : Type 0 where
+  pub each : (slot : ℕ) → IfSome (finmap.get attributes slot) (IsRun slots slot)
+  pub apart : (slot other : ℕ) → slot < other → is_some (finmap.get attributes other) ≡ true → slot + slots_at attributes slot ≤ other
+
+-- so many slots are as many as an object's bytes need, if it has any
+abbrev pub IsSized : ℕ → Option (List ℕ) → Type 0
+IsSized count bytes = IfSome bytes (λ b. count ≡ slots_for (length b))
+
+-- what always holds of them: the heap is one, over memory from 0; the slots are few enough for their selectors to be words; each object has
+-- its attributes, and a run of slots, which is no other's; and one with bytes has as many as they need
 pub record AreHandles (handles : Handles) : Type 0 where
   pub heap : IsHeap handles.heap
   pub low : handles.heap.lo ≡ 0
   pub grain : handles.heap.grain ≡ GRAIN
   pub few : handles.slots ≤ MOST_SLOTS
-  pub slotted : (slot : ℕ) → IfSome (object_at handles.heap slot) (λ _. IsSlot handles slot)
+  pub runs : AreRuns handles.slots handles.attributes
   pub attributed : (slot : ℕ) → finmap.contains_key handles.attributes slot ≡ is_some (object_at handles.heap slot)
+  pub sized : (slot : ℕ) → IsSized (slots_at handles.attributes slot) (bytes_at handles.heap slot)
 
 -- an answer and what it leaves are this outcome
 abbrev pub Gives : {A : Type 0} → A × Handles → A → Handles → Type 0

@@ -1,5 +1,5 @@
 -- The laws that show the definitions to be the right ones. Each is the contract of a function of the module `laws`.
-use Rattle.std.specs.Prelude.{◌≡◌, ◌≢◌, ℕ, ◌+◌, ◌-◌, ◌<◌, ◌≤◌, ◌↔◌, Bool, true, false, IfSome, IsSomeAnd, List, take, map, length, All, AllPairs, Contains, Option, Some, None, is_some}
+use Rattle.std.specs.Prelude.{◌≡◌, ◌≢◌, ℕ, ◌+◌, ◌-◌, ◌*◌, ◌<◌, ◌≤◌, ◌↔◌, Bool, true, false, IfSome, IsSomeAnd, List, take, map, length, All, AllPairs, Contains, Option, Some, None, is_some}
 use Rattle.w16_model.specs.declared.Block.{Block}
 use Rattle.w16_model.specs.declared.Span.{Span}
 use Rattle.w16_model.specs.declared.Kind.{Kind}
@@ -7,17 +7,17 @@ use Rattle.w16_model.specs.declared.Item.{Item}
 use Rattle.w16_model.specs.declared.RoomOptions.{RoomOptions}
 use Rattle.w16_model.specs.declared.Hold.TheVariants.{Pinned}
 use Rattle.w16_model.specs.declared.Kind.TheVariants.{Discardable}
-use Rattle.w16_model.specs.declared.TheConstants.{FIRST_SLOT, MOST_SLOTS, GRAIN, LARGEST_SIZE, GMEM_MOVEABLE, GMEM_NOCOMPACT, GMEM_NODISCARD, GMEM_ZEROINIT, GMEM_MODIFY, GMEM_DISCARDABLE, GMEM_DDESHARE, GMEM_DISCARDED}
+use Rattle.w16_model.specs.declared.TheConstants.{FIRST_SLOT, MOST_SLOTS, GRAIN, REACH, LARGEST_SIZE, GMEM_MOVEABLE, GMEM_NOCOMPACT, GMEM_NODISCARD, GMEM_ZEROINIT, GMEM_MODIFY, GMEM_DISCARDABLE, GMEM_DDESHARE, GMEM_DISCARDED}
 use Rattle.w16_model.specs.Gap.{is_pinned, is_any, room, longest_hole, hole_after, gaps, holes, loose_bytes, block_end, IsGap, IsHole, IsGapOf, ArePlaced, IsLaid}
 use Rattle.w16_model.specs.Arrangement.{IsArrangement, IsFreeStretch, IsLongestStretch}
 use Rattle.w16_model.specs.Discards.{eligible, is_member, blocks_without, needed, room_for, snapshot}
 use Rattle.std.specs.FinMap as finmap
-use Rattle.w16_model.specs.Heap.{Heap, Object, IsHeap, blocks, object_at, is_pinned_object}
+use Rattle.w16_model.specs.Heap.{Heap, Object, IsHeap, blocks, object_at, bytes_at, is_pinned_object}
 use Rattle.w16_model.specs.Changes.{with_ordered}
 use Rattle.w16_model.specs.Request.{Settles, discarded, stays_for, snapshot_of}
 use Rattle.w16_model.specs.Table.{Table, IsTable, IsSound, heap_in, IsSameOutside}
 use Rattle.w16_model.specs.Walk.{IsWalk}
-use Rattle.w16_model.specs.Handles.{Handles, AreHandles, empty_handles, slot_of_handle, slot_of_selector, handle_of, selector_of}
+use Rattle.w16_model.specs.Handles.{Handles, AreHandles, empty_handles, slots_at, owner_of, reached, slot_of_handle, part_of_selector, slot_of_selector, handle_of, selector_of}
 use Rattle.w16_model.specs.Calls.{HandleCommand, Answer, HandleStep, IsRefusedAlloc, AnswersAlloc}
 use Rattle.w16_model.specs.Far.{FarCommand, FarAnswer, IsFarCommand, FarStep}
 
@@ -29,6 +29,7 @@ pub record AreFigures : Type 0 where
   pub most_slots : MOST_SLOTS ≡ 8160
   pub grain : GRAIN ≡ 32
   pub largest_size : LARGEST_SIZE ≡ 65536
+  pub reach : REACH ≡ 65536
 
 -- the flags of GlobalAlloc and GlobalFlags, as the manual has them (GMEM_DISCARDED: GlobalFlags alone)
 pub record AreFlags : Type 0 where
@@ -181,6 +182,17 @@ abbrev pub NamesLaw : Type 0
 NamesLaw = (handles : Handles) (name slot : ℕ)
     → ((slot_of_handle handles name ≡ Some slot) ↔ IsSomeAnd (object_at handles.heap slot) (λ o. name ≡ handle_of o.kind slot))
     × ((slot_of_selector handles name ≡ Some slot) ↔ IsSomeAnd (object_at handles.heap slot) (λ _. name ≡ selector_of slot))
+
+-- the owner of a slot is the object in whose run it is, and there is no other
+abbrev pub OwnerLaw : Type 0
+OwnerLaw = (handles : Handles) (slot first : ℕ) → AreHandles handles
+    → (owner_of handles.attributes slot ≡ Some first) ↔ ((first ≤ slot) × (slot < first + slots_at handles.attributes first))
+
+-- what a selector reaches lies in its object
+abbrev pub ReachLaw : Type 0
+ReachLaw = (handles : Handles) (selector : ℕ) → AreHandles handles
+    → IfSome (part_of_selector handles selector) (λ p. (selector ≡ selector_of (p.slot + p.number)) × (p.number < slots_at handles.attributes p.slot)
+    × IfSome (bytes_at handles.heap p.slot) (λ bytes. (0 < reached (length bytes) p) × (REACH * p.number + reached (length bytes) p ≤ length bytes)))
 
 -- the handles of a heap in which nothing is allocated are such
 abbrev pub EmptyLaw : Type 0

@@ -20,3 +20,4 @@ pub mod Outcomes
 pub mod CallLaws
 pub mod Effects
 pub mod Codes
+pub mod Ends

@@ -1,21 +1,21 @@
 -- What a call on handles leaves: one of thirteen outcomes, whichever the call is. Each says all that changes of the heap, the attributes, the
 -- slots and the number of bytes moved. A law about every call then goes by outcomes.
-use Rattle.std.specs.Prelude.{◌≡◌, ℕ, ◌+◌, ◌-◌, ◌==◌, Bool, true, false, is_some, List, Some, None, Ok}
+use Rattle.std.specs.Prelude.{◌≡◌, ℕ, ◌+◌, ◌-◌, ◌≤◌, ◌==◌, Bool, true, false, is_some, List, Some, None, Ok}
 use Rattle.std.specs.FinMap as finmap
 use Rattle.w16_model.specs.declared.Attributes.{Attributes}
-use Rattle.w16_model.specs.declared.TheConstants.{GMEM_MODIFY, GMEM_DDESHARE}
+use Rattle.w16_model.specs.declared.TheConstants.{LARGEST_SIZE, GMEM_MODIFY, GMEM_DDESHARE}
 use Rattle.w16_model.specs.Gap.{is_pinned}
-use Rattle.w16_model.specs.Heap.{Object, object_at, is_fixed, is_discardable}
+use Rattle.w16_model.specs.Heap.{Heap, Object, object_at, is_fixed, is_discardable}
 use Rattle.w16_model.specs.Changes.{with_object, with_ordered, with_newest, newest, oldest, touched, absent}
 use Rattle.w16_model.specs.Request.{IsNew, Settles, Reallocates, discarded, stays_for, moved_bytes}
 use Rattle.w16_model.specs.OneObject.{Enters, refused_order, after_modify}
-use Rattle.w16_model.specs.Handles.{Handles, AreHandles, IsFreeSlot, slot_of_handle, handle_of}
+use Rattle.w16_model.specs.Handles.{Handles, AreHandles, IsFreeRun, slots_for, slot_of_handle, handle_of}
 use Rattle.w16_model.specs.Owned.{owns, without_slot}
 use Rattle.w16_model.specs.Reallocation.{ChangesKind}
 use Rattle.w16_model.specs.Calls.{HandleCommand, Answer, HandleStep, has_flag, kind_asked, alloc_options, rounded_size}
 use Rattle.w16_model.specs.Calls.Answer.{Word, Dword}
 use Rattle.w16_model.specs.Calls.HandleCommand.{GlobalAlloc, GlobalFree, GlobalLock, GlobalUnlock, GlobalCompact, GlobalLRUNewest, GlobalLRUOldest}
-use Rattle.w16_model.specs.Resizes.{GlobalReAllocs, realloc_options, kind_modified}
+use Rattle.w16_model.specs.Resizes.{GlobalReAllocs, GetsRun, rehoused, with_run, realloc_options, kind_modified}
 
 -- A call on handles: GlobalReAlloc, of which GlobalDiscard is a case, or any other.
 pub data Call : Type 0 where
@@ -76,19 +76,19 @@ pub record Orders (old : Handles) (call : Call) (asks : ℕ → HandleCommand) (
   pub rest : new ≡ record old { heap = record old.heap { order = order slot old.heap.order } }
 
 -- the attributes of a new object, which no module owns
-abbrev pub attributes_asked : ℕ → Attributes
-attributes_asked flags = record { shared = has_flag flags GMEM_DDESHARE; owned = None }
+abbrev pub attributes_asked : ℕ → ℕ → Attributes
+attributes_asked flags size = record { shared = has_flag flags GMEM_DDESHARE; owned = None; slots = slots_for (rounded_size size) }
 
--- GlobalAlloc puts an object without bytes into a free slot.
+-- GlobalAlloc puts an object without bytes into free slots.
 pub record EntersSlot (old : Handles) (call : Call) (answer : Answer) (new : Handles) : Type 0 where
   pub flags : ℕ
   pub size : ℕ
   pub slot : ℕ
   pub asked : call ≡ Calls (GlobalAlloc flags size)
   pub answered : answer ≡ Word (handle_of (kind_asked flags) slot)
-  pub free : IsFreeSlot old slot
+  pub free : IsFreeRun old slot (slots_for (rounded_size size))
   pub entered : Enters old.heap slot (kind_asked flags) new.heap
-  pub rest : new ≡ record old { heap = new.heap; attributes = finmap.insert old.attributes slot (attributes_asked flags); moved = moved_bytes old.heap new.heap }
+  pub rest : new ≡ record old { heap = new.heap; attributes = finmap.insert old.attributes slot (attributes_asked flags size); moved = moved_bytes old.heap new.heap }
 
 -- Or it puts one with bytes there, for which it discards the first so many that may be discarded.
 pub record AllocatesSlot (old : Handles) (call : Call) (answer : Answer) (new : Handles) : Type 0 where
@@ -99,10 +99,10 @@ pub record AllocatesSlot (old : Handles) (call : Call) (answer : Answer) (new : 
   pub object : Object
   pub asked : call ≡ Calls (GlobalAlloc flags size)
   pub answered : answer ≡ Word (handle_of (kind_asked flags) slot)
-  pub free : IsFreeSlot old slot
+  pub free : IsFreeRun old slot (slots_for (rounded_size size))
   pub is_new : IsNew (alloc_options flags).zero (rounded_size size) (kind_asked flags) 0 object
   pub settled : Settles old.heap (stays_for slot (alloc_options flags)) (with_ordered (discarded old.heap count (Some slot)) slot object (with_newest slot object)) new.heap
-  pub rest : new ≡ record old { heap = new.heap; attributes = finmap.insert old.attributes slot (attributes_asked flags); moved = moved_bytes old.heap new.heap }
+  pub rest : new ≡ record old { heap = new.heap; attributes = finmap.insert old.attributes slot (attributes_asked flags size); moved = moved_bytes old.heap new.heap }
 
 -- GlobalCompact discards the first so many that may be discarded, and moves others.
 pub record CompactsHeap (old : Handles) (call : Call) (answer : Answer) (new : Handles) : Type 0 where
@@ -144,20 +144,24 @@ pub record Discards (old : Handles) (call : Call) (answer : Answer) (new : Handl
   pub discardable : is_discardable object.kind ≡ true
   pub rest : new ≡ record old { heap = absent old.heap slot; moved = moved_bytes old.heap (absent old.heap slot) }
 
--- It gives an object another size, above 0.
+-- It gives an object another size, above 0, in a heap where the object has its old slot still, and then the run of slots that the size needs.
 pub record Resized (old : Handles) (call : Call) (answer : Answer) (new : Handles) : Type 0 where
   pub handle : ℕ
   pub size : ℕ
   pub flags : ℕ
   pub slot : ℕ
   pub object : Object
+  pub first : ℕ
+  pub heap : Heap
   pub asked : call ≡ ReAllocs handle size flags
-  pub answered : answer ≡ Word handle
+  pub answered : answer ≡ Word (handle_of object.kind first)
   pub named : IsNamed old handle slot object
   pub own : owns old handle ≡ false
   pub sized : (has_flag flags GMEM_MODIFY ≡ false) × ((size == 0) ≡ false)
-  pub resized : Reallocates old.heap slot (rounded_size size) (realloc_options flags) true new.heap
-  pub rest : new ≡ record old { heap = new.heap; moved = moved_bytes old.heap new.heap }
+  pub small : size ≤ LARGEST_SIZE
+  pub gets : GetsRun old slot object (realloc_options flags) (slots_for (rounded_size size)) first
+  pub resized : Reallocates old.heap slot (rounded_size size) (realloc_options flags) true heap
+  pub rest : new ≡ record old { heap = rehoused heap slot first; attributes = with_run old.attributes slot first (slots_for (rounded_size size)); moved = moved_bytes old.heap heap }
 
 -- whether a call counts the bytes that it moved
 abbrev pub counts_moved : Call → Bool

@@ -9,7 +9,7 @@ use Rattle.w16_model.specs.Changes.{removed}
 use Rattle.w16_model.specs.Heap.{object_at}
 use Rattle.w16_model.specs.Request.{Allocates}
 use Rattle.w16_model.specs.OneObject.{Enters}
-use Rattle.w16_model.specs.Handles.{Handles, IsFreeSlot, handle_of, slot_of_handle, slot_of_selector}
+use Rattle.w16_model.specs.Handles.{Handles, Part, IsFreeSlot, handle_of, slot_of_handle, part_of_selector}
 
 abbrev pub owned_in : Option Attributes → Option Owned
 owned_in None = None
@@ -31,15 +31,15 @@ owns handles handle = unwrap_or (option_map (is_owned handles) (slot_of_handle h
 
 -- whether a selector's object is code, which refuses every write
 abbrev pub refuses_write : Handles → ℕ → Bool
-refuses_write handles selector = unwrap_or (option_map (is_code handles) (slot_of_selector handles selector)) false
+refuses_write handles selector = unwrap_or (option_map (λ (p : Part). is_code handles p.slot) (part_of_selector handles selector)) false
 
--- A new object without bytes gets a free slot, and a module owns it.
+-- A new object without bytes gets a free slot, and a module owns it. One slot is enough for what a module owns.
 pub record TakesOwned (old : Handles) (kind : Kind) (owned : Owned) (handle : ℕ) (new : Handles) : Type 0 where
   pub slot : ℕ
   pub free : IsFreeSlot old slot
   pub named : handle ≡ handle_of kind slot
   pub entered : Enters old.heap slot kind new.heap
-  pub rest : new ≡ record old { heap = new.heap; attributes = finmap.insert old.attributes slot (record { shared = false; owned = Some owned }) }
+  pub rest : new ≡ record old { heap = new.heap; attributes = finmap.insert old.attributes slot (record { shared = false; owned = Some owned; slots = 1 }) }
 
 -- how room is made for it: others may be moved and discarded
 abbrev pub revival_options : RoomOptions

@@ -1,14 +1,18 @@
 -- GlobalReAlloc and GlobalDiscard on handles: the cases in their order, and what each answers and leaves.
-use Rattle.std.specs.Prelude.{◌≡◌, ◌≢◌, ℕ, ◌<◌, ◌≤◌, Bool, true, false, ◌==◌, if◌then◌else◌, nat_lt, MatchBool, MatchOption, IsSomeAnd, Some, Result, Ok, Err}
+use Rattle.std.specs.Prelude.{◌≡◌, ◌≢◌, ℕ, ◌+◌, ◌-◌, ◌<◌, ◌≤◌, ◌⊎◌, Bool, true, false, not, ◌&&◌, ◌||◌, ◌==◌, if◌then◌else◌, nat_lt, map, MatchBool, MatchOption, IsSomeAnd, Some, None, Result, Ok, Err}
+use Rattle.std.specs.Ordering.{nat_cmp}
+use Rattle.std.specs.FinMap as finmap
+use Rattle.std.specs.FinMap.{FinMap}
+use Rattle.w16_model.specs.declared.Attributes.{Attributes}
 use Rattle.w16_model.specs.declared.Kind.{Kind}
 use Rattle.w16_model.specs.declared.Kind.TheVariants.{Moveable, Discardable}
 use Rattle.w16_model.specs.declared.Refusal.{Refusal}
 use Rattle.w16_model.specs.declared.RoomOptions.{RoomOptions}
-use Rattle.w16_model.specs.declared.TheConstants.{LARGEST_SIZE, GMEM_MOVEABLE, GMEM_MODIFY, GMEM_DISCARDABLE}
-use Rattle.w16_model.specs.Heap.{Heap, object_at, size_of}
+use Rattle.w16_model.specs.declared.TheConstants.{REACH, LARGEST_SIZE, GMEM_MOVEABLE, GMEM_MODIFY, GMEM_DISCARDABLE}
+use Rattle.w16_model.specs.Heap.{Heap, Object, object_at, size_of, is_fixed}
 use Rattle.w16_model.specs.Request.{Reallocates, moved_bytes}
 use Rattle.w16_model.specs.OneObject.{after_modify, after_discard}
-use Rattle.w16_model.specs.Handles.{Handles, AreHandles, slot_of_handle}
+use Rattle.w16_model.specs.Handles.{Handles, AreHandles, IsFreeRun, HasNoRun, slots_at, slots_for, handle_of, slot_of_handle}
 use Rattle.w16_model.specs.Owned.{owns, is_owned}
 use Rattle.w16_model.specs.Reallocation.{LacksPlace, ReallocatesFewest}
 use Rattle.w16_model.specs.Calls.{has_flag, rounded_size, alloc_options}
@@ -44,11 +48,63 @@ Empties old handle slot flags answer new = MatchBool (has_flag flags GMEM_MOVEAB
     (AnswersDiscard old handle answer new (after_discard old.heap slot))
     (IsNull old answer new)
 
--- a size above 0: NULL over the limit, or where the heap refuses it
-abbrev pub Resizes : Handles → ℕ → ℕ → ℕ → ℕ → ℕ → Handles → Type 0
-Resizes old handle slot flags size answer new = MatchBool (nat_lt LARGEST_SIZE size)
+-- Slots.
+
+-- the slots that an object needs beyond its own are free, directly behind them
+abbrev pub CanExtend : Handles → ℕ → ℕ → Type 0
+CanExtend old slot count = IsFreeRun old (slot + slots_at old.attributes slot) (count - slots_at old.attributes slot)
+
+-- which object may get another run, and with it another handle: none that is locked, and a fixed one with GMEM_MOVEABLE alone
+abbrev pub may_leave : Object → RoomOptions → Bool
+may_leave o options = (o.locks == 0) && (not (is_fixed o.kind) || options.may_move)
+
+-- where its run of so many slots begins: where it begins now, if it has as many or can be extended; else where as many are free
+abbrev pub GetsRun : Handles → ℕ → Object → RoomOptions → ℕ → ℕ → Type 0
+GetsRun old slot o options count first =
+    (CanExtend old slot count × (first ≡ slot))
+    ⊎ ((CanExtend old slot count → ⊥) × (may_leave o options ≡ true) × IsFreeRun old first count)
+
+-- and that there is none for it
+pub record LacksRun (old : Handles) (slot : ℕ) (o : Object) (options : RoomOptions) (count : ℕ) : Type 0 where
+  pub here : CanExtend old slot count → ⊥
+  pub elsewhere : may_leave o options ≡ true → HasNoRun old count
+
+-- a map with what one key has under another
+abbrev pub rekeyed : {X : Type 0} → FinMap nat_cmp X → ℕ → ℕ → FinMap nat_cmp X
+rekeyed m from to = elim (finmap.get m from) [ Some x ↦ finmap.insert (finmap.remove m from) to x | None ↦ m ]
+
+-- the heap with an object under another slot, which no object has; its place in the order of use is the same
+abbrev pub rehoused : Heap → ℕ → ℕ → Heap
+rehoused heap from to = if from == to then heap else (record heap {
+  objects = rekeyed heap.objects from to;
+  places = rekeyed heap.places from to;
+  order = map (λ q. if q == from then to else q) heap.order;
+})
+
+-- and the attributes, with so many slots from there on
+abbrev pub with_run : FinMap nat_cmp Attributes → ℕ → ℕ → ℕ → FinMap nat_cmp Attributes
+with_run attributes slot first count = elim (finmap.get attributes slot) [ Some a ↦ finmap.insert (finmap.remove attributes slot) first (record a { slots = count }) | None ↦ attributes ]
+
+-- the object's handle, over this heap, with a run that begins at a slot
+abbrev pub Anew : Handles → ℕ → Kind → ℕ → ℕ → Heap → ℕ → Handles → Type 0
+Anew old slot kind first count heap answer new =
+    (answer ≡ handle_of kind first)
+    × (new ≡ record old { heap = rehoused heap slot first; attributes = with_run old.attributes slot first count; moved = moved_bytes old.heap heap })
+
+-- an object to a size above 0: NULL where it gets no run or the heap refuses it
+abbrev pub ResizesObject : Handles → ℕ → ℕ → ℕ → ℕ → Handles → Object → Type 0
+ResizesObject old slot flags size answer new o =
+    let count = slots_for (rounded_size size) in
+    let options = realloc_options flags in
+    (LacksRun old slot o options count × IsNull old answer new)
+    ⊎ ((first : ℕ) × GetsRun old slot o options count first × (answered : Bool) × (heap : Heap) × Reallocates old.heap slot (rounded_size size) options answered heap
+    × MatchBool answered (Anew old slot o.kind first count heap answer new) (IsNull old answer new))
+
+-- the same of the object of a slot; NULL over the limit
+abbrev pub Resizes : Handles → ℕ → ℕ → ℕ → ℕ → Handles → Type 0
+Resizes old slot flags size answer new = MatchBool (nat_lt LARGEST_SIZE size)
     (IsNull old answer new)
-    ((answered : Bool) × (heap : Heap) × Reallocates old.heap slot (rounded_size size) (realloc_options flags) answered heap × MatchBool answered (AnswersHandle old handle heap answer new) (IsNull old answer new))
+    (IsSomeAnd (object_at old.heap slot) (ResizesObject old slot flags size answer new))
 
 -- GlobalReAlloc of an object that no module owns. A bad handle is NULL; with GMEM_MODIFY the size isn't looked at, and the handle is answered,
 -- that of a fixed object too.
@@ -59,7 +115,7 @@ ReAllocsOwn old handle size flags answer new = MatchOption (slot_of_handle old h
     (AnswersHandle old handle (modified old.heap slot (kind_modified flags)) answer new)
     (MatchBool (size == 0)
     (Empties old handle slot flags answer new)
-    (Resizes old handle slot flags size answer new)))
+    (Resizes old slot flags size answer new)))
 
 -- GlobalReAlloc; NULL for an object that a module owns (profile)
 abbrev pub GlobalReAllocs : Handles → ℕ → ℕ → ℕ → ℕ → Handles → Type 0
@@ -70,12 +126,13 @@ abbrev pub GlobalDiscards : Handles → ℕ → ℕ → Handles → Type 0
 GlobalDiscards old handle answer new = GlobalReAllocs old handle 0 GMEM_MOVEABLE answer new
 
 -- Fewest discards, where an object's handle and a size are given: an answered one has discarded as few as it can; a refused one has changed
--- nothing, and the object would get more bytes and lacks a place for them.
+-- nothing, and the object would get more bytes and lacks a place for them, or lacks slots.
 abbrev pub ReallocFewest : Handles → ℕ → ℕ → ℕ → ℕ → Handles → Type 0
 ReallocFewest old handle size flags answer new = (slot : ℕ) → slot_of_handle old handle ≡ Some slot → is_owned old slot ≡ false → has_flag flags GMEM_MODIFY ≡ false → 0 < size → size ≤ LARGEST_SIZE
     → IsSomeAnd (object_at old.heap slot) (λ o.
-    (answer ≢ 0 → ReallocatesFewest old.heap slot (rounded_size size) o (realloc_options flags) true new.heap)
-    × (answer ≡ 0 → (size_of o < rounded_size size) × LacksPlace old.heap slot (rounded_size size) o (realloc_options flags) × (new.heap ≡ old.heap)))
+    (answer ≢ 0 → (first : ℕ) × (heap : Heap) × (answer ≡ handle_of o.kind first) × (new.heap ≡ rehoused heap slot first) × ReallocatesFewest old.heap slot (rounded_size size) o (realloc_options flags) true heap)
+    × (answer ≡ 0 → (LacksRun old slot o (realloc_options flags) (slots_for (rounded_size size))
+    ⊎ ((size_of o < rounded_size size) × LacksPlace old.heap slot (rounded_size size) o (realloc_options flags))) × (new.heap ≡ old.heap)))
 
 -- The laws.
 
@@ -87,6 +144,15 @@ ResizeLaw = (old new : Handles) (handle size flags answer : ℕ) → AreHandles 
 abbrev pub NullLaw : Type 0
 NullLaw = (old new : Handles) (handle size flags : ℕ) → AreHandles old → GlobalReAllocs old handle size flags 0 new → new.heap ≡ old.heap
 
--- one that asks for a size discards as few as it can, and is NULL only where the object would get more bytes and lacks a place for them
+-- one that asks for a size discards as few as it can, and is NULL only where the object lacks slots, or would get more bytes and lacks a
+-- place for them
 abbrev pub ResizeFewestLaw : Type 0
 ResizeFewestLaw = (old new : Handles) (handle size flags answer : ℕ) → AreHandles old → GlobalReAllocs old handle size flags answer new → ReallocFewest old handle size flags answer new
+
+-- one whose bytes a single selector reaches then keeps its handle
+abbrev pub OneSlotLaw : Type 0
+OneSlotLaw = (old new : Handles) (handle size flags answer : ℕ) → AreHandles old → GlobalReAllocs old handle size flags answer new → rounded_size size ≤ REACH → answer ≢ 0 → answer ≡ handle
+
+-- the old handle is bad once there is another
+abbrev pub OldHandleLaw : Type 0
+OldHandleLaw = (old new : Handles) (handle size flags answer : ℕ) → AreHandles old → GlobalReAllocs old handle size flags answer new → answer ≢ 0 → answer ≢ handle → slot_of_handle new handle ≡ None

@@ -1,11 +1,11 @@
 //! The laws of the definitions. Each function does nothing: its contract is the law.
-ghost use Rattle.w16_model.specs.Law.{AreFigures, AreFlags, AddressLaw, OutcomeLaw, GapListLaw, RisingLaw, LongestHoleLaw, HoleAfterLaw, PinnedLaw, LargestLaw, RoomLaw, LongerLaw, LeastLaw, MoreDiscardsLaw, DiscardedLaw, OthersLaw, WalkLaw, SoundLaw, RangeLaw, NamesLaw, EmptyLaw, HandleLaw, FarLaw};
+ghost use Rattle.w16_model.specs.Law.{AreFigures, AreFlags, AddressLaw, OutcomeLaw, GapListLaw, RisingLaw, LongestHoleLaw, HoleAfterLaw, PinnedLaw, LargestLaw, RoomLaw, LongerLaw, LeastLaw, MoreDiscardsLaw, DiscardedLaw, OthersLaw, WalkLaw, SoundLaw, RangeLaw, NamesLaw, OwnerLaw, ReachLaw, EmptyLaw, HandleLaw, FarLaw};
 ghost use Rattle.w16_model.specs.Fewest.{AllocationLaw, CompactionLaw, GlobalAllocLaw, GlobalCompactLaw};
 ghost use Rattle.w16_model.specs.Reallocation.{HeapLaw, KindHeapLaw, DiscardHeapLaw, RestLaw, FewestLaw, MovesLaw, OneOutcomeLaw, KindLaw, LeftOutLaw};
 ghost use Rattle.w16_model.specs.CallLaws.{ContentsLaw, SlotsLaw, MovedLaw, BystandersLaw, PinnedStayLaw, StillLaw, UseLaw, NewObjectLaw, UnorderedLaw, OthersOrderLaw, FarEffectLaw, ReadBackLaw};
 ghost use Rattle.w16_model.specs.Effects.{LockLaw, UnlockLaw, FreeLaw, ModifyLaw, DiscardLaw, AnsweredLaw};
 ghost use Rattle.w16_model.specs.Outcomes.{CallOutcomesLaw};
-ghost use Rattle.w16_model.specs.Resizes.{ResizeLaw, NullLaw, ResizeFewestLaw};
+ghost use Rattle.w16_model.specs.Resizes.{ResizeLaw, NullLaw, ResizeFewestLaw, OneSlotLaw, OldHandleLaw};
 
 /// The figures of the profile and the flags of the manual are these numbers. Definitions and code share the constants, so only this law
 /// would see a wrong one.
@@ -142,6 +142,8 @@ pub fn reallocations_keep_handles()
     ensures handles { ResizeLaw }
     ensures null { NullLaw }
     ensures fewest { ResizeFewestLaw }
+    ensures one { OneSlotLaw }
+    ensures old { OldHandleLaw }
 {}
 
 /// Each heap has a walk, and no other.
@@ -159,9 +161,15 @@ pub fn ranges_are_apart()
     ensures { RangeLaw }
 {}
 
-/// A handle or a selector names the object that has it, and no other.
+/// A handle or a first selector names the object that has it, and no other.
 pub fn names_are_exact()
     ensures { NamesLaw }
+{}
+
+/// Each slot is in one object's run at most, and each selector reaches bytes of its object, and none past the end.
+pub fn runs_are_apart()
+    ensures owner { OwnerLaw }
+    ensures reach { ReachLaw }
 {}
 
 /// The handles of a heap in which nothing is allocated are such, and each call and each far access keeps what holds of handles: no two

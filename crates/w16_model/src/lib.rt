@@ -56,6 +56,8 @@ pub struct Attributes {
     pub shared: bool,
     /// A module owns the object; else it is the script's.
     pub owned: Option<Owned>,
+    /// How many slots in a row the object has: enough of them to reach all of its bytes.
+    pub slots: u16,
 }
 
 /// How a request may make room (the flags of GlobalAlloc and GlobalReAlloc).
@@ -128,6 +130,9 @@ pub const GRAIN: u32 = 32;
 /// The most bytes that `GlobalAlloc` gives.
 pub const LARGEST_SIZE: u32 = 65_536;
 
+/// A selector reaches so many bytes of its object; those behind them are reached by the next one.
+pub const REACH: u32 = 65_536;
+
 /// `GlobalAlloc`: the object may be moved while it isn't locked.
 pub const GMEM_MOVEABLE: u16 = 0x0002;
 
@@ -152,6 +157,7 @@ pub const GMEM_DDESHARE: u16 = 0x2000;
 /// `GlobalFlags`: the object has no bytes.
 pub const GMEM_DISCARDED: u16 = 0x4000;
 
+pub mod ends;
 mod flags;
 mod kinds;
 pub mod laws;

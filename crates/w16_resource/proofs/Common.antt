@@ -38,6 +38,7 @@ pub use Rattle.w16_loading.specs.Replies.Reply.{Dword, Failed, Word}
 pub use Rattle.w16_loading.specs.Resource.{AnswersNone, LoadsNewResource, LoadsResource, LocksResource, attributes_for, free_resource, is_too_long, load_of, loaded_again, lock_outcome, locked, reply_of_call, resource_at, resource_outcome, slot_of_resource, with_resource}
 pub use Rattle.w16_loading.specs.declared.FetchFault.TheVariants.{NoRoom, Store}
 pub use Rattle.w16_model.proofs.Naming.{names_law}
+pub use Rattle.w16_model.proofs.Runs.{unused_slot}
 pub use Rattle.w16_model.specs.Calls.{flags_of, global_flags, global_lock, is_shared, locks_at}
 pub use Rattle.w16_model.specs.Changes.{without}
 pub use Rattle.w16_model.specs.Handles.{Gives, handle_of, selector_of, slot_of_handle, slot_of_selector}

@@ -1,5 +1,5 @@
 -- A new object for a resource, which a fetch gives its bytes, or which goes again.
-use Rattle.w16_resource.proofs.Common.{AnyFetches, AreHandles, Entry, FetchFault, FetchesFrom, FinMap, Handles, IsMadeOr, IsSourceOf, Kind, LacksBytes, List, LoadingWorld, MakesOne, Option, Owned, Reply, Resource, Some, TakesOwned, Word, after, false, file_of, handle_of, left, nat_cmp, outcome, rounded_size, subst, sym, with_handles, with_new, without_slot, ℕ, ◌/◌, ◌∙◌, ◌≡◌}
+use Rattle.w16_resource.proofs.Common.{AnyFetches, AreHandles, Entry, FetchFault, FetchesFrom, FinMap, Handles, IsMadeOr, IsSourceOf, Kind, LacksBytes, List, LoadingWorld, MakesOne, Option, Owned, Reply, Resource, Some, TakesOwned, Word, after, false, file_of, handle_of, left, nat_cmp, outcome, rounded_size, subst, sym, with_handles, with_new, without_slot, unused_slot, ℕ, ◌/◌, ◌∙◌, ◌≡◌}
 use Rattle.std.specs.FinMap as finmap
 use Rattle.w16_loading.specs.Modules as loading
 use Rattle.w16_resource.proofs.Taken.{here, named, taken, lacks_new, taken_back}
@@ -36,4 +36,4 @@ module _ (old mid : Handles) (kind : Kind) (owned : Owned) (object : ℕ) (t : T
 
   -- it goes again, and all is as it was
   pub unmade : (still new : Handles) (slot : ℕ) → AreHandles old → still ≡ mid → slot ≡ object / 8 → new ≡ without_slot still slot → new ≡ old
-  unmade still new slot is kept s gone = gone ∙ (λ i. without_slot ((kept ∙ mid_is) i) ((s ∙ at) i)) ∙ taken_back old t.slot r is t.free.1
+  unmade still new slot is kept s gone = gone ∙ (λ i. without_slot ((kept ∙ mid_is) i) ((s ∙ at) i)) ∙ taken_back old t.slot r is (unused_slot old is t.slot t.free)

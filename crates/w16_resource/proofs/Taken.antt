@@ -15,7 +15,7 @@ module _ (old new : Handles) (kind : Kind) (owned : Owned) (handle : ℕ) (t : T
   named = t.named ∙ ap (λ k. handle_of k t.slot) same
 
   pub taken : new ≡ with_new old t.slot r
-  taken = t.rest ∙ (λ i. record old { heap = (t.entered.entered ∙ (λ j. with_object old.heap t.slot (record { kind = same j; locks = 0; bytes = None }))) i; attributes = finmap.insert old.attributes t.slot (record { shared = false; owned = Some (owns i) }) })
+  taken = t.rest ∙ (λ i. record old { heap = (t.entered.entered ∙ (λ j. with_object old.heap t.slot (record { kind = same j; locks = 0; bytes = None }))) i; attributes = finmap.insert old.attributes t.slot (record { shared = false; owned = Some (owns i); slots = 1 }) })
 
 -- it lacks its bytes
 module _ (old : Handles) (slot : ℕ) (r : Resource) where

@@ -3,7 +3,8 @@ use Rattle.std.specs.Prelude.{◌≡◌, ℕ, ◌<◌, ◌⊎◌, ◌==◌, ◌|
 use Rattle.std.specs.Ordering.{nat_cmp}
 use Rattle.std.specs.FinMap as finmap
 use Rattle.std.specs.FinMap.{FinMap}
-use Rattle.w16_model.specs.Calls.{HasNoSlot, rounded_size}
+use Rattle.w16_global.specs.Owned.{HasNoSlot}
+use Rattle.w16_model.specs.Calls.{rounded_size}
 use Rattle.w16_model.specs.Changes.{with_object}
 use Rattle.w16_model.specs.Handles.{Handles, IsFreeSlot, handle_of}
 use Rattle.w16_model.specs.Owned.{owned_at}

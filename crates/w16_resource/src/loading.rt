@@ -28,7 +28,7 @@ use w16_global::Global16;
 use w16_loader::{Registry, release_slot};
 use w16_loading::{FetchFault, MOST_USES};
 use w16_model::names::{handle_of, slot_of};
-use w16_model::{GRAIN, Kind, Owned};
+use w16_model::{GRAIN, Kind, Owned, REACH};
 use w16_ne::ResourceFlags;
 use w16_reloc::Scratch;
 use w16_store::Store;
@@ -58,6 +58,7 @@ fn owned_for(len: u32) -> Owned
     requires { is_long len ≡ false }
     ensures owned { result ≡ record { size = rounded_size len; code = false } }
     ensures some { 0 < result.size }
+    ensures small { result.size ≤ REACH }
 {
     Owned {
         size: len.div_ceil(GRAIN) * GRAIN,

@@ -6,8 +6,7 @@ use Rattle.std.proofs.Math.Seq.{map-set_same}
 use Rattle.w16_model.specs.declared.TheConstants.{FIRST_SLOT, MOST_SLOTS}
 use Rattle.w16_selectors.specs.declared.Descriptor.{Descriptor}
 use Rattle.w16_selectors.specs.declared.SelKind.{SelKind}
-use Rattle.memchr.specs.Find.{IsFirst}
-use Rattle.w16_selectors.specs.Descriptors.{DescriptorTable, descriptor_at, unset, IsUntaken}
+use Rattle.w16_selectors.specs.Descriptors.{DescriptorTable, descriptor_at, unset}
 use Rattle.w16_selectors.specs.Representation.{SelectorsInvariant, AreTaken, mark_of}
 
 -- a segment ends where an address of 32 bits can reach

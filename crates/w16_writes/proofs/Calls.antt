@@ -6,7 +6,9 @@ use Rattle.w16_model.proofs.Bystanders.{kept_or_discarded}
 use Rattle.w16_model.proofs.CallLaws.{contents, rest_of}
 use Rattle.w16_model.proofs.Heaps.{get-update_same, get-update_other}
 use Rattle.w16_model.proofs.KeptHeaps.{inserted_other, taken_here, taken_other, bytes_in}
+use Rattle.w16_model.specs.Handles.{slots_for}
 use Rattle.w16_model.proofs.Others.{others_law}
+use Rattle.w16_model.proofs.Runs.{some_slots, unused}
 use Rattle.w16_writes.proofs.Bytes.{Agree, agree_same, agree_gone, agree_new, agree_resized}
 
 module _ (old new : Heap) (q : ℕ) where
@@ -77,11 +79,11 @@ call_agrees old new is call answer q made = by made
       | inr d ↦ same_object old.heap new.heap q (ap (λ (h : Handles). object_at h.heap q) f.rest ∙ taken_other old.heap.objects f.slot q d)
     ]
     by (IsEntered e) = elim (cases_eq q e.slot) [
-      | inl same ↦ had_no_object old.heap new.heap q (ap (object_at old.heap) same ∙ e.free.1)
+      | inl same ↦ had_no_object old.heap new.heap q (ap (object_at old.heap) same ∙ unused old is e.slot (slots_for (rounded_size e.size)) (some_slots (rounded_size e.size)) e.free)
       | inr d ↦ same_object old.heap new.heap q (ap (λ (h : Heap). object_at h q) e.entered.entered ∙ inserted_other old.heap.objects e.slot (record { kind = kind_asked e.flags; locks = 0; bytes = None }) q d)
     ]
     by (IsAllocated a) = elim (cases_eq q a.slot) [
-      | inl same ↦ had_no_object old.heap new.heap q (ap (object_at old.heap) same ∙ a.free.1)
+      | inl same ↦ had_no_object old.heap new.heap q (ap (object_at old.heap) same ∙ unused old is a.slot (slots_for (rounded_size a.size)) (some_slots (rounded_size a.size)) a.free)
       | inr d ↦ kept_agrees old.heap new.heap q (kept_or_discarded old.heap new.heap (Some a.slot) a.count q ((others_law old.heap new.heap is.heap a.count).0 a.slot (alloc_options a.flags) a.object (with_newest a.slot a.object) a.settled) (apart a.slot q d))
     ]
     by (IsCompacted c) = kept_agrees old.heap new.heap q (kept_or_discarded old.heap new.heap None c.count q ((others_law old.heap new.heap is.heap c.count).1 c.settled) (none_apart q))

@@ -1,5 +1,5 @@
 -- Steps of loading: what they leave of the bytes of global objects, and what far accesses put there and read.
-use Rattle.w16_loading.proofs.Common.{◌≡◌, ◌≢◌, ℕ, ◌+◌, ◌⊎◌, inl, inr, Bool, true, false, MatchBool, MatchOption, IsSomeAnd, List, length, Option, Some, None, is_some, refl, sym, ap, ◌∙◌, subst, arith, drop, ◌<◌, cases_eq, part, repeated, Heap, Object, object_at, bytes_at, bytes_in, Handles, AreHandles, selector_in, offset_in, selector_of, FarAnswer, FarCommand, Write, Fill, far_slot, AnyFetches, FarStep, Accesses, far_read, far_write, gives, needs_fetch, reply_of_far, is_of_read, IsLoadingWorld, LoadingWorld, LoadingCommand, OfHandles, OfResizes, OfFar, OfModules, OfResources, FindResource, LoadResource, LockResource, FreeResource, SizeofResource, Reply, Failed, Dword, Load, LocksResource, lock_outcome, locked, slot_of_resource, global_lock, GlobalLock, Calls, ReAllocs, CallStep, Call, ResizeCommand, ResizeReplies, ResizeStep, GlobalReAlloc, GlobalDiscard, GMEM_MOVEABLE, answer_in, call_outcome, outcome, contents, IsStepAbout}
+use Rattle.w16_loading.proofs.Common.{◌≡◌, ◌≢◌, ℕ, ◌+◌, ◌*◌, ◌⊎◌, inl, inr, Bool, true, false, MatchBool, MatchOption, IsSomeAnd, List, length, Option, Some, None, is_some, refl, sym, ap, ◌∙◌, subst, arith, drop, ◌<◌, cases_eq, part, repeated, Heap, Object, object_at, bytes_at, bytes_in, Handles, AreHandles, selector_in, offset_in, FarAnswer, FarCommand, Write, Fill, far_slot, AnyFetches, FarStep, Accesses, far_read, far_write, gives, needs_fetch, reply_of_far, is_of_read, IsLoadingWorld, LoadingWorld, LoadingCommand, OfHandles, OfResizes, OfFar, OfModules, OfResources, FindResource, LoadResource, LockResource, FreeResource, SizeofResource, Reply, Failed, Dword, Load, LocksResource, lock_outcome, locked, slot_of_resource, global_lock, GlobalLock, Calls, ReAllocs, CallStep, Call, ResizeCommand, ResizeReplies, ResizeStep, GlobalReAlloc, GlobalDiscard, GMEM_MOVEABLE, answer_in, call_outcome, outcome, contents, IsStepAbout}
 use Rattle.std.specs.Prelude.{min}
 use Rattle.std.specs.List.{slice_get}
 use Rattle.std.proofs.lemmas.Option.{slice_get_within}
@@ -9,7 +9,8 @@ use Rattle.w16_model.specs.Far.FarAnswer.{Bytes, Done, Fault}
 use Rattle.w16_model.specs.Far.FarCommand.{Read}
 use Rattle.w16_model.specs.CallLaws.{FarEffect, IsWritten, Reaches}
 use Rattle.w16_model.proofs.FarLaws.{far_effect_law}
-use Rattle.w16_model.proofs.Naming.{names_law}
+use Rattle.w16_model.specs.declared.TheConstants.{REACH}
+use Rattle.w16_model.specs.Handles.{Part, part_of_selector}
 use Rattle.w16_loading.specs.declared.FetchFault.{FetchFault}
 use Rattle.w16_model.specs.Calls.{Answer}
 use Rattle.w16_model.specs.Calls.Answer.{Word}
@@ -27,24 +28,25 @@ use Rattle.w16_writes.proofs.Bytes.{Agree, agree_new, agree_same, get-part, get-
 use Rattle.w16_writes.proofs.Calls.{HeapsAgree, call_agrees, had_no_object, kept_agrees, no_object}
 
 -- an access has this byte at a place of a slot's object
-pub record HasIn (slot i byte : ℕ) (access : Access) : Type 0 where
-  pub named : selector_in access.pointer ≡ selector_of slot
+pub record HasIn (h : Handles) (slot i byte : ℕ) (access : Access) : Type 0 where
+  pub number : ℕ
+  pub selected : part_of_selector h (selector_in access.pointer) ≡ Some (record { slot = slot; number = number })
   pub index : ℕ
-  pub place : i ≡ offset_in access.pointer + index
+  pub place : i ≡ REACH * number + offset_in access.pointer + index
   pub has : slice_get access.bytes index ≡ Some byte
 
 -- What a step puts is there, what it reads was there, and elsewhere bytes agree.
-pub record KeepsSegments (old new : Heap) (command : LoadingCommand) (reply : Reply) : Type 0 where
-  pub put : (slot i byte : ℕ) → is_some (byte_in (bytes_at new slot) i) ≡ true → IsSomeAnd (written (OfLoading command) reply) (HasIn slot i byte) → byte_in (bytes_at new slot) i ≡ Some byte
-  pub got : (slot i byte : ℕ) → is_some (byte_in (bytes_at old slot) i) ≡ true → IsSomeAnd (read (OfLoading command) reply) (HasIn slot i byte) → byte_in (bytes_at old slot) i ≡ Some byte
-  pub kept : (slot i : ℕ) → is_some (byte_in (bytes_at old slot) i) ≡ true → is_some (byte_in (bytes_at new slot) i) ≡ true → ((byte : ℕ) → IsSomeAnd (written (OfLoading command) reply) (HasIn slot i byte) → ⊥)
-      → byte_in (bytes_at new slot) i ≡ byte_in (bytes_at old slot) i
+pub record KeepsSegments (old new : Handles) (command : LoadingCommand) (reply : Reply) : Type 0 where
+  pub put : (slot i byte : ℕ) → is_some (byte_in (bytes_at new.heap slot) i) ≡ true → IsSomeAnd (written (OfLoading command) reply) (HasIn new slot i byte) → byte_in (bytes_at new.heap slot) i ≡ Some byte
+  pub got : (slot i byte : ℕ) → is_some (byte_in (bytes_at old.heap slot) i) ≡ true → IsSomeAnd (read (OfLoading command) reply) (HasIn old slot i byte) → byte_in (bytes_at old.heap slot) i ≡ Some byte
+  pub kept : (slot i : ℕ) → is_some (byte_in (bytes_at old.heap slot) i) ≡ true → is_some (byte_in (bytes_at new.heap slot) i) ≡ true → ((byte : ℕ) → IsSomeAnd (written (OfLoading command) reply) (HasIn new slot i byte) → ⊥)
+      → byte_in (bytes_at new.heap slot) i ≡ byte_in (bytes_at old.heap slot) i
 
 -- a step that is no answered access
-pub quiet : (old new : Heap) (command : LoadingCommand) (reply : Reply) → written (OfLoading command) reply ≡ None → read (OfLoading command) reply ≡ None → ((q : ℕ) → HeapsAgree old new q) → KeepsSegments old new command reply
+pub quiet : (old new : Handles) (command : LoadingCommand) (reply : Reply) → written (OfLoading command) reply ≡ None → read (OfLoading command) reply ≡ None → ((q : ℕ) → HeapsAgree old.heap new.heap q) → KeepsSegments old new command reply
 quiet old new command reply w r agree = record {
-  put = λ slot i byte t h. absurd (subst (λ a. IsSomeAnd a (HasIn slot i byte)) w h);
-  got = λ slot i byte t h. absurd (subst (λ a. IsSomeAnd a (HasIn slot i byte)) r h);
+  put = λ slot i byte t h. absurd (subst (λ a. IsSomeAnd a (HasIn new slot i byte)) w h);
+  got = λ slot i byte t h. absurd (subst (λ a. IsSomeAnd a (HasIn old slot i byte)) r h);
   kept = λ slot i p q out. agree slot i p q;
 }
 
@@ -71,6 +73,7 @@ fetch_agrees old is slot fault next fetched q = elim (cases_eq q slot) [
 record Made (old : LoadingWorld) (command : FarCommand) (reply : Reply) (new : LoadingWorld) : Type 0 where
   pub mid : Handles
   pub agree : (q : ℕ) → HeapsAgree old.handles.heap mid.heap q
+  pub runs : mid.attributes ≡ old.handles.attributes
   pub made : ((answer : FarAnswer) × (reply ≡ reply_of_far answer) × FarEffect mid command answer new.handles) ⊎ ((fault : FetchFault) × (reply ≡ Failed fault) × (new.handles ≡ mid))
 
 module _ (old : LoadingWorld) (is : IsLoadingWorld old) (command : FarCommand) (reply : Reply) (new : LoadingWorld) where
@@ -78,18 +81,18 @@ module _ (old : LoadingWorld) (is : IsLoadingWorld old) (command : FarCommand) (
       → Accesses AnyFetches access old selector reply new → Made old command reply new
   accessed access selector effect step = turn (needs_fetch (access old).0 old selector) step
     where
-      in_world : (w : LoadingWorld) → IsLoadingWorld w → ((q : ℕ) → HeapsAgree old.handles.heap w.handles.heap q) → gives (access w) reply new → Made old command reply new
-      in_world w are agree g = record { mid = w.handles; agree = agree; made = inl ((access w).0, g.0, effect w are.handles g.1) }
+      in_world : (w : LoadingWorld) → IsLoadingWorld w → ((q : ℕ) → HeapsAgree old.handles.heap w.handles.heap q) → w.handles.attributes ≡ old.handles.attributes → gives (access w) reply new → Made old command reply new
+      in_world w are agree runs g = record { mid = w.handles; agree = agree; runs = runs; made = inl ((access w).0, g.0, effect w are.handles g.1) }
 
       fetched : (fault : Option FetchFault) (next : LoadingWorld) → AnyFetches old (far_slot old.handles selector) fault next → MatchOption fault (gives (access next) reply new) (λ f. (reply ≡ Failed f) × (new ≡ next)) → Made old command reply new
-      fetched None next f g = in_world next (fetched_world old is (far_slot old.handles selector) None next f) (fetch_agrees old is (far_slot old.handles selector) None next f) g
-      fetched (Some fault) next f g = record { mid = next.handles; agree = fetch_agrees old is (far_slot old.handles selector) (Some fault) next f; made = inr (fault, g.0, ap (λ (w : LoadingWorld). w.handles) g.1) }
+      fetched None next f g = in_world next (fetched_world old is (far_slot old.handles selector) None next f) (fetch_agrees old is (far_slot old.handles selector) None next f) (ap (λ (w : LoadingWorld). w.handles.attributes) f.rest) g
+      fetched (Some fault) next f g = record { mid = next.handles; agree = fetch_agrees old is (far_slot old.handles selector) (Some fault) next f; runs = ap (λ (w : LoadingWorld). w.handles.attributes) f.rest; made = inr (fault, g.0, ap (λ (w : LoadingWorld). w.handles) g.1) }
 
       turn : (b : Bool) → MatchBool b
           ((fault : Option FetchFault) × (next : LoadingWorld) × AnyFetches old (far_slot old.handles selector) fault next × MatchOption fault (gives (access next) reply new) (λ f. (reply ≡ Failed f) × (new ≡ next)))
           (gives (access old) reply new) → Made old command reply new
       turn true h = fetched h.0 h.1 h.2 h.3
-      turn false g = in_world old is (λ q. agree_same (bytes_at old.handles.heap q) (bytes_at old.handles.heap q) refl) g
+      turn false g = in_world old is (λ q. agree_same (bytes_at old.handles.heap q) (bytes_at old.handles.heap q) refl) refl g
 
 far_made : (old : LoadingWorld) → IsLoadingWorld old → (command : FarCommand) (reply : Reply) (new : LoadingWorld) → FarStep AnyFetches old command reply new → Made old command reply new
 far_made old is (Read pointer count) reply new step = accessed old is (Read pointer count) reply new (far_read (selector_in pointer) (offset_in pointer) count) (selector_in pointer)
@@ -100,19 +103,12 @@ far_made old is (Fill pointer count byte) reply new step = accessed old is (Fill
     (λ w are e. far_effect_law w.handles new.handles (Fill pointer count byte) (far_write (selector_in pointer) (offset_in pointer) (repeated count byte) w).0 are (refl, ap (λ (w : LoadingWorld). w.handles) e)) step
 
 -- What an access reached.
-module _ (mid new : Handles) (selector : ℕ) (becomes : List ℕ → List ℕ → Type 0) (r : Reaches mid selector becomes new) where
-  named : selector ≡ selector_of r.slot
-  named = turn (object_at mid.heap r.slot) ((names_law mid selector r.slot).1.0 r.found)
-    where
-      turn : (p : Option Object) → IsSomeAnd p (λ _. selector ≡ selector_of r.slot) → selector ≡ selector_of r.slot
-      turn None h = absurd h
-      turn (Some o) h = h
-
+module _ (mid new : Handles) (selector end : ℕ) (becomes : ℕ → List ℕ → List ℕ → Type 0) (r : Reaches mid selector end becomes new) where
   abbrev HasAfter : Object → List ℕ → Type 0
-  HasAfter o bytes = (after : List ℕ) × becomes bytes after × (object_at new.heap r.slot ≡ Some (record o { bytes = Some after }))
+  HasAfter o bytes = (after : List ℕ) × becomes (REACH * r.number) bytes after × (object_at new.heap r.slot ≡ Some (record o { bytes = Some after }))
 
   abbrev Became : Type 0
-  Became = (before after : List ℕ) × (bytes_at mid.heap r.slot ≡ Some before) × (bytes_at new.heap r.slot ≡ Some after) × becomes before after
+  Became = (before after : List ℕ) × (bytes_at mid.heap r.slot ≡ Some before) × (bytes_at new.heap r.slot ≡ Some after) × becomes (REACH * r.number) before after
 
   reached : Became
   reached = turn (object_at mid.heap r.slot) refl r.object
@@ -125,99 +121,117 @@ module _ (mid new : Handles) (selector : ℕ) (becomes : List ℕ → List ℕ �
       turn None there h = absurd h
       turn (Some o) there h = by_bytes o there o.bytes refl h
 
-  -- any slot with that selector
-  here : (slot : ℕ) → selector ≡ selector_of slot → slot ≡ r.slot
-  here slot e = omega (arith, e, named)
+  -- The selector reaches as much over the same runs, and nothing else.
+  selected : (h : Handles) → h.attributes ≡ mid.attributes → part_of_selector h selector ≡ Some (record { slot = r.slot; number = r.number })
+  selected h same = ap (λ a. part_of_selector (record mid { attributes = a }) selector) same ∙ r.found
+
+  here : (h : Handles) → h.attributes ≡ mid.attributes → (p : Part) → part_of_selector h selector ≡ Some p → ◌≡◌ {A = Part} p (record { slot = r.slot; number = r.number })
+  here h same p e = let both : ◌≡◌ {A = Option Part} (Some p) (Some (record { slot = r.slot; number = r.number })) = sym e ∙ selected h same in cc
+
+  runs : new.attributes ≡ mid.attributes
+  runs = ap (λ (h : Handles). h.attributes) r.rest
 
   others : (q : ℕ) → q ≢ r.slot → bytes_at new.heap q ≡ bytes_at mid.heap q
   others q d = ap bytes_in (r.others q d)
 
 -- What an answered write leaves of what agreed before it, and what it puts.
-module _ (old mid new : Handles) (pointer : ℕ) (slice : List ℕ) (agree : (q : ℕ) → HeapsAgree old.heap mid.heap q) (r : Reaches mid (selector_in pointer) (λ before after. IsWritten before (offset_in pointer) slice after) new) where
+module _ (old mid new : Handles) (pointer : ℕ) (slice : List ℕ) (agree : (q : ℕ) → HeapsAgree old.heap mid.heap q)
+    (r : Reaches mid (selector_in pointer) (offset_in pointer + length slice) (λ begin before after. IsWritten before (begin + offset_in pointer) slice after) new) where
   abbrev access : Access
   access = record { pointer = pointer; bytes = slice }
 
-  abbrev After : List ℕ → List ℕ → Type 0
-  After before after = IsWritten before (offset_in pointer) slice after
+  abbrev After : ℕ → List ℕ → List ℕ → Type 0
+  After begin before after = IsWritten before (begin + offset_in pointer) slice after
 
-  write_puts : (slot i byte : ℕ) → HasIn slot i byte access → byte_in (bytes_at new.heap slot) i ≡ Some byte
+  abbrev write_end : ℕ
+  write_end = offset_in pointer + length slice
+
+  write_puts : (slot i byte : ℕ) → HasIn new slot i byte access → byte_in (bytes_at new.heap slot) i ≡ Some byte
   write_puts slot i byte h =
-      let (before, after, had, has, w) = reached mid new (selector_in pointer) After r in
-      ap (λ q. byte_in (bytes_at new.heap q) i) (here mid new (selector_in pointer) After r slot h.named) ∙ ap (λ b. byte_in b i) has ∙ ap (slice_get after) h.place ∙ get-written before (offset_in pointer) slice after w h.index byte h.has
+      let (before, after, had, has, w) = reached mid new (selector_in pointer) write_end After r in
+      let at = here mid new (selector_in pointer) write_end After r new (runs mid new (selector_in pointer) write_end After r) (record { slot = slot; number = h.number }) h.selected in
+      ap (λ (p : Part). byte_in (bytes_at new.heap p.slot) i) at ∙ ap (λ b. byte_in b i) has ∙ ap (slice_get after) (h.place ∙ ap (λ (p : Part). REACH * p.number + offset_in pointer + h.index) at)
+      ∙ get-written before (REACH * r.number + offset_in pointer) slice after w h.index byte h.has
 
-  write_keeps : (slot i : ℕ) → is_some (byte_in (bytes_at old.heap slot) i) ≡ true → is_some (byte_in (bytes_at new.heap slot) i) ≡ true → ((byte : ℕ) → HasIn slot i byte access → ⊥) → byte_in (bytes_at new.heap slot) i ≡ byte_in (bytes_at old.heap slot) i
+  write_keeps : (slot i : ℕ) → is_some (byte_in (bytes_at old.heap slot) i) ≡ true → is_some (byte_in (bytes_at new.heap slot) i) ≡ true → ((byte : ℕ) → HasIn new slot i byte access → ⊥) → byte_in (bytes_at new.heap slot) i ≡ byte_in (bytes_at old.heap slot) i
   write_keeps slot i p q out = elim (cases_eq slot r.slot) [
     | inl e ↦
-        let (before, after, had, has, w) = reached mid new (selector_in pointer) After r in
+        let (before, after, had, has, w) = reached mid new (selector_in pointer) write_end After r in
         let now : bytes_at new.heap slot ≡ Some after = ap (bytes_at new.heap) e ∙ has in
         let was : bytes_at mid.heap slot ≡ Some before = ap (bytes_at mid.heap) e ∙ had in
+        let at : part_of_selector new (selector_in pointer) ≡ Some (record { slot = slot; number = r.number }) = selected mid new (selector_in pointer) write_end After r new (runs mid new (selector_in pointer) write_end After r) ∙ ap (λ s. Some (record { slot = s; number = r.number })) (sym e) in
         let same : byte_in (bytes_at new.heap slot) i ≡ byte_in (bytes_at mid.heap slot) i = ap (λ b. byte_in b i) now
-        ∙ get-unwritten before (offset_in pointer) slice after w i (λ k byte place h. out byte (record { named = named mid new (selector_in pointer) After r ∙ ap selector_of (sym e); index = k; place = place; has = h }))
+        ∙ get-unwritten before (REACH * r.number + offset_in pointer) slice after w i (λ k byte place h. out byte (record { number = r.number; selected = at; index = k; place = place; has = h }))
         ∙ ap (λ b. byte_in b i) (sym was) in
         same ∙ agree slot i p (ap is_some (sym same) ∙ q)
     | inr d ↦
-        let same : byte_in (bytes_at new.heap slot) i ≡ byte_in (bytes_at mid.heap slot) i = ap (λ b. byte_in b i) (others mid new (selector_in pointer) After r slot d) in
+        let same : byte_in (bytes_at new.heap slot) i ≡ byte_in (bytes_at mid.heap slot) i = ap (λ b. byte_in b i) (others mid new (selector_in pointer) write_end After r slot d) in
         same ∙ agree slot i p (ap is_some (sym same) ∙ q)
   ]
 
 -- And a read.
-module _ (old mid new : Handles) (pointer count : ℕ) (bytes : List ℕ) (agree : (q : ℕ) → HeapsAgree old.heap mid.heap q) (r : Reaches mid (selector_in pointer) (λ before after. (after ≡ before) × (bytes ≡ part before (offset_in pointer) count)) new) where
-  abbrev Same : List ℕ → List ℕ → Type 0
-  Same before after = (after ≡ before) × (bytes ≡ part before (offset_in pointer) count)
+module _ (old mid new : Handles) (pointer count : ℕ) (bytes : List ℕ) (agree : (q : ℕ) → HeapsAgree old.heap mid.heap q) (runs : mid.attributes ≡ old.attributes)
+    (r : Reaches mid (selector_in pointer) (offset_in pointer + count) (λ begin before after. (after ≡ before) × (bytes ≡ part before (begin + offset_in pointer) count)) new) where
+  abbrev Same : ℕ → List ℕ → List ℕ → Type 0
+  Same begin before after = (after ≡ before) × (bytes ≡ part before (begin + offset_in pointer) count)
+
+  abbrev read_end : ℕ
+  read_end = offset_in pointer + count
 
   read_keeps : (q : ℕ) → HeapsAgree old.heap new.heap q
   read_keeps q = subst (Agree (bytes_at old.heap q)) (sym same) (agree q)
     where
       same : bytes_at new.heap q ≡ bytes_at mid.heap q
       same = elim (cases_eq q r.slot) [
-        | inl e ↦ let (before, after, had, has, b) = reached mid new (selector_in pointer) Same r in ap (bytes_at new.heap) e ∙ has ∙ ap Some b.0 ∙ sym had ∙ ap (bytes_at mid.heap) (sym e)
-        | inr d ↦ others mid new (selector_in pointer) Same r q d
+        | inl e ↦ let (before, after, had, has, b) = reached mid new (selector_in pointer) read_end Same r in ap (bytes_at new.heap) e ∙ has ∙ ap Some b.0 ∙ sym had ∙ ap (bytes_at mid.heap) (sym e)
+        | inr d ↦ others mid new (selector_in pointer) read_end Same r q d
       ]
 
-  read_gives : (slot i byte : ℕ) → is_some (byte_in (bytes_at old.heap slot) i) ≡ true → HasIn slot i byte (record { pointer = pointer; bytes = bytes }) → byte_in (bytes_at old.heap slot) i ≡ Some byte
+  read_gives : (slot i byte : ℕ) → is_some (byte_in (bytes_at old.heap slot) i) ≡ true → HasIn old slot i byte (record { pointer = pointer; bytes = bytes }) → byte_in (bytes_at old.heap slot) i ≡ Some byte
   read_gives slot i byte p h =
-      let (before, after, had, has, b) = reached mid new (selector_in pointer) Same r in
+      let (before, after, had, has, b) = reached mid new (selector_in pointer) read_end Same r in
+      let at = here mid new (selector_in pointer) read_end Same r old (sym runs) (record { slot = slot; number = h.number }) h.selected in
       let short : h.index < count = shorter before b.1 in
-      let now : byte_in (bytes_at mid.heap slot) i ≡ Some byte = ap (λ q. byte_in (bytes_at mid.heap q) i) (here mid new (selector_in pointer) Same r slot h.named) ∙ ap (λ b. byte_in b i) had ∙ ap (slice_get before) h.place
-      ∙ sym (get-part before (offset_in pointer) count h.index short) ∙ ap (λ l. slice_get l h.index) (sym b.1) ∙ h.has in
+      let now : byte_in (bytes_at mid.heap slot) i ≡ Some byte = ap (λ (p : Part). byte_in (bytes_at mid.heap p.slot) i) at ∙ ap (λ b. byte_in b i) had ∙ ap (slice_get before) (h.place ∙ ap (λ (p : Part). REACH * p.number + offset_in pointer + h.index) at)
+      ∙ sym (get-part before (REACH * r.number + offset_in pointer) count h.index short) ∙ ap (λ l. slice_get l h.index) (sym b.1) ∙ h.has in
       sym (agree slot i p (ap is_some now)) ∙ now
     where
-      shorter : (before : List ℕ) → bytes ≡ part before (offset_in pointer) count → h.index < count
-      shorter before e = let n : h.index < length bytes = slice_get_within bytes h.index byte h.has in let m : length bytes ≡ min count (length (drop (offset_in pointer) before)) = ap length e ∙ length-take count (drop (offset_in pointer) before) in omega (arith, n, m)
+      shorter : (before : List ℕ) → bytes ≡ part before (REACH * r.number + offset_in pointer) count → h.index < count
+      shorter before e = let n : h.index < length bytes = slice_get_within bytes h.index byte h.has in let m : length bytes ≡ min count (length (drop (REACH * r.number + offset_in pointer) before)) = ap length e ∙ length-take count (drop (REACH * r.number + offset_in pointer) before) in omega (arith, n, m)
 
-far_keeps_by : (old : LoadingWorld) (command : FarCommand) (reply : Reply) (new : LoadingWorld) → Made old command reply new → KeepsSegments old.handles.heap new.handles.heap (OfFar command) reply
+far_keeps_by : (old : LoadingWorld) (command : FarCommand) (reply : Reply) (new : LoadingWorld) → Made old command reply new → KeepsSegments old.handles new.handles (OfFar command) reply
 far_keeps_by old command reply new m = turn m.made
   where
     Keeps : FarCommand → Reply → Type 0
-    Keeps command reply = KeepsSegments old.handles.heap new.handles.heap (OfFar command) reply
+    Keeps command reply = KeepsSegments old.handles new.handles (OfFar command) reply
 
     unchanged : new.handles ≡ m.mid → (q : ℕ) → HeapsAgree old.handles.heap new.handles.heap q
     unchanged e q = subst (λ (h : Handles). HeapsAgree old.handles.heap h.heap q) (sym e) (m.agree q)
 
     failed : (command : FarCommand) (fault : FetchFault) → new.handles ≡ m.mid → Keeps command (Failed fault)
-    failed (Read pointer count) fault e = quiet old.handles.heap new.handles.heap (OfFar (Read pointer count)) (Failed fault) refl refl (unchanged e)
-    failed (Write pointer bytes) fault e = quiet old.handles.heap new.handles.heap (OfFar (Write pointer bytes)) (Failed fault) refl refl (unchanged e)
-    failed (Fill pointer count byte) fault e = quiet old.handles.heap new.handles.heap (OfFar (Fill pointer count byte)) (Failed fault) refl refl (unchanged e)
+    failed (Read pointer count) fault e = quiet old.handles new.handles (OfFar (Read pointer count)) (Failed fault) refl refl (unchanged e)
+    failed (Write pointer bytes) fault e = quiet old.handles new.handles (OfFar (Write pointer bytes)) (Failed fault) refl refl (unchanged e)
+    failed (Fill pointer count byte) fault e = quiet old.handles new.handles (OfFar (Fill pointer count byte)) (Failed fault) refl refl (unchanged e)
 
     faulted : (command : FarCommand) (fault : FarFault) → new.handles ≡ m.mid → Keeps command (reply_of_far (Fault fault))
-    faulted (Read pointer count) fault e = quiet old.handles.heap new.handles.heap (OfFar (Read pointer count)) (reply_of_far (Fault fault)) refl refl (unchanged e)
-    faulted (Write pointer bytes) fault e = quiet old.handles.heap new.handles.heap (OfFar (Write pointer bytes)) (reply_of_far (Fault fault)) refl refl (unchanged e)
-    faulted (Fill pointer count byte) fault e = quiet old.handles.heap new.handles.heap (OfFar (Fill pointer count byte)) (reply_of_far (Fault fault)) refl refl (unchanged e)
+    faulted (Read pointer count) fault e = quiet old.handles new.handles (OfFar (Read pointer count)) (reply_of_far (Fault fault)) refl refl (unchanged e)
+    faulted (Write pointer bytes) fault e = quiet old.handles new.handles (OfFar (Write pointer bytes)) (reply_of_far (Fault fault)) refl refl (unchanged e)
+    faulted (Fill pointer count byte) fault e = quiet old.handles new.handles (OfFar (Fill pointer count byte)) (reply_of_far (Fault fault)) refl refl (unchanged e)
 
     puts : (command : FarCommand) (pointer : ℕ) (slice : List ℕ) → written (OfLoading (OfFar command)) (reply_of_far Done) ≡ Some (record { pointer = pointer; bytes = slice }) → read (OfLoading (OfFar command)) (reply_of_far Done) ≡ None
-        → Reaches m.mid (selector_in pointer) (λ before after. IsWritten before (offset_in pointer) slice after) new.handles → Keeps command (reply_of_far Done)
+        → Reaches m.mid (selector_in pointer) (offset_in pointer + length slice) (λ begin before after. IsWritten before (begin + offset_in pointer) slice after) new.handles → Keeps command (reply_of_far Done)
     puts command pointer slice w g r = record {
-      put = λ slot i byte p h. write_puts old.handles m.mid new.handles pointer slice m.agree r slot i byte (subst (λ a. IsSomeAnd a (HasIn slot i byte)) w h);
-      got = λ slot i byte p h. absurd (subst (λ a. IsSomeAnd a (HasIn slot i byte)) g h);
-      kept = λ slot i p q out. write_keeps old.handles m.mid new.handles pointer slice m.agree r slot i p q (λ byte h. out byte (subst (λ a. IsSomeAnd a (HasIn slot i byte)) (sym w) h));
+      put = λ slot i byte p h. write_puts old.handles m.mid new.handles pointer slice m.agree r slot i byte (subst (λ a. IsSomeAnd a (HasIn new.handles slot i byte)) w h);
+      got = λ slot i byte p h. absurd (subst (λ a. IsSomeAnd a (HasIn old.handles slot i byte)) g h);
+      kept = λ slot i p q out. write_keeps old.handles m.mid new.handles pointer slice m.agree r slot i p q (λ byte h. out byte (subst (λ a. IsSomeAnd a (HasIn new.handles slot i byte)) (sym w) h));
     }
 
     answered : (command : FarCommand) (answer : FarAnswer) → FarEffect m.mid command answer new.handles → Keeps command (reply_of_far answer)
     answered command (Fault fault) e = faulted command fault e
     answered (Read pointer count) (Bytes bytes) r = record {
       put = λ slot i byte p h. absurd h;
-      got = λ slot i byte p h. read_gives old.handles m.mid new.handles pointer count bytes m.agree r slot i byte p h;
-      kept = λ slot i p q out. read_keeps old.handles m.mid new.handles pointer count bytes m.agree r slot i p q;
+      got = λ slot i byte p h. read_gives old.handles m.mid new.handles pointer count bytes m.agree m.runs r slot i byte p h;
+      kept = λ slot i p q out. read_keeps old.handles m.mid new.handles pointer count bytes m.agree m.runs r slot i p q;
     }
     answered (Write pointer slice) Done r = puts (Write pointer slice) pointer slice refl refl r
     answered (Fill pointer count byte) Done r = puts (Fill pointer count byte) pointer (repeated count byte) refl refl r
@@ -229,7 +243,7 @@ far_keeps_by old command reply new m = turn m.made
     turn (inl (answer, e, effect)) = subst (Keeps command) (sym e) (answered command answer effect)
     turn (inr (fault, e, same)) = subst (Keeps command) (sym e) (failed command fault same)
 
-pub far_keeps : (old : LoadingWorld) → IsLoadingWorld old → (command : FarCommand) (reply : Reply) (new : LoadingWorld) → FarStep AnyFetches old command reply new → KeepsSegments old.handles.heap new.handles.heap (OfFar command) reply
+pub far_keeps : (old : LoadingWorld) → IsLoadingWorld old → (command : FarCommand) (reply : Reply) (new : LoadingWorld) → FarStep AnyFetches old command reply new → KeepsSegments old.handles new.handles (OfFar command) reply
 far_keeps old is command reply new step = far_keeps_by old command reply new (far_made old is command reply new step)
 
 -- Other steps.
@@ -291,13 +305,13 @@ module _ (old new : LoadingWorld) (is : IsLoadingWorld old) (reply : Reply) (q :
         | inr gone ↦ no_object old.handles.heap new.handles.heap q gone.2
       ]
 
-pub loading_keeps : (old new : LoadingWorld) → IsLoadingWorld old → (command : LoadingCommand) (reply : Reply) → AnyStep old command reply new → KeepsSegments old.handles.heap new.handles.heap command reply
-loading_keeps old new is (OfHandles command) reply step = quiet old.handles.heap new.handles.heap (OfHandles command) reply refl refl (λ q. let f = step.step in let c = answered old is command reply f.0 f.1 in called old new is reply q (Calls command) c.0 f.0 c.1 (ap (λ (w : LoadingWorld). w.handles) f.2))
-loading_keeps old new is (OfResizes command) reply step = quiet old.handles.heap new.handles.heap (OfResizes command) reply refl refl (λ q. let f = step.step in let c = resize_call old.handles command reply f.0 f.1 in called old new is reply q c.0 c.1 f.0 c.2 (ap (λ (w : LoadingWorld). w.handles) f.2))
+pub loading_keeps : (old new : LoadingWorld) → IsLoadingWorld old → (command : LoadingCommand) (reply : Reply) → AnyStep old command reply new → KeepsSegments old.handles new.handles command reply
+loading_keeps old new is (OfHandles command) reply step = quiet old.handles new.handles (OfHandles command) reply refl refl (λ q. let f = step.step in let c = answered old is command reply f.0 f.1 in called old new is reply q (Calls command) c.0 f.0 c.1 (ap (λ (w : LoadingWorld). w.handles) f.2))
+loading_keeps old new is (OfResizes command) reply step = quiet old.handles new.handles (OfResizes command) reply refl refl (λ q. let f = step.step in let c = resize_call old.handles command reply f.0 f.1 in called old new is reply q c.0 c.1 f.0 c.2 (ap (λ (w : LoadingWorld). w.handles) f.2))
 loading_keeps old new is (OfFar command) reply step = far_keeps old is command reply (record new { failures = old.failures }) step.step
-loading_keeps old new is (OfModules command) reply step = quiet old.handles.heap new.handles.heap (OfModules command) reply refl refl (λ q. stands_by old new is reply q (OfModules command) step (λ about. about))
-loading_keeps old new is (OfResources (LockResource handle)) reply step = quiet old.handles.heap new.handles.heap (OfResources (LockResource handle)) reply refl refl (λ q. lock_agrees old (record new { failures = old.failures }) is reply q handle step.step)
-loading_keeps old new is (OfResources (FindResource handle name kind)) reply step = quiet old.handles.heap new.handles.heap (OfResources (FindResource handle name kind)) reply refl refl (λ q. stands_by old new is reply q (OfResources (FindResource handle name kind)) step (λ about. about))
-loading_keeps old new is (OfResources (LoadResource handle place)) reply step = quiet old.handles.heap new.handles.heap (OfResources (LoadResource handle place)) reply refl refl (λ q. stands_by old new is reply q (OfResources (LoadResource handle place)) step (λ about. about))
-loading_keeps old new is (OfResources (FreeResource handle)) reply step = quiet old.handles.heap new.handles.heap (OfResources (FreeResource handle)) reply refl refl (λ q. stands_by old new is reply q (OfResources (FreeResource handle)) step (λ about. about))
-loading_keeps old new is (OfResources (SizeofResource handle place)) reply step = quiet old.handles.heap new.handles.heap (OfResources (SizeofResource handle place)) reply refl refl (λ q. stands_by old new is reply q (OfResources (SizeofResource handle place)) step (λ about. about))
+loading_keeps old new is (OfModules command) reply step = quiet old.handles new.handles (OfModules command) reply refl refl (λ q. stands_by old new is reply q (OfModules command) step (λ about. about))
+loading_keeps old new is (OfResources (LockResource handle)) reply step = quiet old.handles new.handles (OfResources (LockResource handle)) reply refl refl (λ q. lock_agrees old (record new { failures = old.failures }) is reply q handle step.step)
+loading_keeps old new is (OfResources (FindResource handle name kind)) reply step = quiet old.handles new.handles (OfResources (FindResource handle name kind)) reply refl refl (λ q. stands_by old new is reply q (OfResources (FindResource handle name kind)) step (λ about. about))
+loading_keeps old new is (OfResources (LoadResource handle place)) reply step = quiet old.handles new.handles (OfResources (LoadResource handle place)) reply refl refl (λ q. stands_by old new is reply q (OfResources (LoadResource handle place)) step (λ about. about))
+loading_keeps old new is (OfResources (FreeResource handle)) reply step = quiet old.handles new.handles (OfResources (FreeResource handle)) reply refl refl (λ q. stands_by old new is reply q (OfResources (FreeResource handle)) step (λ about. about))
+loading_keeps old new is (OfResources (SizeofResource handle place)) reply step = quiet old.handles new.handles (OfResources (SizeofResource handle place)) reply refl refl (λ q. stands_by old new is reply q (OfResources (SizeofResource handle place)) step (λ about. about))

@@ -1,10 +1,9 @@
 -- Each step keeps what is written, and so does each step of a run.
-use Rattle.w16_machine.proofs.Common.{◌≡◌, ◌≢◌, ℕ, ◌+◌, ◌<◌, ◌≤◌, ◌⊎◌, inl, inr, Bool, true, false, cond, ◌&&◌, nat_le, nat_lt, IsSomeAnd, List, [], ◌∷◌, length, Option, Some, None, is_some, option_map, refl, sym, ap, ◌∙◌, subst, cases_eq, false≢true, le-leb, lt-ltb, Each-from_All, bytes_in, Object, bytes_at, object_at, Table, heap_in, selector_in, offset_in, LoadingCommand, Format, Reply, World, IsWorld, LocalHeap, current_heap, heap_of, local_in, segment_bytes, LocalCommand, LocalStep, IsHeapKept, IsObjectKept, IsRewritten, KeepsRest, Command, Event, IsCommand, Run, Step, OfLoading, OfLocals}
+use Rattle.w16_machine.proofs.Common.{◌≡◌, ◌≢◌, ℕ, ◌+◌, ◌*◌, ◌<◌, ◌≤◌, ◌⊎◌, inl, inr, Bool, true, false, cond, ◌&&◌, nat_le, nat_lt, IsSomeAnd, List, [], ◌∷◌, length, Option, Some, None, is_some, option_map, refl, sym, ap, ◌∙◌, subst, cases_eq, false≢true, le-leb, lt-ltb, Each-from_All, bytes_in, Object, bytes_at, object_at, Table, heap_in, offset_in, LoadingCommand, Format, Reply, World, IsWorld, LocalHeap, current_heap, heap_of, local_in, segment_bytes, LocalCommand, LocalStep, IsHeapKept, IsObjectKept, IsRewritten, KeepsRest, Event, IsCommand, Run, Step, OfLoading, OfLocals}
 use Rattle.std.specs.FinMap as finmap
 use Rattle.std.specs.List.{AllByRecursion as Each}
-use Rattle.w16_model.specs.Handles.{selector_of}
+use Rattle.w16_model.specs.declared.TheConstants.{REACH}
 use Rattle.w16_model.specs.Table.{IsSameOutside}
-use Rattle.w16_model.proofs.Naming.{names_law}
 use Rattle.w16_loading.proofs.Owners.{some_of}
 use Rattle.w16_machine.proofs.LocalFacts.{current_there, found, local_here, local_there, there_local}
 use Rattle.w16_machine.proofs.LocalFrame.{frame_law}
@@ -61,28 +60,14 @@ some_as P Q None f h = h
 some_as P Q (Some x) f h = f x h
 
 module _ (w : World) (p : Position) (l : IsLocated w p) (byte : ℕ) where
-  to_place : (a : Access) → Has w p byte a → HasIn p.slot l.at byte a
-  to_place a h = record { named = turn (object_at w.loading.handles.heap p.slot) ((names_law w.loading.handles (selector_in a.pointer) p.slot).1.0 h.selected); index = h.index; place = same; has = h.has }
+  to_place : (a : Access) → Has w p byte a → HasIn w.loading.handles p.slot l.at byte a
+  to_place a h = record { number = h.number; selected = h.selected; index = h.index; place = same; has = h.has }
     where
-      turn : (o : Option Object) → IsSomeAnd o (λ _. selector_in a.pointer ≡ selector_of p.slot) → selector_in a.pointer ≡ selector_of p.slot
-      turn None n = absurd n
-      turn (Some o) n = n
+      same : l.at ≡ REACH * h.number + offset_in a.pointer + h.index
+      same = let both : ◌≡◌ {A = Option ℕ} (Some l.at) (Some (REACH * h.number + offset_in a.pointer + h.index)) = sym l.place ∙ h.place in cc
 
-      same : l.at ≡ offset_in a.pointer + h.index
-      same = let both : ◌≡◌ {A = Option ℕ} (Some l.at) (Some (offset_in a.pointer + h.index)) = sym l.place ∙ h.place in cc
-
-  from_place : IsThere w p → (a : Access) → HasIn p.slot l.at byte a → Has w p byte a
-  from_place there a h = record {
-    there = there;
-    selected = (names_law w.loading.handles (selector_in a.pointer) p.slot).1.1 (turn (object_at w.loading.handles.heap p.slot) (ap is_some (sym l.byte) ∙ there));
-    index = h.index;
-    place = l.place ∙ ap Some h.place;
-    has = h.has;
-  }
-    where
-      turn : (o : Option Object) → is_some (byte_in (bytes_in o) l.at) ≡ true → IsSomeAnd o (λ _. selector_in a.pointer ≡ selector_of p.slot)
-      turn None t = absurd (false≢true t)
-      turn (Some o) t = h.named
+  from_place : IsThere w p → (a : Access) → HasIn w.loading.handles p.slot l.at byte a → Has w p byte a
+  from_place there a h = record { there = there; number = h.number; selected = h.selected; index = h.index; place = l.place ∙ ap Some h.place; has = h.has }
 
 some_such : {A : Type 0} {P : A → Type 0} (p : Option A) → IsSomeAnd p P → (a : A) × (p ≡ Some a) × P a
 some_such None h = absurd h
@@ -115,7 +100,7 @@ module _ (format : Format) (old new : World) (command : LoadingCommand) (reply :
       by_entry (Some entry) t u = in_heaps entry (local_in old p.slot) (local_in new p.slot) refl refl t u
 
   -- so what it leaves of segments it leaves of positions
-  segments : KeepsSegments old.loading.handles.heap new.loading.handles.heap command reply
+  segments : KeepsSegments old.loading.handles new.loading.handles command reply
   segments = loading_keeps old.loading new.loading is.loading command reply step.0.any
 
   loading_kept : KeepsWritten old (record { command = OfLoading command; reply = reply; after = new })
@@ -123,11 +108,11 @@ module _ (format : Format) (old new : World) (command : LoadingCommand) (reply :
     written = λ p byte h.
         let there = (some_of (Has new p byte) (written (OfLoading command) reply) h).1.there in
         let l = lies new now p there in
-        l.byte ∙ segments.put p.slot l.at byte (ap is_some (sym l.byte) ∙ there) (some_as (Has new p byte) (HasIn p.slot l.at byte) (written (OfLoading command) reply) (to_place new p l byte) h);
+        l.byte ∙ segments.put p.slot l.at byte (ap is_some (sym l.byte) ∙ there) (some_as (Has new p byte) (HasIn new.loading.handles p.slot l.at byte) (written (OfLoading command) reply) (to_place new p l byte) h);
     read = λ p byte h.
         let there = (some_of (Has old p byte) (read (OfLoading command) reply) h).1.there in
         let l = lies old is p there in
-        l.byte ∙ segments.got p.slot l.at byte (ap is_some (sym l.byte) ∙ there) (some_as (Has old p byte) (HasIn p.slot l.at byte) (read (OfLoading command) reply) (to_place old p l byte) h);
+        l.byte ∙ segments.got p.slot l.at byte (ap is_some (sym l.byte) ∙ there) (some_as (Has old p byte) (HasIn old.loading.handles p.slot l.at byte) (read (OfLoading command) reply) (to_place old p l byte) h);
     kept = kept;
   }
     where
@@ -138,7 +123,7 @@ module _ (format : Format) (old new : World) (command : LoadingCommand) (reply :
           let both : ◌≡◌ {A = Option ℕ} (Some m.at) (Some l.at) = sym m.place ∙ one_place p was there ∙ l.place in
           let same : m.at ≡ l.at = cc in
           let before : is_some (byte_in (segment_bytes old p.slot) m.at) ≡ true = ap (λ i. is_some (byte_in (segment_bytes old p.slot) i)) same ∙ ap is_some (sym l.byte) ∙ was in
-          m.byte ∙ segments.kept p.slot m.at before (ap is_some (sym m.byte) ∙ there) (λ byte h. out byte (some_as (HasIn p.slot m.at byte) (Has new p byte) (written (OfLoading command) reply) (from_place new p m byte there) h))
+          m.byte ∙ segments.kept p.slot m.at before (ap is_some (sym m.byte) ∙ there) (λ byte h. out byte (some_as (HasIn new.loading.handles p.slot m.at byte) (Has new p byte) (written (OfLoading command) reply) (from_place new p m byte there) h))
           ∙ ap (byte_in (segment_bytes old p.slot)) same ∙ sym l.byte
 
 -- A local call.
@@ -225,11 +210,6 @@ step_law format old new (OfLocals command) reply is known step = record {
   read = λ p byte h. absurd h;
   kept = λ p was there out. local_kept old new command reply is (world_law format old new (OfLocals command) reply is known step) step p was there;
 }
-
--- over a store that may be honest too
-pub step_keeps : (honest : Type 0) (format : Format) (old new : World) (command : Command) (reply : Reply) → IsWorld old → IsCommand command → Step honest format old command reply new → KeepsWritten old (record { command = command; reply = reply; after = new })
-step_keeps honest format old new (OfLoading command) reply is known step = step_law format old new (OfLoading command) reply is known (record { any = step.0.any; exact = λ no. step.0.exact (λ t. absurd (no t)) }, step.1)
-step_keeps honest format old new (OfLocals command) reply is known step = step_law format old new (OfLocals command) reply is known step
 
 pub run_law : RunLaw
 run_law format old new events is known run = each old events (Each-from_All (λ (e : Event). IsCommand e.command) events known) is run

@@ -1,9 +1,10 @@
 -- What is written through far pointers reads back: where the byte of a position is, which accesses reach it, and what steps and runs leave of it.
-use Rattle.std.specs.Prelude.{◌≡◌, ℕ, ◌+◌, Bool, true, false, ◌&&◌, if◌then◌else◌, nat_le, nat_lt, List, [], ◌∷◌, ◌++◌, All, Option, Some, None, option_map, is_some, IsSomeAnd, slice_get}
+use Rattle.std.specs.Prelude.{◌≡◌, ℕ, ◌+◌, ◌*◌, Bool, true, false, ◌&&◌, if◌then◌else◌, nat_le, nat_lt, List, [], ◌∷◌, ◌++◌, All, Option, Some, None, option_map, is_some, IsSomeAnd, slice_get}
 use Rattle.std.specs.FinMap as finmap
 use Rattle.w16_model.specs.Bytes.{repeated}
 use Rattle.w16_model.specs.Far.FarCommand.{Read, Write, Fill}
-use Rattle.w16_model.specs.Handles.{slot_of_selector, selector_in, offset_in}
+use Rattle.w16_model.specs.declared.TheConstants.{REACH}
+use Rattle.w16_model.specs.Handles.{part_of_selector, selector_in, offset_in}
 use Rattle.w16_model.specs.Heap.{bytes_at}
 use Rattle.w16_model.specs.Table.{Table}
 use Rattle.w16_loading.specs.Families.LoadingCommand.{OfFar}
@@ -68,12 +69,13 @@ abbrev pub read : Command → Reply → Option Access
 read (OfLoading (OfFar (Read pointer count))) (Bytes bytes) = Some (record { pointer = pointer; bytes = bytes })
 read command reply = None
 
--- an access has this byte at a position, which is there in this world
+-- an access, by any of its object's selectors, has this byte at a position, which is there in this world
 pub record Has (w : World) (p : Position) (byte : ℕ) (access : Access) : Type 0 where
   pub there : IsThere w p
-  pub selected : slot_of_selector w.loading.handles (selector_in access.pointer) ≡ Some p.slot
+  pub number : ℕ
+  pub selected : part_of_selector w.loading.handles (selector_in access.pointer) ≡ Some (record { slot = p.slot; number = number })
   pub index : ℕ
-  pub place : place_at w p ≡ Some (offset_in access.pointer + index)
+  pub place : place_at w p ≡ Some (REACH * number + offset_in access.pointer + index)
   pub has : slice_get access.bytes index ≡ Some byte
 
 -- A step writes this byte to a position: located in the world after it, since a fetch may come before the write in the same step.

@@ -1,4 +1,4 @@
-use Rattle.w16_arena.proofs.Common.{common_steps, is_some, sym, ap, ◌∙◌, arith, block_with, entry_at, ArenaState, relisted}
+use Rattle.w16_arena.proofs.Common.{is_some, sym, ap, ◌∙◌, block_with, entry_at, ArenaState, relisted}
 use Rattle.w16_arena.proofs.Shown.{holes_shown}
 use Rattle.w16_arena.proofs.Refusals.{modify_none, modify_fixed}
 use Rattle.w16_arena.proofs.Modified.{kept_modified, steps_modified}
@@ -24,9 +24,3 @@ returns-clause-ok g c =
 
 pub returns-clause-holes : goal.returns-clause-holes
 returns-clause-holes g c = holes_shown c.self.invariant c.self.view_is
-
-pub index_mut-requires : goal.index_mut-requires
-index_mut-requires g c = grind (arith, common_steps)
-
-pub relist-requires : goal.relist-requires
-relist-requires g c = grind (arith, common_steps)

@@ -1,4 +1,4 @@
-use Rattle.w16_arena.proofs.Common.{common_steps, ◌≡◌, None, is_some, sym, ap, ◌∙◌, arith, entry_at}
+use Rattle.w16_arena.proofs.Common.{◌≡◌, None, is_some, sym, ap, ◌∙◌, entry_at}
 use Rattle.w16_arena.proofs.Shown.{entry_known, known, nothing, kept_without, steps_without, steps_same}
 use Rattle.w16_arena.proofs.Keeping.{keeps_same}
 use Rattle.w16_arena.proofs.Arena.release.Goals as goal
@@ -20,9 +20,3 @@ returns-else-is_some-clause-steps g c =
 
 pub returns-else-is_some-clause-bytes : goal.returns-else-is_some-clause-bytes
 returns-else-is_some-clause-bytes g c = keeps_same c.args.self.now.table.lo c.args.self.now.table.hi c.args.self.now.table.blocks c.args.space.now
-
-pub remove_block-requires-clause-id : goal.remove_block-requires-clause-id
-remove_block-requires-clause-id g c = grind (arith, common_steps)
-
-pub index_mut-requires : goal.index_mut-requires
-index_mut-requires g c = grind (arith, common_steps)

@@ -1,4 +1,4 @@
-use Rattle.w16_arena.proofs.Common.{common_steps, ◌∙◌, arith}
+use Rattle.w16_arena.proofs.Common.{◌∙◌}
 use Rattle.w16_arena.proofs.Shown.{holes_shown, kept_set, steps_set}
 use Rattle.w16_arena.proofs.Arena.set_locks.Goals as goal
 
@@ -12,9 +12,3 @@ returns-clause-steps g c = steps_set c.self.invariant c.self.view_is c.args.id (
 
 pub returns-clause-holes : goal.returns-clause-holes
 returns-clause-holes g c = c.set_hold.ensures.holes ∙ holes_shown c.self.invariant c.self.view_is
-
-pub set_hold-requires : goal.set_hold-requires
-set_hold-requires g c = grind (arith, common_steps)
-
-pub index_mut-requires : goal.index_mut-requires
-index_mut-requires g c = grind (arith, common_steps)

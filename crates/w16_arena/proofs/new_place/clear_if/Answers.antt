@@ -1,4 +1,4 @@
-use Rattle.w16_arena.proofs.Common.{arith, rules, repeated, length-repeated, rest_put}
+use Rattle.w16_arena.proofs.Common.{arith, repeated, length-repeated, rest_put}
 use Rattle.w16_arena.proofs.new_place.clear_if.Goals as goal
 
 pub returns-then-asked-clause-rest : goal.returns-then-asked-clause-rest
@@ -6,6 +6,3 @@ returns-then-asked-clause-rest g c =
     let size = length-repeated c.args.size 0 in
     let inside = c.requires in
     rest_put c.args.at (repeated c.args.size 0) c.fill.ensures.bytes c.fill.ensures.lenders (omega arith) (omega arith) (omega arith)
-
-pub returns-then-asked-clause-bytes : goal.returns-then-asked-clause-bytes
-returns-then-asked-clause-bytes g c = search rules

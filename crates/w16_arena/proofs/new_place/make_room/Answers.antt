@@ -19,9 +19,6 @@ returns-in-Some-clause-enough g c = hole_enough c.hole_for.ensures.ordered c.arg
 pub returns-then-compact-clause-enough : goal.returns-then-compact-clause-enough
 returns-then-compact-clause-enough g c = made_enough c.hole_for.ensures.ordered c.args.size _ _ _ c.gather_for.result c.gather_for.ensures.slid c.gather_for.ensures.free c.args.compact c.if-compact.true
 
-pub returns-else-compact-clause-still : goal.returns-else-compact-clause-still
-returns-else-compact-clause-still g c = search rules
-
 pub returns-else-compact-clause-refused : goal.returns-else-compact-clause-refused
 returns-else-compact-clause-refused g c = (hole_missing c.hole_for.ensures.ordered c.args.size c.requires.some (sym c.in_default.is ∙ c.hole_for.ensures.value) c.args.compact c.if-compact.false, search rules, search rules)
 

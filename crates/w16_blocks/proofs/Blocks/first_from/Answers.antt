@@ -1,5 +1,5 @@
 use Rattle.w16_blocks.proofs.Common.{ℕ, suc, ◌≡◌, ◌+◌, ◌-◌, ◌*◌, List, Some, drop, slice_get, arith, sym, ap, ◌∙◌, subst, slice_index, div_ceil, get_or_read, Block, holes, Range, IsPlace, length_at, Layout, rank, no_block, blocks_in}
-use Rattle.w16_blocks.proofs.Next.{first_by_unit, pass, first_here, none_past, clear_in, units_below, units_above, unit_place}
+use Rattle.w16_blocks.proofs.Next.{first_by_unit, pass, first_here, none_behind, clear_in, units_below, units_above, unit_place, unit_inside}
 use Rattle.w16_blocks.proofs.Blocks.first_from.Goals as goal
 
 pub loop-unit-init : goal.loop-unit-init
@@ -12,13 +12,13 @@ loop-unit-init g c =
 
 pub index-requires-then-begin-gt0 : goal.index-requires-then-begin-gt0
 index-requires-then-begin-gt0 g c =
-    let s = c.self.inside in let some = c.if-begin-gt0.true in let lt = c.loop-unit-test.true in let many = s.begins.ok.0 in let few = s.slots.ok.0 in
+    let s = c.self.inside in let some = c.if-begin-gt0.true in let lt = unit_inside c.self.invariant.tables c.self.view_is c.units-units.result c.loop-unit.unit c.units-units.ensures.value c.loop-unit-test.true in let many = s.begins.ok.0 in let few = s.slots.ok.0 in
     let cell = get_or_read s.begins.items c.loop-unit.unit c.index.result.now (omega arith) c.index.ensures 0 in
     let inside = (c.self.invariant.tables.begun c.loop-unit.unit (c.index.result.now - 1) (omega arith)).inside in omega arith
 
 pub returns-then-begin-gt0-clause-value : goal.returns-then-begin-gt0-clause-value
 returns-then-begin-gt0-clause-value g c =
-    let s = c.self.inside in let some = c.if-begin-gt0.true in let lt = c.loop-unit-test.true in let many = s.begins.ok.0 in let few = s.slots.ok.0 in
+    let s = c.self.inside in let some = c.if-begin-gt0.true in let lt = unit_inside c.self.invariant.tables c.self.view_is c.units-units.result c.loop-unit.unit c.units-units.ensures.value c.loop-unit-test.true in let many = s.begins.ok.0 in let few = s.slots.ok.0 in
     let cell = get_or_read s.begins.items c.loop-unit.unit c.index.result.now (omega arith) c.index.ensures 0 in
     let tells : slice_index s.begins.items c.loop-unit.unit ≡ suc (c.index.result.now - 1) = omega arith in
     let inside = (c.self.invariant.tables.begun c.loop-unit.unit (c.index.result.now - 1) tells).inside in
@@ -27,16 +27,16 @@ returns-then-begin-gt0-clause-value g c =
 
 pub at-hole-requires-clause-place : goal.at-hole-requires-clause-place
 at-hole-requires-clause-place g c =
-    let s = c.self.inside in let lt = c.loop-unit-test.true in let many = s.begins.ok.0 in
+    let s = c.self.inside in let lt = unit_inside c.self.invariant.tables c.self.view_is c.units-units.result c.loop-unit.unit c.units-units.ensures.value c.loop-unit-test.true in let many = s.begins.ok.0 in
     subst (λ (r : Range). IsPlace r (s.lo + c.loop-unit.unit * s.grain)) (sym c.self.invariant.ranged)
-    (unit_place c.self.invariant.tables c.loop-unit.unit (omega arith))
+    (unit_place c.self.invariant.tables c.self.view_is c.units-units.result c.loop-unit.unit c.units-units.ensures.value c.loop-unit-test.true)
 
 pub loop-unit-smaller : goal.loop-unit-smaller
-loop-unit-smaller g c = let lt = c.loop-unit-test.true in let many = c.self.inside.begins.ok.0 in let step = c.max.ensures in let whole = c.units_in.ensures in omega arith
+loop-unit-smaller g c = let lt = c.loop-unit-test.true in let step = c.max.ensures in let whole = c.units_in.ensures in omega arith
 
 pub loop-unit-preserved : goal.loop-unit-preserved
 loop-unit-preserved g c =
-    let s = c.self.inside in let lt = c.loop-unit-test.true in let many = s.begins.ok.0 in
+    let s = c.self.inside in let lt = unit_inside c.self.invariant.tables c.self.view_is c.units-units.result c.loop-unit.unit c.units-units.ensures.value c.loop-unit-test.true in let many = s.begins.ok.0 in
     let cell = get_or_read s.begins.items c.loop-unit.unit c.index.result.now (omega arith) c.index.ensures 0 in
     let none : slice_index s.begins.items c.loop-unit.unit ≡ 0 = let zero_is = c.if-begin-gt0.false in omega arith in
     let place : s.lo + c.loop-unit.unit * s.grain ≡ s.lo + s.grain * c.loop-unit.unit = omega arith in
@@ -47,4 +47,4 @@ loop-unit-preserved g c =
 pub returns-clause-value : goal.returns-clause-value
 returns-clause-value g c =
     let s = c.self.inside in let past = c.loop-unit-test.false in let many = s.begins.ok.0 in
-    sym (c.loop-unit.invariant ∙ none_past s.slots.items s.begins.items c.loop-unit.unit (omega arith))
+    sym (c.loop-unit.invariant ∙ none_behind c.self.invariant.tables c.self.view_is c.units-units.result c.loop-unit.unit c.units-units.ensures.value past)

@@ -1,4 +1,4 @@
-use Rattle.w16_blocks.proofs.Common.{common_steps, List, add-one, arith, subst, Span}
+use Rattle.w16_blocks.proofs.Common.{List, add-one, arith, subst, Span}
 use Rattle.w16_blocks.proofs.Keeping.{free_for, size_below, pins_room, layout_added, BlocksInvariant-add}
 use Rattle.w16_blocks.proofs.Blocks.insert.Goals as goal
 
@@ -24,6 +24,3 @@ returns-clause-ordered g c = (invariant_of-self g c).tables.ordered
 
 pub returns-clause-kept : goal.returns-clause-kept
 returns-clause-kept g c = subst (λ (hs : List Span). g.H.Holes.are_in hs (g.S.Space.bytes c.take.new.space)) (invariant_of-self g c).between c.take.ensures.kept
-
-pub take-requires-clause-part : goal.take-requires-clause-part
-take-requires-clause-part g c = grind (arith, common_steps)

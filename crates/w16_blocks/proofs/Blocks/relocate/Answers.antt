@@ -1,4 +1,4 @@
-use Rattle.w16_blocks.proofs.Common.{counted, common_steps, List, add-one, ap, arith, subst, ℕ, ◌∙◌, Span, holes_of, AreSameBut}
+use Rattle.w16_blocks.proofs.Common.{counted, List, add-one, ap, arith, subst, ℕ, ◌∙◌, Span, holes_of, AreSameBut}
 use Rattle.w16_blocks.proofs.Keeping.{lies_in, place_grained, unit_inside}
 use Rattle.w16_blocks.proofs.Shifting.{part_entered, free_entered, source_in, part_left, used_left, same_free, layout_shifted, BlocksInvariant-shift, come_too, others_same}
 use Rattle.w16_blocks.proofs.Outside.{part_inside}
@@ -71,9 +71,6 @@ returns-clause-bytes g c =
     subst (λ (hs : List Span). AreSameBut c.args.to c.args.block.size (holes_of c.args.self.now) hs (g.S.Space.bytes c.args.space.now) (g.S.Space.bytes c.put.new.space)) (invariant_of-self g c).between
     (others_same c.self.invariant c.self.inside.slots.ok.0 c.self.view_is c.args.block c.requires.known c.requires.fits c.beyond-entered.ensures c.beyond-left.ensures
     c.take.ensures.range c.take.ensures.holes c.put.ensures.range c.put.ensures.holes c.requires.inside c.take.ensures.bytes c.slide.ensures.bytes c.put.ensures.bytes)
-
-pub index_mut-requires-2 : goal.index_mut-requires-2
-index_mut-requires-2 g c = grind (arith, common_steps)
 
 pub returns-clause-lenders : goal.returns-clause-lenders
 returns-clause-lenders g c = c.put.ensures.lenders ∙ c.slide.ensures.lenders ∙ c.take.ensures.lenders

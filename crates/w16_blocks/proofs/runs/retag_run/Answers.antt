@@ -1,28 +1,28 @@
-use Rattle.w16_blocks.proofs.Common.{ℕ, List, Some, length, map, arith, refl, sym, subst, ◌∙◌, ◌+◌, ◌-◌, ◌<◌, ◌≤◌, ◌^◌, ◌≡◌, AllByRecursion, Block, Span, IsMultiple, block_with, multiple_sum, Layout, IsOrdered, FitsFor, replaced, blocks_in, layout_in, AreTables, slid_with}
-use Rattle.w16_blocks.proofs.Step.{lies, grained_known, multiple_less}
-use Rattle.w16_blocks.proofs.Sliding.{IsReady, IsFilled, slid_none, ready_start, filled_start, some_at, ends_inside, fits_there, ready_then, filled_then, slid_then}
+use Rattle.w16_blocks.proofs.Common.{ℕ, List, Some, length, map, arith, refl, sym, subst, inl, inr, ◌∙◌, ◌+◌, ◌-◌, ◌<◌, ◌≤◌, ◌^◌, ◌≡◌, ◌≢◌, AllByRecursion, Block, Span, IsMultiple, block_with, multiple_sum, Layout, IsOrdered, FitsFor, replaced, blocks_in, layout_in, AreTables, slid_with}
+use Rattle.w16_blocks.proofs.Step.{lies, multiple_less}
+use Rattle.w16_blocks.proofs.Sliding.{IsReady, slid_none, ready_start, ends_inside, fits_there, ready_then, slid_then, run_more}
+use Rattle.w16_blocks.proofs.Unslid.{unslid, none_unslid}
 use Rattle.w16_blocks.proofs.runs.retag_run.Goals as goal
 
 pub loop-at-init : goal.loop-at-init
 loop-at-init c =
     let blocks = blocks_in c.args.slots.now c.args.begins.now in
-    let is = c.requires.run in
+    let low = c.requires.inside.0 in let down = c.requires.inside.1 in let up = c.requires.inside.2 in let high = c.requires.inside.3 in
     record {
       tables = c.requires.tables;
-      slid = sym (slid_none c.args.run.from c.args.to blocks);
-      ready = ready_start c.args.run c.args.to blocks c.requires.bare is.whole.1;
-      filled = filled_start (layout_in (length c.args.slots.now) c.args.bounds.from c.args.bounds.to c.args.grain c.args.slots.now c.args.begins.now) c.args.run c.requires.tables.ordered is;
+      slid = sym (slid_none c.args.within.from c.args.to blocks);
+      ready = ready_start c.args.within c.args.to blocks c.requires.bare c.requires.whole.1;
+      run = record {
+        inside = (omega arith, omega arith, omega arith);
+        grained = (c.requires.grained.0, c.requires.grained.0);
+        whole = (c.requires.whole.0, c.requires.whole.0);
+        full = λ p from end free. omega arith;
+      };
       from = omega arith;
-      end = is.inside.1;
-      grained = is.grained.0;
+      end = up;
       slots = refl;
       begins = refl;
     }
-
-pub unreachable-requires : goal.unreachable-requires
-unreachable-requires c =
-    let inv = c.loop-at.invariant in
-    some_at c.args.run c.args.to c.loop-at.at (blocks_in c.loop-at.slots c.loop-at.begins) c.requires.down.1 inv.from c.loop-at-test.true inv.ready inv.filled c.in_default.ensures
 
 -- the tables at some turn, whose number of ids is that of the start
 module _ {cap lo hi g : ℕ} {slots : List Block} {cells : List ℕ} (t : AreTables cap lo hi g slots cells) (same : length slots ≡ cap) where
@@ -45,48 +45,51 @@ module _ {cap lo hi g : ℕ} {slots : List Block} {cells : List ℕ} (t : AreTab
     fits : IsMultiple g to → IsMultiple g at → IsMultiple g run.from → lo ≤ to → FitsFor now (record x { at = to + (at - run.from) })
     fits one two three low = fits_there now ordered ids run to at down from lt ready x known here (multiple_sum g to (at - run.from) one (multiple_less g at run.from two three)) low
 
-    size : IsMultiple g x.size
-    size = (grained_known now x.id x known ordered).1
-
     slid : (old : List Block) → now.blocks ≡ map (slid_with (record { from = run.from; to = at }) to) old → replaced (record x { at = to + (at - run.from) }) now.blocks ≡ map (slid_with (record { from = run.from; to = at + x.size }) to) old
     slid = slid_then now ordered ids run to at down from lt ready x known here
 
     ready' : AllByRecursion (IsReady run to (at + x.size)) (replaced (record x { at = to + (at - run.from) }) now.blocks)
     ready' = ready_then now ordered ids run to at down from lt ready x known here
 
-    filled' : IsFilled at run.to now.blocks → IsFilled (at + x.size) run.to (replaced (record x { at = to + (at - run.from) }) now.blocks)
-    filled' = filled_then now ordered ids run to at down from lt ready x known here
-
 pub retag-requires-clause-fits : goal.retag-requires-clause-fits
 retag-requires-clause-fits c =
     let inv = c.loop-at.invariant in let is = c.in-Some.ensures in
-    fits inv.tables inv.slots c.requires.down.1 inv.from c.loop-at-test.true inv.ready c.in-Some.block is.1 is.0 c.requires.grained inv.grained c.requires.run.grained.0 c.requires.down.0
+    fits inv.tables inv.slots c.requires.inside.1 inv.from c.loop-at-test.true inv.ready c.in-Some.block is.1 is.0 c.requires.grained.1 inv.run.grained.1 c.requires.grained.0 c.requires.inside.0
 
 pub overflow_add-at : goal.overflow_add-at
 overflow_add-at c =
     let inv = c.loop-at.invariant in let is = c.in-Some.ensures in
-    let end = ends inv.tables inv.slots c.requires.down.1 inv.from c.loop-at-test.true inv.ready c.in-Some.block is.1 is.0 in
-    let top = c.requires.run.inside.2 in let small = c.requires.tables.ordered.small in record { fits = omega arith }
+    let end = ends inv.tables inv.slots c.requires.inside.1 inv.from c.loop-at-test.true inv.ready c.in-Some.block is.1 is.0 in
+    let top = c.requires.inside.3 in let small = c.requires.tables.ordered.small in record { fits = omega arith }
 
 pub loop-at-smaller : goal.loop-at-smaller
 loop-at-smaller c =
     let inv = c.loop-at.invariant in let is = c.in-Some.ensures in
-    let size = some inv.tables inv.slots c.requires.down.1 inv.from c.loop-at-test.true inv.ready c.in-Some.block is.1 is.0 in
+    let size = some inv.tables inv.slots c.requires.inside.1 inv.from c.loop-at-test.true inv.ready c.in-Some.block is.1 is.0 in
     let lt = c.loop-at-test.true in omega arith
 
 pub loop-at-preserved : goal.loop-at-preserved
 loop-at-preserved c =
-    let inv = c.loop-at.invariant in let run = c.args.run in let at = c.loop-at.at in let block = c.in-Some.block in
-    let down = c.requires.down.1 in let lt = c.loop-at-test.true in let is = c.in-Some.ensures in
+    let inv = c.loop-at.invariant in let part = c.args.within in let at = c.loop-at.at in let block = c.in-Some.block in
+    let down = c.requires.inside.1 in let lt = c.loop-at-test.true in let is = c.in-Some.ensures in let here = is.0 in
+    let old = layout_in (length c.args.slots.now) c.args.bounds.from c.args.bounds.to c.args.grain c.args.slots.now c.args.begins.now in
     let new = sym c.retag.ensures.blocks in
     record {
       tables = subst (λ (n : ℕ). AreTables n c.args.bounds.from c.args.bounds.to c.args.grain c.retag.new.slots c.retag.new.begins) inv.slots c.retag.ensures.tables;
-      slid = c.retag.ensures.blocks ∙ slid inv.tables inv.slots down inv.from lt inv.ready block is.1 is.0 (blocks_in c.args.slots.now c.args.begins.now) inv.slid;
-      ready = subst (AllByRecursion (IsReady run c.args.to (at + block.size))) new (ready' inv.tables inv.slots down inv.from lt inv.ready block is.1 is.0);
-      filled = subst (IsFilled (at + block.size) run.to) new (filled' inv.tables inv.slots down inv.from lt inv.ready block is.1 is.0 inv.filled);
+      slid = c.retag.ensures.blocks ∙ slid inv.tables inv.slots down inv.from lt inv.ready block is.1 is.0 old.blocks inv.slid;
+      ready = subst (AllByRecursion (IsReady part c.args.to (at + block.size))) new (ready' inv.tables inv.slots down inv.from lt inv.ready block is.1 is.0);
+      run = run_more old part.from at block c.requires.tables.ordered (unslid part.from at c.args.to block old.blocks _ down inv.from (omega arith) inv.slid is.1) here inv.run;
       from = let start = inv.from in omega arith;
       end = ends inv.tables inv.slots down inv.from lt inv.ready block is.1 is.0;
-      grained = multiple_sum c.args.grain at block.size inv.grained (size inv.tables inv.slots down inv.from lt inv.ready block is.1 is.0);
       slots = c.retag.ensures.slots ∙ inv.slots;
       begins = c.retag.ensures.begins ∙ inv.begins;
     }
+
+pub returns-in_default-clause-last : goal.returns-in_default-clause-last
+returns-in_default-clause-last c =
+    let inv = c.loop-at.invariant in
+    inr (none_unslid (layout_in (length c.args.slots.now) c.args.bounds.from c.args.bounds.to c.args.grain c.args.slots.now c.args.begins.now) c.requires.tables.ordered c.args.within.from c.loop-at.at c.args.to c.requires.inside.1 inv.from
+    (subst (AllByRecursion (λ b. b.at ≢ c.loop-at.at)) inv.slid c.in_default.ensures))
+
+pub returns-clause-last : goal.returns-clause-last
+returns-clause-last c = let high = c.loop-at.invariant.end in let past = c.loop-at-test.false in inl (omega arith)

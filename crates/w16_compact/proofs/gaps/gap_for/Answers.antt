@@ -1,4 +1,4 @@
-use Rattle.w16_compact.proofs.Common.{common_steps, ◌≡◌, ℕ, ◌+◌, ◌-◌, ◌<◌, ◌≤◌, sum_by, refl, drop, List, [], ◌∷◌, Option, Some, None, false, IsSome, MatchOption, arith, sym, ap, ◌∙◌, subst, false≢true, Block, Span, is_about, room, Layout, IsOrdered, sum_fits, Gap, Reached, others, without, HasRoom}
+use Rattle.w16_compact.proofs.Common.{◌≡◌, ℕ, ◌+◌, ◌-◌, ◌<◌, ◌≤◌, sum_by, refl, drop, List, [], ◌∷◌, Option, Some, None, false, IsSome, MatchOption, arith, sym, ap, ◌∙◌, subst, false≢true, Block, Span, is_about, room, Layout, IsOrdered, sum_fits, Gap, Reached, others, without, HasRoom}
 use Rattle.w16_compact.proofs.AllLoose.{walked_all, none_in}
 use Rattle.w16_compact.proofs.ByAddress.{all_left, may_begin}
 use Rattle.w16_compact.proofs.LeftOut.{ordered_without, none_left, next_in, next_out}
@@ -141,6 +141,3 @@ overflow_sub-whole-then-not-has_pinned g c =
 
 pub gap_to-requires : goal.gap_to-requires
 gap_to-requires g c = let ordered = overflow_sub-whole g c in omega arith
-
-pub returns-clause-lowest : goal.returns-clause-lowest
-returns-clause-lowest g c = grind (arith, common_steps)

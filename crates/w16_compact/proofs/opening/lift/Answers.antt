@@ -1,4 +1,4 @@
-use Rattle.w16_compact.proofs.Common.{◌-◌, ap, subst, arith, rules, AllByRecursion, IsLaid, block_end, holes, IsUsed, Layout, holes_of, AreSameBut, used_each, outside_but, lies_of}
+use Rattle.w16_compact.proofs.Common.{◌-◌, ap, subst, arith, AllByRecursion, IsLaid, block_end, holes, IsUsed, Layout, holes_of, AreSameBut, used_each, outside_but, lies_of}
 use Rattle.w16_compact.proofs.Settled.{same_layout, contents_run, cleared_up}
 use Rattle.w16_compact.proofs.opening.lift.Goals as goal
 
@@ -22,9 +22,3 @@ returns-clause-rest g c =
     let same' : AreSameBut c.args.to (run.to - run.from) (holes l.lo l.hi l.blocks) (holes l.lo l.hi c.lift_run.new.self.blocks) (g.S.Space.bytes c.args.space.now) (g.S.Space.bytes c.lift_run.new.space) =
     subst (λ (x : Layout). AreSameBut c.args.to (run.to - run.from) (holes l.lo l.hi l.blocks) (holes x.lo x.hi c.lift_run.new.self.blocks) (g.S.Space.bytes c.args.space.now) (g.S.Space.bytes c.lift_run.new.space)) is same in
     record { long = same.long; outside = outside_but l.lo l.hi c.args.to (run.to - run.from) l.blocks c.lift_run.new.self.blocks _ _ c.requires.ordered.laid laid (omega arith) top same'; loans = c.lift_run.ensures.lenders }
-
-pub returns-then-run-to-clause-moved : goal.returns-then-run-to-clause-moved
-returns-then-run-to-clause-moved g c = search rules
-
-pub returns-then-run-to-clause-written : goal.returns-then-run-to-clause-written
-returns-then-run-to-clause-written g c = search rules

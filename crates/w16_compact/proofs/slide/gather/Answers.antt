@@ -1,6 +1,7 @@
-use Rattle.w16_compact.proofs.Common.{◌≡◌, ◌+◌, ◌-◌, inl, inr, refl, sym, ◌∙◌, ap, subst, arith, AllByRecursion, Span, IsClear, IsHole, is_any, loose_bytes, Layout, gathered, moved_between, FitsGap, AreSlid}
+use Rattle.w16_compact.proofs.Common.{◌≡◌, ◌≢◌, ◌+◌, ◌-◌, inl, inr, refl, sym, ◌∙◌, ap, subst, arith, AllByRecursion, Span, IsClear, IsHole, is_any, loose_bytes, Layout, gathered, moved_between, FitsGap, AreSlid}
 use Rattle.w16_compact.proofs.Cleared.{slid_gathered, clear_gathered, hole_gathered, alone_gathered}
 use Rattle.w16_compact.proofs.Rests.{rest_more, rest_same}
+use Rattle.w16_compact.proofs.Order.{each_got}
 use Rattle.w16_compact.proofs.Gathering.{AreKept, kept_start, moved_same, some_run, above, cuts, bare_to, grained_at, fits_then, list_then, run_then, kept_then, moved_step, at_most, list_end}
 use Rattle.w16_compact.proofs.slide.gather.Given as Given
 use Rattle.w16_compact.proofs.slide.gather.Goals as goal
@@ -24,62 +25,56 @@ loop-block-init g c =
       rest = rest_same _ _ c.args.space.now;
     }
 
-pub run_end-requires-clause-inside : goal.run_end-requires-clause-inside
-run_end-requires-clause-inside g c =
+pub settle-requires-clause-part : goal.settle-requires-clause-part
+settle-requires-clause-part g c =
     let inv = c.loop-block.invariant in let lt = c.in-Some.ensures.value.1 in
     let up = above c.loop-block.blocks inv.ordered c.args.low c.args.high c.loop-block.to c.in-Some.block c.in-Some.ensures.value.0 inv.fits c.requires.gap.inside.1 inv.settled in
     let low = inv.settled.inside.0 in let from = inv.settled.inside.1 in let hi = inv.bounds.2 in let top = c.requires.gap.inside.2 in
-    (omega arith, omega arith, omega arith)
+    (omega arith, up, lt, omega arith)
 
-pub run_end-requires-clause-grained : goal.run_end-requires-clause-grained
-run_end-requires-clause-grained g c =
+pub settle-requires-clause-grained : goal.settle-requires-clause-grained
+settle-requires-clause-grained g c =
     let inv = c.loop-block.invariant in
-    grained_at c.loop-block.blocks inv.ordered c.args.low c.args.high c.loop-block.to c.in-Some.block c.in-Some.ensures.value.0 inv.fits c.requires.gap.inside.1 inv.settled
+    (grained_at c.loop-block.blocks inv.ordered c.args.low c.args.high c.loop-block.to c.in-Some.block c.in-Some.ensures.value.0 inv.fits c.requires.gap.inside.1 inv.settled, inv.settled.grained.1)
 
-pub run_end-requires-clause-whole : goal.run_end-requires-clause-whole
-run_end-requires-clause-whole g c =
+pub settle-requires-clause-whole : goal.settle-requires-clause-whole
+settle-requires-clause-whole g c =
     let inv = c.loop-block.invariant in
     cuts c.loop-block.blocks inv.ordered c.args.low c.args.high c.loop-block.to c.in-Some.block c.in-Some.ensures.value.0 inv.fits c.requires.gap.inside.1 inv.settled
 
-pub settle-requires-clause-some : goal.settle-requires-clause-some
-settle-requires-clause-some g c = some_run c.loop-block.blocks c.args.high c.run_end.result _ c.in-Some.block c.in-Some.ensures.value.0 c.in-Some.ensures.value.1 c.run_end.ensures.run.inside.1 c.run_end.ensures.last
+pub settle-requires-clause-begins : goal.settle-requires-clause-begins
+settle-requires-clause-begins g c = λ none. each_got (λ b. b.at ≢ c.in-Some.block.at) c.loop-block.blocks.blocks _ c.in-Some.block c.in-Some.ensures.value.0 none refl
 
 pub settle-requires-clause-bare : goal.settle-requires-clause-bare
 settle-requires-clause-bare g c =
     let inv = c.loop-block.invariant in
     bare_to c.loop-block.blocks inv.ordered c.args.low c.args.high c.loop-block.to c.in-Some.block c.in-Some.ensures.value.0 inv.fits c.requires.gap.inside.1 inv.settled
 
-pub settle-requires-clause-down : goal.settle-requires-clause-down
-settle-requires-clause-down g c =
-    let inv = c.loop-block.invariant in
-    let up = above c.loop-block.blocks inv.ordered c.args.low c.args.high c.loop-block.to c.in-Some.block c.in-Some.ensures.value.0 inv.fits c.requires.gap.inside.1 inv.settled in
-    let low = inv.settled.inside.0 in let from = inv.settled.inside.1 in (omega arith, up)
-
 pub overflow_add-to : goal.overflow_add-to
 overflow_add-to g c =
     let inv = c.loop-block.invariant in
     let up = above c.loop-block.blocks inv.ordered c.args.low c.args.high c.loop-block.to c.in-Some.block c.in-Some.ensures.value.0 inv.fits c.requires.gap.inside.1 inv.settled in
-    let end = c.run_end.ensures.run.inside.2 in let small = inv.ordered.small in let from = c.run_end.ensures.run.inside.1 in
+    let end = c.settle.ensures.run.inside.2 in let small = inv.ordered.small in let from = c.settle.ensures.run.inside.1 in
     record { fits = omega arith }
 
 pub loop-block-smaller : goal.loop-block-smaller
 loop-block-smaller g c =
     let inv = c.loop-block.invariant in
     let up = above c.loop-block.blocks inv.ordered c.args.low c.args.high c.loop-block.to c.in-Some.block c.in-Some.ensures.value.0 inv.fits c.requires.gap.inside.1 inv.settled in
-    let some = some_run c.loop-block.blocks c.args.high c.run_end.result _ c.in-Some.block c.in-Some.ensures.value.0 c.in-Some.ensures.value.1 c.run_end.ensures.run.inside.1 c.run_end.ensures.last in
+    let some = some_run c.loop-block.blocks c.args.high c.settle.result _ c.in-Some.block c.in-Some.ensures.value.0 c.in-Some.ensures.value.1 c.settle.ensures.run.inside.1 c.settle.ensures.last in
     let lt = c.in-Some.ensures.value.1 in omega arith
 
 pub loop-block-preserved : goal.loop-block-preserved
 loop-block-preserved g c =
     let l = c.loop-block.blocks in let inv = c.loop-block.invariant in let to = c.loop-block.to in let low = c.args.low in let high = c.args.high in
-    let run : Span = record { from = c.in-Some.block.at; to = c.run_end.result } in
+    let run : Span = record { from = c.in-Some.block.at; to = c.settle.result } in
     let up = above l inv.ordered low high to c.in-Some.block c.in-Some.ensures.value.0 inv.fits c.requires.gap.inside.1 inv.settled in
-    let some = some_run l high c.run_end.result _ c.in-Some.block c.in-Some.ensures.value.0 c.in-Some.ensures.value.1 c.run_end.ensures.run.inside.1 c.run_end.ensures.last in
+    let some = some_run l high c.settle.result _ c.in-Some.block c.in-Some.ensures.value.0 c.in-Some.ensures.value.1 c.settle.ensures.run.inside.1 c.settle.ensures.last in
     let bare = bare_to l inv.ordered low high to c.in-Some.block c.in-Some.ensures.value.0 inv.fits c.requires.gap.inside.1 inv.settled in
-    let from = inv.settled.inside.1 in let top = c.run_end.ensures.high in let is = c.run_end.ensures.run in
+    let from = inv.settled.inside.1 in let top = c.settle.ensures.high in let is = c.settle.ensures.run in
     let new = c.settle.ensures.blocks in
     let list = ap (λ (m : Layout). m.blocks) new in
-    let r = c.from-moved.ensures ∙ c.settle.ensures.moved in
+    let r = c.from-moved.ensures ∙ c.moved_bytes.ensures in
     let step = moved_step l inv.ordered low high to run from up some top is bare c.args.blocks.now.blocks inv.stay c.from-moved.result r in
     let few = at_most c.from-moved.result run.from to (run.to - run.from) r in
     record {
@@ -92,7 +87,7 @@ loop-block-preserved g c =
       stay = subst (AreKept (to + (run.to - run.from)) c.args.blocks.now.blocks) (sym list) (kept_then l inv.ordered low high to run from up some top is bare c.args.blocks.now.blocks inv.stay);
       moved = let total = inv.moved in let same = ap (moved_between c.args.blocks.now.blocks) list in omega (arith, total, same, step);
       small = let h = inv.small in omega arith;
-      written = let h = inv.written in let k = c.settle.ensures.written in let wide = c.from-moved.ensures in omega (arith, h, k, wide);
+      written = let h = inv.written in let k = c.settle.ensures.written in let wide = c.from-moved.ensures in let own = c.moved_bytes.ensures in omega (arith, h, k, wide, own);
       contents = c.settle.ensures.contents ∙ inv.contents;
       kept = c.settle.ensures.kept;
       rest = let lo = inv.bounds.1 in let hi = inv.bounds.2 in rest_more inv.rest c.settle.ensures.rest (omega arith) (omega arith);

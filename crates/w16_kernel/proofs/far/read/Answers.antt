@@ -3,8 +3,15 @@ use Rattle.w16_kernel.proofs.Common.{refl, ap, subst, length, FarAnswer, FarRepl
 use Rattle.w16_model.specs.Far as far
 use Rattle.w16_model.specs.Handles.{Gives}
 use Rattle.w16_loading.specs.Replies.Reply.{Bytes}
+use Rattle.w16_kernel.proofs.Absent.{met_absent}
 use Rattle.w16_kernel.proofs.FarSteps.{answered, ended_by, remade_by}
 use Rattle.w16_kernel.proofs.far.read.Goals as goal
+
+pub fetch_absent-requires-clause-absent : goal.fetch_absent-requires-clause-absent
+fetch_absent-requires-clause-absent g c =
+    let met = subst (λ s. Gives (far.far_read c.args.global.now.handles s (offset_in c.args.pointer) (length c.args.room.now)) (FarAnswer.Fault c.in-Err.fault) c.far_read.new.self.handles) c.selector_in.ensures
+    (subst (λ o. Gives (far.far_read c.args.global.now.handles c.selector_in.result o (length c.args.room.now)) (FarAnswer.Fault c.in-Err.fault) c.far_read.new.self.handles) c.offset_in.ensures c.in-Err.ensures.err) in
+    met_absent c.args.global.now.handles c.far_read.new.self.handles (ap (λ (x : Global). x.handles) c.in-Err.ensures.kept.1) c.selector_in-in-Err.result (Read c.args.pointer (length c.args.room.now)) c.selector_in-in-Err.ensures c.in-Err.fault met
 
 pub returns-in-Err-fetch_absent-clause-step : goal.returns-in-Err-fetch_absent-clause-step
 returns-in-Err-fetch_absent-clause-step g c = λ ds is.

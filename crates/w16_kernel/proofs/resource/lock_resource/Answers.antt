@@ -1,4 +1,3 @@
-use Rattle.w16_kernel.proofs.Common.{refl}
 use Rattle.w16_kernel.proofs.resource.lock_resource.Goals as goal
 
 pub returns-in-Ok-clause-step : goal.returns-in-Ok-clause-step

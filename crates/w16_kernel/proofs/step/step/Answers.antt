@@ -1,10 +1,13 @@
-use Rattle.w16_kernel.proofs.Common.{◌≤◌, refl, ap, subst, arith, length-take-le, OfFar, OfLoading, OfModules, OfResources, Word, Read, Step, ne_format, reply_of, rules, on_any, Dword, label_of, loading_of, world_of}
+use Rattle.w16_kernel.proofs.Common.{◌≤◌, refl, ap, subst, arith, length-take-le, OfFar, OfLoading, OfModules, OfResources, Word, Read, Step, ne_format, reply_of, on_any, Dword, label_of, loading_of, world_of}
 use Rattle.w16_loading.specs.Families.ModuleCommand.{Builtin, FreeLibrary, FreeModule, GetProcAddress}
 use Rattle.w16_loading.specs.Families.ResourceCommand.{FindResource, FreeResource, SizeofResource}
 use Rattle.w16_kernel.proofs.Modules.{dword_told, word_told}
 use Rattle.w16_kernel.specs.Runs.{IsCall}
 use Rattle.w16_kernel.specs.declared.call.TheConstants.{MOST_READ}
 use Rattle.w16_kernel.proofs.step.step.Goals as goal
+
+pub returns-in-GlobalAlloc-clause-step : goal.returns-in-GlobalAlloc-clause-step
+returns-in-GlobalAlloc-clause-step g c = rw c.in-GlobalAlloc.is (c.global_alloc.ensures.step, refl)
 
 pub returns-in_ok-local_init-in-LocalInit-clause-step : goal.returns-in_ok-local_init-in-LocalInit-clause-step
 returns-in_ok-local_init-in-LocalInit-clause-step g c = rw c.in-LocalInit.is (c.in_ok-local_init-in-LocalInit.ensures.step (world_of c.args.global.now.handles c.args.library.now.registry c.args.library.now.resources c.args.locals.now c.args.ds.now (g.S.Store.files c.args.library.now.store) (g.S.Store.failures c.args.library.now.store)))
@@ -42,18 +45,6 @@ returns-in-LocalHandle-clause-step g c = rw c.in-LocalHandle.is (c.local_handle.
 pub returns-in_err-local_init-in-LocalInit-clause-wanted : goal.returns-in_err-local_init-in-LocalInit-clause-wanted
 returns-in_err-local_init-in-LocalInit-clause-wanted g c = on_any c.from_residual.result _ (rw c.in-LocalInit.is (c.in_err-local_init-in-LocalInit.ensures.wanted (world_of c.args.global.now.handles c.args.library.now.registry c.args.library.now.resources c.args.locals.now c.args.ds.now (g.S.Store.files c.args.library.now.store) (g.S.Store.failures c.args.library.now.store))))
 
-pub returns-in-GlobalDiscard-clause-step : goal.returns-in-GlobalDiscard-clause-step
-returns-in-GlobalDiscard-clause-step g c = search rules
-
-pub returns-in-DS-clause-step : goal.returns-in-DS-clause-step
-returns-in-DS-clause-step g c = search rules
-
-pub returns-in-DS-clause-wanted : goal.returns-in-DS-clause-wanted
-returns-in-DS-clause-wanted g c = search rules
-
-pub returns-in-GlobalAlloc-clause-wanted : goal.returns-in-GlobalAlloc-clause-wanted
-returns-in-GlobalAlloc-clause-wanted g c = search rules
-
 pub returns-in-Read-clause-step : goal.returns-in-Read-clause-step
 returns-in-Read-clause-step g c =
     let few : c.in-Read.count ≤ MOST_READ = subst IsCall c.in-Read.is c.requires.call in
@@ -67,12 +58,6 @@ returns-in-Write-clause-step g c = rw c.in-Write.is (c.write.ensures.step c.args
 
 pub returns-in-Fill-clause-step : goal.returns-in-Fill-clause-step
 returns-in-Fill-clause-step g c = rw c.in-Fill.is (c.write-in-Fill.ensures.step c.args.ds.now c.requires.world)
-
-pub returns-in-GetModuleUsage-clause-step : goal.returns-in-GetModuleUsage-clause-step
-returns-in-GetModuleUsage-clause-step g c = search rules
-
-pub returns-in-LoadModule-clause-step : goal.returns-in-LoadModule-clause-step
-returns-in-LoadModule-clause-step g c = search rules
 
 pub returns-in_ok-builtin-in-Builtin-clause-step : goal.returns-in_ok-builtin-in-Builtin-clause-step
 returns-in_ok-builtin-in-Builtin-clause-step g c = rw c.in-Builtin.is (

@@ -1,5 +1,5 @@
 -- The module has its objects, and is put; or they go again.
-use Rattle.w16_loader.proofs.Common.{◌≡◌, [], length, map, sym, ap, ◌∙◌, arith, rules, length-map, is_member, Global, Module, with_handles, Loaded, without_objects, far_of, segment_in, tables_in}
+use Rattle.w16_loader.proofs.Common.{◌≡◌, [], length, map, sym, ap, ◌∙◌, arith, length-map, is_member, Global, Module, with_handles, Loaded, without_objects, far_of, segment_in, tables_in}
 use Rattle.std.specs.FinMap as finmap
 use Rattle.w16_loader.proofs.NameSteps.{module_named, all_back, same_global}
 use Rattle.w16_loader.proofs.naming.name_module.Goals as goal
@@ -24,6 +24,3 @@ returns-in-Err-put_module-clause-same g c =
           (λ rest. c.in-Err-put_module.ensures.gone rest ∙ ap (λ (m : Module). without_objects (λ q. is_member q m.slots) (with_handles rest c.take_slots.new.global.handles)) c.new-loaded.ensures))
           (c.put_module.ensures.written ∙ c.take_slots.ensures.written),
     )
-
-pub returns-in-Err-put_module-clause-no_slot : goal.returns-in-Err-put_module-clause-no_slot
-returns-in-Err-put_module-clause-no_slot g c = search rules

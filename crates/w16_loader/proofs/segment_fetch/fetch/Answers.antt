@@ -1,5 +1,5 @@
 -- The segment is read, and then its object given its bytes.
-use Rattle.w16_loader.proofs.Common.{◌/◌, None, Some, Result, Ok, Err, ap, ◌∙◌, sym, subst, refl, rules, err_from_is_err_and, Handles, Global, AnyFetches, FillsOne, is_of_device, FetchFault, NoRoom, in_parts, image_in}
+use Rattle.w16_loader.proofs.Common.{◌/◌, None, Some, Result, Ok, Err, ap, ◌∙◌, sym, subst, refl, err_from_is_err_and, Handles, Global, AnyFetches, FillsOne, is_of_device, FetchFault, NoRoom, in_parts, image_in}
 use Rattle.w16_loader.proofs.Fetches.{unread_any, refused_any, fewest_so, device_failed, no_room, has_bytes, fetched}
 use Rattle.w16_loader.proofs.segment_fetch.fetch.Goals as goal
 
@@ -92,12 +92,3 @@ returns-else-give-clause-fetched g c = λ rest honest lacks is.
     c.args.source.now.number c.args.source.now.file.now c.args.source.now.module.now c.args.source.now.values.now is c.requires.last
     result (g.S.Store.files c.read.new.store) c.read.ensures.files (g.S.Store.failures c.read.new.store) c.read.ensures.failures c.give.new.global.handles
     (λ file has sound sized. returns-else-give-clause-filled g c file honest has sound lacks sized) (λ file has sound. returns-else-give-clause-failed g c file honest has sound) (returns-else-give-clause-rest g c)
-
-pub returns-in_err-read-clause-refused : goal.returns-in_err-read-clause-refused
-returns-in_err-read-clause-refused g c = search rules
-
-pub returns-else-give-clause-refused : goal.returns-else-give-clause-refused
-returns-else-give-clause-refused g c = search rules
-
-pub returns-then-give-clause-named : goal.returns-then-give-clause-named
-returns-then-give-clause-named g c = search rules

@@ -1,5 +1,5 @@
 -- The object is revived, and its bytes are written.
-use Rattle.w16_loader.proofs.Common.{refl, ap, rules, Global}
+use Rattle.w16_loader.proofs.Common.{refl, ap, Global}
 use Rattle.w16_loader.proofs.Giving.{revived_bytes, given_bytes}
 use Rattle.w16_loader.proofs.segment_fetch.give.Goals as goal
 
@@ -10,12 +10,3 @@ pub returns-clause-given : goal.returns-clause-given
 returns-clause-given g c = λ t.
     given_bytes _ _ (c.if-not-revive.ensures.named refl).without_bytes c.revive.new.self.handles (c.if-not-revive.ensures.revived refl) c.with_bytes.new.self.handles _ _ c.with_bytes.ensures.0 c.with_bytes.ensures.0.does.1
     (ap (λ (x : Global). x.handles) c.with_bytes.ensures.1)
-
-pub returns-then-not-revive-clause-refused : goal.returns-then-not-revive-clause-refused
-returns-then-not-revive-clause-refused g c = search rules
-
-pub returns-then-not-revive-clause-lacks : goal.returns-then-not-revive-clause-lacks
-returns-then-not-revive-clause-lacks g c = search rules
-
-pub returns-clause-named : goal.returns-clause-named
-returns-clause-named g c = search rules

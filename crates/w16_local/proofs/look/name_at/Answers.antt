@@ -1,4 +1,4 @@
-use Rattle.w16_local.proofs.Common.{common_steps, None, Some, sym, ◌∙◌, arith}
+use Rattle.w16_local.proofs.Common.{None, Some, sym, ◌∙◌, arith}
 use Rattle.w16_local.proofs.Looks.{block_small, name_none, name_fixed, name_loose}
 use Rattle.w16_local.proofs.look.name_at.Goals as goal
 
@@ -17,12 +17,3 @@ returns-in_ok-block g c bytes over = name_fixed over c.args.id c.in_ok-entry.ent
 
 pub returns-else-is_fixed : goal.returns-else-is_fixed
 returns-else-is_fixed g c bytes over = name_loose over c.args.id c.in_ok-entry.entry (sym c.in_ok-entry.ensures.value) (sym c.is_fixed.ensures ∙ c.if-is_fixed.false)
-
-pub overflow_mul-result : goal.overflow_mul-result
-overflow_mul-result g c = grind (arith, common_steps)
-
-pub overflow_add-result : goal.overflow_add-result
-overflow_add-result g c = grind (arith, common_steps)
-
-pub overflow_cast-result-else-is_fixed : goal.overflow_cast-result-else-is_fixed
-overflow_cast-result-else-is_fixed g c = grind (arith, common_steps)

@@ -1,4 +1,4 @@
-use Rattle.w16_lru.proofs.Common.{common_steps, ◌≡◌, arith, swap, slice_index, with_items}
+use Rattle.w16_lru.proofs.Common.{◌≡◌, arith, swap, slice_index, with_items}
 use Rattle.w16_lru.proofs.Outcomes.{same_without, alone_none, large_none, removed_kept, removed_value, exchanged_after, exchanged_before}
 use Rattle.w16_lru.proofs.Order.remove.Given as given
 use Rattle.w16_lru.proofs.Order.remove.Goals as goal
@@ -44,9 +44,3 @@ returns-clause-value g c =
 
 pub returns-clause-uses : goal.returns-clause-uses
 returns-clause-uses g c = (invariant_of-self g c).uses
-
-pub exchange-requires-clause-behind_front : goal.exchange-requires-clause-behind_front
-exchange-requires-clause-behind_front g c = grind (arith, common_steps)
-
-pub overflow_sub-self : goal.overflow_sub-self
-overflow_sub-self g c = grind (arith, common_steps)

@@ -1,4 +1,4 @@
-use Rattle.w16_lru.proofs.Common.{common_steps, ◌≡◌, ◌∙◌, ap, sym, arith, subst, false, ℕ, ◌<◌, get_or, swap, slice_index, with_items, is_member, Uses}
+use Rattle.w16_lru.proofs.Common.{◌≡◌, ◌∙◌, ap, sym, arith, subst, false, ℕ, ◌<◌, get_or, swap, slice_index, with_items, is_member, Uses}
 use Rattle.w16_lru.proofs.Members.{taken_out}
 use Rattle.w16_lru.proofs.Outcomes.{IsFront, fits, joined_kept, joined_value, put_back, exchanged_after, exchanged_before}
 use Rattle.w16_lru.proofs.Order.to_end.Given as given
@@ -51,6 +51,3 @@ returns-clause-value g c =
 
 pub returns-clause-uses : goal.returns-clause-uses
 returns-clause-uses g c = (invariant_of-self g c).uses
-
-pub exchange-requires-clause-behind_front : goal.exchange-requires-clause-behind_front
-exchange-requires-clause-behind_front g c = grind (arith, common_steps)

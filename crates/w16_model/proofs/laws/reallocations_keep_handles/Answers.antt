@@ -1,4 +1,4 @@
-use Rattle.w16_model.proofs.ResizedHandles.{resize_law, null_law, resize_fewest_law}
+use Rattle.w16_model.proofs.ResizedHandles.{resize_law, null_law, resize_fewest_law, one_slot_law, old_handle_law}
 use Rattle.w16_model.proofs.laws.reallocations_keep_handles.Goals as goal
 
 pub returns-clause-handles : goal.returns-clause-handles
@@ -9,3 +9,9 @@ returns-clause-null c = null_law
 
 pub returns-clause-fewest : goal.returns-clause-fewest
 returns-clause-fewest c = resize_fewest_law
+
+pub returns-clause-one : goal.returns-clause-one
+returns-clause-one c = one_slot_law
+
+pub returns-clause-old : goal.returns-clause-old
+returns-clause-old c = old_handle_law

@@ -1,4 +1,4 @@
-use Rattle.w16_ne.proofs.Common.{◌≡◌, ◌≤◌, ◌∙◌, arith, rules, err_from_is_err_and, All-push, file_of, Block, block_at, blocks_from}
+use Rattle.w16_ne.proofs.Common.{◌≡◌, ◌≤◌, ◌∙◌, arith, err_from_is_err_and, All-push, file_of, Block, block_at, blocks_from}
 use Rattle.w16_ne.proofs.Until.{fails_on}
 use Rattle.w16_ne.proofs.Pieces.{failure_is}
 use Rattle.w16_ne.proofs.Blocks.{end_of, goes_on, stops, is_done, past_the_end, block_ends}
@@ -45,9 +45,3 @@ pub returns-then-place-len-clause-exact : goal.returns-then-place-len-clause-exa
 returns-then-place-len-clause-exact g c = λ honest known.
     let file = file_of (g.S.Store.files c.args.store.now) c.args.name.now in
     stops file c.loop.blocks.items c.args.len c.loop.counter c.loop.place _ _ c.loop-test.true (past_the_end file c.args.len c.loop.place known c.if-place-len.true) (c.loop.invariant.4 honest known)
-
-pub returns-in_err-push-in-Some-clause-exact : goal.returns-in_err-push-in-Some-clause-exact
-returns-in_err-push-in-Some-clause-exact g c = search rules
-
-pub returns-clause-exact : goal.returns-clause-exact
-returns-clause-exact g c = search rules

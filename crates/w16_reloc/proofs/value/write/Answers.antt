@@ -1,4 +1,4 @@
-use Rattle.w16_reloc.proofs.Common.{◌≡◌, ℕ, suc, zero, ◌+◌, ◌-◌, ◌%◌, ◌/◌, ◌∙◌, ap, ◌<◌, [], ◌∷◌, cond, refl, arith, get_or, rules, nat_lt, nat_le, ◌&&◌, nat_tests}
+use Rattle.w16_reloc.proofs.Common.{◌≡◌, ℕ, suc, zero, ◌+◌, ◌-◌, ◌%◌, ◌/◌, ◌∙◌, ap, ◌<◌, [], ◌∷◌, cond, refl, arith, get_or, nat_lt, nat_le, ◌&&◌, nat_tests}
 use Rattle.w16_reloc.proofs.value.write.Goals as goal
 
 four : (a b c d k : ℕ) → k < 4 → get_or (a ∷ b ∷ c ∷ d ∷ []) k 0 ≡ cond (nat_lt k 2) (get_or (a ∷ b ∷ []) k 0) (get_or (c ∷ d ∷ []) (k - 2) 0)
@@ -23,6 +23,3 @@ pointer_written offset selector at o new mid old second first = second ∙ ap (�
 
 pub returns-in-Pointer : goal.returns-in-Pointer
 returns-in-Pointer c = λ o. rw c.in-Pointer.is (pointer_written c.args.far.offset c.args.far.selector c.args.at o _ _ _ (c.set_word-in-Pointer-2.ensures o) (c.set_word-in-Pointer.ensures o))
-
-pub returns-in-LowByte : goal.returns-in-LowByte
-returns-in-LowByte c = search rules

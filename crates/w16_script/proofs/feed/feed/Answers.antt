@@ -1,4 +1,4 @@
-use Rattle.w16_script.proofs.Common.{common_steps, err_from_is_err_and, ℕ, List, ◌++◌, [], length-append, sym, ap, ◌∙◌, append-nil, append_assoc, arith, refl, IfErr-weaker, state_with, ended, progress_of}
+use Rattle.w16_script.proofs.Common.{err_from_is_err_and, ℕ, List, ◌++◌, [], length-append, sym, ap, ◌∙◌, append-nil, append_assoc, arith, refl, IfErr-weaker, state_with, ended, progress_of}
 use Rattle.w16_script.proofs.FeedLemmas.{Feeds-trans, Feeds-held, Stops-overflow, Stops-later}
 use Rattle.w16_script.proofs.feed.feed.Goals as goal
 
@@ -31,15 +31,6 @@ returns-clause-err g c =
     (whole ∙ ap (λ (l : List ℕ). done ++ l) (sym (append-nil (c.lines.rest.now ++ []) ∙ append-nil c.lines.rest.now))) feeds
     (Stops-overflow _ _ (progress_of c.lines.state) _ _ c.lines.rest.now [] fault c.in_default.ensures.none (ap (state_with (g.K.Machine.world c.lines.kernel)) c.hold.ensures.registers) over.0 over.1))
     c.hold.ensures.err
-
-pub lines-smaller : goal.lines-smaller
-lines-smaller g c = grind (arith, common_steps)
-
-pub returns-clause-ok : goal.returns-clause-ok
-returns-clause-ok g c = grind (arith, common_steps)
-
-pub returns-clause-room : goal.returns-clause-room
-returns-clause-room g c = grind (arith, common_steps)
 
 pub lines-init : goal.lines-init
 lines-init g c =

@@ -1,4 +1,4 @@
-use Rattle.w16_script.proofs.Common.{common_steps, arith, ◌+◌, Bool, ap, ◌∙◌, if◌then◌else◌, Progress, progress_of}
+use Rattle.w16_script.proofs.Common.{◌+◌, Bool, ap, ◌∙◌, if◌then◌else◌, Progress, progress_of}
 use Rattle.w16_script.proofs.FeedLemmas.{Feeds-whole}
 use Rattle.w16_script.proofs.feed.run_whole.Goals as goal
 
@@ -8,6 +8,3 @@ returns-clause-ok g c =
     rw c.count_line.ensures.registers (Feeds-whole _ _ _ (progress_of c.args.state.now) _ _ _ c.args.line.now c.without_cr-text.result.now c.requires.nothing c.requires.one_line c.requires.short c.without_cr-text.ensures c.in_ok-replied.ensures.ok
     (ap (λ (p : Progress). p.line) counted ∙ c.requires.nothing) (ap (λ (p : Progress). p.lines) counted)
     (ap (λ (p : Progress). p.replies) counted ∙ ap (λ (b : Bool). c.args.state.now.replies + (if b then 1 else 0)) c.in_ok-replied.ensures.replied))
-
-pub returns-clause-room : goal.returns-clause-room
-returns-clause-room g c = grind (arith, common_steps)

@@ -1,4 +1,4 @@
-use Rattle.w16_script.proofs.Common.{common_steps, err_from_is_err_and, ◌<◌, [], ◌∷◌, ap, arith, length-append, refl, sym, ◌∙◌, IfErr-weaker, state_with, Progress, ended, progress_of}
+use Rattle.w16_script.proofs.Common.{err_from_is_err_and, ◌<◌, [], ◌∷◌, ap, arith, length-append, refl, sym, ◌∙◌, IfErr-weaker, state_with, Progress, ended, progress_of}
 use Rattle.w16_script.proofs.FeedLemmas.{Stops-overflow, Stops-full, Stops-line, Stops-whole}
 use Rattle.w16_script.proofs.feed.take_line.Goals as goal
 
@@ -22,9 +22,3 @@ returns-then-takes_whole-clause-err g c =
     let (nothing, short) = c.takes_whole.ensures c.if-takes_whole.true in
     let few : c.args.state.now.lines < 1000000 = let more = c.is_full.ensures.more c.if-is_full.false in let most = c.requires.fits.lines in omega (arith, more, most) in
     IfErr-weaker c.run_whole.result _ _ (λ fault fails. Stops-whole _ _ _ (progress_of c.args.state.now) _ _ c.args.line.now fault nothing c.requires.one_line short c.requires.fits few fails) c.run_whole.ensures.err
-
-pub returns-clause-ok : goal.returns-clause-ok
-returns-clause-ok g c = grind (arith, common_steps)
-
-pub returns-clause-room : goal.returns-clause-room
-returns-clause-room g c = grind (arith, common_steps)

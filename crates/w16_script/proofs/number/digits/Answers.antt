@@ -1,4 +1,4 @@
-use Rattle.w16_script.proofs.Common.{common_steps, arith, sym, ap, ◌∙◌, ◌≡◌, ◌<◌, ◌+◌, ◌*◌, drop, get_or, digit_value}
+use Rattle.w16_script.proofs.Common.{arith, sym, ap, ◌∙◌, ◌≡◌, ◌<◌, ◌+◌, ◌*◌, drop, get_or, digit_value}
 use Rattle.w16_script.proofs.NumberLemmas.{value_behind, value_behind-step, value_behind-whole, all_digits-step}
 use Rattle.w16_script.proofs.number.digits.Goals as goal
 
@@ -25,9 +25,3 @@ loop-byte-preserved c =
           ∙ sym (value_behind-step c.args.base c.loop-byte.value c.in_ok-digit.digit c.loop-byte.byte-index c.args.text.now c.loop-byte-test.true digit) ∙ c.loop-byte.invariant.value;
       digits = sym (all_digits-step c.args.base c.in_ok-digit.digit c.loop-byte.byte-index c.args.text.now c.loop-byte-test.true digit small) ∙ c.loop-byte.invariant.digits;
     }
-
-pub returns-in_err-digit-clause-none : goal.returns-in_err-digit-clause-none
-returns-in_err-digit-clause-none c = grind (arith, common_steps)
-
-pub returns-clause-found : goal.returns-clause-found
-returns-clause-found c = grind (arith, common_steps)

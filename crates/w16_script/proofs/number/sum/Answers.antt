@@ -1,9 +1,5 @@
-use Rattle.std.proofs.Common.{rules}
 use Rattle.w16_script.proofs.number.sum.Goals as goal
 
 pub returns-in_err-more-clause-none : goal.returns-in_err-more-clause-none
 returns-in_err-more-clause-none c =
     rw c.from_residual.ensures (λ more reads small. c.in_err-more.ensures.none more reads)
-
-pub returns-clause-found : goal.returns-clause-found
-returns-clause-found c = search rules

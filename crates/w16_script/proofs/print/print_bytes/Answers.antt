@@ -1,4 +1,4 @@
-use Rattle.w16_script.proofs.Common.{common_steps, ◌≡◌, codes, ◌++◌, [], ◌∷◌, List, ℕ, sym, subst, arith, append-nil, ap, ◌∙◌, Appends-nil, on_err_weaker, encode_lower, reply_text, AppendsFront}
+use Rattle.w16_script.proofs.Common.{◌≡◌, codes, ◌++◌, [], ◌∷◌, List, ℕ, sym, subst, arith, append-nil, ap, ◌∙◌, Appends-nil, on_err_weaker, encode_lower, reply_text, AppendsFront}
 use Rattle.w16_loading.specs.Replies as replies
 use Rattle.w16_script.proofs.WriteLemmas.{on_err, AppendsFront-between}
 use Rattle.w16_script.proofs.PrintLemmas.{bytes_text}
@@ -15,6 +15,3 @@ returns-clause-err g c =
     let text : reply_text (replies.Reply.Bytes c.args.bytes.now) ≡ codes "bytes " ++ digits = bytes_text c.args.bytes.now (grind arith) in
     on_err_weaker c.print_digits.result (λ front. subst (AppendsFront _ _) (ap (λ (l : List ℕ). codes "bytes " ++ l) (append-nil digits) ∙ sym text)
     (AppendsFront-between _ _ _ (codes "bytes ") digits [] c.in_ok-write_whole.ensures.ok front)) c.print_digits.ensures.err
-
-pub returns-clause-ok : goal.returns-clause-ok
-returns-clause-ok g c = grind (arith, common_steps)

@@ -1,4 +1,4 @@
-use Rattle.w16_script.proofs.Common.{[], ◌∷◌, refl, rules, Appends-nil, Event, command_of, reply_of, Said, error_text, reads_back_law}
+use Rattle.w16_script.proofs.Common.{[], ◌∷◌, refl, Appends-nil, Event, command_of, reply_of, Said, error_text, reads_back_law}
 use Rattle.w16_script.proofs.RunLemmas.{Prints-one}
 use Rattle.w16_script.proofs.running.run_line.Goals as goal
 
@@ -60,6 +60,3 @@ returns-in-Err-print_shown-clause-err g c =
       (c.in-Ok-call.ensures.written, tt),
       reads_back_law (g.K.Machine.world c.args.kernel.now) (event ∷ []) (c.in-Ok-call.ensures.written, tt),
     )
-
-pub returns-in-Err-call-clause-err : goal.returns-in-Err-call-clause-err
-returns-in-Err-call-clause-err g c = search rules

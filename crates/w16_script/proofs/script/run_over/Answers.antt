@@ -1,4 +1,4 @@
-use Rattle.w16_script.proofs.Common.{err_from_is_err_and, [], ◌++◌, take, length-take, arith, subst, sym, ap, rules, IfOk-weaker, IfErr-weaker, Consumes-nil, Consumes-trans, state_with, fresh, IsWithinLimits, progress_of}
+use Rattle.w16_script.proofs.Common.{err_from_is_err_and, [], ◌++◌, take, length-take, arith, subst, sym, ap, IfOk-weaker, IfErr-weaker, Consumes-nil, Consumes-trans, state_with, fresh, IsWithinLimits, progress_of}
 use Rattle.w16_script.proofs.FeedLemmas.{Feeds-held, Feeds-kept, Feeds-trans}
 use Rattle.w16_script.proofs.WholeLemmas.{fresh-fits, Script-from, FailsLater-piece, FailsLater-last, Consumes-none}
 use Rattle.w16_script.proofs.script.run_over.Goals as goal
@@ -55,6 +55,3 @@ returns-then-count-eq0-clause-err g c =
       FailsLater-last _ _ _ _ _ _ _ _ _ _ text fault (c.in-Ok.ensures.end c.if-count-eq0.true) (Feeds-kept _ _ _ _ _ _ _ _ text feeds c.flush_writer.ensures) c.pieces.invariant.fits filled fails,
     ))
     c.finish.ensures.err
-
-pub returns-then-is_err-clause-ok : goal.returns-then-is_err-clause-ok
-returns-then-is_err-clause-ok g c = search rules

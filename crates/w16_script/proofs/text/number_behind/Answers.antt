@@ -1,9 +1,6 @@
-use Rattle.w16_script.proofs.Common.{arith, rules}
+use Rattle.w16_script.proofs.Common.{arith}
 use Rattle.w16_script.proofs.OneNumberLemmas.{literal-same}
 use Rattle.w16_script.proofs.text.number_behind.Goals as goal
-
-pub returns-then-number-le-LARGEST_NUMBER-clause-found : goal.returns-then-number-le-LARGEST_NUMBER-clause-found
-returns-then-number-le-LARGEST_NUMBER-clause-found c = search rules
 
 pub returns-else-number-le-LARGEST_NUMBER-clause-none : goal.returns-else-number-le-LARGEST_NUMBER-clause-none
 returns-else-number-le-LARGEST_NUMBER-clause-none c = λ n reads small.

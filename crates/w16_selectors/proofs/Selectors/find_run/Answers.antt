@@ -1,4 +1,4 @@
-use Rattle.std.proofs.Common.{◌≡◌, ◌+◌, length, unwrap_or, sym, ap, ◌∙◌, subst, arith, rules}
+use Rattle.std.proofs.Common.{◌≡◌, ◌+◌, length, unwrap_or, sym, ap, ◌∙◌, subst, arith}
 use Rattle.w16_selectors.specs.Descriptors.{IsUntaken}
 use Rattle.w16_selectors.proofs.Runs.{GoesOn, no_run, none_left, goes_on}
 use Rattle.w16_selectors.proofs.Selectors.find_run.Goals as goal
@@ -22,6 +22,3 @@ returns-clause-none g c =
     let slots = rw c.self.view_is at c.self.inside.descriptors.ok.0 in
     let all : c.len-slots.result ≡ length c.args.self.now = c.len-slots.ensures ∙ slots in
     none_left c.args.self.now c.loop-first.first c.args.count c.loop-first.invariant.lowest (let few = c.loop-first-test.false in omega arith)
-
-pub loop-first-init : goal.loop-first-init
-loop-first-init g c = search rules

@@ -1,4 +1,3 @@
-use Rattle.std.proofs.Common.{rules}
 use Rattle.w16_selectors.proofs.Represented.{SelectorsInvariant-written, AreTaken-written}
 use Rattle.w16_selectors.proofs.Selectors.place.Goals as goal
 
@@ -6,6 +5,3 @@ pub invariant_of-self : goal.invariant_of-self
 invariant_of-self g c =
     let taken = rw (← c.self.view_is) at c.requires.taken in
     (SelectorsInvariant-written _ _ _ _ c.self.invariant.0 taken c.requires.inside, AreTaken-written _ _ _ _ c.self.invariant.1 taken)
-
-pub returns : goal.returns
-returns g c = search rules

@@ -1,4 +1,3 @@
-use Rattle.std.proofs.Common.{rules}
 use Rattle.w16_selectors.proofs.Represented.{unset_reaches, SelectorsInvariant-written, AreTaken-written}
 use Rattle.w16_selectors.proofs.Selectors.vacate.Goals as goal
 
@@ -7,6 +6,3 @@ invariant_of-self g c =
     let taken = rw (← c.self.view_is) at c.requires in
     let unset = c.unset.result in
     (SelectorsInvariant-written _ _ _ unset c.self.invariant.0 taken (unset_reaches unset _ c.unset.ensures), AreTaken-written _ _ _ unset c.self.invariant.1 taken)
-
-pub returns : goal.returns
-returns g c = search rules

@@ -1,5 +1,5 @@
 use Rattle.w16_global.proofs.Common.{◌∙◌, refl, sym, ap, arith, Handles, counted, Global, handles_of}
-use Rattle.w16_global.proofs.Joined.{handles_shown}
+use Rattle.w16_global.proofs.Joined.{handles_shown, one_slot}
 use Rattle.w16_global.proofs.Resizing.{zeros_known, answers_owned, answers_modified, answers_bytes, answers_no_room}
 use Rattle.w16_global.proofs.global.Global16.change_object.Goals as goal
 
@@ -12,13 +12,13 @@ pub returns-then-reallocate-clause-step : goal.returns-then-reallocate-clause-st
 returns-then-reallocate-clause-step g c =
     let s = c.if-reallocate.ensures in
     answers_bytes c.args.self.now.handles (handles_of c.self.inside.objects c.self.inside.attributes.items 0) (ap (λ (x : Handles). record x { moved = 0 }) (handles_shown c.self.view_is)) c.args.handle c.args.size c.args.flags c.in-Some.slot
-    (sym c.in-Some.ensures) c.reallocate.new.self.handles (sym c.if-is_owned.ensures) (sym c.if-has_flag.ensures) c.if-size-eq0.false (omega (arith, c.if-size-gt-LARGEST_SIZE.false)) c.rounded.result c.rounded.ensures c.realloc_options.result c.realloc_options.ensures s.reallocated s.rest
+    (sym c.in-Some.ensures) c.reallocate.new.self.handles (sym c.if-is_owned.ensures) (one_slot c.self.inside.objects c.self.inside.attributes.items c.self.inside.selectors c.self.invariant c.in-Some.slot) (sym c.if-has_flag.ensures) c.if-size-eq0.false (omega (arith, c.if-size-gt-LARGEST_SIZE.false)) c.rounded.result c.rounded.ensures c.realloc_options.result c.realloc_options.ensures s.reallocated s.rest
 
 pub returns-else-reallocate-clause-step : goal.returns-else-reallocate-clause-step
 returns-else-reallocate-clause-step g c =
     let s = c.if-reallocate.ensures in
     answers_no_room c.args.self.now.handles (handles_of c.self.inside.objects c.self.inside.attributes.items 0) (ap (λ (x : Handles). record x { moved = 0 }) (handles_shown c.self.view_is)) c.args.handle c.args.size c.args.flags c.in-Some.slot
-    (sym c.in-Some.ensures) c.reallocate.new.self.handles (sym c.if-is_owned.ensures) (sym c.if-has_flag.ensures) c.if-size-eq0.false (omega (arith, c.if-size-gt-LARGEST_SIZE.false)) c.rounded.result c.rounded.ensures c.realloc_options.result c.realloc_options.ensures s.reallocated s.rest
+    (sym c.in-Some.ensures) c.reallocate.new.self.handles (sym c.if-is_owned.ensures) (one_slot c.self.inside.objects c.self.inside.attributes.items c.self.inside.selectors c.self.invariant c.in-Some.slot) (sym c.if-has_flag.ensures) c.if-size-eq0.false (omega (arith, c.if-size-gt-LARGEST_SIZE.false)) c.rounded.result c.rounded.ensures c.realloc_options.result c.realloc_options.ensures s.reallocated s.rest
 
 pub returns-then-is_owned-clause-step : goal.returns-then-is_owned-clause-step
 returns-then-is_owned-clause-step g c =

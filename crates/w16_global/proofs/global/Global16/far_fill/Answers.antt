@@ -1,5 +1,7 @@
-use Rattle.w16_global.proofs.Common.{lengths, common_steps, true, refl, arith, repeated, length-repeated, All-repeated}
-use Rattle.w16_global.proofs.Access.{has_part, written_joined, fill_known}
+use Rattle.w16_global.proofs.Common.{true, refl, Gives, far_write, repeated, length-repeated, All-repeated}
+use Rattle.w16_model.specs.Far as access
+use Rattle.w16_global.proofs.Reach.{handed_on}
+use Rattle.w16_global.proofs.Access.{has_part, write_faults, written_joined, fill_known}
 use Rattle.w16_global.proofs.Joined.{handles_shown}
 use Rattle.w16_global.proofs.global.Global16.far_fill.Goals as goal
 
@@ -18,4 +20,6 @@ returns-clause-ok g c =
     fill_known c.self.invariant (handles_shown c.self.view_is) true c.args.selector c.args.offset c.args.n c.in_ok-slot.slot ok.0 ok.1 c.args.byte c.fill.new.self c.fill.ensures refl c.touch.new.self.handles (handles_shown c.touch.ensures)
 
 pub returns-in_err-slot-clause-err : goal.returns-in_err-slot-clause-err
-returns-in_err-slot-clause-err g c = grind (arith, common_steps, lengths)
+returns-in_err-slot-clause-err g c =
+    handed_on (λ fault. Gives (far_write c.args.self.now.handles c.args.selector c.args.offset (repeated c.args.n c.args.byte)) (access.FarAnswer.Fault fault) c.args.self.now.handles) c.from_residual.result c.in_err-slot.field-0.0 c.from_residual.ensures.1
+    (write_faults c.args.self.now.handles c.args.selector c.args.offset c.args.n (repeated c.args.n c.args.byte) (length-repeated c.args.n c.args.byte) c.in_err-slot.field-0.0 c.in_err-slot.ensures.err)

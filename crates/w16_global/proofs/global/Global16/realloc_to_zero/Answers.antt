@@ -1,4 +1,4 @@
-use Rattle.std.proofs.Common.{sym, rules}
+use Rattle.std.proofs.Common.{sym}
 use Rattle.w16_global.proofs.Joined.{handles_shown}
 use Rattle.w16_global.proofs.Resizing.{empties_ok}
 use Rattle.w16_global.proofs.global.Global16.realloc_to_zero.Goals as goal
@@ -7,9 +7,3 @@ pub returns-in-Ok-clause-step : goal.returns-in-Ok-clause-step
 returns-in-Ok-clause-step g c =
     let s = c.in-Ok.ensures.ok in
     empties_ok c.args.self.now.handles c.requires.unmoved c.args.handle c.args.slot c.args.flags c.discard.new.self.handles (sym c.if-not-has_flag.ensures) s.0 (handles_shown s.1)
-
-pub returns-in-Err-clause-step : goal.returns-in-Err-clause-step
-returns-in-Err-clause-step g c = search rules
-
-pub returns-then-not-has_flag-clause-step : goal.returns-then-not-has_flag-clause-step
-returns-then-not-has_flag-clause-step g c = search rules

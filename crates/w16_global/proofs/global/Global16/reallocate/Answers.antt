@@ -25,7 +25,7 @@ pub invariant_of-self-2 : goal.invariant_of-self-2
 invariant_of-self-2 g c =
     let s = c.in-Some.ensures in
     let p = c.in-Some.place in
-    reallocated_joined c.self.invariant c.realloc.new.self s.cap c.args.slot (handles_shown c.self.view_is) c.requires.object c.args.size c.args.options s.reallocated s.discarded p.at p.slid.from p.slid.to
+    reallocated_joined c.self.invariant c.realloc.new.self s.cap c.args.slot (handles_shown c.self.view_is) c.requires.object c.args.size c.args.options s.reallocated s.discarded c.requires.small p.at p.slid.from p.slid.to
     c.forget.new.selectors c.follow.new.selectors c.place.new.self s.still s.placed (subst (λ ids. (q : ℕ) → descriptor_at c.forget.new.selectors q ≡ forgotten ids c.self.inside.selectors q) c.discarded.ensures c.forget.ensures.forgotten)
     c.forget.ensures.many c.follow.ensures.followed c.follow.ensures.many c.place.ensures
 

@@ -1,4 +1,4 @@
-use Rattle.w16_global.proofs.Common.{ap, sym, ◌∙◌, rules, Handles, moved_bytes, counted, Global}
+use Rattle.w16_global.proofs.Common.{ap, sym, ◌∙◌, Handles, moved_bytes, counted, Global}
 use Rattle.w16_global.proofs.Joined.{handles_shown}
 use Rattle.w16_global.proofs.Owning.{none_written, own_size, revived_written}
 use Rattle.w16_global.proofs.global.Global16.revive.Goals as goal
@@ -8,6 +8,9 @@ reallocate-revived-requires-clause-some g c = (own_size c.self.invariant (handle
 
 pub reallocate-revived-requires-clause-rounded : goal.reallocate-revived-requires-clause-rounded
 reallocate-revived-requires-clause-rounded g c = (own_size c.self.invariant (handles_shown c.self.view_is) _ c.in-Some-owned_at.owned c.in-Some-owned_at.ensures).1
+
+pub reallocate-revived-requires-clause-small : goal.reallocate-revived-requires-clause-small
+reallocate-revived-requires-clause-small g c = (own_size c.self.invariant (handles_shown c.self.view_is) _ c.in-Some-owned_at.owned c.in-Some-owned_at.ensures).2
 
 pub returns-in_default-clause-written : goal.returns-in_default-clause-written
 returns-in_default-clause-written g c = none_written c.args.self.now.written c.args.self.now.handles.heap
@@ -24,21 +27,3 @@ returns-clause-written g c =
     ap (λ (g : Global). g.written) c.self-2.view_is
     ∙ revived_written c.args.self.now c.reallocate-revived.new.self c.in-Some.slot c.in-Some-owned_at.owned.size c.reallocate-revived.result s.reallocated (ap (λ (w : Handles). w.moved) s.rest) s.written
     ∙ ap (λ (g : Global). counted c.args.self.now.written (moved_bytes c.args.self.now.handles.heap g.handles.heap)) (sym c.self-2.view_is)
-
-pub returns-clause-revived : goal.returns-clause-revived
-returns-clause-revived g c = search rules
-
-pub returns-clause-named : goal.returns-clause-named
-returns-clause-named g c = search rules
-
-pub returns-clause-refused : goal.returns-clause-refused
-returns-clause-refused g c = search rules
-
-pub returns-clause-lacks : goal.returns-clause-lacks
-returns-clause-lacks g c = search rules
-
-pub returns-then-is_some-clause-lacks : goal.returns-then-is_some-clause-lacks
-returns-then-is_some-clause-lacks g c = search rules
-
-pub returns-in_default-owned_at-clause-lacks : goal.returns-in_default-owned_at-clause-lacks
-returns-in_default-owned_at-clause-lacks g c = search rules

@@ -10,9 +10,3 @@ returns-clause-inside g c = (ends_low c.self.invariant c.in_ok-placed.placed.at 
 
 pub returns-clause-few : goal.returns-clause-few
 returns-clause-few g c = (ends_low c.self.invariant c.self.inside.arena.table.lo c.in_ok-placed.placed.moved c.self.inside.memory.small (search rules)).1
-
-pub returns-clause-moved : goal.returns-clause-moved
-returns-clause-moved g c = search rules
-
-pub returns-clause-written : goal.returns-clause-written
-returns-clause-written g c = search rules

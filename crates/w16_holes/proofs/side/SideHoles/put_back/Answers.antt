@@ -1,5 +1,5 @@
-use Rattle.w16_holes.proofs.Common.{common_steps, ℕ, option_map, ◌≡◌, ◌+◌, ◌*◌, ◌-◌, length, arith, sym, ap, ◌∙◌, subst, slice_index, length-set, IsMultiple, Range, Free, last_before, spans, AreCells, Inside}
-use Rattle.w16_holes.proofs.Units.{multiple_sum}
+use Rattle.w16_holes.proofs.Common.{ℕ, option_map, ◌≡◌, ◌+◌, ◌*◌, ◌-◌, length, arith, sym, ap, ◌∙◌, subst, inl, inr, cases_lt, slice_index, length-set, IsMultiple, Range, Free, last_before, spans, AreCells, Inside}
+use Rattle.w16_holes.proofs.Units.{multiple_sum, up}
 use Rattle.w16_holes.proofs.Last.{last_cell}
 use Rattle.w16_holes.proofs.Told.{put_lt, put_next, put_before, put_spans}
 use Rattle.w16_holes.proofs.Steps.{two_sets, sets_apart, is_put, AreCells-put}
@@ -49,10 +49,11 @@ returns-clause-holes g c =
     rw (← c.self.view_is) (ap (spans s.grain s.lo) cells ∙ put_spans t)
 
 pub begin_of-begin-requires-clause-inside : goal.begin_of-begin-requires-clause-inside
-begin_of-begin-requires-clause-inside g c = grind (arith, common_steps)
-
-pub get-requires : goal.get-requires
-get-requires g c = grind (arith, common_steps)
-
-pub overflow_add-end-2 : goal.overflow_add-end-2
-overflow_add-end-2 g c = grind (arith, common_steps)
+begin_of-begin-requires-clause-inside g c =
+    let s = c.self.inside in let u = c.unit_of-unit.result in
+    let is = c.unit_of-unit.ensures in let long = c.self.invariant.long in
+    let high = ap (λ (f : Free). f.range.hi) c.self.view_is in let to = c.requires.part.to in
+    elim (cases_lt u (length s.lengths)) [
+      | inl less ↦ omega arith
+      | inr past ↦ let r = up s.grain (length s.lengths) u past in absurd (omega arith)
+    ]

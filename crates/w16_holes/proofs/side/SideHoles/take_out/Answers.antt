@@ -1,4 +1,4 @@
-use Rattle.w16_holes.proofs.Common.{common_steps, ℕ, length, option_map, ◌≡◌, ◌+◌, ◌*◌, ◌-◌, arith, sym, ap, ◌∙◌, subst, slice_index, length-set, IsMultiple, Range, Free, last_before, spans, AreCells, Inside}
+use Rattle.w16_holes.proofs.Common.{ℕ, length, option_map, ◌≡◌, ◌+◌, ◌*◌, ◌-◌, arith, sym, ap, ◌∙◌, subst, slice_index, length-set, IsMultiple, Range, Free, last_before, spans, AreCells, Inside}
 use Rattle.w16_holes.proofs.Units.{multiple_sum}
 use Rattle.w16_holes.proofs.Last.{last_cell}
 use Rattle.w16_holes.proofs.Told.{take_none, take_from, take_to, take_inside, take_lt, take_next, take_spans, k_below_q}
@@ -72,6 +72,3 @@ pub returns-in_default-clause-holes : goal.returns-in_default-clause-holes
 returns-in_default-clause-holes g c =
     let t = is_take (range c.self.inside) c.self.inside.lengths c.args.self.now c.self.view_is c.self.invariant c.args.place c.args.n c.unit_of-unit.result c.unit_of-next.result c.requires.part c.unit_of-unit.ensures c.unit_of-next.ensures c.requires.free in
     absurd (take_none t c.in_default.ensures)
-
-pub last_to-requires-clause-inside : goal.last_to-requires-clause-inside
-last_to-requires-clause-inside g c = grind (arith, common_steps)

@@ -22,9 +22,6 @@ module _ {A : Type 0} (modules : Modules) (files : Files) (old : Closure A) (nam
   refused before after faults.Device h = h
   refused before after faults.OutOfMemory h = h
 
-pub returns-in-Some-clause-any : goal.returns-in-Some-clause-any
-returns-in-Some-clause-any g c = grind (arith, common_steps)
-
 pub returns-in-Some-clause-ok : goal.returns-in-Some-clause-ok
 returns-in-Some-clause-ok g c = grind (arith, common_steps) steps 40000000
 

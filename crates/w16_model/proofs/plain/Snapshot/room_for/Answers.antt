@@ -1,9 +1,6 @@
-use Rattle.w16_model.proofs.Common.{◌∙◌, arith, common_steps}
+use Rattle.w16_model.proofs.Common.{◌∙◌}
 use Rattle.w16_model.proofs.Trials.{placed_without}
 use Rattle.w16_model.proofs.plain.Snapshot.room_for.Goals as goal
 
 pub room-requires : goal.room-requires
 room-requires c = placed_without c.args.self.now.lo c.args.self.now.hi c.args.self.now.blocks.now _ _ _ c.requires (c.deref-2.ensures.value ∙ c.in_ok-blocks.ensures)
-
-pub returns : goal.returns
-returns c = grind (arith, common_steps)

@@ -1,4 +1,4 @@
-use Rattle.w16_region.proofs.Common.{common_steps, ℕ, List, ap, ◌∙◌, arith, rules, word_in}
+use Rattle.w16_region.proofs.Common.{ℕ, List, ap, ◌∙◌, word_in}
 use Rattle.w16_region.proofs.Words.{items-put_word, word_in-put_word}
 use Rattle.w16_region.proofs.region.Region.set_word.Goals as goal
 
@@ -9,15 +9,3 @@ pub returns-clause-word : goal.returns-clause-word
 returns-clause-word g c =
     ap (λ (l : List ℕ). word_in l c.args.at) (items-put_word c.args.self.now.bytes c.args.at c.args.value c.lend_part.result.now c.write_u32.new.buf c.requires c.lend_part.ensures.value c.write_u32.ensures)
     ∙ word_in-put_word c.args.self.now.bytes.items c.args.at c.args.value c.requires c.ranges.value.fits
-
-pub write_u32-requires : goal.write_u32-requires
-write_u32-requires g c = grind (arith, common_steps)
-
-pub invariant_of-self : goal.invariant_of-self
-invariant_of-self g c = grind (arith, common_steps)
-
-pub returns-clause-length : goal.returns-clause-length
-returns-clause-length g c = grind (arith, common_steps)
-
-pub returns-clause-written : goal.returns-clause-written
-returns-clause-written g c = search rules

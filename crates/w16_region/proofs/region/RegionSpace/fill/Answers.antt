@@ -1,8 +1,5 @@
-use Rattle.w16_region.proofs.Common.{lengths, repeated, common_steps, rules, arith}
+use Rattle.w16_region.proofs.Common.{lengths, repeated, common_steps, arith}
 use Rattle.w16_region.proofs.region.RegionSpace.fill.Goals as goal
-
-pub returns-clause-written : goal.returns-clause-written
-returns-clause-written g c = search rules
 
 pub returns-clause-bytes : goal.returns-clause-bytes
 unfolding repeated

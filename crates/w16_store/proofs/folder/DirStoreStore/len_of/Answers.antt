@@ -20,9 +20,6 @@ returns-in-Ok-clause-honest g c = λ honest.
     let read = c.in-Ok.ensures.honest honest in
     length_from_read names (g.D.Disk.files c.args.self.now.disk) name c.in-Some.listed.now read.0 c.in-Ok.len is read.1 read.2
 
-pub returns-in-Err-clause-honest : goal.returns-in-Err-clause-honest
-returns-in-Err-clause-honest g c = search rules
-
 pub returns-in-Ok-clause-bytes : goal.returns-in-Ok-clause-bytes
 returns-in-Ok-clause-bytes g c = λ honest.
     let names = map string_bytes c.args.self.now.names.items in

@@ -25,6 +25,3 @@ returns-else-has_part-clause-honest g c = λ honest.
     let name = c.args.name.now in
     let is : Some c.in-Some.listed.now ≡ find (λ m. is_named m name) names = search rules in
     short_from_read names (g.D.Disk.files c.args.self.now.disk) name c.in-Some.listed.now 0 0 c.in-Ok.len c.args.at c.args.buf.now c.read.new.buf is (c.in-Ok.ensures.honest honest) (search rules)
-
-pub returns-in_default-read-clause-honest : goal.returns-in_default-read-clause-honest
-returns-in_default-read-clause-honest g c = search rules

@@ -1,0 +1,26 @@
+use Rattle.w16_arena.proofs.Common.{ap, ◌∙◌, Layout, ArenaState, heap_in}
+use Rattle.w16_arena.specs.State.{table_of}
+use Rattle.w16_arena.proofs.Keeping.{heap_kept, keeps_holes}
+use Rattle.w16_arena.proofs.Later.{kept_later}
+use Rattle.w16_arena.proofs.Arena.set_end.Goals as goal
+
+pub invariant_of-self : goal.invariant_of-self
+invariant_of-self g c = kept_later c.self.invariant c.self.view_is c.args.end c.requires.later c.set_end.ensures.value
+
+pub returns-clause-value : goal.returns-clause-value
+returns-clause-value g c =
+    let s = c.self.inside in
+    ap (λ (l : Layout). record { table = table_of s.entries.items l s.order.ids; discarded = s.discarded.items }) c.set_end.ensures.value
+    ∙ ap (λ (a : ArenaState). record a { table = record a.table { hi = c.args.end } }) c.self.view_is
+
+pub returns-clause-sound : goal.returns-clause-sound
+returns-clause-sound g c = (invariant_of-self g c).sound
+
+pub returns-clause-bytes : goal.returns-clause-bytes
+returns-clause-bytes g c = let l = c.set_end.new.self in keeps_holes l.lo l.hi l.blocks c.args.space.now c.set_end.new.space c.set_end.ensures.ordered.laid c.set_end.ensures.bytes c.set_end.ensures.lenders c.set_end.ensures.written
+
+pub returns-clause-heap : goal.returns-clause-heap
+returns-clause-heap g c =
+    let s = c.self.inside in let old = g.S.Space.bytes c.args.space.now in let new = g.S.Space.bytes c.set_end.new.space in
+    heap_kept old new (table_of s.entries.items c.set_end.new.self s.order.ids) (returns-clause-bytes g c).contents
+    ∙ ap (λ (a : ArenaState). heap_in a.table old) (returns-clause-value g c)

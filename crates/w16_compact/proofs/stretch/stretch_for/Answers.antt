@@ -1,0 +1,126 @@
+use Rattle.w16_compact.proofs.Common.{◌≡◌, ◌+◌, ◌-◌, ℕ, max, nat_le, filter, arith, refl, sym, ap, ◌∙◌, subst, Span, room, laid_later}
+use Rattle.w16_compact.proofs.OnePass.{ord_max-max}
+use Rattle.w16_compact.proofs.ByAddress.{all_left, may_begin}
+use Rattle.w16_compact.proofs.Skips.{IsPassed, rest_is, passed_start, passed_end, ends_now_all, id_here}
+use Rattle.w16_compact.proofs.Stays.{seen, stays, goes_for, laid_seen, seen_none, reaches, turn_out, turn_sliding, turn_still, prefix_is}
+use Rattle.w16_compact.proofs.stretch.stretch_for.Goals as goal
+
+pub loop-block-init : goal.loop-block-init
+loop-block-init g c =
+    let l = c.args.blocks.now in let it = c.into_iter-block-iterator.result in let o = c.args.options in
+    let p = stays o.compact (goes_for l.blocks c.args.order.now.ids c.args.h o.discard) in let xs = seen o.compact l.blocks in
+    let is = c.into_iter-block-iterator.ensures.into_iter_gives in
+    let same : it.blocks.now ≡ l = ap (λ x. x.blocks.now) is ∙ c.by_address-block-items.ensures.blocks in
+    let space : it.space.now ≡ c.args.space.now = ap (λ x. x.space.now) is ∙ c.by_address-block-items.ensures.space in
+    let first : it.from ≡ 0 = ap (λ x. x.from) is ∙ c.by_address-block-items.ensures.from in
+    record {
+      may = may_begin g.H.Holes.are_in l it.blocks.now (g.S.Space.bytes c.args.space.now) (g.S.Space.bytes it.space.now) same (ap g.S.Space.bytes space) c.requires;
+      ends = tt;
+      passed = (
+        0,
+        all_left l it.blocks.now it.from same first,
+        λ end le.
+            subst (λ (s : Span). IsPassed p end xs (room l.lo end (filter p xs)) 0 0 s.from 0) (sym c.bounds-bounds.ensures.value)
+            (passed_start p l.lo end xs (laid_seen o.compact l.lo end l.blocks (laid_later l.lo l.hi end l.blocks c.bounds-bounds.ensures.ordered.laid le))),
+      );
+    }
+
+pub is_left_out-requires : goal.is_left_out-requires
+is_left_out-requires g c =
+    let l = c.args.blocks.now in let now = c.loop-block.invariant in
+    id_here l.cap l.blocks c.in-Some.block _ now.passed.0 (now.passed.1 ∙ c.in-Some.ensures.steps) c.bounds-bounds.ensures.ordered.named
+
+pub loop-block-preserved-then-is_left_out : goal.loop-block-preserved-then-is_left_out
+loop-block-preserved-then-is_left_out g c =
+    let l = c.args.blocks.now in let now = c.loop-block.invariant in let o = c.args.options in let goes = goes_for l.blocks c.args.order.now.ids c.args.h o.discard in
+    let here = now.passed.1 ∙ c.in-Some.ensures.steps in let on = c.in-Some.ensures.goes.on now.ends in
+    record {
+      may = on.0;
+      ends = on.1;
+      passed = (
+        now.passed.0 + 1,
+        rest_is l.blocks c.in-Some.block _ now.passed.0 here,
+        λ end le.
+            turn_out goes end _ l.blocks c.in-Some.block _ now.passed.0 here c.loop-block.most c.loop-block.reached o.compact (sym c.is_left_out.ensures ∙ c.if-is_left_out.true) (now.passed.2 end le),
+      );
+    }
+
+-- the next block's place, and the bytes before it
+pub passing-reached-requires : goal.passing-reached-requires
+passing-reached-requires g c =
+    let l = c.args.blocks.now in let now = c.loop-block.invariant in let o = c.args.options in
+    let r = reaches (goes_for l.blocks c.args.order.now.ids c.args.h o.discard) l.hi _ l.blocks c.in-Some.block _ now.passed.0 (now.passed.1 ∙ c.in-Some.ensures.steps) c.loop-block.most c.loop-block.reached o.compact (now.passed.2 l.hi (omega arith)) in
+    let small = c.bounds-bounds.ensures.ordered.small in let from = r.0 in let to = r.1 in
+    record { end = omega arith; sum = omega arith }
+
+pub loop-block-preserved-then-may_slide : goal.loop-block-preserved-then-may_slide
+loop-block-preserved-then-may_slide g c =
+    let l = c.args.blocks.now in let now = c.loop-block.invariant in let o = c.args.options in let goes = goes_for l.blocks c.args.order.now.ids c.args.h o.discard in
+    let here = now.passed.1 ∙ c.in-Some.ensures.steps in let on = c.in-Some.ensures.goes.on now.ends in
+    record {
+      may = on.0;
+      ends = on.1;
+      passed = (
+        now.passed.0 + 1,
+        rest_is l.blocks c.in-Some.block _ now.passed.0 here,
+        λ end le.
+            turn_sliding goes end _ l.blocks c.in-Some.block _ now.passed.0 here c.loop-block.most c.loop-block.reached o.compact (sym c.is_left_out.ensures ∙ c.if-is_left_out.false) (sym c.may_slide.ensures ∙ c.if-may_slide.true)
+            c.passing-reached.result c.passing-reached.ensures (now.passed.2 end le),
+      );
+    }
+
+pub room_to-requires : goal.room_to-requires
+room_to-requires g c =
+    let l = c.args.blocks.now in let now = c.loop-block.invariant in let o = c.args.options in
+    (reaches (goes_for l.blocks c.args.order.now.ids c.args.h o.discard) l.hi _ l.blocks c.in-Some.block _ now.passed.0 (now.passed.1 ∙ c.in-Some.ensures.steps) c.loop-block.most c.loop-block.reached o.compact (now.passed.2 l.hi (omega arith))).0
+
+pub overflow_add-reached : goal.overflow_add-reached
+overflow_add-reached g c =
+    let l = c.args.blocks.now in let now = c.loop-block.invariant in let o = c.args.options in
+    let r = reaches (goes_for l.blocks c.args.order.now.ids c.args.h o.discard) l.hi _ l.blocks c.in-Some.block _ now.passed.0 (now.passed.1 ∙ c.in-Some.ensures.steps) c.loop-block.most c.loop-block.reached o.compact (now.passed.2 l.hi (omega arith)) in
+    let small = c.bounds-bounds.ensures.ordered.small in let to = r.1 in record { fits = omega arith }
+
+pub loop-block-preserved : goal.loop-block-preserved
+loop-block-preserved g c =
+    let l = c.args.blocks.now in let now = c.loop-block.invariant in let o = c.args.options in let goes = goes_for l.blocks c.args.order.now.ids c.args.h o.discard in
+    let here = now.passed.1 ∙ c.in-Some.ensures.steps in let on = c.in-Some.ensures.goes.on now.ends in
+    let most = c.max-most.ensures ∙ ord_max-max c.loop-block.most _ ∙ ap (max c.loop-block.most) c.room_to.ensures in
+    record {
+      may = on.0;
+      ends = on.1;
+      passed = (
+        now.passed.0 + 1,
+        rest_is l.blocks c.in-Some.block _ now.passed.0 here,
+        λ end le.
+            turn_still goes end _ l.blocks c.in-Some.block _ now.passed.0 here c.loop-block.most c.loop-block.reached o.compact (sym c.is_left_out.ensures ∙ c.if-is_left_out.false) (sym c.may_slide.ensures ∙ c.if-may_slide.false)
+            c.max-most.result most (now.passed.2 end le),
+      );
+    }
+
+-- behind the last block
+pub room_to-requires-2 : goal.room_to-requires-2
+room_to-requires-2 g c =
+    let l = c.args.blocks.now in let now = c.loop-block.invariant in let o = c.args.options in
+    let p = stays o.compact (goes_for l.blocks c.args.order.now.ids c.args.h o.discard) in
+    let to : c.bounds-bounds.result.to ≡ l.hi = ap (λ (s : Span). s.to) c.bounds-bounds.ensures.value in
+    let le = ends_now_all p l.hi (seen o.compact l.blocks) _ now.passed.0 (seen_none o.compact l.blocks now.passed.0 (now.passed.1 ∙ c.in-None.ensures.steps.0)) c.loop-block.most c.loop-block.reached (now.passed.2 l.hi (omega arith)) in
+    omega arith
+
+pub overflow_add-result : goal.overflow_add-result
+overflow_add-result g c =
+    let l = c.args.blocks.now in let now = c.loop-block.invariant in let o = c.args.options in
+    let p = stays o.compact (goes_for l.blocks c.args.order.now.ids c.args.h o.discard) in
+    let le = ends_now_all p l.hi (seen o.compact l.blocks) _ now.passed.0 (seen_none o.compact l.blocks now.passed.0 (now.passed.1 ∙ c.in-None.ensures.steps.0)) c.loop-block.most c.loop-block.reached (now.passed.2 l.hi (omega arith)) in
+    let small = c.bounds-bounds.ensures.ordered.small in record { fits = omega arith }
+
+pub returns-clause-value : goal.returns-clause-value
+returns-clause-value g c = λ end n le.
+    let l = c.args.blocks.now in let now = c.loop-block.invariant in let o = c.args.options in let r = c.loop-block.reached in
+    let p = stays o.compact (goes_for l.blocks c.args.order.now.ids c.args.h o.discard) in let xs = seen o.compact l.blocks in
+    let none = seen_none o.compact l.blocks now.passed.0 (now.passed.1 ∙ c.in-None.ensures.steps.0) in
+    let whole : max c.loop-block.most (end - r.low - r.loose) ≡ room l.lo end (filter p xs) = passed_end p end xs _ now.passed.0 none c.loop-block.most r (now.passed.2 end le) (max c.loop-block.most (end - r.low - r.loose)) refl in
+    let to : c.bounds-bounds.result.to ≡ l.hi = ap (λ (s : Span). s.to) c.bounds-bounds.ensures.value in
+    let last : c.room_to-2.result ≡ l.hi - r.low - r.loose = c.room_to-2.ensures ∙ ap (λ (k : ℕ). k - r.low - r.loose) to in
+    let best : c.max.result ≡ max c.loop-block.most (l.hi - r.low - r.loose) = c.max.ensures ∙ ap (λ (k : ℕ). max c.loop-block.most k) last in
+    let at : max c.max.result (end - (r.low + r.loose)) ≡ max c.loop-block.most (end - r.low - r.loose) = omega arith in
+    ap (nat_le n) (at ∙ whole) ∙ sym (prefix_is l.lo end l.blocks c.args.order.now.ids n c.args.h o)

@@ -1,0 +1,199 @@
+-- An answered reallocation of an object to n bytes: its object has the run of slots that these need, and what is left are handles.
+use Rattle.w16_model.proofs.Common.{◌≡◌, ◌≢◌, ℕ, ◌+◌, ◌-◌, ◌<◌, ◌≤◌, inl, inr, Bool, true, false, cond, ◌==◌, if◌then◌else◌, nat_lt, IfSome, IsSomeAnd, List, [], map, take, Option, Some, None, unwrap_or, is_some, refl, sym, ap, ◌∙◌, subst, arith, eq-eqb, ne_eqb, ltb-true, ltb-false, nat_cmp, FinMap, false≢true, cases_Bool, cases_eq, Discardable, RoomOptions, Attributes, FIRST_SLOT, REACH, eligible, is_member, Heap, Object, IsHeap, blocks, object_at, bytes_at, Reallocates, Handles, AreHandles, IsRun, IsSized, IsFreeSlot, slots_at, slots_for, owner_of, AreResized, KeepsRest, is_owned, CanExtend, GetsRun, rekeyed, rehoused, with_run}
+use Rattle.std.specs.FinMap as finmap
+use Rattle.w16_model.specs.Reallocation.{IsResized}
+use Rattle.w16_model.specs.Owned.{owned_in}
+use Rattle.w16_model.specs.declared.Owned.{Owned}
+use Rattle.w16_model.proofs.KeptHeaps.{bytes_in, inserted_here, inserted_other, taken_here, taken_other}
+use Rattle.w16_model.proofs.Runs.{IsIn, no_owner, none_owns, one_owner, first_in, was_in, not_gone, slots_of, slots_with, slots_beside, slots_left, runs_with, runs_without, some_slots, unused}
+use Rattle.w16_model.proofs.Rehoused.{swap_to, swap_from, swap_other, object_there, rehoused_heap, new as moved_heap}
+use Rattle.w16_model.proofs.KeptHandles.{sized_is}
+use Rattle.w16_model.proofs.Reallocations.{heap_law}
+use Rattle.w16_model.proofs.KeptRest.{rest_law}
+
+-- an object has a slot, and where one is enough it stays
+module _ (old : Handles) (is : AreHandles old) (slot : ℕ) (o : Object) (there : object_at old.heap slot ≡ Some o) where
+  has_attributes : is_some (finmap.get old.attributes slot) ≡ true
+  has_attributes = is.attributed slot ∙ ap is_some there
+
+  pub stays : (n : ℕ) (options : RoomOptions) (first : ℕ) → n ≤ REACH → GetsRun old slot o options (slots_for n) first → first ≡ slot
+  stays n options first few gets = elim gets [
+    | inl here ↦ here.1
+    | inr goes ↦ absurd (goes.0 (λ k below. absurd (never below)))
+  ]
+    where
+      one : slots_for n ≤ 1
+      one = omega (arith, few)
+
+      never : {k : ℕ} → k < slots_for n - slots_at old.attributes slot → ⊥
+      never below = omega (arith, below, one, (first_in old.slots old.attributes is.runs slot has_attributes).1)
+
+module _ (old : Handles) (is : AreHandles old) (slot n : ℕ) (options : RoomOptions) (o : Object) (there : object_at old.heap slot ≡ Some o) (first : ℕ) (gets : GetsRun old slot o options (slots_for n) first)
+    (heap : Heap) (resized : Reallocates old.heap slot n options true heap) where
+  sound : IsHeap heap
+  sound = heap_law old.heap heap slot n options true is.heap resized
+
+  pub keeps : KeepsRest old.heap slot n o options heap
+  keeps = subst (λ p. IsSomeAnd p (λ o. KeepsRest old.heap slot n o options heap)) there (rest_law old.heap heap slot n options is.heap resized)
+
+  -- the other slots have an object where they had one, with enough slots
+  abbrev Kept : ℕ → Option Object → Type 0
+  Kept q before = (is_some (object_at heap q) ≡ is_some before) × IsSized (slots_at old.attributes q) (bytes_at heap q)
+
+  kept : (q : ℕ) → q ≢ slot → Kept q (object_at old.heap q)
+  kept q d = elim (cases_Bool (is_member q (take keeps.count (eligible (blocks old.heap) old.heap.order (Some slot))))) [
+    | inl t ↦ gone (object_at old.heap q) (keeps.others.discarded q t)
+    | inr f ↦
+        let same : object_at heap q ≡ object_at old.heap q = keeps.others.kept q (λ e. let at : slot ≡ q = cc in d (sym at)) (λ t. false≢true (sym f ∙ t)) in
+        (ap is_some same, sized_is refl (ap bytes_in same) (is.sized q))
+  ]
+    where
+      gone : (p : Option Object) → IsSomeAnd p (λ o. (o.kind ≡ Discardable) × (o.locks ≡ 0) × (is_some o.bytes ≡ true) × (object_at heap q ≡ Some (record o { bytes = None }))) → Kept q p
+      gone None h = absurd h
+      gone (Some o) h = (ap is_some h.3, sized_is refl (ap bytes_in h.3) tt)
+
+  -- a new first slot had none
+  free_there : slot ≢ first → object_at heap first ≡ None
+  free_there d = turn (object_at heap first) refl ((kept first (λ e. d (sym e))).0 ∙ ap is_some none)
+    where
+      none : object_at old.heap first ≡ None
+      none = elim gets [
+        | inl here ↦ absurd (d (sym here.1))
+        | inr goes ↦ unused old is first (slots_for n) (some_slots n) goes.2
+      ]
+
+      turn : (p : Option Object) → object_at heap first ≡ p → is_some p ≡ false → object_at heap first ≡ None
+      turn None e f = e
+      turn (Some o) e f = absurd (false≢true (sym f))
+
+  -- The heap with the object at its first slot.
+  abbrev pub housed : Heap
+  housed = rehoused heap slot first
+
+  abbrev either : Bool → Heap
+  either b = cond b heap (record heap { objects = rekeyed heap.objects slot first; places = rekeyed heap.places slot first; order = map (λ q. if q == slot then first else q) heap.order })
+
+  pub housed_here : slot ≡ first → housed ≡ heap
+  housed_here e = ap either (eq-eqb slot first e)
+
+  housed_there : (d : slot ≢ first) → housed ≡ moved_heap slot first d heap sound (free_there d)
+  housed_there d = ap either (ne_eqb slot first d)
+
+  housed_heap : IsHeap housed
+  housed_heap = elim (cases_eq slot first) [
+    | inl e ↦ subst IsHeap (sym (housed_here e)) sound
+    | inr d ↦ subst IsHeap (sym (housed_there d)) (rehoused_heap slot first d heap sound (free_there d))
+  ]
+
+  pub housed_range : (housed.lo ≡ heap.lo) × (housed.hi ≡ heap.hi) × (housed.grain ≡ heap.grain)
+  housed_range = turn (slot == first)
+    where
+      turn : (b : Bool) → ((either b).lo ≡ heap.lo) × ((either b).hi ≡ heap.hi) × ((either b).grain ≡ heap.grain)
+      turn true = (refl, refl, refl)
+      turn false = (refl, refl, refl)
+
+  object_of : (d : slot ≢ first) (q : ℕ) → object_at housed q ≡ object_at (moved_heap slot first d heap sound (free_there d)) q
+  object_of d q = ap (λ (h : Heap). object_at h q) (housed_there d)
+
+  pub housed_first : object_at housed first ≡ object_at heap slot
+  housed_first = elim (cases_eq slot first) [
+    | inl e ↦ ap (λ (h : Heap). object_at h first) (housed_here e) ∙ ap (object_at heap) (sym e)
+    | inr d ↦ object_of d first ∙ object_there slot first d heap sound (free_there d) first ∙ ap (object_at heap) (swap_to slot first d first refl)
+  ]
+
+  pub housed_old : slot ≢ first → object_at housed slot ≡ None
+  housed_old d = object_of d slot ∙ object_there slot first d heap sound (free_there d) slot ∙ ap (object_at heap) (swap_from slot first d slot refl) ∙ free_there d
+
+  pub housed_other : (q : ℕ) → q ≢ first → q ≢ slot → object_at housed q ≡ object_at heap q
+  housed_other q c b = elim (cases_eq slot first) [
+    | inl e ↦ ap (λ (h : Heap). object_at h q) (housed_here e)
+    | inr d ↦ object_of d q ∙ object_there slot first d heap sound (free_there d) q ∙ ap (object_at heap) (swap_other slot first d q c b)
+  ]
+
+  -- Its attributes.
+  abbrev left : FinMap nat_cmp Attributes
+  left = finmap.remove old.attributes slot
+
+  had : (a : Attributes) × (finmap.get old.attributes slot ≡ Some a)
+  had = turn (finmap.get old.attributes slot) refl (has_attributes old is slot o there)
+    where
+      turn : (p : Option Attributes) → finmap.get old.attributes slot ≡ p → is_some p ≡ true → (a : Attributes) × (finmap.get old.attributes slot ≡ Some a)
+      turn None e t = absurd (false≢true t)
+      turn (Some a) e t = (a, e)
+
+  abbrev given : Attributes
+  given = record had.0 { slots = slots_for n }
+
+  run_is : with_run old.attributes slot first (slots_for n) ≡ finmap.insert left first given
+  run_is = ap (λ p. elim p as (λ _. FinMap nat_cmp Attributes) [ Some a ↦ finmap.insert left first (record a { slots = slots_for n }) | None ↦ old.attributes ]) had.1
+
+  -- a slot that has no owner has none once a run is gone, and neither have the slots of that run
+  abbrev IsLeft : ℕ → Type 0
+  IsLeft s = (FIRST_SLOT ≤ s) × (s < FIRST_SLOT + old.slots) × (owner_of left s ≡ None)
+
+  free_left : (s : ℕ) → IsFreeSlot old s → IsLeft s
+  free_left s free = (free.0.0, free.0.1, none_owns left s (λ q lies. no_owner old.attributes s free.1 q (was_in old.attributes slot q s lies)))
+
+  own_left : (s : ℕ) → IsIn old.attributes s slot → IsLeft s
+  own_left s own =
+      let run : IsRun old.slots slot had.0 = subst (λ p. IfSome p (IsRun old.slots slot)) had.1 (is.runs.each slot) in (
+        omega (arith, run.1, own.0),
+        omega (arith, run.2, own.1, slots_of old.attributes slot had.0 had.1),
+        none_owns left s (λ q lies. not_gone old.attributes slot q s lies (one_owner old.attributes old.slots is.runs s q slot (was_in old.attributes slot q s lies) own)),
+      )
+
+  run_left : (k : ℕ) → k < slots_for n → IsLeft (first + k)
+  run_left k below = elim gets [
+    | inl here ↦ subst (λ f. IsLeft (f + k)) (sym here.1) (at_home here.0)
+    | inr goes ↦ free_left (first + k) (goes.2 k below)
+  ]
+    where
+      at_home : CanExtend old slot (slots_for n) → IsLeft (slot + k)
+      at_home extends = elim (cases_Bool (nat_lt k (slots_at old.attributes slot))) [
+        | inl t ↦ own_left (slot + k) (omega arith, omega (arith, ltb-true k (slots_at old.attributes slot) t))
+        | inr f ↦
+            let g : slots_at old.attributes slot ≤ k = ltb-false k (slots_at old.attributes slot) f in
+            let at : slot + slots_at old.attributes slot + (k - slots_at old.attributes slot) ≡ slot + k = omega (arith, g) in
+            subst IsLeft at (free_left _ (extends (k - slots_at old.attributes slot) (omega (arith, below, g))))
+      ]
+
+  -- as many slots as the new bytes need
+  new_sized : (p : Option Object) → IsSomeAnd p (IsResized options.zero n o) → IsSized (slots_for n) (bytes_in p)
+  new_sized None h = absurd h
+  new_sized (Some p) h = by_bytes p.bytes h.bytes
+    where
+      by_bytes : (b : Option (List ℕ)) → IsSomeAnd b (AreResized options.zero n (unwrap_or o.bytes [])) → IsSized (slots_for n) b
+      by_bytes None h = tt
+      by_bytes (Some bytes) h = ap slots_for (sym h.long)
+
+  -- and no module owns it
+  not_owned : (p : Option Owned) → is_some p ≡ false → IfSome p (λ (o : Owned). slots_for n ≡ slots_for o.size)
+  not_owned None e = tt
+  not_owned (Some o) e = absurd (false≢true (sym e))
+
+  pub anew_handles : is_owned old slot ≡ false → AreHandles (record old { heap = housed; attributes = with_run old.attributes slot first (slots_for n) })
+  anew_handles own = subst (λ m. AreHandles (record old { heap = housed; attributes = m })) (sym run_is) (record {
+    heap = housed_heap;
+    low = housed_range.0 ∙ keeps.low ∙ is.low;
+    grain = housed_range.2 ∙ keeps.grain ∙ is.grain;
+    few = is.few;
+    runs = runs_with old.slots left (runs_without old.slots old.attributes is.runs slot) first given (some_slots n) (not_owned had.0.owned (ap (λ p. is_some (owned_in p)) (sym had.1) ∙ own)) run_left;
+    attributed = λ q. elim (cases_eq q first) [
+      | inl e ↦ ap is_some (inserted_here left first given q e) ∙ sym (ap is_some (ap (object_at housed) e ∙ housed_first) ∙ some_there (object_at heap slot) keeps.object)
+      | inr c ↦ elim (cases_eq q slot) [
+        | inl e ↦ ap is_some (inserted_other left first given q c ∙ taken_here old.attributes slot q e) ∙ sym (ap is_some (ap (object_at housed) e ∙ housed_old (λ f. c (e ∙ f))))
+        | inr b ↦ ap is_some (inserted_other left first given q c ∙ taken_other old.attributes slot q b) ∙ is.attributed q ∙ sym (ap is_some (housed_other q c b) ∙ (kept q b).0)
+      ]
+    ];
+    sized = λ q. elim (cases_eq q first) [
+      | inl e ↦ sized_is (slots_with left first given q e) (ap bytes_in (ap (object_at housed) e ∙ housed_first)) (new_sized (object_at heap slot) keeps.object)
+      | inr c ↦ elim (cases_eq q slot) [
+        | inl e ↦ sized_is refl (ap bytes_in (ap (object_at housed) e ∙ housed_old (λ f. c (e ∙ f)))) tt
+        | inr b ↦ sized_is (slots_beside left first given q c ∙ slots_left old.attributes slot q b) (ap bytes_in (housed_other q c b)) (kept q b).1
+      ]
+    ];
+  })
+    where
+      some_there : (p : Option Object) → IsSomeAnd p (IsResized options.zero n o) → is_some p ≡ true
+      some_there None h = absurd h
+      some_there (Some p) h = refl

@@ -1,0 +1,8 @@
+use Rattle.w16_model.proofs.Runs.{owner_law, reach_law}
+use Rattle.w16_model.proofs.laws.runs_are_apart.Goals as goal
+
+pub returns-clause-owner : goal.returns-clause-owner
+returns-clause-owner c = owner_law
+
+pub returns-clause-reach : goal.returns-clause-reach
+returns-clause-reach c = reach_law
