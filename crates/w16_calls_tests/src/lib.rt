@@ -2,7 +2,13 @@
 #![tactic(auto)]
 
 #[cfg(test)]
+mod by_calls;
+#[cfg(test)]
 mod example;
+#[cfg(test)]
+mod folder;
+#[cfg(test)]
+mod full;
 #[cfg(test)]
 mod global;
 #[cfg(test)]
@@ -13,7 +19,5 @@ mod local;
 mod options;
 #[cfg(test)]
 mod refusals;
-#[cfg(test)]
-mod rows;
 #[cfg(test)]
 mod script;

@@ -1,61 +1,41 @@
 -- What an allocation answers.
-use Rattle.w16_global.proofs.Common.{◌≡◌, ℕ, inr, true, ◌==◌, ◌&&◌, MatchBool, MatchOption, inl, ne_eqb, IfSome, IfNone, List, Option, Some, None, refl, sym, subst, arith, ◌<◌, ◌≤◌, ◌∙◌, Bool, false, ap, Attributes, Kind, RoomOptions, LARGEST_SIZE, GMEM_MOVEABLE, GMEM_ZEROINIT, GMEM_DDESHARE, false≢true, cases_lt, Heap, Object, IsHeap, with_ordered, with_newest, Allocates, IsNew, Settles, discarded, stays_for, discards_needed, moved_bytes, Enters, Handles, AreHandles, IsFreeRun, IsFreeSlot, slots_for, some_slots, run_of_one, unused_slot, object_at, ◌+◌, handle_of, GlobalAllocs, has_flag, kind_asked, alloc_options, rounded_size, IsUntaken, Holding, handles_of, AreJoined, unmoved, none_about}
+use Rattle.w16_global.proofs.Common.{◌≡◌, ℕ, inr, true, ◌==◌, ◌&&◌, MatchBool, MatchOption, inl, ne_eqb, Option, Some, None, refl, sym, subst, arith, ◌<◌, ◌≤◌, ◌∙◌, Bool, false, ap, Attributes, Kind, RoomOptions, LARGEST_SIZE, GMEM_MOVEABLE, GMEM_ZEROINIT, GMEM_DDESHARE, false≢true, cases_lt, Heap, Object, IsHeap, with_ordered, with_newest, Allocates, IsNew, Settles, discarded, stays_for, discards_needed, moved_bytes, Enters, Handles, AreHandles, HasNoRun, IsFreeRun, slots_for, some_slots, unused, object_at, handle_of, GlobalAllocs, has_flag, kind_asked, alloc_options, rounded_size, unmoved, none_about}
 use Rattle.std.specs.FinMap as finmap
-use Rattle.w16_selectors.specs.Descriptors as selectors
-use Rattle.w16_global.proofs.Joined.{free_slot, free_selector}
 
-module _ {h : Holding} {xs : List (Option Attributes)} {t : selectors.DescriptorTable} {m : ℕ} {w : Handles} (are : AreJoined h xs t) (shown : handles_of h xs m ≡ w) where
-  -- a free slot of the selectors is one of the handles
-  pub found_free : (r : Option ℕ) → IfSome r (λ slot. IsUntaken t slot) → IfSome r (λ slot. IsFreeSlot w slot)
-  found_free None free = tt
-  found_free (Some slot) free = subst (λ v. IsFreeSlot v slot) shown (free_slot h xs t are slot free)
-
-  -- and where there is none, none is free
-  pub none_free : (r : Option ℕ) → IfNone r ((slot : ℕ) → IsUntaken t slot → ⊥) → IfNone r ((slot : ℕ) → IsFreeSlot w slot → ⊥)
-  none_free (Some slot) none = tt
-  none_free None none = λ slot free. none slot (free_selector h xs t are slot (subst (λ v. IsFreeSlot v slot) (sym shown) free))
-
--- and then a new object is refused
-pub refuses_slots : (w v : Handles) → v ≡ record w { moved = 0 } → (flags size : ℕ) (new : Handles) → ((slot : ℕ) → IsFreeSlot v slot → ⊥) → new ≡ v → GlobalAllocs w flags size 0 new
-refuses_slots w v v_is flags size new none same = inl (inr (inr (inl (λ first free. subst (λ x. (slot : ℕ) → IsFreeSlot x slot → ⊥) v_is none (first + 0) (free 0 (some_slots (rounded_size size)))))), refl, same ∙ v_is)
+-- Where no run of slots is free, a new object is refused.
+pub refuses_slots : (w v : Handles) → v ≡ record w { moved = 0 } → (flags size : ℕ) (new : Handles) → HasNoRun v (slots_for (rounded_size size)) → new ≡ v → GlobalAllocs w flags size 0 new
+refuses_slots w v v_is flags size new none same = inl (inr (inr (inl (subst (λ (x : Handles). HasNoRun x (slots_for (rounded_size size))) v_is none))), refl, same ∙ v_is)
 
 -- What GlobalAlloc answers, from handles in which nothing was moved last.
-module _ (w : Handles) (flags slot size : ℕ) (new : Handles) (free : IsFreeSlot w slot) where
-  -- one slot is enough
-  one_slot : size ≤ LARGEST_SIZE → 1 ≡ slots_for (rounded_size size)
-  one_slot small = omega (arith, small)
-
-  free_run : size ≤ LARGEST_SIZE → IsFreeRun w slot (slots_for (rounded_size size))
-  free_run small = subst (IsFreeRun w slot) (one_slot small) (run_of_one w slot free)
-
+module _ (w : Handles) (flags slot size : ℕ) (new : Handles) (free : IsFreeRun w slot (slots_for (rounded_size size))) where
   -- an absent object
   pub answers_absent : size ≡ 0 → has_flag flags GMEM_MOVEABLE ≡ true → Enters w.heap slot (kind_asked flags) new.heap
-      → new ≡ record w { heap = new.heap; attributes = finmap.insert w.attributes slot (record { shared = has_flag flags GMEM_DDESHARE; owned = None; slots = 1 }); moved = 0 } → GlobalAllocs w flags size (handle_of (kind_asked flags) slot) new
+      → new ≡ record w { heap = new.heap; attributes = finmap.insert w.attributes slot (record { shared = has_flag flags GMEM_DDESHARE; owned = None; slots = slots_for (rounded_size size) }); moved = 0 } → GlobalAllocs w flags size (handle_of (kind_asked flags) slot) new
   answers_absent none moveable enters rest = subst (λ n. GlobalAllocs w flags n (handle_of (kind_asked flags) slot) new) (sym none) (inr (record {
     small = omega arith;
     slot = slot;
-    free = run_of_one w slot free;
+    free = subst (λ n. IsFreeRun w slot (slots_for (rounded_size n))) none free;
     named = refl;
     made = subst (λ b. MatchBool ((0 == 0) && b) (Enters w.heap slot (kind_asked flags) new.heap) (Allocates w.heap slot (rounded_size 0) (kind_asked flags) 0 (alloc_options flags) true new.heap)) (sym moveable) enters;
     rest = rest ∙ (λ i. record w {
       heap = new.heap;
-      attributes = finmap.insert w.attributes slot (record { shared = has_flag flags GMEM_DDESHARE; owned = None; slots = 1 });
+      attributes = finmap.insert w.attributes slot (record { shared = has_flag flags GMEM_DDESHARE; owned = None; slots = slots_for (rounded_size (none i)) });
       moved = sym (unmoved w.heap new.heap (ap (λ (h : Heap). h.places) enters.entered)) i;
     });
   }))
 
   -- an object with bytes
   pub answers_bytes : 0 < size → size ≤ LARGEST_SIZE → Allocates w.heap slot (rounded_size size) (kind_asked flags) 0 (alloc_options flags) true new.heap
-      → new ≡ record w { heap = new.heap; attributes = finmap.insert w.attributes slot (record { shared = has_flag flags GMEM_DDESHARE; owned = None; slots = 1 }); moved = moved_bytes w.heap new.heap }
+      → new ≡ record w { heap = new.heap; attributes = finmap.insert w.attributes slot (record { shared = has_flag flags GMEM_DDESHARE; owned = None; slots = slots_for (rounded_size size) }); moved = moved_bytes w.heap new.heap }
       → GlobalAllocs w flags size (handle_of (kind_asked flags) slot) new
   answers_bytes some small allocated rest = inr (record {
     small = small;
     slot = slot;
-    free = free_run small;
+    free = free;
     named = refl;
     made = subst (λ b. MatchBool (b && has_flag flags GMEM_MOVEABLE) (Enters w.heap slot (kind_asked flags) new.heap) (Allocates w.heap slot (rounded_size size) (kind_asked flags) 0 (alloc_options flags) true new.heap))
         (sym (ne_eqb size 0 (λ e. absurd (omega arith)))) allocated;
-    rest = rest ∙ (λ i. record w { heap = new.heap; attributes = finmap.insert w.attributes slot (record { shared = has_flag flags GMEM_DDESHARE; owned = None; slots = one_slot small i }); moved = moved_bytes w.heap new.heap });
+    rest = rest;
   })
 
   -- no room
@@ -76,7 +56,7 @@ module _ (w : Handles) (flags slot size : ℕ) (new : Handles) (free : IsFreeSlo
 abbrev AllocatesBy : Handles → ℕ → Heap → ℕ → Kind → RoomOptions → Bool → Type 0
 AllocatesBy w slot heap n kind options answered = Allocates w.heap slot n kind 0 options answered heap
 
-module _ (w : Handles) (flags slot size : ℕ) (new : Handles) (free : IsFreeSlot w slot) (kind : Kind) (kind_is : kind ≡ kind_asked flags) (a : Attributes) (a_is : a ≡ record { shared = has_flag flags GMEM_DDESHARE; owned = None; slots = 1 })
+module _ (w : Handles) (flags slot size : ℕ) (new : Handles) (free : IsFreeRun w slot (slots_for (rounded_size size))) (kind : Kind) (kind_is : kind ≡ kind_asked flags) (a : Attributes) (a_is : a ≡ record { shared = has_flag flags GMEM_DDESHARE; owned = None; slots = slots_for (rounded_size size) })
     (handle : ℕ) (handle_is : handle ≡ handle_of kind slot) where
   named : (x : ℕ) → x ≡ handle_of (kind_asked flags) slot → GlobalAllocs w flags size x new → GlobalAllocs w flags size handle new
   named x e h = subst (λ y. GlobalAllocs w flags size y new) (e ∙ ap (λ k. handle_of k slot) (sym kind_is) ∙ sym handle_is) h
@@ -107,10 +87,10 @@ module _ (w : Handles) (flags slot size : ℕ) (new : Handles) (free : IsFreeSlo
     refusal_known unused is allocated rest = refuses_bytes w flags slot size new free unused is (filled size some) (asked false allocated) rest
 
 -- And from the handles v, which is w with nothing moved last.
-module _ (w v : Handles) (v_is : v ≡ record w { moved = 0 }) (flags slot size : ℕ) (new : Handles) (free : IsFreeSlot v slot) (kind : Kind) (kind_is : kind ≡ kind_asked flags)
-    (a : Attributes) (a_is : a ≡ record { shared = has_flag flags GMEM_DDESHARE; owned = None; slots = 1 }) (handle : ℕ) (handle_is : handle ≡ handle_of kind slot) where
-  free_in : IsFreeSlot w slot
-  free_in = subst (λ x. IsFreeSlot x slot) v_is free
+module _ (w v : Handles) (v_is : v ≡ record w { moved = 0 }) (flags slot size : ℕ) (new : Handles) (free : IsFreeRun v slot (slots_for (rounded_size size))) (kind : Kind) (kind_is : kind ≡ kind_asked flags)
+    (a : Attributes) (a_is : a ≡ record { shared = has_flag flags GMEM_DDESHARE; owned = None; slots = slots_for (rounded_size size) }) (handle : ℕ) (handle_is : handle ≡ handle_of kind slot) where
+  free_in : IsFreeRun w slot (slots_for (rounded_size size))
+  free_in = subst (λ x. IsFreeRun x slot (slots_for (rounded_size size))) v_is free
 
   pub absent_answered : size ≡ 0 → has_flag flags GMEM_MOVEABLE ≡ true → Enters v.heap slot kind new.heap → new ≡ record v { heap = new.heap; attributes = finmap.insert v.attributes slot a } → GlobalAllocs w flags size handle new
   absent_answered none moveable enters rest = absent_known w flags slot size new free_in kind kind_is a a_is handle handle_is none moveable (subst (λ (x : Handles). Enters x.heap slot kind new.heap) v_is enters)
@@ -125,4 +105,4 @@ module _ (w v : Handles) (v_is : v ≡ record w { moved = 0 }) (flags slot size 
 
     pub bytes_refused : AreHandles v → AllocatesBy v slot new.heap n kind options false → new ≡ record v { heap = new.heap } → GlobalAllocs w flags size 0 new
     bytes_refused is allocated rest = refusal_known w flags slot size new free_in kind kind_is a a_is handle handle_is n n_is options way_is some
-        (subst (λ (x : Handles). object_at x.heap slot ≡ None) v_is (unused_slot v is slot free)) (subst (λ (x : Handles). IsHeap x.heap) v_is is.heap) (subst (λ (x : Handles). AllocatesBy x slot new.heap n kind options false) v_is allocated) (rest ∙ ap (λ (x : Handles). record x { heap = new.heap }) v_is)
+        (subst (λ (x : Handles). object_at x.heap slot ≡ None) v_is (unused v is slot (slots_for (rounded_size size)) (some_slots (rounded_size size)) free)) (subst (λ (x : Handles). IsHeap x.heap) v_is is.heap) (subst (λ (x : Handles). AllocatesBy x slot new.heap n kind options false) v_is allocated) (rest ∙ ap (λ (x : Handles). record x { heap = new.heap }) v_is)

@@ -1,8 +1,8 @@
 -- Nothing is allocated at the start.
-use Rattle.w16_global.proofs.Common.{◌≡◌, ℕ, zero, suc, ◌+◌, ◌-◌, ◌≤◌, List, [], get_or, replicate, Option, None, option_map, refl, sym, ap, ◌∙◌, subst, arith, nat_cmp_total, nat_cmp, same_map, nat_cmp-IsAntisymmetric, get-empty, length-replicate, Attributes, FIRST_SLOT, MOST_SLOTS, GRAIN, empty_heap, AreHandles, empty_handles, empty_law, Holding, attributes_in, handles_of, descriptor_for, kind_in, HasSize, AreJoined}
+use Rattle.w16_global.proofs.Common.{◌≡◌, ℕ, zero, suc, ◌+◌, ◌-◌, ◌≤◌, List, [], get_or, replicate, Option, None, refl, sym, ap, ◌∙◌, subst, arith, nat_cmp_total, nat_cmp, same_map, nat_cmp-IsAntisymmetric, get-empty, length-replicate, Attributes, FIRST_SLOT, MOST_SLOTS, GRAIN, empty_heap, AreHandles, empty_handles, empty_law, Holding, attributes_in, handles_of, kind_in, HasSize, AreJoined, Some, says, owner_in, none_owns, slots_none, Descriptor}
 use Rattle.std.specs.FinMap as finmap
 use Rattle.w16_selectors.specs.Descriptors as selectors
-use Rattle.w16_global.proofs.Joined.{attributes_at}
+use Rattle.w16_global.proofs.Owners.{attributes_at}
 
 -- a list of nothing has nothing at each place
 none_at : {X : Type 0} (n q : ℕ) → ◌≡◌ {A = Option X} (get_or (replicate n None) q None) None
@@ -26,10 +26,13 @@ module _ (memory slots : ℕ) (few : slots ≤ MOST_SLOTS) where
       let none : attributes_in attributes ≡ finmap.empty = same_map nat_cmp_total nat_cmp-IsAntisymmetric (attributes_in attributes) finmap.empty (λ q. attributes_at attributes q ∙ none_at (FIRST_SLOT + slots) q ∙ sym (get-empty nat_cmp q)) in
       λ i. record { slots = all i; heap = empty_heap 0 memory GRAIN; attributes = none i; moved = 0 }
 
+  nobody_at : (q : ℕ) → owner_in attributes q ≡ None
+  nobody_at q = none_owns (attributes_in attributes) q (λ first lies. let none = slots_none (attributes_in attributes) first (attributes_at attributes first ∙ none_at (FIRST_SLOT + slots) first) in omega (arith, lies.0, lies.1, none))
+
   joined : AreJoined holding attributes table
   joined = record {
     handles = subst AreHandles (sym handles_are) (empty_law memory slots few);
-    described = λ q. none_at (FIRST_SLOT + slots) q ∙ sym (ap (option_map (descriptor_for (empty_heap 0 memory GRAIN) (kind_in attributes q) q)) (get-empty nat_cmp q));
+    described = λ q. none_at (FIRST_SLOT + slots) q ∙ sym (ap (λ p. elim p as (λ _. Option Descriptor) [ None ↦ None | Some first ↦ says (empty_heap 0 memory GRAIN) (kind_in attributes first) (q - first) first ]) (nobody_at q));
     sized = λ q. subst HasSize (sym (none_at (FIRST_SLOT + slots) q)) tt;
     attributes_many = length-replicate (FIRST_SLOT + slots) None;
     selectors_many = length-replicate (FIRST_SLOT + slots) None;

@@ -13,9 +13,11 @@ pub use Rattle.w16_arena.proofs.Unmoved.{none_moved, unmoved}
 pub use Rattle.w16_blocks.proofs.Common.{AreSameIn-put_part, add_span, le-leb, with_items}
 pub use Rattle.w16_compact.proofs.Common.{All-get_or}
 pub use Rattle.w16_global.specs.Access.{access_fault}
-pub use Rattle.w16_global.specs.Joined.{AreJoined, Global, HasSize, attributes_in, described, descriptor_for, followed, forgotten, handles_of, kind_for, kind_in, whole, zeroed_behind}
+pub use Rattle.w16_global.specs.Housed.{AreHoused, HasRun, MayHave, attributes_housed, slots_in}
+pub use Rattle.w16_global.specs.Joined.{AreJoined, AreLabelled, Global, HasSize, attributes_in, begins_in, described, descriptor_for, handles_of, kind_for, kind_in, label_in, label_of, owner_in, says, told, zeroed_behind}
 pub use Rattle.w16_global.specs.Lent.{Lends}
 pub use Rattle.w16_global.specs.Parts.{AreParts, HasPart, Holding, holding_of}
+pub use Rattle.w16_global.specs.Runs.{given, in_run, is_in_run, placed, reaching, taken, vacated}
 pub use Rattle.w16_holes.proofs.Common.{AreThreaded, Free}
 pub use Rattle.w16_holes.specs.Thread.{threaded_stay}
 pub use Rattle.w16_model.proofs.Absence.{discard_absent}
@@ -34,12 +36,13 @@ pub use Rattle.w16_model.proofs.Places.{two_placed}
 pub use Rattle.w16_model.proofs.Prefixes.{none_about}
 pub use Rattle.w16_model.proofs.Reallocations.{asked, by_case, heap_law, none_discarded}
 pub use Rattle.w16_model.proofs.ResizedHandles.{compacted_handles, discarded_handles, modified_handles}
-pub use Rattle.w16_model.proofs.Runs.{first_in, is_owner, none_owns, numbered, run_of_one, slots_none, slots_of, some_bytes, some_slots, unused_slot}
+pub use Rattle.w16_model.proofs.Runs.{IsIn, first_in, is_owner, no_owner, none_owns, not_gone, numbered, one_owner, owner_is, run_of_one, slots_beside, slots_left, slots_none, slots_of, slots_with, some_bytes, some_slots, unused, unused_slot, was_in}
 pub use Rattle.w16_model.proofs.Tables.{get-by_id}
 pub use Rattle.w16_model.specs.Calls.{global_size, selector_base, selector_limit}
+pub use Rattle.w16_model.specs.Handles.{HasNoRun}
 pub use Rattle.w16_model.specs.Owned.{owned_at, owned_in, revival_options, without_slot}
 pub use Rattle.w16_model.specs.Reallocation.{IsResized}
-pub use Rattle.w16_model.specs.Resizes.{GlobalDiscards}
+pub use Rattle.w16_model.specs.Resizes.{CanExtend, GetsRun, GlobalDiscards, LacksRun, may_leave, rehoused, rekeyed, with_run}
 pub use Rattle.w16_model.specs.declared.Attributes.{Attributes}
 pub use Rattle.w16_model.specs.declared.Block.{Block}
 pub use Rattle.w16_model.specs.declared.Entry.{Entry}
@@ -56,7 +59,7 @@ pub use Rattle.w16_model.specs.declared.Span.{Span}
 pub use Rattle.w16_model.specs.declared.TheConstants.{FIRST_SLOT, GMEM_DDESHARE, GMEM_MODIFY, GMEM_MOVEABLE, GMEM_ZEROINIT, GRAIN, LARGEST_SIZE, MOST_SLOTS, REACH}
 pub use Rattle.w16_region.proofs.Bytes.{All-bytes}
 pub use Rattle.w16_region.specs.Bytes.{lengths, with_items-put_part}
-pub use Rattle.w16_selectors.specs.Descriptors.{IsUntaken, descriptor_at, descriptor_of, is_code, kind_at, kind_of, place_of, unset}
+pub use Rattle.w16_selectors.specs.Descriptors.{IsUntaken, descriptor_at, descriptor_of, is_code, kind_at, kind_of, number_at, number_of, place_of, unset}
 pub use Rattle.w16_selectors.specs.declared.Descriptor.{Descriptor}
 pub use Rattle.w16_selectors.specs.declared.SelKind.{SelKind}
 pub use Rattle.w16_selectors.specs.declared.SelKind.TheVariants.{Code, Data}

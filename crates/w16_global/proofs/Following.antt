@@ -1,16 +1,16 @@
 -- Selectors that follow their objects, one object further.
-use Rattle.w16_global.proofs.Common.{◌≡◌, ◌≢◌, ℕ, ◌+◌, ◌-◌, ◌<◌, ◌≤◌, ◌⊎◌, inl, inr, Bool, true, false, ◌&&◌, nat_le, nat_lt, if◌then◌else◌, IfSome, List, [], ◌∷◌, zero, suc, length, set, Option, Some, None, option_map, is_some, unwrap_or, refl, sym, ap, ◌∙◌, arith, false≢true, cases_eq, cases_lt, nat_tests, get_or-set_same, get_or-set_other, Block, Misses, block_end, Heap, Object, IsHeap, object_at, bytes_at, hold_of_object, IsBlockOf, some_bytes, two_placed, descriptor_at, kind_at, kind_of, Descriptor, SelKind, described, followed}
+use Rattle.w16_global.proofs.Common.{◌≡◌, ◌≢◌, ℕ, ◌+◌, ◌-◌, ◌<◌, ◌≤◌, ◌⊎◌, ◌||◌, ◌==◌, inl, inr, Bool, true, false, ◌&&◌, nat_le, nat_lt, IfSome, List, [], ◌∷◌, length, get_or, take, Option, Some, None, option_map, is_some, unwrap_or, refl, sym, ap, ◌∙◌, subst, arith, false≢true, cases_eq, cases_lt, eq-eqb, ne_eqb, nat_tests, list_any-append, take_more, is_member, Block, Misses, block_end, Heap, Object, IsHeap, object_at, bytes_at, hold_of_object, IsBlockOf, some_bytes, two_placed, AreHandles, Attributes, Holding, handles_of, AreLabelled, descriptor_at, begins_in, placed, slots_in, told, vacated, in_run, kind_at, reaching}
 use Rattle.std.specs.FinMap as finmap
 use Rattle.w16_selectors.specs.Descriptors as selectors
-use Rattle.w16_global.proofs.Described.{made_here}
-use Rattle.w16_global.proofs.Joined.{followed_kind}
+use Rattle.w16_global.proofs.Told.{placed_told, run_sized, told_labelled, told_more, vacated_told}
 
--- what `followed` is by an address, if there is one
-abbrev followed_by : Heap → ℕ → ℕ → selectors.DescriptorTable → ℕ → Option ℕ → Option Descriptor
-followed_by heap from to table slot p = elim p [
-  | None ↦ descriptor_at table slot
-  | Some at ↦ if nat_le from at && nat_lt at to then described heap (kind_at table slot) slot else descriptor_at table slot
-]
+or_false : (b : Bool) → (b || false) ≡ b
+or_false true = refl
+or_false false = refl
+
+or_true : (b : Bool) → (b || true) ≡ true
+or_true true = refl
+or_true false = refl
 
 -- An object with bytes, where the look-ups found it.
 record Found (heap : Heap) (slot at size : ℕ) : Type 0 where
@@ -49,67 +49,64 @@ one_place heap is slot other at size place more some from to f g n =
     let apart : Misses x.0.at x.0.size y.0.at (block_end y.0) = two_placed heap is x.0 y.0 x.1 y.1 (λ e. n (ap (λ (b : Block). b.id) (sym e))) in
     elim apart [ inl before ↦ omega arith | inr behind ↦ omega arith ]
 
-module _ (heap : Heap) (is : IsHeap heap) (old : selectors.DescriptorTable) (begin from : ℕ) (block : Block) (above : begin ≤ from) (at_least : from ≤ block.at) (some : 0 < block.size)
-    (placed : finmap.get heap.places block.id ≡ Some block.at) (sized : option_map (length {A = ℕ}) (bytes_at heap block.id) ≡ Some block.size)
-    (lowest : (q : ℕ) → IfSome (finmap.get heap.places q) (λ at. (at < from) ⊎ (block.at ≤ at)))
-    (now : selectors.DescriptorTable) (so_far : (slot : ℕ) → descriptor_at now slot ≡ followed heap begin from old slot) where
-  f : Found heap block.id block.at block.size
-  f = found_at heap block.id block.at block.size sized placed
+module _ (h : Holding) (xs : List (Option Attributes)) (is : AreHandles (handles_of h xs 0)) (old : selectors.DescriptorTable) (are : AreLabelled xs old) where
+  -- one more of a list of objects that have no bytes
+  pub forgets_next : (ids : List ℕ) (i : ℕ) (now after : selectors.DescriptorTable) → i < length ids → bytes_at h.heap (get_or ids i 0) ≡ None → ((q : ℕ) → descriptor_at now q ≡ told h.heap xs (λ first. is_member first (take i ids)) old q)
+      → ((q : ℕ) → descriptor_at after q ≡ vacated (get_or ids i 0) (slots_in xs (get_or ids i 0)) now q) → (q : ℕ) → descriptor_at after q ≡ told h.heap xs (λ first. is_member first (take (i + 1) ids)) old q
+  forgets_next ids i now after lt gone so_far after_is =
+      let id : ℕ = get_or ids i 0 in
+      told_more h xs is (λ first. is_member first (take i ids)) (λ first. id == first) (λ first. is_member first (take (i + 1) ids)) old now after
+      (λ first. ap (is_member first) (take_more ids i 0 lt) ∙ list_any-append (λ r. r == first) (take i ids) (id ∷ []) ∙ ap (λ b. is_member first (take i ids) || b) (or_false (id == first)))
+      so_far (λ q. after_is q ∙ vacated_told h xs is now (told_labelled h xs is (λ first. is_member first (take i ids)) old now are so_far) id gone q)
 
-  -- what a selector of the block says that has followed
-  abbrev whole : SelKind → Descriptor
-  whole holds = record { base = block.at; limit = block.size - 1; present = true; kind = holds }
+  -- and one more of the objects that begin in a range, up to a place in it or where it ends
+  module _ (begin from : ℕ) (block : Block) (above : begin ≤ from) (at_least : from ≤ block.at) (some : 0 < block.size)
+      (stands : finmap.get h.heap.places block.id ≡ Some block.at) (sized : option_map (length {A = ℕ}) (bytes_at h.heap block.id) ≡ Some block.size)
+      (lowest : (q : ℕ) → IfSome (finmap.get h.heap.places q) (λ at. (at < from) ⊎ (block.at ≤ at)))
+      (now : selectors.DescriptorTable) (so_far : (q : ℕ) → descriptor_at now q ≡ told h.heap xs (begins_in h.heap begin from) old q) where
+    f : Found h.heap block.id block.at block.size
+    f = found_at h.heap block.id block.at block.size sized stands
 
-  says : (holds : SelKind) → described heap holds block.id ≡ Some (whole holds)
-  says holds = made_here holds heap block.id block.size block.at (Some f.bytes) (ap (λ (p : Option Object). elim p as (λ _. Option (List ℕ)) [ Some o ↦ o.bytes | None ↦ None ]) f.there ∙ f.has) f.long placed
+    pub followed_labelled : AreLabelled xs now
+    followed_labelled = told_labelled h xs is (begins_in h.heap begin from) old now are so_far
 
-  same_kind : kind_at now block.id ≡ kind_at old block.id
-  same_kind = ap kind_of (so_far block.id) ∙ followed_kind heap begin from old block.id (ap is_some f.there)
+    module _ (next : ℕ) (past : block.at < next) (within : next ≤ block_end block) where
+      abbrev by_place : ℕ → Option ℕ → Bool
+      by_place to p = elim p [ None ↦ false | Some at ↦ nat_le begin at && nat_lt at to ]
 
-  -- the block's own selector is a taken one
-  pub taken : ((slot : ℕ) → is_some (object_at heap slot) ≡ true → is_some (descriptor_at old slot) ≡ true) → is_some (descriptor_at now block.id) ≡ true
-  taken known = ap is_some (so_far block.id) ∙ ap (λ p. is_some (followed_by heap begin from old block.id p)) placed ∙ either (nat_le begin block.at && nat_lt block.at from)
-    where
-      either : (b : Bool) → is_some (if b then described heap (kind_at old block.id) block.id else descriptor_at old block.id) ≡ true
-      either true = ap is_some (says (kind_at old block.id))
-      either false = known block.id (ap is_some f.there)
-
-  -- one block further, up to a place in the block or where it ends
-  pub further : (next : ℕ) → block.at < next → next ≤ block_end block → block.id < length now → (slot : ℕ) → descriptor_at (set now block.id (Some (whole (kind_at now block.id)))) slot ≡ followed heap begin next old slot
-  further next past within_block within slot = elim (cases_eq slot block.id) [
-    | inl e ↦ ap (λ k. descriptor_at (set now block.id (Some (whole (kind_at now block.id)))) k) e
-        ∙ get_or-set_same now block.id (Some (whole (kind_at now block.id))) None within ∙ ap (λ k. Some (whole k)) same_kind ∙ sym (says (kind_at old block.id))
-        ∙ sym (ap (λ k. followed heap begin next old k) e ∙ ap (followed_by heap begin next old block.id) placed ∙ ap (λ b. if b then described heap (kind_at old block.id) block.id else descriptor_at old block.id) inside)
-    | inr n ↦ get_or-set_other now block.id slot (Some (whole (kind_at now block.id))) None n ∙ so_far slot ∙ other n (finmap.get heap.places slot) refl (lowest slot)
-  ]
-    where
       inside : (nat_le begin block.at && nat_lt block.at next) ≡ true
       inside = grind (arith, nat_tests)
 
-      same_test : (at : ℕ) → (at < from) ⊎ (next ≤ at) → (nat_le begin at && nat_lt at from) ≡ (nat_le begin at && nat_lt at next)
+      same_test : (at : ℕ) → (at < from) ⊎ (next ≤ at) → (nat_le begin at && nat_lt at next) ≡ (nat_le begin at && nat_lt at from)
       same_test at (inl low) = grind (arith, nat_tests)
       same_test at (inr high) = grind (arith, nat_tests)
 
-      clash : (at : ℕ) → slot ≢ block.id → block.at ≤ at → at < next → finmap.get heap.places slot ≡ Some at → (b : Option (List ℕ)) → bytes_at heap slot ≡ b → ⊥
-      clash at n low high here None h = absurd (false≢true (sym (ap is_some h) ∙ sym (is.at_bytes slot) ∙ ap is_some here))
-      clash at n low high here (Some bytes) h =
-          let g : Found heap slot at (length bytes) = found_at heap slot at (length bytes) (ap (option_map (length {A = ℕ})) h) here in
-          one_place heap is block.id slot block.at block.size at (length bytes) (some_bytes heap is slot bytes h) low (omega arith) f g n
+      clash : (slot at : ℕ) → slot ≢ block.id → block.at ≤ at → at < next → finmap.get h.heap.places slot ≡ Some at → (b : Option (List ℕ)) → bytes_at h.heap slot ≡ b → ⊥
+      clash slot at n low high here None e = absurd (false≢true (sym (ap is_some e) ∙ sym (is.heap.at_bytes slot) ∙ ap is_some here))
+      clash slot at n low high here (Some bytes) e =
+          let g : Found h.heap slot at (length bytes) = found_at h.heap slot at (length bytes) (ap (option_map (length {A = ℕ})) e) here in
+          one_place h.heap is.heap block.id slot block.at block.size at (length bytes) (some_bytes h.heap is.heap slot bytes e) low (omega arith) f g n
 
-      strictly : (at : ℕ) → slot ≢ block.id → finmap.get heap.places slot ≡ Some at → (at < from) ⊎ (block.at ≤ at) → (at < from) ⊎ (next ≤ at)
-      strictly at n there (inl low) = inl low
-      strictly at n there (inr high) = elim (cases_lt at next) [
-        | inl before ↦ absurd (clash at n high before there (bytes_at heap slot) refl)
-        | inr behind ↦ inr behind
+      next_begins : (first : ℕ) → begins_in h.heap begin next first ≡ (begins_in h.heap begin from first || (block.id == first))
+      next_begins first = elim (cases_eq first block.id) [
+        | inl e ↦ ap (by_place next) (ap (finmap.get h.heap.places) e ∙ stands) ∙ inside ∙ sym (ap (λ b. begins_in h.heap begin from first || b) (eq-eqb block.id first (sym e)) ∙ or_true (begins_in h.heap begin from first))
+        | inr n ↦ turn n (finmap.get h.heap.places first) refl (lowest first) ∙ sym (ap (λ b. begins_in h.heap begin from first || b) (ne_eqb block.id first (λ e. n (sym e))) ∙ or_false (begins_in h.heap begin from first))
       ]
+        where
+          beyond : (at : ℕ) → first ≢ block.id → finmap.get h.heap.places first ≡ Some at → (at < from) ⊎ (block.at ≤ at) → (at < from) ⊎ (next ≤ at)
+          beyond at n there (inl low) = inl low
+          beyond at n there (inr high) = elim (cases_lt at next) [
+            | inl before ↦ absurd (clash first at n high before there (bytes_at h.heap first) refl)
+            | inr behind ↦ inr behind
+          ]
 
-      other : slot ≢ block.id → (p : Option ℕ) → finmap.get heap.places slot ≡ p → IfSome p (λ at. (at < from) ⊎ (block.at ≤ at)) → followed heap begin from old slot ≡ followed heap begin next old slot
-      other n None there low = ap (followed_by heap begin from old slot) there ∙ sym (ap (followed_by heap begin next old slot) there)
-      other n (Some at) there low =
-          ap (followed_by heap begin from old slot) there ∙ ap (λ b. if b then described heap (kind_at old slot) slot else descriptor_at old slot) (same_test at (strictly at n there low)) ∙ sym (ap (followed_by heap begin next old slot) there)
+          turn : first ≢ block.id → (p : Option ℕ) → finmap.get h.heap.places first ≡ p → IfSome p (λ at. (at < from) ⊎ (block.at ≤ at)) → begins_in h.heap begin next first ≡ begins_in h.heap begin from first
+          turn n None there low = ap (by_place next) there ∙ sym (ap (by_place from) there)
+          turn n (Some at) there low = ap (by_place next) there ∙ same_test at (beyond at n there low) ∙ sym (ap (by_place from) there)
 
--- a slot that is taken is in the table
-pub in_table : (t : selectors.DescriptorTable) (slot : ℕ) → is_some (descriptor_at t slot) ≡ true → slot < length t
-in_table [] slot e = absurd (false≢true e)
-in_table (d ∷ t) zero e = omega arith
-in_table (d ∷ t) (suc slot) e = let rest : slot < length t = in_table t slot e in omega arith
+      pub further : (after : selectors.DescriptorTable) → ((q : ℕ) → descriptor_at after q ≡ placed block.id block.at block.size now q) → (q : ℕ) → descriptor_at after q ≡ told h.heap xs (begins_in h.heap begin next) old q
+      further after after_is = told_more h xs is (begins_in h.heap begin from) (λ first. block.id == first) (begins_in h.heap begin next) old now after next_begins so_far (λ q. after_is q ∙ own q)
+        where
+          own : (q : ℕ) → placed block.id block.at block.size now q ≡ told h.heap xs (λ first. block.id == first) now q
+          own q = subst (λ count. in_run block.id count (λ slot. Some (reaching (kind_at now slot) block.at block.size (slot - block.id))) now q ≡ told h.heap xs (λ first. block.id == first) now q)
+              (run_sized h xs is block.id block.size sized) (placed_told h xs is now followed_labelled block.id block.at block.size sized stands q)

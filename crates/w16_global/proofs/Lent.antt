@@ -1,8 +1,7 @@
 -- An object's bytes, lent to a work.
-use Rattle.w16_global.proofs.Common.{◌≡◌, ℕ, ◌+◌, ◌-◌, ◌<◌, ◌≤◌, IsSomeAnd, List, ◌++◌, length, take, drop, All, Option, Some, None, option_map, refl, sym, ap, ◌∙◌, subst, arith, length-drop, slice_range, Vec, with_items, length-take-le, take_at, All-take, All-drop, drop-append-add, part, put_part, Attributes, Block, after_write, AreHandles, Heap, Object, object_at, bytes_at, block_with, other_handles, same_updated, written_sized, written_heap, counted, with_items-put_part, bytes_here, ends_in_memory, ArenaState, Global, handles_of, AreJoined, Lends, AreParts, HasPart, Holding, holding_of}
+use Rattle.w16_global.proofs.Common.{◌≡◌, ℕ, ◌+◌, ◌-◌, ◌<◌, ◌≤◌, IsSomeAnd, List, ◌++◌, length, take, drop, All, Option, Some, None, option_map, refl, sym, ap, ◌∙◌, subst, arith, length-drop, slice_range, Vec, with_items, length-take-le, take_at, All-take, All-drop, drop-append-add, part, put_part, Attributes, Block, after_write, Object, object_at, bytes_at, block_with, counted, with_items-put_part, bytes_here, ends_in_memory, ArenaState, Global, handles_of, AreJoined, Lends, AreParts, HasPart, Holding, holding_of}
 use Rattle.w16_selectors.specs.Descriptors as selectors
-use Rattle.w16_global.proofs.Described.{write_same}
-use Rattle.w16_global.proofs.Joined.{joined_same}
+use Rattle.w16_global.proofs.Owners.{written_joined}
 use Rattle.w16_global.proofs.Written.{beside, holding_written, parts_filled}
 
 -- a part of bytes is bytes
@@ -93,17 +92,8 @@ pub lent_joined : {h : Holding} {xs : List (Option Attributes)} {t : selectors.D
     {count : ℕ} → new ≡ record h { heap = after_write h.heap slot 0 lent.after; written = count } → AreJoined new xs t
 lent_joined {h} {xs} {t} are new slot done lent {count} said = of_object (object_at h.heap slot) refl lent.had
   where
-    with_object : (o : Object) → object_at h.heap slot ≡ Some o → o.bytes ≡ Some lent.bytes → AreJoined new xs t
-    with_object o there has =
-        let long = lent.long in
-        let fits : 0 + length lent.after ≤ length lent.bytes = omega (arith, long) in
-        let after : Heap = after_write h.heap slot 0 lent.after in
-        let handles : AreHandles (record (handles_of h xs 0) { heap = after }) =
-        other_handles (handles_of h xs 0) are.handles after (written_heap h.heap are.handles.heap slot o there lent.bytes has 0 lent.after fits lent.are_bytes) refl refl
-        (same_updated h.heap.objects slot (λ (o : Object). record o { bytes = option_map (λ (b : List ℕ). put_part b 0 lent.after) o.bytes }))
-        (written_sized (handles_of h xs 0) are.handles slot 0 lent.after o lent.bytes there has fits) in
-        subst (λ k. AreJoined k xs t) (sym said) (joined_same h xs t are (record h { heap = after; written = count }) refl handles (λ holds. write_same holds h.heap slot 0 lent.after lent.bytes o there has fits))
-
     of_object : (p : Option Object) → object_at h.heap slot ≡ p → (elim p as (λ _. Option (List ℕ)) [ Some o ↦ o.bytes | None ↦ None ]) ≡ Some lent.bytes → AreJoined new xs t
     of_object None there has = cc
-    of_object (Some o) there has = with_object o there has
+    of_object (Some o) there has =
+        let long = lent.long in
+        subst (λ k. AreJoined k xs t) (sym said) (written_joined are slot 0 lent.after lent.bytes o there has (omega (arith, long)) lent.are_bytes count)

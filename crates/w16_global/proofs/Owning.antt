@@ -1,5 +1,12 @@
 -- Objects that modules own: their sizes, and what their revivals write.
-use Rattle.w16_global.proofs.Common.{◌≡◌, ℕ, ◌<◌, ◌≤◌, Bool, true, false, if◌then◌else◌, IfSome, List, Option, Some, sym, ap, ◌∙◌, subst, Attributes, Owned, GRAIN, REACH, Handles, Heap, IsMultiple, revival_options, owned_at, owned_in, Reallocates, moved_bytes, one_outcome_law, counted, unmoved, Global, handles_of, HasSize, AreJoined, Holding, get_or, None}
+use Rattle.w16_global.proofs.Common.{◌≡◌, ℕ, ◌/◌, ◌<◌, ◌≤◌, ◌⊎◌, ◌==◌, inl, inr, Bool, true, false, if◌then◌else◌, MatchBool, MatchOption, nat_le, IfNone, IfSome, IsSomeAnd, List, length, take, Option, Some, None, is_some, option_map, refl, sym, ap, ◌∙◌, subst, arith, false≢true, cases_eq, eq-eqb, nat_cmp, nat_cmp_total, nat_cmp-IsAntisymmetric, same_map, FinMap, Attributes, Kind, Owned, GRAIN, REACH, Handles, AreHandles, Heap, Object, IsMultiple, object_at, bytes_at, bytes_in, with_object, handle_of, slot_of_handle, revival_options, owned_at, owned_in, Allocates, Reallocates, GetsRun, LacksRun, rehoused, with_run, slots_at, slots_for, inserted_here, inserted_other, taken_other, moved_bytes, moved_handles, counted, unmoved, Global, handles_of, HasSize, AreJoined, Holding, get_or}
+use Rattle.std.specs.FinMap as finmap
+use Rattle.w16_model.specs.declared.Kind.TheVariants as kinds
+use Rattle.w16_model.specs.Owned.{Revives}
+use Rattle.w16_model.specs.Request.{Grows, ReallocatesObject}
+use Rattle.w16_model.proofs.Housed.{stays}
+use Rattle.w16_model.proofs.Naming.{names_law}
+use Rattle.w16_model.proofs.Runs.{owned_slots, slots_of}
 use Rattle.w16_selectors.specs.Descriptors as selectors
 use Rattle.w16_global.proofs.Joining.{attributes_shown}
 use Rattle.w16_global.proofs.Resizing.{counted_none}
@@ -17,11 +24,124 @@ own_size {xs = xs} are shown slot owned is = turn (get_or xs slot None) (ap owne
 pub none_written : (count : ℕ) (heap : Heap) → count ≡ counted count (moved_bytes heap heap)
 none_written count heap = sym (counted_none count) ∙ ap (counted count) (sym (unmoved heap heap (λ _. heap.places)))
 
--- what is written where an object gets bytes, and others are moved for it
-pub revived_written : (old new : Global) (slot n : ℕ) (answered : Bool) → Reallocates old.handles.heap slot n revival_options answered new.handles.heap
-    → new.handles.moved ≡ (if answered then moved_bytes old.handles.heap new.handles.heap else old.handles.moved)
-    → new.written ≡ (if answered then counted (counted old.written new.handles.moved) 0 else old.written) → new.written ≡ counted old.written (moved_bytes old.handles.heap new.handles.heap)
-revived_written old new slot n true done moved written = written ∙ counted_none (counted old.written new.handles.moved) ∙ ap (counted old.written) moved
-revived_written old new slot n false refused moved written =
-    let same : new.handles.heap ≡ old.handles.heap = (one_outcome_law old.handles.heap new.handles.heap slot n revival_options refused).0 in
-    written ∙ none_written old.written old.handles.heap ∙ ap (λ (h : Heap). counted old.written (moved_bytes old.handles.heap h)) (sym same)
+-- no bytes, by the size that is looked up
+pub absent_in : (h : Holding) (xs : List (Option Attributes)) {m : ℕ} {w : Handles} → handles_of h xs m ≡ w → (slot : ℕ) (size : Option ℕ) → size ≡ option_map (length {A = ℕ}) (bytes_at h.heap slot) → false ≡ is_some size → bytes_at w.heap slot ≡ None
+absent_in h xs shown slot size size_is none = sym (ap (λ (v : Handles). bytes_at v.heap slot) shown) ∙ turn (bytes_at h.heap slot) (none ∙ ap is_some size_is)
+  where
+    turn : (b : Option (List ℕ)) → false ≡ is_some (option_map (length {A = ℕ}) b) → b ≡ None
+    turn None e = refl
+    turn (Some bytes) e = absurd (false≢true e)
+
+-- what is shown are handles
+pub known_handles : {h : Holding} {xs : List (Option Attributes)} {t : selectors.DescriptorTable} → AreJoined h xs t → {m : ℕ} {w : Handles} → handles_of h xs m ≡ w → AreHandles w
+known_handles {h = h} {xs = xs} are {m = m} shown = subst AreHandles shown (moved_handles (handles_of h xs 0) are.handles m)
+
+-- a handle's slot
+pub found_is : (v : Handles) (handle slot : ℕ) → Some slot ≡ slot_of_handle v handle → handle / 8 ≡ slot
+found_is v handle slot found = turn (object_at v.heap slot) ((names_law v handle slot).0.0 (sym found))
+  where
+    named : (kind : Kind) → handle_of kind slot / 8 ≡ slot
+    named kinds.Fixed = omega arith
+    named kinds.Moveable = omega arith
+    named kinds.Discardable = omega arith
+
+    turn : (p : Option Object) → IsSomeAnd p (λ o. handle ≡ handle_of o.kind slot) → handle / 8 ≡ slot
+    turn None h = absurd h
+    turn (Some o) h = ap (λ n. n / 8) h ∙ named o.kind
+
+-- what is said of none, where it is none
+pub where_none : {X P : Type 0} (p : Option X) → IfNone p P → is_some p ≡ false → P
+where_none None says e = says
+where_none (Some x) says e = absurd (false≢true (sym e))
+
+-- a heap whose object keeps its slot
+rehoused_same : (heap : Heap) (slot : ℕ) → rehoused heap slot slot ≡ heap
+rehoused_same heap slot = turn (slot == slot) (eq-eqb slot slot refl) heap _
+  where
+    turn : (b : Bool) → b ≡ true → (x y : Heap) → (if b then x else y) ≡ x
+    turn true e x y = refl
+    turn false e x y = absurd (false≢true e)
+
+-- An object that a module owns, and that has no bytes: it gets them in its own slots.
+module _ (v : Handles) (is : AreHandles v) (slot : ℕ) (owned : Owned) (owns : owned_at v slot ≡ Some owned) (absent : bytes_at v.heap slot ≡ None) where
+  own_slots : slots_at v.attributes slot ≡ slots_for owned.size
+  own_slots = subst (λ p. IfSome p (λ (o : Owned). slots_at v.attributes slot ≡ slots_for o.size)) owns (owned_slots v is slot)
+
+  same_run : with_run v.attributes slot slot (slots_for owned.size) ≡ v.attributes
+  same_run = turn (finmap.get v.attributes slot) refl
+    where
+      turn : (p : Option Attributes) → finmap.get v.attributes slot ≡ p
+          → (elim p as (λ _. FinMap nat_cmp Attributes) [ Some a ↦ finmap.insert (finmap.remove v.attributes slot) slot (record a { slots = slots_for owned.size }) | None ↦ v.attributes ]) ≡ v.attributes
+      turn None e = refl
+      turn (Some a) e = same_map nat_cmp_total nat_cmp-IsAntisymmetric _ v.attributes (λ q. elim (cases_eq q slot) [
+        | inl same ↦ inserted_here (finmap.remove v.attributes slot) slot (record a { slots = slots_for owned.size }) q same ∙ (λ i. Some (record a { slots = (sym own_slots ∙ slots_of v.attributes slot a e) i })) ∙ sym (ap (finmap.get v.attributes) same ∙ e)
+        | inr d ↦ inserted_other (finmap.remove v.attributes slot) slot (record a { slots = slots_for owned.size }) q d ∙ taken_other v.attributes slot q d
+      ])
+
+  -- what room is asked for
+  revives : (answered : Bool) (heap : Heap) → Reallocates v.heap slot owned.size revival_options answered heap
+      → IsSomeAnd (owned_at v slot) (λ owned. IsSomeAnd (object_at v.heap slot) (λ o. Allocates v.heap slot owned.size o.kind o.locks revival_options answered heap))
+  revives answered heap r = subst (λ p. IsSomeAnd p (λ (owned : Owned). IsSomeAnd (object_at v.heap slot) (λ o. Allocates v.heap slot owned.size o.kind o.locks revival_options answered heap))) (sym owns)
+      (turn (object_at v.heap slot) refl r.object)
+    where
+      turn : (p : Option Object) → object_at v.heap slot ≡ p → IsSomeAnd p (λ o. ReallocatesObject v.heap slot o owned.size revival_options answered heap) → IsSomeAnd p (λ o. Allocates v.heap slot owned.size o.kind o.locks revival_options answered heap)
+      turn None e h = absurd h
+      turn (Some o) e h = subst (λ b. MatchOption b (Allocates v.heap slot owned.size o.kind o.locks revival_options answered heap) (λ bytes. MatchBool (nat_le owned.size (length bytes))
+          ((answered ≡ true) × (heap ≡ with_object v.heap slot (record o { bytes = Some (take owned.size bytes) }))) (Grows v.heap slot o owned.size revival_options answered heap)))
+          (sym (ap bytes_in e) ∙ absent) h
+
+  abbrev Gets : ℕ → Type 0
+  Gets first = IsSomeAnd (object_at v.heap slot) (λ o. GetsRun v slot o revival_options (slots_for owned.size) first)
+
+  abbrev Resized : Handles → ℕ → Type 0
+  Resized made first = (heap : Heap) × Reallocates v.heap slot owned.size revival_options true heap
+      × (made ≡ record v { heap = rehoused heap slot first; attributes = with_run v.attributes slot first (slots_for owned.size); moved = moved_bytes v.heap heap })
+
+  abbrev Lacks : Type 0
+  Lacks = IsSomeAnd (object_at v.heap slot) (λ o. LacksRun v slot o revival_options (slots_for owned.size)
+      ⊎ ((first : ℕ) × GetsRun v slot o revival_options (slots_for owned.size) first × Reallocates v.heap slot owned.size revival_options false v.heap))
+
+  -- it keeps its slot
+  here : owned.size ≤ REACH → (first : ℕ) → Gets first → first ≡ slot
+  here few first gets = turn (object_at v.heap slot) refl gets
+    where
+      turn : (p : Option Object) → object_at v.heap slot ≡ p → IsSomeAnd p (λ o. GetsRun v slot o revival_options (slots_for owned.size) first) → first ≡ slot
+      turn None e g = absurd g
+      turn (Some o) e g = stays v is slot o e owned.size revival_options first few g
+
+  kept : owned.size ≤ REACH → (first : ℕ) → Gets first → (made : Handles) (r : Resized made first) → made ≡ record v { heap = r.0; moved = moved_bytes v.heap r.0 }
+  kept few first gets made r =
+      let same : first ≡ slot = here few first gets in
+      r.2 ∙ (λ i. record v { heap = rehoused r.0 slot (same i); attributes = with_run v.attributes slot (same i) (slots_for owned.size); moved = moved_bytes v.heap r.0 })
+      ∙ (λ i. record v { heap = rehoused_same r.0 slot i; attributes = same_run i; moved = moved_bytes v.heap r.0 })
+
+  pub revived : owned.size ≤ REACH → (made : Handles) (r : Option ℕ) → IfSome r Gets → IfSome r (Resized made) → is_some r ≡ true → Revives v slot true (record made { moved = v.moved })
+  revived few made None gets resized e = absurd (false≢true e)
+  revived few made (Some first) gets resized e =
+      let k : made ≡ record v { heap = resized.0; moved = moved_bytes v.heap resized.0 } = kept few first gets made resized in record {
+        owned = subst (λ (x : Handles). IsSomeAnd (owned_at v slot) (λ owned. IsSomeAnd (object_at v.heap slot) (λ o. Allocates v.heap slot owned.size o.kind o.locks revival_options true x.heap))) (sym k) (revives true resized.0 resized.1);
+        rest = (λ i. record (k i) { moved = v.moved }) ∙ sym (λ i. record v { heap = (k i).heap });
+      }
+
+  -- the bytes that were moved for it are written
+  pub revived_written : owned.size ≤ REACH → (before : ℕ) (made : Global) (r : Option ℕ) → IfSome r Gets → IfSome r (Resized made.handles) → IfSome r (λ _. made.written ≡ counted (counted before made.handles.moved) 0)
+      → IfNone r (made ≡ record { handles = v; written = before }) → made.written ≡ counted before (moved_bytes v.heap made.handles.heap)
+  revived_written few before made None gets resized written refused =
+      ap (λ (g : Global). g.written) refused ∙ none_written before v.heap ∙ ap (λ (g : Global). counted before (moved_bytes v.heap g.handles.heap)) (sym refused)
+  revived_written few before made (Some first) gets resized written refused =
+      let k : made.handles ≡ record v { heap = resized.0; moved = moved_bytes v.heap resized.0 } = kept few first gets made.handles resized in
+      written ∙ counted_none (counted before made.handles.moved) ∙ ap (counted before) (ap (λ (x : Handles). x.moved) k ∙ ap (λ (x : Handles). moved_bytes v.heap x.heap) (sym k))
+
+  -- its slots are its own already, so it lacks only room
+  pub not_revived : (r : Option ℕ) → IfNone r Lacks → is_some r ≡ false → Revives v slot false v
+  not_revived (Some first) lacks e = absurd (false≢true (sym e))
+  not_revived None lacks e = record {
+    owned = revives false v.heap (turn (object_at v.heap slot) lacks);
+    rest = refl;
+  }
+    where
+      turn : (p : Option Object) → IsSomeAnd p (λ o. LacksRun v slot o revival_options (slots_for owned.size)
+          ⊎ ((first : ℕ) × GetsRun v slot o revival_options (slots_for owned.size) first × Reallocates v.heap slot owned.size revival_options false v.heap)) → Reallocates v.heap slot owned.size revival_options false v.heap
+      turn None h = absurd h
+      turn (Some o) (inl l) = absurd (l.here (λ k below. absurd (let all = own_slots in omega (arith, below, all))))
+      turn (Some o) (inr h) = h.2

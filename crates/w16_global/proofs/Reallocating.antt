@@ -1,11 +1,16 @@
 -- What is joined, where an object got another size, for which others may have been discarded or have slid.
-use Rattle.w16_global.proofs.Common.{◌≡◌, ◌≢◌, ℕ, ◌-◌, ◌<◌, ◌≤◌, inl, inr, Bool, true, cond, not, ◌&&◌, nat_le, IsSomeAnd, All, List, [], take, length, get_or, set, Option, Some, None, is_some, unwrap_or, refl, sym, ap, ◌∙◌, subst, false≢true, cases_eq, le-leb, lt-leb, get_or-set_same, get_or-set_other, length-set, Attributes, RoomOptions, FIRST_SLOT, growth_for, Heap, Object, IsHeap, object_at, bytes_at, is_pinned_object, with_newest, with_ordered, Asked, IsNew, IsGrown, Reallocates, Settles, discarded, discards_needed, snapshot_of, stays_for, KeepsOthers, Handles, AreHandles, AreResized, IsResized, KeepsRest, IsCase, IsSized, REACH, slots_at, bytes_in, sized_is, other_handles, eligible, blocks, is_member, Discardable, cases_Bool, arith, others_law, asked, by_case, none_discarded, heap_law, rest_law, HasDiscardedFor, reallocation_prefix, descriptor_at, kind_at, kind_of, Descriptor, Holding, attributes_in, handles_of, described, followed, forgotten, kind_in, AreJoined}
+use Rattle.w16_global.proofs.Common.{◌≡◌, ◌≢◌, ℕ, ◌+◌, ◌-◌, ◌<◌, ◌≤◌, ◌⊎◌, ◌||◌, ◌&&◌, inl, inr, Bool, true, false, cond, not, nat_le, nat_lt, IfNone, IfSome, IsSomeAnd, All, List, [], take, length, get_or, Option, Some, None, option_map, is_some, unwrap_or, refl, sym, ap, ◌∙◌, subst, arith, Vec, with_items, false≢true, cases_eq, le-leb, lt-leb, Attributes, RoomOptions, FIRST_SLOT, growth_for, Heap, Object, IsHeap, object_at, bytes_at, bytes_in, is_pinned_object, with_newest, with_ordered, Asked, IsNew, IsGrown, Reallocates, Settles, discarded, discards_needed, snapshot_of, stays_for, KeepsOthers, Handles, AreHandles, AreResized, IsResized, KeepsRest, IsCase, GetsRun, HasRun, LacksRun, MayHave, moved_bytes, number_at, one_outcome_law, rehoused, slots_for, slots_in, with_run, some_slots, is_member, others_law, asked, by_case, none_discarded, heap_law, rest_law, HasDiscardedFor, reallocation_prefix, descriptor_at, Holding, AreHoused, AreJoined, AreLabelled, attributes_housed, attributes_in, begins_in, handles_of, kind_in, owner_in, placed, says, told}
 use Rattle.std.specs.FinMap as finmap
+use Rattle.std.proofs.lemmas.List.{with_items_is}
 use Rattle.w16_selectors.specs.Descriptors as selectors
-use Rattle.w16_global.proofs.Joined.{followed_kind, forgotten_kind, kinds_are, one_slot, slot_there}
-use Rattle.w16_global.proofs.Described.{made_here}
-use Rattle.w16_global.proofs.Forgotten.{each_discarded, still_taken, was_there}
-use Rattle.w16_global.proofs.Sliding.{StandStill, each_known, followed_known, says_all}
+use Rattle.w16_model.specs.Handles.{AreRuns}
+use Rattle.w16_model.specs.Owned.{owned_at}
+use Rattle.w16_model.specs.declared.Owned.{Owned}
+use Rattle.w16_model.proofs.Housed.{anew_handles}
+use Rattle.w16_global.proofs.Housing.{bytes_other, has_attributes, housed_attributes, housed_bytes, housed_labelled, housed_place, housed_rest, housed_sized, may_have, nobody_there, own_run, place_other, says_other}
+use Rattle.w16_global.proofs.Joined.{slot_there}
+use Rattle.w16_global.proofs.Sliding.{StandStill, all_gone, rest_says, was_there}
+use Rattle.w16_global.proofs.Told.{finished, run_known, run_sized, told_labelled}
 
 -- What an answered reallocation leaves of the others, where so many were to be discarded.
 module _ (old : Heap) (is : IsHeap old) (id n : ℕ) (options : RoomOptions) (new : Heap) where
@@ -67,95 +72,176 @@ module _ (old : Heap) (is : IsHeap old) (id n : ℕ) (options : RoomOptions) (ne
       from None f = absurd f
       from (Some o) f = resized o (object_at new id) f.object
 
--- An object that is there got another size.
-module _ {h : Holding} {xs : List (Option Attributes)} {t : selectors.DescriptorTable} (are : AreJoined h xs t) (new : Holding) (cap : new.cap ≡ h.cap) (slot : ℕ)
-    {m : ℕ} {w : Handles} (shown : handles_of h xs m ≡ w) (known : is_some (object_at w.heap slot) ≡ true) (n : ℕ) (options : RoomOptions)
-    (reallocated : Reallocates h.heap slot n options true new.heap) (has : HasDiscardedFor h.heap slot n options new.discarded) where
-  there : is_some (object_at h.heap slot) ≡ true
-  there = subst (λ (v : Handles). is_some (object_at v.heap slot) ≡ true) (sym shown) known
+-- the object that gets a run
+pub known_gets : (h : Holding) (xs : List (Option Attributes)) {m : ℕ} {w : Handles} → handles_of h xs m ≡ w → (slot count n first : ℕ) (options : RoomOptions) → count ≡ slots_for n → IsSomeAnd (object_at w.heap slot) (λ o. GetsRun w slot o options count first)
+    → (o : Object) × (object_at h.heap slot ≡ Some o) × GetsRun (handles_of h xs 0) slot o options (slots_for n) first
+known_gets h xs {m} shown slot count n first options same gets = turn (object_at h.heap slot) refl (subst (λ k. IsSomeAnd (object_at h.heap slot) (λ o. GetsRun (handles_of h xs m) slot o options k first)) same
+    (subst (λ (v : Handles). IsSomeAnd (object_at v.heap slot) (λ o. GetsRun v slot o options count first)) (sym shown) gets))
+  where
+    turn : (p : Option Object) → object_at h.heap slot ≡ p → IsSomeAnd p (λ o. GetsRun (handles_of h xs 0) slot o options (slots_for n) first) → (o : Object) × (object_at h.heap slot ≡ Some o) × GetsRun (handles_of h xs 0) slot o options (slots_for n) first
+    turn None e g = absurd g
+    turn (Some o) e g = (o, e, g)
 
-  in_table : slot < length t
-  in_table = subst (λ n. slot < n) (sym are.selectors_many) (slot_there h xs t are slot there).1
+-- a refusal has no result, so that what holds anyhow is what it says
+pub if_none : {X : Type 0} (p : Option X) (P : Type 0) → P → IfNone p P
+if_none None P holds = holds
+if_none (Some x) P holds = tt
 
-  sound : IsHeap new.heap
-  sound = heap_law h.heap new.heap slot n options true are.handles.heap reallocated
+-- no place for an object that would get a run: the heap is as it was, and so nothing can be answered
+pub lacks_place : (h : Holding) (xs : List (Option Attributes)) {m : ℕ} {w : Handles} → handles_of h xs m ≡ w → (slot count n first : ℕ) (options : RoomOptions) → count ≡ slots_for n → IsSomeAnd (object_at w.heap slot) (λ o. GetsRun w slot o options count first)
+    → (made : Heap) → Reallocates h.heap slot n options false made
+    → IsSomeAnd (object_at w.heap slot) (λ o. LacksRun w slot o options (slots_for n) ⊎ ((first : ℕ) × GetsRun w slot o options (slots_for n) first × Reallocates w.heap slot n options false w.heap))
+lacks_place h xs {w = w} shown slot count n first options same gets made refused = turn (object_at w.heap slot) (subst (λ k. IsSomeAnd (object_at w.heap slot) (λ o. GetsRun w slot o options k first)) same gets)
+  where
+    unchanged : Reallocates w.heap slot n options false w.heap
+    unchanged = subst (λ (v : Handles). Reallocates v.heap slot n options false v.heap) shown (subst (Reallocates h.heap slot n options false) ((one_outcome_law h.heap made slot n options refused).0) refused)
 
-  keeps : KeepsOthers h.heap (Some slot) has.prefix new.heap
-  keeps = kept_by h.heap are.handles.heap slot n options new.heap reallocated has.prefix has.needed
+    turn : (p : Option Object) → IsSomeAnd p (λ o. GetsRun w slot o options (slots_for n) first)
+        → IsSomeAnd p (λ o. LacksRun w slot o options (slots_for n) ⊎ ((first : ℕ) × GetsRun w slot o options (slots_for n) first × Reallocates w.heap slot n options false w.heap))
+    turn None g = absurd g
+    turn (Some o) g = inr (first, g, unchanged)
 
-  sized : IsSomeAnd (bytes_at new.heap slot) (λ bytes. length bytes ≡ n)
-  sized = sized_by h.heap are.handles.heap slot n options new.heap reallocated
+-- An object that is there got another size, and a run of slots for it.
+module _ {h : Holding} {xs : List (Option Attributes)} {t : selectors.DescriptorTable} (are : AreJoined h xs t) {m : ℕ} {w : Handles} (shown : handles_of h xs m ≡ w) (made : Holding) (cap : made.cap ≡ h.cap) (slot count n first : ℕ) (options : RoomOptions)
+    (same : count ≡ slots_for n) (known : IsSomeAnd (object_at w.heap slot) (λ o. GetsRun w slot o options count first)) (reallocated : Reallocates h.heap slot n options true made.heap) (has : HasDiscardedFor h.heap slot n options made.discarded) where
+  abbrev k : (o : Object) × (object_at h.heap slot ≡ Some o) × GetsRun (handles_of h xs 0) slot o options (slots_for n) first
+  k = known_gets h xs shown slot count n first options same known
 
-  -- those that were discarded had a selector
-  pub discarded_known : All (λ id. is_some (descriptor_at t id) ≡ true) new.discarded
-  discarded_known = subst (All (λ id. is_some (descriptor_at t id) ≡ true)) (sym has.listed) (each_discarded h.heap new.heap (Some slot) has.prefix keeps t (kind_in xs) are.described)
+  abbrev o : Object
+  o = k.0
 
-  -- each object has a descriptor once these were told
-  pub known_told : (told : selectors.DescriptorTable) → ((q : ℕ) → descriptor_at told q ≡ forgotten new.discarded t q) → (q : ℕ) → is_some (object_at new.heap q) ≡ true → is_some (descriptor_at told q) ≡ true
-  known_told told forgot q here = still_taken new.discarded t told q forgot (each_known are q (elim (cases_eq q slot) [
-    | inl e ↦ ap (λ k. is_some (object_at h.heap k)) e ∙ there
-    | inr other ↦ was_there h.heap new.heap (Some slot) has.prefix keeps q (λ e. let same : slot ≡ q = cc in other (sym same)) here
-  ]))
+  abbrev there : object_at h.heap slot ≡ Some k.0
+  there = k.1
 
-  -- the object is there
-  made : is_some (object_at new.heap slot) ≡ true
-  made = from_bytes (object_at new.heap slot) sized
+  abbrev gets : GetsRun (handles_of h xs 0) slot k.0 options (slots_for n) first
+  gets = k.2
+
+  -- it has attributes and a run, and each slot of the new one is its own or free
+  pub was_attributed : is_some (get_or xs slot None) ≡ true
+  was_attributed = has_attributes are slot first (slots_for n) o there (some_slots n) options gets
+
+  pub had_run : HasRun xs t slot
+  had_run = own_run are slot first (slots_for n) o there (some_slots n) options gets
+
+  pub may_get : MayHave xs t slot first count
+  may_get = subst (MayHave xs t slot first) (sym same) (may_have are slot first (slots_for n) o there (some_slots n) options gets)
+
+  sound : IsHeap made.heap
+  sound = heap_law h.heap made.heap slot n options true are.handles.heap reallocated
+
+  keeps : KeepsOthers h.heap (Some slot) has.prefix made.heap
+  keeps = kept_by h.heap are.handles.heap slot n options made.heap reallocated has.prefix has.needed
+
+  sized : option_map (length {A = ℕ}) (bytes_at made.heap slot) ≡ Some n
+  sized = turn (bytes_at made.heap slot) (sized_by h.heap are.handles.heap slot n options made.heap reallocated)
     where
-      from_bytes : (p : Option Object) → IsSomeAnd (elim p as (λ _. Option (List ℕ)) [ Some o ↦ o.bytes | None ↦ None ]) (λ bytes. length bytes ≡ n) → is_some p ≡ true
-      from_bytes None f = absurd f
-      from_bytes (Some o) f = refl
+      turn : (b : Option (List ℕ)) → IsSomeAnd b (λ bytes. length bytes ≡ n) → option_map (length {A = ℕ}) b ≡ Some n
+      turn None f = absurd f
+      turn (Some b) f = ap Some f
 
-  -- each other one is there as it was, with as many slots as it needs
-  kept : (q : ℕ) → q ≢ slot → (is_some (object_at new.heap q) ≡ is_some (object_at h.heap q)) × IsSized (slots_at (attributes_in xs) q) (bytes_at new.heap q)
-  kept q other = elim (cases_Bool (is_member q (take has.prefix (eligible (blocks h.heap) h.heap.order (Some slot))))) [
-    | inl t ↦ gone (object_at h.heap q) (keeps.discarded q t)
-    | inr f ↦
-        let same : object_at new.heap q ≡ object_at h.heap q = keeps.kept q (λ e. let at : slot ≡ q = cc in other (sym at)) (λ t. false≢true (sym f ∙ t)) in
-        (ap is_some same, sized_is refl (ap bytes_in same) (are.handles.sized q))
-  ]
+  -- the object is there still
+  pub stays_there : is_some (object_at made.heap slot) ≡ true
+  stays_there = turn (object_at made.heap slot) (ap is_some sized)
     where
-      gone : (p : Option Object) → IsSomeAnd p (λ o. (o.kind ≡ Discardable) × (o.locks ≡ 0) × (is_some o.bytes ≡ true) × (object_at new.heap q ≡ Some (record o { bytes = None })))
-          → (is_some (object_at new.heap q) ≡ is_some p) × IsSized (slots_at (attributes_in xs) q) (bytes_at new.heap q)
-      gone None g = absurd g
-      gone (Some o) g = (ap is_some g.3, sized_is refl (ap bytes_in g.3) tt)
+      turn : (p : Option Object) → is_some (option_map (length {A = ℕ}) (bytes_in p)) ≡ true → is_some p ≡ true
+      turn None e = absurd (false≢true e)
+      turn (Some o) e = refl
 
-  -- so what is left are handles
-  handles : n ≤ REACH → AreHandles (record (handles_of h xs 0) { heap = new.heap })
-  handles small = turn (object_at h.heap slot) (rest_law h.heap new.heap slot n options are.handles.heap reallocated)
+  -- and where it goes none was
+  pub nobody_then : first ≢ slot → object_at made.heap first ≡ None
+  nobody_then d = turn (object_at made.heap first) refl
     where
-      fit : (q : ℕ) → q ≡ slot → (b : Option (List ℕ)) → IsSomeAnd b (λ bytes. length bytes ≡ n) → IsSized (slots_at (attributes_in xs) q) b
-      fit q e None g = tt
-      fit q e (Some bytes) g = let one = one_slot h xs t are q (ap (λ k. is_some (object_at h.heap k)) e ∙ there) in omega (arith, one, small, g)
+      before : object_at h.heap first ≡ None
+      before = nobody_there are slot first (slots_for n) o there (some_slots n) options gets d
 
-      turn : (p : Option Object) → IsSomeAnd p (λ o. KeepsRest h.heap slot n o options new.heap) → AreHandles (record (handles_of h xs 0) { heap = new.heap })
-      turn None r = absurd r
-      turn (Some o) r = other_handles (handles_of h xs 0) are.handles new.heap sound r.low r.grain
-          (λ q. elim (cases_eq q slot) [ inl e ↦ ap (λ k. is_some (object_at new.heap k)) e ∙ made ∙ sym (ap (λ k. is_some (object_at h.heap k)) e ∙ there) | inr other ↦ (kept q other).0 ])
-          (λ q. elim (cases_eq q slot) [ inl e ↦ fit q e (bytes_at new.heap q) (subst (λ k. IsSomeAnd (bytes_at new.heap k) (λ bytes. length bytes ≡ n)) (sym e) sized) | inr other ↦ (kept q other).1 ])
+      turn : (p : Option Object) → object_at made.heap first ≡ p → object_at made.heap first ≡ None
+      turn None e = e
+      turn (Some x) e = absurd (false≢true (sym (ap is_some before) ∙ was_there h.heap made.heap (Some slot) has.prefix keeps first (λ e. let same : slot ≡ first = cc in d (sym same)) (ap is_some e)))
 
-  -- and has its own once selectors have followed
-  pub known_followed : (from to : ℕ) (told second : selectors.DescriptorTable) → ((q : ℕ) → descriptor_at told q ≡ forgotten new.discarded t q) → ((q : ℕ) → descriptor_at second q ≡ followed new.heap from to told q)
-      → is_some (descriptor_at second slot) ≡ true
-  known_followed from to told second forgot follows = followed_known new.heap from to told second slot made (known_told told forgot slot made) (follows slot)
+  module _ (new : Holding) (new_is : new ≡ record made { heap = rehoused made.heap slot first }) {Z : Type 0} (v : Vec (Option Attributes) Z) (v_is : v.items ≡ xs) {zs : List (Option Attributes)} (zs_is : zs ≡ xs) (lent : List (Option Attributes))
+      (housed_at : (q : ℕ) → get_or lent q None ≡ attributes_housed zs slot first count q) (many : length lent ≡ length zs) (run : IfSome (owned_at w slot) (λ (owned : Owned). owned.size ≡ n)) where
+    abbrev ys : List (Option Attributes)
+    ys = (with_items v lent).items
 
-  pub reallocated_joined : n ≤ REACH → (at from to : ℕ) (told second after : selectors.DescriptorTable) → ((q : ℕ) → q ≢ slot → StandStill h.heap new.heap from to q) → finmap.get new.heap.places slot ≡ Some at
-      → ((q : ℕ) → descriptor_at told q ≡ forgotten new.discarded t q) → length told ≡ length t → ((q : ℕ) → descriptor_at second q ≡ followed new.heap from to told q) → length second ≡ length told
-      → after ≡ set second slot (Some (record { base = at; limit = n - 1; present = true; kind = kind_at second slot })) → AreJoined new xs after
-  reallocated_joined small at from to told second after still placed forgot many_told follows many_second is =
-      let d : Descriptor = record { base = at; limit = n - 1; present = true; kind = kind_at second slot } in
-      let many : length second ≡ length t = many_second ∙ many_told in
-      let kind_is : kind_at second slot ≡ kind_in xs slot =
-      ap kind_of (follows slot) ∙ followed_kind new.heap from to told slot made ∙ ap kind_of (forgot slot) ∙ forgotten_kind new.discarded t slot ∙ kinds_are h xs t are slot in
-      record {
-        handles = subst AreHandles (λ i. record { slots = sym cap i - FIRST_SLOT; heap = new.heap; attributes = attributes_in xs; moved = 0 }) (handles small);
-        described = λ q. ap (λ (l : selectors.DescriptorTable). get_or l q None) is ∙ elim (cases_eq q slot) as (λ _. get_or (set second slot (Some d)) q None ≡ described new.heap (kind_in xs q) q) [
-          | inl e ↦ ap (λ k. get_or (set second slot (Some d)) k None) e ∙ get_or-set_same second slot (Some d) None (subst (λ k. slot < k) (sym many) in_table)
-              ∙ sym (ap (λ k. described new.heap (kind_in xs k) k) e ∙ ap (λ k. described new.heap k slot) (sym kind_is) ∙ made_here (kind_at second slot) new.heap slot n at (bytes_at new.heap slot) refl sized placed)
-          | inr other ↦ get_or-set_other second slot q (Some d) None other ∙ follows q
-              ∙ says_all h.heap new.heap sound (Some slot) has.prefix keeps from to t told (kind_in xs) (kinds_are h xs t are) new.discarded has.listed forgot are.described q (λ e. let same : slot ≡ q = cc in other (sym same)) (still q other)
-        ];
-        sized = are.sized;
-        attributes_many = are.attributes_many ∙ sym cap;
-        selectors_many = ap length is ∙ length-set second slot (Some d) ∙ many ∙ are.selectors_many ∙ sym cap;
-        some = subst (λ n. FIRST_SLOT ≤ n) (sym cap) are.some;
-      }
+    back : (with_items v lent).items ≡ lent
+    back = with_items_is v lent (many ∙ ap length (zs_is ∙ sym v_is) ∙ sym v.ok.0)
+
+    ys_at : (q : ℕ) → get_or ys q None ≡ attributes_housed xs slot first (slots_for n) q
+    ys_at q = ap (λ l. get_or l q None) back ∙ housed_at q ∙ (λ i. attributes_housed (zs_is i) slot first (same i) q)
+
+    ys_many : length ys ≡ length xs
+    ys_many = ap length back ∙ many ∙ ap length zs_is
+
+    known_housed : (u : selectors.DescriptorTable) → AreHoused zs t slot first count u → AreHoused xs t slot first (slots_for n) u
+    known_housed u housed = subst (λ c. AreHoused xs t slot first c u) same (subst (λ (l : List (Option Attributes)). AreHoused l t slot first count u) zs_is housed)
+
+    heap_is : new.heap ≡ rehoused made.heap slot first
+    heap_is = ap (λ (x : Holding). x.heap) new_is
+
+    cap_is : new.cap ≡ h.cap
+    cap_is = ap (λ (x : Holding). x.cap) new_is ∙ cap
+
+    attributes_are : attributes_in ys ≡ with_run (attributes_in xs) slot first (slots_for n)
+    attributes_are = housed_attributes are slot first (slots_for n) o there (some_slots n) options gets ys ys_at
+
+    -- what is left are handles
+    pub resized_handles : AreHandles (handles_of new ys 0)
+    resized_handles = subst AreHandles (λ i. record { slots = sym cap_is i - FIRST_SLOT; heap = sym heap_is i; attributes = sym attributes_are i; moved = 0 })
+        (anew_handles (handles_of h xs 0) are.handles slot n options o there first gets made.heap reallocated (subst (λ (x : Handles). IfSome (owned_at x slot) (λ (owned : Owned). owned.size ≡ n)) (sym shown) run))
+
+    -- and they are told
+    pub resized_known : (moved : ℕ) → moved ≡ moved_bytes h.heap made.heap → handles_of new ys moved ≡ record w { heap = rehoused made.heap slot first; attributes = with_run w.attributes slot first (slots_for n); moved = moved_bytes w.heap made.heap }
+    resized_known moved moved_is = (λ i. record { slots = cap_is i - FIRST_SLOT; heap = heap_is i; attributes = attributes_are i; moved = moved_is i })
+        ∙ ap (λ (x : Handles). record x { heap = rehoused made.heap slot first; attributes = with_run x.attributes slot first (slots_for n); moved = moved_bytes x.heap made.heap }) shown
+
+    runs_of : AreRuns (h.cap - FIRST_SLOT) (attributes_in ys)
+    runs_of = subst (λ k. AreRuns (k - FIRST_SLOT) (attributes_in ys)) cap_is resized_handles.runs
+
+    pub resized_labelled : (u : selectors.DescriptorTable) → AreHoused zs t slot first count u → AreLabelled ys u
+    resized_labelled u housed = housed_labelled are slot first (slots_for n) o there (some_slots n) options gets ys ys_at (h.cap - FIRST_SLOT) refl runs_of u (known_housed u housed)
+
+    -- those that were discarded have no bytes
+    pub resized_gone : All (λ q. (q < new.cap) × (bytes_at new.heap q ≡ None)) new.discarded
+    resized_gone = subst (λ (x : Holding). All (λ q. (q < x.cap) × (bytes_at x.heap q ≡ None)) x.discarded) (sym new_is)
+        (all_gone h.heap made.heap sound (Some slot) has.prefix keeps (λ q. (q < made.cap) × (bytes_at (rehoused made.heap slot first) q ≡ None)) (λ q before none. (subst (λ k. q < k) (sym cap) (slot_there h xs t are q before).1, moved q before none)) made.discarded has.listed)
+      where
+        moved : (q : ℕ) → is_some (object_at h.heap q) ≡ true → bytes_at made.heap q ≡ None → bytes_at (rehoused made.heap slot first) q ≡ None
+        moved q before none = elim (cases_eq q slot) [
+          | inl e ↦ let both : ◌≡◌ {A = Option ℕ} None (Some n) = sym (ap (option_map (length {A = ℕ})) (ap (bytes_at made.heap) (sym e) ∙ none)) ∙ sized in cc
+          | inr b ↦ elim (cases_eq q first) [
+            | inl e ↦ absurd (false≢true (sym (ap is_some (nobody_there are slot first (slots_for n) o there (some_slots n) options gets (λ same. b (e ∙ same)))) ∙ ap (λ k. is_some (object_at h.heap k)) (sym e) ∙ before))
+            | inr c ↦ bytes_other made.heap sound slot first nobody_then q c b ∙ none
+          ]
+        ]
+
+    pub resized_own : (option_map (length {A = ℕ}) (bytes_at new.heap first) ≡ Some n)
+    resized_own = ap (λ (k : Heap). option_map (length {A = ℕ}) (bytes_at k first)) heap_is ∙ ap (option_map (length {A = ℕ})) (housed_bytes made.heap sound slot first nobody_then) ∙ sized
+
+    pub resized_slots : slots_in ys first ≡ slots_for n
+    resized_slots = run_sized new ys resized_handles first n resized_own
+
+    -- its selectors are known behind what the others are told
+    pub resized_run : (from to : ℕ) (u second : selectors.DescriptorTable) → AreHoused zs t slot first count u → ((q : ℕ) → descriptor_at second q ≡ told new.heap ys (λ f. is_member f new.discarded || begins_in new.heap from to f) u q)
+        → (number : ℕ) → number < slots_for n → (is_some (descriptor_at second (first + number)) ≡ true) × (number_at second (first + number) ≡ number)
+    resized_run from to u second housed tells number below = run_known new ys resized_handles second
+        (told_labelled new ys resized_handles (λ f. is_member f new.discarded || begins_in new.heap from to f) u second (resized_labelled u housed) tells) first number (let long = resized_slots in omega (arith, below, long))
+
+    pub resized_joined : count < 256 → (at from to : ℕ) → finmap.get made.heap.places slot ≡ Some at → ((q : ℕ) → q ≢ slot → StandStill h.heap made.heap from to q) → (u second after : selectors.DescriptorTable) → AreHoused zs t slot first count u
+        → ((q : ℕ) → descriptor_at second q ≡ told new.heap ys (λ f. is_member f new.discarded || begins_in new.heap from to f) u q) → ((q : ℕ) → descriptor_at after q ≡ placed first at n second q) → length after ≡ length t → AreJoined new ys after
+    resized_joined few at from to stands still u second after housed tells places many = record {
+      handles = resized_handles;
+      described = finished new ys resized_handles (λ f. is_member f new.discarded || begins_in new.heap from to f) u second after first at n (resized_labelled u housed) tells resized_own
+          (ap (λ (k : Heap). finmap.get k.places first) heap_is ∙ housed_place made.heap sound slot first nobody_then ∙ stands) places rest;
+      sized = housed_sized are slot first (slots_for n) o there (some_slots n) options gets ys ys_at (subst (λ c. c < 256) same few);
+      attributes_many = ys_many ∙ are.attributes_many ∙ sym cap_is;
+      selectors_many = many ∙ are.selectors_many ∙ sym cap_is;
+      some = subst (λ k. FIRST_SLOT ≤ k) (sym cap_is) are.some;
+    }
+      where
+        rest : (q f : ℕ) → owner_in ys q ≡ Some f → f ≢ first → (is_member f new.discarded || begins_in new.heap from to f) ≡ false → descriptor_at u q ≡ says new.heap (kind_in ys f) (q - f) f
+        rest q f e c untold =
+            let (b, kind, said) = housed_rest are slot first (slots_for n) o there (some_slots n) options gets ys ys_at (h.cap - FIRST_SLOT) refl runs_of u (known_housed u housed) q f e c in
+            said ∙ sym (ap (λ k. says new.heap k (q - f) f) kind ∙ ap (λ (k : Heap). says k (kind_in xs f) (q - f) f) heap_is ∙ says_other made.heap sound slot first nobody_then f c b (kind_in xs f) (q - f)
+            ∙ rest_says h.heap made.heap sound (Some slot) has.prefix keeps made.discarded has.listed from to f (λ g. let same : slot ≡ f = cc in b (sym same))
+            (ap (λ (x : Holding). is_member f x.discarded || begins_in made.heap from to f) (sym new_is) ∙ ap (λ p. is_member f new.discarded || (elim p as (λ _. Bool) [ None ↦ false | Some at ↦ nat_le from at && nat_lt at to ])) (sym (ap (λ (k : Heap). finmap.get k.places f) heap_is ∙ place_other made.heap sound slot first nobody_then f c b)) ∙ untold)
+            (still f b) (kind_in xs f) (q - f))

@@ -1,8 +1,8 @@
 -- What GlobalReAlloc and GlobalDiscard answer.
-use Rattle.w16_global.proofs.Common.{◌≡◌, ℕ, ◌-◌, ◌≤◌, if◌then◌else◌, length, ◌||◌, ◌==◌, ◌&&◌, inl, inr, Bool, true, false, cond, MatchBool, MatchOption, List, Option, Some, None, Result, Ok, Err, option_map, unwrap_or, refl, sym, ap, ◌∙◌, subst, arith, ne_eqb, cases_eq, le-ltb, Kind, RoomOptions, Refusal, LARGEST_SIZE, GMEM_MOVEABLE, GMEM_MODIFY, GMEM_ZEROINIT, Heap, Object, object_at, bytes_at, is_fixed, is_discardable, absent, with_ordered, with_newest, Reallocates, moved_bytes, after_discard, Handles, handle_of, slot_of_handle, global_size, has_flag, rounded_size, owns, is_owned, realloc_options, kind_modified, modified, Anew, ResizesObject, rekeyed, with_run, slots_at, slots_for, slots_of, names_law, IsSomeAnd, is_some, map, eq-eqb, Attributes, FinMap, nat_cmp, nat_cmp_total, nat_cmp-IsAntisymmetric, same_map, inserted_here, inserted_other, IsNull, AnswersHandle, AnswersDiscard, Empties, Resizes, ReAllocsOwn, GlobalReAllocs, GlobalDiscards, discard_absent, one_outcome_law, taken_here, taken_other, counted, none_moved, unmoved, zeroed_behind}
-use Rattle.std.specs.FinMap as finmap
+use Rattle.w16_global.proofs.Common.{◌≡◌, ℕ, ◌-◌, ◌≤◌, if◌then◌else◌, length, ◌||◌, ◌==◌, ◌&&◌, inl, inr, Bool, true, false, cond, MatchBool, MatchOption, List, Option, Some, None, Result, Ok, Err, option_map, unwrap_or, refl, sym, ap, ◌∙◌, subst, arith, ne_eqb, cases_eq, le-ltb, Kind, RoomOptions, Refusal, LARGEST_SIZE, GMEM_MOVEABLE, GMEM_MODIFY, GMEM_ZEROINIT, Heap, Object, object_at, bytes_at, is_fixed, is_discardable, absent, with_ordered, with_newest, Reallocates, moved_bytes, after_discard, Handles, handle_of, slot_of_handle, global_size, has_flag, rounded_size, owns, is_owned, realloc_options, kind_modified, modified, Anew, ResizesObject, rehoused, with_run, slots_for, IsSomeAnd, AreHandles, GetsRun, LacksRun, IsResized, ◌⊎◌, IsNull, AnswersHandle, AnswersDiscard, Empties, Resizes, ReAllocsOwn, GlobalReAllocs, GlobalDiscards, discard_absent, taken_here, taken_other, counted, none_moved, unmoved, zeroed_behind}
 use Rattle.w16_model.specs.declared.Kind.TheVariants as kinds
 use Rattle.w16_model.specs.declared.Refusal.TheVariants as refusals
+use Rattle.w16_model.proofs.Housed.{housed_first, keeps}
 
 -- What is moved.
 
@@ -51,16 +51,20 @@ not_null w handle slot found = ne_eqb handle 0 (λ e. turn (object_at w.heap 0) 
     turn None e = cc
     turn (Some o) e = by_kind o.kind e
 
--- a run at the same slot, and as long, is the same
-same_run : (m : FinMap nat_cmp Attributes) (slot count : ℕ) → slots_at m slot ≡ count → with_run m slot slot count ≡ m
-same_run m slot count long = turn (finmap.get m slot) refl
+-- nor is one that is answered, where the object has a run
+answer_some : (kind : Kind) (first : ℕ) → (handle_of kind first == 0) ≡ false
+answer_some kinds.Fixed first = ne_eqb (handle_of kinds.Fixed first) 0 (λ e. omega (arith, e))
+answer_some kinds.Moveable first = ne_eqb (handle_of kinds.Moveable first) 0 (λ e. omega (arith, e))
+answer_some kinds.Discardable first = ne_eqb (handle_of kinds.Discardable first) 0 (λ e. omega (arith, e))
+
+-- the handle that an object has then
+answered : (v : Handles) → AreHandles v → (slot n : ℕ) (options : RoomOptions) (o : Object) → object_at v.heap slot ≡ Some o → (first : ℕ) → GetsRun v slot o options (slots_for n) first → (heap : Heap) → Reallocates v.heap slot n options true heap
+    → unwrap_or (option_map (λ (o : Object). handle_of o.kind first) (object_at (rehoused heap slot first) first)) 0 ≡ handle_of o.kind first
+answered v is slot n options o there first gets heap r = ap (λ (p : Option Object). unwrap_or (option_map (λ (o : Object). handle_of o.kind first) p) 0) (housed_first v is slot n options o there first gets heap r) ∙ turn (object_at heap slot) (keeps v is slot n options o there first gets heap r).object
   where
-    turn : (p : Option Attributes) → finmap.get m slot ≡ p → (elim p as (λ _. FinMap nat_cmp Attributes) [ Some a ↦ finmap.insert (finmap.remove m slot) slot (record a { slots = count }) | None ↦ m ]) ≡ m
-    turn None there = refl
-    turn (Some a) there = same_map nat_cmp_total nat_cmp-IsAntisymmetric (finmap.insert (finmap.remove m slot) slot (record a { slots = count })) m (λ q. elim (cases_eq q slot) [
-      | inl e ↦ inserted_here (finmap.remove m slot) slot (record a { slots = count }) q e ∙ ap (λ n. let b : Attributes = record a { slots = n } in Some b) (sym long ∙ slots_of m slot a there) ∙ sym (ap (finmap.get m) e ∙ there)
-      | inr d ↦ inserted_other (finmap.remove m slot) slot (record a { slots = count }) q d ∙ taken_other m slot q d
-    ])
+    turn : (p : Option Object) → IsSomeAnd p (IsResized options.zero n o) → unwrap_or (option_map (λ (o : Object). handle_of o.kind first) p) 0 ≡ handle_of o.kind first
+    turn None f = absurd f
+    turn (Some p) f = ap (λ k. handle_of k first) f.kind
 
 -- What GlobalReAlloc answers for an object, from the handles w, where v is w with nothing moved last.
 module _ (w v : Handles) (v_is : v ≡ record w { moved = 0 }) (handle size flags slot : ℕ) (found : slot_of_handle v handle ≡ Some slot) (new : Handles) where
@@ -75,12 +79,12 @@ module _ (w v : Handles) (v_is : v ≡ record w { moved = 0 }) (handle size flag
   answers_owned own rest = subst (λ b. MatchBool b (IsNull w 0 new) (ReAllocsOwn w handle size flags 0 new)) (sym (owns_is ∙ own)) (refl, rest ∙ v_is)
 
   -- how many zeros are behind the bytes of an object that was lengthened
-  pub zeros_known : has_flag flags GMEM_MODIFY ≡ false → (n : ℕ) → n ≡ rounded_size size → (options : RoomOptions) → options ≡ realloc_options flags
-      → (if options.zero then n - unwrap_or (option_map (length {A = ℕ}) (bytes_at v.heap slot)) 0 else 0) ≡ zeroed_behind w handle size flags handle
-  zeros_known kept n n_is options way_is =
+  pub zeros_known : (answer : ℕ) → (answer == 0) ≡ false → has_flag flags GMEM_MODIFY ≡ false → (n : ℕ) → n ≡ rounded_size size → (options : RoomOptions) → options ≡ realloc_options flags
+      → (if options.zero then n - unwrap_or (option_map (length {A = ℕ}) (bytes_at v.heap slot)) 0 else 0) ≡ zeroed_behind w handle size flags answer
+  zeros_known answer some kept n n_is options way_is =
       let more : ℕ = if has_flag flags GMEM_ZEROINIT then rounded_size size - global_size w handle else 0 in
       (λ i. if (way_is i).zero then n_is i - unwrap_or (option_map (length {A = ℕ}) (bytes_at (v_is i).heap slot)) 0 else 0)
-      ∙ sym (ap (λ b. if b || has_flag flags GMEM_MODIFY then 0 else more) (not_null w handle slot found_in) ∙ ap (λ b. if b then 0 else more) kept
+      ∙ sym (ap (λ b. if b || has_flag flags GMEM_MODIFY then 0 else more) some ∙ ap (λ b. if b then 0 else more) kept
       ∙ ap (λ p. if has_flag flags GMEM_ZEROINIT then rounded_size size - (elim p as (λ _. ℕ) [ None ↦ 0 | Some slot ↦ unwrap_or (option_map (length {A = ℕ}) (bytes_at w.heap slot)) 0 ]) else 0) found_in)
 
   -- Of one that none owns.
@@ -102,49 +106,53 @@ module _ (w v : Handles) (v_is : v ≡ record w { moved = 0 }) (handle size flag
     answers_modified kind kind_is modify rest = answers handle true modify
         (refl, rest ∙ (λ i. record (v_is i) { heap = modified (v_is i).heap slot (kind_is i) }) ∙ (λ i. record w { heap = modified w.heap slot (kind_modified flags); moved = sym (modified_unmoved w.heap slot (kind_modified flags)) i }))
 
-    module _ (one : is_some (object_at v.heap slot) ≡ true → slots_at v.attributes slot ≡ 1) (kept : has_flag flags GMEM_MODIFY ≡ false) (some : size ≡ 0 → ⊥) (small : size ≤ LARGEST_SIZE) (n : ℕ) (n_is : n ≡ rounded_size size) (options : RoomOptions) (way_is : options ≡ realloc_options flags) where
-      sized : (answer : ℕ) (answered : Bool) → Reallocates w.heap slot (rounded_size size) (realloc_options flags) answered new.heap → MatchBool answered (AnswersHandle w handle new.heap answer new) (IsNull w answer new)
-          → GlobalReAllocs w handle size flags answer new
-      sized answer answered r h = answers answer false kept (subst (by_size answer) (sym (ne_eqb size 0 some)) (subst (λ long. MatchBool long (IsNull w answer new)
-          (IsSomeAnd (object_at w.heap slot) (ResizesObject w slot flags size answer new)))
-          (sym (le-ltb LARGEST_SIZE size small)) (of_object (object_at w.heap slot) refl ((names_law w handle slot).0.0 found_in))))
+    module _ (kept : has_flag flags GMEM_MODIFY ≡ false) (some : size ≡ 0 → ⊥) (small : size ≤ LARGEST_SIZE) (n : ℕ) (n_is : n ≡ rounded_size size) (options : RoomOptions) (way_is : options ≡ realloc_options flags) where
+      -- what is known of the object, by what is computed, in the handles v
+      abbrev Known : Handles → ℕ → RoomOptions → ℕ → Object → Type 0
+      Known x k way answer o = (LacksRun x slot o way (slots_for k) × (answer ≡ 0) × (new ≡ record w { moved = 0 }))
+          ⊎ ((first : ℕ) × GetsRun x slot o way (slots_for k) first × (answered : Bool) × (heap : Heap) × Reallocates x.heap slot k way answered heap
+          × MatchBool answered (Anew x slot o.kind first (slots_for k) heap answer new) ((answer ≡ 0) × (new ≡ record w { moved = 0 })))
+
+      pub answers_size : (answer : ℕ) → IsSomeAnd (object_at v.heap slot) (Known v n options answer) → GlobalReAllocs w handle size flags answer new
+      answers_size answer h = answers answer false kept (subst (by_size answer) (sym (ne_eqb size 0 some)) (subst (λ long. MatchBool long (IsNull w answer new) (IsSomeAnd (object_at w.heap slot) (ResizesObject w slot flags size answer new)))
+          (sym (le-ltb LARGEST_SIZE size small)) (each (object_at w.heap slot) asked)))
         where
-          count : slots_for (rounded_size size) ≡ 1
-          count = omega (arith, small)
+          each : (p : Option Object) → IsSomeAnd p (Known (record w { moved = 0 }) (rounded_size size) (realloc_options flags) answer) → IsSomeAnd p (ResizesObject w slot flags size answer new)
+          each None g = absurd g
+          each (Some o) (inl l) = inl (record { here = l.0.here; elsewhere = l.0.elsewhere }, (l.1, l.2))
+          each (Some o) (inr r) = inr r
 
-          outcome : (o : Object) → handle ≡ handle_of o.kind slot → slots_at w.attributes slot ≡ 1 → (b : Bool) → MatchBool b (AnswersHandle w handle new.heap answer new) (IsNull w answer new)
-              → MatchBool b (Anew w slot o.kind slot (slots_for (rounded_size size)) new.heap answer new) (IsNull w answer new)
-          outcome o named own false h = h
-          outcome o named own true h = (
-            h.0 ∙ named,
-            h.1 ∙ (λ i. record w {
-              heap = ap (λ b. if b then new.heap else (record new.heap { objects = rekeyed new.heap.objects slot slot; places = rekeyed new.heap.places slot slot; order = map (λ q. if q == slot then slot else q) new.heap.order })) (sym (eq-eqb slot slot refl)) i;
-              attributes = sym (same_run w.attributes slot (slots_for (rounded_size size)) (own ∙ sym count)) i;
-              moved = moved_bytes w.heap new.heap;
-            }),
-          )
+          asked : IsSomeAnd (object_at w.heap slot) (Known (record w { moved = 0 }) (rounded_size size) (realloc_options flags) answer)
+          asked = subst (λ way. IsSomeAnd (object_at w.heap slot) (Known (record w { moved = 0 }) (rounded_size size) way answer)) way_is
+              (subst (λ k. IsSomeAnd (object_at w.heap slot) (Known (record w { moved = 0 }) k options answer)) n_is
+              (subst (λ (x : Handles). IsSomeAnd (object_at x.heap slot) (Known x n options answer)) v_is h))
 
-          of_object : (p : Option Object) → object_at w.heap slot ≡ p → IsSomeAnd p (λ o. handle ≡ handle_of o.kind slot) → IsSomeAnd p (ResizesObject w slot flags size answer new)
-          of_object None there g = absurd g
-          of_object (Some o) there named =
-              let own : slots_at w.attributes slot ≡ 1 = subst (λ (x : Handles). is_some (object_at x.heap slot) ≡ true → slots_at x.attributes slot ≡ 1) v_is one (ap is_some there) in
-              inr (slot, inl ((λ k below. absurd (omega (arith, below, count, own))), refl), answered, new.heap, r, outcome o named own answered h)
+      -- what is answered where it got bytes
+      pub answers_bytes : AreHandles v → (first : ℕ) → IsSomeAnd (object_at v.heap slot) (λ o. GetsRun v slot o options (slots_for n) first) → (heap : Heap) → Reallocates v.heap slot n options true heap
+          → new ≡ record v { heap = rehoused heap slot first; attributes = with_run v.attributes slot first (slots_for n); moved = moved_bytes v.heap heap }
+          → (answer : ℕ) → answer ≡ unwrap_or (option_map (λ (o : Object). handle_of o.kind first) (object_at new.heap first)) 0 → GlobalReAllocs w handle size flags answer new × ((answer == 0) ≡ false)
+      answers_bytes is first gets heap r rest answer answer_is = (answers_size answer (turn (object_at v.heap slot) refl gets), some_answer (object_at v.heap slot) refl gets)
+        where
+          each : (o : Object) → object_at v.heap slot ≡ Some o → GetsRun v slot o options (slots_for n) first → answer ≡ handle_of o.kind first
+          each o e g = answer_is ∙ ap (λ (x : Handles). unwrap_or (option_map (λ (o : Object). handle_of o.kind first) (object_at x.heap first)) 0) rest ∙ answered v is slot n options o e first g heap r
 
-      asked : (answered : Bool) → Reallocates v.heap slot n options answered new.heap → Reallocates w.heap slot (rounded_size size) (realloc_options flags) answered new.heap
-      asked answered h =
-          subst (λ x. Reallocates w.heap slot (rounded_size size) x answered new.heap) way_is
-          (subst (λ k. Reallocates w.heap slot k options answered new.heap) n_is
-          (subst (λ (x : Handles). Reallocates x.heap slot n options answered new.heap) v_is h))
+          turn : (p : Option Object) → object_at v.heap slot ≡ p → IsSomeAnd p (λ o. GetsRun v slot o options (slots_for n) first) → IsSomeAnd p (Known v n options answer)
+          turn None e g = absurd g
+          turn (Some o) e g = inr (first, g, true, heap, r, (each o e g, rest))
 
-      -- another size
-      pub answers_bytes : Reallocates v.heap slot n options true new.heap → new ≡ record v { heap = new.heap; moved = moved_bytes v.heap new.heap } → GlobalReAllocs w handle size flags handle new
-      answers_bytes h rest = sized handle true (asked true h) (refl, rest ∙ ap (λ (x : Handles). record x { heap = new.heap; moved = moved_bytes x.heap new.heap }) v_is)
+          some_answer : (p : Option Object) → object_at v.heap slot ≡ p → IsSomeAnd p (λ o. GetsRun v slot o options (slots_for n) first) → (answer == 0) ≡ false
+          some_answer None e g = absurd g
+          some_answer (Some o) e g = ap (λ k. k == 0) (each o e g) ∙ answer_some o.kind first
 
-      -- and none, where there is no room
-      pub answers_no_room : Reallocates v.heap slot n options false new.heap → new ≡ record v { heap = new.heap } → GlobalReAllocs w handle size flags 0 new
-      answers_no_room h rest =
-          let same : new.heap ≡ w.heap = (one_outcome_law w.heap new.heap slot (rounded_size size) (realloc_options flags) (asked false h)).0 in
-          sized 0 false (asked false h) (refl, rest ∙ ap (λ (x : Handles). record x { heap = new.heap }) v_is ∙ (λ i. record w { heap = same i; moved = 0 }))
+      -- and where it got none
+      pub answers_null : IsSomeAnd (object_at v.heap slot) (λ o. LacksRun v slot o options (slots_for n) ⊎ ((first : ℕ) × GetsRun v slot o options (slots_for n) first × Reallocates v.heap slot n options false v.heap))
+          → new ≡ v → GlobalReAllocs w handle size flags 0 new
+      answers_null lacks rest = answers_size 0 (turn (object_at v.heap slot) lacks)
+        where
+          turn : (p : Option Object) → IsSomeAnd p (λ o. LacksRun v slot o options (slots_for n) ⊎ ((first : ℕ) × GetsRun v slot o options (slots_for n) first × Reallocates v.heap slot n options false v.heap)) → IsSomeAnd p (Known v n options 0)
+          turn None g = absurd g
+          turn (Some o) (inl l) = inl (l, refl, rest ∙ v_is)
+          turn (Some o) (inr r) = inr (r.0, r.1, false, v.heap, r.2, (refl, rest ∙ v_is))
 
 -- GlobalDiscard moves nothing,
 discards_unmoved : (old : Handles) (handle answer : ℕ) (new : Handles) → GlobalDiscards old handle answer new → new.moved ≡ 0

@@ -1,5 +1,7 @@
 pub mod Parts
+pub mod Runs
 pub mod Joined
+pub mod Housed
 pub mod Lent
 pub mod Access
 pub mod Owned

@@ -4,16 +4,17 @@ ghost use Rattle.std.specs.FinMap as finmap;
 ghost use Rattle.w16_model.specs.Changes.{without};
 ghost use Rattle.w16_model.specs.Heap.{is_discardable};
 ghost use Rattle.w16_model.specs.Calls.{GlobalAllocs, GlobalCompacts, locks_at, is_shared};
-ghost use Rattle.w16_model.specs.Handles.{AreHandles, Gives, IsFreeSlot};
+ghost use Rattle.w16_model.specs.Handles.{AreHandles, Gives, HasNoRun, IsFreeRun, IsFreeSlot};
 ghost use Rattle.w16_model.specs.Calls as calls;
 ghost use Rattle.w16_model.specs.Fewest.{AllocFewest, CompactsFewest};
 ghost use Rattle.w16_model.specs.Walk.{IsFirstItem, IsItem, IsItemAt, IsItemCount};
 ghost use Rattle.w16_model.specs.Handles as handles;
 ghost use Rattle.w16_model.specs.Owned as owned;
 ghost use Rattle.w16_region.specs.Bytes.{counted};
-ghost use Rattle.w16_global.specs.Joined.{whole, zeroed};
+ghost use Rattle.w16_global.specs.Joined.{zeroed};
 
 use crate::global::Global16;
+use crate::runs::slots_for;
 use std::alloc::Allocator;
 use w16_model::names::{dword_of, handle_of, selector_of, slot_of};
 use w16_model::{
@@ -21,6 +22,13 @@ use w16_model::{
     GMEM_NOCOMPACT, GMEM_NODISCARD, GMEM_ZEROINIT, GRAIN, Item, Kind, LARGEST_SIZE, Owned, Owner,
     Refusal, RoomOptions, bit_if, has_flag,
 };
+
+/// What a selector reaches: an object, by its first slot, and which of the object's selectors it is, from 0.
+#[derive(Clone, Copy, Debug)]
+pub(crate) struct Part {
+    pub slot: u16,
+    pub number: u8,
+}
 
 impl<A: Allocator + Copy> Global16<A> {
     /// The slot of the object whose handle this is, exactly: a fixed object's handle is its selector, any other's the number below it
@@ -37,12 +45,30 @@ impl<A: Allocator + Copy> Global16<A> {
         }
     }
 
-    /// The slot of the object whose selector this is, which reaches the object from the first byte on.
-    pub(crate) fn slot_of_selector(&self, selector: u16) -> Option<u16>
-        ensures slot { result ≡ handles.slot_of_selector self.now.handles selector }
-        ensures part { handles.part_of_selector self.now.handles selector ≡ option_map whole result }
+    /// What a selector reaches of an object.
+    pub(crate) fn part_of_selector(&self, selector: u16) -> Option<Part>
+        ensures found { IfSome result (λ p. handles.part_of_selector self.now.handles selector ≡ Some (record { slot = p.slot; number = p.number })) }
+        ensures none { IfNone result (handles.part_of_selector self.now.handles selector ≡ None) }
     {
-        self.selectors.find(selector).map(|_| slot_of(selector))
+        let descriptor = self.selectors.find(selector)?;
+        let number = descriptor.number;
+        Some(Part {
+            slot: slot_of(selector) - number as u16,
+            number,
+        })
+    }
+
+    /// The slot of the object whose first selector this is.
+    pub(crate) fn slot_of_selector(&self, selector: u16) -> Option<u16>
+        ensures { result ≡ handles.slot_of_selector self.now.handles selector }
+    {
+        self.reveal_handles();
+        let part = self.part_of_selector(selector)?;
+        if part.number == 0 {
+            Some(part.slot)
+        } else {
+            None
+        }
     }
 
     /// How many discardable objects with bytes there are, but for a slot's own. So a call that names this object, or makes it, discards others
@@ -61,6 +87,21 @@ impl<A: Allocator + Copy> Global16<A> {
         ensures none { IfNone result ((slot : ℕ) → IsFreeSlot self.old.handles slot → ⊥) }
     {
         self.selectors.lowest_free()
+    }
+
+    /// The first of the lowest so many free slots in a row, above 0.
+    pub(crate) fn free_run(&mut self, count: u16) -> Option<u16>
+        requires { 0 < count }
+        ensures same { self.new ≡ self.old }
+        ensures found { IfSome result (λ first. IsFreeRun self.old.handles first count) }
+        ensures few { IfSome result (λ first. first + count ≤ 8192) }
+        ensures none { IfNone result (HasNoRun self.old.handles count) }
+    {
+        if count == 1 {
+            self.free_slot()
+        } else {
+            self.selectors.find_run(count as u32)
+        }
     }
 
     /// The lock count of a slot's object.
@@ -101,10 +142,13 @@ impl<A: Allocator + Copy> Global16<A> {
             .is_some_and(|attributes| attributes.shared)
     }
 
-    /// `GlobalAlloc`: a new object's handle, or 0: for a fixed object of size 0, a size over 65,536 bytes, where no slot is free, and where
-    /// there is no room. The size is rounded up to 32 bytes; a moveable object of size 0 has no bytes. Objects that aren't fixed or locked slide
-    /// where that makes room, and of the discardable ones as few as are needed are discarded, the least recently used first. With
-    /// `GMEM_NODISCARD` none is discarded, with `GMEM_NOCOMPACT` none slides either. `GMEM_DISCARDABLE` counts beside `GMEM_MOVEABLE` alone.
+    /// `GlobalAlloc`: a new object's handle, or 0: for a fixed object of size 0, a size over the limit, where too few slots in a row are free,
+    /// and where there is no room.
+    ///
+    /// The object has a slot for each 65,536 bytes, and one at least. The size is rounded up to 32 bytes; a moveable object of size 0 has no
+    /// bytes. Objects that aren't fixed or locked slide where that makes room, and of the discardable ones as few as are needed are discarded,
+    /// the least recently used first. With `GMEM_NODISCARD` none is discarded, with `GMEM_NOCOMPACT` none slides either. `GMEM_DISCARDABLE`
+    /// counts beside `GMEM_MOVEABLE` alone.
     pub fn global_alloc(&mut self, flags: u16, size: u32) -> u16
         ensures step { GlobalAllocs self.old.handles flags size result self.new.handles }
         ensures written { self.new.written ≡ counted (counted self.old.written self.new.handles.moved) (zeroed flags size result) }
@@ -123,11 +167,13 @@ impl<A: Allocator + Copy> Global16<A> {
         if size > LARGEST_SIZE {
             return 0;
         }
-        let Some(slot) = self.free_slot() else {
+        let rounded_size = rounded(size);
+        let slots = slots_for(rounded_size);
+        let Some(slot) = self.free_run(slots) else {
             return 0;
         };
         let kind = kind_asked(flags);
-        let attributes = attributes_asked(flags);
+        let attributes = attributes_asked(flags, slots);
         if size == 0 {
             if !has_flag(flags, GMEM_MOVEABLE) {
                 return 0;
@@ -135,7 +181,7 @@ impl<A: Allocator + Copy> Global16<A> {
             self.enter(slot, kind, attributes);
             return handle_of(kind, slot);
         }
-        if self.allocate(slot, rounded(size), kind, alloc_options(flags), attributes) {
+        if self.allocate(slot, rounded_size, kind, alloc_options(flags), attributes) {
             handle_of(kind, slot)
         } else {
             0
@@ -280,7 +326,8 @@ impl<A: Allocator + Copy> Global16<A> {
         })
     }
 
-    /// How many bytes the last `global_alloc`, `global_realloc`, `global_discard` or `global_compact` moved: the sizes of the objects that stand at another address since.
+    /// How many bytes the last `global_alloc`, `global_realloc`, `global_discard` or `global_compact` moved: the sizes of the objects that stand
+    /// at another address since.
     pub fn moved(&self) -> u64
         ensures value { result ≡ self.now.handles.moved }
         ensures few { result < 2 ^ 32 }
@@ -320,20 +367,20 @@ impl<A: Allocator + Copy> Global16<A> {
         flags_of(entry, self.is_shared(slot), absent)
     }
 
-    /// `GlobalHandle`: the selector in the high word and its object's handle in the low word; 0 where there is none.
+    /// `GlobalHandle`: the selector, any of an object's, in the high word and its object's handle in the low word; 0 where there is none.
     pub fn global_handle(&self, selector: u16) -> u32
         ensures { result ≡ calls.global_handle self.now.handles selector }
     {
-        let Some(slot) = self.slot_of_selector(selector) else {
+        let Some(part) = self.part_of_selector(selector) else {
             return 0;
         };
-        match self.objects.entry(slot as u32) {
-            Some(entry) => dword_of(selector, handle_of(entry.kind, slot)),
+        match self.objects.entry(part.slot as u32) {
+            Some(entry) => dword_of(selector, handle_of(entry.kind, part.slot)),
             None => 0,
         }
     }
 
-    /// `GetSelectorBase`: the address of the selector's object; 0 where it is absent or there is none.
+    /// `GetSelectorBase`: the address of the first byte that the selector reaches; 0 where its object is absent or there is none.
     pub fn get_selector_base(&self, selector: u16) -> u32
         ensures { result ≡ calls.selector_base self.now.handles selector }
     {
@@ -342,7 +389,7 @@ impl<A: Allocator + Copy> Global16<A> {
             .map_or(0, |descriptor| descriptor.base)
     }
 
-    /// `GetSelectorLimit`: the offset of the last byte of the selector's object; 0 where it is absent or there is none.
+    /// `GetSelectorLimit`: the offset of the last byte that the selector reaches; 0 where its object is absent or there is none.
     pub fn get_selector_limit(&self, selector: u16) -> u32
         ensures { result ≡ calls.selector_limit self.now.handles selector }
     {
@@ -377,14 +424,14 @@ pub(crate) fn alloc_options(flags: u16) -> RoomOptions
     }
 }
 
-/// The attributes that flags ask for, of an object of one slot that no module owns.
-fn attributes_asked(flags: u16) -> Attributes
-    ensures { result ≡ record { shared = calls.has_flag flags GMEM_DDESHARE; owned = None; slots = 1 } }
+/// The attributes that flags ask for, of an object that no module owns and that has so many slots.
+fn attributes_asked(flags: u16, slots: u16) -> Attributes
+    ensures { result ≡ record { shared = calls.has_flag flags GMEM_DDESHARE; owned = None; slots = slots } }
 {
     Attributes {
         shared: has_flag(flags, GMEM_DDESHARE),
         owned: None,
-        slots: 1,
+        slots,
     }
 }
 

@@ -1,7 +1,7 @@
 //! Far access: bytes at selector:offset. An access is checked once, by the selector's descriptor, and its bytes are then the object's.
 ghost use Rattle.std.specs.Prelude.{◌≡◌, ◌<◌, ◌^◌, Some, None, length, min, OnOk, OnErr, IfOk, IfErr};
 ghost use Rattle.w16_model.specs.Bytes.{repeated};
-ghost use Rattle.w16_model.specs.Far.{far_slot};
+ghost use Rattle.w16_model.specs.Far.{far_at, far_slot};
 ghost use Rattle.w16_model.specs.Handles.{Gives};
 ghost use Rattle.w16_model.specs.Far as access;
 ghost use Rattle.w16_region.specs.Bytes.{counted};
@@ -9,23 +9,35 @@ ghost use Rattle.w16_global.specs.Access.{access_fault};
 
 use crate::global::Global16;
 use std::alloc::Allocator;
-use w16_model::FarFault;
 use w16_model::names::slot_of;
+use w16_model::{FarFault, REACH};
+
+/// Where an access begins: in an object, by its first slot, at so many bytes behind its begin.
+#[derive(Clone, Copy, Debug)]
+struct Reached {
+    slot: u16,
+    at: u32,
+}
 
 impl<A: Allocator + Copy> Global16<A> {
-    /// The slot of the object that an access to `n` bytes reaches, or its first fault.
-    fn reach(&self, selector: u16, offset: u16, n: usize, write: bool) -> Result<u16, FarFault>
-        ensures ok { IfOk result (λ slot. (slot ≡ far_slot self.now.handles selector) × (access_fault self.now.handles write selector offset n ≡ None)) }
+    /// Where an access to `n` bytes begins, or its first fault.
+    fn reach(&self, selector: u16, offset: u16, n: usize, write: bool) -> Result<Reached, FarFault>
+        ensures ok { IfOk result (λ r. (r.slot ≡ far_slot self.now.handles selector) × (r.at ≡ far_at self.now.handles selector offset) × (access_fault self.now.handles write selector offset n ≡ None)) }
         ensures few { OnOk result (n < 2 ^ 32) }
         ensures err { IfErr result (λ fault. access_fault self.now.handles write selector offset n ≡ Some fault) }
     {
         self.selectors
             .resolve(selector, offset, count_of(n), write)?;
-        Ok(slot_of(selector))
+        let slot = slot_of(selector);
+        let number = self.selectors.number_at(slot);
+        Ok(Reached {
+            slot: slot - number as u16,
+            at: REACH * number as u32 + offset as u32,
+        })
     }
 
     /// Reads as many bytes as the buffer has. It tells the first fault: `BadSelector` where no object has the selector, `NotPresent` where it is
-    /// absent, `Limit` where a byte is past its end; then the buffer is as it was.
+    /// absent, `Limit` where a byte is past what the selector reaches of it; then the buffer is as it was.
     pub fn far_read(
         &mut self,
         selector: u16,
@@ -38,12 +50,12 @@ impl<A: Allocator + Copy> Global16<A> {
         ensures written { self.new.written ≡ self.old.written }
         ensures kept { OnErr result ((buffer.new ≡ buffer.old) × (self.new ≡ self.old)) }
     {
-        let slot = self.reach(selector, offset, buffer.len(), false)?;
+        let reached = self.reach(selector, offset, buffer.len(), false)?;
         let part = self
             .objects
-            .part(slot as u32, offset as u32, buffer.len() as u32);
+            .part(reached.slot as u32, reached.at, buffer.len() as u32);
         buffer.copy_from_slice(part);
-        self.touch(slot);
+        self.touch(reached.slot);
         Ok(())
     }
 
@@ -55,9 +67,9 @@ impl<A: Allocator + Copy> Global16<A> {
         ensures written { OnOk result (self.new.written ≡ counted self.old.written (length bytes.now)) }
         ensures kept { OnErr result (self.new ≡ self.old) }
     {
-        let slot = self.reach(selector, offset, bytes.len(), true)?;
-        self.objects.write(slot as u32, offset as u32, bytes);
-        self.touch(slot);
+        let reached = self.reach(selector, offset, bytes.len(), true)?;
+        self.objects.write(reached.slot as u32, reached.at, bytes);
+        self.touch(reached.slot);
         Ok(())
     }
 
@@ -69,9 +81,9 @@ impl<A: Allocator + Copy> Global16<A> {
         ensures written { OnOk result (self.new.written ≡ counted self.old.written n) }
         ensures kept { OnErr result (self.new ≡ self.old) }
     {
-        let slot = self.reach(selector, offset, n as usize, true)?;
-        self.objects.fill(slot as u32, offset as u32, n, byte);
-        self.touch(slot);
+        let reached = self.reach(selector, offset, n as usize, true)?;
+        self.objects.fill(reached.slot as u32, reached.at, n, byte);
+        self.touch(reached.slot);
         Ok(())
     }
 }

@@ -1,22 +1,26 @@
 //! The global heap's state, and the steps that its calls are made of.
-ghost use Rattle.std.specs.Prelude.{◌≡◌, ◌%◌, ◌≤◌, ◌<◌, IfOk, IfErr, OnOk, IsSome, Ok, Err, Some, if◌then◌else◌, ◌-◌, length, option_map, unwrap_or};
+ghost use Rattle.std.specs.Prelude.{◌≡◌, ◌%◌, ◌+◌, ◌≤◌, ◌<◌, ◌⊎◌, ◌↔◌, ℕ, true, false, IfOk, IfErr, OnOk, IfSome, IfNone, IsSome, IsSomeAnd, IsTrue, Ok, Err, Some, if◌then◌else◌, ◌-◌, length, option_map, unwrap_or};
 ghost use Rattle.std.specs.FinMap as finmap;
 ghost use Rattle.w16_model.specs.Heap.{Heap, object_at, bytes_at, IsMultiple};
 ghost use Rattle.w16_model.specs.Changes.{removed};
 ghost use Rattle.w16_model.specs.Request.{Allocates, Reallocates, moved_bytes};
 ghost use Rattle.w16_model.specs.OneObject.{Enters, after_discard, after_lock, after_unlock, after_free, after_newest, after_oldest, after_touch};
-ghost use Rattle.w16_model.specs.Handles.{IsFreeSlot, empty_handles};
-ghost use Rattle.w16_model.specs.Owned.{without_slot};
+ghost use Rattle.w16_model.specs.Handles.{IsFreeRun, IsOwnedRun, empty_handles, slots_at};
+ghost use Rattle.w16_model.specs.Handles as handles;
+ghost use Rattle.w16_model.specs.Owned.{owned_at, without_slot};
 ghost use Rattle.w16_model.specs.Calls.{GlobalCompacts};
-ghost use Rattle.w16_model.specs.Resizes.{modified};
+ghost use Rattle.w16_model.specs.Resizes.{CanExtend, GetsRun, LacksRun, may_leave, modified, rehoused, with_run};
 ghost use Rattle.w16_region.specs.Bytes.{counted};
 ghost use Rattle.w16_global.specs.Joined as joined;
 
-use crate::follow::{follow, forget};
+use crate::follow::follow;
 use crate::objects::Objects;
+use crate::runs::{give_run, house, place_run, slots_for, slots_of, take_run, vacate_run};
 use std::alloc::{AllocError, Allocator, Global};
 use std::marker::Model;
-use w16_model::{Attributes, FIRST_SLOT, GRAIN, Kind, MOST_SLOTS, REACH, Refusal, RoomOptions};
+use w16_model::{
+    Attributes, FIRST_SLOT, GRAIN, Kind, LARGEST_SIZE, MOST_SLOTS, Refusal, RoomOptions,
+};
 use w16_selectors::{SelKind, Selectors};
 
 /// The global heap: objects that are named by handles, and whose bytes are reached through selectors. Its value is `Global`: the handles, and
@@ -64,21 +68,28 @@ impl<A: Allocator + Copy> Global16<A> {
         })
     }
 
-    /// A new object without bytes in a free slot.
+    /// A new object without bytes, in a run of free slots from one on, as many as the attributes say.
     pub(crate) fn enter(&mut self, slot: u16, kind: Kind, attributes: Attributes)
-        requires free { IsFreeSlot self.old.handles slot }
+        requires free { IsFreeRun self.old.handles slot attributes.slots }
+        requires some { 0 < attributes.slots }
         requires sized { joined.HasSize (Some attributes) }
+        requires run { IsOwnedRun attributes }
         ensures entered { Enters self.old.handles.heap slot kind self.new.handles.heap }
         ensures rest { self.new.handles ≡ record self.old.handles { heap = self.new.handles.heap; attributes = finmap.insert self.old.handles.attributes slot attributes } }
         ensures written { self.new.written ≡ self.old.written }
     {
         self.objects.enter(slot as u32, kind);
         self.attributes[slot as usize] = Some(attributes);
-        self.selectors.take(slot, kind_for(attributes));
+        take_run(
+            &mut self.selectors,
+            slot,
+            attributes.slots,
+            kind_for(attributes),
+        );
     }
 
-    /// A new object in a free slot, of so many bytes, a multiple of the grain that one selector reaches, if there is room for it as the options have it. The selectors of
-    /// objects that were discarded for it, or have slid, follow.
+    /// A new object of so many bytes, a multiple of the grain, in a run of free slots from one on, as many as they need, if there is room for it
+    /// as the options have it. The selectors of objects that were discarded for it, or have slid, follow.
     pub(crate) fn allocate(
         &mut self,
         slot: u16,
@@ -87,11 +98,13 @@ impl<A: Allocator + Copy> Global16<A> {
         options: RoomOptions,
         attributes: Attributes,
     ) -> bool
-        requires free { IsFreeSlot self.old.handles slot }
+        requires free { IsFreeRun self.old.handles slot attributes.slots }
         requires some { 0 < size }
+        requires small { size ≤ LARGEST_SIZE }
         requires rounded { IsMultiple GRAIN size }
-        requires small { size ≤ REACH }
+        requires enough { attributes.slots ≡ handles.slots_for size }
         requires sized { joined.HasSize (Some attributes) }
+        requires run { IsOwnedRun attributes }
         ensures allocated { Allocates self.old.handles.heap slot size kind 0 options result self.new.handles.heap }
         ensures rest { self.new.handles ≡ record self.old.handles {
           heap = self.new.handles.heap;
@@ -105,36 +118,106 @@ impl<A: Allocator + Copy> Global16<A> {
         };
         self.moved = placed.moved as u32;
         self.attributes[slot as usize] = Some(attributes);
-        forget(&mut self.selectors, self.objects.discarded());
-        self.selectors.take(slot, kind_for(attributes));
-        follow(&self.objects, &mut self.selectors, placed.slid);
-        self.selectors.place(slot, placed.at, size - 1);
+        take_run(
+            &mut self.selectors,
+            slot,
+            attributes.slots,
+            kind_for(attributes),
+        );
+        follow(
+            &self.objects,
+            &self.attributes,
+            &mut self.selectors,
+            placed.slid,
+        );
+        place_run(&mut self.selectors, &self.attributes, slot, placed.at, size);
         true
     }
 
-    /// So many bytes, above 0, a multiple of the grain and no more than one selector reaches, for an object that is there, if there is room for them as the options have it. Its
-    /// selector follows, and so do those of objects that were discarded for it, or have slid.
-    pub(crate) fn reallocate(&mut self, slot: u16, size: u32, options: RoomOptions) -> bool
+    /// So many bytes, above 0 and a multiple of the grain, for an object that is there, if it gets as many slots as these need, and there is room
+    /// for them as the options have it: the slot that it has then. Where its own slots and those behind them don't do, that is another one. Its
+    /// selectors follow, and so do those of objects that were discarded for it, or have slid.
+    pub(crate) fn reallocate(&mut self, slot: u16, size: u32, options: RoomOptions) -> Option<u16>
         requires object { IsSome (object_at self.old.handles.heap slot) }
         requires some { 0 < size }
+        requires small { size ≤ LARGEST_SIZE }
         requires rounded { IsMultiple GRAIN size }
-        requires small { size ≤ REACH }
-        ensures reallocated { Reallocates self.old.handles.heap slot size options result self.new.handles.heap }
-        ensures rest { self.new.handles ≡ record self.old.handles {
-          heap = self.new.handles.heap;
-          moved = if result then moved_bytes self.old.handles.heap self.new.handles.heap else self.old.handles.moved;
-        } }
-        ensures written { self.new.written ≡ (if result then counted (counted self.old.written self.new.handles.moved)
-            (if options.zero then size - unwrap_or (option_map length (bytes_at self.old.handles.heap slot)) 0 else 0) else self.old.written) }
+        requires run { IfSome (owned_at self.old.handles slot) (λ owned. owned.size ≡ size) }
+        ensures gets { IfSome result (λ first. IsSomeAnd (object_at self.old.handles.heap slot) (λ o. GetsRun self.old.handles slot o options (handles.slots_for size) first)) }
+        ensures resized { IfSome result (λ first. (heap : Heap) × Reallocates self.old.handles.heap slot size options true heap
+            × (self.new.handles ≡ record self.old.handles {
+              heap = rehoused heap slot first;
+              attributes = with_run self.old.handles.attributes slot first (handles.slots_for size);
+              moved = moved_bytes self.old.handles.heap heap;
+            })) }
+        ensures few { IfSome result (λ first. first < 8192) }
+        ensures refused { IfNone result (self.new ≡ self.old) }
+        ensures lacks { IfNone result (IsSomeAnd (object_at self.old.handles.heap slot) (λ o.
+            LacksRun self.old.handles slot o options (handles.slots_for size)
+            ⊎ ((first : ℕ) × GetsRun self.old.handles slot o options (handles.slots_for size) first × Reallocates self.old.handles.heap slot size options false self.old.handles.heap))) }
+        ensures written { IfSome result (λ _. self.new.written ≡ counted (counted self.old.written self.new.handles.moved)
+            (if options.zero then size - unwrap_or (option_map length (bytes_at self.old.handles.heap slot)) 0 else 0)) }
     {
-        let Some(place) = self.objects.realloc(slot as u32, size, options) else {
+        let count = slots_for(size);
+        let first = self.run_for(slot, count, options)?;
+        let place = self.objects.realloc(slot as u32, size, options)?;
+        self.moved = place.moved as u32;
+        house(
+            &mut self.objects,
+            &mut self.attributes,
+            &mut self.selectors,
+            slot,
+            first,
+            count,
+        );
+        follow(
+            &self.objects,
+            &self.attributes,
+            &mut self.selectors,
+            place.slid,
+        );
+        place_run(&mut self.selectors, &self.attributes, first, place.at, size);
+        Some(first)
+    }
+
+    /// Where the run of so many slots begins that an object gets for another size: where its own does, if it has as many already, or those directly
+    /// behind it are free; else where as many are free, unless it may not leave its slot. None where there are none for it.
+    fn run_for(&self, slot: u16, count: u16, options: RoomOptions) -> Option<u16>
+        requires object { IsSome (object_at self.now.handles.heap slot) }
+        requires some { 0 < count }
+        ensures few { IfSome result (λ first. first + count ≤ 8192) }
+        ensures gets { IfSome result (λ first. IsSomeAnd (object_at self.now.handles.heap slot) (λ o. GetsRun self.now.handles slot o options count first)) }
+        ensures lacks { IfNone result (IsSomeAnd (object_at self.now.handles.heap slot) (λ o. LacksRun self.now.handles slot o options count)) }
+    {
+        if self.can_extend(slot, count) {
+            return Some(slot);
+        }
+        if self.may_leave(slot, options) {
+            self.selectors.find_run(count as u32)
+        } else {
+            None
+        }
+    }
+
+    /// Whether an object has so many slots, or gets them by those directly behind its own.
+    fn can_extend(&self, slot: u16, count: u16) -> bool
+        requires { IsSome (object_at self.now.handles.heap slot) }
+        ensures value { IsTrue result ↔ CanExtend self.now.handles slot count }
+        ensures few { IsTrue result → slot + count ≤ 8192 }
+    {
+        let own = self.slots_at(slot);
+        count <= own || self.selectors.is_free_run(slot + own, count - own)
+    }
+
+    /// Whether an object may get another slot, and with it another handle: none that is locked, and a fixed one only where it may be moved.
+    fn may_leave(&self, slot: u16, options: RoomOptions) -> bool
+        requires { IsSome (object_at self.now.handles.heap slot) }
+        ensures { IsSomeAnd (object_at self.now.handles.heap slot) (λ o. result ≡ may_leave o options) }
+    {
+        let Some(entry) = self.objects.entry(slot as u32) else {
             return false;
         };
-        self.moved = place.moved as u32;
-        forget(&mut self.selectors, self.objects.discarded());
-        follow(&self.objects, &mut self.selectors, place.slid);
-        self.selectors.place(slot, place.at, size - 1);
-        true
+        entry.locks == 0 && (!entry.kind.is_fixed() || options.may_move)
     }
 
     /// Compaction for so many bytes: the longest hole there is then, or what it could be for 0 bytes.
@@ -143,20 +226,25 @@ impl<A: Allocator + Copy> Global16<A> {
         ensures written { self.new.written ≡ counted self.old.written self.new.handles.moved }
     {
         let compacted = self.objects.compact(size);
-        forget(&mut self.selectors, self.objects.discarded());
-        follow(&self.objects, &mut self.selectors, compacted.slid);
+        follow(
+            &self.objects,
+            &self.attributes,
+            &mut self.selectors,
+            compacted.slid,
+        );
         self.moved = compacted.moved as u32;
         compacted.room
     }
 
-    /// Takes an object away, locked or not: its slot is free.
+    /// Takes an object away, locked or not: its slots are free.
     pub(crate) fn remove(&mut self, slot: u16)
         requires { IsSome (object_at self.old.handles.heap slot) }
         ensures { self.new ≡ record self.old { handles = without_slot self.old.handles slot } }
     {
+        let count = self.slots_at(slot);
         self.objects.release(slot as u32);
         self.attributes[slot as usize] = None;
-        self.selectors.give(slot);
+        give_run(&mut self.selectors, slot, count);
     }
 
     /// Frees an object that isn't locked.
@@ -172,14 +260,24 @@ impl<A: Allocator + Copy> Global16<A> {
         Ok(())
     }
 
-    /// A discardable object that isn't locked gives up its bytes, if it has any, and its selector says so.
+    /// How many slots the object has whose run begins at a slot.
+    pub(crate) fn slots_at(&self, slot: u16) -> u16
+        requires { IsSome (object_at self.now.handles.heap slot) }
+        ensures value { result ≡ slots_at self.now.handles.attributes slot }
+        ensures few { slot + result ≤ 8192 }
+    {
+        slots_of(&self.attributes, slot)
+    }
+
+    /// A discardable object that isn't locked gives up its bytes, if it has any, and its selectors say so.
     pub(crate) fn discard(&mut self, slot: u16) -> Result<(), Refusal>
         requires { IsSome (object_at self.old.handles.heap slot) }
         ensures ok { OnOk result ((after_discard self.old.handles.heap slot ≡ Ok self.new.handles.heap) × (self.new ≡ record self.old { handles = record self.old.handles { heap = self.new.handles.heap } })) }
         ensures err { IfErr result (λ refusal. (after_discard self.old.handles.heap slot ≡ Err refusal) × (self.new ≡ self.old)) }
     {
+        let count = self.slots_at(slot);
         self.objects.discard(slot as u32)?;
-        self.selectors.vacate(slot);
+        vacate_run(&mut self.selectors, slot, count);
         Ok(())
     }
 
@@ -231,7 +329,7 @@ impl<A: Allocator + Copy> Global16<A> {
 }
 
 /// What an object of these attributes holds.
-fn kind_for(attributes: Attributes) -> SelKind
+pub(crate) fn kind_for(attributes: Attributes) -> SelKind
     ensures { result ≡ joined.kind_for (Some attributes) }
 {
     if attributes.owned.is_some_and(|owned| owned.code) {

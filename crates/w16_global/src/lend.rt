@@ -54,7 +54,7 @@ pub struct Segment {
 }
 
 impl<A: Allocator + Copy> Global16<A> {
-    /// The object that a selector names, if it has bytes.
+    /// The object whose first selector this is, if it has bytes.
     pub fn segment(&self, selector: u16) -> Option<Segment>
         ensures found { IfSome result (λ s. (handles.slot_of_selector self.now.handles selector ≡ Some s.slot) × (option_map length (bytes_at self.now.handles.heap s.slot) ≡ Some s.size)) }
         ensures code { IfSome result (λ s. s.code ≡ is_code self.now.handles s.slot) }

@@ -9,6 +9,7 @@ mod lend;
 mod objects;
 mod owned;
 mod realloc;
+mod runs;
 
 pub use global::Global16;
 pub use lend::{Segment, Work};

@@ -6,6 +6,7 @@ ghost use Rattle.w16_model.specs.Changes.{with_object, removed, without};
 ghost use Rattle.w16_model.specs.Request.{Allocates, Compacts, Reallocates, compaction_prefix, moved_bytes};
 ghost use Rattle.w16_model.specs.OneObject.{after_discard, after_modify, after_lock, after_unlock, after_touch, after_newest, after_oldest};
 ghost use Rattle.w16_model.specs.Far.{after_write};
+ghost use Rattle.w16_model.specs.Resizes.{rehoused};
 ghost use Rattle.w16_model.specs.Walk.{IsFirstItem, IsItem, by_its_id};
 ghost use Rattle.w16_model.specs.Bytes.{part, repeated};
 ghost use Rattle.w16_region.specs.Bytes.{counted};
@@ -182,6 +183,17 @@ impl<A: Allocator + Copy> Objects<A> {
         ensures { self.new ≡ record self.old { heap = with_object self.old.heap id (record { kind = kind; locks = 0; bytes = None }) } }
     {
         self.arena.enter(id, kind);
+    }
+
+    /// An object gets another slot, which none has. It stays what it is, where it stands, and when it was used.
+    pub fn rehouse(&mut self, id: u32, to: u32)
+        requires object { IsSome (object_at self.old.heap id) }
+        requires inside { to < self.old.cap }
+        requires free { object_at self.old.heap to ≡ None }
+        ensures { self.new ≡ record self.old { heap = rehoused self.old.heap id to } }
+    {
+        self.arena.rename(id, to);
+        reveal_bytes(&self.memory);
     }
 
     /// Takes an object away, absent or not, locked or not.

@@ -65,7 +65,7 @@ impl<A: Allocator + Copy> Global16<A> {
         let moved = self.moved;
         let revived = self.reallocate(slot, owned.size, REVIVAL_OPTIONS);
         self.moved = moved;
-        revived
+        revived.is_some()
     }
 
     /// The object of a handle is gone, locked or not, owned or not, and its slot is free. A bad handle changes nothing.

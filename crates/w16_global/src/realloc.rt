@@ -1,6 +1,7 @@
 //! The calls of programs that give an object another size or another kind.
-ghost use Rattle.std.specs.Prelude.{◌≡◌, IsSome};
-ghost use Rattle.w16_model.specs.Heap.{object_at};
+ghost use Rattle.std.specs.Prelude.{◌≡◌, ◌<◌, IsSome, option_map, unwrap_or};
+ghost use Rattle.w16_model.specs.Handles as handles;
+ghost use Rattle.w16_model.specs.Heap.{Object, object_at};
 ghost use Rattle.w16_model.specs.Resizes as resizes;
 ghost use Rattle.w16_region.specs.Bytes.{counted};
 ghost use Rattle.w16_global.specs.Joined.{zeroed_behind};
@@ -8,19 +9,25 @@ ghost use Rattle.w16_global.specs.Joined.{zeroed_behind};
 use crate::calls::{alloc_options, rounded};
 use crate::global::Global16;
 use std::alloc::Allocator;
+use w16_model::names::handle_of;
 use w16_model::{
     GMEM_DISCARDABLE, GMEM_MODIFY, GMEM_MOVEABLE, Kind, LARGEST_SIZE, RoomOptions, has_flag,
 };
 
 impl<A: Allocator + Copy> Global16<A> {
-    /// `GlobalReAlloc`: the handle, or 0 where it is bad, a module owns the object, or the request is refused, and then nothing has changed.
+    /// `GlobalReAlloc`: the object's handle, which may be another one, or 0 where the handle is bad, a module owns the object, or the request is
+    /// refused, and then nothing has changed.
     ///
     /// With `GMEM_MODIFY` the size isn't looked at: an object that isn't fixed becomes discardable with `GMEM_DISCARDABLE`, else moveable. A
     /// size of 0 with `GMEM_MOVEABLE` discards a discardable object that isn't locked, as it may be already; a size of 0 is refused
-    /// otherwise, and so is one over 65,536. The size is rounded up to 32 bytes: the object keeps its first bytes, and more come behind
+    /// otherwise, and so is one over the limit. The size is rounded up to 32 bytes: the object keeps its first bytes, and more come behind
     /// them, zeros with `GMEM_ZEROINIT`; one without bytes gets new ones. It is cut where it stands. To grow, it may move, and others
     /// slide and are discarded, as in [`Global16::global_alloc`]; a fixed or locked one moves with `GMEM_MOVEABLE` alone, and grows
     /// into the hole behind it without.
+    ///
+    /// The object then has as many slots as the size needs. It gives up its last ones, or gets those directly behind its own. Where these
+    /// aren't free it gets as many others, the lowest in a row, and the handle of the first, and its old handle is bad: not if it is
+    /// locked, and if it is fixed with `GMEM_MOVEABLE` alone. It is refused where there are none for it.
     pub fn global_realloc(&mut self, handle: u16, size: u32, flags: u16) -> u16
         ensures step { resizes.GlobalReAllocs self.old.handles handle size flags result self.new.handles }
         ensures written { self.new.written ≡ counted (counted self.old.written self.new.handles.moved) (zeroed_behind self.old.handles handle size flags result) }
@@ -52,10 +59,20 @@ impl<A: Allocator + Copy> Global16<A> {
         if size > LARGEST_SIZE {
             return 0;
         }
-        if self.reallocate(slot, rounded(size), realloc_options(flags)) {
-            handle
-        } else {
-            0
+        match self.reallocate(slot, rounded(size), realloc_options(flags)) {
+            Some(first) => self.handle_at(first),
+            None => 0,
+        }
+    }
+
+    /// The handle of a slot's object; 0 where there is none.
+    fn handle_at(&self, slot: u16) -> u16
+        requires { slot < 8192 }
+        ensures { result ≡ unwrap_or (option_map (λ (o : Object). handles.handle_of o.kind slot) (object_at self.now.handles.heap slot)) 0 }
+    {
+        match self.objects.entry(slot as u32) {
+            Some(entry) => handle_of(entry.kind, slot),
+            None => 0,
         }
     }
 

@@ -3,9 +3,8 @@
 use crate::stores::{Endless, Hostile};
 use std::alloc::{AllocError, Global};
 use std::test::Fail;
-use w16_fuse::Fuse;
-use w16_modules_tests::modules::files::store_of;
-use w16_modules_tests::modules::first_wrong;
+use w16_play::files::store_of;
+use w16_play::lines::first_wrong;
 
 /// No handle is left for the two hundred and first module, so none of them is loaded.
 const REFUSED: &str = "\
@@ -20,9 +19,8 @@ GlobalAlloc 2 32 -> 010e";
 
 /// The first wrong line over files without end.
 fn first_wrong_without_end(alloc: Global) -> Result<usize, AllocError> {
-    let fuse = Fuse::new(alloc);
     let samples = store_of(alloc, "TAPP.EXE")?;
-    let mut machine = Hostile::Endless(Endless { samples }).machine(&fuse)?;
+    let mut machine = Hostile::Endless(Endless { samples }).machine(alloc)?;
     first_wrong(&mut machine, alloc, REFUSED)
 }
 

@@ -4,11 +4,9 @@ use crate::stores::{Hostile, HostileMachine, Turning};
 use std::alloc::{AllocError, AllocGlobal, Global};
 use std::process::Abort;
 use std::test::Fail;
-use w16_fuse::Fuse;
-use w16_modules_tests::modules::files::store_of;
-use w16_modules_tests::modules::loads::{FIRST_LOAD, IMPORTS};
-use w16_modules_tests::modules::resources::{RESOURCE, SWEPT};
-use w16_modules_tests::modules::{ALL, first_wrong, first_wrong_of, split};
+use w16_play::files::store_of;
+use w16_play::lines::{first_wrong, first_wrong_of, split};
+use w16_play::texts::{ALL, FIRST_LOAD, IMPORTS, RESOURCE, SWEPT};
 
 /// A library is loaded, and its code discarded.
 const DISCARDED: &str = "\
@@ -26,17 +24,13 @@ Walk -> 00000000 00001000 free / end
 Read 0x01070000 16 -> bytes 9a04000f019a04000f01b81400cb9090";
 
 /// A machine over the samples, of which a read fails.
-fn failing(
-    fuse: &Fuse<Global>,
-    alloc: Global,
-    read: u32,
-) -> Result<HostileMachine<'_>, AllocError> {
-    Hostile::failing(store_of(alloc, ALL)?, read).machine(fuse)
+fn failing(alloc: Global, read: u32) -> Result<HostileMachine, AllocError> {
+    Hostile::failing(store_of(alloc, ALL)?, read).machine(alloc)
 }
 
 /// The first wrong line behind the discard; none where a read before it fails.
 fn first_wrong_fetch(
-    machine: &mut HostileMachine<'_>,
+    machine: &mut HostileMachine,
     alloc: Global,
 ) -> Result<Option<usize>, AllocError> {
     if first_wrong(machine, alloc, DISCARDED)? > 0 {
@@ -47,8 +41,7 @@ fn first_wrong_fetch(
 
 /// The first wrong line behind the discard, on a machine of which a read fails; none where that read comes before the discard.
 fn first_wrong_fetch_failing(alloc: Global, read: u32) -> Result<Option<usize>, AllocError> {
-    let fuse = Fuse::new(alloc);
-    let mut machine = failing(&fuse, alloc, read)?;
+    let mut machine = failing(alloc, read)?;
     first_wrong_fetch(&mut machine, alloc)
 }
 
@@ -72,8 +65,7 @@ fn a_fetch_fails_with_its_device(rt: HostRuntime) -> Result<(), Fail> {
 
 /// The first wrong line on a machine of which a read fails.
 fn first_wrong_failing(alloc: Global, lines: &str, read: u32) -> Result<usize, AllocError> {
-    let fuse = Fuse::new(alloc);
-    let mut machine = failing(&fuse, alloc, read)?;
+    let mut machine = failing(alloc, read)?;
     first_wrong(&mut machine, alloc, lines)
 }
 
@@ -237,9 +229,8 @@ fn first_wrong_where_changed(
     others: &str,
     texts: &[&str],
 ) -> Result<Option<(usize, usize)>, AllocError> {
-    let fuse = Fuse::new(alloc);
     let store = Turning::new(store_of(alloc, ALL)?, store_of(alloc, others)?);
-    let mut machine = Hostile::Turning(store).machine(&fuse)?;
+    let mut machine = Hostile::Turning(store).machine(alloc)?;
     first_wrong_of(&mut machine, alloc, texts)
 }
 
@@ -274,8 +265,7 @@ static CUT: &[(&str, usize, &str, &str)] = &[
 
 /// The first wrong line over files.
 fn first_wrong_over(alloc: Global, files: &str, lines: &str) -> Result<usize, AllocError> {
-    let fuse = Fuse::new(alloc);
-    let mut machine = Hostile::failing(store_of(alloc, files)?, 0).machine(&fuse)?;
+    let mut machine = Hostile::failing(store_of(alloc, files)?, 0).machine(alloc)?;
     first_wrong(&mut machine, alloc, lines)
 }
 

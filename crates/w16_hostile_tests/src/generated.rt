@@ -5,10 +5,9 @@ use crate::stores::{Hostile, HostileMachine};
 use std::alloc::{AllocError, Global};
 use std::str::from_utf8;
 use std::test::Fail;
-use w16_fuse::Fuse;
-use w16_modules_tests::modules::ALL;
-use w16_modules_tests::modules::files::store_of;
-use w16_modules_tests::modules::machine::Machine;
+use w16_play::files::store_of;
+use w16_play::machine::Machine;
+use w16_play::texts::ALL;
 
 /// Commands: the form of the reply, names, and what their arguments are.
 const COMMANDS: &str = "\
@@ -159,7 +158,7 @@ fn put_line(
 
 /// Whether a script ends as it should on a machine, behind all its lines, with a reply of each form.
 fn is_right(
-    machine: &mut HostileMachine<'_>,
+    machine: &mut HostileMachine,
     alloc: Global,
     memory: u32,
     text: &str,
@@ -190,7 +189,7 @@ fn put_lines(
 
 /// A script, where it goes wrong on a machine.
 fn wrong_one(
-    machine: &mut HostileMachine<'_>,
+    machine: &mut HostileMachine,
     alloc: Global,
     memory: u32,
     numbers: &mut Numbers,
@@ -203,7 +202,7 @@ fn wrong_one(
 
 /// The first script that goes wrong on a machine, which plays 250; none where all go right.
 fn first_wrong_on(
-    machine: &mut HostileMachine<'_>,
+    machine: &mut HostileMachine,
     alloc: Global,
     memory: u32,
     numbers: &mut Numbers,
@@ -223,9 +222,8 @@ fn first_wrong(
     memory: u32,
     numbers: &mut Numbers,
 ) -> Result<Option<String>, AllocError> {
-    let fuse = Fuse::new(alloc);
     let store = Hostile::failing(store_of(alloc, ALL)?, 0);
-    let mut machine = Machine::new(&fuse, memory, 16, store)?;
+    let mut machine = Machine::new(alloc, memory, 16, store)?;
     first_wrong_on(&mut machine, alloc, memory, numbers)
 }
 

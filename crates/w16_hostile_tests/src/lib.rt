@@ -1,5 +1,5 @@
-//! Tests of hostile use, from script bytes to reply bytes: want of memory, devices that fail, stores that lie, files that are cut, change or never
-//! end, and scripts that no one wrote.
+//! Tests of hostile use, from script bytes to reply bytes: devices that fail, stores that lie, files that are cut, change or never end, and scripts
+//! that no one wrote.
 #![tactic(auto)]
 
 #[cfg(test)]
@@ -12,7 +12,5 @@ mod generated;
 mod judged;
 #[cfg(test)]
 mod lies;
-#[cfg(test)]
-mod refusals;
 #[cfg(test)]
 mod stores;

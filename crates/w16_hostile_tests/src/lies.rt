@@ -3,11 +3,9 @@
 use crate::stores::{Hostile, HostileMachine, Lie, Lying};
 use std::alloc::{AllocError, Global};
 use std::test::Fail;
-use w16_fuse::Fuse;
-use w16_modules_tests::modules::files::store_of;
-use w16_modules_tests::modules::loads::IMPORTS;
-use w16_modules_tests::modules::resources::RESOURCE;
-use w16_modules_tests::modules::{ALL, first_wrong, script_of};
+use w16_play::files::store_of;
+use w16_play::lines::{first_wrong, script_of};
+use w16_play::texts::{ALL, IMPORTS, RESOURCE};
 use w16_store::StoreFault;
 
 /// A file is missing; all is 0; or the lowest bit is another.
@@ -27,11 +25,7 @@ const FREES: &str = "\
 FreeLibrary 0x21\nFreeLibrary 0x21\nFreeLibrary 0x22\nFreeLibrary 0x22\nFreeLibrary 0x22\nFreeLibrary 0x23\nFreeLibrary 0x23\nFreeLibrary 0x21";
 
 /// Plays the lines of a row, and frees what they loaded, which is nothing where the first line is refused. Whether each run ends.
-fn is_played(
-    machine: &mut HostileMachine<'_>,
-    alloc: Global,
-    lines: &str,
-) -> Result<bool, AllocError> {
+fn is_played(machine: &mut HostileMachine, alloc: Global, lines: &str) -> Result<bool, AllocError> {
     let (load, rest) = lines.split_once("\n").unwrap_or((lines, ""));
     let mut output = Vec::new(alloc);
     let script = script_of(alloc, load)?;
@@ -46,7 +40,7 @@ fn is_played(
 
 /// Whether all is as on a new machine behind a row; none where no lie was told.
 fn is_new_behind(
-    machine: &mut HostileMachine<'_>,
+    machine: &mut HostileMachine,
     alloc: Global,
     lines: &str,
 ) -> Result<Option<bool>, AllocError> {
@@ -67,9 +61,8 @@ fn is_new(
     before: u32,
     lies: u32,
 ) -> Result<Option<bool>, AllocError> {
-    let fuse = Fuse::new(alloc);
     let store = Lying::new(store_of(alloc, ALL)?, lie, before, lies);
-    let mut machine = Hostile::Lying(store).machine(&fuse)?;
+    let mut machine = Hostile::Lying(store).machine(alloc)?;
     is_new_behind(&mut machine, alloc, lines)
 }
 
@@ -101,7 +94,7 @@ fn lies_are_undone(rt: HostRuntime) -> Result<(), Fail> {
 
 /// Plays a load, and puts its reply behind others, where it is refused otherwise than the last one. Whether a lie was told.
 fn put_refusal(
-    machine: &mut HostileMachine<'_>,
+    machine: &mut HostileMachine,
     alloc: Global,
     refusals: &mut Vec<u8>,
 ) -> Result<bool, AllocError> {
@@ -120,9 +113,8 @@ fn put_refusal_behind(
     before: u32,
     refusals: &mut Vec<u8>,
 ) -> Result<bool, AllocError> {
-    let fuse = Fuse::new(alloc);
     let store = Lying::new(store_of(alloc, ALL)?, (Ok(()), 0, 0), before, 1);
-    let mut machine = Hostile::Lying(store).machine(&fuse)?;
+    let mut machine = Hostile::Lying(store).machine(alloc)?;
     put_refusal(&mut machine, alloc, refusals)
 }
 

@@ -1,4 +1,4 @@
-//! The stores of these tests, as one type, and a machine over it: a proof meets a machine once for each type of store and of allocator.
+//! The stores of these tests, as one type, and a machine over it: a proof meets a machine once for each type of store.
 mod endless;
 mod lying;
 mod turning;
@@ -7,10 +7,9 @@ pub use endless::Endless;
 pub use lying::{Lie, Lying};
 use std::alloc::{AllocError, Global};
 pub use turning::Turning;
-use w16_fuse::Fuse;
-use w16_modules_tests::modules::ALL;
-use w16_modules_tests::modules::files::store_of;
-use w16_modules_tests::modules::machine::Machine;
+use w16_play::files::store_of;
+use w16_play::machine::Machine;
+use w16_play::texts::ALL;
 use w16_store::{FuseStore, MemStore, Store, StoreFault};
 
 /// A store that does some harm.
@@ -22,8 +21,8 @@ pub enum Hostile {
     Endless(Endless),
 }
 
-/// A machine over such a store, which takes its memory through a fuse.
-pub type HostileMachine<'a> = Machine<Hostile, &'a Fuse<Global>>;
+/// A machine over such a store.
+pub type HostileMachine = Machine<Hostile>;
 
 impl Hostile {
     /// Files of which a read fails, counted from 1 on; none does where it is 0.
@@ -32,8 +31,8 @@ impl Hostile {
     }
 
     /// The machine of most of these tests: 4,096 bytes and 16 selectors.
-    pub fn machine(self, fuse: &Fuse<Global>) -> Result<HostileMachine<'_>, AllocError> {
-        Machine::new(fuse, 4096, 16, self)
+    pub fn machine(self, alloc: Global) -> Result<HostileMachine, AllocError> {
+        Machine::new(alloc, 4096, 16, self)
     }
 }
 

@@ -1,6 +1,7 @@
 -- Which local heaps a call of a program for bytes spares, told by how many discardable objects there are before and after.
 use Rattle.w16_kernel.proofs.Common.{◌≡◌, ◌≢◌, ℕ, ◌≤◌, ◌/◌, inl, inr, Bool, true, false, cond, not, ◌&&◌, ◌==◌, nat_le, if◌then◌else◌, IfSome, IsSomeAnd, List, [], ◌∷◌, length, filter, Option, Some, None, option_map, unwrap_or, is_some, refl, sym, ap, ◌∙◌, subst, arith, false≢true, cases_eq, le-leb, length-filter, count_by-le-length, nat_cmp, nat_cmp_total, nat_cmp-IsAntisymmetric, same_map, get-retain_keys, Kind, Fixed, Moveable, Discardable, FinMap, Heap, Object, Table, object_at, bytes_at, bytes_in, is_discardable, is_in_order, is_member, without, Handles, AreHandles, numbered, handle_of, slot_of_handle, kind_asked, alloc_options, realloc_options, rounded_size, CallStep, Outcome, IsUnmoved, IsLocked, IsUnlocked, IsFreed, IsNewest, IsOldest, IsEntered, IsAllocated, IsCompacted, IsModified, IsDiscarded, IsResized, IsKeptOrDiscarded, OnlyLeave, handle_in, may_change, names_law, taken_here, taken_other, outcome, answer_in, GlobalFree, GlobalCompact, GlobalReAlloc, GlobalDiscard, Calls, ReAllocs, GMEM_MOVEABLE, Reply, Word, Dword, World, Command, OfLoading, OfHandles, OfResizes, IsWorldOver, Unswept, object_slot, word_of, discardable_beside, bystanders_law, rest_of, allocated, compacted, resized, stays, filter_swapped, other_of, twice_out, without_out, IsLocalIn, has_range, left_in, OthersStay}
 use Rattle.std.specs.FinMap as finmap
+use Rattle.std.specs.Prelude.{◌||◌}
 use Rattle.w16_model.specs.Calls as calls
 use Rattle.w16_model.specs.Calls.{Answer}
 use Rattle.w16_model.specs.Calls.HandleCommand.{GlobalAlloc}
@@ -169,13 +170,19 @@ module _ (honest : Type 0) (old : World) (is : IsWorldOver honest old) (mid : Wo
   freed handle None same h = absurd h
   freed handle (Some answer) same h = by_call (Calls (GlobalFree handle)) answer refl same h (length (without (handle / 8) order)) (omega arith)
 
+  -- an object that may have left its slot is not looked at
+  kept : (b : Bool) (slot before : ℕ) (heap : Heap) (tables : FinMap nat_cmp Table) → OthersStay (Some slot) before heap tables → OthersStay (if b then Some slot else None) before heap tables
+  kept true slot before heap tables stay = stay
+  kept false slot before heap tables stay = tt
+
   pub others_stay : (command : Command) (reply : Reply) → Unswept honest old command reply mid → OthersStay (object_slot command (word_of reply)) (discardable_beside (object_slot command 0) old.loading.handles.heap) mid.loading.handles.heap mid.heaps
   others_stay (OfLoading (OfHandles (GlobalAlloc flags size))) (Word handle) s = by_call (Calls (GlobalAlloc flags size)) (calls.Answer.Word handle) refl (ap (λ (w : World). w.heaps) s.1) s.0 (length (without 0 order)) (shorter 0 (handle / 8) order none_at_0)
   others_stay (OfLoading (OfHandles (GlobalAlloc flags size))) reply s = absurd s.0
   others_stay (OfLoading (OfHandles (GlobalFree handle))) reply s = freed handle (answer_in reply) (ap (λ (w : World). w.heaps) s.1) s.0
   others_stay (OfLoading (OfHandles (GlobalCompact size))) (Dword longest) s = by_call (Calls (GlobalCompact size)) (calls.Answer.Dword longest) refl (ap (λ (w : World). w.heaps) s.1) s.0 (length (without 0 order)) (omega arith)
   others_stay (OfLoading (OfHandles (GlobalCompact size))) reply s = absurd s.0
-  others_stay (OfLoading (OfResizes (GlobalReAlloc handle size flags))) (Word answer) s = by_call (ReAllocs handle size flags) (calls.Answer.Word answer) refl (ap (λ (w : World). w.heaps) s.1) s.0 (length (without (handle / 8) order)) (omega arith)
+  others_stay (OfLoading (OfResizes (GlobalReAlloc handle size flags))) (Word answer) s = kept ((answer == 0) || (answer / 8 == handle / 8)) (handle / 8) (length (without (handle / 8) order)) mid.loading.handles.heap mid.heaps
+      (by_call (ReAllocs handle size flags) (calls.Answer.Word answer) refl (ap (λ (w : World). w.heaps) s.1) s.0 (length (without (handle / 8) order)) (omega arith))
   others_stay (OfLoading (OfResizes (GlobalReAlloc handle size flags))) reply s = absurd s.0
   others_stay (OfLoading (OfResizes (GlobalDiscard handle))) (Word answer) s = by_call (ReAllocs handle 0 GMEM_MOVEABLE) (calls.Answer.Word answer) refl (ap (λ (w : World). w.heaps) s.1) s.0 (length (without (handle / 8) order)) (omega arith)
   others_stay (OfLoading (OfResizes (GlobalDiscard handle))) reply s = absurd s.0

@@ -1,5 +1,5 @@
 -- A step over the parts of the machine that the kernel has.
-use Rattle.std.specs.Prelude.{◌≡◌, ◌≢◌, ◌≤◌, ℕ, ◌/◌, Bool, true, false, if◌then◌else◌, List, length, Option, Some, None, option_map, unwrap_or, IfSome, IsSomeAnd}
+use Rattle.std.specs.Prelude.{◌≡◌, ◌≢◌, ◌≤◌, ℕ, ◌/◌, ◌==◌, ◌||◌, Bool, true, false, if◌then◌else◌, List, length, Option, Some, None, option_map, unwrap_or, IfSome, IsSomeAnd}
 use Rattle.std.specs.Ordering.{nat_cmp}
 use Rattle.std.specs.FinMap as finmap
 use Rattle.std.specs.FinMap.{FinMap}
@@ -62,13 +62,17 @@ may_take_bytes (OfLocals command) = false
 abbrev pub surviving_heaps : Bool → Heap → FinMap nat_cmp Table → FinMap nat_cmp Table
 surviving_heaps may_take heap tables = if may_take then left_in heap tables else tables
 
+-- the slot that a handle names, if its object still has it after a GlobalReAlloc has answered this
+abbrev pub kept_slot : ℕ → ℕ → Option ℕ
+kept_slot handle answer = if (answer == 0) || (answer / 8 == handle / 8) then Some (handle / 8) else None
+
 -- Of the five calls of programs that may take bytes, the slot of the object that is named, or that GlobalAlloc has made by the handle that it
--- answers: 0, which no object has, where there is none.
+-- answers: 0, which no object has, where there is none. A GlobalReAlloc that answers another handle has none.
 abbrev pub object_slot : Command → ℕ → Option ℕ
 object_slot (OfLoading (OfHandles (GlobalAlloc flags size))) answer = Some (answer / 8)
 object_slot (OfLoading (OfHandles (GlobalFree handle))) answer = Some (handle / 8)
 object_slot (OfLoading (OfHandles (GlobalCompact size))) answer = Some 0
-object_slot (OfLoading (OfResizes (GlobalReAlloc handle size flags))) answer = Some (handle / 8)
+object_slot (OfLoading (OfResizes (GlobalReAlloc handle size flags))) answer = kept_slot handle answer
 object_slot (OfLoading (OfResizes (GlobalDiscard handle))) answer = Some (handle / 8)
 object_slot command answer = None
 

@@ -207,7 +207,8 @@ impl Call<'_> {
     }
 
     /// Of the five calls of programs that may take bytes of global objects, the slot of the object that is named, or that `GlobalAlloc` has made
-    /// by the handle that it answers: 0, which no object has, where there is none. None of any other call.
+    /// by the handle that it answers: 0, which no object has, where there is none. None of any other call, and of a `GlobalReAlloc` that answers
+    /// another handle.
     pub fn object_slot(&self, answer: u16) -> Option<u16>
         ensures { result ≡ object_slot (command_of self.now) answer }
     {
@@ -215,7 +216,14 @@ impl Call<'_> {
             Call::GlobalAlloc { .. } => Some(slot_of(answer)),
             Call::GlobalFree { handle } => Some(slot_of(handle)),
             Call::GlobalCompact { .. } => Some(0),
-            Call::GlobalReAlloc { handle, .. } => Some(slot_of(handle)),
+            Call::GlobalReAlloc { handle, .. } => {
+                let slot = slot_of(handle);
+                if answer == 0 || slot_of(answer) == slot {
+                    Some(slot)
+                } else {
+                    None
+                }
+            }
             Call::GlobalDiscard { handle } => Some(slot_of(handle)),
             _ => None,
         }

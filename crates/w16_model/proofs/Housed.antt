@@ -1,8 +1,8 @@
 -- An answered reallocation of an object to n bytes: its object has the run of slots that these need, and what is left are handles.
-use Rattle.w16_model.proofs.Common.{◌≡◌, ◌≢◌, ℕ, ◌+◌, ◌-◌, ◌<◌, ◌≤◌, inl, inr, Bool, true, false, cond, ◌==◌, if◌then◌else◌, nat_lt, IfSome, IsSomeAnd, List, [], map, take, Option, Some, None, unwrap_or, is_some, refl, sym, ap, ◌∙◌, subst, arith, eq-eqb, ne_eqb, ltb-true, ltb-false, nat_cmp, FinMap, false≢true, cases_Bool, cases_eq, Discardable, RoomOptions, Attributes, FIRST_SLOT, REACH, eligible, is_member, Heap, Object, IsHeap, blocks, object_at, bytes_at, Reallocates, Handles, AreHandles, IsRun, IsSized, IsFreeSlot, slots_at, slots_for, owner_of, AreResized, KeepsRest, is_owned, CanExtend, GetsRun, rekeyed, rehoused, with_run}
+use Rattle.w16_model.proofs.Common.{◌≡◌, ◌≢◌, ℕ, ◌+◌, ◌-◌, ◌<◌, ◌≤◌, inl, inr, Bool, true, false, cond, ◌==◌, if◌then◌else◌, nat_lt, IfSome, IsSomeAnd, List, [], map, take, Option, Some, None, unwrap_or, is_some, refl, sym, ap, ◌∙◌, subst, arith, eq-eqb, ne_eqb, ltb-true, ltb-false, nat_cmp, FinMap, false≢true, cases_Bool, cases_eq, Discardable, RoomOptions, Attributes, FIRST_SLOT, REACH, eligible, is_member, Heap, Object, IsHeap, blocks, object_at, bytes_at, Reallocates, Handles, AreHandles, IsRun, IsSized, IsFreeSlot, slots_at, slots_for, owner_of, AreResized, KeepsRest, CanExtend, GetsRun, rekeyed, rehoused, with_run}
 use Rattle.std.specs.FinMap as finmap
 use Rattle.w16_model.specs.Reallocation.{IsResized}
-use Rattle.w16_model.specs.Owned.{owned_in}
+use Rattle.w16_model.specs.Owned.{owned_at, owned_in}
 use Rattle.w16_model.specs.declared.Owned.{Owned}
 use Rattle.w16_model.proofs.KeptHeaps.{bytes_in, inserted_here, inserted_other, taken_here, taken_other}
 use Rattle.w16_model.proofs.Runs.{IsIn, no_owner, none_owns, one_owner, first_in, was_in, not_gone, slots_of, slots_with, slots_beside, slots_left, runs_with, runs_without, some_slots, unused}
@@ -167,17 +167,17 @@ module _ (old : Handles) (is : AreHandles old) (slot n : ℕ) (options : RoomOpt
       by_bytes (Some bytes) h = ap slots_for (sym h.long)
 
   -- and no module owns it
-  not_owned : (p : Option Owned) → is_some p ≡ false → IfSome p (λ (o : Owned). slots_for n ≡ slots_for o.size)
-  not_owned None e = tt
-  not_owned (Some o) e = absurd (false≢true (sym e))
+  owned_sized : (p : Option Owned) → IfSome p (λ (o : Owned). o.size ≡ n) → IfSome p (λ (o : Owned). slots_for n ≡ slots_for o.size)
+  owned_sized None own = tt
+  owned_sized (Some o) own = ap slots_for (sym own)
 
-  pub anew_handles : is_owned old slot ≡ false → AreHandles (record old { heap = housed; attributes = with_run old.attributes slot first (slots_for n) })
+  pub anew_handles : IfSome (owned_at old slot) (λ (owned : Owned). owned.size ≡ n) → AreHandles (record old { heap = housed; attributes = with_run old.attributes slot first (slots_for n) })
   anew_handles own = subst (λ m. AreHandles (record old { heap = housed; attributes = m })) (sym run_is) (record {
     heap = housed_heap;
     low = housed_range.0 ∙ keeps.low ∙ is.low;
     grain = housed_range.2 ∙ keeps.grain ∙ is.grain;
     few = is.few;
-    runs = runs_with old.slots left (runs_without old.slots old.attributes is.runs slot) first given (some_slots n) (not_owned had.0.owned (ap (λ p. is_some (owned_in p)) (sym had.1) ∙ own)) run_left;
+    runs = runs_with old.slots left (runs_without old.slots old.attributes is.runs slot) first given (some_slots n) (owned_sized had.0.owned (subst (λ p. IfSome (owned_in p) (λ (owned : Owned). owned.size ≡ n)) had.1 own)) run_left;
     attributed = λ q. elim (cases_eq q first) [
       | inl e ↦ ap is_some (inserted_here left first given q e) ∙ sym (ap is_some (ap (object_at housed) e ∙ housed_first) ∙ some_there (object_at heap slot) keeps.object)
       | inr c ↦ elim (cases_eq q slot) [

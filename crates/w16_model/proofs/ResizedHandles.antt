@@ -1,5 +1,7 @@
 -- Each call keeps what holds of handles; GlobalReAlloc leaves the heap where it is NULL, and discards as few as it can.
 use Rattle.w16_model.proofs.Common.{◌≡◌, ◌≢◌, ℕ, ◌/◌, ◌<◌, ◌≤◌, ◌⊎◌, inl, inr, Bool, true, false, ◌||◌, ◌==◌, nat_lt, MatchBool, MatchOption, IfOk, IfSome, IsSomeAnd, List, Option, Some, None, Result, Ok, Err, is_some, option_map, unwrap_or, refl, sym, ap, ◌∙◌, subst, arith, ne_eqb, ltb-true, false≢true, cases_Bool, cases_eq, Kind, Fixed, Moveable, Discardable, Refusal, LARGEST_SIZE, REACH, GMEM_MODIFY, Heap, Object, IsHeap, object_at, bytes_at, size_of, is_fixed, absent, newest, oldest, with_newest, AreNew, Reallocates, moved_bytes, stays_for, HandleLaw, Call, Outcome, Resized, attributes_asked, Calls, ReAllocs, IsSame, IsUnmoved, IsLocked, IsUnlocked, IsFreed, IsNewest, IsOldest, IsEntered, IsAllocated, IsCompacted, IsModified, IsDiscarded, IsResized, after_modify, after_discard, Handles, AreHandles, IsSized, slots_at, slots_for, slot_of_handle, handle_of, HandleCommand, Answer, GlobalCompacts, has_flag, rounded_size, kind_asked, alloc_options, Word, Dword, GlobalCompact, is_owned, ChangesKind, LacksPlace, ReallocatesFewest, realloc_options, kind_modified, modified, IsNull, AnswersHandle, Empties, LacksRun, rehoused, Anew, ResizesObject, Resizes, ReAllocsOwn, GlobalReAllocs, ResizeLaw, NullLaw, ResizeFewestLaw, OneSlotLaw, OldHandleLaw}
+use Rattle.w16_model.specs.Owned.{owned_at}
+use Rattle.w16_model.specs.declared.Owned.{Owned}
 use Rattle.w16_model.specs.declared.Refusal.TheVariants as refusals
 use Rattle.w16_model.proofs.Fewest.{some_handle}
 use Rattle.w16_model.proofs.Naming.{names_law}
@@ -60,6 +62,11 @@ new_sized : (zeroed : Bool) (n : ℕ) (b : Option (List ℕ)) → IsSomeAnd b (A
 new_sized zeroed n None h = tt
 new_sized zeroed n (Some bytes) h = ap slots_for (sym h.0)
 
+-- what is not owned has no size of its own
+none_owned : (p : Option Owned) (n : ℕ) → is_some p ≡ false → IfSome p (λ (owned : Owned). owned.size ≡ n)
+none_owned None n e = tt
+none_owned (Some owned) n e = absurd (false≢true (sym e))
+
 -- Each call keeps what holds of handles.
 pub kept_by : (old new : Handles) (call : Call) (answer : Answer) → AreHandles old → Outcome old call answer new → AreHandles new
 kept_by old new call answer is (IsSame s e) = subst AreHandles (sym e) is
@@ -77,7 +84,7 @@ kept_by old new call answer is (IsModified m) = subst AreHandles (sym m.rest) (m
     (kind_handles old is m.slot (kind_modified m.flags) m.object new.heap m.named.there (subst (λ (r : Result Heap Refusal). IfOk r IsHeap) m.modified (kind_heap_law old.heap m.slot (kind_modified m.flags) is.heap)) m.changes) (moved_bytes old.heap new.heap))
 kept_by old new call answer is (IsDiscarded d) = subst AreHandles (sym d.rest) (moved_handles _ (absent_handles old is d.slot d.object d.named.there d.unlocked) (moved_bytes old.heap (absent old.heap d.slot)))
 kept_by old new call answer is (IsResized r) = subst AreHandles (sym r.rest) (moved_handles _ (anew_handles old is r.slot (rounded_size r.size) (realloc_options r.flags) r.object r.named.there r.first r.gets r.heap r.resized
-    (sym (ap (λ p. unwrap_or (option_map (is_owned old) p) false) r.named.found) ∙ r.own)) (moved_bytes old.heap r.heap))
+    (none_owned (owned_at old r.slot) _ (sym (ap (λ p. unwrap_or (option_map (is_owned old) p) false) r.named.found) ∙ r.own))) (moved_bytes old.heap r.heap))
 
 pub handle_law : HandleLaw
 handle_law old new command answer is step = kept_by old new (Calls command) answer is (outcome old new (Calls command) answer is step)

@@ -15,6 +15,8 @@ use w16_selectors::{Descriptor, Selectors};
 #[derive(Clone, Copy)]
 enum Call {
     Take(u16, SelKind),
+    /// The same with a number.
+    TakeNumbered(u16, SelKind, u8),
     Give(u16),
     /// A slot, a base and a limit.
     Place(u16, u32, u32),
@@ -23,6 +25,10 @@ enum Call {
     LowestFree(Option<u16>),
     /// The length of a run, and where the lowest that is so long begins.
     FindRun(u32, Option<u16>),
+    /// Where a run begins, its length, and whether it is free.
+    IsFreeRun(u16, u16, bool),
+    /// A slot below the table's end, and its number.
+    NumberAt(u16, u8),
     Find(u16, Option<Descriptor>),
     /// A selector, an offset, a length, and whether it is a write; with the address, or the first fault.
     Resolve(u16, u16, u32, bool, Result<u32, FarFault>),
@@ -73,6 +79,12 @@ impl Bench {
             Len(slots) => self.selectors.len() == slots,
             LowestFree(slot) => self.selectors.lowest_free() == slot,
             FindRun(count, first) => self.selectors.find_run(count) == first,
+            IsFreeRun(first, count, free) => {
+                first >= 32 && self.selectors.is_free_run(first, count) == free
+            }
+            NumberAt(slot, number) => {
+                (slot as usize) < self.selectors.len() && self.selectors.number_at(slot) == number
+            }
             Find(selector, descriptor) => self.selectors.find(selector) == descriptor,
             Resolve(selector, offset, n, write, answer) => {
                 self.selectors.resolve(selector, offset, n, write) == answer
@@ -84,7 +96,12 @@ impl Bench {
     /// Makes a call that changes the table; false where it can't be made.
     fn change(&mut self, call: Call) -> bool {
         match call {
-            Take(slot, kind) if is_free(&self.selectors, slot) => self.selectors.take(slot, kind),
+            Take(slot, kind) if is_free(&self.selectors, slot) => self
+                .selectors
+                .take(slot, kind, 0),
+            TakeNumbered(slot, kind, number) if is_free(&self.selectors, slot) => {
+                self.selectors.take(slot, kind, number)
+            }
             Give(slot) if is_taken(&self.selectors, slot) => self.selectors.give(slot),
             Place(slot, base, limit)
                 if is_taken(&self.selectors, slot) && base <= 4096 && limit <= 31 => {
@@ -103,6 +120,7 @@ const ABSENT_CODE: Descriptor = Descriptor {
     limit: 0,
     present: false,
     kind: Code,
+    number: 0,
 };
 
 /// And once it has 32 bytes at 4,096.
@@ -111,6 +129,16 @@ const CODE: Descriptor = Descriptor {
     limit: 31,
     present: true,
     kind: Code,
+    number: 0,
+};
+
+/// The same of the last of 255 selectors.
+const LAST_CODE: Descriptor = Descriptor {
+    base: 4096,
+    limit: 31,
+    present: true,
+    kind: Code,
+    number: 254,
 };
 
 /// What a row shows, and the calls that are made from six free slots on.
@@ -145,6 +173,39 @@ static ROWS: &[(&str, &[Call])] = &[
             FindRun(1, Some(32)),
             FindRun(3, Some(35)),
             FindRun(4, None),
+        ],
+    ),
+    (
+        "a run is free where each of its slots is",
+        &[
+            IsFreeRun(32, 6, true),
+            IsFreeRun(32, 7, false),
+            IsFreeRun(38, 0, true),
+            IsFreeRun(38, 1, false),
+            IsFreeRun(40, 0, true),
+            Take(34, Data),
+            IsFreeRun(32, 2, true),
+            IsFreeRun(32, 3, false),
+            IsFreeRun(34, 0, true),
+            IsFreeRun(34, 1, false),
+            IsFreeRun(35, 3, true),
+            Give(34),
+            IsFreeRun(32, 6, true),
+        ],
+    ),
+    (
+        "numbers are kept",
+        &[
+            NumberAt(34, 0),
+            TakeNumbered(34, Code, 254),
+            NumberAt(34, 254),
+            Place(34, 4096, 31),
+            NumberAt(34, 254),
+            Find(279, Some(LAST_CODE)),
+            Vacate(34),
+            NumberAt(34, 254),
+            Give(34),
+            NumberAt(34, 0),
         ],
     ),
     (

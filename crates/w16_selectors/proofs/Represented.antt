@@ -14,8 +14,8 @@ abbrev pub Reaches : Option Descriptor → Type 0
 Reaches entry = IfSome entry (λ d. d.base + d.limit + 1 < 2 ^ 32)
 
 -- one without bytes does
-pub unset_reaches : (d : Descriptor) (kind : SelKind) → d ≡ unset kind → Reaches (Some d)
-unset_reaches d kind is = subst (λ d. Reaches (Some d)) (sym is) (omega arith)
+pub unset_reaches : (d : Descriptor) (kind : SelKind) (number : ℕ) → d ≡ unset kind number → Reaches (Some d)
+unset_reaches d kind number is = subst (λ d. Reaches (Some d)) (sym is) (omega arith)
 
 none_at : (n slot : ℕ) → descriptor_at (replicate n None) slot ≡ None
 none_at n slot = elim (cases_lt slot n) [

@@ -1,5 +1,5 @@
 -- What marks tell of slots, and where a run of free ones begins.
-use Rattle.std.proofs.Common.{◌≡◌, ℕ, ◌+◌, ◌-◌, ◌<◌, ◌≤◌, List, length, get_or, drop, take, Option, Some, None, is_some, IsSome, option_map, unwrap_or, refl, sym, ap, ◌∙◌, subst, arith, inl, inr, length-take-le, length-drop}
+use Rattle.std.proofs.Common.{◌≡◌, ℕ, ◌+◌, ◌-◌, ◌<◌, ◌≤◌, List, length, get_or, drop, take, Bool, true, false, not, ◌↔◌, IsTrue, Option, Some, None, is_some, IsSome, option_map, unwrap_or, refl, sym, ap, ◌∙◌, subst, arith, inl, inr, length-take-le, length-drop}
 use Rattle.std.proofs.lemmas.Bool.{cases_lt, false≢true, eqb-true, eq-eqb}
 use Rattle.std.proofs.lemmas.List.{get_or-drop, get_or-take, length-map}
 use Rattle.std.proofs.Math.ListN.{get_or-map}
@@ -108,3 +108,17 @@ pub record GoesOn (Q : ℕ → Type 0) (from to next : ℕ) : Type 0 where
 pub goes_on : (Q : ℕ → Type 0) (from to : ℕ) (r : Option ℕ) → from ≤ to → IsFirst Q from to r → GoesOn Q from to (unwrap_or r to)
 goes_on Q from to None le h = record { low = le; high = omega arith; none = h }
 goes_on Q from to (Some j) le h = let first = h.0 in record { low = first.low; high = omega (arith, first.high); none = first.before }
+
+untaken : (entry : Option Descriptor) → (IsSome entry → ⊥) → entry ≡ None
+untaken None n = refl
+untaken (Some d) n = absurd (n refl)
+
+-- A run is free just where no first taken slot is found in it.
+pub run_is_free : (table : DescriptorTable) (first count to : ℕ) → FIRST_SLOT ≤ first → first + count ≡ to → to ≤ length table
+    → (r : Option ℕ) (free : Bool) → is_some r ≡ not free → IsFirst (λ slot. IsSome (descriptor_at table slot)) first to r → IsTrue free ↔ IsFreeRun table first count
+run_is_free table first count to above long inside None true e h = (λ t. (above, λ k lt. (omega arith, omega arith, untaken (descriptor_at table (first + k)) (h (first + k) (omega arith) (omega arith)))), λ run. refl)
+run_is_free table first count to above long inside None false e h = absurd (false≢true e)
+run_is_free table first count to above long inside (Some j) true e h = absurd (false≢true (sym e))
+run_is_free table first count to above long inside (Some j) false e h =
+    let at : first + (j - first) ≡ j = omega (arith, h.0.low) in
+    (λ t. absurd (false≢true t), λ run. absurd (false≢true (ap is_some (sym (subst (IsUntaken table) at (run.1 (j - first) (omega (arith, h.0.high)))).2) ∙ h.1)))

@@ -31,9 +31,17 @@ kind_of (Some d) = d.kind
 abbrev pub kind_at : DescriptorTable → ℕ → SelKind
 kind_at table slot = kind_of (descriptor_at table slot)
 
+-- the number of a slot's segment; 0 where the slot isn't taken
+abbrev pub number_of : Option Descriptor → ℕ
+number_of None = 0
+number_of (Some d) = d.number
+
+abbrev pub number_at : DescriptorTable → ℕ → ℕ
+number_at table slot = number_of (descriptor_at table slot)
+
 -- a slot's descriptor while its segment has no bytes
-abbrev pub unset : SelKind → Descriptor
-unset kind = record { base = 0; limit = 0; present = false; kind = kind }
+abbrev pub unset : SelKind → ℕ → Descriptor
+unset kind number = record { base = 0; limit = 0; present = false; kind = kind; number = number }
 
 -- the descriptor that a selector names: that of the slot whose selector it is
 abbrev pub descriptor_of : DescriptorTable → ℕ → Option Descriptor

@@ -1,8 +1,8 @@
 //! The descriptors behind selectors: a table from slots to segments of memory, and where a far access finds its bytes. It knows nothing of
-//! objects. No call but the constructor takes memory.
+//! objects: that a segment is the n-th of several is only kept here. No call but the constructor takes memory.
 #![tactic(auto)]
 
-ghost use Rattle.std.specs.Prelude.{◌≡◌, ◌+◌, ◌^◌, ◌<◌, ◌≤◌, ℕ, length, IfOk, OnOk, IfSome, IfNone, IsSome, Some, None, true, replicate, slice_set};
+ghost use Rattle.std.specs.Prelude.{◌≡◌, ◌+◌, ◌^◌, ◌<◌, ◌≤◌, ◌↔◌, ℕ, length, IfOk, OnOk, IfSome, IfNone, IsSome, IsTrue, Some, None, true, replicate, slice_set};
 ghost use Rattle.memchr.specs.Find.{IsFirst};
 ghost use Rattle.w16_selectors.specs.Descriptors.{descriptor_at, descriptor_of, IsUntaken, IsFreeRun, place_of};
 ghost use Rattle.w16_selectors.specs.Descriptors as descriptors;
@@ -35,6 +35,8 @@ pub struct Descriptor {
     pub limit: u32,
     pub present: bool,
     pub kind: SelKind,
+    /// How many slots before its own lead to other segments of the same object: 0 for an object's first.
+    pub number: u8,
 }
 
 /// Descriptors by slot. Its value is the list of them, none where a slot isn't taken; slots below 32 never are.
@@ -109,6 +111,19 @@ impl<A: Allocator> Selectors<A> {
         Some(slot as u16)
     }
 
+    /// Whether so many slots in a row are free, from a slot on.
+    pub fn is_free_run(&self, first: u16, count: u16) -> bool
+        requires { FIRST_SLOT ≤ first }
+        ensures { IsTrue result ↔ IsFreeRun self.now first count }
+    {
+        let from = first as usize;
+        let to = from + count as usize;
+        if to > self.descriptors.len() {
+            return count == 0;
+        }
+        self.next_taken(from, to).is_none()
+    }
+
     /// The first free slot from a slot on.
     fn next_free(&self, from: usize) -> Option<usize>
         requires first { FIRST_SLOT ≤ from }
@@ -129,12 +144,12 @@ impl<A: Allocator> Selectors<A> {
         Some(from + behind)
     }
 
-    /// Takes a free slot for a segment of a kind. It has no bytes yet: its descriptor isn't present.
-    pub fn take(&mut self, slot: u16, kind: SelKind)
+    /// Takes a free slot for a segment of a kind, with its number. It has no bytes yet: its descriptor isn't present.
+    pub fn take(&mut self, slot: u16, kind: SelKind, number: u8)
         requires { IsUntaken self.old slot }
-        ensures { self.new ≡ slice_set self.old slot (Some (descriptors.unset kind)) }
+        ensures { self.new ≡ slice_set self.old slot (Some (descriptors.unset kind number)) }
     {
-        self.descriptors[slot as usize] = Some(unset(kind));
+        self.descriptors[slot as usize] = Some(unset(kind, number));
         self.marks[slot as usize] = TAKEN;
         if self.free_from == slot as usize {
             self.free_from += 1;
@@ -151,38 +166,43 @@ impl<A: Allocator> Selectors<A> {
         self.free_from = self.free_from.min(slot as usize);
     }
 
-    /// The segment of a taken slot has bytes from an address `base` on, the last of them at the offset `limit`. It keeps its kind. It must end
-    /// where an address of 32 bits can reach.
+    /// The segment of a taken slot has bytes from an address `base` on, the last of them at the offset `limit`. It keeps its kind and its
+    /// number. It must end where an address of 32 bits can reach.
     pub fn place(&mut self, slot: u16, base: u32, limit: u32)
         requires taken { IsSome (descriptor_at self.old slot) }
         requires inside { base + limit + 1 < 2 ^ 32 }
-        ensures { self.new ≡ slice_set self.old slot (Some (record { base = base; limit = limit; present = true; kind = descriptors.kind_at self.old slot })) }
+        ensures { self.new ≡ slice_set self.old slot (Some (record { base = base; limit = limit; present = true; kind = descriptors.kind_at self.old slot; number = descriptors.number_at self.old slot })) }
     {
-        let kind = self.kind_at(slot);
+        let Some(descriptor) = self.descriptors[slot as usize] else {
+            unreachable!();
+        };
         self.descriptors[slot as usize] = Some(Descriptor {
             base,
             limit,
             present: true,
-            kind,
+            ..descriptor
         });
     }
 
-    /// The segment of a taken slot has no bytes any more: its descriptor isn't present. It keeps its kind.
+    /// The segment of a taken slot has no bytes any more: its descriptor isn't present. It keeps its kind and its number.
     pub fn vacate(&mut self, slot: u16)
         requires { IsSome (descriptor_at self.old slot) }
-        ensures { self.new ≡ slice_set self.old slot (Some (descriptors.unset (descriptors.kind_at self.old slot))) }
+        ensures { self.new ≡ slice_set self.old slot (Some (descriptors.unset (descriptors.kind_at self.old slot) (descriptors.number_at self.old slot))) }
     {
-        self.descriptors[slot as usize] = Some(unset(self.kind_at(slot)));
+        let Some(descriptor) = self.descriptors[slot as usize] else {
+            unreachable!();
+        };
+        self.descriptors[slot as usize] = Some(unset(descriptor.kind, descriptor.number));
     }
 
-    /// What the segment of a slot holds; data where the slot isn't taken.
-    fn kind_at(&self, slot: u16) -> SelKind
+    /// The number of a slot's segment; 0 where the slot isn't taken.
+    pub fn number_at(&self, slot: u16) -> u8
         requires { slot < length self.now }
-        ensures { result ≡ descriptors.kind_at self.now slot }
+        ensures { result ≡ descriptors.number_at self.now slot }
     {
         match self.descriptors[slot as usize] {
-            Some(descriptor) => descriptor.kind,
-            None => SelKind::Data,
+            Some(descriptor) => descriptor.number,
+            None => 0,
         }
     }
 
@@ -230,13 +250,14 @@ impl<A: Allocator> Selectors<A> {
 }
 
 /// A slot's descriptor while its segment has no bytes.
-fn unset(kind: SelKind) -> Descriptor
-    ensures { result ≡ descriptors.unset kind }
+fn unset(kind: SelKind, number: u8) -> Descriptor
+    ensures { result ≡ descriptors.unset kind number }
 {
     Descriptor {
         base: 0,
         limit: 0,
         present: false,
         kind,
+        number,
     }
 }

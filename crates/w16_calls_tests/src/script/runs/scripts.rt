@@ -1,7 +1,6 @@
 //! Hosts, with how runs over them end.
 
 use super::{Dialogue, Script, Written};
-use crate::rows::table::{LIFE, LIFE_OUTPUT};
 use crate::script::host::Part;
 use std::io::ErrorKind;
 use w16_script::{Ended, RunFault};
@@ -59,10 +58,13 @@ pub static WRITTEN: &[Written] = &[
         written: b"0106\n00000000 00000020 0106 discardable 0\n00000020 00000020 free\nend\n",
     },
     Written {
-        text: &[(1, LIFE)],
+        text: &[(
+            1,
+            b"GlobalAlloc 0x42 100\nGlobalLock 0x106\nWrite 0x01070000 4e45\nRead 0x01070000 4\nGlobalUnlock 0x106\nGlobalFree 0x106\n",
+        )],
         memory: 4096,
         ended: ended!(6, 6),
-        written: LIFE_OUTPUT,
+        written: b"0106\n01070000\nok\nbytes 4e450000\n0000\n0000\n",
     },
 ];
 
@@ -188,6 +190,7 @@ const OF_LINES: Script = Script {
 };
 
 static SCRIPTS: &[Script] = &[
+    SCRIPT,
     Script {
         text: &[(4096, b" "), (1, b"\n")],
         ended: ended!(1, 0),
@@ -288,87 +291,49 @@ static SCRIPTS: &[Script] = &[
         ..SCRIPT
     },
     Script {
-        name: "walks over nothing",
-        text: &[(1, b"Walk\n")],
+        name: "replies to the longest line",
+        text: &[(4096, b"a")],
         ended: ended!(1, 1),
-        notes: &[(1, b"00000000 00001000 free\nend\n")],
+        notes: &[(1, b"error syntax\n")],
         ..SCRIPT
     },
     Script {
-        name: "walks over each kind",
-        text: &[(
-            1,
-            b"GlobalAlloc 0x102 32\nGlobalAlloc 0 32\nGlobalAlloc 2 32\nGlobalAlloc 2 0\nGlobalLock 0x116\nGlobalLock 0x116\nWalk\n",
-        )],
-        memory: 128,
-        ended: ended!(7, 7),
-        notes: &[(
-            1,
-            b"0106\n010f\n0116\n011e\n01170000\n01170000\n00000000 00000020 0106 discardable 0\n00000020 00000020 010f fixed 0\n00000040 00000020 0116 moveable 2\n00000060 00000020 free\nend\n",
-        )],
+        name: "replies to the lines before one that is too long",
+        text: &[(1, b"Frob\nGlobalAlloc 2\nRead 0 1025\n"), (4097, b"a")],
+        ended: Err(RunFault::TooLong),
+        notes: &[(3, b"error syntax\n")],
         ..SCRIPT
     },
     Script {
-        name: "counts locks in decimal",
+        name: "replies to calls before a line that is too long",
         text: &[
-            (1, b"GlobalAlloc 2 32\n"),
-            (255, b"GlobalLock 0x106\n"),
-            (1, b"Walk\n"),
+            (1, b"Builtin KERNEL\nGetProcAddress 0x21 #5\n"),
+            (1, b"GetProcAddress 0x21 GLOBALALLOC\nFrob\n"),
+            (1, b"GlobalAlloc 2\nRead 0 1025\nr100 = Moved\n"),
+            (4097, b"a"),
         ],
-        memory: 32,
-        ended: ended!(257, 257),
-        notes: &[
-            (1, b"0106\n"),
-            (255, b"01070000\n"),
-            (1, b"00000000 00000020 0106 moveable 255\nend\n"),
-        ],
+        ended: Err(RunFault::TooLong),
+        notes: &[(1, b"0021\n00210005\n00000000\n"), (4, b"error syntax\n")],
         ..SCRIPT
     },
     Script {
-        name: "counts locks up to 255",
+        name: "replies to no line that is silent",
+        text: &[(1, b"\n; a comment\n \t\n\t ;x\n\n")],
+        ended: ended!(5, 0),
+        ..SCRIPT
+    },
+    Script {
+        name: "plays lines that end in CR and LF, and a last one that ends in none",
         text: &[
-            (1, b"GlobalAlloc 2 32\n"),
-            (256, b"GlobalLock 0x106\n"),
-            (1, b"GlobalFlags 0x106\nGlobalFree 0x106\n"),
-            (256, b"GlobalUnlock 0x106\n"),
-            (1, b"GlobalFree 0x106\n"),
+            (2, b"GlobalAlloc 0x42 32\r\n"),
+            (1, b"Write 0x0107001e 0102\r\nWrite 0x0107001f 0102\r\n"),
+            (1, b"Read 0x010f0000 2\r\nRead 0x0107001c 4"),
         ],
-        ended: ended!(516, 516),
+        ended: ended!(6, 6),
         notes: &[
-            (1, b"0106\n"),
-            (255, b"01070000\n"),
-            (1, b"00000000\n00ff\n0106\n"),
-            (254, b"0001\n"),
-            (3, b"0000\n"),
+            (1, b"0106\n010e\nok\nfault limit\n"),
+            (1, b"bytes 0000\nbytes 00000102\n"),
         ],
-        ..SCRIPT
-    },
-    Script {
-        name: "counts locks of a local object, and none of a fixed one",
-        text: &[
-            (1, b"GlobalAlloc 0x42 128\nLocalInit 0x107 4 128\n"),
-            (1, b"DS 0x107\nLocalAlloc 0x102 4\n"),
-            (256, b"LocalLock 2\n"),
-            (1, b"LocalFlags 2\nLocalFree 2\n"),
-            (1, b"LocalDiscard 2\nLocalUnlock 2\n"),
-            (1, b"LocalAlloc 0 4\nLocalLock 8\n"),
-            (1, b"LocalUnlock 8\nLocalFlags 8\n"),
-        ],
-        ended: ended!(268, 268),
-        notes: &[
-            (1, b"0106\n0001\nok\n0002\n"),
-            (255, b"0004\n"),
-            (1, b"0000\n0fff\n0002\n0000\n0001\n"),
-            (1, b"0008\n0008\n0000\n0000\n"),
-        ],
-        ..SCRIPT
-    },
-    Script {
-        name: "stores no walk",
-        text: &[(1, b"r1 = GlobalAlloc 2 32\nr1 = Walk\nGlobalFree r1\n")],
-        memory: 32,
-        ended: ended!(3, 3),
-        notes: &[(1, b"0106\n00000000 00000020 0106 moveable 0\nend\n0000\n")],
         ..SCRIPT
     },
 ];

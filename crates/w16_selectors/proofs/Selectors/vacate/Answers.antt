@@ -5,4 +5,4 @@ pub invariant_of-self : goal.invariant_of-self
 invariant_of-self g c =
     let taken = rw (← c.self.view_is) at c.requires in
     let unset = c.unset.result in
-    (SelectorsInvariant-written _ _ _ unset c.self.invariant.0 taken (unset_reaches unset _ c.unset.ensures), AreTaken-written _ _ _ unset c.self.invariant.1 taken)
+    (SelectorsInvariant-written _ _ _ unset c.self.invariant.0 taken (unset_reaches unset _ _ c.unset.ensures), AreTaken-written _ _ _ unset c.self.invariant.1 taken)

@@ -1,46 +1,61 @@
-use Rattle.w16_global.proofs.Common.{◌≡◌, ℕ, All, is_some, true, sym, subst, descriptor_at, forgotten}
-use Rattle.w16_global.proofs.Joining.{given_handles}
-use Rattle.w16_global.proofs.Sliding.{allocated_joined, discarded_known, known_told, known_followed, slot_left, given_moved}
-use Rattle.w16_global.proofs.Joined.{handles_shown, unused_in}
+use Rattle.w16_global.proofs.Common.{◌≡◌, ◌+◌, ◌<◌, ◌∙◌, ◌||◌, ℕ, Some, ap, arith, length, length-set, subst, sym, AreHandles, AreLabelled, begins_in, descriptor_at, handles_of, is_member, rules, slots_in, some_slots, told}
+use Rattle.w16_global.proofs.Joining.{given_handles, within}
+use Rattle.w16_global.proofs.Joined.{unused_in}
+use Rattle.w16_global.proofs.Owners.{free_selector, handles_shown}
+use Rattle.w16_global.proofs.Sliding.{allocated_gone, allocated_handles, allocated_joined, allocated_labelled, allocated_run, allocated_slots, given_moved}
 use Rattle.w16_global.proofs.global.Global16.allocate.Goals as goal
 
 pub alloc-requires-clause-free : goal.alloc-requires-clause-free
-alloc-requires-clause-free g c = unused_in c.self.inside.objects c.self.inside.attributes.items c.self.inside.selectors c.self.invariant (handles_shown c.self.view_is) c.args.slot c.requires.free
+alloc-requires-clause-free g c = unused_in c.self.inside.objects c.self.inside.attributes.items c.self.inside.selectors c.self.invariant (handles_shown c.self.view_is) c.args.slot c.args.attributes.slots (subst (λ n. 0 < n) (sym c.requires.enough) (some_slots c.args.size)) c.requires.free
 
-pub forget-requires-clause-known : goal.forget-requires-clause-known
-forget-requires-clause-known g c =
-    let s = c.in-Some.ensures in
-    subst (All (λ id. is_some (descriptor_at c.self.inside.selectors id) ≡ true)) (sym c.discarded.ensures)
-    (discarded_known c.self.invariant c.alloc.new.self s.cap c.args.slot c.args.attributes (handles_shown c.self.view_is) c.requires.free c.args.size c.args.kind c.args.options s.allocated s.discarded)
+pub take_run-requires-clause-free : goal.take_run-requires-clause-free
+take_run-requires-clause-free g c = λ number below. free_selector c.self.invariant (handles_shown c.self.view_is) (c.args.slot + number) (c.requires.free number below)
 
-pub follow-requires-clause-known : goal.follow-requires-clause-known
-follow-requires-clause-known g c =
-    let s = c.in-Some.ensures in
-    known_told c.self.invariant c.alloc.new.self s.cap c.args.slot c.args.attributes (handles_shown c.self.view_is) c.requires.free c.args.size c.args.kind c.args.options s.allocated s.discarded
-    c.kind_for.result c.forget.new.selectors c.take.new.self (subst (λ ids. (q : ℕ) → descriptor_at c.forget.new.selectors q ≡ forgotten ids c.self.inside.selectors q) c.discarded.ensures c.forget.ensures.forgotten) c.forget.ensures.many c.take.ensures
+pub take_run-requires-clause-few : goal.take_run-requires-clause-few
+take_run-requires-clause-few g c = (c.requires.sized.0, omega (arith, c.self.invariant.selectors_many, c.self.invariant.some, c.self.invariant.handles.few))
 
-pub take-requires : goal.take-requires
-take-requires g c =
-    let s = c.in-Some.ensures in
-    slot_left c.self.invariant c.alloc.new.self s.cap c.args.slot c.args.attributes (handles_shown c.self.view_is) c.requires.free c.args.size c.args.kind c.args.options s.allocated s.discarded
-    c.forget.new.selectors (subst (λ ids. (q : ℕ) → descriptor_at c.forget.new.selectors q ≡ forgotten ids c.self.inside.selectors q) c.discarded.ensures c.forget.ensures.forgotten) c.forget.ensures.many
+pub follow-requires-clause-handles : goal.follow-requires-clause-handles
+follow-requires-clause-handles g c = subst (λ xs. AreHandles (handles_of c.alloc.new.self xs 0)) (sym c.deref.ensures.value) (allocated_handles c.self.invariant c.alloc.new.self c.in-Some.ensures.cap c.args.slot c.args.attributes (handles_shown c.self.view_is) c.requires.free c.requires.run c.requires.sized c.args.size c.args.kind c.args.options c.in-Some.ensures.allocated c.in-Some.ensures.discarded c.requires.enough)
 
-pub place-requires-clause-taken : goal.place-requires-clause-taken
-place-requires-clause-taken g c =
-    let s = c.in-Some.ensures in
-    known_followed c.self.invariant c.alloc.new.self s.cap c.args.slot c.args.attributes (handles_shown c.self.view_is) c.requires.free c.args.size c.args.kind c.args.options s.allocated s.discarded c.kind_for.result c.in-Some.placed.slid.from c.in-Some.placed.slid.to
-    c.forget.new.selectors c.take.new.self c.follow.new.selectors (subst (λ ids. (q : ℕ) → descriptor_at c.forget.new.selectors q ≡ forgotten ids c.self.inside.selectors q) c.discarded.ensures c.forget.ensures.forgotten)
-    c.forget.ensures.many c.take.ensures c.follow.ensures.followed
+pub follow-requires-clause-labelled : goal.follow-requires-clause-labelled
+follow-requires-clause-labelled g c = subst (λ xs. AreLabelled xs c.take_run.new.selectors) (sym c.deref.ensures.value) (allocated_labelled c.self.invariant c.alloc.new.self c.in-Some.ensures.cap c.args.slot c.args.attributes (handles_shown c.self.view_is) c.requires.free c.requires.run c.requires.sized c.args.size c.args.kind c.args.options c.in-Some.ensures.allocated c.in-Some.ensures.discarded c.requires.enough c.kind_for.result c.kind_for.ensures c.take_run.new.selectors c.take_run.ensures.taken)
+
+pub follow-requires-clause-gone : goal.follow-requires-clause-gone
+follow-requires-clause-gone g c = allocated_gone c.self.invariant c.alloc.new.self c.in-Some.ensures.cap c.args.slot c.args.attributes (handles_shown c.self.view_is) c.requires.free c.requires.run c.requires.sized c.args.size c.args.kind c.args.options c.in-Some.ensures.allocated c.in-Some.ensures.discarded c.requires.enough
+
+pub follow-requires-clause-many : goal.follow-requires-clause-many
+follow-requires-clause-many g c =
+    let s = c.in-Some.ensures in (
+      ap length c.deref.ensures.value ∙ length-set c.self.inside.attributes.items c.args.slot (Some c.args.attributes) ∙ c.self.invariant.attributes_many ∙ sym s.cap,
+      c.take_run.ensures.many ∙ c.self.invariant.selectors_many ∙ sym s.cap,
+      omega (arith, s.cap, c.self.invariant.some, c.self.invariant.handles.few),
+    )
+
+pub place_run-requires-clause-known : goal.place_run-requires-clause-known
+place_run-requires-clause-known g c = λ number below. (allocated_run c.self.invariant c.alloc.new.self c.in-Some.ensures.cap c.args.slot c.args.attributes (handles_shown c.self.view_is) c.requires.free c.requires.run c.requires.sized c.args.size c.args.kind c.args.options c.in-Some.ensures.allocated c.in-Some.ensures.discarded c.requires.enough c.kind_for.result c.kind_for.ensures c.in-Some.placed.slid.from c.in-Some.placed.slid.to c.take_run.new.selectors c.follow.new.selectors c.take_run.ensures.taken
+    (subst (λ xs. (q : ℕ) → descriptor_at c.follow.new.selectors q ≡ told c.alloc.new.self.heap xs (λ f. is_member f c.alloc.new.self.discarded || begins_in c.alloc.new.self.heap c.in-Some.placed.slid.from c.in-Some.placed.slid.to f) c.take_run.new.selectors q) c.deref.ensures.value c.follow.ensures.told) number below).0
+
+pub place_run-requires-clause-numbered : goal.place_run-requires-clause-numbered
+place_run-requires-clause-numbered g c = λ number below. (allocated_run c.self.invariant c.alloc.new.self c.in-Some.ensures.cap c.args.slot c.args.attributes (handles_shown c.self.view_is) c.requires.free c.requires.run c.requires.sized c.args.size c.args.kind c.args.options c.in-Some.ensures.allocated c.in-Some.ensures.discarded c.requires.enough c.kind_for.result c.kind_for.ensures c.in-Some.placed.slid.from c.in-Some.placed.slid.to c.take_run.new.selectors c.follow.new.selectors c.take_run.ensures.taken
+    (subst (λ xs. (q : ℕ) → descriptor_at c.follow.new.selectors q ≡ told c.alloc.new.self.heap xs (λ f. is_member f c.alloc.new.self.discarded || begins_in c.alloc.new.self.heap c.in-Some.placed.slid.from c.in-Some.placed.slid.to f) c.take_run.new.selectors q) c.deref.ensures.value c.follow.ensures.told) number below).1
+
+pub place_run-requires-clause-enough : goal.place_run-requires-clause-enough
+place_run-requires-clause-enough g c = ap (λ xs. slots_in xs c.args.slot) c.deref-2.ensures.value ∙ allocated_slots c.self.invariant c.alloc.new.self c.in-Some.ensures.cap c.args.slot c.args.attributes (handles_shown c.self.view_is) c.requires.free c.requires.run c.requires.sized c.args.size c.args.kind c.args.options c.in-Some.ensures.allocated c.in-Some.ensures.discarded c.requires.enough
+
+pub place_run-requires-clause-few : goal.place_run-requires-clause-few
+place_run-requires-clause-few g c = omega (arith, c.follow.ensures.many, c.take_run.ensures.many, c.self.invariant.selectors_many, c.self.invariant.some, c.self.invariant.handles.few)
 
 pub invariant_of-self-2 : goal.invariant_of-self-2
-invariant_of-self-2 g c =
-    let s = c.in-Some.ensures in
-    let p = c.in-Some.placed in
-    allocated_joined c.self.invariant c.alloc.new.self s.cap c.args.slot c.args.attributes (handles_shown c.self.view_is) c.requires.free c.args.size c.args.kind c.args.options s.allocated s.discarded c.requires.small c.requires.sized c.kind_for.result c.kind_for.ensures p.at p.slid.from p.slid.to c.place.new.self s.still s.placed
-    c.forget.new.selectors c.take.new.self c.follow.new.selectors (subst (λ ids. (q : ℕ) → descriptor_at c.forget.new.selectors q ≡ forgotten ids c.self.inside.selectors q) c.discarded.ensures c.forget.ensures.forgotten) c.forget.ensures.many c.take.ensures c.follow.ensures.followed c.follow.ensures.many c.place.ensures
+invariant_of-self-2 g c = allocated_joined c.self.invariant c.alloc.new.self c.in-Some.ensures.cap c.args.slot c.args.attributes (handles_shown c.self.view_is) c.requires.free c.requires.run c.requires.sized c.args.size c.args.kind c.args.options c.in-Some.ensures.allocated c.in-Some.ensures.discarded c.requires.enough c.kind_for.result c.kind_for.ensures c.in-Some.placed.at c.in-Some.placed.slid.from c.in-Some.placed.slid.to c.in-Some.ensures.placed c.in-Some.ensures.still c.take_run.new.selectors c.follow.new.selectors c.place_run.new.selectors
+    c.take_run.ensures.taken (subst (λ xs. (q : ℕ) → descriptor_at c.follow.new.selectors q ≡ told c.alloc.new.self.heap xs (λ f. is_member f c.alloc.new.self.discarded || begins_in c.alloc.new.self.heap c.in-Some.placed.slid.from c.in-Some.placed.slid.to f) c.take_run.new.selectors q) c.deref.ensures.value c.follow.ensures.told)
+    c.place_run.ensures.placed (c.place_run.ensures.many ∙ c.follow.ensures.many ∙ c.take_run.ensures.many)
 
 pub returns-clause-rest : goal.returns-clause-rest
 returns-clause-rest g c =
-    let s = c.in-Some.ensures in
-    given_moved c.self.inside.objects c.self.inside.attributes.items _ (handles_shown c.self.view_is) c.alloc.new.self c.args.slot c.args.attributes c.in-Some.placed.moved s.moved
-    (given_handles c.self.invariant c.alloc.new.self s.cap c.args.slot c.args.attributes (handles_shown c.self.view_is) c.requires.free c.in-Some.placed.moved)
+    given_moved c.self.inside.objects c.self.inside.attributes.items _ (handles_shown c.self.view_is) c.alloc.new.self c.args.slot c.args.attributes c.in-Some.placed.moved c.in-Some.ensures.moved
+    (given_handles c.self.invariant c.alloc.new.self c.in-Some.ensures.cap c.args.slot c.args.attributes (handles_shown c.self.view_is) c.requires.free (subst (λ n. 0 < n) (sym c.requires.enough) (some_slots c.args.size)) c.in-Some.placed.moved)
+
+pub index_mut-requires : goal.index_mut-requires
+index_mut-requires g c =
+    let lt = within c.self.invariant c.alloc.new.self c.in-Some.ensures.cap c.args.slot c.args.attributes (handles_shown c.self.view_is) c.requires.free (subst (λ n. 0 < n) (sym c.requires.enough) (some_slots c.args.size)) in
+    search (rules, lt)

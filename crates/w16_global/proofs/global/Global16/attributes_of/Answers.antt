@@ -1,6 +1,5 @@
 use Rattle.std.proofs.Common.{◌≡◌, None, get_or, rules, ◌∙◌}
-use Rattle.w16_global.proofs.Joining.{attributes_shown}
-use Rattle.w16_global.proofs.Joined.{handles_shown}
+use Rattle.w16_global.proofs.Owners.{attributes_shown, handles_shown}
 use Rattle.w16_global.proofs.global.Global16.attributes_of.Goals as goal
 
 pub returns : goal.returns

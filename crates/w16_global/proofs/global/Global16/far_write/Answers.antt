@@ -1,17 +1,15 @@
 use Rattle.w16_global.proofs.Common.{true, length, refl, All-bytes}
 use Rattle.w16_global.proofs.Access.{has_part, written_joined, write_known}
-use Rattle.w16_global.proofs.Joined.{handles_shown}
+use Rattle.w16_global.proofs.Owners.{handles_shown}
 use Rattle.w16_global.proofs.global.Global16.far_write.Goals as goal
 
 pub write-requires : goal.write-requires
-write-requires g c = has_part c.self.invariant (handles_shown c.self.view_is) true c.args.selector c.args.offset (length c.args.bytes.now) c.in_ok-slot.slot c.in_ok-slot.ensures.ok.0 c.in_ok-slot.ensures.ok.1
+write-requires g c = has_part c.self.invariant (handles_shown c.self.view_is) true c.args.selector c.args.offset (length c.args.bytes.now) c.in_ok-reached.reached.slot c.in_ok-reached.reached.at c.in_ok-reached.ensures.ok
 
 pub invariant_of-self : goal.invariant_of-self
 invariant_of-self g c =
-    let ok = c.in_ok-slot.ensures.ok in
-    written_joined c.self.invariant (handles_shown c.self.view_is) true c.args.selector c.args.offset (length c.args.bytes.now) c.in_ok-slot.slot ok.0 ok.1 c.args.bytes.now refl c.write.new.self c.write.ensures (All-bytes c.args.bytes.now c.type_inv.bytes)
+    written_joined c.self.invariant (handles_shown c.self.view_is) true c.args.selector c.args.offset (length c.args.bytes.now) c.in_ok-reached.reached.slot c.in_ok-reached.reached.at c.in_ok-reached.ensures.ok c.args.bytes.now refl c.write.new.self c.write.ensures (All-bytes c.args.bytes.now c.type_inv.bytes)
 
 pub returns-clause-ok : goal.returns-clause-ok
 returns-clause-ok g c =
-    let ok = c.in_ok-slot.ensures.ok in
-    write_known c.self.invariant (handles_shown c.self.view_is) true c.args.selector c.args.offset (length c.args.bytes.now) c.in_ok-slot.slot ok.0 ok.1 c.args.bytes.now refl c.write.new.self c.write.ensures refl c.touch.new.self.handles (handles_shown c.touch.ensures)
+    write_known c.self.invariant (handles_shown c.self.view_is) true c.args.selector c.args.offset (length c.args.bytes.now) c.in_ok-reached.reached.slot c.in_ok-reached.reached.at c.in_ok-reached.ensures.ok c.args.bytes.now refl c.write.new.self c.write.ensures refl c.touch.new.self.handles (handles_shown c.touch.ensures)

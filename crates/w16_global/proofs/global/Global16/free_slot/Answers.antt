@@ -1,5 +1,5 @@
-use Rattle.w16_global.proofs.Allocation.{found_free, none_free}
-use Rattle.w16_global.proofs.Joined.{handles_shown}
+use Rattle.w16_global.proofs.Owners.{handles_shown}
+use Rattle.w16_global.proofs.Slots.{found_free, none_free}
 use Rattle.w16_global.proofs.global.Global16.free_slot.Goals as goal
 
 pub returns-clause-found : goal.returns-clause-found

@@ -1,9 +1,9 @@
-use Rattle.w16_global.proofs.Common.{◌≡◌, MatchOption, Descriptor, rules}
+use Rattle.w16_global.proofs.Common.{◌≡◌, ◌∙◌, ap, option_map, unwrap_or, Descriptor, rules}
 use Rattle.w16_global.proofs.Reach.{limit_known}
-use Rattle.w16_global.proofs.Joined.{handles_shown}
+use Rattle.w16_global.proofs.Owners.{handles_shown}
 use Rattle.w16_global.proofs.global.Global16.get_selector_limit.Goals as goal
 
 pub returns : goal.returns
 returns g c =
-    let told : MatchOption c.find.result (c.map_or.result ≡ 0) (λ (d : Descriptor). c.map_or.result ≡ d.limit) = search rules in
-    limit_known c.self.invariant (handles_shown c.self.view_is) c.args.selector c.find.result c.map_or.result c.find.ensures.value told
+    let told : c.map_or.result ≡ unwrap_or (option_map (λ (d : Descriptor). d.limit) c.find.result) 0 = search rules in
+    told ∙ ap (λ r. unwrap_or (option_map (λ (d : Descriptor). d.limit) r) 0) c.find.ensures.value ∙ limit_known c.self.invariant (handles_shown c.self.view_is) c.args.selector

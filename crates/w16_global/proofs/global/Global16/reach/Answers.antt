@@ -1,19 +1,23 @@
-use Rattle.w16_global.proofs.Common.{◌≡◌, Ok, Err, Some, ◌∙◌, access_fault}
-use Rattle.w16_global.proofs.Reach.{fault_known, slot_known, handed_on}
-use Rattle.w16_global.proofs.Joined.{handles_shown}
+use Rattle.w16_global.proofs.Common.{◌≡◌, Some, ◌∙◌, refl, sym, ap, access_fault}
+use Rattle.w16_global.proofs.Reach.{resolved, known, fault_of, handed_on}
+use Rattle.w16_global.proofs.Owners.{handles_shown}
 use Rattle.w16_global.proofs.global.Global16.reach.Goals as goal
 
-pub returns-clause-ok : goal.returns-clause-ok
-returns-clause-ok g c =
-    let known = slot_known c.self.invariant (handles_shown c.self.view_is) c.args.write c.args.selector c.args.offset c.args.n c.count_of.result c.count_of.ensures (Ok c.in_ok-resolve.field-0) (rw c.in_ok-resolve.was at c.resolve.ensures.value) in
-    (c.slot_of.ensures.value ∙ known.0, known.1)
+pub number_at-number-requires : goal.number_at-number-requires
+number_at-number-requires g c =
+    (known c.self.invariant (handles_shown c.self.view_is) c.args.selector c.args.write c.args.offset c.args.n c.count_of.result c.count_of.ensures c.in_ok-resolve.field-0 (sym c.in_ok-resolve.was ∙ c.resolve.ensures.value) c.slot_of-slot.result _ c.slot_of-slot.ensures.value refl).0
 
-pub returns-clause-few : goal.returns-clause-few
-returns-clause-few g c =
-    (slot_known c.self.invariant (handles_shown c.self.view_is) c.args.write c.args.selector c.args.offset c.args.n c.count_of.result c.count_of.ensures (Ok c.in_ok-resolve.field-0) (rw c.in_ok-resolve.was at c.resolve.ensures.value)).2
+pub overflow_sub-result : goal.overflow_sub-result
+overflow_sub-result g c =
+    (known c.self.invariant (handles_shown c.self.view_is) c.args.selector c.args.write c.args.offset c.args.n c.count_of.result c.count_of.ensures c.in_ok-resolve.field-0 (sym c.in_ok-resolve.was ∙ c.resolve.ensures.value) c.slot_of-slot.result c.number_at-number.result c.slot_of-slot.ensures.value c.number_at-number.ensures).1
+
+pub returns : goal.returns
+returns g c =
+    let k = known c.self.invariant (handles_shown c.self.view_is) c.args.selector c.args.write c.args.offset c.args.n c.count_of.result c.count_of.ensures c.in_ok-resolve.field-0 (sym c.in_ok-resolve.was ∙ c.resolve.ensures.value) c.slot_of-slot.result c.number_at-number.result c.slot_of-slot.ensures.value c.number_at-number.ensures in
+    record { ok = (k.2, k.3, k.4); few = k.5; err = tt }
 
 pub returns-in_err-resolve-clause-err : goal.returns-in_err-resolve-clause-err
 returns-in_err-resolve-clause-err g c =
-    let known : access_fault c.args.self.now.handles c.args.write c.args.selector c.args.offset c.args.n ≡ Some c.in_err-resolve.field-0.0 =
-    fault_known c.self.invariant (handles_shown c.self.view_is) c.args.write c.args.selector c.args.offset c.args.n c.count_of.result c.count_of.ensures (Err c.in_err-resolve.field-0.0) (rw c.in_err-resolve.was at c.resolve.ensures.value) in
-    handed_on (λ fault. access_fault c.args.self.now.handles c.args.write c.args.selector c.args.offset c.args.n ≡ Some fault) c.from_residual.result c.in_err-resolve.field-0.0 c.from_residual.ensures.1 known
+    let fault : access_fault c.args.self.now.handles c.args.write c.args.selector c.args.offset c.args.n ≡ Some c.in_err-resolve.field-0.0 =
+    resolved c.self.invariant (handles_shown c.self.view_is) c.args.selector c.args.write c.args.offset c.args.n c.count_of.result c.count_of.ensures ∙ ap fault_of (sym c.resolve.ensures.value ∙ c.in_err-resolve.was) in
+    handed_on (λ fault. access_fault c.args.self.now.handles c.args.write c.args.selector c.args.offset c.args.n ≡ Some fault) c.from_residual.result c.in_err-resolve.field-0.0 c.from_residual.ensures.1 fault

@@ -1,12 +1,18 @@
-use Rattle.w16_global.proofs.Common.{ap, ◌∙◌, Holding, Global}
+use Rattle.w16_global.proofs.Common.{ap, sym, ◌∙◌, ◌<◌, subst, Handles, Holding, Global, slots_at}
 use Rattle.w16_global.proofs.Joining.{removed_joined, removed_shown}
-use Rattle.w16_global.proofs.Joined.{handles_shown}
+use Rattle.w16_global.proofs.Owners.{handles_shown, labelled}
+use Rattle.w16_global.proofs.Told.{run_known, slots_are}
 use Rattle.w16_global.proofs.global.Global16.remove.Goals as goal
 
 pub invariant_of-self : goal.invariant_of-self
-invariant_of-self g c = removed_joined c.self.invariant c.release.new.self (ap (λ (h : Holding). h.cap) c.release.ensures) c.args.slot (handles_shown c.self.view_is) c.requires (ap (λ (h : Holding). h.heap) c.release.ensures) c.give.new.self c.give.ensures
+invariant_of-self g c = removed_joined c.self.invariant c.release.new.self (ap (λ (h : Holding). h.cap) c.release.ensures) c.args.slot (handles_shown c.self.view_is) c.requires (ap (λ (h : Holding). h.heap) c.release.ensures) c.slots_at-count.result c.slots_at-count.ensures.value
+    c.give_run.new.selectors c.give_run.ensures.given c.give_run.ensures.many
 
 pub returns : goal.returns
 returns g c =
     let left = removed_shown c.self.invariant c.release.new.self (ap (λ (h : Holding). h.cap) c.release.ensures) c.args.slot (handles_shown c.self.view_is) c.requires (ap (λ (h : Holding). h.heap) c.release.ensures) in
     λ i. record { handles = left i; written = (ap (λ (h : Holding). h.written) c.release.ensures ∙ ap (λ (g : Global). g.written) c.self.view_is) i }
+
+pub give_run-requires-clause-known : goal.give_run-requires-clause-known
+give_run-requires-clause-known g c = λ number below. (run_known c.self.inside.objects c.self.inside.attributes.items c.self.invariant.handles c.self.inside.selectors (labelled c.self.invariant) c.args.slot number
+    (subst (λ n. number < n) (c.slots_at-count.ensures.value ∙ ap (λ (v : Handles). slots_at v.attributes c.args.slot) (sym (handles_shown c.self.view_is)) ∙ sym (slots_are c.self.inside.objects c.self.inside.attributes.items c.self.invariant.handles c.args.slot)) below)).0

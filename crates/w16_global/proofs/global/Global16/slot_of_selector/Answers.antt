@@ -1,9 +1,16 @@
-use Rattle.w16_global.proofs.Common.{◌≡◌, ap, ◌∙◌, subst, sym, option_map, rules, part_of_selector, slot_of_selector, whole}
-use Rattle.w16_global.proofs.Joined.{handles_shown, part_is}
+use Rattle.w16_global.proofs.Common.{◌≡◌, ◌∙◌, None, Some, ap, sym, if◌then◌else◌, eq-eqb, ne_eqb, rules, slot_of_selector}
+use Rattle.w16_global.proofs.Owners.{first_of, first_part}
 use Rattle.w16_global.proofs.global.Global16.slot_of_selector.Goals as goal
 
-pub returns-clause-part : goal.returns-clause-part
-returns-clause-part g c =
-    let slot : c.map.result ≡ slot_of_selector c.args.self.now.handles c.args.selector = search rules in
-    subst (λ v. part_of_selector v c.args.selector ≡ option_map whole (slot_of_selector v c.args.selector)) (handles_shown c.self.view_is)
-    (part_is c.self.inside.objects c.self.inside.attributes.items c.self.inside.selectors c.self.invariant c.args.selector) ∙ ap (option_map whole) (sym slot)
+pub returns-in_err-part : goal.returns-in_err-part
+returns-in_err-part g c =
+    let none : slot_of_selector c.args.self.now.handles c.args.selector ≡ None = first_part c.args.self.now.handles c.reveal_handles.ensures c.args.selector ∙ ap first_of c.in_err-part.ensures.none in
+    search (rules, none)
+
+pub returns-then-part-eq0 : goal.returns-then-part-eq0
+returns-then-part-eq0 g c =
+    sym (first_part c.args.self.now.handles c.reveal_handles.ensures c.args.selector ∙ ap first_of c.in_ok-part.ensures.found ∙ ap (λ b. if b then Some c.in_ok-part.part.slot else None) (eq-eqb c.in_ok-part.part.number 0 c.if-part-eq0.true))
+
+pub returns-else-part-eq0 : goal.returns-else-part-eq0
+returns-else-part-eq0 g c =
+    sym (first_part c.args.self.now.handles c.reveal_handles.ensures c.args.selector ∙ ap first_of c.in_ok-part.ensures.found ∙ ap (λ b. if b then Some c.in_ok-part.part.slot else None) (ne_eqb c.in_ok-part.part.number 0 c.if-part-eq0.false))

@@ -1,0 +1,36 @@
+use Rattle.w16_global.proofs.Common.{◌∙◌, ◌<◌, inr, sym, ap, subst, arith, is_some, begins_in}
+use Rattle.w16_global.proofs.Following.{further}
+use Rattle.w16_global.proofs.Told.{placed_below, run_known, run_sized, told_labelled}
+use Rattle.w16_global.proofs.follow.follow_slid.Goals as goal
+
+pub objects-preserved : goal.objects-preserved
+objects-preserved g c =
+    let now = c.objects.invariant in
+    let inside = c.in-Some.ensures.inside in
+    let real = c.in-Some.ensures.real in
+    let there = c.in-Some.ensures.there in record {
+      above = omega (arith, now.above, inside.0);
+      ends = inr (omega arith);
+      so_far = further c.args.objects.now c.args.attributes.now c.requires.handles c.args.selectors.now c.requires.labelled c.args.slid.from c.objects.from c.in-Some.block now.above inside.0 real.0 there.0 there.1 c.in-Some.ensures.lowest c.objects.selectors now.so_far _ (omega arith) (omega arith)
+          c.place_run.new.selectors c.place_run.ensures.placed;
+      many = c.place_run.ensures.many ∙ now.many;
+    }
+
+pub place_run-requires-clause-known : goal.place_run-requires-clause-known
+place_run-requires-clause-known g c = λ number below.
+    (run_known c.args.objects.now c.args.attributes.now c.requires.handles c.objects.selectors (told_labelled c.args.objects.now c.args.attributes.now c.requires.handles (begins_in c.args.objects.now.heap c.args.slid.from c.objects.from) c.args.selectors.now c.objects.selectors c.requires.labelled c.objects.invariant.so_far)
+    c.in-Some.block.id number (subst (λ n. number < n) (sym (run_sized c.args.objects.now c.args.attributes.now c.requires.handles c.in-Some.block.id c.in-Some.block.size c.in-Some.ensures.there.1)) below)).0
+
+pub place_run-requires-clause-numbered : goal.place_run-requires-clause-numbered
+place_run-requires-clause-numbered g c = λ number below.
+    (run_known c.args.objects.now c.args.attributes.now c.requires.handles c.objects.selectors (told_labelled c.args.objects.now c.args.attributes.now c.requires.handles (begins_in c.args.objects.now.heap c.args.slid.from c.objects.from) c.args.selectors.now c.objects.selectors c.requires.labelled c.objects.invariant.so_far)
+    c.in-Some.block.id number (subst (λ n. number < n) (sym (run_sized c.args.objects.now c.args.attributes.now c.requires.handles c.in-Some.block.id c.in-Some.block.size c.in-Some.ensures.there.1)) below)).1
+
+pub place_run-requires-clause-enough : goal.place_run-requires-clause-enough
+place_run-requires-clause-enough g c = run_sized c.args.objects.now c.args.attributes.now c.requires.handles c.in-Some.block.id c.in-Some.block.size c.in-Some.ensures.there.1
+
+pub place_run-requires-clause-few : goal.place_run-requires-clause-few
+place_run-requires-clause-few g c = omega (arith, c.objects.invariant.many, c.requires.many.1, c.requires.many.2)
+
+pub overflow_cast-block : goal.overflow_cast-block
+overflow_cast-block g c = omega (arith, (placed_below c.args.objects.now c.args.attributes.now c.requires.handles c.in-Some.block.id (ap is_some c.in-Some.ensures.there.0)), c.requires.handles.few)

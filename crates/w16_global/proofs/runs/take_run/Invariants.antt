@@ -1,0 +1,8 @@
+use Rattle.w16_global.proofs.Common.{◌≡◌, ℕ, length, descriptor_at, taken}
+use Rattle.w16_global.proofs.runs.take_run.Given as goal
+
+abbrev pub invariant-loop-number : goal.invariant-loop-number
+invariant-loop-number g l = record {
+  said : (slot : ℕ) → descriptor_at l.selectors slot ≡ taken l.first l.number l.kind l.initial.selectors slot;
+  many : length l.selectors ≡ length l.initial.selectors;
+}

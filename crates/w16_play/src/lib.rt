@@ -1,0 +1,8 @@
+//! Scripts with the replies that their lines must have, played on machines over module files that are made from text. Tests stand on it, and the
+//! program `w16rows`, which plays files of such scripts.
+#![tactic(auto)]
+
+pub mod files;
+pub mod lines;
+pub mod machine;
+pub mod texts;

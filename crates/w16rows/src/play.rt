@@ -1,0 +1,83 @@
+//! Files of rows, played one row after another.
+
+use crate::refusals::is_refused_right;
+use crate::rows::{Row, row_of};
+use crate::whole::is_played_right;
+use std::rt::Files;
+use std::{fs, io};
+
+/// How many rows were played, how many replies they have, and whether all went right.
+#[derive(Clone, Copy)]
+struct Tally {
+    rows: u32,
+    replies: u32,
+    is_right: bool,
+}
+
+/// Plays a row in each way that it is to be played in, and tells what goes otherwise. Whether nothing does.
+fn play_row(rt: &(impl Print + AllocGlobal), file: &str, row: &Row<'_>) -> io::Result<bool> {
+    Ok(is_played_right(rt, file, row)? && (!row.has_refusals || is_refused_right(rt, file, row)?))
+}
+
+/// Plays the row of a text, and counts it. One that can't be read is told.
+fn play_next(
+    rt: &(impl Print + AllocGlobal),
+    file: &str,
+    text: &str,
+    tally: &mut Tally,
+) -> io::Result<()> {
+    tally.rows = tally.rows.saturating_add(1);
+    match row_of(rt.alloc(), text) {
+        Ok(row) => {
+            tally.replies = tally.replies.saturating_add(row.replies);
+            tally.is_right = play_row(rt, file, &row)? && tally.is_right;
+        }
+        Err(fault) => {
+            println!(rt; "{file}: row {}: {fault}", tally.rows)?;
+            tally.is_right = false;
+        }
+    }
+    Ok(())
+}
+
+/// Whether lines say nothing: they are empty, or comments.
+fn is_silent(lines: &str) -> bool {
+    for line in lines.split('\n') {
+        if !line.is_empty() && !line.starts_with("#") {
+            return false;
+        }
+    }
+    true
+}
+
+/// Plays the rows of a text. Before the first one no line says anything.
+fn play_text(rt: &(impl Print + AllocGlobal), file: &str, text: &str) -> io::Result<Tally> {
+    let mut parts = text.split("\n[");
+    let mut tally = Tally {
+        rows: 0,
+        replies: 0,
+        is_right: is_silent(parts.next().unwrap_or("")),
+    };
+    if !tally.is_right {
+        println!(rt; "{file}: lines before the first row")?;
+    }
+    for part in parts {
+        play_next(rt, file, part, &mut tally)?;
+    }
+    Ok(tally)
+}
+
+/// Plays the rows of a file, and tells what goes otherwise, and how many they are. Whether all go right.
+pub fn play_file(rt: &(impl Files + Print + AllocGlobal), path: &str) -> io::Result<bool> {
+    match fs::read_to_string(rt, path) {
+        Ok(text) => {
+            let tally = play_text(rt, path, &text)?;
+            println!(rt; "{path}: {} rows, {} replies", tally.rows, tally.replies)?;
+            Ok(tally.is_right)
+        }
+        Err(error) => {
+            println!(rt; "{path}: {error}")?;
+            Ok(false)
+        }
+    }
+}
