@@ -59,7 +59,7 @@ void w16_free(w16 *machine);
 
 /* The global heap. Every handle that is answered is 0 where the call is refused. */
 
-/* A new object of at most 65,536 bytes. */
+/* A new object of at most 16,711,680 bytes, with a selector for each 65,536 of them, 8 apart from that of its handle on. */
 uint8_t w16_global_alloc(w16 *machine, uint16_t flags, uint32_t size, uint16_t *handle);
 /* Frees an object: 0, or the handle where it is bad or the object locked. */
 uint8_t w16_global_free(w16 *machine, uint16_t handle, uint16_t *left);
@@ -69,7 +69,7 @@ uint8_t w16_global_lock(w16 *machine, uint16_t handle, uint32_t *pointer);
 uint8_t w16_global_unlock(w16 *machine, uint16_t handle, uint16_t *left);
 /* Discards and moves objects until a hole is as long as it can be: the longest hole's bytes. A size of 0 only asks what that could be. */
 uint8_t w16_global_compact(w16 *machine, uint32_t size, uint32_t *longest);
-/* Another size in bytes; with 0x0080 in the flags another kind. */
+/* Another size in bytes; with 0x0080 in the flags another kind. The handle may be another one then, and the old one is bad. */
 uint8_t w16_global_realloc(w16 *machine, uint16_t handle, uint32_t size, uint16_t flags, uint16_t *same);
 /* Takes the bytes of a discardable object that isn't locked. */
 uint8_t w16_global_discard(w16 *machine, uint16_t handle, uint16_t *same);

@@ -8,7 +8,7 @@ use crate::held::Held;
 use std::alloc::Global;
 use w16_kernel::Call;
 
-/// `GlobalAlloc`: a new object of at most 65,536 bytes, and its handle; 0 where there is no room for it.
+/// `GlobalAlloc`: a new object of at most 16,711,680 bytes, and its handle; 0 where there is no room for it.
 #[unsafe(no_mangle)]
 pub extern "C" fn w16_global_alloc(
     alloc: Global,
@@ -69,7 +69,7 @@ pub extern "C" fn w16_global_compact(
     dword(alloc, held, &Call::GlobalCompact { size }, longest)
 }
 
-/// `GlobalReAlloc`: another size in bytes, or another kind. It answers the handle, or 0.
+/// `GlobalReAlloc`: another size in bytes, or another kind. It answers the handle, which may be another one then, or 0.
 #[unsafe(no_mangle)]
 pub extern "C" fn w16_global_realloc(
     alloc: Global,

@@ -68,7 +68,6 @@ pub use Rattle.w16_model.specs.Outcomes.Call.{Calls, ReAllocs}
 pub use Rattle.w16_model.specs.declared.TheConstants.{GMEM_MOVEABLE, REACH}
 pub use Rattle.w16_model.specs.declared.Attributes.{Attributes}
 pub use Rattle.w16_model.proofs.Bystanders.{bystanders_law}
-pub use Rattle.w16_model.proofs.CallLaws.{rest_of}
-pub use Rattle.w16_model.proofs.CallOrders.{allocated, compacted, resized, stays}
+pub use Rattle.w16_model.proofs.CallOrders.{allocated, compacted, stays}
 pub use Rattle.w16_model.proofs.Prefixes.{filter_swapped}
 pub use Rattle.w16_model.proofs.KindChanges.{other_of, twice_out, without_out}

@@ -1,11 +1,15 @@
 -- Which local heaps a call of a program for bytes spares, told by how many discardable objects there are before and after.
-use Rattle.w16_kernel.proofs.Common.{◌≡◌, ◌≢◌, ℕ, ◌≤◌, ◌/◌, inl, inr, Bool, true, false, cond, not, ◌&&◌, ◌==◌, nat_le, if◌then◌else◌, IfSome, IsSomeAnd, List, [], ◌∷◌, length, filter, Option, Some, None, option_map, unwrap_or, is_some, refl, sym, ap, ◌∙◌, subst, arith, false≢true, cases_eq, le-leb, length-filter, count_by-le-length, nat_cmp, nat_cmp_total, nat_cmp-IsAntisymmetric, same_map, get-retain_keys, Kind, Fixed, Moveable, Discardable, FinMap, Heap, Object, Table, object_at, bytes_at, bytes_in, is_discardable, is_in_order, is_member, without, Handles, AreHandles, numbered, handle_of, slot_of_handle, kind_asked, alloc_options, realloc_options, rounded_size, CallStep, Outcome, IsUnmoved, IsLocked, IsUnlocked, IsFreed, IsNewest, IsOldest, IsEntered, IsAllocated, IsCompacted, IsModified, IsDiscarded, IsResized, IsKeptOrDiscarded, OnlyLeave, handle_in, may_change, names_law, taken_here, taken_other, outcome, answer_in, GlobalFree, GlobalCompact, GlobalReAlloc, GlobalDiscard, Calls, ReAllocs, GMEM_MOVEABLE, Reply, Word, Dword, World, Command, OfLoading, OfHandles, OfResizes, IsWorldOver, Unswept, object_slot, word_of, discardable_beside, bystanders_law, rest_of, allocated, compacted, resized, stays, filter_swapped, other_of, twice_out, without_out, IsLocalIn, has_range, left_in, OthersStay}
+use Rattle.w16_kernel.proofs.Common.{◌≡◌, ◌≢◌, ℕ, ◌≤◌, ◌/◌, inl, inr, Bool, true, false, cond, not, ◌&&◌, ◌==◌, nat_le, if◌then◌else◌, IfSome, IsSomeAnd, List, [], ◌∷◌, length, filter, Option, Some, None, option_map, unwrap_or, is_some, refl, sym, ap, ◌∙◌, subst, arith, false≢true, cases_eq, le-leb, length-filter, count_by-le-length, nat_cmp, nat_cmp_total, nat_cmp-IsAntisymmetric, same_map, get-retain_keys, Kind, Fixed, Moveable, Discardable, FinMap, Heap, Object, Table, object_at, bytes_at, bytes_in, is_discardable, is_in_order, is_member, without, Handles, AreHandles, numbered, handle_of, slot_of_handle, kind_asked, alloc_options, realloc_options, rounded_size, CallStep, Outcome, IsUnmoved, IsLocked, IsUnlocked, IsFreed, IsNewest, IsOldest, IsEntered, IsAllocated, IsCompacted, IsModified, IsDiscarded, IsResized, IsKeptOrDiscarded, OnlyLeave, handle_in, may_change, names_law, taken_here, taken_other, outcome, answer_in, GlobalFree, GlobalCompact, GlobalReAlloc, GlobalDiscard, Calls, ReAllocs, GMEM_MOVEABLE, Reply, Word, Dword, World, Command, OfLoading, OfHandles, OfResizes, IsWorldOver, Unswept, object_slot, word_of, discardable_beside, bystanders_law, allocated, compacted, stays, filter_swapped, other_of, twice_out, without_out, IsLocalIn, has_range, left_in, OthersStay}
 use Rattle.std.specs.FinMap as finmap
 use Rattle.std.specs.Prelude.{◌||◌}
+use Rattle.std.proofs.lemmas.Bool.{eq-eqb, eqb-true, ne_eqb}
+use Rattle.w16_model.specs.Calls.{HandleCommand}
 use Rattle.w16_model.specs.Calls as calls
 use Rattle.w16_model.specs.Calls.{Answer}
 use Rattle.w16_model.specs.Calls.HandleCommand.{GlobalAlloc}
-use Rattle.w16_model.specs.Outcomes.{Call}
+use Rattle.w16_model.specs.Outcomes.{Call, Resized}
+use Rattle.w16_model.proofs.CallOrders.{resized_leaves}
+use Rattle.w16_model.proofs.Fewest.{some_handle}
 use Rattle.w16_model.specs.Outcomes.Outcome.{IsSame}
 
 -- a filter that leaves as many leaves all
@@ -43,7 +47,8 @@ module _ (old : Handles) where
   about_slot None made q h = absurd h
   about_slot (Some handle) made q h = found_slot handle q h
 
-module _ (old new : Handles) (is : AreHandles old) (are : AreHandles new) (call : Call) (answer : Answer) (may : may_change call ≡ true) where
+-- Where an object that gets another size keeps its slot.
+module _ (old new : Handles) (is : AreHandles old) (are : AreHandles new) (call : Call) (answer : Answer) (may : may_change call ≡ true) (keeps : (r : Resized old call answer new) → r.first ≡ r.slot) where
   -- beside an object the order of use only loses what was discarded
   abbrev Leaves : ℕ → Type 0
   Leaves slot = OnlyLeave new.heap (without slot old.heap.order) (without slot new.heap.order)
@@ -74,7 +79,7 @@ module _ (old new : Handles) (is : AreHandles old) (are : AreHandles new) (call 
       record { gone = left.gone; without_bytes = left.without_bytes; order_is = ap (without (slot_in call answer)) left.order_is ∙ filter_swapped (λ q. not (q == slot_in call answer)) (λ q. not (is_member q left.gone)) old.heap.order }
   leaves (IsModified m) = named _ m.handle m.slot m.asked refl m.named.found (same_order m.slot m.changes.rest)
   leaves (IsDiscarded d) = named _ d.handle d.slot d.asked refl d.named.found (same_order d.slot (ap (λ (h : Handles). without d.slot h.heap.order) d.rest ∙ twice_out d.slot old.heap.order))
-  leaves (IsResized r) = named _ r.handle r.slot r.asked refl r.named.found (resized old.heap new.heap r.slot (rounded_size r.size) r.object (realloc_options r.flags) (rest_of old new is call answer r))
+  leaves (IsResized r) = named _ r.handle r.slot r.asked refl r.named.found (subst (λ slot. OnlyLeave new.heap (without r.slot old.heap.order) (without slot new.heap.order)) (keeps r) (resized_leaves old new is call answer r))
 
   module _ (step : CallStep old call answer new) (many : length (without (slot_in call answer) old.heap.order) ≤ length (without (slot_in call answer) new.heap.order)) (q : ℕ) (other : q ≢ slot_in call answer) where
     left : Leaves (slot_in call answer)
@@ -151,11 +156,27 @@ module _ (honest : Type 0) (old : World) (is : IsWorldOver honest old) (mid : Wo
   abbrev order : List ℕ
   order = old.loading.handles.heap.order
 
-  by_call : (call : Call) (answer : Answer) → may_change call ≡ true → mid.heaps ≡ old.heaps → CallStep old.loading.handles call answer mid.loading.handles
+  by_call : (call : Call) (answer : Answer) → may_change call ≡ true → ((r : Resized old.loading.handles call answer mid.loading.handles) → r.first ≡ r.slot) → mid.heaps ≡ old.heaps → CallStep old.loading.handles call answer mid.loading.handles
       → (before : ℕ) → length (without (slot_in call answer) order) ≤ before → OthersStay (Some (slot_in call answer)) before mid.loading.handles.heap mid.heaps
-  by_call call answer may same step before le = λ few q other.
-      keeps_range old.loading.handles mid.loading.handles is.0.heaps.handles are call answer may step (omega (arith, le, few)) q other mid.heaps
+  by_call call answer may keeps same step before le = λ few q other.
+      keeps_range old.loading.handles mid.loading.handles is.0.heaps.handles are call answer may keeps step (omega (arith, le, few)) q other mid.heaps
       (subst (λ (tables : FinMap nat_cmp Table). IfSome (finmap.get tables q) (λ t. IsSomeAnd (bytes_at old.loading.handles.heap q) (IsLocalIn t))) (sym same) (is.0.heaps.heaps q))
+
+  -- a call of another kind gives no object another size, nor does a discard
+  other_call : (command : HandleCommand) (answer : Answer) (r : Resized old.loading.handles (Calls command) answer mid.loading.handles) → r.first ≡ r.slot
+  other_call command answer r = absurd (let e = r.asked in cc)
+
+  discarded : (handle : ℕ) (answer : Answer) (r : Resized old.loading.handles (ReAllocs handle 0 GMEM_MOVEABLE) answer mid.loading.handles) → r.first ≡ r.slot
+  discarded handle answer r = let none : r.size ≡ 0 = (let e = r.asked in cc) in absurd (false≢true (sym r.sized.1 ∙ eq-eqb r.size 0 none))
+
+  -- an object keeps its slot where its handle is answered
+  same_slot : (handle size flags answer : ℕ) → ((answer == 0) || (answer / 8 == handle / 8)) ≡ true → (r : Resized old.loading.handles (ReAllocs handle size flags) (calls.Answer.Word answer) mid.loading.handles) → r.first ≡ r.slot
+  same_slot handle size flags answer kept r =
+      let named : r.handle ≡ handle = (let e = r.asked in cc) in
+      let says : answer ≡ handle_of r.object.kind r.first = (let e = r.answered in cc) in
+      let some : answer ≢ 0 = λ none. some_handle r.object.kind r.first (sym says ∙ none) in
+      let same : answer / 8 ≡ handle / 8 = eqb-true (answer / 8) (handle / 8) (sym (ap (λ b. b || (answer / 8 == handle / 8)) (ne_eqb answer 0 some)) ∙ kept) in
+      sym (slot_in_handle r.object.kind r.first) ∙ ap (λ n. n / 8) (sym says) ∙ same ∙ ap (λ n. n / 8) (sym named) ∙ found_slot old.loading.handles r.handle r.slot r.named.found
 
   -- no object has the slot 0
   none_at_0 : is_member 0 order ≡ false
@@ -168,22 +189,22 @@ module _ (honest : Type 0) (old : World) (is : IsWorldOver honest old) (mid : Wo
   freed : (handle : ℕ) (answer : Option Answer) → mid.heaps ≡ old.heaps → IsSomeAnd answer (λ answer. CallStep old.loading.handles (Calls (GlobalFree handle)) answer mid.loading.handles)
       → OthersStay (Some (handle / 8)) (length (without (handle / 8) order)) mid.loading.handles.heap mid.heaps
   freed handle None same h = absurd h
-  freed handle (Some answer) same h = by_call (Calls (GlobalFree handle)) answer refl same h (length (without (handle / 8) order)) (omega arith)
+  freed handle (Some answer) same h = by_call (Calls (GlobalFree handle)) answer refl (other_call (GlobalFree handle) answer) same h (length (without (handle / 8) order)) (omega arith)
 
   -- an object that may have left its slot is not looked at
-  kept : (b : Bool) (slot before : ℕ) (heap : Heap) (tables : FinMap nat_cmp Table) → OthersStay (Some slot) before heap tables → OthersStay (if b then Some slot else None) before heap tables
-  kept true slot before heap tables stay = stay
+  kept : (b : Bool) (slot before : ℕ) (heap : Heap) (tables : FinMap nat_cmp Table) → (b ≡ true → OthersStay (Some slot) before heap tables) → OthersStay (if b then Some slot else None) before heap tables
+  kept true slot before heap tables stay = stay refl
   kept false slot before heap tables stay = tt
 
   pub others_stay : (command : Command) (reply : Reply) → Unswept honest old command reply mid → OthersStay (object_slot command (word_of reply)) (discardable_beside (object_slot command 0) old.loading.handles.heap) mid.loading.handles.heap mid.heaps
-  others_stay (OfLoading (OfHandles (GlobalAlloc flags size))) (Word handle) s = by_call (Calls (GlobalAlloc flags size)) (calls.Answer.Word handle) refl (ap (λ (w : World). w.heaps) s.1) s.0 (length (without 0 order)) (shorter 0 (handle / 8) order none_at_0)
+  others_stay (OfLoading (OfHandles (GlobalAlloc flags size))) (Word handle) s = by_call (Calls (GlobalAlloc flags size)) (calls.Answer.Word handle) refl (other_call (GlobalAlloc flags size) (calls.Answer.Word handle)) (ap (λ (w : World). w.heaps) s.1) s.0 (length (without 0 order)) (shorter 0 (handle / 8) order none_at_0)
   others_stay (OfLoading (OfHandles (GlobalAlloc flags size))) reply s = absurd s.0
   others_stay (OfLoading (OfHandles (GlobalFree handle))) reply s = freed handle (answer_in reply) (ap (λ (w : World). w.heaps) s.1) s.0
-  others_stay (OfLoading (OfHandles (GlobalCompact size))) (Dword longest) s = by_call (Calls (GlobalCompact size)) (calls.Answer.Dword longest) refl (ap (λ (w : World). w.heaps) s.1) s.0 (length (without 0 order)) (omega arith)
+  others_stay (OfLoading (OfHandles (GlobalCompact size))) (Dword longest) s = by_call (Calls (GlobalCompact size)) (calls.Answer.Dword longest) refl (other_call (GlobalCompact size) (calls.Answer.Dword longest)) (ap (λ (w : World). w.heaps) s.1) s.0 (length (without 0 order)) (omega arith)
   others_stay (OfLoading (OfHandles (GlobalCompact size))) reply s = absurd s.0
   others_stay (OfLoading (OfResizes (GlobalReAlloc handle size flags))) (Word answer) s = kept ((answer == 0) || (answer / 8 == handle / 8)) (handle / 8) (length (without (handle / 8) order)) mid.loading.handles.heap mid.heaps
-      (by_call (ReAllocs handle size flags) (calls.Answer.Word answer) refl (ap (λ (w : World). w.heaps) s.1) s.0 (length (without (handle / 8) order)) (omega arith))
+      (λ here. by_call (ReAllocs handle size flags) (calls.Answer.Word answer) refl (same_slot handle size flags answer here) (ap (λ (w : World). w.heaps) s.1) s.0 (length (without (handle / 8) order)) (omega arith))
   others_stay (OfLoading (OfResizes (GlobalReAlloc handle size flags))) reply s = absurd s.0
-  others_stay (OfLoading (OfResizes (GlobalDiscard handle))) (Word answer) s = by_call (ReAllocs handle 0 GMEM_MOVEABLE) (calls.Answer.Word answer) refl (ap (λ (w : World). w.heaps) s.1) s.0 (length (without (handle / 8) order)) (omega arith)
+  others_stay (OfLoading (OfResizes (GlobalDiscard handle))) (Word answer) s = by_call (ReAllocs handle 0 GMEM_MOVEABLE) (calls.Answer.Word answer) refl (discarded handle (calls.Answer.Word answer)) (ap (λ (w : World). w.heaps) s.1) s.0 (length (without (handle / 8) order)) (omega arith)
   others_stay (OfLoading (OfResizes (GlobalDiscard handle))) reply s = absurd s.0
   others_stay command reply s = tt

@@ -32,7 +32,7 @@ module _ (old : Handles) (is : AreHandles old) (call : Call) (answer : Answer) (
   none_about e about = subst (λ p. IsSomeAnd p (λ handle. slot_of_handle old handle ≡ Some q)) e about
 
   other : Outcome old call answer new → (IsAbout old call q → ⊥) → IsLeft old.heap new.heap q
-  other o out = kept_left old.heap new.heap q there (bystander old new is call answer q o (λ flags size e. there) out)
+  other o out = kept_left old.heap new.heap q there (bystander old new is call answer q o (λ m. there) out)
 
   left : Outcome old call answer new → IsLeft old.heap new.heap q
   left (IsSame s e) = same (ap (λ (h : Handles). object_at h.heap q) e)

@@ -43,14 +43,15 @@ pub use Rattle.w16_loading.specs.declared.FetchFault.TheVariants.{Damaged, NoRoo
 pub use Rattle.w16_loading.specs.declared.TheConstants.{FIRST_MODULE, LARGEST_OWNED, MOST_MODULES, MOST_USES}
 pub use Rattle.w16_model.proofs.Accesses.{Reached, reached}
 pub use Rattle.w16_model.proofs.Bystanders.{bystander, kept_or_discarded}
-pub use Rattle.w16_model.proofs.CallLaws.{contents, same_slot}
+pub use Rattle.w16_model.proofs.CallLaws.{contents}
 pub use Rattle.w16_model.proofs.CallOutcomes.{call_outcome, outcome}
-pub use Rattle.w16_model.proofs.Common.{All, Allocates, AllocatesFewest, AreHandles, AreNew, AreRuns, Asked, Bool, Call, Calls, FarAnswer, Fill, FinMap, GlobalLock, HandleCommand, Handles, Heap, IfOk, IfSome, IsAbout, IsAllocated, IsCompacted, IsCounted, IsDiscarded, IsEntered, IsFreeRun, IsFreeSlot, IsFreed, IsHeap, IsKeptOrDiscarded, IsLocked, IsModified, IsNew, IsNewest, IsOldest, IsResized, IsRun, IsSame, IsSized, IsSlot, IsSomeAnd, IsTrue, IsUnlocked, IsUnmoved, KeepsContents, KeepsOthers, List, MatchBool, MatchOption, Object, Outcome, Part, ReAllocs, Request, Resized, Settles, StandsStill, Walked, Write, [], absent, after_touch, after_write, and_parts, ap, arith, attributes_asked, blocks, bytes_at, cases_Bool, cases_eq, cond, discarded, discards_needed, drop, eligible, entries_sorted, eq-eqb, eqb-true, false, false≢true, far_at, far_bytes, far_fault, far_part, far_slot, filter, find, fold, get-empty, get-entries, get_or, global_lock, handle_in, handle_of, if◌then◌else◌, inl, inr, is_fixed, is_in_order, is_member, is_owned, is_past, is_pinned_object, is_some, length, length-take-le, locks_at, ltb-false, ltb-true, map, nat_cmp, nat_cmp_total, nat_lt, ne_eqb, not, not-true, object_at, offset_in, option_map, owns, part, part_of_selector, put_part, range_with_len, refl, refuses_write, replicate, rounded_size, selector_in, selector_of, slice_get, slot_of_handle, slot_of_selector, slots_at, slots_for, stays_for, subst, suc, sum_by-cons, sym, take, true, unwrap_or, update, with_newest, with_object, with_ordered, with_run, zero, ℕ, ◌&&◌, ◌++◌, ◌+◌, ◌*◌, ◌-◌, ◌/◌, ◌<◌, ◌==◌, ◌||◌, ◌∙◌, ◌∷◌, ◌≡◌, ◌≢◌, ◌≤◌, ◌⊎◌}
+pub use Rattle.w16_model.proofs.Common.{All, Allocates, AllocatesFewest, AreHandles, AreNew, AreRuns, Asked, Bool, Call, Calls, FarAnswer, Fill, FinMap, GlobalLock, HandleCommand, Handles, Heap, IfOk, IfSome, IsAbout, IsAllocated, IsCompacted, IsCounted, IsDiscarded, IsEntered, IsFreeRun, IsFreeSlot, IsFreed, IsHeap, IsKeptOrDiscarded, IsLocked, IsModified, IsNew, IsNewest, IsOldest, IsResized, IsRun, IsSame, IsSized, IsSlot, IsSomeAnd, IsTrue, IsUnlocked, IsUnmoved, KeepsContents, KeepsOthers, List, MatchBool, MatchOption, Object, Outcome, Part, ReAllocs, Request, Resized, Settles, StandsStill, Walked, Write, [], absent, after_touch, after_write, and_parts, ap, arith, attributes_asked, blocks, bytes_at, cases_Bool, cases_eq, cond, discarded, discards_needed, drop, eligible, entries_sorted, eq-eqb, eqb-true, false, false≢true, far_at, far_bytes, far_fault, far_part, far_slot, filter, find, fold, get-empty, get-entries, get_or, global_lock, handle_in, handle_of, if◌then◌else◌, inl, inr, is_fixed, is_in_order, is_member, is_owned, is_past, is_pinned_object, is_some, length, length-take-le, locks_at, ltb-false, ltb-true, map, nat_cmp, nat_cmp_total, nat_lt, ne_eqb, not, not-true, object_at, offset_in, option_map, owns, part, part_of_selector, put_part, range_with_len, refl, refuses_write, replicate, rounded_size, selector_in, selector_of, slice_get, slot_of_handle, slot_of_selector, slots_at, slots_for, stays_for, subst, suc, sum_by-cons, sym, take, true, unwrap_or, update, with_newest, with_object, with_ordered, with_run, zero, ℕ, ◌&&◌, ◌++◌, ◌+◌, ◌*◌, ◌-◌, ◌/◌, ◌<◌, ◌==◌, ◌||◌, ◌∙◌, ◌∷◌, ◌≡◌, ◌≢◌, ◌≤◌, ◌⊎◌, realloc_options}
 unfoldable pub use Rattle.w16_model.proofs.Common.{repeated}
 pub use Rattle.w16_model.proofs.Discards.{is_member-true, true-is_member}
 pub use Rattle.w16_model.proofs.Fewest.{allocation_law}
 pub use Rattle.w16_model.proofs.Gaps.{All-from_Each, AllPairs-from_EachPair, Each-at, Each-from, Each-from_All, EachPair, EachPair-from_AllPairs, Member, filter_member, member_filter, pairs_filter}
 pub use Rattle.w16_model.proofs.Heaps.{IsBlockOf, found_member, get-update_other, get-update_same, keys_rise, member_found}
+pub use Rattle.w16_model.proofs.Housed.{was_free}
 pub use Rattle.w16_model.proofs.KeptHandles.{other_handles, read_handles, settled, sized_is, with_absent_object, write_handles}
 pub use Rattle.w16_model.proofs.KeptHeaps.{AreBytes, Stands, bytes_in, entered_heap, inserted_here, inserted_other, same_grained, same_placed, taken_here, taken_other, written_heap}
 pub use Rattle.w16_model.proofs.Others.{others_law}

@@ -1,5 +1,5 @@
 -- Calls on handles leave what a module owns: no object comes to be one's, or ceases to.
-use Rattle.w16_loading.proofs.Common.{◌≡◌, ℕ, inl, inr, false, Option, Some, None, is_some, option_map, unwrap_or, refl, sym, ap, ◌∙◌, false≢true, cases_eq, Attributes, Owned, object_at, Handles, AreHandles, slot_of_handle, owned_in, owned_at, is_owned, owns, global_lock, GlobalLock, Call, Outcome, attributes_asked, Calls, IsSame, IsUnmoved, IsLocked, IsUnlocked, IsFreed, IsNewest, IsOldest, IsEntered, IsAllocated, IsCompacted, IsModified, IsDiscarded, IsResized, call_outcome, KeepsContents, contents, inserted_here, inserted_other, taken_here, taken_other, Resized, FinMap, nat_cmp, slots_for, rounded_size, unused, some_slots, same_slot}
+use Rattle.w16_loading.proofs.Common.{◌≡◌, ℕ, inl, inr, false, Option, Some, None, is_some, option_map, unwrap_or, refl, sym, ap, ◌∙◌, false≢true, cases_eq, Attributes, Owned, object_at, Handles, AreHandles, slot_of_handle, owned_in, owned_at, is_owned, owns, global_lock, GlobalLock, Call, Outcome, attributes_asked, Calls, IsSame, IsUnmoved, IsLocked, IsUnlocked, IsFreed, IsNewest, IsOldest, IsEntered, IsAllocated, IsCompacted, IsModified, IsDiscarded, IsResized, call_outcome, KeepsContents, contents, inserted_here, inserted_other, taken_here, taken_other, Resized, FinMap, nat_cmp, slots_for, rounded_size, realloc_options, unused, some_slots, was_free}
 use Rattle.std.specs.FinMap as finmap
 use Rattle.w16_model.specs.Calls.{Answer}
 
@@ -34,16 +34,29 @@ module _ (old : Handles) (is : AreHandles old) (call : Call) (answer : Answer) (
     | inr d ↦ ap owned_in (taken_other old.attributes slot q d)
   ]
 
-  -- an object gets another run, which begins where it did
+  -- an object of no module's gets another run
   another_run : (r : Resized old call answer new) (p : Option Attributes) → finmap.get old.attributes r.slot ≡ p → (q : ℕ)
       → owned_in (finmap.get (elim p as (λ _. FinMap nat_cmp Attributes) [ Some a ↦ finmap.insert (finmap.remove old.attributes r.slot) r.first (record a { slots = slots_for (rounded_size r.size) }) | None ↦ old.attributes ]) q) ≡ owned_at old q
   another_run r None there q = refl
   another_run r (Some a) there q = elim (cases_eq q r.first) [
-    | inl e ↦ ap owned_in (inserted_here (finmap.remove old.attributes r.slot) r.first (record a { slots = slots_for (rounded_size r.size) }) q e)
-        ∙ sym (ap owned_in (ap (finmap.get old.attributes) (e ∙ same_slot old new is call answer r) ∙ there))
-    | inr d ↦ ap owned_in (inserted_other (finmap.remove old.attributes r.slot) r.first (record a { slots = slots_for (rounded_size r.size) }) q d
-        ∙ taken_other old.attributes r.slot q (λ e. d (e ∙ sym (same_slot old new is call answer r))))
+    | inl e ↦ ap owned_in (inserted_here (finmap.remove old.attributes r.slot) r.first (record a { slots = slots_for (rounded_size r.size) }) q e) ∙ nobody_here ∙ sym (ap (owned_at old) e ∙ none_first)
+    | inr d ↦ ap owned_in (inserted_other (finmap.remove old.attributes r.slot) r.first (record a { slots = slots_for (rounded_size r.size) }) q d) ∙ elim (cases_eq q r.slot) [
+      | inl e ↦ ap owned_in (taken_here old.attributes r.slot q e) ∙ sym (ap (owned_at old) e ∙ nobodys)
+      | inr c ↦ ap owned_in (taken_other old.attributes r.slot q c)
+    ]
   ]
+    where
+      nobodys : owned_at old r.slot ≡ None
+      nobodys = no_owner (owned_at old r.slot) (sym (ap (λ p. unwrap_or (option_map (is_owned old) p) false) r.named.found) ∙ r.own)
+
+      nobody_here : a.owned ≡ None
+      nobody_here = sym (ap owned_in there) ∙ nobodys
+
+      none_first : owned_at old r.first ≡ None
+      none_first = elim (cases_eq r.slot r.first) [
+        | inl e ↦ ap (owned_at old) (sym e) ∙ nobodys
+        | inr d ↦ none_owned (finmap.get old.attributes r.first) (is.attributed r.first ∙ ap is_some (was_free old is r.slot (rounded_size r.size) (realloc_options r.flags) r.object r.named.there r.first r.gets r.heap r.resized d))
+      ]
 
   pub owned_by : Outcome old call answer new → SameOwned old new
   owned_by (IsSame s e) = same (ap (λ (h : Handles). h.attributes) e)

@@ -135,7 +135,7 @@ module _ (old : LoadingWorld) (is : IsLoadingWorld old) (q : ℕ) (there : is_so
   lock_spares_of : (world : LoadingWorld) (handle : ℕ) → AreHandles world.handles → slot_of_handle world.handles handle ≢ Some q → is_some (object_at world.handles.heap q) ≡ true → IsSpared world.handles.heap (locked world handle).1.handles.heap q
   lock_spares_of world handle are out some = (
     bystander world.handles (global_lock world.handles handle).1 are (Calls (GlobalLock handle)) (global_lock world.handles handle).0 q
-        (call_outcome world.handles (global_lock world.handles handle).1 (GlobalLock handle) (global_lock world.handles handle).0 (refl, refl)) (λ flags size e. some) out,
+        (call_outcome world.handles (global_lock world.handles handle).1 (GlobalLock handle) (global_lock world.handles handle).0 (refl, refl)) (λ m. some) out,
     λ pinned. lock_stands_of world handle,
   )
 

@@ -66,7 +66,7 @@ local_order_law old new command reply at after is step c e = current_becomes old
     is_heap = heap_here old is at (current_there old at c)
 
     Stand : Heap → Type 0
-    Stand next = OthersStand (IsNamedBy command heap) heap next
+    Stand next = OthersStand (IsNamedBy command heap) (λ id. id) heap next
 
     named_by_call : (id : ℕ) → IsNamedIn heap command id → IsNamedBy command heap id
     named_by_call id n = (n.name, n.asked, (names_law heap n.name id is_heap (local_here old is at (current_there old at c)).0.grain).0.0 n.has)

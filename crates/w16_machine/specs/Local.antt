@@ -180,7 +180,8 @@ has_range heap tables slot = elim (finmap.get tables slot) [
   | Some t ↦ elim (bytes_at heap slot) [ None ↦ false | Some bytes ↦ nat_le t.hi (length bytes) ]
 ]
 
--- what a step of the global heap leaves of them: one goes where its segment is freed, loses its bytes, or is cut below its end
+-- what a step of the global heap leaves of them: one goes where its segment is freed, loses its bytes, gets another handle, or is cut below its
+-- end
 abbrev pub left_in : Heap → FinMap nat_cmp Table → FinMap nat_cmp Table
 left_in heap tables = finmap.retain_keys tables (has_range heap tables)
 

@@ -181,7 +181,7 @@ IsNamedBy command heap q = (name : ℕ) × (named_by command ≡ Some name) × (
 -- In the heap's order of use all others that stay stand as they did.
 abbrev pub OrderLaw : Type 0
 OrderLaw = (old new : World) (command : LocalCommand) (reply : Reply) (at after : LocalHeap) → AreLocalHeaps old → LocalStep old command reply new
-    → current_heap old ≡ Some at → local_in new at.slot ≡ Some after → OthersStand (IsNamedBy command (heap_of at)) (heap_of at) (heap_of after)
+    → current_heap old ≡ Some at → local_in new at.slot ≡ Some after → OthersStand (IsNamedBy command (heap_of at)) (λ id. id) (heap_of at) (heap_of after)
 
 -- an allocation isn't both refused and answered
 abbrev pub OutcomeLaw : Type 0

@@ -36,7 +36,7 @@ resources_may_take (LockResource handle) = true
 resources_may_take (FreeResource handle) = true
 resources_may_take other = false
 
--- GlobalReAlloc and GlobalDiscard may discard objects too, and cut one. A far access may where it fetches.
+-- GlobalReAlloc and GlobalDiscard may discard objects too, and cut one or give it another slot. A far access may where it fetches.
 abbrev pub step_may_take : LoadingWorld → LoadingCommand → Bool
 step_may_take old (OfHandles command) = call_may_take command
 step_may_take old (OfResizes command) = true

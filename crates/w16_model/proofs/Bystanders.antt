@@ -1,5 +1,5 @@
 -- What each call leaves of the objects that it isn't about, and of the order of use, by its outcome.
-use Rattle.w16_model.proofs.Common.{◌≡◌, ◌≢◌, ℕ, ◌+◌, ◌-◌, inl, inr, true, false, not, ◌&&◌, ◌||◌, nat_lt, IfSome, IsSomeAnd, take, Option, Some, None, is_some, refl, sym, ap, ◌∙◌, subst, false≢true, cases_Bool, cases_eq, Kind, Fixed, Moveable, Discardable, GMEM_MOVEABLE, eligible, is_member, Heap, Object, blocks, object_at, is_fixed, is_discardable, is_pinned_object, with_newest, Handles, AreHandles, slots_for, slot_of_handle, Answer, has_flag, rounded_size, kind_asked, alloc_options, GlobalAlloc, KeepsOthers, StandsStill, KeepsRest, realloc_options, Call, Outcome, Calls, IsSame, IsUnmoved, IsLocked, IsUnlocked, IsFreed, IsNewest, IsOldest, IsEntered, IsAllocated, IsCompacted, IsModified, IsDiscarded, IsResized, handle_in, IsAbout, IsKeptOrDiscarded, BystandersLaw, may_move_own, PinnedStayLaw, may_move_others, StillLaw}
+use Rattle.w16_model.proofs.Common.{◌≡◌, ◌≢◌, ℕ, ◌+◌, ◌-◌, ◌==◌, ◌⊎◌, inl, inr, Bool, true, false, not, ◌&&◌, ◌||◌, nat_lt, IsTrue, IfSome, IsSomeAnd, take, Option, Some, None, is_some, refl, sym, ap, ◌∙◌, subst, eqb-true, and_parts, false≢true, cases_Bool, cases_eq, Kind, Fixed, Moveable, Discardable, GMEM_MOVEABLE, eligible, is_member, Heap, Object, blocks, object_at, is_fixed, is_discardable, is_pinned_object, with_newest, Handles, AreHandles, slots_for, slot_of_handle, Answer, has_flag, rounded_size, kind_asked, alloc_options, KeepsOthers, StandsStill, KeepsRest, realloc_options, Call, Outcome, Resized, attributes_asked, IsSame, IsUnmoved, IsLocked, IsUnlocked, IsFreed, IsNewest, IsOldest, IsEntered, IsAllocated, IsCompacted, IsModified, IsDiscarded, IsResized, handle_in, IsAbout, IsKeptOrDiscarded, BystandersLaw, AttributesLaw, may_change, may_move_own, PinnedStayLaw, may_move_others, StillLaw}
 use Rattle.std.specs.FinMap as finmap
 use Rattle.w16_model.proofs.Heaps.{get-update_other}
 use Rattle.w16_model.proofs.KeptHeaps.{inserted_other, taken_other, bytes_in}
@@ -7,7 +7,7 @@ use Rattle.w16_model.proofs.Others.{others_law}
 use Rattle.w16_model.proofs.Outcomes.{address_law}
 use Rattle.w16_model.proofs.Runs.{some_slots, unused}
 use Rattle.w16_model.proofs.CallOutcomes.{outcome}
-use Rattle.w16_model.proofs.CallLaws.{rest_of, moves_of}
+use Rattle.w16_model.proofs.CallLaws.{rest_of, moves_of, object_beside, place_own, place_beside, attributes_beside}
 
 -- what is discarded, and what is kept
 pub kept_or_discarded : (old new : Heap) (h : Option ℕ) (k q : ℕ) → KeepsOthers old h k new → h ≢ Some q → IsKeptOrDiscarded old new q
@@ -49,7 +49,10 @@ module _ (old new : Handles) (is : AreHandles old) (call : Call) (answer : Answe
   abbrev Kept : Type 0
   Kept = IsKeptOrDiscarded old.heap new.heap q
 
-  pub bystander : Outcome old call answer new → ((flags size : ℕ) → call ≡ Calls (GlobalAlloc flags size) → is_some (object_at old.heap q) ≡ true) → (IsAbout old call q → ⊥) → Kept
+  abbrev IsKeptObject : Option Object → Option Object → Type 0
+  IsKeptObject before after = (after ≡ before) ⊎ IsSomeAnd before (λ o. (o.kind ≡ Discardable) × (o.locks ≡ 0) × (is_some o.bytes ≡ true) × (after ≡ Some (record o { bytes = None })))
+
+  pub bystander : Outcome old call answer new → (may_change call ≡ true → is_some (object_at old.heap q) ≡ true) → (IsAbout old call q → ⊥) → Kept
   bystander (IsSame s e) there out = inl (ap (λ (h : Handles). object_at h.heap q) e)
   bystander (IsUnmoved s e) there out = inl (ap (λ (h : Handles). object_at h.heap q) e)
   bystander (IsLocked l) there out = inl (ap (λ (h : Handles). object_at h.heap q) l.rest ∙ inserted_other old.heap.objects l.slot (record l.object { locks = l.object.locks + 1 }) q (λ e. out (about l.handle l.slot (ap handle_in l.asked) l.named.found e)))
@@ -57,19 +60,43 @@ module _ (old new : Handles) (is : AreHandles old) (call : Call) (answer : Answe
   bystander (IsFreed f) there out = inl (ap (λ (h : Handles). object_at h.heap q) f.rest ∙ taken_other old.heap.objects f.slot q (λ e. out (about f.handle f.slot (ap handle_in f.asked) f.named.found e)))
   bystander (IsNewest n) there out = inl (ap (λ (h : Handles). object_at h.heap q) n.rest)
   bystander (IsOldest n) there out = inl (ap (λ (h : Handles). object_at h.heap q) n.rest)
-  bystander (IsEntered e) there out = inl (ap (λ (h : Heap). object_at h q) e.entered.entered ∙ inserted_other old.heap.objects e.slot (record { kind = kind_asked e.flags; locks = 0; bytes = None }) q (not_free e.slot (unused old is e.slot (slots_for (rounded_size e.size)) (some_slots (rounded_size e.size)) e.free) (there e.flags e.size e.asked)))
-  bystander (IsAllocated a) there out = kept_or_discarded old.heap new.heap (Some a.slot) a.count q ((others_law old.heap new.heap is.heap a.count).0 a.slot (alloc_options a.flags) a.object (with_newest a.slot a.object) a.settled) (apart a.slot q (not_free a.slot (unused old is a.slot (slots_for (rounded_size a.size)) (some_slots (rounded_size a.size)) a.free) (there a.flags a.size a.asked)))
+  bystander (IsEntered e) there out = inl (ap (λ (h : Heap). object_at h q) e.entered.entered ∙ inserted_other old.heap.objects e.slot (record { kind = kind_asked e.flags; locks = 0; bytes = None }) q (not_free e.slot (unused old is e.slot (slots_for (rounded_size e.size)) (some_slots (rounded_size e.size)) e.free) (there (ap may_change e.asked))))
+  bystander (IsAllocated a) there out = kept_or_discarded old.heap new.heap (Some a.slot) a.count q ((others_law old.heap new.heap is.heap a.count).0 a.slot (alloc_options a.flags) a.object (with_newest a.slot a.object) a.settled) (apart a.slot q (not_free a.slot (unused old is a.slot (slots_for (rounded_size a.size)) (some_slots (rounded_size a.size)) a.free) (there (ap may_change a.asked))))
   bystander (IsCompacted c) there out = kept_or_discarded old.heap new.heap None c.count q ((others_law old.heap new.heap is.heap c.count).1 c.settled) (none_apart q)
   bystander (IsModified m) there out = inl (m.changes.others q (λ e. out (about m.handle m.slot (ap handle_in m.asked) m.named.found e)))
   bystander (IsDiscarded d) there out = inl (ap (λ (h : Handles). object_at h.heap q) d.rest ∙ get-update_other old.heap.objects d.slot (λ (o : Object). record o { bytes = None }) q (λ e. out (about d.handle d.slot (ap handle_in d.asked) d.named.found e)))
-  bystander (IsResized r) there out = let k : KeepsRest old.heap r.slot (rounded_size r.size) r.object (realloc_options r.flags) new.heap = rest_of old new is call answer r in
-      kept_or_discarded old.heap new.heap (Some r.slot) k.count q k.others (apart r.slot q (λ e. out (about r.handle r.slot (ap handle_in r.asked) r.named.found e)))
+  bystander (IsResized r) there out =
+      let k : KeepsRest old.heap r.slot (rounded_size r.size) r.object (realloc_options r.flags) r.heap = rest_of old new is call answer r in
+      let d : q ≢ r.slot = λ e. out (about r.handle r.slot (ap handle_in r.asked) r.named.found e) in
+      subst (λ p. IsKeptObject (object_at old.heap q) p) (sym (object_beside old new is call answer r q (there (ap may_change r.asked)) d)) (kept_or_discarded old.heap r.heap (Some r.slot) k.count q k.others (apart r.slot q d))
+
+  -- so it has its attributes
+  attributes_kept : Outcome old call answer new → is_some (object_at old.heap q) ≡ true → (IsAbout old call q → ⊥) → finmap.get new.attributes q ≡ finmap.get old.attributes q
+  attributes_kept (IsSame s e) there out = ap (λ (h : Handles). finmap.get h.attributes q) e
+  attributes_kept (IsUnmoved s e) there out = ap (λ (h : Handles). finmap.get h.attributes q) e
+  attributes_kept (IsLocked l) there out = ap (λ (h : Handles). finmap.get h.attributes q) l.rest
+  attributes_kept (IsUnlocked u) there out = ap (λ (h : Handles). finmap.get h.attributes q) u.rest
+  attributes_kept (IsFreed f) there out = ap (λ (h : Handles). finmap.get h.attributes q) f.rest ∙ taken_other old.attributes f.slot q (λ e. out (about f.handle f.slot (ap handle_in f.asked) f.named.found e))
+  attributes_kept (IsNewest n) there out = ap (λ (h : Handles). finmap.get h.attributes q) n.rest
+  attributes_kept (IsOldest n) there out = ap (λ (h : Handles). finmap.get h.attributes q) n.rest
+  attributes_kept (IsEntered e) there out = ap (λ (h : Handles). finmap.get h.attributes q) e.rest
+      ∙ inserted_other old.attributes e.slot (attributes_asked e.flags e.size) q (not_free e.slot (unused old is e.slot (slots_for (rounded_size e.size)) (some_slots (rounded_size e.size)) e.free) there)
+  attributes_kept (IsAllocated a) there out = ap (λ (h : Handles). finmap.get h.attributes q) a.rest
+      ∙ inserted_other old.attributes a.slot (attributes_asked a.flags a.size) q (not_free a.slot (unused old is a.slot (slots_for (rounded_size a.size)) (some_slots (rounded_size a.size)) a.free) there)
+  attributes_kept (IsCompacted c) there out = ap (λ (h : Handles). finmap.get h.attributes q) c.rest
+  attributes_kept (IsModified m) there out = ap (λ (h : Handles). finmap.get h.attributes q) m.rest
+  attributes_kept (IsDiscarded d) there out = ap (λ (h : Handles). finmap.get h.attributes q) d.rest
+  attributes_kept (IsResized r) there out = attributes_beside old new is call answer r q there (λ e. out (about r.handle r.slot (ap handle_in r.asked) r.named.found e))
 
   abbrev Still : Handles → Type 0
   Still h = StandsStill old.heap h.heap q
 
   same_place : finmap.get new.heap.places q ≡ finmap.get old.heap.places q → Still new
   same_place e = stands old.heap new.heap q e
+
+  -- where it stands in the heap in which an object gets another size, there it stands
+  still_beside : (r : Resized old call answer new) → is_some (object_at old.heap q) ≡ true → q ≢ r.slot → StandsStill old.heap r.heap q → Still new
+  still_beside r there d still = subst (λ p. IfSome (finmap.get old.heap.places q) (λ at. p ≡ Some at)) (sym (place_beside old new is call answer r q there d)) still
 
   -- where the object is pinned
   module _ (pinned : IsSomeAnd (object_at old.heap q) (λ o. is_pinned_object o ≡ true)) where
@@ -109,14 +136,29 @@ module _ (old new : Handles) (is : AreHandles old) (call : Call) (answer : Answe
         | inl t ↦ absurd (out (ap may_move_own r.asked ∙ (λ i. t i && (not (r.sized.0 i) && not (r.sized.1 i)))) (about r.handle r.slot (ap handle_in r.asked) r.named.found e))
         | inr f ↦ own e f (finmap.get old.heap.places q) refl
       ]
-      | inr d ↦ (moves_of old new is call answer r).others.pinned q (apart r.slot q d) pinned
+      | inr d ↦ still_beside r there_pinned d ((moves_of old new is call answer r).others.pinned q (apart r.slot q d) pinned)
     ]
       where
+        -- it may not leave its slot
+        held : (k : Kind) (locks : ℕ) (may : Bool) → may ≡ false → (is_fixed k || nat_lt 0 locks) ≡ true → ((locks == 0) && (not (is_fixed k) || may)) ≡ true → ⊥
+        held k locks may f t u = by_parts (is_fixed k) t (and_parts (locks == 0) (not (is_fixed k) || may) u)
+          where
+            by_parts : (fixed : Bool) → (fixed || nat_lt 0 locks) ≡ true → IsTrue (locks == 0) × IsTrue (not fixed || may) → ⊥
+            by_parts true t p = false≢true (sym f ∙ p.1)
+            by_parts false t p = false≢true (ap (nat_lt 0) (sym (eqb-true locks 0 p.0)) ∙ t)
+
+        homes : q ≡ r.slot → has_flag r.flags GMEM_MOVEABLE ≡ false → r.first ≡ r.slot
+        homes e f = elim r.gets [
+          | inl here ↦ here.1
+          | inr goes ↦ absurd (held r.object.kind r.object.locks (has_flag r.flags GMEM_MOVEABLE) f (pinned_is r.slot r.object e r.named.there) goes.1)
+        ]
+
         own : q ≡ r.slot → has_flag r.flags GMEM_MOVEABLE ≡ false → (p : Option ℕ) → finmap.get old.heap.places q ≡ p → Still new
         own e f None stood = no_place old.heap new.heap q stood
         own e f (Some at) stood =
             let has : is_some r.object.bytes ≡ true = ap (λ p. is_some (bytes_in p)) (sym (ap (object_at old.heap) e ∙ r.named.there)) ∙ sym (is.heap.at_bytes q) ∙ ap is_some stood in
-            (moves_of old new is call answer r).still (inr (λ i. has i && (pinned_is r.slot r.object e r.named.there i && not (f i)))) q
+            let here : finmap.get new.heap.places q ≡ finmap.get r.heap.places q = ap (finmap.get new.heap.places) (e ∙ sym (homes e f)) ∙ place_own old new is call answer r ∙ ap (finmap.get r.heap.places) (sym e) in
+            subst (λ p. IfSome (finmap.get old.heap.places q) (λ at. p ≡ Some at)) (sym here) ((moves_of old new is call answer r).still (inr (λ i. has i && (pinned_is r.slot r.object e r.named.there i && not (f i)))) q)
 
   -- and where nothing may be moved
   still : Outcome old call answer new → may_move_others call ≡ false → is_some (object_at old.heap q) ≡ true → (IsAbout old call q → ⊥) → Still new
@@ -132,10 +174,15 @@ module _ (old new : Handles) (is : AreHandles old) (call : Call) (answer : Answe
   still (IsCompacted c) m there out = absurd (false≢true (sym m ∙ ap may_move_others c.asked))
   still (IsModified c) m there out = same_place (ap (λ places. finmap.get places q) c.changes.places)
   still (IsDiscarded d) m there out = same_place (ap (λ (h : Handles). finmap.get h.heap.places q) d.rest ∙ taken_other old.heap.places d.slot q (λ e. out (about d.handle d.slot (ap handle_in d.asked) d.named.found e)))
-  still (IsResized r) m there out = (moves_of old new is call answer r).others.unmoved (sym (ap may_move_others r.asked) ∙ m) q (apart r.slot q (λ e. out (about r.handle r.slot (ap handle_in r.asked) r.named.found e)))
+  still (IsResized r) m there out =
+      let d : q ≢ r.slot = λ e. out (about r.handle r.slot (ap handle_in r.asked) r.named.found e) in
+      still_beside r there d ((moves_of old new is call answer r).others.unmoved (sym (ap may_move_others r.asked) ∙ m) q (apart r.slot q d))
 
 pub bystanders_law : BystandersLaw
-bystanders_law old new call answer q is step there out = bystander old new is call answer q (outcome old new call answer is step) (λ flags size e. there) out
+bystanders_law old new call answer q is step there out = bystander old new is call answer q (outcome old new call answer is step) (λ m. there) out
+
+pub attributes_law : AttributesLaw
+attributes_law old new call answer q is step there out = attributes_kept old new is call answer q (outcome old new call answer is step) there out
 
 pub pinned_law : PinnedStayLaw
 pinned_law old new call answer q is step pinned out = pinned_still old new is call answer q pinned (outcome old new call answer is step) out

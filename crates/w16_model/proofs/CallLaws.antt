@@ -1,19 +1,21 @@
 -- The laws of each call on handles, by its outcome.
-use Rattle.w16_model.proofs.Common.{◌≡◌, ℕ, ◌+◌, ◌-◌, ◌<◌, inl, inr, Bool, true, false, not, IsTrue, IsSomeAnd, List, [], ◌∷◌, length, map, take, filter, sum_by, Option, Some, None, option_map, is_some, unwrap_or, refl, sym, ap, ◌∙◌, subst, arith, eq-eqb, ne_eqb, entries_sorted, false≢true, sum_by-cons, Block, Kind, eligible, is_member, Heap, Object, IsHeap, blocks, object_at, hold_of_object, moved_bytes, is_elsewhere, Handles, AreHandles, slot_of_handle, handle_of, Answer, rounded_size, kind_asked, Word, Dword, KeepsRest, MovesLittle, Reallocates, realloc_options, Call, Outcome, Resized, counts_moved, IsSame, IsUnmoved, IsLocked, IsUnlocked, IsFreed, IsNewest, IsOldest, IsEntered, IsAllocated, IsCompacted, IsModified, IsDiscarded, IsResized, KeepsContents, may_change, ContentsLaw, SlotsLaw, IsMoved, size_at, IsSumOfMoved, MovedLaw}
+use Rattle.w16_model.proofs.Common.{◌≡◌, ◌≢◌, ℕ, ◌+◌, ◌-◌, ◌/◌, ◌<◌, ◌==◌, ◌⊎◌, inl, inr, Bool, true, false, cond, not, IsTrue, IsSomeAnd, List, [], ◌∷◌, length, map, take, filter, sum_by, Option, Some, None, option_map, is_some, unwrap_or, refl, sym, ap, ◌∙◌, subst, arith, eq-eqb, ne_eqb, entries_sorted, false≢true, cases_eq, sum_by-cons, Block, Kind, Fixed, Moveable, Discardable, eligible, is_member, Heap, Object, IsHeap, blocks, object_at, bytes_at, without, hold_of_object, moved_bytes, is_elsewhere, Handles, AreHandles, slot_of_handle, handle_of, Answer, rounded_size, kind_asked, Word, Dword, KeepsRest, MovesLittle, realloc_options, Call, CallStep, ReAllocs, Calls, Outcome, Resized, counts_moved, IsSame, IsUnmoved, IsLocked, IsUnlocked, IsFreed, IsNewest, IsOldest, IsEntered, IsAllocated, IsCompacted, IsModified, IsDiscarded, IsResized, KeepsContents, may_change, ContentsLaw, SlotsLaw, IsMoved, size_at, IsSumOfMoved, MovedLaw, next_slot, slot_after}
 use Rattle.std.specs.FinMap as finmap
 use Rattle.std.specs.List.{AllByRecursion as Each}
 use Rattle.w16_model.proofs.Gaps.{Member, EachPair, AllPairs-from_EachPair, member_filter, filter_member, pairs_filter}
 use Rattle.w16_model.proofs.Starts.{member_map}
 use Rattle.w16_model.proofs.Discards.{is_member-true, true-is_member}
 use Rattle.w16_model.proofs.Heaps.{IsBlockOf, block_member, member_block, blocks_rise, keys_rise}
-use Rattle.w16_model.proofs.KeptHeaps.{bytes_in}
+use Rattle.w16_model.specs.Reallocation.{IsResized as IsObjectResized}
+use Rattle.w16_model.proofs.KeptHeaps.{bytes_in, inserted_other, taken_other}
 use Rattle.w16_model.proofs.KeptHandles.{put_bytes}
-use Rattle.w16_model.proofs.Housed.{stays, housed_here}
-use Rattle.w16_model.proofs.KeptRest.{absents_rest, rest_law}
+use Rattle.w16_model.proofs.Housed.{given, keeps, run_is, was_free, housed, housed_first, housed_old, housed_other, housed_range, place_first, place_other, order_there}
+use Rattle.w16_model.proofs.KeptRest.{absents_rest}
+use Rattle.w16_model.proofs.Naming.{names_law}
 use Rattle.w16_model.proofs.Reallocations.{moves_law}
 use Rattle.w16_model.proofs.Fewest.{some_handle}
 use Rattle.w16_model.proofs.ResizedHandles.{found_some}
-use Rattle.w16_model.proofs.CallOutcomes.{outcome, none_moved}
+use Rattle.w16_model.proofs.CallOutcomes.{outcome, none_moved, reallocates}
 
 -- What is kept.
 module _ (old new : Handles) (call : Call) (answer : Answer) where
@@ -32,24 +34,126 @@ module _ (old new : Handles) (call : Call) (answer : Answer) where
   contents (IsDiscarded d) m = absurd (false≢true (sym m ∙ ap may_change d.asked))
   contents (IsResized r) m = absurd (false≢true (sym m ∙ ap may_change r.asked))
 
--- What an answered reallocation leaves, and what it moves.
+-- What an answered reallocation leaves, first of the heap in which its object has its old slot still.
+module _ (old new : Handles) (is : AreHandles old) (call : Call) (answer : Answer) (r : Resized old call answer new) where
+  pub rest_of : KeepsRest old.heap r.slot (rounded_size r.size) r.object (realloc_options r.flags) r.heap
+  rest_of = keeps old is r.slot (rounded_size r.size) (realloc_options r.flags) r.object r.named.there r.first r.gets r.heap r.resized
+
+  pub moves_of : MovesLittle old.heap r.slot (rounded_size r.size) r.object (realloc_options r.flags) r.heap
+  moves_of = subst (λ p. IsSomeAnd p (λ o. MovesLittle old.heap r.slot (rounded_size r.size) o (realloc_options r.flags) r.heap)) r.named.there (moves_law old.heap r.heap r.slot (rounded_size r.size) (realloc_options r.flags) is.heap r.resized)
+
+  abbrev house : Heap
+  house = housed old is r.slot (rounded_size r.size) (realloc_options r.flags) r.object r.named.there r.first r.gets r.heap r.resized
+
+  pub heap_is : new.heap ≡ house
+  heap_is = ap (λ (h : Handles). h.heap) r.rest
+
+  -- The object is at its first slot then, with its address.
+  pub object_first : object_at new.heap r.first ≡ object_at r.heap r.slot
+  object_first = ap (λ (h : Heap). object_at h r.first) heap_is ∙ housed_first old is r.slot (rounded_size r.size) (realloc_options r.flags) r.object r.named.there r.first r.gets r.heap r.resized
+
+  pub place_own : finmap.get new.heap.places r.first ≡ finmap.get r.heap.places r.slot
+  place_own = ap (λ (h : Heap). finmap.get h.places r.first) heap_is ∙ place_first old is r.slot (rounded_size r.size) (realloc_options r.flags) r.object r.named.there r.first r.gets r.heap r.resized
+
+  pub object_left : r.slot ≢ r.first → object_at new.heap r.slot ≡ None
+  object_left d = ap (λ (h : Heap). object_at h r.slot) heap_is ∙ housed_old old is r.slot (rounded_size r.size) (realloc_options r.flags) r.object r.named.there r.first r.gets r.heap r.resized d
+
+  -- Every other object keeps its slot, which isn't the new one.
+  module _ (q : ℕ) (there : is_some (object_at old.heap q) ≡ true) (other : q ≢ r.slot) where
+    pub bystands : q ≢ r.first
+    bystands e = elim (cases_eq r.slot r.first) [
+      | inl here ↦ other (e ∙ sym here)
+      | inr d ↦ false≢true (sym (ap is_some (ap (object_at old.heap) e ∙ was_free old is r.slot (rounded_size r.size) (realloc_options r.flags) r.object r.named.there r.first r.gets r.heap r.resized d)) ∙ there)
+    ]
+
+    pub object_beside : object_at new.heap q ≡ object_at r.heap q
+    object_beside = ap (λ (h : Heap). object_at h q) heap_is ∙ housed_other old is r.slot (rounded_size r.size) (realloc_options r.flags) r.object r.named.there r.first r.gets r.heap r.resized q bystands other
+
+    pub place_beside : finmap.get new.heap.places q ≡ finmap.get r.heap.places q
+    place_beside = ap (λ (h : Heap). finmap.get h.places q) heap_is ∙ place_other old is r.slot (rounded_size r.size) (realloc_options r.flags) r.object r.named.there r.first r.gets r.heap r.resized q bystands other
+
+    pub attributes_beside : finmap.get new.attributes q ≡ finmap.get old.attributes q
+    attributes_beside = ap (λ (h : Handles). finmap.get h.attributes q) r.rest
+        ∙ ap (λ m. finmap.get m q) (run_is old is r.slot (rounded_size r.size) (realloc_options r.flags) r.object r.named.there r.first r.gets r.heap r.resized)
+        ∙ inserted_other (finmap.remove old.attributes r.slot) r.first (given old is r.slot (rounded_size r.size) (realloc_options r.flags) r.object r.named.there r.first r.gets r.heap r.resized) q bystands
+        ∙ taken_other old.attributes r.slot q other
+
+  -- what has no bytes in that heap has none in the end
+  pub no_bytes : (q : ℕ) → is_some (object_at old.heap q) ≡ true → bytes_at r.heap q ≡ None → bytes_at new.heap q ≡ None
+  no_bytes q there none = elim (cases_eq q r.slot) [
+    | inl e ↦ elim (cases_eq r.slot r.first) [
+      | inl here ↦ ap (bytes_at new.heap) (e ∙ here) ∙ ap bytes_in object_first ∙ ap (bytes_at r.heap) (sym e) ∙ none
+      | inr d ↦ ap (bytes_at new.heap) e ∙ ap bytes_in (object_left d)
+    ]
+    | inr d ↦ ap bytes_in (object_beside q there d) ∙ none
+  ]
+
+  -- the others stand in the order as they did
+  pub order_is : without r.first new.heap.order ≡ without r.slot r.heap.order
+  order_is = ap (λ (h : Heap). without r.first h.order) heap_is ∙ order_there old is r.slot (rounded_size r.size) (realloc_options r.flags) r.object r.named.there r.first r.gets r.heap r.resized
+
+  -- The handle that is answered is that of the object.
+  pub next_is : slot_of_handle new (handle_of r.object.kind r.first) ≡ Some r.first
+  next_is = (names_law new (handle_of r.object.kind r.first) r.first).0.1 (subst (λ p. IsSomeAnd p (λ (o : Object). handle_of r.object.kind r.first ≡ handle_of o.kind r.first)) (sym object_first) (turn (object_at r.heap r.slot) rest_of.object))
+    where
+      turn : (p : Option Object) → IsSomeAnd p (IsObjectResized (realloc_options r.flags).zero (rounded_size r.size) r.object) → IsSomeAnd p (λ (o : Object). handle_of r.object.kind r.first ≡ handle_of o.kind r.first)
+      turn None h = absurd h
+      turn (Some o) h = ap (λ kind. handle_of kind r.first) (sym h.kind)
+
+  abbrev chosen : Bool → ℕ → ℕ
+  chosen b q = cond b (slot_after new (handle_of r.object.kind r.first) q) q
+
+  next_by : (q : ℕ) → next_slot old call answer new q ≡ chosen (r.slot == q) q
+  next_by q = (λ i. next_slot old (r.asked i) (r.answered i) new q) ∙ ap (λ p. chosen (unwrap_or (option_map (λ s. s == q) p) false) q) r.named.found
+
+  pub next_own : next_slot old call answer new r.slot ≡ r.first
+  next_own = next_by r.slot ∙ ap (λ b. chosen b r.slot) (eq-eqb r.slot r.slot refl) ∙ ap (λ p. unwrap_or p r.slot) next_is
+
+  pub next_other : (q : ℕ) → q ≢ r.slot → next_slot old call answer new q ≡ q
+  next_other q d = next_by q ∙ ap (λ b. chosen b q) (ne_eqb r.slot q (λ e. d (sym e)))
+
+-- Each object keeps its slot through a call, but for one that a reallocation gives another size.
+pub followed : (old new : Handles) (call : Call) (answer : Answer) → AreHandles old → CallStep old call answer new → ((q : ℕ) → next_slot old call answer new q ≡ q) ⊎ Resized old call answer new
+followed old new (Calls command) answer is step = inl (λ q. refl)
+followed old new (ReAllocs handle size flags) (Word answer) is step = elim (reallocates old (ReAllocs handle size flags) (Word answer) new is handle size flags answer refl refl step).1 [
+  | inl none ↦ inl (λ q. stays q (λ s found old_found. absurd (found_some new answer s found none)))
+  | inr told ↦ elim told [
+    | inl same ↦ inl (λ q. stays q (λ s found old_found. slot_is new answer s found ∙ ap (λ n. n / 8) same ∙ sym (slot_is old handle q old_found)))
+    | inr r ↦ inr r
+  ]
+]
+  where
+    slot_named : (k : Kind) (slot : ℕ) → handle_of k slot / 8 ≡ slot
+    slot_named Fixed slot = omega arith
+    slot_named Moveable slot = omega arith
+    slot_named Discardable slot = omega arith
+
+    slot_is : (handles : Handles) (handle slot : ℕ) → slot_of_handle handles handle ≡ Some slot → slot ≡ handle / 8
+    slot_is handles handle slot found = turn (object_at handles.heap slot) ((names_law handles handle slot).0.0 found)
+      where
+        turn : (p : Option Object) → IsSomeAnd p (λ o. handle ≡ handle_of o.kind slot) → slot ≡ handle / 8
+        turn None h = absurd h
+        turn (Some o) h = sym (ap (λ n. n / 8) h ∙ slot_named o.kind slot)
+
+    stays : (q : ℕ) → ((s : ℕ) → slot_of_handle new answer ≡ Some s → slot_of_handle old handle ≡ Some q → s ≡ q) → next_slot old (ReAllocs handle size flags) (Word answer) new q ≡ q
+    stays q same = by_old (slot_of_handle old handle) refl
+      where
+        by_new : slot_of_handle old handle ≡ Some q → (p : Option ℕ) → slot_of_handle new answer ≡ p → unwrap_or p q ≡ q
+        by_new old_found None found = refl
+        by_new old_found (Some s) found = same s found old_found
+
+        by_names : (s : ℕ) → slot_of_handle old handle ≡ Some s → cond (s == q) (slot_after new answer q) q ≡ q
+        by_names s old_found = elim (cases_eq s q) [
+          | inl e ↦ ap (λ b. cond b (slot_after new answer q) q) (eq-eqb s q e) ∙ by_new (old_found ∙ ap Some e) (slot_of_handle new answer) refl
+          | inr d ↦ ap (λ b. cond b (slot_after new answer q) q) (ne_eqb s q d)
+        ]
+
+        by_old : (p : Option ℕ) → slot_of_handle old handle ≡ p → cond (unwrap_or (option_map (λ s. s == q) p) false) (slot_after new answer q) q ≡ q
+        by_old None e = refl
+        by_old (Some s) e = by_names s e
+followed old new call answer is step = absurd step
+
 module _ (old new : Handles) (is : AreHandles old) (call : Call) (answer : Answer) where
-  -- The object keeps its slot, since one is enough for the largest size.
-  pub same_slot : (r : Resized old call answer new) → r.first ≡ r.slot
-  same_slot r = stays old is r.slot r.object r.named.there (rounded_size r.size) (realloc_options r.flags) r.first (omega (arith, r.small)) r.gets
-
-  pub heap_of : (r : Resized old call answer new) → r.heap ≡ new.heap
-  heap_of r = sym (ap (λ (h : Handles). h.heap) r.rest ∙ housed_here old is r.slot (rounded_size r.size) (realloc_options r.flags) r.object r.named.there r.first r.gets r.heap r.resized (sym (same_slot r)))
-
-  pub resized_of : (r : Resized old call answer new) → Reallocates old.heap r.slot (rounded_size r.size) (realloc_options r.flags) true new.heap
-  resized_of r = subst (Reallocates old.heap r.slot (rounded_size r.size) (realloc_options r.flags) true) (heap_of r) r.resized
-
-  pub rest_of : (r : Resized old call answer new) → KeepsRest old.heap r.slot (rounded_size r.size) r.object (realloc_options r.flags) new.heap
-  rest_of r = subst (λ p. IsSomeAnd p (λ o. KeepsRest old.heap r.slot (rounded_size r.size) o (realloc_options r.flags) new.heap)) r.named.there (rest_law old.heap new.heap r.slot (rounded_size r.size) (realloc_options r.flags) is.heap (resized_of r))
-
-  pub moves_of : (r : Resized old call answer new) → MovesLittle old.heap r.slot (rounded_size r.size) r.object (realloc_options r.flags) new.heap
-  moves_of r = subst (λ p. IsSomeAnd p (λ o. MovesLittle old.heap r.slot (rounded_size r.size) o (realloc_options r.flags) new.heap)) r.named.there (moves_law old.heap new.heap r.slot (rounded_size r.size) (realloc_options r.flags) is.heap (resized_of r))
-
   abbrev Kept : Handles → Type 0
   Kept h = (h.slots ≡ old.slots) × (h.heap.lo ≡ old.heap.lo) × (h.heap.hi ≡ old.heap.hi)
 
@@ -66,7 +170,10 @@ module _ (old new : Handles) (is : AreHandles old) (call : Call) (answer : Answe
   slots (IsCompacted c) = (ap (λ (h : Handles). h.slots) c.rest, ap (λ (h : Heap). h.lo) c.settled.same ∙ (absents_rest (take c.count (eligible (blocks old.heap) old.heap.order None)) old.heap).0, ap (λ (h : Heap). h.hi) c.settled.same ∙ (absents_rest (take c.count (eligible (blocks old.heap) old.heap.order None)) old.heap).1)
   slots (IsModified m) = (ap (λ (h : Handles). h.slots) m.rest, m.changes.range.0, m.changes.range.1)
   slots (IsDiscarded d) = subst Kept (sym d.rest) (refl, refl, refl)
-  slots (IsResized r) = let k = rest_of r in (ap (λ (h : Handles). h.slots) r.rest, k.low, k.high)
+  slots (IsResized r) =
+      let k = rest_of old new is call answer r in
+      let same = housed_range old is r.slot (rounded_size r.size) (realloc_options r.flags) r.object r.named.there r.first r.gets r.heap r.resized in
+      (ap (λ (h : Handles). h.slots) r.rest, ap (λ (h : Heap). h.lo) (heap_is old new is call answer r) ∙ same.0 ∙ k.low, ap (λ (h : Heap). h.hi) (heap_is old new is call answer r) ∙ same.1 ∙ k.high)
 
 pub contents_law : ContentsLaw
 contents_law old new call answer is m step = contents old new call answer (outcome old new call answer is step) m
@@ -74,10 +181,10 @@ contents_law old new call answer is m step = contents old new call answer (outco
 pub slots_law : SlotsLaw
 slots_law old new call answer is step = slots old new is call answer (outcome old new call answer is step)
 
--- The bytes moved.
-module _ (old new : Heap) (is : IsHeap old) where
+-- The bytes moved to a heap, from which each object of old goes on to its next slot.
+module _ (old mid new : Heap) (is : IsHeap old) (next : ℕ → ℕ) (goes : (q : ℕ) → is_some (finmap.get old.places q) ≡ true → finmap.get new.places (next q) ≡ finmap.get mid.places q) where
   abbrev moves : Block → Bool
-  moves x = is_elsewhere x.at (finmap.get new.places x.id)
+  moves x = is_elsewhere x.at (finmap.get mid.places x.id)
 
   abbrev moving : List Block
   moving = filter moves (blocks old)
@@ -108,28 +215,28 @@ module _ (old new : Heap) (is : IsHeap old) where
       b.size ∙ sym (ap (λ p. unwrap_or (option_map length (bytes_in p)) 0) b.is_there ∙ ap (λ p. unwrap_or (option_map length p) 0) b.has_bytes)
 
   -- an address that has changed
-  elsewhere : (x : Block) (q : ℕ) → x.id ≡ q → (p r : Option ℕ) → finmap.get old.places q ≡ p → finmap.get new.places q ≡ r → x.at ≡ unwrap_or p 0 → is_some p ≡ true → is_elsewhere x.at r ≡ true → IsMoved old new q
+  elsewhere : (x : Block) (q : ℕ) → x.id ≡ q → (p r : Option ℕ) → finmap.get old.places q ≡ p → finmap.get mid.places q ≡ r → x.at ≡ unwrap_or p 0 → is_some p ≡ true → is_elsewhere x.at r ≡ true → IsMoved old new next q
   elsewhere x q e None r was now at some t = absurd (false≢true some)
   elsewhere x q e (Some a) None was now at some t = absurd (false≢true t)
-  elsewhere x q e (Some a) (Some b) was now at some t = (a, b, was, now, (λ same. false≢true (sym (ap not (eq-eqb b x.at (sym same ∙ sym at))) ∙ t)))
+  elsewhere x q e (Some a) (Some b) was now at some t = (a, b, was, goes q (ap is_some was) ∙ now, (λ same. false≢true (sym (ap not (eq-eqb b x.at (sym same ∙ sym at))) ∙ t)))
 
-  into : (q : ℕ) → is_member q (map id_of moving) ≡ true → IsMoved old new q
+  into : (q : ℕ) → is_member q (map id_of moving) ≡ true → IsMoved old new next q
   into q t =
       let r : (x : Block) × Member x moving × (x.id ≡ q) = member_back moving q (is_member-true q (map id_of moving) t) in
       let f : Member r.0 (blocks old) × IsTrue (moves r.0) = member_filter moves (blocks old) r.0 r.1 in
       let b : IsBlockOf old r.0 = member_block old r.0 f.0 in
-      elsewhere r.0 q r.2 (finmap.get old.places q) (finmap.get new.places q) refl refl (b.place ∙ ap (λ k. unwrap_or (finmap.get old.places k) 0) r.2)
+      elsewhere r.0 q r.2 (finmap.get old.places q) (finmap.get mid.places q) refl refl (b.place ∙ ap (λ k. unwrap_or (finmap.get old.places k) 0) r.2)
       (is.at_bytes q ∙ ap (λ k. is_some (bytes_in (object_at old k))) (sym r.2) ∙ ap (λ p. is_some (bytes_in p)) b.is_there ∙ ap is_some b.has_bytes)
-      (ap (λ k. is_elsewhere r.0.at (finmap.get new.places k)) (sym r.2) ∙ f.1)
+      (ap (λ k. is_elsewhere r.0.at (finmap.get mid.places k)) (sym r.2) ∙ f.1)
 
-  back : (q : ℕ) → IsMoved old new q → is_member q (map id_of moving) ≡ true
+  back : (q : ℕ) → IsMoved old new next q → is_member q (map id_of moving) ≡ true
   back q m = by_object (object_at old q) refl (sym (is.at_bytes q) ∙ ap is_some m.2)
     where
       listed : (o : Object) (bytes : List ℕ) → object_at old q ≡ Some o → o.bytes ≡ Some bytes → is_member q (map id_of moving) ≡ true
       listed o bytes there has =
           let x : Block = record { id = q; at = m.0; size = length bytes; hold = hold_of_object o } in
           let b : IsBlockOf old x = record { object = o; bytes = bytes; is_there = there; has_bytes = has; place = sym (ap (λ p. unwrap_or p 0) m.2); size = refl; hold = refl } in
-          true-is_member q (map id_of moving) (member_map id_of moving x (filter_member moves (blocks old) x (block_member old x b) (ap (is_elsewhere m.0) m.3 ∙ ap not (ne_eqb m.1 m.0 (λ e. m.4 (sym e))))))
+          true-is_member q (map id_of moving) (member_map id_of moving x (filter_member moves (blocks old) x (block_member old x b) (ap (is_elsewhere m.0) (sym (goes q (ap is_some m.2)) ∙ m.3) ∙ ap not (ne_eqb m.1 m.0 (λ e. m.4 (sym e))))))
 
       by_bytes : (o : Object) → object_at old q ≡ Some o → (b : Option (List ℕ)) → o.bytes ≡ b → is_some b ≡ true → is_member q (map id_of moving) ≡ true
       by_bytes o there None has t = absurd (false≢true t)
@@ -139,7 +246,7 @@ module _ (old new : Heap) (is : IsHeap old) where
       by_object None there t = absurd (false≢true t)
       by_object (Some o) there t = by_bytes o there o.bytes refl t
 
-  moved_sum : IsSumOfMoved old new (moved_bytes old new)
+  moved_sum : IsSumOfMoved old new next (moved_bytes old mid)
   moved_sum = record {
     ids = map id_of moving;
     once = AllPairs-from_EachPair (λ a b. a ≡ b → ⊥) (map id_of moving) (ids_differ moving (pairs_filter (λ (x y : Block). x.id < y.id) moves (blocks old)
@@ -150,25 +257,42 @@ module _ (old new : Heap) (is : IsHeap old) where
 
 module _ (old new : Handles) (is : AreHandles old) (call : Call) (answer : Answer) where
   abbrev Sum : Type 0
-  Sum = IsSumOfMoved old.heap new.heap new.moved
+  Sum = IsSumOfMoved old.heap new.heap (next_slot old call answer new) new.moved
 
-  by_rest : new.moved ≡ moved_bytes old.heap new.heap → Sum
-  by_rest e = subst (IsSumOfMoved old.heap new.heap) (sym e) (moved_sum old.heap new.heap is.heap)
+  sized_again : (r : Resized old call answer new) → Sum
+  sized_again r = subst (IsSumOfMoved old.heap new.heap (next_slot old call answer new)) (sym (ap (λ (h : Handles). h.moved) r.rest)) (moved_sum old.heap r.heap new.heap is.heap (next_slot old call answer new) goes)
+    where
+      there_at : (q : ℕ) → is_some (finmap.get old.heap.places q) ≡ true → is_some (object_at old.heap q) ≡ true
+      there_at q t = turn (object_at old.heap q) (sym (is.heap.at_bytes q) ∙ t)
+        where
+          turn : (p : Option Object) → is_some (bytes_in p) ≡ true → is_some p ≡ true
+          turn None t = t
+          turn (Some o) t = refl
 
-  counted : Outcome old call answer new → counts_moved call ≡ true → Sum
-  counted (IsSame s e) c = absurd (false≢true (sym s ∙ c))
-  counted (IsUnmoved s e) c = by_rest (ap (λ (h : Handles). h.moved) e ∙ sym (none_moved old.heap new.heap (ap (λ (h : Handles). h.heap.places) e)))
-  counted (IsLocked l) c = absurd (false≢true (sym (ap counts_moved l.asked) ∙ c))
-  counted (IsUnlocked u) c = absurd (false≢true (sym (ap counts_moved u.asked) ∙ c))
-  counted (IsFreed f) c = absurd (false≢true (sym (ap counts_moved f.asked) ∙ c))
-  counted (IsNewest n) c = absurd (false≢true (sym (ap counts_moved n.asked) ∙ c))
-  counted (IsOldest n) c = absurd (false≢true (sym (ap counts_moved n.asked) ∙ c))
-  counted (IsEntered e) c = by_rest (ap (λ (h : Handles). h.moved) e.rest)
-  counted (IsAllocated a) c = by_rest (ap (λ (h : Handles). h.moved) a.rest)
-  counted (IsCompacted c) t = by_rest (ap (λ (h : Handles). h.moved) c.rest)
-  counted (IsModified m) c = by_rest (ap (λ (h : Handles). h.moved) m.rest)
-  counted (IsDiscarded d) c = by_rest (ap (λ (h : Handles). h.moved) d.rest ∙ ap (moved_bytes old.heap) (sym (ap (λ (h : Handles). h.heap) d.rest)))
-  counted (IsResized r) c = by_rest (ap (λ (h : Handles). h.moved) r.rest ∙ ap (moved_bytes old.heap) (heap_of old new is call answer r))
+      goes : (q : ℕ) → is_some (finmap.get old.heap.places q) ≡ true → finmap.get new.heap.places (next_slot old call answer new q) ≡ finmap.get r.heap.places q
+      goes q t = elim (cases_eq q r.slot) [
+        | inl e ↦ ap (finmap.get new.heap.places) (ap (next_slot old call answer new) e ∙ next_own old new is call answer r) ∙ place_own old new is call answer r ∙ ap (finmap.get r.heap.places) (sym e)
+        | inr d ↦ ap (finmap.get new.heap.places) (next_other old new is call answer r q d) ∙ place_beside old new is call answer r q (there_at q t) d
+      ]
+
+  module _ (stays : (q : ℕ) → next_slot old call answer new q ≡ q) where
+    by_rest : new.moved ≡ moved_bytes old.heap new.heap → Sum
+    by_rest e = subst (IsSumOfMoved old.heap new.heap (next_slot old call answer new)) (sym e) (moved_sum old.heap new.heap new.heap is.heap (next_slot old call answer new) (λ q t. ap (finmap.get new.heap.places) (stays q)))
+
+    counted : Outcome old call answer new → counts_moved call ≡ true → Sum
+    counted (IsSame s e) c = absurd (false≢true (sym s ∙ c))
+    counted (IsUnmoved s e) c = by_rest (ap (λ (h : Handles). h.moved) e ∙ sym (none_moved old.heap new.heap (ap (λ (h : Handles). h.heap.places) e)))
+    counted (IsLocked l) c = absurd (false≢true (sym (ap counts_moved l.asked) ∙ c))
+    counted (IsUnlocked u) c = absurd (false≢true (sym (ap counts_moved u.asked) ∙ c))
+    counted (IsFreed f) c = absurd (false≢true (sym (ap counts_moved f.asked) ∙ c))
+    counted (IsNewest n) c = absurd (false≢true (sym (ap counts_moved n.asked) ∙ c))
+    counted (IsOldest n) c = absurd (false≢true (sym (ap counts_moved n.asked) ∙ c))
+    counted (IsEntered e) c = by_rest (ap (λ (h : Handles). h.moved) e.rest)
+    counted (IsAllocated a) c = by_rest (ap (λ (h : Handles). h.moved) a.rest)
+    counted (IsCompacted c) t = by_rest (ap (λ (h : Handles). h.moved) c.rest)
+    counted (IsModified m) c = by_rest (ap (λ (h : Handles). h.moved) m.rest)
+    counted (IsDiscarded d) c = by_rest (ap (λ (h : Handles). h.moved) d.rest ∙ ap (moved_bytes old.heap) (sym (ap (λ (h : Handles). h.heap) d.rest)))
+    counted (IsResized r) c = sized_again r
 
   -- a handle isn't 0
   never : (handle slot : ℕ) → slot_of_handle old handle ≡ Some slot → answer ≡ Word handle → answer ≡ Word 0 → ⊥
@@ -210,4 +334,8 @@ module _ (old new : Handles) (is : AreHandles old) (call : Call) (answer : Answe
 pub moved_law : MovedLaw
 moved_law old new call answer is step =
     let o : Outcome old call answer new = outcome old new call answer is step in
-    record { counted = counted old new is call answer o; refused = refused old new is call answer o; other = other old new is call answer o }
+    record { counted = λ c. by_slot o c (followed old new call answer is step); refused = refused old new is call answer o; other = other old new is call answer o }
+  where
+    by_slot : Outcome old call answer new → counts_moved call ≡ true → ((q : ℕ) → next_slot old call answer new q ≡ q) ⊎ Resized old call answer new → Sum old new is call answer
+    by_slot o c (inl stays) = counted old new is call answer stays o c
+    by_slot o c (inr r) = sized_again old new is call answer r

@@ -1,5 +1,5 @@
 -- What each call does to the order of use.
-use Rattle.w16_model.proofs.Common.{◌≡◌, ℕ, ◌+◌, ◌<◌, inl, inr, Bool, true, false, cond, not, ◌&&◌, ◌==◌, MatchBool, IsTrue, IsSomeAnd, List, [], ◌∷◌, ◌++◌, take, filter, Option, Some, None, Result, Ok, Err, is_some, refl, sym, ap, ◌∙◌, subst, arith, eq-eqb, ne_eqb, false≢true, and_parts, filter-append, Kind, Fixed, Moveable, Discardable, Refusal, RoomOptions, eligible, is_member, is_pinned, Heap, Object, IsHeap, blocks, object_at, bytes_at, is_fixed, is_discardable, is_in_order, without, newest, oldest, touched, with_ordered, with_newest, removed, Settles, Allocates, IsNew, discarded, stays_for, discards_needed, Enters, Handles, AreHandles, slots_for, slot_of_handle, selector_of, far_pointer, Answer, rounded_size, kind_asked, alloc_options, is_absent_asked, Word, Dword, KeepsOthers, KeepsRest, without_all, is_revived, realloc_options, Call, Outcome, IsSame, IsUnmoved, IsLocked, IsUnlocked, IsFreed, IsNewest, IsOldest, IsEntered, IsAllocated, IsCompacted, IsModified, IsDiscarded, IsResized, OnlyLeave, OthersStand, may_order, UnorderedLaw, OthersOrderLaw, NewObjectLaw, handle_in, IsAbout, UseLaw, IsNewestOf, global_lock, handle_or_0, after_lock, refused_order}
+use Rattle.w16_model.proofs.Common.{◌≡◌, ℕ, ◌+◌, ◌<◌, inl, inr, Bool, true, false, cond, not, ◌&&◌, ◌==◌, MatchBool, IsTrue, IsSomeAnd, List, [], ◌∷◌, ◌++◌, take, filter, Option, Some, None, Result, Ok, Err, is_some, refl, sym, ap, ◌∙◌, subst, arith, eq-eqb, ne_eqb, false≢true, and_parts, filter-append, Kind, Fixed, Moveable, Discardable, Refusal, RoomOptions, eligible, is_member, is_pinned, Heap, Object, IsHeap, blocks, object_at, bytes_at, is_fixed, is_discardable, is_in_order, without, newest, oldest, touched, with_ordered, with_newest, removed, Settles, Allocates, IsNew, discarded, stays_for, discards_needed, Enters, Handles, AreHandles, slots_for, slot_of_handle, selector_of, far_pointer, Answer, rounded_size, kind_asked, alloc_options, is_absent_asked, Word, Dword, KeepsOthers, KeepsRest, without_all, is_revived, realloc_options, Call, Outcome, Resized, IsSame, IsUnmoved, IsLocked, IsUnlocked, IsFreed, IsNewest, IsOldest, IsEntered, IsAllocated, IsCompacted, IsModified, IsDiscarded, IsResized, OnlyLeave, OthersStand, next_slot, may_order, UnorderedLaw, OthersOrderLaw, NewObjectLaw, handle_in, IsAbout, UseLaw, IsNewestOf, global_lock, handle_or_0, after_lock, refused_order}
 use Rattle.w16_model.specs.declared.Refusal.TheVariants as refusals
 use Rattle.w16_model.proofs.Gaps.{Member}
 use Rattle.w16_model.proofs.Discards.{is_member-true}
@@ -10,7 +10,7 @@ use Rattle.w16_model.proofs.KeptRest.{absents_order, all_stay, at_once, no_more}
 use Rattle.w16_model.proofs.Others.{others_law}
 use Rattle.w16_model.proofs.Runs.{some_slots, unused}
 use Rattle.w16_model.proofs.CallOutcomes.{outcome}
-use Rattle.w16_model.proofs.CallLaws.{rest_of}
+use Rattle.w16_model.proofs.CallLaws.{rest_of, no_bytes, order_is, next_own, followed}
 
 -- The order without some.
 
@@ -100,10 +100,14 @@ module _ (old new : Heap) where
       (ap (λ (h : Heap). without id h.order) s.same ∙ placed_rest id o (discarded old k (Some id)).order
       ∙ ap (without id) (absents_order (take k (eligible (blocks old) old.order (Some id))) old) ∙ either_way id (take k (eligible (blocks old) old.order (Some id))))
 
-  pub resized : (id n : ℕ) (o : Object) (options : RoomOptions) → KeepsRest old id n o options new → OnlyLeave new (without id old.order) (without id new.order)
-  resized id n o options k =
+  -- the others in the order
+  rest_resized : (id n : ℕ) (o : Object) (options : RoomOptions) (k : KeepsRest old id n o options new) → without id new.order ≡ without_all (take k.count (eligible (blocks old) old.order (Some id))) (without id old.order)
+  rest_resized id n o options k =
       let ids : List ℕ = take k.count (eligible (blocks old) old.order (Some id)) in
-      discards (Some id) k.count k.others (without id old.order) (without id new.order) (ap (without id) k.order ∙ tail_rest id (is_revived o) (without_all ids old.order) ∙ either_way id ids)
+      ap (without id) k.order ∙ tail_rest id (is_revived o) (without_all ids old.order) ∙ either_way id ids
+
+  pub resized : (id n : ℕ) (o : Object) (options : RoomOptions) → KeepsRest old id n o options new → OnlyLeave new (without id old.order) (without id new.order)
+  resized id n o options k = discards (Some id) k.count k.others (without id old.order) (without id new.order) (rest_resized id n o options k)
 
 module _ (old new : Handles) (is : AreHandles old) (call : Call) (answer : Answer) where
   unordered : Outcome old call answer new → may_order call ≡ false → OnlyLeave new.heap old.heap.order new.heap.order
@@ -126,31 +130,54 @@ module _ (old new : Handles) (is : AreHandles old) (call : Call) (answer : Answe
   about handle slot names found = subst (λ p. IsSomeAnd p (λ h. slot_of_handle old h ≡ Some slot)) (sym names) found
 
   abbrev Others : Type 0
-  Others = OthersStand (IsAbout old call) old.heap new.heap
+  Others = OthersStand (IsAbout old call) (next_slot old call answer new) old.heap new.heap
 
-  of_named : (handle slot : ℕ) → handle_in call ≡ Some handle → slot_of_handle old handle ≡ Some slot → without slot new.heap.order ≡ without slot old.heap.order → Others
-  of_named handle slot names found e = inr (slot, inl (about handle slot names found), stays old.heap new.heap (without slot old.heap.order) (without slot new.heap.order) e)
+  -- the others of an object that gets another size, and with it another slot
+  pub resized_leaves : (r : Resized old call answer new) → OnlyLeave new.heap (without r.slot old.heap.order) (without r.first new.heap.order)
+  resized_leaves r =
+      let k : KeepsRest old.heap r.slot (rounded_size r.size) r.object (realloc_options r.flags) r.heap = rest_of old new is call answer r in record {
+        gone = take k.count (eligible (blocks old.heap) old.heap.order (Some r.slot));
+        without_bytes = λ q t. no_bytes old new is call answer r q (was_there _ (object_at old.heap q) (k.others.discarded q t)) (gone_bytes old.heap r.heap (Some r.slot) k.count k.others q t);
+        order_is = order_is old new is call answer r ∙ rest_resized old.heap r.heap r.slot (rounded_size r.size) r.object (realloc_options r.flags) k;
+      }
+    where
+      was_there : (P : Object → Type 0) (p : Option Object) → IsSomeAnd p P → is_some p ≡ true
+      was_there P None h = absurd h
+      was_there P (Some o) h = refl
 
-  others : Outcome old call answer new → Others
-  others (IsSame s e) = inl (same old.heap new.heap (ap (λ (h : Handles). h.heap.order) e))
-  others (IsUnmoved s e) = inl (same old.heap new.heap (ap (λ (h : Handles). h.heap.order) e))
-  others (IsLocked l) = of_named l.handle l.slot (ap handle_in l.asked) l.named.found (ap (λ (h : Handles). without l.slot h.heap.order) l.rest ∙ touched_rest l.slot old.heap.order)
-  others (IsUnlocked u) = inl (same old.heap new.heap (ap (λ (h : Handles). h.heap.order) u.rest))
-  others (IsFreed f) = inl (freed old.heap new.heap f.slot (ap (λ (h : Handles). h.heap) f.rest))
-  others (IsNewest n) = of_named n.handle n.slot (ap handle_in n.asked) n.named.found (ap (λ (h : Handles). without n.slot h.heap.order) n.rest ∙ newest_rest n.slot old.heap.order)
-  others (IsOldest n) = of_named n.handle n.slot (ap handle_in n.asked) n.named.found (ap (λ (h : Handles). without n.slot h.heap.order) n.rest ∙ oldest_rest n.slot old.heap.order)
-  others (IsEntered e) = inl (same old.heap new.heap (ap (λ (h : Heap). h.order) e.entered.entered))
-  others (IsAllocated a) = inr (a.slot, inr (unused old is a.slot (slots_for (rounded_size a.size)) (some_slots (rounded_size a.size)) a.free), allocated old.heap new.heap is.heap a.slot a.count (alloc_options a.flags) a.object a.settled)
-  others (IsCompacted c) = inl (compacted old.heap new.heap is.heap c.count c.settled)
-  others (IsModified m) = of_named m.handle m.slot (ap handle_in m.asked) m.named.found m.changes.rest
-  others (IsDiscarded d) = of_named d.handle d.slot (ap handle_in d.asked) d.named.found (ap (λ (h : Handles). without d.slot h.heap.order) d.rest ∙ twice_out d.slot old.heap.order)
-  others (IsResized r) = inr (r.slot, inl (about r.handle r.slot (ap handle_in r.asked) r.named.found), resized old.heap new.heap r.slot (rounded_size r.size) r.object (realloc_options r.flags) (rest_of old new is call answer r))
+  others_resized : Resized old call answer new → Others
+  others_resized r = inr (r.slot, inl (about r.handle r.slot (ap handle_in r.asked) r.named.found), subst (λ s. OnlyLeave new.heap (without r.slot old.heap.order) (without s new.heap.order)) (sym (next_own old new is call answer r)) (resized_leaves r))
+
+  module _ (same_slot : (q : ℕ) → next_slot old call answer new q ≡ q) where
+    left_by : (slot : ℕ) → OnlyLeave new.heap (without slot old.heap.order) (without slot new.heap.order) → OnlyLeave new.heap (without slot old.heap.order) (without (next_slot old call answer new slot) new.heap.order)
+    left_by slot l = subst (λ s. OnlyLeave new.heap (without slot old.heap.order) (without s new.heap.order)) (sym (same_slot slot)) l
+
+    of_named : (handle slot : ℕ) → handle_in call ≡ Some handle → slot_of_handle old handle ≡ Some slot → without slot new.heap.order ≡ without slot old.heap.order → Others
+    of_named handle slot names found e = inr (slot, inl (about handle slot names found), left_by slot (stays old.heap new.heap (without slot old.heap.order) (without slot new.heap.order) e))
+
+    others : Outcome old call answer new → Others
+    others (IsSame s e) = inl (same old.heap new.heap (ap (λ (h : Handles). h.heap.order) e))
+    others (IsUnmoved s e) = inl (same old.heap new.heap (ap (λ (h : Handles). h.heap.order) e))
+    others (IsLocked l) = of_named l.handle l.slot (ap handle_in l.asked) l.named.found (ap (λ (h : Handles). without l.slot h.heap.order) l.rest ∙ touched_rest l.slot old.heap.order)
+    others (IsUnlocked u) = inl (same old.heap new.heap (ap (λ (h : Handles). h.heap.order) u.rest))
+    others (IsFreed f) = inl (freed old.heap new.heap f.slot (ap (λ (h : Handles). h.heap) f.rest))
+    others (IsNewest n) = of_named n.handle n.slot (ap handle_in n.asked) n.named.found (ap (λ (h : Handles). without n.slot h.heap.order) n.rest ∙ newest_rest n.slot old.heap.order)
+    others (IsOldest n) = of_named n.handle n.slot (ap handle_in n.asked) n.named.found (ap (λ (h : Handles). without n.slot h.heap.order) n.rest ∙ oldest_rest n.slot old.heap.order)
+    others (IsEntered e) = inl (same old.heap new.heap (ap (λ (h : Heap). h.order) e.entered.entered))
+    others (IsAllocated a) = inr (a.slot, inr (unused old is a.slot (slots_for (rounded_size a.size)) (some_slots (rounded_size a.size)) a.free), left_by a.slot (allocated old.heap new.heap is.heap a.slot a.count (alloc_options a.flags) a.object a.settled))
+    others (IsCompacted c) = inl (compacted old.heap new.heap is.heap c.count c.settled)
+    others (IsModified m) = of_named m.handle m.slot (ap handle_in m.asked) m.named.found m.changes.rest
+    others (IsDiscarded d) = of_named d.handle d.slot (ap handle_in d.asked) d.named.found (ap (λ (h : Handles). without d.slot h.heap.order) d.rest ∙ twice_out d.slot old.heap.order)
+    others (IsResized r) = others_resized r
 
 pub unordered_law : UnorderedLaw
 unordered_law old new call answer is m step = unordered old new is call answer (outcome old new call answer is step) m
 
 pub others_order_law : OthersOrderLaw
-others_order_law old new call answer is step = others old new is call answer (outcome old new call answer is step)
+others_order_law old new call answer is step = elim (followed old new call answer is step) [
+  | inl same_slot ↦ others old new is call answer same_slot (outcome old new call answer is step)
+  | inr r ↦ others_resized old new is call answer r
+]
 
 -- A new object.
 pub new_object_law : NewObjectLaw

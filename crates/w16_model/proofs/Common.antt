@@ -16,13 +16,13 @@ pub use Rattle.std.specs.Ordering.{eq_by_cmp, nat_cmp}
 pub use Rattle.w16_model.specs.Arrangement.{IsArrangement, IsFreeStretch, IsLongestStretch}
 pub use Rattle.w16_model.specs.Bytes.{part, put_part}
 unfoldable pub use Rattle.w16_model.specs.Bytes.{repeated}
-pub use Rattle.w16_model.specs.CallLaws.{BystandersLaw, ContentsLaw, FarEffect, FarEffectLaw, IsAbout, IsKeptOrDiscarded, IsMoved, IsNewestOf, IsSumOfMoved, IsWritten, KeepsContents, MovedLaw, NewObjectLaw, OnlyLeave, OthersOrderLaw, OthersStand, PinnedStayLaw, Reaches, ReadBackLaw, SlotsLaw, StillLaw, UnorderedLaw, UseLaw, handle_in, may_change, may_move_others, may_move_own, may_order, size_at}
+pub use Rattle.w16_model.specs.CallLaws.{AttributesLaw, BystandersLaw, ContentsLaw, FarEffect, FarEffectLaw, IsAbout, IsKeptOrDiscarded, IsMoved, IsNewestOf, IsSumOfMoved, IsWritten, KeepsContents, MovedLaw, NewObjectLaw, OnlyLeave, OthersOrderLaw, OthersStand, PinnedStayLaw, Reaches, ReadBackLaw, SlotsLaw, StillLaw, UnorderedLaw, UseLaw, handle_in, may_change, may_move_others, may_move_own, may_order, names, next_slot, size_at, slot_after}
 pub use Rattle.w16_model.specs.Calls.{Answer, GlobalAllocs, GlobalCompacts, HandleCommand, HandleStep, HasNoSlots, IsEmptyFixed, IsRefusedAlloc, IsTooLong, alloc_options, free_own, global_free, global_lock, global_unlock, handle_or_0, has_flag, is_absent_asked, kind_asked, locks_at, rounded_size}
 pub use Rattle.w16_model.specs.Calls.Answer.{Dword, Walked, Word}
 pub use Rattle.w16_model.specs.Calls.HandleCommand.{GetSelectorBase, GetSelectorLimit, GlobalAlloc, GlobalCompact, GlobalFlags, GlobalFree, GlobalHandle, GlobalLRUNewest, GlobalLRUOldest, GlobalLock, GlobalSize, GlobalUnlock, Moved, Walk}
 pub use Rattle.w16_model.specs.Changes.{absent, newest, oldest, removed, touched, update, with_newest, with_object, with_ordered, without}
 pub use Rattle.w16_model.specs.Discards.{blocks_without, eligible, fits_in_place, growth_for, is_about, is_member, is_pinned_id, needed, none_discarded_if, prefix_for, room_for, snapshot}
-pub use Rattle.w16_model.specs.Effects.{AnsweredLaw, DiscardLaw, FreeLaw, LockLaw, ModifyLaw, UnlockLaw}
+pub use Rattle.w16_model.specs.Effects.{AnsweredLaw, DiscardLaw, FreeLaw, HasNewSize, LockLaw, ModifyLaw, SizeLaw, UnlockLaw}
 pub use Rattle.w16_model.specs.Far.{FarAnswer, after_write, data_write, far_at, far_bytes, far_fault, far_part, far_read, far_slot, far_write, is_past}
 pub use Rattle.w16_model.specs.Far.FarAnswer.{Bytes, Done, Fault}
 pub use Rattle.w16_model.specs.Far.FarCommand.{Fill, Read, Write}
@@ -32,7 +32,7 @@ pub use Rattle.w16_model.specs.Handles.{AreHandles, AreRuns, Gives, Handles, IsF
 pub use Rattle.w16_model.specs.Heap.{Heap, IsCounted, IsHeap, IsMultiple, Object, block_of, blocks, bytes_at, empty_heap, hold_of_object, is_discardable, is_fixed, is_in_order, is_pinned_object, object_at, size_of}
 pub use Rattle.w16_model.specs.Law.{AddressLaw, AreAllOf, DiscardsAreLeast, EmptyLaw, FarLaw, GapListLaw, HandleLaw, HoleAfterLaw, HoleIsLongest, KeepsOthers, LargestLaw, LeastLaw, LongerLaw, MoreDiscardsLaw, NamesLaw, NoStretch, OthersLaw, OutcomeLaw, OwnerLaw, PinnedLaw, RangeLaw, ReachLaw, RisingLaw, RoomLaw, SoundLaw, StandsStill, WalkLaw, all_pinned}
 pub use Rattle.w16_model.specs.OneObject.{Enters, after_discard, after_free, after_lock, after_modify, after_touch, after_unlock, refused_order}
-pub use Rattle.w16_model.specs.Outcomes.{Call, CallOutcomesLaw, IsNamed, Orders, Outcome, Resized, attributes_asked, counts_moved}
+pub use Rattle.w16_model.specs.Outcomes.{Call, CallOutcomesLaw, CallStep, IsNamed, Orders, Outcome, Resized, attributes_asked, counts_moved}
 pub use Rattle.w16_model.specs.Outcomes.Call.{Calls, ReAllocs}
 pub use Rattle.w16_model.specs.Outcomes.Outcome.{IsAllocated, IsCompacted, IsDiscarded, IsEntered, IsFreed, IsLocked, IsModified, IsNewest, IsOldest, IsResized, IsSame, IsUnlocked, IsUnmoved}
 pub use Rattle.w16_model.specs.Owned.{is_owned, owns, refuses_write}

@@ -1,12 +1,12 @@
 -- An answered reallocation of an object to n bytes: its object has the run of slots that these need, and what is left are handles.
-use Rattle.w16_model.proofs.Common.{◌≡◌, ◌≢◌, ℕ, ◌+◌, ◌-◌, ◌<◌, ◌≤◌, inl, inr, Bool, true, false, cond, ◌==◌, if◌then◌else◌, nat_lt, IfSome, IsSomeAnd, List, [], map, take, Option, Some, None, unwrap_or, is_some, refl, sym, ap, ◌∙◌, subst, arith, eq-eqb, ne_eqb, ltb-true, ltb-false, nat_cmp, FinMap, false≢true, cases_Bool, cases_eq, Discardable, RoomOptions, Attributes, FIRST_SLOT, REACH, eligible, is_member, Heap, Object, IsHeap, blocks, object_at, bytes_at, Reallocates, Handles, AreHandles, IsRun, IsSized, IsFreeSlot, slots_at, slots_for, owner_of, AreResized, KeepsRest, CanExtend, GetsRun, rekeyed, rehoused, with_run}
+use Rattle.w16_model.proofs.Common.{◌≡◌, ◌≢◌, ℕ, ◌+◌, ◌-◌, ◌<◌, ◌≤◌, inl, inr, Bool, true, false, cond, ◌==◌, if◌then◌else◌, nat_lt, IfSome, IsSomeAnd, List, [], map, take, Option, Some, None, unwrap_or, is_some, refl, sym, ap, ◌∙◌, subst, arith, eq-eqb, ne_eqb, ltb-true, ltb-false, nat_cmp, FinMap, false≢true, cases_Bool, cases_eq, Discardable, RoomOptions, Attributes, FIRST_SLOT, REACH, eligible, is_member, Heap, Object, IsHeap, blocks, object_at, bytes_at, without, Reallocates, Handles, AreHandles, IsRun, IsSized, IsFreeSlot, slots_at, slots_for, owner_of, AreResized, KeepsRest, CanExtend, GetsRun, rekeyed, rehoused, with_run}
 use Rattle.std.specs.FinMap as finmap
 use Rattle.w16_model.specs.Reallocation.{IsResized}
 use Rattle.w16_model.specs.Owned.{owned_at, owned_in}
 use Rattle.w16_model.specs.declared.Owned.{Owned}
 use Rattle.w16_model.proofs.KeptHeaps.{bytes_in, inserted_here, inserted_other, taken_here, taken_other}
 use Rattle.w16_model.proofs.Runs.{IsIn, no_owner, none_owns, one_owner, first_in, was_in, not_gone, slots_of, slots_with, slots_beside, slots_left, runs_with, runs_without, some_slots, unused}
-use Rattle.w16_model.proofs.Rehoused.{swap_to, swap_from, swap_other, object_there, rehoused_heap, new as moved_heap}
+use Rattle.w16_model.proofs.Rehoused.{swap, swap_to, swap_from, swap_other, object_there, place_there, order_there as order_moved, rehoused_heap, new as moved_heap}
 use Rattle.w16_model.proofs.KeptHandles.{sized_is}
 use Rattle.w16_model.proofs.Reallocations.{heap_law}
 use Rattle.w16_model.proofs.KeptRest.{rest_law}
@@ -53,15 +53,15 @@ module _ (old : Handles) (is : AreHandles old) (slot n : ℕ) (options : RoomOpt
       gone (Some o) h = (ap is_some h.3, sized_is refl (ap bytes_in h.3) tt)
 
   -- a new first slot had none
-  free_there : slot ≢ first → object_at heap first ≡ None
-  free_there d = turn (object_at heap first) refl ((kept first (λ e. d (sym e))).0 ∙ ap is_some none)
-    where
-      none : object_at old.heap first ≡ None
-      none = elim gets [
-        | inl here ↦ absurd (d (sym here.1))
-        | inr goes ↦ unused old is first (slots_for n) (some_slots n) goes.2
-      ]
+  pub was_free : slot ≢ first → object_at old.heap first ≡ None
+  was_free d = elim gets [
+    | inl here ↦ absurd (d (sym here.1))
+    | inr goes ↦ unused old is first (slots_for n) (some_slots n) goes.2
+  ]
 
+  free_there : slot ≢ first → object_at heap first ≡ None
+  free_there d = turn (object_at heap first) refl ((kept first (λ e. d (sym e))).0 ∙ ap is_some (was_free d))
+    where
       turn : (p : Option Object) → object_at heap first ≡ p → is_some p ≡ false → object_at heap first ≡ None
       turn None e f = e
       turn (Some o) e f = absurd (false≢true (sym f))
@@ -110,21 +110,44 @@ module _ (old : Handles) (is : AreHandles old) (slot n : ℕ) (options : RoomOpt
     | inr d ↦ object_of d q ∙ object_there slot first d heap sound (free_there d) q ∙ ap (object_at heap) (swap_other slot first d q c b)
   ]
 
+  -- its addresses
+  place_of : (d : slot ≢ first) (q : ℕ) → finmap.get housed.places q ≡ finmap.get heap.places (swap slot first d q)
+  place_of d q = ap (λ (h : Heap). finmap.get h.places q) (housed_there d) ∙ place_there slot first d heap sound (free_there d) q
+
+  pub place_first : finmap.get housed.places first ≡ finmap.get heap.places slot
+  place_first = elim (cases_eq slot first) [
+    | inl e ↦ ap (λ (h : Heap). finmap.get h.places first) (housed_here e) ∙ ap (finmap.get heap.places) (sym e)
+    | inr d ↦ place_of d first ∙ ap (finmap.get heap.places) (swap_to slot first d first refl)
+  ]
+
+  pub place_other : (q : ℕ) → q ≢ first → q ≢ slot → finmap.get housed.places q ≡ finmap.get heap.places q
+  place_other q c b = elim (cases_eq slot first) [
+    | inl e ↦ ap (λ (h : Heap). finmap.get h.places q) (housed_here e)
+    | inr d ↦ place_of d q ∙ ap (finmap.get heap.places) (swap_other slot first d q c b)
+  ]
+
+  -- and the order of use, in which the others stand as they did
+  pub order_there : without first housed.order ≡ without slot heap.order
+  order_there = elim (cases_eq slot first) [
+    | inl e ↦ ap (λ (h : Heap). without first h.order) (housed_here e) ∙ ap (λ k. without k heap.order) (sym e)
+    | inr d ↦ ap (λ (h : Heap). without first h.order) (housed_there d) ∙ order_moved slot first d heap sound (free_there d)
+  ]
+
   -- Its attributes.
-  abbrev left : FinMap nat_cmp Attributes
+  abbrev pub left : FinMap nat_cmp Attributes
   left = finmap.remove old.attributes slot
 
-  had : (a : Attributes) × (finmap.get old.attributes slot ≡ Some a)
+  pub had : (a : Attributes) × (finmap.get old.attributes slot ≡ Some a)
   had = turn (finmap.get old.attributes slot) refl (has_attributes old is slot o there)
     where
       turn : (p : Option Attributes) → finmap.get old.attributes slot ≡ p → is_some p ≡ true → (a : Attributes) × (finmap.get old.attributes slot ≡ Some a)
       turn None e t = absurd (false≢true t)
       turn (Some a) e t = (a, e)
 
-  abbrev given : Attributes
+  abbrev pub given : Attributes
   given = record had.0 { slots = slots_for n }
 
-  run_is : with_run old.attributes slot first (slots_for n) ≡ finmap.insert left first given
+  pub run_is : with_run old.attributes slot first (slots_for n) ≡ finmap.insert left first given
   run_is = ap (λ p. elim p as (λ _. FinMap nat_cmp Attributes) [ Some a ↦ finmap.insert left first (record a { slots = slots_for n }) | None ↦ old.attributes ]) had.1
 
   -- a slot that has no owner has none once a run is gone, and neither have the slots of that run

@@ -48,5 +48,6 @@ pub mod CallLaws
 pub mod FarLaws
 pub mod CallOrders
 pub mod Bystanders
+pub mod NewSize
 pub mod Effects
 pub mod AtEnds

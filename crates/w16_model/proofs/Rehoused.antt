@@ -1,6 +1,6 @@
 -- An object under another slot: the heap is one still.
 use Rattle.std.specs.List.{AllByRecursion as Each}
-use Rattle.w16_model.proofs.Common.{◌≡◌, ◌≢◌, ℕ, ◌*◌, ◌<◌, ◌≤◌, inl, inr, false, cond, ◌||◌, ◌==◌, if◌then◌else◌, IfSome, List, [], ◌∷◌, map, All, Option, Some, None, is_some, unwrap_or, refl, sym, ap, ◌∙◌, subst, eq-eqb, ne_eqb, nat_cmp, FinMap, false≢true, cases_eq, Block, block_end, is_member, Heap, IsHeap, IsCounted, blocks, object_at, is_in_order, rekeyed}
+use Rattle.w16_model.proofs.Common.{◌≡◌, ◌≢◌, ℕ, ◌*◌, ◌<◌, ◌≤◌, inl, inr, false, cond, not, ◌||◌, ◌==◌, if◌then◌else◌, IfSome, List, [], ◌∷◌, map, All, Option, Some, None, is_some, unwrap_or, refl, sym, ap, ◌∙◌, subst, eq-eqb, ne_eqb, nat_cmp, FinMap, false≢true, cases_eq, Block, block_end, is_member, Heap, IsHeap, IsCounted, blocks, object_at, is_in_order, without, rekeyed}
 use Rattle.std.specs.FinMap as finmap
 use Rattle.w16_model.proofs.Gaps.{EachPair, Each-at, Each-from, Each-from_All, All-from_Each, EachPair-from_AllPairs, AllPairs-from_EachPair}
 use Rattle.w16_model.proofs.Heaps.{IsBlockOf, block_member, member_block}
@@ -89,6 +89,17 @@ module _ (from to : ℕ) (another : from ≢ to) where
     ]
   ]
 
+  -- the others stand as they did
+  rest_moved : (ids : List ℕ) → Each (λ q. q ≢ to) ids → without to (map moved ids) ≡ without from ids
+  rest_moved [] h = refl
+  rest_moved (r ∷ ids) h = elim (cases_eq r from) [
+    | inl e ↦ (λ i. cond {A = List ℕ} (not (eq-eqb (moved r) to (moved_from r e) i)) (moved r ∷ without to (map moved ids)) (without to (map moved ids))) ∙ rest_moved ids h.1
+        ∙ sym (λ i. cond {A = List ℕ} (not (eq-eqb r from e i)) (r ∷ without from ids) (without from ids))
+    | inr c ↦ (λ i. cond {A = List ℕ} (not (ne_eqb (moved r) to (λ g. h.0 (sym (moved_other r c) ∙ g)) i)) (moved r ∷ without to (map moved ids)) (without to (map moved ids)))
+        ∙ (λ i. moved_other r c i ∷ rest_moved ids h.1 i)
+        ∙ sym (λ i. cond {A = List ℕ} (not (ne_eqb r from c i)) (r ∷ without from ids) (without from ids))
+  ]
+
   each_moved : (q : ℕ) → q ≢ to → (ids : List ℕ) → Each (λ r. r ≢ to) ids → Each (λ r. q ≡ r → ⊥) ids → Each (λ r. moved q ≡ r → ⊥) (map moved ids)
   each_moved q out [] h d = tt
   each_moved q out (r ∷ ids) h d = (one_moved q r out h.0 d.0, each_moved q out ids h.1 d.1)
@@ -115,8 +126,11 @@ module _ (from to : ℕ) (another : from ≢ to) where
     pub object_there : (q : ℕ) → object_at new q ≡ object_at old (swap q)
     object_there q = rekeyed_at old.objects free q
 
-    place_there : (q : ℕ) → finmap.get new.places q ≡ finmap.get old.places (swap q)
+    pub place_there : (q : ℕ) → finmap.get new.places q ≡ finmap.get old.places (swap q)
     place_there q = rekeyed_at old.places no_place q
+
+    pub order_there : without to new.order ≡ without from old.order
+    order_there = rest_moved old.order out_of_order
 
     -- each block is one of old's under another id
     was_block : (x : Block) → IsBlockOf new x → IsBlockOf old (record x { id = swap x.id })

@@ -1,6 +1,6 @@
 -- The laws of each step on handles: what it keeps, what it counts, how it orders, what happens to objects that it isn't about. None says what
 -- the definitions of the calls say: each counts, lists and compares once more.
-use Rattle.std.specs.Prelude.{◌==◌, ◌&&◌, ◌≡◌, ◌≢◌, ℕ, ◌+◌, ◌*◌, ◌<◌, ◌≤◌, ◌⊎◌, ◌↔◌, Bool, true, false, not, List, [], ◌∷◌, ◌++◌, length, take, drop, sum_by, AllPairs, Option, Some, None, IsSomeAnd, is_some, option_map, unwrap_or}
+use Rattle.std.specs.Prelude.{◌==◌, ◌&&◌, ◌≡◌, ◌≢◌, ℕ, ◌+◌, ◌*◌, ◌<◌, ◌≤◌, ◌⊎◌, ◌↔◌, Bool, true, false, not, if◌then◌else◌, List, [], ◌∷◌, ◌++◌, length, take, drop, sum_by, AllPairs, Option, Some, None, IsSomeAnd, is_some, option_map, unwrap_or}
 use Rattle.std.specs.FinMap as finmap
 use Rattle.w16_model.specs.declared.Kind.TheVariants.{Discardable}
 use Rattle.w16_model.specs.declared.TheConstants.{REACH, GMEM_MOVEABLE, GMEM_NOCOMPACT, GMEM_MODIFY}
@@ -35,6 +35,22 @@ handle_in (ReAllocs handle size flags) = Some handle
 abbrev pub IsAbout : Handles → Call → ℕ → Type 0
 IsAbout old call q = IsSomeAnd (handle_in call) (λ handle. slot_of_handle old handle ≡ Some q)
 
+-- Where an object goes.
+
+-- whether a handle is that of a slot's object
+abbrev pub names : Handles → ℕ → ℕ → Bool
+names handles handle slot = unwrap_or (option_map (λ q. q == slot) (slot_of_handle handles handle)) false
+
+-- the slot of the object whose handle this is, or else the slot given
+abbrev pub slot_after : Handles → ℕ → ℕ → ℕ
+slot_after handles handle slot = unwrap_or (slot_of_handle handles handle) slot
+
+-- the slot that an object has after a call: the object whose handle is given to a reallocation is that of the handle answered, and every other
+-- object keeps its slot
+abbrev pub next_slot : Handles → Call → Answer → Handles → ℕ → ℕ
+next_slot old (ReAllocs handle size flags) (Word answer) new slot = if names old handle slot then slot_after new answer slot else slot
+next_slot old call answer new slot = slot
+
 -- What is kept.
 
 -- whether a call may change an address, a byte or a share bit: one that asks for room or another size, or frees
@@ -61,23 +77,23 @@ SlotsLaw = (old new : Handles) (call : Call) (answer : Answer) → AreHandles ol
 
 -- The bytes moved.
 
--- an object has bytes before and after, at two addresses
-abbrev pub IsMoved : Heap → Heap → ℕ → Type 0
-IsMoved old new q = (from : ℕ) × (to : ℕ) × (finmap.get old.places q ≡ Some from) × (finmap.get new.places q ≡ Some to) × (from ≢ to)
+-- an object has bytes before and after, at two addresses, where this tells each object's slot after
+abbrev pub IsMoved : Heap → Heap → (ℕ → ℕ) → ℕ → Type 0
+IsMoved old new next q = (from : ℕ) × (to : ℕ) × (finmap.get old.places q ≡ Some from) × (finmap.get new.places (next q) ≡ Some to) × (from ≢ to)
 
 abbrev pub size_at : Heap → ℕ → ℕ
 size_at heap q = unwrap_or (option_map length (bytes_at heap q)) 0
 
 -- n is the sum of the sizes of all such, each counted once
-pub record IsSumOfMoved (old new : Heap) (n : ℕ) : Type 0 where
+pub record IsSumOfMoved (old new : Heap) (next : ℕ → ℕ) (n : ℕ) : Type 0 where
   pub ids : List ℕ
   pub once : AllPairs (λ a b. a ≡ b → ⊥) ids
-  pub each : (q : ℕ) → (is_member q ids ≡ true) ↔ IsMoved old new q
+  pub each : (q : ℕ) → (is_member q ids ≡ true) ↔ IsMoved old new next q
   pub sum : n ≡ sum_by (size_at old) ids
 
 -- the three calls that count tell it, and 0 where they are refused; no other call changes it
 pub record CountsMoved (old : Handles) (call : Call) (answer : Answer) (new : Handles) : Type 0 where
-  pub counted : counts_moved call ≡ true → IsSumOfMoved old.heap new.heap new.moved
+  pub counted : counts_moved call ≡ true → IsSumOfMoved old.heap new.heap (next_slot old call answer new) new.moved
   pub refused : counts_moved call ≡ true → answer ≡ Word 0 → new.moved ≡ 0
   pub other : counts_moved call ≡ false → new.moved ≡ old.moved
 
@@ -124,13 +140,15 @@ may_order (ReAllocs handle size flags) = true
 abbrev pub UnorderedLaw : Type 0
 UnorderedLaw = (old new : Handles) (call : Call) (answer : Answer) → AreHandles old → may_order call ≡ false → CallStep old call answer new → OnlyLeave new.heap old.heap.order new.heap.order
 
--- All that stay stand as they did, but for an object that the step is about, or one that comes new.
-abbrev pub OthersStand : (ℕ → Type 0) → Heap → Heap → Type 0
-OthersStand is_about old new = OnlyLeave new old.order new.order ⊎ ((id : ℕ) × (is_about id ⊎ (object_at old id ≡ None)) × OnlyLeave new (without id old.order) (without id new.order))
+-- All that stay stand as they did, but for an object that the step is about, or one that comes new; this tells each object's slot after.
+abbrev pub OthersStand : (ℕ → Type 0) → (ℕ → ℕ) → Heap → Heap → Type 0
+OthersStand is_about next old new =
+    OnlyLeave new old.order new.order
+    ⊎ ((id : ℕ) × (is_about id ⊎ (object_at old id ≡ None)) × OnlyLeave new (without id old.order) (without (next id) new.order))
 
 -- and every call leaves those that it isn't about so
 abbrev pub OthersOrderLaw : Type 0
-OthersOrderLaw = (old new : Handles) (call : Call) (answer : Answer) → AreHandles old → CallStep old call answer new → OthersStand (IsAbout old call) old.heap new.heap
+OthersOrderLaw = (old new : Handles) (call : Call) (answer : Answer) → AreHandles old → CallStep old call answer new → OthersStand (IsAbout old call) (next_slot old call answer new) old.heap new.heap
 
 -- Objects that a call isn't about.
 
@@ -143,6 +161,10 @@ IsKeptOrDiscarded old new q =
 -- each object that a call isn't about is so
 abbrev pub BystandersLaw : Type 0
 BystandersLaw = (old new : Handles) (call : Call) (answer : Answer) (q : ℕ) → AreHandles old → CallStep old call answer new → is_some (object_at old.heap q) ≡ true → (IsAbout old call q → ⊥) → IsKeptOrDiscarded old.heap new.heap q
+
+-- and it keeps its attributes: who shares it, whose it is and how many slots it has
+abbrev pub AttributesLaw : Type 0
+AttributesLaw = (old new : Handles) (call : Call) (answer : Answer) (q : ℕ) → AreHandles old → CallStep old call answer new → is_some (object_at old.heap q) ≡ true → (IsAbout old call q → ⊥) → finmap.get new.attributes q ≡ finmap.get old.attributes q
 
 -- whether a call may move a fixed or locked object, or take it away: its own reallocation with GMEM_MOVEABLE to a size above 0, and GlobalFree
 abbrev pub may_move_own : Call → Bool

@@ -1,14 +1,15 @@
 -- What a call does to the object that its handle names, and what it answers, where nothing refuses it; and when a far access is answered.
-use Rattle.std.specs.Prelude.{◌≡◌, ◌≢◌, ℕ, ◌+◌, ◌*◌, ◌-◌, ◌<◌, ◌≤◌, Bool, true, false, if◌then◌else◌, nat_lt, List, length, Some, None, is_some}
+use Rattle.std.specs.Prelude.{◌≡◌, ◌≢◌, ℕ, ◌+◌, ◌*◌, ◌-◌, ◌<◌, ◌≤◌, Bool, true, false, if◌then◌else◌, nat_lt, List, length, Some, None, is_some, IsSomeAnd}
 use Rattle.w16_model.specs.declared.TheConstants.{REACH, GMEM_MOVEABLE, GMEM_MODIFY}
 use Rattle.w16_model.specs.declared.FarFault.{FarFault}
 use Rattle.w16_model.specs.Heap.{Object, object_at, bytes_at, is_fixed, is_discardable}
-use Rattle.w16_model.specs.Handles.{Handles, AreHandles, Part, part_of_selector, selector_of, selector_in, offset_in, far_pointer}
+use Rattle.w16_model.specs.Handles.{Handles, AreHandles, Part, slot_of_handle, part_of_selector, selector_of, selector_in, offset_in, far_pointer}
 use Rattle.w16_model.specs.Owned.{owns, refuses_write}
-use Rattle.w16_model.specs.Calls.{Answer, HandleStep, has_flag}
+use Rattle.w16_model.specs.Reallocation.{IsResized}
+use Rattle.w16_model.specs.Calls.{Answer, HandleStep, has_flag, rounded_size}
 use Rattle.w16_model.specs.Calls.Answer.{Word, Dword}
 use Rattle.w16_model.specs.Calls.HandleCommand.{GlobalFree, GlobalLock, GlobalUnlock}
-use Rattle.w16_model.specs.Resizes.{GlobalReAllocs, kind_modified}
+use Rattle.w16_model.specs.Resizes.{GlobalReAllocs, kind_modified, realloc_options}
 use Rattle.w16_model.specs.Outcomes.{IsNamed}
 use Rattle.w16_model.specs.Far.{FarCommand, FarAnswer, FarStep}
 use Rattle.w16_model.specs.Far.FarCommand.{Read, Write, Fill}
@@ -38,6 +39,15 @@ ModifyLaw = (old new : Handles) (handle slot size flags : ℕ) (o : Object) (ans
 abbrev pub DiscardLaw : Type 0
 DiscardLaw = (old new : Handles) (handle slot flags : ℕ) (o : Object) (answer : ℕ) → IsNamed old handle slot o → owns old handle ≡ false → has_flag flags GMEM_MODIFY ≡ false → has_flag flags GMEM_MOVEABLE ≡ true
     → is_discardable o.kind ≡ true → o.locks ≡ 0 → GlobalReAllocs old handle 0 flags answer new → (object_at new.heap slot ≡ Some (record o { bytes = None })) × (answer ≡ handle)
+
+-- a handle's object is another at another size: so many bytes, the old ones first, and its kind and its locks
+abbrev pub HasNewSize : Handles → ℕ → Bool → ℕ → Object → Type 0
+HasNewSize handles handle zero n before = IsSomeAnd (slot_of_handle handles handle) (λ slot. IsSomeAnd (object_at handles.heap slot) (IsResized zero n before))
+
+-- a reallocation to a size above 0 that isn't NULL gives the object this size, rounded up, under the handle that it answers
+abbrev pub SizeLaw : Type 0
+SizeLaw = (old new : Handles) (handle slot size flags : ℕ) (o : Object) (answer : ℕ) → AreHandles old → IsNamed old handle slot o → has_flag flags GMEM_MODIFY ≡ false → 0 < size → answer ≢ 0
+    → GlobalReAllocs old handle size flags answer new → HasNewSize new answer (realloc_options flags).zero (rounded_size size) o
 
 -- how many bytes an access asks for, and whether it writes
 abbrev pub count_in : FarCommand → ℕ

@@ -28,7 +28,7 @@ pub record AreFigures : Type 0 where
   pub first_slot : FIRST_SLOT ≡ 32
   pub most_slots : MOST_SLOTS ≡ 8160
   pub grain : GRAIN ≡ 32
-  pub largest_size : LARGEST_SIZE ≡ 65536
+  pub largest_size : LARGEST_SIZE ≡ 16711680
   pub reach : REACH ≡ 65536
 
 -- the flags of GlobalAlloc and GlobalFlags, as the manual has them (GMEM_DISCARDED: GlobalFlags alone)

@@ -2,8 +2,8 @@
 ghost use Rattle.w16_model.specs.Law.{AreFigures, AreFlags, AddressLaw, OutcomeLaw, GapListLaw, RisingLaw, LongestHoleLaw, HoleAfterLaw, PinnedLaw, LargestLaw, RoomLaw, LongerLaw, LeastLaw, MoreDiscardsLaw, DiscardedLaw, OthersLaw, WalkLaw, SoundLaw, RangeLaw, NamesLaw, OwnerLaw, ReachLaw, EmptyLaw, HandleLaw, FarLaw};
 ghost use Rattle.w16_model.specs.Fewest.{AllocationLaw, CompactionLaw, GlobalAllocLaw, GlobalCompactLaw};
 ghost use Rattle.w16_model.specs.Reallocation.{HeapLaw, KindHeapLaw, DiscardHeapLaw, RestLaw, FewestLaw, MovesLaw, OneOutcomeLaw, KindLaw, LeftOutLaw};
-ghost use Rattle.w16_model.specs.CallLaws.{ContentsLaw, SlotsLaw, MovedLaw, BystandersLaw, PinnedStayLaw, StillLaw, UseLaw, NewObjectLaw, UnorderedLaw, OthersOrderLaw, FarEffectLaw, ReadBackLaw};
-ghost use Rattle.w16_model.specs.Effects.{LockLaw, UnlockLaw, FreeLaw, ModifyLaw, DiscardLaw, AnsweredLaw};
+ghost use Rattle.w16_model.specs.CallLaws.{ContentsLaw, SlotsLaw, MovedLaw, BystandersLaw, AttributesLaw, PinnedStayLaw, StillLaw, UseLaw, NewObjectLaw, UnorderedLaw, OthersOrderLaw, FarEffectLaw, ReadBackLaw};
+ghost use Rattle.w16_model.specs.Effects.{LockLaw, UnlockLaw, FreeLaw, ModifyLaw, DiscardLaw, SizeLaw, AnsweredLaw};
 ghost use Rattle.w16_model.specs.Outcomes.{CallOutcomesLaw};
 ghost use Rattle.w16_model.specs.Resizes.{ResizeLaw, NullLaw, ResizeFewestLaw, OneSlotLaw, OldHandleLaw};
 
@@ -191,17 +191,18 @@ pub fn calls_keep_contents()
     ensures slots { SlotsLaw }
 {}
 
-/// The number of bytes moved is the sum of the sizes of the objects whose address changed, told by each of the three calls that ask for room
-/// or another size, and 0 where they are refused; no other call changes it.
+/// The number of bytes moved is the sum of the sizes of the objects whose address changed, whichever handle they have then, told by each of the
+/// three calls that ask for room or another size, and 0 where they are refused; no other call changes it.
 pub fn moved_bytes_are_counted()
     ensures { MovedLaw }
 {}
 
-/// An object that a call isn't about stays as it is, or it is discardable and not locked, and loses its bytes alone. A fixed or locked one keeps
-/// its address through every call but its own reallocation with `GMEM_MOVEABLE`, and every other through calls that ask for no room, or with
-/// `GMEM_NOCOMPACT`.
+/// An object that a call isn't about stays as it is, or it is discardable and not locked, and loses its bytes alone; it keeps its attributes. A
+/// fixed or locked one keeps its address through every call but its own reallocation with `GMEM_MOVEABLE`, and every other through calls that
+/// ask for no room, or with `GMEM_NOCOMPACT`.
 pub fn calls_keep_bystanders()
     ensures objects { BystandersLaw }
+    ensures attributes { AttributesLaw }
     ensures pinned { PinnedStayLaw }
     ensures still { StillLaw }
 {}
@@ -230,5 +231,6 @@ pub fn calls_do_what_they_are_for()
     ensures frees { FreeLaw }
     ensures kinds { ModifyLaw }
     ensures discards { DiscardLaw }
+    ensures sizes { SizeLaw }
     ensures accesses { AnsweredLaw }
 {}

@@ -128,7 +128,7 @@ pub const MOST_SLOTS: u32 = 8160;
 pub const GRAIN: u32 = 32;
 
 /// The most bytes that `GlobalAlloc` gives.
-pub const LARGEST_SIZE: u32 = 65_536;
+pub const LARGEST_SIZE: u32 = 16_711_680;
 
 /// A selector reaches so many bytes of its object; those behind them are reached by the next one.
 pub const REACH: u32 = 65_536;

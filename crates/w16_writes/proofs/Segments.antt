@@ -1,5 +1,5 @@
 -- Steps of loading: what they leave of the bytes of global objects, and what far accesses put there and read.
-use Rattle.w16_loading.proofs.Common.{◌≡◌, ◌≢◌, ℕ, ◌+◌, ◌*◌, ◌⊎◌, inl, inr, Bool, true, false, MatchBool, MatchOption, IsSomeAnd, List, length, Option, Some, None, is_some, refl, sym, ap, ◌∙◌, subst, arith, drop, ◌<◌, cases_eq, part, repeated, Heap, Object, object_at, bytes_at, bytes_in, Handles, AreHandles, selector_in, offset_in, FarAnswer, FarCommand, Write, Fill, far_slot, AnyFetches, FarStep, Accesses, far_read, far_write, gives, needs_fetch, reply_of_far, is_of_read, IsLoadingWorld, LoadingWorld, LoadingCommand, OfHandles, OfResizes, OfFar, OfModules, OfResources, FindResource, LoadResource, LockResource, FreeResource, SizeofResource, Reply, Failed, Dword, Load, LocksResource, lock_outcome, locked, slot_of_resource, global_lock, GlobalLock, Calls, ReAllocs, CallStep, Call, ResizeCommand, ResizeReplies, ResizeStep, GlobalReAlloc, GlobalDiscard, GMEM_MOVEABLE, answer_in, call_outcome, outcome, contents, IsStepAbout}
+use Rattle.w16_loading.proofs.Common.{◌≡◌, ◌≢◌, ℕ, ◌+◌, ◌*◌, ◌⊎◌, inl, inr, Bool, true, false, MatchBool, MatchOption, IsSomeAnd, List, length, Option, Some, None, is_some, refl, sym, ap, ◌∙◌, subst, arith, drop, ◌<◌, cases_eq, part, repeated, Heap, Object, object_at, bytes_at, bytes_in, Handles, AreHandles, selector_in, offset_in, FarAnswer, FarCommand, Write, Fill, far_slot, AnyFetches, FarStep, Accesses, far_read, far_write, gives, needs_fetch, reply_of_far, is_of_read, IsLoadingWorld, LoadingWorld, LoadingCommand, OfHandles, OfResizes, OfFar, OfModules, OfResources, FindResource, LoadResource, LockResource, FreeResource, SizeofResource, Reply, Failed, Dword, Load, LocksResource, lock_outcome, locked, slot_of_resource, global_lock, GlobalLock, Calls, CallStep, ResizeCommand, ResizeReplies, ResizeStep, GlobalReAlloc, GlobalDiscard, HandleCommand, answer_in, call_of, call_outcome, contents, IsStepAbout}
 use Rattle.std.specs.Prelude.{min}
 use Rattle.std.specs.List.{slice_get}
 use Rattle.std.proofs.lemmas.Option.{slice_get_within}
@@ -7,7 +7,7 @@ use Rattle.std.proofs.lemmas.List.{length-take}
 use Rattle.w16_model.specs.declared.FarFault.{FarFault}
 use Rattle.w16_model.specs.Far.FarAnswer.{Bytes, Done, Fault}
 use Rattle.w16_model.specs.Far.FarCommand.{Read}
-use Rattle.w16_model.specs.CallLaws.{FarEffect, IsWritten, Reaches}
+use Rattle.w16_model.specs.CallLaws.{FarEffect, IsWritten, Reaches, next_slot}
 use Rattle.w16_model.proofs.FarLaws.{far_effect_law}
 use Rattle.w16_model.specs.declared.TheConstants.{REACH}
 use Rattle.w16_model.specs.Handles.{Part, part_of_selector}
@@ -18,14 +18,13 @@ use Rattle.w16_loading.specs.AnyStore.{AnyStep}
 use Rattle.w16_loading.specs.declared.FetchFault.TheVariants as faults
 use Rattle.w16_loading.proofs.Bystanders.{bystanders_law}
 use Rattle.w16_loading.proofs.CallsKept.{answered}
-use Rattle.w16_loading.proofs.Owners.{some_of}
 use Rattle.w16_loading.proofs.FetchWorlds.{fetched_world}
 use Rattle.w16_loading.proofs.Fillings.{one_does}
 use Rattle.w16_loading.proofs.Spared.{fetch_spares}
 use Rattle.w16_machine.specs.Machine.Command.{OfLoading}
-use Rattle.w16_writes.specs.LastWrite.{Access, byte_in, read, written}
+use Rattle.w16_writes.specs.LastWrite.{Access, byte_in, read, slot_after_step, written}
 use Rattle.w16_writes.proofs.Bytes.{Agree, agree_new, agree_same, get-part, get-written, get-unwritten}
-use Rattle.w16_writes.proofs.Calls.{HeapsAgree, call_agrees, had_no_object, kept_agrees, no_object}
+use Rattle.w16_writes.proofs.Calls.{HeapsAgree, call_agrees, goes_free, had_no_object, kept_agrees, no_object}
 
 -- an access has this byte at a place of a slot's object
 pub record HasIn (h : Handles) (slot i byte : ℕ) (access : Access) : Type 0 where
@@ -35,20 +34,31 @@ pub record HasIn (h : Handles) (slot i byte : ℕ) (access : Access) : Type 0 wh
   pub place : i ≡ REACH * number + offset_in access.pointer + index
   pub has : slice_get access.bytes index ≡ Some byte
 
--- What a step puts is there, what it reads was there, and elsewhere bytes agree.
+-- What a step puts is there, what it reads was there, and elsewhere bytes agree, each object's at its slot after the step.
 pub record KeepsSegments (old new : Handles) (command : LoadingCommand) (reply : Reply) : Type 0 where
   pub put : (slot i byte : ℕ) → is_some (byte_in (bytes_at new.heap slot) i) ≡ true → IsSomeAnd (written (OfLoading command) reply) (HasIn new slot i byte) → byte_in (bytes_at new.heap slot) i ≡ Some byte
   pub got : (slot i byte : ℕ) → is_some (byte_in (bytes_at old.heap slot) i) ≡ true → IsSomeAnd (read (OfLoading command) reply) (HasIn old slot i byte) → byte_in (bytes_at old.heap slot) i ≡ Some byte
-  pub kept : (slot i : ℕ) → is_some (byte_in (bytes_at old.heap slot) i) ≡ true → is_some (byte_in (bytes_at new.heap slot) i) ≡ true → ((byte : ℕ) → IsSomeAnd (written (OfLoading command) reply) (HasIn new slot i byte) → ⊥)
-      → byte_in (bytes_at new.heap slot) i ≡ byte_in (bytes_at old.heap slot) i
+  pub kept : (slot i : ℕ) → is_some (byte_in (bytes_at old.heap slot) i) ≡ true → is_some (byte_in (bytes_at new.heap (slot_after_step old (OfLoading command) reply new slot)) i) ≡ true
+      → ((byte : ℕ) → IsSomeAnd (written (OfLoading command) reply) (HasIn new (slot_after_step old (OfLoading command) reply new slot) i byte) → ⊥)
+      → byte_in (bytes_at new.heap (slot_after_step old (OfLoading command) reply new slot)) i ≡ byte_in (bytes_at old.heap slot) i
+  -- another slot had no object
+  pub free : (slot : ℕ) → (slot_after_step old (OfLoading command) reply new slot ≡ slot) ⊎ (object_at old.heap (slot_after_step old (OfLoading command) reply new slot) ≡ None)
 
 -- a step that is no answered access
-pub quiet : (old new : Handles) (command : LoadingCommand) (reply : Reply) → written (OfLoading command) reply ≡ None → read (OfLoading command) reply ≡ None → ((q : ℕ) → HeapsAgree old.heap new.heap q) → KeepsSegments old new command reply
-quiet old new command reply w r agree = record {
+pub quiet : (old new : Handles) (command : LoadingCommand) (reply : Reply) → written (OfLoading command) reply ≡ None → read (OfLoading command) reply ≡ None
+    → ((q : ℕ) → Agree (bytes_at old.heap q) (bytes_at new.heap (slot_after_step old (OfLoading command) reply new q)))
+    → ((q : ℕ) → (slot_after_step old (OfLoading command) reply new q ≡ q) ⊎ (object_at old.heap (slot_after_step old (OfLoading command) reply new q) ≡ None)) → KeepsSegments old new command reply
+quiet old new command reply w r agree free = record {
   put = λ slot i byte t h. absurd (subst (λ a. IsSomeAnd a (HasIn new slot i byte)) w h);
   got = λ slot i byte t h. absurd (subst (λ a. IsSomeAnd a (HasIn old slot i byte)) r h);
   kept = λ slot i p q out. agree slot i p q;
+  free = free;
 }
+
+-- one that leaves objects their slots
+pub calm : (old new : Handles) (command : LoadingCommand) (reply : Reply) → written (OfLoading command) reply ≡ None → read (OfLoading command) reply ≡ None → ((q : ℕ) → slot_after_step old (OfLoading command) reply new q ≡ q)
+    → ((q : ℕ) → HeapsAgree old.heap new.heap q) → KeepsSegments old new command reply
+calm old new command reply w r stays agree = quiet old new command reply w r (λ q. subst (λ s. Agree (bytes_at old.heap q) (bytes_at new.heap s)) (sym (stays q)) (agree q)) (λ q. inl (stays q))
 
 -- A fetch gives bytes to an object that had none, and other objects keep theirs or lose them.
 pub fetch_agrees : (old : LoadingWorld) → IsLoadingWorld old → (slot : ℕ) (fault : Option FetchFault) (next : LoadingWorld) → AnyFetches old slot fault next → (q : ℕ) → HeapsAgree old.handles.heap next.handles.heap q
@@ -209,14 +219,14 @@ far_keeps_by old command reply new m = turn m.made
     unchanged e q = subst (λ (h : Handles). HeapsAgree old.handles.heap h.heap q) (sym e) (m.agree q)
 
     failed : (command : FarCommand) (fault : FetchFault) → new.handles ≡ m.mid → Keeps command (Failed fault)
-    failed (Read pointer count) fault e = quiet old.handles new.handles (OfFar (Read pointer count)) (Failed fault) refl refl (unchanged e)
-    failed (Write pointer bytes) fault e = quiet old.handles new.handles (OfFar (Write pointer bytes)) (Failed fault) refl refl (unchanged e)
-    failed (Fill pointer count byte) fault e = quiet old.handles new.handles (OfFar (Fill pointer count byte)) (Failed fault) refl refl (unchanged e)
+    failed (Read pointer count) fault e = calm old.handles new.handles (OfFar (Read pointer count)) (Failed fault) refl refl (λ q. refl) (unchanged e)
+    failed (Write pointer bytes) fault e = calm old.handles new.handles (OfFar (Write pointer bytes)) (Failed fault) refl refl (λ q. refl) (unchanged e)
+    failed (Fill pointer count byte) fault e = calm old.handles new.handles (OfFar (Fill pointer count byte)) (Failed fault) refl refl (λ q. refl) (unchanged e)
 
     faulted : (command : FarCommand) (fault : FarFault) → new.handles ≡ m.mid → Keeps command (reply_of_far (Fault fault))
-    faulted (Read pointer count) fault e = quiet old.handles new.handles (OfFar (Read pointer count)) (reply_of_far (Fault fault)) refl refl (unchanged e)
-    faulted (Write pointer bytes) fault e = quiet old.handles new.handles (OfFar (Write pointer bytes)) (reply_of_far (Fault fault)) refl refl (unchanged e)
-    faulted (Fill pointer count byte) fault e = quiet old.handles new.handles (OfFar (Fill pointer count byte)) (reply_of_far (Fault fault)) refl refl (unchanged e)
+    faulted (Read pointer count) fault e = calm old.handles new.handles (OfFar (Read pointer count)) (reply_of_far (Fault fault)) refl refl (λ q. refl) (unchanged e)
+    faulted (Write pointer bytes) fault e = calm old.handles new.handles (OfFar (Write pointer bytes)) (reply_of_far (Fault fault)) refl refl (λ q. refl) (unchanged e)
+    faulted (Fill pointer count byte) fault e = calm old.handles new.handles (OfFar (Fill pointer count byte)) (reply_of_far (Fault fault)) refl refl (λ q. refl) (unchanged e)
 
     puts : (command : FarCommand) (pointer : ℕ) (slice : List ℕ) → written (OfLoading (OfFar command)) (reply_of_far Done) ≡ Some (record { pointer = pointer; bytes = slice }) → read (OfLoading (OfFar command)) (reply_of_far Done) ≡ None
         → Reaches m.mid (selector_in pointer) (offset_in pointer + length slice) (λ begin before after. IsWritten before (begin + offset_in pointer) slice after) new.handles → Keeps command (reply_of_far Done)
@@ -224,6 +234,7 @@ far_keeps_by old command reply new m = turn m.made
       put = λ slot i byte p h. write_puts old.handles m.mid new.handles pointer slice m.agree r slot i byte (subst (λ a. IsSomeAnd a (HasIn new.handles slot i byte)) w h);
       got = λ slot i byte p h. absurd (subst (λ a. IsSomeAnd a (HasIn old.handles slot i byte)) g h);
       kept = λ slot i p q out. write_keeps old.handles m.mid new.handles pointer slice m.agree r slot i p q (λ byte h. out byte (subst (λ a. IsSomeAnd a (HasIn new.handles slot i byte)) (sym w) h));
+      free = λ slot. inl refl;
     }
 
     answered : (command : FarCommand) (answer : FarAnswer) → FarEffect m.mid command answer new.handles → Keeps command (reply_of_far answer)
@@ -232,6 +243,7 @@ far_keeps_by old command reply new m = turn m.made
       put = λ slot i byte p h. absurd h;
       got = λ slot i byte p h. read_gives old.handles m.mid new.handles pointer count bytes m.agree m.runs r slot i byte p h;
       kept = λ slot i p q out. read_keeps old.handles m.mid new.handles pointer count bytes m.agree m.runs r slot i p q;
+      free = λ slot. inl refl;
     }
     answered (Write pointer slice) Done r = puts (Write pointer slice) pointer slice refl refl r
     answered (Fill pointer count byte) Done r = puts (Fill pointer count byte) pointer (repeated count byte) refl refl r
@@ -248,22 +260,43 @@ far_keeps old is command reply new step = far_keeps_by old command reply new (fa
 
 -- Other steps.
 
--- a resize is the call that it stands for
-resize_call : (old : Handles) (command : ResizeCommand) (reply : Reply) (next : Handles) → ResizeReplies old command reply next → (call : Call) × (answer : Answer) × CallStep old call answer next
-resize_call old command reply next step = let s : (answer : Answer) × ResizeStep old command answer next = some_of (λ answer. ResizeStep old command answer next) (answer_in reply) step in by command s.0 s.1
+-- a resize is the call that it stands for, with the answer that is printed
+record ResizeCall (old : Handles) (command : ResizeCommand) (reply : Reply) (next : Handles) : Type 0 where
+  pub answer : Answer
+  pub says : answer_in reply ≡ Some answer
+  pub step : CallStep old (call_of command) answer next
+
+resize_call : (old : Handles) (command : ResizeCommand) (reply : Reply) (next : Handles) → ResizeReplies old command reply next → ResizeCall old command reply next
+resize_call old command reply next step = printed (answer_in reply) refl step
   where
-    by : (command : ResizeCommand) (answer : Answer) → ResizeStep old command answer next → (call : Call) × (answer : Answer) × CallStep old call answer next
-    by (GlobalReAlloc handle size flags) (Word answer) step = (ReAllocs handle size flags, Word answer, step)
-    by (GlobalDiscard handle) (Word answer) step = (ReAllocs handle 0 GMEM_MOVEABLE, Word answer, step)
+    by : (command : ResizeCommand) (answer : Answer) → ResizeStep old command answer next → CallStep old (call_of command) answer next
+    by (GlobalReAlloc handle size flags) (Word answer) step = step
+    by (GlobalDiscard handle) (Word answer) step = step
     by command answer step = absurd step
+
+    printed : (p : Option Answer) → answer_in reply ≡ p → IsSomeAnd p (λ answer. ResizeStep old command answer next) → ResizeCall old command reply next
+    printed None e h = absurd h
+    printed (Some answer) e h = record { answer = answer; says = e; step = by command answer h }
+
+-- so it keeps segments
+resizes_keep : (old new : Handles) → AreHandles old → (command : ResizeCommand) (reply : Reply) → ResizeReplies old command reply new → KeepsSegments old new (OfResizes command) reply
+resizes_keep old new is command reply step = quiet old new (OfResizes command) reply refl refl
+    (λ q. subst (λ s. Agree (bytes_at old.heap q) (bytes_at new.heap s)) (sym (goes q)) (call_agrees old new is (call_of command) call.answer call.step q))
+    (λ q. subst (λ s. (s ≡ q) ⊎ (object_at old.heap s ≡ None)) (sym (goes q)) (goes_free old new is (call_of command) call.answer call.step q))
+  where
+    call : ResizeCall old command reply new
+    call = resize_call old command reply new step
+
+    goes : (q : ℕ) → slot_after_step old (OfLoading (OfResizes command)) reply new q ≡ next_slot old (call_of command) call.answer new q
+    goes q = ap (λ (p : Option Answer). elim p as (λ _. ℕ) [ None ↦ q | Some answer ↦ next_slot old (call_of command) answer new q ]) call.says
 
 module _ (old new : LoadingWorld) (is : IsLoadingWorld old) (reply : Reply) (q : ℕ) where
   abbrev Agrees : LoadingWorld → Type 0
   Agrees w = HeapsAgree old.handles.heap w.handles.heap q
 
   -- a call on handles
-  called : (call : Call) (answer : Answer) (next : Handles) → CallStep old.handles call answer next → new.handles ≡ next → Agrees new
-  called call answer next step e = subst (λ (h : Handles). HeapsAgree old.handles.heap h.heap q) (sym e) (call_agrees old.handles next is.handles call answer q (outcome old.handles next call answer is.handles step))
+  called : (command : HandleCommand) (answer : Answer) (next : Handles) → CallStep old.handles (Calls command) answer next → new.handles ≡ next → Agrees new
+  called command answer next step e = subst (λ (h : Handles). HeapsAgree old.handles.heap h.heap q) (sym e) (call_agrees old.handles next is.handles (Calls command) answer step q)
 
   -- a lock of a resource, after a fetch where it has no bytes
   lock_agrees : (handle : ℕ) → LocksResource AnyFetches old handle reply new → Agrees new
@@ -306,12 +339,12 @@ module _ (old new : LoadingWorld) (is : IsLoadingWorld old) (reply : Reply) (q :
       ]
 
 pub loading_keeps : (old new : LoadingWorld) → IsLoadingWorld old → (command : LoadingCommand) (reply : Reply) → AnyStep old command reply new → KeepsSegments old.handles new.handles command reply
-loading_keeps old new is (OfHandles command) reply step = quiet old.handles new.handles (OfHandles command) reply refl refl (λ q. let f = step.step in let c = answered old is command reply f.0 f.1 in called old new is reply q (Calls command) c.0 f.0 c.1 (ap (λ (w : LoadingWorld). w.handles) f.2))
-loading_keeps old new is (OfResizes command) reply step = quiet old.handles new.handles (OfResizes command) reply refl refl (λ q. let f = step.step in let c = resize_call old.handles command reply f.0 f.1 in called old new is reply q c.0 c.1 f.0 c.2 (ap (λ (w : LoadingWorld). w.handles) f.2))
+loading_keeps old new is (OfHandles command) reply step = calm old.handles new.handles (OfHandles command) reply refl refl (λ q. refl) (λ q. let f = step.step in let c = answered old is command reply f.0 f.1 in called old new is reply q command c.0 f.0 c.1 (ap (λ (w : LoadingWorld). w.handles) f.2))
+loading_keeps old new is (OfResizes command) reply step = let f = step.step in subst (λ (h : Handles). KeepsSegments old.handles h (OfResizes command) reply) (sym (ap (λ (w : LoadingWorld). w.handles) f.2)) (resizes_keep old.handles f.0 is.handles command reply f.1)
 loading_keeps old new is (OfFar command) reply step = far_keeps old is command reply (record new { failures = old.failures }) step.step
-loading_keeps old new is (OfModules command) reply step = quiet old.handles new.handles (OfModules command) reply refl refl (λ q. stands_by old new is reply q (OfModules command) step (λ about. about))
-loading_keeps old new is (OfResources (LockResource handle)) reply step = quiet old.handles new.handles (OfResources (LockResource handle)) reply refl refl (λ q. lock_agrees old (record new { failures = old.failures }) is reply q handle step.step)
-loading_keeps old new is (OfResources (FindResource handle name kind)) reply step = quiet old.handles new.handles (OfResources (FindResource handle name kind)) reply refl refl (λ q. stands_by old new is reply q (OfResources (FindResource handle name kind)) step (λ about. about))
-loading_keeps old new is (OfResources (LoadResource handle place)) reply step = quiet old.handles new.handles (OfResources (LoadResource handle place)) reply refl refl (λ q. stands_by old new is reply q (OfResources (LoadResource handle place)) step (λ about. about))
-loading_keeps old new is (OfResources (FreeResource handle)) reply step = quiet old.handles new.handles (OfResources (FreeResource handle)) reply refl refl (λ q. stands_by old new is reply q (OfResources (FreeResource handle)) step (λ about. about))
-loading_keeps old new is (OfResources (SizeofResource handle place)) reply step = quiet old.handles new.handles (OfResources (SizeofResource handle place)) reply refl refl (λ q. stands_by old new is reply q (OfResources (SizeofResource handle place)) step (λ about. about))
+loading_keeps old new is (OfModules command) reply step = calm old.handles new.handles (OfModules command) reply refl refl (λ q. refl) (λ q. stands_by old new is reply q (OfModules command) step (λ about. about))
+loading_keeps old new is (OfResources (LockResource handle)) reply step = calm old.handles new.handles (OfResources (LockResource handle)) reply refl refl (λ q. refl) (λ q. lock_agrees old (record new { failures = old.failures }) is reply q handle step.step)
+loading_keeps old new is (OfResources (FindResource handle name kind)) reply step = calm old.handles new.handles (OfResources (FindResource handle name kind)) reply refl refl (λ q. refl) (λ q. stands_by old new is reply q (OfResources (FindResource handle name kind)) step (λ about. about))
+loading_keeps old new is (OfResources (LoadResource handle place)) reply step = calm old.handles new.handles (OfResources (LoadResource handle place)) reply refl refl (λ q. refl) (λ q. stands_by old new is reply q (OfResources (LoadResource handle place)) step (λ about. about))
+loading_keeps old new is (OfResources (FreeResource handle)) reply step = calm old.handles new.handles (OfResources (FreeResource handle)) reply refl refl (λ q. refl) (λ q. stands_by old new is reply q (OfResources (FreeResource handle)) step (λ about. about))
+loading_keeps old new is (OfResources (SizeofResource handle place)) reply step = calm old.handles new.handles (OfResources (SizeofResource handle place)) reply refl refl (λ q. refl) (λ q. stands_by old new is reply q (OfResources (SizeofResource handle place)) step (λ about. about))

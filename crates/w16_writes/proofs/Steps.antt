@@ -1,5 +1,5 @@
 -- Each step keeps what is written, and so does each step of a run.
-use Rattle.w16_machine.proofs.Common.{◌≡◌, ◌≢◌, ℕ, ◌+◌, ◌*◌, ◌<◌, ◌≤◌, ◌⊎◌, inl, inr, Bool, true, false, cond, ◌&&◌, nat_le, nat_lt, IsSomeAnd, List, [], ◌∷◌, length, Option, Some, None, is_some, option_map, refl, sym, ap, ◌∙◌, subst, cases_eq, false≢true, le-leb, lt-ltb, Each-from_All, bytes_in, Object, bytes_at, object_at, Table, heap_in, offset_in, LoadingCommand, Format, Reply, World, IsWorld, LocalHeap, current_heap, heap_of, local_in, segment_bytes, LocalCommand, LocalStep, IsHeapKept, IsObjectKept, IsRewritten, KeepsRest, Event, IsCommand, Run, Step, OfLoading, OfLocals}
+use Rattle.w16_machine.proofs.Common.{◌≡◌, ◌≢◌, ℕ, ◌+◌, ◌*◌, ◌<◌, ◌≤◌, ◌⊎◌, inl, inr, Bool, true, false, cond, ◌&&◌, nat_le, nat_lt, IsSomeAnd, List, [], ◌∷◌, length, Option, Some, None, is_some, option_map, refl, sym, ap, ◌∙◌, subst, cases_eq, false≢true, le-leb, lt-ltb, IfSome, IsLocalIn, Each-from_All, bytes_in, Object, bytes_at, object_at, Table, heap_in, offset_in, LoadingCommand, Format, Reply, World, IsWorld, LocalHeap, current_heap, heap_of, local_in, segment_bytes, LocalCommand, LocalStep, IsHeapKept, IsObjectKept, IsRewritten, KeepsRest, Event, IsCommand, Run, Step, OfLoading, OfLocals}
 use Rattle.std.specs.FinMap as finmap
 use Rattle.std.specs.List.{AllByRecursion as Each}
 use Rattle.w16_model.specs.declared.TheConstants.{REACH}
@@ -9,7 +9,7 @@ use Rattle.w16_machine.proofs.LocalFacts.{current_there, found, local_here, loca
 use Rattle.w16_machine.proofs.LocalFrame.{frame_law}
 use Rattle.w16_machine.proofs.LocalGoes.{goes_law}
 use Rattle.w16_machine.proofs.Worlds.{world_law}
-use Rattle.w16_writes.specs.LastWrite.{Access, AllKeepWritten, Has, IsThere, KeepsWritten, Position, RunLaw, StepLaw, byte_at, byte_in, is_in_range, place_at, read, written}
+use Rattle.w16_writes.specs.LastWrite.{Access, AllKeepWritten, Has, IsThere, KeepsWritten, Position, RunLaw, StepLaw, byte_at, byte_in, is_in_range, place_at, position_after, read, slot_after_step, written}
 use Rattle.w16_writes.proofs.Bytes.{get-outside, split}
 use Rattle.w16_writes.proofs.Locals.{local_agrees, segment_byte}
 use Rattle.w16_writes.proofs.Segments.{HasIn, KeepsSegments, loading_keeps}
@@ -73,9 +73,26 @@ some_such : {A : Type 0} {P : A → Type 0} (p : Option A) → IsSomeAnd p P →
 some_such None h = absurd h
 some_such (Some a) h = (a, refl, h)
 
--- A step of loading: where a position is there before and after, it lies at one place, since the table of a local heap that stays is the same.
+-- A step of loading: where a position is there before and after, it lies at one place of its object, since the table of a local heap that stays is
+-- the same, and its segment has its slot still.
 module _ (format : Format) (old new : World) (command : LoadingCommand) (reply : Reply) (is : IsWorld old) (now : IsWorld new) (step : Step ⊥ format old (OfLoading command) reply new) where
-  one_place : (p : Position) → IsThere old p → IsThere new p → place_at new p ≡ place_at old p
+  abbrev event : Event
+  event = record { command = OfLoading command; reply = reply; after = new }
+
+  abbrev next : ℕ → ℕ
+  next slot = slot_after_step old.loading.handles (OfLoading command) reply new.loading.handles slot
+
+  segments : KeepsSegments old.loading.handles new.loading.handles command reply
+  segments = loading_keeps old.loading new.loading is.loading command reply step.0.any
+
+  -- where there was a local heap there was an object
+  keeps_slot : (slot : ℕ) (t : Table) → finmap.get old.heaps (next slot) ≡ Some t → next slot ≡ slot
+  keeps_slot slot t e = elim (segments.free slot) [
+    | inl same ↦ same
+    | inr none ↦ absurd (subst (λ b. IsSomeAnd b (IsLocalIn t)) (ap bytes_in none) (subst (λ p. IfSome p (λ t. IsSomeAnd (segment_bytes old (next slot)) (IsLocalIn t))) e (is.heaps.heaps (next slot))))
+  ]
+
+  one_place : (p : Position) → IsThere old p → IsThere new (position_after old event p) → place_at new (position_after old event p) ≡ place_at old p
   one_place p was there = by_entry p.entry was there
     where
       places : Option LocalHeap → ℕ → Option ℕ
@@ -84,26 +101,25 @@ module _ (format : Format) (old new : World) (command : LoadingCommand) (reply :
       bytes : Option LocalHeap → ℕ → Option ℕ
       bytes l entry = elim l [ None ↦ None | Some at ↦ byte_in (bytes_at (heap_of at) entry) p.offset ]
 
-      in_heaps : (entry : ℕ) (l m : Option LocalHeap) → local_in old p.slot ≡ l → local_in new p.slot ≡ m → is_some (bytes l entry) ≡ true → is_some (bytes m entry) ≡ true → places m entry ≡ places l entry
+      in_heaps : (entry : ℕ) (l m : Option LocalHeap) → local_in old p.slot ≡ l → local_in new (next p.slot) ≡ m → is_some (bytes l entry) ≡ true → is_some (bytes m entry) ≡ true → places m entry ≡ places l entry
       in_heaps entry None m e f t u = absurd (false≢true t)
       in_heaps entry (Some at) None e f t u = absurd (false≢true u)
       in_heaps entry (Some at) (Some after) e f t u =
           let had = local_there old p.slot at e in
-          let has = local_there new p.slot after f in
-          let both : ◌≡◌ {A = Option Table} (Some after.table) (Some at.table) = sym ((goes_law format old new command reply step after.slot after.table).0 has.0.table).0 ∙ ap (finmap.get old.heaps) (has.1 ∙ sym had.1) ∙ had.0.table in
+          let has = local_there new (next p.slot) after f in
+          let stood : finmap.get old.heaps after.slot ≡ Some after.table = ((goes_law format old new command reply step after.slot after.table).0 has.0.table).0 in
+          let home : next p.slot ≡ p.slot = keeps_slot p.slot after.table (ap (finmap.get old.heaps) (sym has.1) ∙ stood) in
+          let both : ◌≡◌ {A = Option Table} (Some after.table) (Some at.table) = sym stood ∙ ap (finmap.get old.heaps) (has.1 ∙ home ∙ sym had.1) ∙ had.0.table in
           let same : after.table ≡ at.table = cc in
           ap (λ (t : Table). option_map (λ begin. begin + p.offset) (finmap.get (heap_in t []).places entry)) same
 
-      by_entry : (entry : Option ℕ) → IsThere old (record { slot = p.slot; entry = entry; offset = p.offset }) → IsThere new (record { slot = p.slot; entry = entry; offset = p.offset })
-          → place_at new (record { slot = p.slot; entry = entry; offset = p.offset }) ≡ place_at old (record { slot = p.slot; entry = entry; offset = p.offset })
+      by_entry : (entry : Option ℕ) → IsThere old (record { slot = p.slot; entry = entry; offset = p.offset }) → IsThere new (record { slot = next p.slot; entry = entry; offset = p.offset })
+          → place_at new (record { slot = next p.slot; entry = entry; offset = p.offset }) ≡ place_at old (record { slot = p.slot; entry = entry; offset = p.offset })
       by_entry None t u = refl
-      by_entry (Some entry) t u = in_heaps entry (local_in old p.slot) (local_in new p.slot) refl refl t u
+      by_entry (Some entry) t u = in_heaps entry (local_in old p.slot) (local_in new (next p.slot)) refl refl t u
 
   -- so what it leaves of segments it leaves of positions
-  segments : KeepsSegments old.loading.handles new.loading.handles command reply
-  segments = loading_keeps old.loading new.loading is.loading command reply step.0.any
-
-  loading_kept : KeepsWritten old (record { command = OfLoading command; reply = reply; after = new })
+  loading_kept : KeepsWritten old event
   loading_kept = record {
     written = λ p byte h.
         let there = (some_of (Has new p byte) (written (OfLoading command) reply) h).1.there in
@@ -116,14 +132,15 @@ module _ (format : Format) (old new : World) (command : LoadingCommand) (reply :
     kept = kept;
   }
     where
-      kept : (p : Position) → IsThere old p → IsThere new p → ((byte : ℕ) → IsSomeAnd (written (OfLoading command) reply) (Has new p byte) → ⊥) → byte_at new p ≡ byte_at old p
+      kept : (p : Position) → IsThere old p → IsThere new (position_after old event p) → ((byte : ℕ) → IsSomeAnd (written (OfLoading command) reply) (Has new (position_after old event p) byte) → ⊥) → byte_at new (position_after old event p) ≡ byte_at old p
       kept p was there out =
           let l = lies old is p was in
-          let m = lies new now p there in
+          let m = lies new now (position_after old event p) there in
           let both : ◌≡◌ {A = Option ℕ} (Some m.at) (Some l.at) = sym m.place ∙ one_place p was there ∙ l.place in
           let same : m.at ≡ l.at = cc in
           let before : is_some (byte_in (segment_bytes old p.slot) m.at) ≡ true = ap (λ i. is_some (byte_in (segment_bytes old p.slot) i)) same ∙ ap is_some (sym l.byte) ∙ was in
-          m.byte ∙ segments.kept p.slot m.at before (ap is_some (sym m.byte) ∙ there) (λ byte h. out byte (some_as (HasIn new.loading.handles p.slot m.at byte) (Has new p byte) (written (OfLoading command) reply) (from_place new p m byte there) h))
+          m.byte ∙ segments.kept p.slot m.at before (ap is_some (sym m.byte) ∙ there)
+          (λ byte h. out byte (some_as (HasIn new.loading.handles (next p.slot) m.at byte) (Has new (position_after old event p) byte) (written (OfLoading command) reply) (from_place new (position_after old event p) m byte there) h))
           ∙ ap (byte_in (segment_bytes old p.slot)) same ∙ sym l.byte
 
 -- A local call.

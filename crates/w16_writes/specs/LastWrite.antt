@@ -4,12 +4,14 @@ use Rattle.std.specs.FinMap as finmap
 use Rattle.w16_model.specs.Bytes.{repeated}
 use Rattle.w16_model.specs.Far.FarCommand.{Read, Write, Fill}
 use Rattle.w16_model.specs.declared.TheConstants.{REACH}
-use Rattle.w16_model.specs.Handles.{part_of_selector, selector_in, offset_in}
+use Rattle.w16_model.specs.CallLaws.{next_slot}
+use Rattle.w16_model.specs.Handles.{Handles, part_of_selector, selector_in, offset_in}
 use Rattle.w16_model.specs.Heap.{bytes_at}
 use Rattle.w16_model.specs.Table.{Table}
-use Rattle.w16_loading.specs.Families.LoadingCommand.{OfFar}
+use Rattle.w16_loading.specs.Bystanders.{call_of}
+use Rattle.w16_loading.specs.Families.LoadingCommand.{OfFar, OfResizes}
 use Rattle.w16_loading.specs.File.{Format}
-use Rattle.w16_loading.specs.Replies.{Reply}
+use Rattle.w16_loading.specs.Replies.{Reply, answer_in}
 use Rattle.w16_loading.specs.Replies.Reply.{Bytes, Done}
 use Rattle.w16_machine.specs.Law.{IsWorld}
 use Rattle.w16_machine.specs.Local.{segment_bytes, heap_of, local_in}
@@ -50,6 +52,22 @@ place_at w p = elim p.entry [
   | None ↦ Some p.offset
   | Some entry ↦ elim (local_in w p.slot) [ None ↦ None | Some at ↦ option_map (λ begin. begin + p.offset) (finmap.get (heap_of at).places entry) ]
 ]
+
+-- Where a position goes.
+
+-- the slot that an object has after a step: that of the handle answered, where its handle was given to a reallocation, else its own
+abbrev pub slot_after_step : Handles → Command → Reply → Handles → ℕ → ℕ
+slot_after_step old (OfLoading (OfResizes command)) reply new slot = elim (answer_in reply) [ None ↦ slot | Some answer ↦ next_slot old (call_of command) answer new slot ]
+slot_after_step old command reply new slot = slot
+
+-- a position after a step: the same offset in the same object
+abbrev pub position_after : World → Event → Position → Position
+position_after old event p = record p { slot = slot_after_step old.loading.handles event.command event.reply event.after.loading.handles p.slot }
+
+-- and after steps
+abbrev pub position_after_all : World → List Event → Position → Position
+position_after_all old [] p = p
+position_after_all old (event ∷ events) p = position_after_all event.after events (position_after old event p)
 
 -- Accesses.
 
@@ -93,8 +111,9 @@ pub record KeepsWritten (old : World) (event : Event) : Type 0 where
   pub written : (p : Position) (byte : ℕ) → Writes event p byte → byte_at event.after p ≡ Some byte
   -- what it reads was there
   pub read : (p : Position) (byte : ℕ) → Reads old event p byte → byte_at old p ≡ Some byte
-  -- and a position that it doesn't write, and that is there before and after, has its byte
-  pub kept : (p : Position) → IsThere old p → IsThere event.after p → ((byte : ℕ) → Writes event p byte → ⊥) → byte_at event.after p ≡ byte_at old p
+  -- and a position that it doesn't write, and that is there before and after, has its byte, wherever its object went
+  pub kept : (p : Position) → IsThere old p → IsThere event.after (position_after old event p) → ((byte : ℕ) → Writes event (position_after old event p) byte → ⊥)
+      → byte_at event.after (position_after old event p) ≡ byte_at old p
 
 -- Runs.
 
@@ -108,19 +127,19 @@ abbrev pub world_after : World → List Event → World
 world_after w [] = w
 world_after w (event ∷ events) = world_after event.after events
 
--- A position is undisturbed through steps where it is there in the world before and after each, and none writes to it.
+-- A position is undisturbed through steps where it is there in the world before and after each, and none writes to it; it goes with its object.
 abbrev pub IsUndisturbed : Position → World → List Event → Type 0
 IsUndisturbed p w [] = IsThere w p
-IsUndisturbed p w (event ∷ events) = IsThere w p × ((byte : ℕ) → Writes event p byte → ⊥) × IsUndisturbed p event.after events
+IsUndisturbed p w (event ∷ events) = IsThere w p × ((byte : ℕ) → Writes event (position_after w event p) byte → ⊥) × IsUndisturbed (position_after w event p) event.after events
 
 -- Steps read back what they write: where one writes a byte, those between leave its position undisturbed, and then one reads there, it reads
--- that byte.
+-- that byte, also where the object has got another handle between them.
 abbrev pub ReadsBack : List Event → Type 0
 ReadsBack events = (before between after : List Event) (writing reading : Event) (p : Position) (byte found : ℕ)
     → events ≡ before ++ (writing ∷ (between ++ (reading ∷ after)))
     → Writes writing p byte
     → IsUndisturbed p writing.after between
-    → Reads (world_after writing.after between) reading p found
+    → Reads (world_after writing.after between) reading (position_after_all writing.after between p) found
     → found ≡ byte
 
 -- The laws. Each step keeps what is written, whatever the store answers,

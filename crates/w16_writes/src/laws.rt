@@ -2,13 +2,14 @@
 ghost use Rattle.w16_writes.specs.LastWrite.{ReadsBackLaw, RunLaw, StepLaw};
 
 /// Each step, whatever it is and whatever the store answers, puts the bytes that it writes where its far pointer points, reads the bytes that are
-/// there, and leaves every other position that is there before and after the byte that it had: whatever is moved, discarded, loaded, cut or
-/// given a local heap elsewhere.
+/// there, and leaves every other position that is there before and after the byte that it had: whatever is moved, discarded, loaded, cut, given
+/// another handle or given a local heap elsewhere.
 pub fn steps_keep_what_is_written()
     ensures { StepLaw }
 {}
 
-/// So each run reads back what it wrote, wherever the position is undisturbed.
+/// So each run reads back what it wrote, wherever the position is undisturbed: through the handle that a reallocation answered, where there was
+/// one.
 pub fn runs_read_back()
     ensures steps { RunLaw }
     ensures reads { ReadsBackLaw }

@@ -1,3 +1,4 @@
+use Rattle.w16_model.proofs.NewSize.{size_law}
 use Rattle.w16_model.proofs.Effects.{lock_law, unlock_law, free_law, modify_law, discard_law, answered_law}
 use Rattle.w16_model.proofs.laws.calls_do_what_they_are_for.Goals as goal
 
@@ -15,6 +16,9 @@ returns-clause-kinds c = modify_law
 
 pub returns-clause-discards : goal.returns-clause-discards
 returns-clause-discards c = discard_law
+
+pub returns-clause-sizes : goal.returns-clause-sizes
+returns-clause-sizes c = size_law
 
 pub returns-clause-accesses : goal.returns-clause-accesses
 returns-clause-accesses c = answered_law

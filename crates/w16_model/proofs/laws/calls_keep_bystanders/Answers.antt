@@ -1,8 +1,11 @@
-use Rattle.w16_model.proofs.Bystanders.{bystanders_law, pinned_law, still_law}
+use Rattle.w16_model.proofs.Bystanders.{bystanders_law, attributes_law, pinned_law, still_law}
 use Rattle.w16_model.proofs.laws.calls_keep_bystanders.Goals as goal
 
 pub returns-clause-objects : goal.returns-clause-objects
 returns-clause-objects c = bystanders_law
+
+pub returns-clause-attributes : goal.returns-clause-attributes
+returns-clause-attributes c = attributes_law
 
 pub returns-clause-pinned : goal.returns-clause-pinned
 returns-clause-pinned c = pinned_law

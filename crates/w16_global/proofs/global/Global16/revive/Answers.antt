@@ -1,4 +1,4 @@
-use Rattle.w16_global.proofs.Common.{◌≡◌, true, false, handles_of, ap, sym, ◌∙◌, refl, subst, IfSome, Owned, moved_bytes, counted, Global}
+use Rattle.w16_global.proofs.Common.{◌≡◌, true, false, handles_of, ap, sym, ◌∙◌, arith, refl, subst, IfSome, Owned, moved_bytes, counted, Global}
 use Rattle.w16_global.proofs.Owners.{handles_shown}
 use Rattle.w16_global.proofs.Owning.{absent_in, found_is, known_handles, none_written, not_revived, own_size, revived, revived_written, where_none}
 use Rattle.w16_model.specs.Owned.{Revives}
@@ -11,7 +11,7 @@ pub reallocate-revived-requires-clause-rounded : goal.reallocate-revived-require
 reallocate-revived-requires-clause-rounded g c = (own_size c.self.invariant (handles_shown c.self.view_is) _ c.in-Some-owned_at.owned c.in-Some-owned_at.ensures).1
 
 pub reallocate-revived-requires-clause-small : goal.reallocate-revived-requires-clause-small
-reallocate-revived-requires-clause-small g c = (own_size c.self.invariant (handles_shown c.self.view_is) _ c.in-Some-owned_at.owned c.in-Some-owned_at.ensures).2
+reallocate-revived-requires-clause-small g c = let small = (own_size c.self.invariant (handles_shown c.self.view_is) _ c.in-Some-owned_at.owned c.in-Some-owned_at.ensures).2 in omega (arith, small)
 
 pub returns-in_default-clause-written : goal.returns-in_default-clause-written
 returns-in_default-clause-written g c = none_written c.args.self.now.written c.args.self.now.handles.heap
