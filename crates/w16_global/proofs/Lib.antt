@@ -20,5 +20,6 @@ pub mod Walked
 pub mod Changing
 pub mod Reallocating
 pub mod Resizing
+mod Lengthening
 pub mod Lent
 pub mod Owning

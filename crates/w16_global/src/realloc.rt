@@ -1,10 +1,11 @@
 //! The calls of programs that give an object another size or another kind.
-ghost use Rattle.std.specs.Prelude.{◌≡◌, ◌<◌, IsSome, option_map, unwrap_or};
+ghost use Rattle.std.specs.Prelude.{◌≡◌, ◌<◌, ℕ, Some, IsSome, option_map, unwrap_or};
 ghost use Rattle.w16_model.specs.Handles as handles;
 ghost use Rattle.w16_model.specs.Heap.{Object, object_at};
 ghost use Rattle.w16_model.specs.Resizes as resizes;
 ghost use Rattle.w16_region.specs.Bytes.{counted};
 ghost use Rattle.w16_global.specs.Joined.{zeroed_behind};
+ghost use Rattle.w16_global.specs.Lengthened.{Lengthens};
 
 use crate::calls::{alloc_options, rounded};
 use crate::global::Global16;
@@ -35,6 +36,20 @@ impl<A: Allocator + Copy> Global16<A> {
     {
         self.reveal_handles();
         self.change_object(handle, size, flags)
+    }
+
+    /// Gives a slot's object another size as [`Global16::global_realloc`] does by its handle, and answers the same, for a local heap that grows in
+    /// it. This is no call of a program: the bytes that were slid count as written, and not as moved by a call.
+    pub fn lengthen(&mut self, slot: u16, size: u32, flags: u16) -> u16
+        requires { IsSome (object_at self.old.handles.heap slot) }
+        ensures step { (handle : ℕ) → handles.slot_of_handle self.old.handles handle ≡ Some slot → Lengthens self.old handle size flags result self.new }
+        ensures refused { result ≡ 0 → self.new ≡ self.old }
+    {
+        let handle = self.handle_at(slot);
+        let moved = self.moved;
+        let answer = self.global_realloc(handle, size, flags);
+        self.moved = moved;
+        answer
     }
 
     /// Does what `global_realloc` says. Its contract leaves out that it discards as few objects as it can.
