@@ -1,6 +1,7 @@
 -- An act in the object of a slot, as a call's step.
-use Rattle.w16_local.proofs.Common.{◌≡◌, ℕ, ◌⊎◌, inl, inr, IsSomeAnd, List, length, Option, Some, None, option_map, refl, sym, ap, ◌∙◌, subst, nat_cmp, FinMap, put_part, after_write, Handles, Heap, Object, bytes_at, object_at, Table, heap_in, counted, Global, Lends, World, LocalHeap, Acts, IsLocalTable, object_of, put_all, ByteOp, Acted, ActedIn, Done, Idle, IsLent, IsLentOnce, MayAct, MayActIn, MayActOver, Writes, IsIn, with_parts}
+use Rattle.w16_local.proofs.Common.{◌≡◌, ℕ, ◌<◌, ◌⊎◌, inl, inr, IsSomeAnd, List, length, Option, Some, None, option_map, refl, sym, ap, ◌∙◌, subst, nat_cmp, FinMap, put_part, after_write, Handles, Heap, Object, bytes_at, object_at, Table, heap_in, counted, Global, Lends, World, LocalHeap, Acts, IsLocalTable, object_of, put_all, ByteOp, Acted, ActedIn, DoesAct, Done, Idle, IsLent, IsLentOnce, MayAct, MayActIn, MayActOver, IsIn, with_parts}
 use Rattle.std.specs.FinMap as finmap
+use Rattle.w16_local.specs.Growth.{IsLentOrGrown, WritesGrown, WritesServed}
 use Rattle.w16_local.proofs.Locals.{insert_nothing}
 
 -- bytes that are written over themselves
@@ -20,20 +21,26 @@ same_write heap slot bytes had = λ i. record heap { objects = objects i }
     objects = ap (λ p. elim p as (λ _. FinMap nat_cmp Object) [ Some o ↦ finmap.insert heap.objects slot (over o) | None ↦ heap.objects ]) o.1 ∙ ap (finmap.insert heap.objects slot) same ∙ insert_nothing heap.objects slot o.0 o.1
 
 -- what may be done to the bytes of a slot's object
-pub may_lent : {handles : Handles} {tables : FinMap nat_cmp Table} {slot : ℕ} {act : ByteOp} (may : MayActIn handles tables slot act) (t : Table) → finmap.get tables slot ≡ Some t → IsSomeAnd (bytes_at handles.heap slot) (λ bytes. MayActOver act t bytes)
-may_lent {handles} {tables} {slot} {act} may t is =
+pub may_lent : {handles : Handles} {tables : FinMap nat_cmp Table} {slot : ℕ} {so : Table → List ℕ → Type 0} (may : MayActIn handles tables slot so) (t : Table) → finmap.get tables slot ≡ Some t → IsSomeAnd (bytes_at handles.heap slot) (so t)
+may_lent {handles} {tables} {slot} {so} may t is =
     let both : ◌≡◌ {A = Option Table} (Some may.table) (Some t) = sym may.was ∙ is in
     let same : may.table ≡ t = cc in
-    subst (λ (b : Option (List ℕ)). IsSomeAnd b (λ bytes. MayActOver act t bytes)) (sym may.had) (subst (λ (t : Table). MayActOver act t may.bytes) same may.may)
+    subst (λ (b : Option (List ℕ)). IsSomeAnd b (so t)) (sym may.had) (subst (λ (t : Table). so t may.bytes) same may.may)
 
 -- and what was done there
-pub acted_in : {handles : Handles} {tables : FinMap nat_cmp Table} {slot : ℕ} {act : ByteOp} {answer : ℕ} (t s : Table) → finmap.get tables slot ≡ Some t → IsLocalTable s
-    → (lent : Lends handles.heap slot (λ bytes after. (count : ℕ) × (Acted act t bytes answer s after × Writes act (heap_in t bytes) (heap_in s after) 0 count))) (next : Handles) → next ≡ record handles { heap = after_write handles.heap slot 0 lent.after }
-    → (new : FinMap nat_cmp Table) → new ≡ finmap.insert tables slot s → ActedIn handles tables slot act answer next new
-acted_in t s was is_local lent next next_is new new_is = record { before = t; bytes = lent.bytes; was = was; had = lent.had; table = s; after = lent.after; is_local = is_local; long = lent.long; are_bytes = lent.are_bytes; acted = lent.does.1.0; count = lent.does.0; writes = lent.does.1.1; rest = (new_is, next_is) }
+pub acted_in : {handles : Handles} {tables : FinMap nat_cmp Table} {slot : ℕ} {does : Table → List ℕ → Table → List ℕ → Type 0} (t s : Table) → finmap.get tables slot ≡ Some t → IsLocalTable s
+    → (lent : Lends handles.heap slot (λ bytes after. does t bytes s after)) (next : Handles) → next ≡ record handles { heap = after_write handles.heap slot 0 lent.after }
+    → (new : FinMap nat_cmp Table) → new ≡ finmap.insert tables slot s → ActedIn handles tables slot does next new
+acted_in t s was is_local lent next next_is new new_is = record { before = t; bytes = lent.bytes; was = was; had = lent.had; table = s; after = lent.after; is_local = is_local; long = lent.long; are_bytes = lent.are_bytes; does = lent.does; rest = (new_is, next_is) }
+
+-- where that leaves the heap and its bytes as they were, nothing has changed
+pub acted_same : {handles next : Handles} {tables new : FinMap nat_cmp Table} {slot : ℕ} {does : Table → List ℕ → Table → List ℕ → Type 0} (a : ActedIn handles tables slot does next new) → a.table ≡ a.before → a.after ≡ a.bytes → (new ≡ tables) × (next ≡ handles)
+acted_same {handles} {next} {tables} {new} {slot} a table bytes =
+    let heap_same : after_write handles.heap slot 0 a.after ≡ handles.heap = ap (after_write handles.heap slot 0) bytes ∙ same_write handles.heap slot a.bytes a.had in
+    (a.rest.0 ∙ ap (finmap.insert tables slot) table ∙ insert_nothing tables slot a.before a.was, a.rest.1 ∙ (λ i. record handles { heap = heap_same i }))
 
 -- what may be done in the heap that DS names
-pub may_in : {handles : Handles} {tables : FinMap nat_cmp Table} {ds slot : ℕ} {t : Table} (is : IsIn handles tables ds slot t) (act : ByteOp) → MayAct act (heap_in t is.bytes) → MayActIn handles tables slot act
+pub may_in : {handles : Handles} {tables : FinMap nat_cmp Table} {ds slot : ℕ} {t : Table} (is : IsIn handles tables ds slot t) (act : ByteOp) → MayAct act (heap_in t is.bytes) → MayActIn handles tables slot (MayActOver act)
 may_in is act may = record { table = _; bytes = is.bytes; was = is.kept; had = is.had; may = (is.over.inside, may) }
 
 -- and the bytes that were lent for it are those of that heap
@@ -41,8 +48,17 @@ pub lent_in : {old : Global} {tables : FinMap nat_cmp Table} {ds slot : ℕ} {t 
 lent_in {old} {tables} {ds} is new lent = inr (subst (λ (m : Option LocalHeap). IsSomeAnd m (λ at. new.written ≡ counted old.written (length at.bytes))) (sym is.is_current)
     (subst (λ (m : Option (List ℕ)). IsSomeAnd m (λ bytes. new.written ≡ counted old.written (length bytes))) is.had lent))
 
+-- the same where it may have grown for a request
+pub served_in : {old : Global} {tables : FinMap nat_cmp Table} {ds slot : ℕ} {t : Table} (is : IsIn old.handles tables ds slot t) (new : Global) (size : ℕ) → 0 < size → WritesServed old slot new → IsLentOrGrown size old tables ds new
+served_in {old} {tables} {ds} {slot} is new size some (inl lent) = inl (lent_in is new lent)
+served_in {old} {tables} {ds} {slot} is new size some (inr grown) = inr (
+  some,
+  subst (λ (m : Option LocalHeap). IsSomeAnd m (λ at. WritesGrown old.handles at.slot (counted old.written (length at.bytes)) new.written)) (sym is.is_current)
+      (subst (λ (m : Option (List ℕ)). IsSomeAnd m (λ bytes. WritesGrown old.handles slot (counted old.written (length bytes)) new.written)) is.had grown),
+)
+
 -- and what that leaves: the same world, or one in which the heap acted
-module _ {handles : Handles} {tables : FinMap nat_cmp Table} {ds slot : ℕ} {t : Table} (is : IsIn handles tables ds slot t) {act : ByteOp} {answer : ℕ} {next : Handles} {new : FinMap nat_cmp Table} (a : ActedIn handles tables slot act answer next new) (rest : World) where
+module _ {handles : Handles} {tables : FinMap nat_cmp Table} {ds slot : ℕ} {t : Table} (is : IsIn handles tables ds slot t) {act : ByteOp} {answer : ℕ} {next : Handles} {new : FinMap nat_cmp Table} (a : ActedIn handles tables slot (DoesAct act answer) next new) (rest : World) where
   same_table : a.before ≡ t
   same_table = let both : ◌≡◌ {A = Option Table} (Some a.before) (Some t) = sym a.was ∙ is.kept in cc
 
@@ -50,7 +66,7 @@ module _ {handles : Handles} {tables : FinMap nat_cmp Table} {ds slot : ℕ} {t 
   same_bytes = let both : ◌≡◌ {A = Option (List ℕ)} (Some a.bytes) (Some is.bytes) = sym a.had ∙ is.had in cc
 
   acted : Acted act t is.bytes answer a.table a.after
-  acted = subst (λ (p : Table × List ℕ). Acted act p.0 p.1 answer a.table a.after) (λ i. (same_table i, same_bytes i)) a.acted
+  acted = subst (λ (p : Table × List ℕ). Acted act p.0 p.1 answer a.table a.after) (λ i. (same_table i, same_bytes i)) a.does.1.0
 
   abbrev old : World
   old = with_parts rest handles tables ds
@@ -67,10 +83,8 @@ module _ {handles : Handles} {tables : FinMap nat_cmp Table} {ds slot : ℕ} {t 
       turn : (Idle act (heap_in t is.bytes) answer × (a.table ≡ t) × (a.after ≡ is.bytes)) ⊎ Done act (heap_in t is.bytes) answer (heap_in a.table a.after)
           → (Idle act (heap_in t is.bytes) answer × (left ≡ old)) ⊎ Acts old at (Done act (heap_in t is.bytes) answer) left
       turn (inl same) =
-          let tables_same : new ≡ tables = a.rest.0 ∙ ap (finmap.insert tables slot) same.1 ∙ insert_nothing tables slot t is.kept in
-          let heap_same : after_write handles.heap slot 0 a.after ≡ handles.heap = ap (after_write handles.heap slot 0) same.2 ∙ same_write handles.heap slot is.bytes is.had in
-          let next_same : next ≡ handles = a.rest.1 ∙ (λ i. record handles { heap = heap_same i }) in
-          inl (same.0, λ i. with_parts rest (next_same i) (tables_same i) ds)
+          let same_parts : (new ≡ tables) × (next ≡ handles) = acted_same a (same.1 ∙ sym same_table) (same.2 ∙ sym same_bytes) in
+          inl (same.0, λ i. with_parts rest (same_parts.1 i) (same_parts.0 i) ds)
       turn (inr done) = inr (record {
         table = a.table;
         bytes = a.after;

@@ -1,6 +1,9 @@
 -- The calls that act in a local heap.
-use Rattle.w16_local.proofs.Common.{◌≡◌, ℕ, ◌+◌, ◌*◌, ◌/◌, ◌<◌, ◌≤◌, ◌==◌, ◌&&◌, inl, inr, Bool, true, false, MatchBool, MatchOption, OnErr, IsSome, if◌then◌else◌, length, Option, Some, None, Result, Ok, Err, is_ok, is_some, refl, sym, ap, ◌∙◌, subst, arith, eq-eqb, ne_eqb, nat_cmp, FinMap, cases_lt, false≢true, Kind, Discardable, Fixed, Moveable, Refusal, RoomOptions, has_flag, with_newest, with_object, Handles, Heap, Object, is_fixed, object_at, after_discard, after_free, after_modify, Allocates, IsNew, MakesRoom, most_room, discards_needed, Table, entry_at, heap_in, object_in, inserted_here, object_is, none_about, not_asked, LMEM_DISCARDABLE, LMEM_MODIFY, LMEM_MOVEABLE, World, LocalHeap, LocalObject, Acts, Becomes, IsLowestFree, Stays, current_heap, heap_of, name_at, name_of, object_named, rounded_up, AllocatesIn, AllocatesObject, CompactsIn, DiscardsObject, EntersObject, GivesUp, ModifiesObject, ResizesObject, SizesObject, local_kind, local_options, moveable_or_discardable, LocalAlloc, LocalCompact, LocalFree, LocalReAlloc, names_law, ByteOp, Alloc, Compact, Discard, Free, Realloc, ActedIn, IsSize, IsFull, IsLowest, Calls, IsIn, IsNamed, alone, with_parts, Stepped, answer_of, outcome}
+use Rattle.w16_local.proofs.Common.{◌≡◌, ℕ, ◌+◌, ◌*◌, ◌/◌, ◌<◌, ◌≤◌, ◌==◌, ◌&&◌, inl, inr, Bool, true, false, MatchBool, MatchOption, OnErr, IsSome, if◌then◌else◌, List, length, Option, Some, None, Result, Ok, Err, is_ok, is_some, refl, sym, ap, ◌∙◌, subst, arith, eq-eqb, ne_eqb, nat_cmp, FinMap, cases_lt, false≢true, Kind, Discardable, Fixed, Moveable, Refusal, has_flag, with_newest, with_object, Handles, Heap, Object, is_fixed, object_at, after_discard, after_free, after_modify, Allocates, IsNew, MakesRoom, most_room, discards_needed, Table, entry_at, heap_in, object_in, inserted_here, object_is, none_about, not_asked, LMEM_DISCARDABLE, LMEM_MODIFY, LMEM_MOVEABLE, World, LocalHeap, LocalObject, Acts, Becomes, IsLowestFree, Stays, current_heap, heap_of, name_at, name_of, object_named, rounded_up, AllocatesIn, AllocatesObject, CompactsIn, DiscardsObject, EntersObject, GivesUp, ModifiesObject, ResizesObject, SizesObject, local_kind, local_options, moveable_or_discardable, LocalAlloc, LocalCompact, LocalFree, LocalReAlloc, names_law, Alloc, Compact, Discard, Free, Realloc, ActedIn, DoesAct, Done, MakesObject, IsSize, IsFull, IsLowest, Calls, IsIn, IsNamed, alone, with_parts, Stepped, answer_of, outcome}
 use Rattle.std.specs.FinMap as finmap
+use Rattle.w16_machine.specs.LocalGrowth.{longer}
+use Rattle.w16_local.specs.declared.growth.Request.{Request}
+use Rattle.w16_local.specs.Growth.{InSlot, Served}
 use Rattle.w16_local.proofs.Acting as acting
 use Rattle.w16_local.proofs.Entries.{mapped}
 use Rattle.w16_local.proofs.Looks.{heap_is}
@@ -18,6 +21,25 @@ named_there {handles} {tables} {ds} {name} {slot} {t} {id} n = turn (object_at (
 acts_as : {old new : World} {at : LocalHeap} {P : Heap → Type 0} (Q : Heap → Type 0) (a : Acts old at P new) → Q (heap_in a.table a.bytes) → Acts old at Q new
 acts_as Q a so = record { table = a.table; bytes = a.bytes; is_local = a.is_local; range = a.range; long = a.long; outside = a.outside; are_bytes = a.are_bytes; acted = so; rest = a.rest }
 
+-- the requests of the calls
+abbrev pub make : ℕ → ℕ → ℕ → Request
+make id size flags = record { id = id; size = rounded_up size; kind = Some (local_kind flags); options = local_options flags }
+
+abbrev pub resize : ℕ → ℕ → ℕ → Request
+resize id size flags = record { id = id; size = rounded_up size; kind = None; options = local_options flags }
+
+-- what is so of a slot's heap is so of the one that DS names
+served_here : {handles next : Handles} {tables new : FinMap nat_cmp Table} {ds slot answer : ℕ} {t : Table} (r : Request) (is : IsIn handles tables ds slot t) → InSlot handles tables slot next new (λ old at left. Served r old at answer left) → (rest : World)
+    → Served r (with_parts rest handles tables ds) (record { slot = slot; table = t; bytes = is.bytes }) answer (with_parts rest next new ds)
+served_here {handles} {next} {tables} {new} {ds} {slot} {answer} {t} r is s rest =
+    subst (λ (p : Table × List ℕ). Served r (with_parts rest handles tables ds) (record { slot = slot; table = p.0; bytes = p.1 }) answer (with_parts rest next new ds)) (λ i. (same_table i, same_bytes i)) (s.holds rest ds)
+  where
+    same_table : s.table ≡ t
+    same_table = let both : ◌≡◌ {A = Option Table} (Some s.table) (Some t) = sym s.was ∙ is.kept in cc
+
+    same_bytes : s.bytes ≡ is.bytes
+    same_bytes = let both : ◌≡◌ {A = Option (List ℕ)} (Some s.bytes) (Some is.bytes) = sym s.had ∙ is.had in cc
+
 -- bytes are given up
 gives_up : {old new : World} {at : LocalHeap} (r : Result Heap Refusal) (taken refused : ℕ) → Acts old at (λ next. r ≡ Ok next) new → GivesUp old at r taken refused taken new
 gives_up {old} {new} {at} r taken refused a = subst (λ r. GivesUp old at r taken refused taken new) (sym a.acted) (refl, acts_as (λ next. next ≡ heap_in a.table a.bytes) a refl)
@@ -31,7 +53,7 @@ module _ {handles : Handles} {tables : FinMap nat_cmp Table} {ds name slot : ℕ
   before = heap_in t n.heap.bytes
 
   -- LocalFree
-  pub free_calls : {answer : ℕ} {next : Handles} {new : FinMap nat_cmp Table} → ActedIn handles tables slot (Free id) answer next new → Calls handles tables ds (LocalFree name) 0 next new
+  pub free_calls : {answer : ℕ} {next : Handles} {new : FinMap nat_cmp Table} → ActedIn handles tables slot (DoesAct (Free id) answer) next new → Calls handles tables ds (LocalFree name) 0 next new
   free_calls {answer} {next} {new} a rest =
       on_named n rest name 0 (with_parts rest next new ds) (λ o. GivesUp (with_parts rest handles tables ds) o.heap (after_free (heap_of o.heap) o.id) 0 name 0 (with_parts rest next new ds)) (elim (acting.outcome n.heap a rest) [
         | inl same ↦ absurd same.0
@@ -68,14 +90,23 @@ module _ {handles : Handles} {tables : FinMap nat_cmp Table} {ds name slot : ℕ
       not_modified so rest = on_named n rest 0 answer (with_parts rest next new ds) (Case (with_parts rest handles tables ds) answer (with_parts rest next new ds))
           (subst (λ b. MatchBool b (ModifiesObject (with_parts rest handles tables ds) name flags answer (with_parts rest next new ds) named_object) (Sizes (with_parts rest handles tables ds) answer (with_parts rest next new ds) named_object)) (sym f) (so rest))
 
-      pub resize_calls : 0 < size → ActedIn handles tables slot (Realloc id (rounded_up size) (local_options flags)) answer next new → Calls handles tables ds (LocalReAlloc name size flags) answer next new
-      resize_calls some a = not_modified (λ rest.
+      pub resize_calls : 0 < size → InSlot handles tables slot next new (λ old at left. Served (resize id size flags) old at answer left) → Calls handles tables ds (LocalReAlloc name size flags) answer next new
+      resize_calls some s = not_modified (λ rest.
           subst (λ b. MatchBool b (DiscardsObject (with_parts rest handles tables ds) name flags answer (with_parts rest next new ds) named_object) (SizesObject (with_parts rest handles tables ds) size flags answer (with_parts rest next new ds) named_object))
           (sym (ne_eqb size 0 (λ e. absurd (omega (arith, e, some)))))
-          (elim (acting.outcome n.heap a rest) [
-            | inl same ↦ inl (same.0.0, (same.0.1, same.1))
-            | inr acts ↦ inr (acts_as (ResizesObject before id size flags answer) acts (record { resized = acts.acted.0; named = acts.acted.1 }))
+          (elim (served_here (resize id size flags) n.heap s rest) [
+            | inl acts ↦ inl (sizes (heap_of named_object.heap) acts)
+            | inr r ↦ inr (
+              r.0.0,
+              elim r.1 [
+                | inl short ↦ inl short
+                | inr g ↦ inr (record { size = g.size; growth = g.growth; lengthens = g.lengthens; grown = sizes (heap_of (longer named_object.heap g.size g.lengthens.bytes)) g.grown })
+              ],
+            )
           ]))
+        where
+          sizes : {old left : World} {at : LocalHeap} (heap : Heap) → Acts old at (Done (Realloc id (rounded_up size) (local_options flags)) heap answer) left → Acts old at (ResizesObject heap id size flags answer) left
+          sizes heap acts = acts_as (ResizesObject heap id size flags answer) acts (record { resized = acts.acted.0; named = acts.acted.1 })
 
       module _ (none : size ≡ 0) where
         of_none : ((rest : World) → DiscardsObject (with_parts rest handles tables ds) name flags answer (with_parts rest next new ds) named_object) → Calls handles tables ds (LocalReAlloc name size flags) answer next new
@@ -88,7 +119,7 @@ module _ {handles : Handles} {tables : FinMap nat_cmp Table} {ds name slot : ℕ
         asked_to b m so = of_none (λ rest. subst (λ b. MatchBool b (GivesUp (with_parts rest handles tables ds) named_object.heap (after_discard before id) name 0 answer (with_parts rest next new ds)) (Stays (with_parts rest handles tables ds) 0 answer (with_parts rest next new ds))) (sym m) (so rest))
 
     module _ (f : has_flag flags LMEM_MODIFY ≡ false) (none : size ≡ 0) where
-      pub discard_calls : has_flag flags LMEM_MOVEABLE ≡ true → {answer : ℕ} {next : Handles} {new : FinMap nat_cmp Table} → ActedIn handles tables slot (Discard id) answer next new → Calls handles tables ds (LocalReAlloc name size flags) name next new
+      pub discard_calls : has_flag flags LMEM_MOVEABLE ≡ true → {answer : ℕ} {next : Handles} {new : FinMap nat_cmp Table} → ActedIn handles tables slot (DoesAct (Discard id) answer) next new → Calls handles tables ds (LocalReAlloc name size flags) name next new
       discard_calls m {answer} {next} {new} a = asked_to f name next new none true m (λ rest. elim (acting.outcome n.heap a rest) [
         | inl same ↦ absurd same.0
         | inr acts ↦ gives_up (after_discard before id) name 0 acts
@@ -99,13 +130,6 @@ module _ {handles : Handles} {tables : FinMap nat_cmp Table} {ds name slot : ℕ
 
       pub discard_unasked : has_flag flags LMEM_MOVEABLE ≡ false → Calls handles tables ds (LocalReAlloc name size flags) 0 handles tables
       discard_unasked m = asked_to f 0 handles tables none false m (λ rest. (refl, refl))
-
--- an act with these numbers
-pub alloc_as : {handles next : Handles} {tables new : FinMap nat_cmp Table} {slot answer id : ℕ} {n m : ℕ} {kind other : Kind} {options way' : RoomOptions} → n ≡ m → kind ≡ other → options ≡ way' → ActedIn handles tables slot (Alloc id n kind options) answer next new → ActedIn handles tables slot (Alloc id m other way') answer next new
-alloc_as {handles} {next} {tables} {new} {slot} {answer} {id} e f g a = subst (λ (act : ByteOp). ActedIn handles tables slot act answer next new) (λ i. Alloc id (e i) (f i) (g i)) a
-
-pub realloc_as : {handles next : Handles} {tables new : FinMap nat_cmp Table} {slot answer id : ℕ} {n m : ℕ} {options way' : RoomOptions} → n ≡ m → options ≡ way' → ActedIn handles tables slot (Realloc id n options) answer next new → ActedIn handles tables slot (Realloc id m way') answer next new
-realloc_as {handles} {next} {tables} {new} {slot} {answer} {id} e g a = subst (λ (act : ByteOp). ActedIn handles tables slot act answer next new) (λ i. Realloc id (e i) (g i)) a
 
 -- a size in whole grains may be asked for
 pub rounded_size : (size n : ℕ) → n ≡ rounded_up size → 0 < size → IsSize n
@@ -137,7 +161,7 @@ module _ {handles : Handles} {tables : FinMap nat_cmp Table} {ds slot : ℕ} {t 
     alloc_in answer next new so rest = subst (λ (c : Option LocalHeap). MatchOption c (Stays (with_parts rest handles tables ds) 0 answer (with_parts rest next new ds)) (AllocatesIn (with_parts rest handles tables ds) flags size answer (with_parts rest next new ds))) (sym is.is_current) (so rest)
 
     pub alloc_full : IsFull t → Calls handles tables ds (LocalAlloc flags size) 0 handles tables
-    alloc_full full = alloc_in 0 handles tables (λ rest. inl (inr (inl (λ q free. full q free.0 (no_entry q free.1))), (refl, refl)))
+    alloc_full full = alloc_in 0 handles tables (λ rest. inl (inr (λ q free. full q free.0 (no_entry q free.1)), (refl, refl)))
 
     pub alloc_empty : size ≡ 0 → has_flag flags LMEM_MOVEABLE ≡ false → Calls handles tables ds (LocalAlloc flags size) 0 handles tables
     alloc_empty none f = alloc_in 0 handles tables (λ rest. inl (inl (none, f), (refl, refl)))
@@ -152,17 +176,27 @@ module _ {handles : Handles} {tables : FinMap nat_cmp Table} {ds slot : ℕ} {t 
         ];
       }
 
-      pub alloc_calls : 0 < size → {answer : ℕ} {next : Handles} {new : FinMap nat_cmp Table} → ActedIn handles tables slot (Alloc id (rounded_up size) (local_kind flags) (local_options flags)) answer next new → Calls handles tables ds (LocalAlloc flags size) answer next new
-      alloc_calls some {answer} {next} {new} a = alloc_in answer next new (λ rest. elim (acting.outcome is a rest) [
-        | inl same ↦ inl (inr (inr (some, room same.0.0)), (same.0.1, same.1))
-        | inr acts ↦ inr (
-          id,
-          is_lowest,
-          subst (λ b. MatchBool b ((h : Heap) × EntersObject heap flags id answer h × Becomes (with_parts rest handles tables ds) here h (with_parts rest next new ds)) (Acts (with_parts rest handles tables ds) here (AllocatesObject heap flags size id answer) (with_parts rest next new ds)))
-              (sym (ap (λ b. b && has_flag flags LMEM_MOVEABLE) (ne_eqb size 0 (λ e. absurd (omega (arith, e, some))))))
-              (acts_as (AllocatesObject heap flags size id answer) acts (record { allocated = acts.acted.0; named = acts.acted.1 })),
-        )
-      ])
+      makes : 0 < size → {answer : ℕ} {old left : World} {at : LocalHeap} → Acts old at (Done (Alloc id (rounded_up size) (local_kind flags) (local_options flags)) (heap_of at) answer) left → MakesObject old at flags size id answer left
+      makes some {answer} {old} {left} {at} acts =
+          subst (λ b. MatchBool b ((h : Heap) × EntersObject (heap_of at) flags id answer h × Becomes old at h left) (Acts old at (AllocatesObject (heap_of at) flags size id answer) left))
+          (sym (ap (λ b. b && has_flag flags LMEM_MOVEABLE) (ne_eqb size 0 (λ e. absurd (omega (arith, e, some))))))
+          (acts_as (AllocatesObject (heap_of at) flags size id answer) acts (record { allocated = acts.acted.0; named = acts.acted.1 }))
+
+      pub alloc_calls : 0 < size → {answer : ℕ} {next : Handles} {new : FinMap nat_cmp Table} → InSlot handles tables slot next new (λ old at left. Served (make id size flags) old at answer left) → Calls handles tables ds (LocalAlloc flags size) answer next new
+      alloc_calls some {answer} {next} {new} s = alloc_in answer next new (λ rest. inr (
+        id,
+        is_lowest,
+        elim (served_here (make id size flags) is s rest) [
+          | inl acts ↦ inl (makes some acts)
+          | inr r ↦ inr (
+            (some, room r.0.0),
+            elim r.1 [
+              | inl short ↦ inl short
+              | inr g ↦ inr (record { size = g.size; growth = g.growth; lengthens = g.lengthens; grown = makes some g.grown })
+            ],
+          )
+        ],
+      ))
         where
           room : Allocates heap id (rounded_up size) (local_kind flags) 0 (local_options flags) false heap → discards_needed heap (rounded_up size) None (local_options flags) ≡ None
           room a = sym (none_about heap (heap_is is.over) id (no_object id lowest.free) (rounded_up size) (local_options flags))
@@ -215,9 +249,9 @@ module _ {handles : Handles} {tables : FinMap nat_cmp Table} {ds slot : ℕ} {t 
           enter_calls = alloc_in (4 * id + 2) handles new (λ rest. inr (
             id,
             is_lowest,
-            subst (λ b. MatchBool b ((h : Heap) × EntersObject heap flags id (4 * id + 2) h × Becomes (with_parts rest handles tables ds) here h (with_parts rest handles new ds)) (Acts (with_parts rest handles tables ds) here (AllocatesObject heap flags size id (4 * id + 2)) (with_parts rest handles new ds)))
+            inl (subst (λ b. MatchBool b ((h : Heap) × EntersObject heap flags id (4 * id + 2) h × Becomes (with_parts rest handles tables ds) here h (with_parts rest handles new ds)) (Acts (with_parts rest handles tables ds) here (AllocatesObject heap flags size id (4 * id + 2)) (with_parts rest handles new ds)))
                 (sym (ap (λ b. b && has_flag flags LMEM_MOVEABLE) (eq-eqb size 0 none) ∙ m))
-                (made, record { entered = record { unused = no_object id lowest.free; entered = entered ∙ ap (λ (k : Kind). with_object heap id (record { kind = k; locks = 0; bytes = None })) kind_is }; named = named }, becomes rest),
+                (made, record { entered = record { unused = no_object id lowest.free; entered = entered ∙ ap (λ (k : Kind). with_object heap id (record { kind = k; locks = 0; bytes = None })) kind_is }; named = named }, becomes rest)),
           ))
 
 -- where DS names no heap
@@ -232,7 +266,7 @@ pub realloc_none : (handles : Handles) (tables : FinMap nat_cmp Table) (ds name 
 realloc_none handles tables ds name size flags = none_calls handles tables ds name 0 (λ old o. MatchBool (has_flag flags LMEM_MODIFY) (ModifiesObject old name flags 0 old o) (MatchBool (size == 0) (DiscardsObject old name flags 0 old o) (SizesObject old size flags 0 old o)))
 
 -- LocalCompact
-pub compact_calls : {handles : Handles} {tables : FinMap nat_cmp Table} {ds slot : ℕ} {t : Table} (is : IsIn handles tables ds slot t) (size : ℕ) {answer : ℕ} {next : Handles} {new : FinMap nat_cmp Table} → ActedIn handles tables slot (Compact size) answer next new
+pub compact_calls : {handles : Handles} {tables : FinMap nat_cmp Table} {ds slot : ℕ} {t : Table} (is : IsIn handles tables ds slot t) (size : ℕ) {answer : ℕ} {next : Handles} {new : FinMap nat_cmp Table} → ActedIn handles tables slot (DoesAct (Compact size) answer) next new
     → Calls handles tables ds (LocalCompact size) answer next new
 compact_calls {handles} {tables} {ds} {slot} {t} is size {answer} {next} {new} a rest =
     subst (λ (c : Option LocalHeap). MatchOption c (Stays (with_parts rest handles tables ds) 0 answer (with_parts rest next new ds)) (CompactsIn (with_parts rest handles tables ds) size answer (with_parts rest next new ds))) (sym is.is_current)

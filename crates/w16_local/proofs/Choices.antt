@@ -1,6 +1,5 @@
 -- The local heap that DS names.
 use Rattle.w16_local.proofs.Common.{◌≡◌, ℕ, Option, Some, None, option_map, unwrap_or, sym, ap, ◌∙◌, nat_cmp, FinMap, Handles, Table, heap_in, LocalHeap, LocalObject, current_heap, heap_of, id_named, object_named, asked_of, local_handle, name_from, IsIn, IsNamed, alone}
-use Rattle.std.specs.FinMap as finmap
 
 module _ (h : Handles) (ts : FinMap nat_cmp Table) (ds : ℕ) where
   -- Objects that have a name.

@@ -8,6 +8,9 @@ pub mod OneHeap
 pub mod OneAct
 pub mod Stepping
 pub mod Acting
+pub mod Requests
+pub mod Growing
+pub mod Serving
 pub mod Calling
 pub mod Beginning
 pub mod Sweeping

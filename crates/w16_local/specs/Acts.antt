@@ -65,16 +65,16 @@ Writes (Discard id) heap next before after = after ≡ before
 Writes (Free id) heap next before after = after ≡ before
 Writes (Compact size) heap next before after = after ≡ counted before (moved_bytes heap next)
 
--- when it may be done in the object of a slot
-pub record MayActIn (handles : Handles) (tables : FinMap nat_cmp Table) (slot : ℕ) (act : ByteOp) : Type 0 where
+-- when a work may be done on a slot's heap over the bytes of its segment
+pub record MayActIn (handles : Handles) (tables : FinMap nat_cmp Table) (slot : ℕ) (so : Table → List ℕ → Type 0) : Type 0 where
   pub table : Table
   pub bytes : List ℕ
   pub was : finmap.get tables slot ≡ Some table
   pub had : bytes_at handles.heap slot ≡ Some bytes
-  pub may : MayActOver act table bytes
+  pub may : so table bytes
 
--- What it does there: one heap's table becomes another, and the object's bytes are replaced by as many, of which it writes so many.
-pub record ActedIn (handles : Handles) (tables : FinMap nat_cmp Table) (slot : ℕ) (act : ByteOp) (answer : ℕ) (next : Handles) (new : FinMap nat_cmp Table) : Type 0 where
+-- What it does there: one heap's table becomes another, and the segment's bytes are replaced by as many.
+pub record ActedIn (handles : Handles) (tables : FinMap nat_cmp Table) (slot : ℕ) (so : Table → List ℕ → Table → List ℕ → Type 0) (next : Handles) (new : FinMap nat_cmp Table) : Type 0 where
   pub before : Table
   pub bytes : List ℕ
   pub was : finmap.get tables slot ≡ Some before
@@ -84,10 +84,12 @@ pub record ActedIn (handles : Handles) (tables : FinMap nat_cmp Table) (slot : �
   pub is_local : IsLocalTable table
   pub long : length after ≡ length bytes
   pub are_bytes : All (λ b. b < 256) after
-  pub acted : Acted act before bytes answer table after
-  pub count : ℕ
-  pub writes : Writes act (heap_in before bytes) (heap_in table after) 0 count
+  pub does : so before bytes table after
   pub rest : (new ≡ finmap.insert tables slot table) × (next ≡ record handles { heap = after_write handles.heap slot 0 after })
+
+-- an act, with its answer and how many bytes it writes
+abbrev pub DoesAct : ByteOp → ℕ → Table → List ℕ → Table → List ℕ → Type 0
+DoesAct act answer table bytes left after = (count : ℕ) × (Acted act table bytes answer left after × Writes act (heap_in table bytes) (heap_in left after) 0 count)
 
 -- a slot's bytes were lent once, and all of them count as written
 abbrev pub IsLent : Global → ℕ → Global → Type 0

@@ -1,6 +1,7 @@
 pub mod Acts
 pub mod Codes
 pub mod Fewest
+pub mod Growth
 pub mod Kept
 pub mod Parts
 pub mod Steps

@@ -58,7 +58,7 @@ impl<A: Allocator + Copy> Work<LocalHeap<A>> for ByteOp {
 
 impl<A: Allocator + Copy> LocalHeap<A> {
     /// Does an act.
-    fn act<S: Space>(&mut self, space: &mut S, act: ByteOp) -> u16
+    pub(crate) fn act<S: Space>(&mut self, space: &mut S, act: ByteOp) -> u16
         requires { MayActOver act self.old (S.bytes space.old) }
         ensures acted { Acted act self.old (S.bytes space.old) result self.new (S.bytes space.new) }
         ensures written { Writes act (heap_in self.old (S.bytes space.old)) (heap_in self.new (S.bytes space.new)) (S.written space.old) (S.written space.new) }

@@ -2,6 +2,7 @@
 ghost use Rattle.std.specs.Prelude.{◌≡◌};
 ghost use Rattle.w16_machine.specs.LocalCalls.LocalCommand.{LocalAlloc, LocalCompact, LocalDiscard, LocalFree, LocalReAlloc};
 ghost use Rattle.w16_local.specs.Acts.{IsLentOnce};
+ghost use Rattle.w16_local.specs.Growth.{IsLentOrGrown};
 ghost use Rattle.w16_local.specs.Fewest.{AllocsFewest, CompactionsFewest, InWorlds, ReallocsFewest};
 ghost use Rattle.w16_local.specs.Parts.{Calls};
 
@@ -9,6 +10,7 @@ use crate::LocalHeaps;
 use crate::acts::ByteOp;
 use crate::current::{CurrentHeap, Named};
 use crate::flags::{local_kind, local_options, moveable_or_discardable, rounded_up};
+use crate::growth::Request;
 use crate::look::{may_discard, may_free};
 use crate::steps::TableOp;
 use std::alloc::Allocator;
@@ -19,11 +21,12 @@ use w16_model::has_flag;
 impl<A: Allocator + Copy> LocalHeaps<A> {
     /// `LocalAlloc`: a new object's name, or 0: for a fixed object of size 0, where no entry is free, and where there is no room. The size
     /// is rounded up to 4 bytes; a moveable object of size 0 has no bytes. Others slide or are discarded for it as in the global heap, as few as
-    /// make room.
+    /// make room. Where none do, the heap grows with its segment, by the least that serves and to at most 65,536 bytes, if it ends where the
+    /// segment does, others may slide for the request, and the segment gets the bytes.
     pub fn local_alloc(&mut self, global: &mut Global16<A>, ds: u16, flags: u16, size: u16) -> u16
         ensures step { Calls global.old.handles self.old ds (LocalAlloc flags size) result global.new.handles self.new }
         ensures fewest { InWorlds global.old.handles self.old ds global.new.handles self.new (AllocsFewest flags size result) }
-        ensures written { IsLentOnce global.old self.old ds global.new }
+        ensures written { IsLentOrGrown size global.old self.old ds global.new }
     {
         let Some(CurrentHeap { slot, .. }) = self.current_heap(global, ds) else {
             return 0;
@@ -38,17 +41,17 @@ impl<A: Allocator + Copy> LocalHeaps<A> {
             let _ = self.step(slot, id, TableOp::Enter(moveable_or_discardable(flags)));
             return (4 * id + 2) as u16;
         }
-        let act = ByteOp::Alloc {
+        let request = Request {
             id,
             size: rounded_up(size),
-            kind: local_kind(flags),
+            kind: Some(local_kind(flags)),
             options: local_options(flags),
         };
-        self.act(global, slot, act)
+        self.serve(global, slot, request)
     }
 
     /// `LocalReAlloc`: an object gets another size, rounded up to 4 bytes; its first bytes stay. It answers the object's name, which a fixed
-    /// one that was moved has anew; 0 for a bad name, and where there is no room. With `LMEM_MODIFY` a moveable object gets the kind that
+    /// one that was moved has anew; 0 for a bad name, and where there is no room, though the heap grows for it as for [`LocalHeaps::local_alloc`]. With `LMEM_MODIFY` a moveable object gets the kind that
     /// the flags say, whatever the size. A size of 0 with `LMEM_MOVEABLE` discards the object.
     pub fn local_realloc(
         &mut self,
@@ -60,7 +63,7 @@ impl<A: Allocator + Copy> LocalHeaps<A> {
     ) -> u16
         ensures step { Calls global.old.handles self.old ds (LocalReAlloc name size flags) result global.new.handles self.new }
         ensures fewest { InWorlds global.old.handles self.old ds global.new.handles self.new (ReallocsFewest name size flags result) }
-        ensures written { IsLentOnce global.old self.old ds global.new }
+        ensures written { IsLentOrGrown size global.old self.old ds global.new }
     {
         let Some(Named { slot, heap, id }) = self.named(global, ds, name) else {
             return 0;
@@ -70,12 +73,13 @@ impl<A: Allocator + Copy> LocalHeaps<A> {
             return name;
         }
         if size > 0 {
-            let act = ByteOp::Realloc {
+            let request = Request {
                 id,
                 size: rounded_up(size),
+                kind: None,
                 options: local_options(flags),
             };
-            return self.act(global, slot, act);
+            return self.serve(global, slot, request);
         }
         if !has_flag(flags, LMEM_MOVEABLE) {
             return 0;
@@ -83,7 +87,7 @@ impl<A: Allocator + Copy> LocalHeaps<A> {
         if !may_discard(heap, id) {
             return 0;
         }
-        self.act(global, slot, ByteOp::Discard { id });
+        self.act(global, slot, &ByteOp::Discard { id });
         name
     }
 
@@ -106,7 +110,7 @@ impl<A: Allocator + Copy> LocalHeaps<A> {
         if !may_free(heap, id) {
             return name;
         }
-        self.act(global, slot, ByteOp::Free { id });
+        self.act(global, slot, &ByteOp::Free { id });
         0
     }
 
@@ -120,6 +124,7 @@ impl<A: Allocator + Copy> LocalHeaps<A> {
         let Some(CurrentHeap { slot, .. }) = self.current_heap(global, ds) else {
             return 0;
         };
-        self.act(global, slot, ByteOp::Compact { size: size as u32 })
+        let compact = ByteOp::Compact { size: size as u32 };
+        self.act(global, slot, &compact)
     }
 }

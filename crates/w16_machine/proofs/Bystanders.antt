@@ -1,11 +1,14 @@
 -- What each step spares, and so each step of a run.
-use Rattle.w16_machine.proofs.Common.{◌≡◌, ◌≢◌, ℕ, ◌⊎◌, inl, inr, true, List, [], ◌∷◌, Option, Some, None, IsSomeAnd, option_map, refl, sym, ap, ◌∙◌, subst, cases_Bool, cases_eq, Object, object_at, is_pinned_object, StandsStill, Table, Each-from_All, bytes_in, LoadingCommand, Format, Reply, Word, Done, bystanders_law, pinned_law, World, IsWorld, LocalHeap, heap_of, local_in, current_heap, segment_bytes, LocalCommand, LocalStep, DS, HasSameObjects, IsHeapKept, IsLocalKept, IsObjectKept, IsRewritten, KeepsRest, asks_for_room, but_bytes, may_move_named, IsCommand, Event, Step, Run, OfLoading, OfLocals, IsLocalAbout, IsLocalSpared, AllSpare, StepSparesLaw, RunSparesLaw}
+use Rattle.w16_machine.proofs.Common.{◌≡◌, ◌≢◌, ℕ, ◌⊎◌, inl, inr, true, List, [], ◌∷◌, Option, Some, None, IsSomeAnd, option_map, refl, sym, ap, ◌∙◌, subst, cases_Bool, cases_eq, Object, object_at, is_pinned_object, StandsStill, Table, Each-from_All, bytes_in, LoadingCommand, Format, Reply, Word, Done, bystanders_law, pinned_law, World, IsWorld, LocalHeap, heap_of, local_in, current_heap, segment_bytes, LocalCommand, LocalStep, DS, HasSameObjects, IsHeapKept, IsLocalKept, IsObjectKept, IsRewritten, KeepsRest, asks_for_room, but_bytes, may_move_named, IsCommand, Event, Step, Run, OfLoading, OfLocals, IsLocalAbout, IsLocalSpared, AllSpare, StepSparesLaw, RunSparesLaw, ◌<◌, is_some, bytes_at, Discardable, IsHeapLeft, IsLeftByGrowth, IsLengthened, KeepsRestLonger, length}
 use Rattle.std.specs.List.{AllByRecursion as Each}
 use Rattle.std.specs.FinMap as finmap
-use Rattle.w16_machine.proofs.LocalFacts.{IsThere, current_there, local_there, there_local, found}
+use Rattle.w16_machine.specs.Bystanders.{IsSpared}
+use Rattle.w16_machine.proofs.LocalFacts.{IsThere, current_there, local_there, object_of, there_local, found}
 use Rattle.w16_machine.proofs.LocalFar.{same_heaps}
 use Rattle.w16_machine.proofs.LocalFrame.{frame_law}
-use Rattle.w16_machine.proofs.LocalGoes.{goes_law}
+use Rattle.w16_machine.proofs.LocalGoes.{goes_law, left_inside}
+use Rattle.w16_machine.proofs.LocalLeft.{left_is}
+use Rattle.w16_machine.proofs.LocalLonger.{leaves_longer}
 use Rattle.w16_machine.proofs.LocalOthers.{local_others_law, local_pinned_law, stands_same}
 use Rattle.w16_machine.proofs.LocalOutcomes.{Outcome, outcome}
 use Rattle.w16_machine.proofs.Worlds.{world_law}
@@ -15,7 +18,8 @@ outcome_ds : (old new : World) (command : LocalCommand) (answer : ℕ) → Outco
 outcome_ds old new command answer (inl same) = ap (λ (w : World). w.ds) same
 outcome_ds old new command answer (inr (inl init)) = ap (λ (w : World). w.ds) init.rest
 outcome_ds old new command answer (inr (inr (at, c, inl (next, stepped, becomes)))) = ap (λ (w : World). w.ds) becomes.rest
-outcome_ds old new command answer (inr (inr (at, c, inr acts))) = ap (λ (w : World). w.ds) acts.rest
+outcome_ds old new command answer (inr (inr (at, c, inr (inl acts)))) = ap (λ (w : World). w.ds) acts.rest
+outcome_ds old new command answer (inr (inr (at, c, inr (inr g)))) = ap (λ (w : World). w.ds) g.grows.grown.rest
 
 local_ds : (old new : World) (command : LocalCommand) (reply : Reply) → LocalStep old command reply new → ((selector : ℕ) → OfLocals command ≡ OfLocals (DS selector) → ⊥) → new.ds ≡ old.ds
 local_ds old new (DS selector) Done step other = absurd (other selector refl)
@@ -36,7 +40,7 @@ module _ (format : Format) (old new : World) (command : LoadingCommand) (reply :
 
 -- A local call, and a local heap that stays.
 module _ (old new : World) (command : LocalCommand) (reply : Reply) (is : IsWorld old) (step : LocalStep old command reply new) (slot : ℕ) (at after : LocalHeap) (e : local_in old slot ≡ Some at) (f : local_in new slot ≡ Some after) where
-  frame : KeepsRest old new
+  frame : KeepsRest old new ⊎ KeepsRestLonger old command new
   frame = frame_law old new command reply is.heaps step
 
   -- it is the current heap, or another's segment has it
@@ -62,22 +66,57 @@ module _ (old new : World) (command : LocalCommand) (reply : Reply) (is : IsWorl
       turn (Some c) d h = other c d h.0
 
   -- another is as it was
-  other_same : IsOther → after ≡ at
+  pub other_same : IsOther → after ≡ at
   other_same other =
-      let both : ◌≡◌ {A = Option LocalHeap} (Some after) (Some at) = sym f ∙ ap (λ t. found slot t (segment_bytes new slot)) (tables (frame.heaps slot)) ∙ ap (found slot (finmap.get old.heaps slot)) (bytes (frame.objects slot)) ∙ e in
+      let both : ◌≡◌ {A = Option LocalHeap} (Some after) (Some at) = sym f ∙ ap (λ t. found slot t (segment_bytes new slot)) (tables frame) ∙ ap (found slot (finmap.get old.heaps slot)) (bytes frame) ∙ e in
       cc
     where
       was : IsThere old at × (at.slot ≡ slot)
       was = local_there old slot at e
 
-      tables : IsHeapKept old new slot → finmap.get new.heaps slot ≡ finmap.get old.heaps slot
-      tables (inl same) = same
-      tables (inr (inl none)) = let never : ◌≡◌ {A = Option Table} (Some at.table) None = sym was.0.table ∙ ap (finmap.get old.heaps) was.1 ∙ none.0 in cc
-      tables (inr (inr h)) = absurd (not_current other (λ c. IsSomeAnd (finmap.get new.heaps slot) (λ (t : Table). (t.lo ≡ c.table.lo) × (t.hi ≡ c.table.hi))) h)
+      now : IsThere new after × (after.slot ≡ slot)
+      now = local_there new slot after f
 
-      bytes : IsObjectKept old new slot → segment_bytes new slot ≡ segment_bytes old slot
-      bytes (inl same) = ap bytes_in same
-      bytes (inr h) = absurd (not_current other (λ c. IsSomeAnd (object_at old.loading.handles.heap slot) (λ before. IsSomeAnd (object_at new.loading.handles.heap slot) (IsRewritten c before))) h)
+      had : finmap.get old.heaps slot ≡ Some at.table
+      had = ap (finmap.get old.heaps) (sym was.1) ∙ was.0.table
+
+      kept_table : IsHeapKept old new slot → finmap.get new.heaps slot ≡ finmap.get old.heaps slot
+      kept_table (inl same) = same
+      kept_table (inr (inl none)) = let never : ◌≡◌ {A = Option Table} (Some at.table) None = sym had ∙ none.0 in cc
+      kept_table (inr (inr h)) = absurd (not_current other (λ c. IsSomeAnd (finmap.get new.heaps slot) (λ (t : Table). (t.lo ≡ c.table.lo) × (t.hi ≡ c.table.hi))) h)
+
+      -- it isn't gone
+      left_table : IsHeapLeft old new slot → finmap.get new.heaps slot ≡ finmap.get old.heaps slot
+      left_table (inl left) =
+          let has : finmap.get new.heaps slot ≡ Some after.table = ap (finmap.get new.heaps) (sym now.1) ∙ now.0.table in
+          has ∙ sym (left_inside (finmap.get old.heaps slot) (bytes_at new.loading.handles.heap slot) after.table (sym (left_is new.loading.handles.heap old.heaps slot) ∙ sym left ∙ has)).0
+      left_table (inr h) = absurd (not_current other (λ c. IsSomeAnd (finmap.get new.heaps slot) (λ (t : Table). (t.lo ≡ c.table.lo) × (c.table.hi < t.hi) × IsSomeAnd (segment_bytes new slot) (λ bytes. t.hi ≡ length bytes))) h)
+
+      tables : KeepsRest old new ⊎ KeepsRestLonger old command new → finmap.get new.heaps slot ≡ finmap.get old.heaps slot
+      tables (inl k) = kept_table (k.heaps slot)
+      tables (inr r) = left_table ((leaves_longer old new command is.heaps r).heaps slot)
+
+      kept_bytes : IsObjectKept old new slot → segment_bytes new slot ≡ segment_bytes old slot
+      kept_bytes (inl same) = ap bytes_in same
+      kept_bytes (inr h) = absurd (not_current other (λ c. IsSomeAnd (object_at old.loading.handles.heap slot) (λ before. IsSomeAnd (object_at new.loading.handles.heap slot) (IsRewritten c before))) h)
+
+      -- its segment has bytes, and lost none
+      lost : (p : Option Object) → IsSomeAnd p (λ o. (o.kind ≡ Discardable) × (o.locks ≡ 0) × (is_some o.bytes ≡ true) × (object_at new.loading.handles.heap slot ≡ Some (record o { bytes = None }))) → ⊥
+      lost None h = h
+      lost (Some o) h = let never : ◌≡◌ {A = Option (List ℕ)} (Some after.bytes) None = sym now.0.bytes ∙ ap (segment_bytes new) now.1 ∙ ap bytes_in h.3 in cc
+
+      left_bytes : IsLeftByGrowth old new slot → segment_bytes new slot ≡ segment_bytes old slot
+      left_bytes (inl (inl same)) = ap bytes_in same
+      left_bytes (inl (inr gone)) = absurd (lost (object_at old.loading.handles.heap slot) gone)
+      left_bytes (inr h) = absurd (not_current other (λ c. IsSomeAnd (object_at old.loading.handles.heap slot) (λ before. IsSomeAnd (object_at new.loading.handles.heap slot) (IsLengthened c before))) h)
+
+      there_before : is_some (object_at old.loading.handles.heap slot) ≡ true
+      there_before = let o : (o : Object) × (object_at old.loading.handles.heap at.slot ≡ Some o) × (o.bytes ≡ Some at.bytes) = object_of old.loading.handles.heap at.slot at.bytes was.0.bytes in
+          ap is_some (ap (object_at old.loading.handles.heap) (sym was.1) ∙ o.1)
+
+      bytes : KeepsRest old new ⊎ KeepsRestLonger old command new → segment_bytes new slot ≡ segment_bytes old slot
+      bytes (inl k) = kept_bytes (k.objects slot)
+      bytes (inr r) = left_bytes ((leaves_longer old new command is.heaps r).objects slot there_before)
 
   chosen_after : local_in new at.slot ≡ Some after
   chosen_after = ap (local_in new) (local_there old slot at e).1 ∙ f
@@ -104,6 +143,16 @@ module _ (old new : World) (command : LocalCommand) (reply : Reply) (is : IsWorl
       | inr d ↦ stands_same (heap_of at) (heap_of after) q (ap (λ (h : LocalHeap). finmap.get (heap_of h).places q) (other_same d))
     ]
 
+-- what a local call spares of the global heap
+module _ (old new : World) (command : LocalCommand) (is : IsWorld old) (q : ℕ) where
+  object_spared : is_some (object_at old.loading.handles.heap q) ≡ true → KeepsRest old new ⊎ KeepsRestLonger old command new → IsSpared old (OfLocals command) new q
+  object_spared there (inl k) = inl (k.objects q)
+  object_spared there (inr r) = inr (r.may, (leaves_longer old new command is.heaps r).objects q there)
+
+  object_stands : IsSomeAnd (object_at old.loading.handles.heap q) (λ o. is_pinned_object o ≡ true) → KeepsRest old new ⊎ KeepsRestLonger old command new → StandsStill old.loading.handles.heap new.loading.handles.heap q
+  object_stands pinned (inl k) = stands_same old.loading.handles.heap new.loading.handles.heap q (ap (λ h. finmap.get h.heap.places q) k.handles)
+  object_stands pinned (inr r) = (leaves_longer old new command is.heaps r).pinned q pinned
+
 pub step_spares_law : StepSparesLaw
 step_spares_law format old new (OfLoading command) reply is step = record {
   ds = λ other. ap (λ (w : World). w.ds) step.1;
@@ -114,8 +163,8 @@ step_spares_law format old new (OfLoading command) reply is step = record {
 }
 step_spares_law format old new (OfLocals command) reply is step = record {
   ds = λ other. local_ds old new command reply step other;
-  objects = λ q there other. (frame_law old new command reply is.heaps step).objects q;
-  pinned = λ q pinned unmoved. inl (stands_same old.loading.handles.heap new.loading.handles.heap q (ap (λ h. finmap.get h.heap.places q) (frame_law old new command reply is.heaps step).handles));
+  objects = λ q there other. object_spared old new command is q there (frame_law old new command reply is.heaps step);
+  pinned = λ q pinned unmoved. inl (object_stands old new command is q pinned (frame_law old new command reply is.heaps step));
   local_objects = λ slot at after q o e f there other. local_spared old new command reply is step slot at after e f q o there other;
   local_pinned = λ slot at after q o e f there pinned unmoved. local_stands old new command reply is step slot at after e f q o there pinned unmoved;
 }

@@ -24,16 +24,17 @@ pub use Rattle.w16_machine.specs.Bystanders.{AllSpare, IsLocalAbout, IsLocalSpar
 pub use Rattle.w16_machine.specs.Fewest.{AreFewest, IsFewest}
 pub use Rattle.w16_machine.specs.Law.{EmptyLaw, FewestLaw, FilesLaw, IsWorld, IsWorldOfFiles, RunFilesLaw, RunWorldLaw, WorldLaw}
 pub use Rattle.w16_machine.specs.Local.{Acts, AreLocalHeaps, AreNamed, Becomes, Beginning, IsLocalIn, IsLocalTable, IsLowestFree, LocalHeap, LocalObject, Stays, beginning, beginning_in, current_heap, has_range, heap_of, id_at, id_named, is_name, is_range, left_in, local_in, local_of, name_at, name_of, new_table, object_named, range_in, rounded_down, rounded_up, segment_bytes, selector_or_ds, with_local, with_table}
-pub use Rattle.w16_machine.specs.LocalCalls.{AllocatesIn, AllocatesObject, Answers, CompactsIn, DiscardsObject, EntersObject, GivesUp, HasNoEntry, IsEmptyFixed, IsRefusedAlloc, Leaves, LocalCommand, LocalInits, LocalStep, ModifiesObject, OnNamed, ResizesObject, SizesObject, is_absent_asked, local_flags_of, local_kind, local_options, lock_refused, locks_left, moveable_or_discardable, near_pointer}
+pub use Rattle.w16_machine.specs.LocalCalls.{AllocatesIn, AllocatesObject, Answers, CompactsIn, DiscardsObject, EntersObject, GivesUp, HasNoEntry, HasNoRoom, IsEmptyFixed, IsRefusedAlloc, Leaves, LocalCommand, LocalInits, LocalStep, MakesLonger, MakesObject, ModifiesObject, OnNamed, ResizesObject, SizesObject, is_absent_asked, local_flags_of, local_kind, local_options, lock_refused, locks_left, moveable_or_discardable, near_pointer}
 pub use Rattle.w16_machine.specs.LocalCalls.LocalCommand.{DS, LocalAlloc, LocalCompact, LocalDiscard, LocalFlags, LocalFree, LocalHandle, LocalInit, LocalLock, LocalReAlloc, LocalSize, LocalUnlock}
 pub use Rattle.w16_machine.specs.LocalEffects.{DiscardLaw, Ends, FreeLaw, IsLocalNamed, LockLaw, ModifyLaw, RefusedLaw, UnlockLaw, discard_is_refused, is_refused}
-pub use Rattle.w16_machine.specs.LocalFewest.{AllocFewest, AllocLaw, CompactLaw, Left, ReallocFewest, ReallocLaw}
-pub use Rattle.w16_machine.specs.LocalLaw.{BeginLaw, BeginsNone, FarLaw, FrameLaw, GoesLaw, GoneLaw, HasSameObjects, IsBegun, IsHeapKept, IsLocalKept, IsNamedBy, IsObjectKept, IsRewritten, KeepsRest, MayBegin, NamedLaw, NamesLaw, NeverBackLaw, NewHeapLaw, OrderLaw, OthersLaw, OutcomeLaw, PinnedLaw, PlacesLaw, QueriesLaw, asks_for_room, but_bytes, may_move_named, named_by, only_tells}
-pub use Rattle.w16_machine.specs.LocalStays.{HasSameSizes, HeapsLaw, SizesLaw, call_may_take, modules_may_take, resources_may_take, size_at}
+pub use Rattle.w16_machine.specs.LocalFewest.{AllocFewest, AllocLaw, AllocatedFewest, CompactLaw, GrowsFewest, IsRefusedSize, LacksBytes, LacksGrowth, Left, ReallocFewest, ReallocLaw, ReallocatedFewest}
+pub use Rattle.w16_machine.specs.LocalGrowth.{Grows, IsGrowth, IsKeptShort, IsLongerSize, IsServedAt, Lengthens, OnceLonger, StaysShort, growth_flags, longer, with_longer}
+pub use Rattle.w16_machine.specs.LocalLaw.{GrowthLaw, IsHeapLeft, IsLeftByGrowth, IsLengthened, KeepsRestLonger, LeavesLonger, OneGrowthLaw, flags_in, may_grow, BeginLaw, BeginsNone, FarLaw, FrameLaw, GoesLaw, GoneLaw, HasSameObjects, IsBegun, IsHeapKept, IsLocalKept, IsNamedBy, IsObjectKept, IsRewritten, KeepsRest, MayBegin, NamedLaw, NamesLaw, NeverBackLaw, NewHeapLaw, OrderLaw, OthersLaw, OutcomeLaw, PinnedLaw, PlacesLaw, QueriesLaw, asks_for_room, but_bytes, may_move_named, named_by, only_tells}
+pub use Rattle.w16_machine.specs.LocalStays.{HasSameSizes, HeapsLaw, LocalSizesLaw, SizesLaw, call_may_take, modules_may_take, resources_may_take, size_at}
 pub use Rattle.w16_machine.specs.Machine.{Command, Event, IsCommand, OnHandles, Run, Step, StoreStep, after_loading}
 pub use Rattle.w16_machine.specs.Machine.Command.{OfLoading, OfLocals}
 pub use Rattle.w16_machine.specs.World.{World, empty_world}
-pub use Rattle.w16_machine.specs.declared.local.TheConstants.{LMEM_DISCARDABLE, LMEM_MODIFY, LMEM_MOVEABLE, LOCAL_ENTRIES, LOCAL_GRAIN}
+pub use Rattle.w16_machine.specs.declared.local.TheConstants.{LAST_LOCAL_END, LMEM_DISCARDABLE, LMEM_MODIFY, LMEM_MOVEABLE, LMEM_NOCOMPACT, LOCAL_ENTRIES, LOCAL_GRAIN}
 pub use Rattle.w16_model.proofs.Absence.{discard_absent, discard_is}
 pub use Rattle.w16_model.proofs.CallOrders.{allocated, compacted, resized, same, stays, touched_rest}
 pub use Rattle.w16_model.proofs.Common.{Answer, AreResized, Bytes, Enters, Fault, GlobalAlloc, GlobalCompact, HandleStep, IsCountedBy, IsMultiple, IsSound, IsTable, LacksPlace, LacksRoom, MakesRoom, Misses, MovesLittle, OnlyLeave, OthersStand, Read, ReallocatesFewest, Table, after_discard, after_free, after_lock, after_modify, after_unlock, block_end, block_with, by_id, compaction_prefix, data_write, entry_at, fits_in_place, growth_for, has_flag, heap_in, hold_of_entry, hold_of_object, is_discardable, is_listed, leb-true, min, most_room, nat_le, needed, newest, object_in, prefix_for, removed, room, size_of, slice_range, snapshot, take_all, touched, without, ◌*◌}
@@ -52,6 +53,7 @@ pub use Rattle.w16_model.proofs.ResizedHandles.{resize_fewest_law}
 pub use Rattle.w16_model.proofs.Sound.{sound_law}
 pub use Rattle.w16_model.proofs.Tables.{length_range, member_with, object_is}
 pub use Rattle.w16_model.specs.Discards.{Snapshot}
+pub use Rattle.w16_model.specs.Ends.{ending, is_answered, is_resized}
 pub use Rattle.w16_model.specs.Far.{FarStep}
 pub use Rattle.w16_model.specs.Fewest.{CompactsFewest}
 pub use Rattle.w16_model.specs.Law.{KeepsAddresses}

@@ -1,5 +1,5 @@
 -- Local heaps worked out by hand: where they may begin, names, flags, and the room of small heaps.
-use Rattle.w16_machine.proofs.Common.{◌≡◌, ℕ, true, false, [], ◌∷◌, Some, None, refl, Block, Hold, Pinned, Loose, Kind, Fixed, Moveable, Discardable, Snapshot, snapshot, needed, fits_in_place, prefix_for, growth_for, room, Heap, Object, range_in, rounded_up, name_of, local_kind, local_options, local_flags_of, lock_refused, is_absent_asked, moveable_or_discardable}
+use Rattle.w16_machine.proofs.Common.{◌≡◌, ℕ, true, false, [], ◌∷◌, Some, None, refl, Block, Hold, Pinned, Loose, Kind, Fixed, Moveable, Discardable, Snapshot, snapshot, needed, fits_in_place, prefix_for, growth_for, room, Heap, Object, range_in, rounded_up, name_of, local_kind, local_options, local_flags_of, lock_refused, is_absent_asked, moveable_or_discardable, growth_flags}
 use Rattle.std.specs.FinMap as finmap
 use Rattle.w16_model.specs.declared.Refusal.TheVariants as refusals
 
@@ -115,3 +115,22 @@ after = snapshot 4 64 (block 0 4 12 Pinned ∷ block 3 16 4 Loose ∷ block 2 24
 
 no_growth : (fits_in_place after 16 0 ≡ false) × (growth_for after 16 0 (local_options 2) ≡ Some 0) × (growth_for after 20 0 (local_options 2) ≡ None)
 no_growth = (refl, refl, refl)
+
+-- A heap with a moveable object of 40 bytes, which ends at 64 where its segment does: 40 more have no room in it, and have some where it ends at 96.
+-- Behind a fixed object of that size 96 more have none where it ends at 160, and have some where it ends at 192.
+
+abbrev one : ℕ → Snapshot
+one end = snapshot 4 end (block 0 4 40 Loose ∷ []) []
+
+grown_once : (prefix_for (one 64) 40 (Some 1) (local_options 32) ≡ None) × (prefix_for (one 96) 40 (Some 1) (local_options 32) ≡ Some 0)
+grown_once = (refl, refl)
+
+abbrev two : ℕ → Snapshot
+two end = snapshot 4 end (block 0 4 40 Loose ∷ block 1 44 40 Pinned ∷ []) []
+
+grown_twice : (prefix_for (two 96) 96 (Some 2) (local_options 0) ≡ None) × (prefix_for (two 160) 96 (Some 2) (local_options 0) ≡ None) × (prefix_for (two 192) 96 (Some 2) (local_options 0) ≡ Some 0)
+grown_twice = (refl, refl, refl)
+
+-- with LMEM_NODISCARD no object of the global heap is discarded for it either
+growths : (growth_flags (local_options 0) ≡ 0) × (growth_flags (local_options 32) ≡ 32)
+growths = (refl, refl)

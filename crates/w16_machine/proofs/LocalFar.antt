@@ -4,7 +4,7 @@ use Rattle.std.specs.FinMap as finmap
 use Rattle.w16_model.specs.Far.{far_read, far_write}
 use Rattle.w16_model.specs.Far.FarAnswer.{Done}
 use Rattle.w16_machine.proofs.LocalFacts.{IsThere, local_there, local_here}
-use Rattle.w16_machine.proofs.LocalWorlds.{IsLocalAt, left_over, left_is}
+use Rattle.w16_machine.proofs.LocalLeft.{IsLocalAt, left_over, left_is}
 
 -- How many bytes there are.
 

@@ -1,13 +1,17 @@
 -- Local calls for room discard as few as they can, as each heap's requests do.
-use Rattle.w16_machine.proofs.Common.{◌≡◌, ◌≢◌, ℕ, ◌+◌, ◌*◌, ◌<◌, ◌≤◌, ◌⊎◌, inl, inr, Bool, true, false, cond, ◌&&◌, ◌==◌, MatchBool, MatchOption, IsSomeAnd, Option, Some, None, refl, sym, ap, ◌∙◌, subst, arith, ne_eqb, false≢true, Block, block_end, Heap, Object, IsHeap, blocks, object_at, size_of, is_fixed, MakesRoom, most_room, has_flag, AllocatesFewest, CompactsFewest, LacksRoom, LacksPlace, ReallocatesFewest, allocation_law, compaction_law, lacking, Each-at, Each-from_All, IsBlockOf, block_member, fewest_law, LMEM_MOVEABLE, LMEM_MODIFY, World, LocalHeap, AreLocalHeaps, Becomes, Acts, Stays, heap_of, local_in, current_heap, name_of, name_at, rounded_up, EntersObject, AllocatesObject, ResizesObject, AllocatesIn, CompactsIn, ModifiesObject, DiscardsObject, SizesObject, IsRefusedAlloc, IsEmptyFixed, HasNoEntry, is_absent_asked, local_kind, local_options, LocalAlloc, LocalReAlloc, Left, AllocFewest, ReallocFewest, AllocLaw, ReallocLaw, CompactLaw}
+use Rattle.w16_machine.proofs.Common.{◌≡◌, ◌≢◌, ℕ, ◌+◌, ◌*◌, ◌<◌, ◌≤◌, ◌⊎◌, inl, inr, Bool, true, false, cond, ◌&&◌, ◌==◌, MatchBool, MatchOption, IsSomeAnd, Option, Some, None, refl, sym, ap, ◌∙◌, subst, arith, ne_eqb, false≢true, Block, block_end, Heap, Object, IsHeap, blocks, object_at, size_of, is_fixed, MakesRoom, most_room, has_flag, AllocatesFewest, CompactsFewest, LacksRoom, LacksPlace, ReallocatesFewest, allocation_law, compaction_law, lacking, Each-at, Each-from_All, IsBlockOf, block_member, fewest_law, LMEM_MOVEABLE, LMEM_MODIFY, World, LocalHeap, AreLocalHeaps, Becomes, Acts, Stays, heap_of, local_in, current_heap, name_of, name_at, rounded_up, EntersObject, AllocatesObject, ResizesObject, AllocatesIn, CompactsIn, ModifiesObject, DiscardsObject, SizesObject, IsRefusedAlloc, IsEmptyFixed, HasNoEntry, is_absent_asked, local_kind, local_options, LocalAlloc, LocalReAlloc, Left, AllocFewest, ReallocFewest, AllocLaw, ReallocLaw, CompactLaw, is_some, RoomOptions, ending, is_answered, HasNoRoom, Grows, Lengthens, longer, with_longer, AllocatedFewest, ReallocatedFewest, LacksBytes, LacksGrowth, LocalObject, KeepsRest}
 use Rattle.std.specs.FinMap as finmap
+use Rattle.w16_model.specs.Request.{Reallocates, ReallocatesObject}
 use Rattle.w16_machine.proofs.LocalFacts.{IsThere, current_there, named_there, there_local, heap_here, acted_there, became_there}
+use Rattle.w16_machine.proofs.LocalFewestLonger.{alloc_lacks, grows_fewest, lacks_growth, later_heap, realloc_lacks}
+use Rattle.w16_machine.proofs.LocalFrame.{acts_rest}
+use Rattle.w16_machine.proofs.LocalGrown.{grown_current, grown_world, longer_is}
 use Rattle.w16_machine.proofs.LocalNames.{block_placed}
 use Rattle.w16_machine.proofs.LocalOutcomes.{outcome}
 use Rattle.w16_machine.proofs.LocalWorlds.{local_world}
 
 -- no name is 0
-some_name : (heap : Heap) → IsHeap heap → 4 ≤ heap.lo → (id : ℕ) → name_at heap id ≡ Some 0 → ⊥
+pub some_name : (heap : Heap) → IsHeap heap → 4 ≤ heap.lo → (id : ℕ) → name_at heap id ≡ Some 0 → ⊥
 some_name heap is low id = turn (object_at heap id)
   where
     by_kind : (f : Bool) → cond f (finmap.get heap.places id) (Some (4 * id + 2)) ≡ Some 0 → ⊥
@@ -21,33 +25,87 @@ some_name heap is low id = turn (object_at heap id)
     turn (Some o) e = by_kind (is_fixed o.kind) e
 
 module _ (old : World) (is : AreLocalHeaps old) (at : LocalHeap) (c : current_heap old ≡ Some at) (new : World) where
-  there : IsThere old at
-  there = current_there old at c
+  here : IsThere old at
+  here = current_there old at c
 
   -- what a step that acted leaves
   left : (P Q : Heap → Type 0) → ((heap : Heap) → P heap → Q heap) → Acts old at P new → Left new at Q
   left P Q f a =
       let mine : LocalHeap = record { slot = at.slot; table = a.table; bytes = a.bytes } in
-      subst (λ p. IsSomeAnd p (λ after. Q (heap_of after))) (sym (there_local new mine (acted_there old new at P there a))) (f (heap_of mine) a.acted)
+      subst (λ p. IsSomeAnd p (λ after. Q (heap_of after))) (sym (there_local new mine (acted_there old new at P here a))) (f (heap_of mine) a.acted)
 
   -- and what one leaves that stays
   left_same : (Q : Heap → Type 0) → new ≡ old → Q (heap_of at) → Left new at Q
-  left_same Q same q = subst (λ p. IsSomeAnd p (λ after. Q (heap_of after))) (sym (ap (λ (w : World). local_in w at.slot) same ∙ there_local old at there)) q
+  left_same Q same q = subst (λ p. IsSomeAnd p (λ after. Q (heap_of after))) (sym (ap (λ (w : World). local_in w at.slot) same ∙ there_local old at here)) q
 
   -- in a world with local heaps no answered name is 0
   not_0 : AreLocalHeaps new → (P : Heap → Type 0) (id answer : ℕ) → ((heap : Heap) → P heap → name_at heap id ≡ Some answer) → Acts old at P new → answer ≢ 0
   not_0 now P id answer named a e =
       let mine : LocalHeap = record { slot = at.slot; table = a.table; bytes = a.bytes } in
-      some_name (heap_of mine) (heap_here new now mine (acted_there old new at P there a)) a.is_local.low id (named (heap_of mine) a.acted ∙ ap Some e)
+      some_name (heap_of mine) (heap_here new now mine (acted_there old new at P here a)) a.is_local.low id (named (heap_of mine) a.acted ∙ ap Some e)
+
+module _ (old : World) (is : AreLocalHeaps old) (at : LocalHeap) (c : current_heap old ≡ Some at) (new : World) where
+  there : IsThere old at
+  there = current_there old at c
+
+  -- an allocation of bytes that isn't answered in the heap, or in it as it ends later
+  no_room : (flags size : ℕ) → HasNoRoom (heap_of at) flags size → LacksRoom (heap_of at) None (rounded_up size) (local_options flags)
+  no_room flags size lacks = lacking (heap_of at) (heap_here old is at there) (rounded_up size) None (local_options flags) (local_options flags).compact (local_options flags).discard refl refl lacks.1
+
+  no_later : (flags size id : ℕ) → object_at (heap_of at) id ≡ None → (e : ℕ) → at.table.hi ≤ e → is_answered (ending (heap_of at) e) id (rounded_up size) (local_options flags) ≡ false
+      → LacksRoom (ending (heap_of at) e) None (rounded_up size) (local_options flags)
+  no_later flags size id free e le refused = alloc_lacks (ending (heap_of at) e) (later_heap (heap_of at) e (heap_here old is at there) le) id free (rounded_up size) (local_options flags) refused
 
   allocs : AreLocalHeaps new → (flags size answer : ℕ) → AllocatesIn old flags size answer new at → AllocFewest old at flags size answer new
   allocs now flags size answer (inl refused) = record { answered = λ some _. absurd (some refused.1.0); refused = λ _. (refused.1.1, reason refused.0) }
     where
-      reason : IsRefusedAlloc (heap_of at) flags size → IsEmptyFixed flags size ⊎ HasNoEntry (heap_of at) ⊎ LacksRoom (heap_of at) None (rounded_up size) (local_options flags)
+      reason : IsRefusedAlloc (heap_of at) flags size → IsEmptyFixed flags size ⊎ HasNoEntry (heap_of at)
+          ⊎ (LacksRoom (heap_of at) None (rounded_up size) (local_options flags) × LacksGrowth old at (local_options flags) (λ heap. LacksRoom heap None (rounded_up size) (local_options flags)))
       reason (inl fixed) = inl fixed
-      reason (inr (inl full)) = inr (inl full)
-      reason (inr (inr room)) = inr (inr (lacking (heap_of at) (heap_here old is at there) (rounded_up size) None (local_options flags) (local_options flags).compact (local_options flags).discard refl refl room.1))
-  allocs now flags size answer (inr (id, free, makes)) = turn (is_absent_asked flags size) refl makes
+      reason (inr full) = inr (inl full)
+  allocs now flags size answer (inr (id, free, inr (lacks, inl short))) = record {
+    answered = λ some _. absurd (some short.1.0);
+    refused = λ _. (
+      short.1.1,
+      inr (inr (
+        no_room flags size lacks,
+        lacks_growth old is at id (rounded_up size) (local_options flags) (λ heap. LacksRoom heap None (rounded_up size) (local_options flags)) there.inside (no_later flags size id free.free.1) short.0,
+      )),
+    );
+  }
+  allocs now flags size answer (inr (id, free, inr (lacks, inr g))) = record {
+    answered = λ _ some. (
+      id,
+      inr (grows_fewest old is at id (rounded_up size) (local_options flags) (λ heap. LacksRoom heap None (rounded_up size) (local_options flags)) there.inside (no_later flags size id free.free.1)
+          g.size g.growth l (no_room flags size lacks) new (acts_rest next mine still (AllocatesObject (heap_of mine) flags size id answer) new acts) (λ heap. AllocatedFewest heap new at id (rounded_up size) (local_options flags) answer)
+          (subst (λ heap. AllocatedFewest heap new at id (rounded_up size) (local_options flags) answer) (longer_is old is at there (local_options flags) g.size g.growth.served.longer l) served)),
+    );
+    refused = λ none. absurd (not_0 next grown mine still new now (AllocatesObject (heap_of mine) flags size id answer) id answer (λ heap m. m.named) acts none);
+  }
+    where
+      l : Lengthens old at (local_options flags) g.size
+      l = g.lengthens
+
+      mine : LocalHeap
+      mine = longer at g.size l.bytes
+
+      next : World
+      next = with_longer old l.handles mine
+
+      grown : AreLocalHeaps next
+      grown = grown_world old is at there (local_options flags) g.size g.growth.served.longer l
+
+      still : current_heap next ≡ Some mine
+      still = grown_current old is at there (local_options flags) g.size g.growth.served.longer l c
+
+      acts : Acts next mine (AllocatesObject (heap_of mine) flags size id answer) new
+      acts = subst (λ b. MatchBool b ((heap : Heap) × EntersObject (heap_of mine) flags id answer heap × Becomes next mine heap new) (Acts next mine (AllocatesObject (heap_of mine) flags size id answer) new))
+          (ap (λ b. b && has_flag flags LMEM_MOVEABLE) (ne_eqb size 0 (λ e. absurd (omega (arith, e, lacks.0))))) g.grown
+
+      served : AllocatedFewest (heap_of mine) new at id (rounded_up size) (local_options flags) answer
+      served = left next grown mine still new (AllocatesObject (heap_of mine) flags size id answer) (λ heap. (name_at heap id ≡ Some answer) × AllocatesFewest (heap_of mine) id (rounded_up size) (local_options flags) true heap)
+          (λ heap m. (m.named, allocation_law (heap_of mine) heap id (rounded_up size) (local_kind flags) 0 (local_options flags) true (heap_here next grown mine (current_there next mine still)) m.allocated)) acts
+  allocs now flags size answer (inr (id, free, inl makes)) = turn (is_absent_asked flags size) refl makes
     where
       with_bytes : 0 < size → is_absent_asked flags size ≡ false
       with_bytes some = ap (λ b. b && has_flag flags LMEM_MOVEABLE) (ne_eqb size 0 (λ e. absurd (omega (arith, e, some))))
@@ -64,19 +122,19 @@ module _ (old : World) (is : AreLocalHeaps old) (at : LocalHeap) (c : current_he
       turn false t acts = record {
         answered = λ _ some. (
           id,
-          left (AllocatesObject (heap_of at) flags size id answer) (λ next. (name_at next id ≡ Some answer) × AllocatesFewest (heap_of at) id (rounded_up size) (local_options flags) true next)
-              (λ next m. (m.named, allocation_law (heap_of at) next id (rounded_up size) (local_kind flags) 0 (local_options flags) true (heap_here old is at there) m.allocated)) acts,
+          inl (left old is at c new (AllocatesObject (heap_of at) flags size id answer) (λ next. (name_at next id ≡ Some answer) × AllocatesFewest (heap_of at) id (rounded_up size) (local_options flags) true next)
+              (λ next m. (m.named, allocation_law (heap_of at) next id (rounded_up size) (local_kind flags) 0 (local_options flags) true (heap_here old is at there) m.allocated)) acts),
         );
-        refused = λ none. absurd (not_0 now (AllocatesObject (heap_of at) flags size id answer) id answer (λ next m. m.named) acts none);
+        refused = λ none. absurd (not_0 old is at c new now (AllocatesObject (heap_of at) flags size id answer) id answer (λ next m. m.named) acts none);
       }
 
   compacts : (size answer : ℕ) → CompactsIn old size answer new at → Left new at (CompactsFewest (heap_of at) size answer)
   compacts size answer = turn (size == 0) refl
     where
       turn : (b : Bool) → (size == 0) ≡ b → MatchBool b (Stays old (most_room (heap_of at)) answer new) (Acts old at (MakesRoom (heap_of at) size answer) new) → Left new at (CompactsFewest (heap_of at) size answer)
-      turn true e s = left_same (CompactsFewest (heap_of at) size answer) s.1
+      turn true e s = left_same old is at c new (CompactsFewest (heap_of at) size answer) s.1
           (compaction_law (heap_of at) (heap_of at) size answer (heap_here old is at there) (subst (λ b. MatchBool b ((answer ≡ most_room (heap_of at)) × (heap_of at ≡ heap_of at)) (MakesRoom (heap_of at) size answer (heap_of at))) (sym e) (s.0, refl)))
-      turn false e a = left (MakesRoom (heap_of at) size answer) (CompactsFewest (heap_of at) size answer)
+      turn false e a = left old is at c new (MakesRoom (heap_of at) size answer) (CompactsFewest (heap_of at) size answer)
           (λ next m. compaction_law (heap_of at) next size answer (heap_here old is at there) (subst (λ b. MatchBool b ((answer ≡ most_room (heap_of at)) × (next ≡ heap_of at)) (MakesRoom (heap_of at) size answer next)) (sym e) m)) a
 
 pub local_alloc_law : AllocLaw
@@ -87,6 +145,83 @@ local_alloc_law old new flags size answer at is step c =
 pub local_compact_law : CompactLaw
 local_compact_law old new size answer at is step c = compacts old is at c new size answer (subst (λ p. MatchOption p (Stays old 0 answer new) (CompactsIn old size answer new)) c step)
 
+-- A reallocation to a size above 0.
+module _ (old : World) (is : AreLocalHeaps old) (o : LocalObject) (c : current_heap old ≡ Some o.heap) (new : World) (now : AreLocalHeaps new) (size flags answer : ℕ) where
+  at_hand : IsThere old o.heap
+  at_hand = current_there old o.heap c
+
+  heap : IsHeap (heap_of o.heap)
+  heap = heap_here old is o.heap at_hand
+
+  abbrev options : RoomOptions
+  options = local_options flags
+
+  abbrev n : ℕ
+  n = rounded_up size
+
+  refusal : (p : Option Object) → IsSomeAnd p (λ before. ReallocatesFewest (heap_of o.heap) o.id n before options false (heap_of o.heap)) → IsSomeAnd p (λ before. (size_of before < n) × LacksPlace (heap_of o.heap) o.id n before options)
+  refusal None h = absurd h
+  refusal (Some before) h = let r : (size_of before < n) × LacksPlace (heap_of o.heap) o.id n before options × (heap_of o.heap ≡ heap_of o.heap) = h.refused refl in (r.0, r.1)
+
+  -- it lacks the bytes in the heap, and in it as it ends later
+  module _ (lacks : Reallocates (heap_of o.heap) o.id n options false (heap_of o.heap)) where
+    lacks_now : LacksBytes o n options (heap_of o.heap)
+    lacks_now = refusal (object_at (heap_of o.heap) o.id) (fewest_law (heap_of o.heap) (heap_of o.heap) o.id n options false heap lacks)
+
+    is_there : (p : Option Object) → IsSomeAnd p (λ x. ReallocatesObject (heap_of o.heap) o.id x n options false (heap_of o.heap)) → is_some p ≡ true
+    is_there None h = absurd h
+    is_there (Some x) h = refl
+
+    lacks_later : (e : ℕ) → o.heap.table.hi ≤ e → is_answered (ending (heap_of o.heap) e) o.id n options ≡ false → LacksBytes o n options (ending (heap_of o.heap) e)
+    lacks_later e le refused = realloc_lacks (ending (heap_of o.heap) e) (later_heap (heap_of o.heap) e heap le) o.heap o.id n options lacks.some lacks.rounded (is_there (object_at (heap_of o.heap) o.id) lacks.object) refused
+
+  -- once it is longer
+  module _ (g : Grows old o.heap o.id n options (λ next longer. Acts next longer (ResizesObject (heap_of longer) o.id size flags answer) new)) where
+    abbrev l : Lengthens old o.heap options g.size
+    l = g.lengthens
+
+    abbrev mine : LocalHeap
+    mine = longer o.heap g.size l.bytes
+
+    abbrev next : World
+    next = with_longer old l.handles mine
+
+    grown : AreLocalHeaps next
+    grown = grown_world old is o.heap at_hand options g.size g.growth.served.longer l
+
+    still : current_heap next ≡ Some mine
+    still = grown_current old is o.heap at_hand options g.size g.growth.served.longer l c
+
+    served : ReallocatedFewest (heap_of mine) new o n options answer
+    served = left next grown mine still new (ResizesObject (heap_of mine) o.id size flags answer)
+        (λ heap. (name_at heap o.id ≡ Some answer) × IsSomeAnd (object_at (heap_of mine) o.id) (λ before. ReallocatesFewest (heap_of mine) o.id n before options true heap))
+        (λ heap r. (r.named, fewest_law (heap_of mine) heap o.id n options true (heap_here next grown mine (current_there next mine still)) r.resized)) g.grown
+
+    served_later : ReallocatedFewest (ending (heap_of o.heap) g.size) new o n options answer
+    served_later = subst (λ heap. ReallocatedFewest heap new o n options answer) (longer_is old is o.heap at_hand options g.size g.growth.served.longer l) served
+
+    rest_longer : KeepsRest next new
+    rest_longer = acts_rest next mine still (ResizesObject (heap_of mine) o.id size flags answer) new g.grown
+
+    some_answer : answer ≢ 0
+    some_answer = not_0 next grown mine still new now (ResizesObject (heap_of mine) o.id size flags answer) o.id answer (λ heap r. r.named) g.grown
+
+  sizes : SizesObject old size flags answer new o → ReallocFewest old o size flags answer new
+  sizes (inl acts) = record {
+    answered = λ _. inl (left old is o.heap c new (ResizesObject (heap_of o.heap) o.id size flags answer)
+        (λ next. (name_at next o.id ≡ Some answer) × IsSomeAnd (object_at (heap_of o.heap) o.id) (λ before. ReallocatesFewest (heap_of o.heap) o.id n before options true next))
+        (λ next r. (r.named, fewest_law (heap_of o.heap) next o.id n options true heap r.resized)) acts);
+    refused = λ none. absurd (not_0 old is o.heap c new now (ResizesObject (heap_of o.heap) o.id size flags answer) o.id answer (λ next r. r.named) acts none);
+  }
+  sizes (inr (lacks, inl short)) = record {
+    answered = λ some. absurd (some short.1.0);
+    refused = λ _. (short.1.1, lacks_now lacks, lacks_growth old is o.heap o.id n options (LacksBytes o n options) at_hand.inside (lacks_later lacks) short.0);
+  }
+  sizes (inr (lacks, inr g)) = record {
+    answered = λ _. inr (grows_fewest old is o.heap o.id n options (LacksBytes o n options) at_hand.inside (lacks_later lacks) g.size g.growth g.lengthens (lacks_now lacks) new (rest_longer g) (λ heap. ReallocatedFewest heap new o n options answer) (served_later g));
+    refused = λ none. absurd (some_answer g none);
+  }
+
 pub local_realloc_law : ReallocLaw
 local_realloc_law old new name size flags answer o is step named unmodified some =
     turn (has_flag flags LMEM_MODIFY) unmodified (size == 0) (ne_eqb size 0 (λ e. absurd (omega (arith, e, some)))) (subst (λ p. MatchOption p (Stays old 0 answer new) (λ o. MatchBool (has_flag flags LMEM_MODIFY) (ModifiesObject old name flags answer new o) (MatchBool (size == 0) (DiscardsObject old name flags answer new o) (SizesObject old size flags answer new o)))) named step)
@@ -94,30 +229,10 @@ local_realloc_law old new name size flags answer o is step named unmodified some
     c : current_heap old ≡ Some o.heap
     c = (named_there old name o named).0
 
-    heap : IsHeap (heap_of o.heap)
-    heap = heap_here old is o.heap (current_there old o.heap c)
-
     now : AreLocalHeaps new
     now = local_world old is (LocalReAlloc name size flags) answer new (outcome old (LocalReAlloc name size flags) answer new step)
-
-    refusal : (p : Option Object) → IsSomeAnd p (λ before. ReallocatesFewest (heap_of o.heap) o.id (rounded_up size) before (local_options flags) false (heap_of o.heap))
-        → IsSomeAnd p (λ before. (size_of before < rounded_up size) × LacksPlace (heap_of o.heap) o.id (rounded_up size) before (local_options flags))
-    refusal None h = absurd h
-    refusal (Some before) h = let r : (size_of before < rounded_up size) × LacksPlace (heap_of o.heap) o.id (rounded_up size) before (local_options flags) × (heap_of o.heap ≡ heap_of o.heap) = h.refused refl in (r.0, r.1)
-
-    sizes : SizesObject old size flags answer new o → ReallocFewest old o size flags answer new
-    sizes (inl refused) = record {
-      answered = λ some. absurd (some refused.1.0);
-      refused = λ _. (refused.1.1, refusal (object_at (heap_of o.heap) o.id) (fewest_law (heap_of o.heap) (heap_of o.heap) o.id (rounded_up size) (local_options flags) false heap refused.0));
-    }
-    sizes (inr acts) = record {
-      answered = λ _. left old is o.heap c new (ResizesObject (heap_of o.heap) o.id size flags answer)
-          (λ next. (name_at next o.id ≡ Some answer) × IsSomeAnd (object_at (heap_of o.heap) o.id) (λ before. ReallocatesFewest (heap_of o.heap) o.id (rounded_up size) before (local_options flags) true next))
-          (λ next r. (r.named, fewest_law (heap_of o.heap) next o.id (rounded_up size) (local_options flags) true heap r.resized)) acts;
-      refused = λ none. absurd (not_0 old is o.heap c new now (ResizesObject (heap_of o.heap) o.id size flags answer) o.id answer (λ next r. r.named) acts none);
-    }
 
     turn : (m : Bool) → m ≡ false → (z : Bool) → z ≡ false → MatchBool m (ModifiesObject old name flags answer new o) (MatchBool z (DiscardsObject old name flags answer new o) (SizesObject old size flags answer new o)) → ReallocFewest old o size flags answer new
     turn true e z f s = absurd (false≢true (sym e))
     turn false e true f s = absurd (false≢true (sym f))
-    turn false e false f s = sizes s
+    turn false e false f s = sizes old is o c new now size flags answer s

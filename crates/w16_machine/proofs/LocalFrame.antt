@@ -1,9 +1,10 @@
 -- What a local call leaves of the world.
-use Rattle.w16_machine.proofs.Common.{◌≡◌, ℕ, inl, inr, Some, IsSomeAnd, refl, sym, ap, ◌∙◌, subst, cases_eq, Heap, Object, object_at, Table, inserted_here, inserted_other, Word, Done, World, LocalHeap, Acts, heap_of, current_heap, new_table, with_local, LocalCommand, DS, is_code, MayBegin, IsRewritten, IsObjectKept, IsHeapKept, KeepsRest, FrameLaw}
+use Rattle.w16_machine.proofs.Common.{◌≡◌, ℕ, inl, inr, Some, IsSomeAnd, refl, sym, ap, ◌∙◌, subst, cases_eq, Heap, Object, object_at, Table, inserted_here, inserted_other, Word, Done, World, LocalHeap, Acts, heap_of, current_heap, new_table, with_local, LocalCommand, DS, is_code, MayBegin, IsRewritten, IsObjectKept, IsHeapKept, KeepsRest, FrameLaw, ◌⊎◌, Option, None, AreLocalHeaps, KeepsRestLonger, Lengthens, longer, with_longer, local_options}
 use Rattle.std.specs.FinMap as finmap
 use Rattle.w16_machine.proofs.LocalFacts.{IsThere, current_there, object_of, segment_after, segment_other}
 use Rattle.w16_machine.proofs.LocalBegins.{begin_law}
-use Rattle.w16_machine.proofs.LocalOutcomes.{Outcome, IsRoomed, outcome}
+use Rattle.w16_machine.proofs.LocalGrown.{grown_current}
+use Rattle.w16_machine.proofs.LocalOutcomes.{Outcome, IsGrown, IsMade, IsRoomed, outcome}
 
 -- with the same objects, and one table that is put in
 same_objects : (old new : World) → new.loading ≡ old.loading → ((slot : ℕ) → IsHeapKept old new slot) → KeepsRest old new
@@ -49,7 +50,7 @@ module _ (old : World) (at : LocalHeap) (c : current_heap old ≡ Some at) where
       now : (slot : ℕ) → slot ≡ at.slot → object_at new.loading.handles.heap slot ≡ Some (record o.0 { bytes = Some a.bytes })
       now slot e = ap (λ (w : World). object_at w.loading.handles.heap slot) a.rest ∙ ap (object_at (with_local old at.slot a.table a.bytes).loading.handles.heap) e ∙ segment_after old.loading.handles.heap at.slot o.0 o.1 at.bytes o.2 a.bytes a.long
 
-  acts_rest : (P : Heap → Type 0) (new : World) → Acts old at P new → KeepsRest old new
+  pub acts_rest : (P : Heap → Type 0) (new : World) → Acts old at P new → KeepsRest old new
   acts_rest P new a = record {
     handles = subst (λ (w : World). w.loading.handles ≡ record old.loading.handles { heap = record old.loading.handles.heap { objects = w.loading.handles.heap.objects } }) (sym a.rest) refl;
     loading = subst (λ (w : World). w.loading ≡ record old.loading { handles = w.loading.handles }) (sym a.rest) refl;
@@ -57,19 +58,62 @@ module _ (old : World) (at : LocalHeap) (c : current_heap old ≡ Some at) where
     heaps = table_put new a.table (ap (λ (w : World). w.heaps) a.rest) a.range;
   }
 
-frame : (old new : World) (command : LocalCommand) (answer : ℕ) → Outcome old command answer new → KeepsRest old new
-frame old new command answer (inl same) = same_objects old new (ap (λ (w : World). w.loading) same) (λ slot. inl (ap (λ (w : World). finmap.get w.heaps slot) same))
-frame old new command answer (inr (inl init)) = same_objects old new (ap (λ (w : World). w.loading) init.rest) (λ slot. elim (cases_eq slot init.begun.slot) [
+-- where a heap grew for a call
+module _ (old new : World) (is : AreLocalHeaps old) (command : LocalCommand) (answer : ℕ) (at : LocalHeap) (c : current_heap old ≡ Some at) (g : IsGrown old command answer new at) where
+  abbrev size : ℕ
+  size = g.grows.size
+
+  abbrev l : Lengthens old at (local_options g.flags) size
+  l = g.grows.lengthens
+
+  abbrev mine : LocalHeap
+  mine = longer at size l.bytes
+
+  abbrev grown : World
+  grown = with_longer old l.handles mine
+
+  still : current_heap grown ≡ Some mine
+  still = grown_current old is at (current_there old at c) (local_options g.flags) size g.grows.growth.served.longer l c
+
+  begins_none : (slot : ℕ) → finmap.get grown.heaps slot ≡ None → finmap.get new.heaps slot ≡ None
+  begins_none slot none = elim (cases_eq slot at.slot) [
+    | inl e ↦ absurd (never (sym (ap (finmap.get grown.heaps) e ∙ (current_there grown mine still).table) ∙ none))
+    | inr d ↦ ap (λ (w : World). finmap.get w.heaps slot) g.grows.grown.rest ∙ inserted_other grown.heaps at.slot g.grows.grown.table slot d ∙ none
+  ]
+    where
+      never : ◌≡◌ {A = Option Table} (Some mine.table) None → ⊥
+      never e = cc
+
+  grown_rest : KeepsRestLonger old command new
+  grown_rest = record {
+    may = g.may;
+    at = at;
+    current = c;
+    flags = g.flags;
+    given = g.given;
+    size = size;
+    ends = g.grows.growth.ends;
+    longer_size = g.grows.growth.served.longer;
+    lengthens = l;
+    still = still;
+    rest = acts_rest grown mine still (IsMade (heap_of at) (heap_of mine) command answer) new g.grows.grown;
+    begins_none = begins_none;
+  }
+
+frame : (old new : World) → AreLocalHeaps old → (command : LocalCommand) (answer : ℕ) → Outcome old command answer new → KeepsRest old new ⊎ KeepsRestLonger old command new
+frame old new is command answer (inl same) = inl (same_objects old new (ap (λ (w : World). w.loading) same) (λ slot. inl (ap (λ (w : World). finmap.get w.heaps slot) same)))
+frame old new is command answer (inr (inl init)) = inl (same_objects old new (ap (λ (w : World). w.loading) init.rest) (λ slot. elim (cases_eq slot init.begun.slot) [
   | inl e ↦
       let b : MayBegin old init.selector init.start init.end init.begun = (begin_law old init.selector init.start init.end init.begun).0 init.may in
       inr (inl (ap (finmap.get old.heaps) e ∙ b.none, ap (is_code old.loading.handles) e ∙ b.uncoded))
   | inr d ↦ inl (ap (λ (w : World). finmap.get w.heaps slot) init.rest ∙ inserted_other old.heaps init.begun.slot (new_table init.begun.range) slot d)
-])
-frame old new command answer (inr (inr (at, c, inl (next, stepped, becomes)))) =
-    same_objects old new (ap (λ (w : World). w.loading) becomes.rest) (table_put old at c new becomes.table (ap (λ (w : World). w.heaps) becomes.rest) becomes.range)
-frame old new command answer (inr (inr (at, c, inr acts))) = acts_rest old at c (IsRoomed (heap_of at) command answer) new acts
+]))
+frame old new is command answer (inr (inr (at, c, inl (next, stepped, becomes)))) =
+    inl (same_objects old new (ap (λ (w : World). w.loading) becomes.rest) (table_put old at c new becomes.table (ap (λ (w : World). w.heaps) becomes.rest) becomes.range))
+frame old new is command answer (inr (inr (at, c, inr (inl acts)))) = inl (acts_rest old at c (IsRoomed (heap_of at) command answer) new acts)
+frame old new is command answer (inr (inr (at, c, inr (inr g)))) = inr (grown_rest old new is command answer at c g)
 
 pub frame_law : FrameLaw
-frame_law old new (DS selector) Done is step = same_objects old new (ap (λ (w : World). w.loading) step) (λ slot. inl (ap (λ (w : World). finmap.get w.heaps slot) step))
-frame_law old new command (Word answer) is step = frame old new command answer (outcome old command answer new step)
+frame_law old new (DS selector) Done is step = inl (same_objects old new (ap (λ (w : World). w.loading) step) (λ slot. inl (ap (λ (w : World). finmap.get w.heaps slot) step)))
+frame_law old new command (Word answer) is step = frame old new is command answer (outcome old command answer new step)
 frame_law old new command reply is step = absurd step

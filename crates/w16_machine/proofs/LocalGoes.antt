@@ -1,13 +1,13 @@
 -- Local heaps go with their segments, and don't come back.
-use Rattle.w16_machine.proofs.Common.{◌≡◌, ℕ, ◌≤◌, ◌⊎◌, inl, inr, Bool, true, false, cond, nat_le, List, [], ◌∷◌, length, Option, Some, None, IsSomeAnd, refl, sym, ap, ◌∙◌, subst, leb-true, cases_eq, le-leb, bytes_at, Table, Each-from_All, inserted_here, inserted_other, Word, Done, World, LocalHeap, current_heap, new_table, LocalCommand, DS, Event, Step, Run, OfLoading, OfLocals, IsBegun, BeginsNone, GoesLaw, NeverBackLaw, GoneLaw}
+use Rattle.w16_machine.proofs.Common.{◌≡◌, ℕ, ◌≤◌, ◌⊎◌, inl, inr, Bool, true, false, cond, nat_le, List, [], ◌∷◌, length, Option, Some, None, IsSomeAnd, refl, sym, ap, ◌∙◌, subst, leb-true, cases_eq, le-leb, bytes_at, Table, Each-from_All, inserted_here, inserted_other, Word, Done, World, LocalHeap, current_heap, new_table, LocalCommand, DS, Event, Step, Run, OfLoading, OfLocals, IsBegun, BeginsNone, GoesLaw, NeverBackLaw, GoneLaw, ◌≢◌, Handles, left_in, longer}
 use Rattle.std.specs.List.{AllByRecursion as Each}
 use Rattle.std.specs.FinMap as finmap
 use Rattle.w16_machine.proofs.LocalFacts.{current_there}
 use Rattle.w16_machine.proofs.LocalOutcomes.{Outcome, outcome}
-use Rattle.w16_machine.proofs.LocalWorlds.{left_over, left_is}
+use Rattle.w16_machine.proofs.LocalLeft.{left_over, left_is}
 
 -- a heap is left exactly where its range is inside
-left_inside : (p : Option Table) (b : Option (List ℕ)) (t : Table) → left_over p b ≡ Some t → (p ≡ Some t) × IsSomeAnd b (λ bytes. t.hi ≤ length bytes)
+pub left_inside : (p : Option Table) (b : Option (List ℕ)) (t : Table) → left_over p b ≡ Some t → (p ≡ Some t) × IsSomeAnd b (λ bytes. t.hi ≤ length bytes)
 left_inside None b t e = cc
 left_inside (Some s) None t e = cc
 left_inside (Some s) (Some bytes) t e = turn (nat_le s.hi (length bytes)) refl e
@@ -31,15 +31,19 @@ goes_law format old new command reply step slot t = (
 
 -- where there is none there is none afterwards
 module _ (old new : World) (slot : ℕ) (none : finmap.get old.heaps slot ≡ None) where
-  -- a table that is put in the current heap's place is put elsewhere
-  put_elsewhere : (at : LocalHeap) → current_heap old ≡ Some at → (t : Table) → new.heaps ≡ finmap.insert old.heaps at.slot t → finmap.get new.heaps slot ≡ None
-  put_elsewhere at c t put = elim (cases_eq slot at.slot) [
-    | inl e ↦ absurd (never (sym (ap (finmap.get old.heaps) e ∙ (current_there old at c).table) ∙ none))
-    | inr d ↦ ap (λ m. finmap.get m slot) put ∙ inserted_other old.heaps at.slot t slot d ∙ none
-  ]
+  -- the current heap isn't here
+  unlike : (at : LocalHeap) → current_heap old ≡ Some at → slot ≢ at.slot
+  unlike at c e = never (sym (ap (finmap.get old.heaps) e ∙ (current_there old at c).table) ∙ none)
     where
       never : ◌≡◌ {A = Option Table} (Some at.table) None → ⊥
       never e = cc
+
+  -- a table that is put in the current heap's place is put elsewhere
+  put_elsewhere : (at : LocalHeap) → current_heap old ≡ Some at → (t : Table) → new.heaps ≡ finmap.insert old.heaps at.slot t → finmap.get new.heaps slot ≡ None
+  put_elsewhere at c t put = elim (cases_eq slot at.slot) [
+    | inl e ↦ absurd (unlike at c e)
+    | inr d ↦ ap (λ m. finmap.get m slot) put ∙ inserted_other old.heaps at.slot t slot d ∙ none
+  ]
 
   called : (command : LocalCommand) (answer : ℕ) → Outcome old command answer new → (finmap.get new.heaps slot ≡ None) ⊎ IsBegun (OfLocals command) (Word answer) new slot
   called command answer (inl same) = inl (ap (λ (w : World). finmap.get w.heaps slot) same ∙ none)
@@ -56,7 +60,17 @@ module _ (old new : World) (slot : ℕ) (none : finmap.get old.heaps slot ≡ No
     | inr d ↦ inl (ap (λ (w : World). finmap.get w.heaps slot) init.rest ∙ inserted_other old.heaps init.begun.slot (new_table init.begun.range) slot d ∙ none)
   ]
   called command answer (inr (inr (at, c, inl (next, stepped, becomes)))) = inl (put_elsewhere at c becomes.table (ap (λ (w : World). w.heaps) becomes.rest))
-  called command answer (inr (inr (at, c, inr acts))) = inl (put_elsewhere at c acts.table (ap (λ (w : World). w.heaps) acts.rest))
+  called command answer (inr (inr (at, c, inr (inl acts)))) = inl (put_elsewhere at c acts.table (ap (λ (w : World). w.heaps) acts.rest))
+  called command answer (inr (inr (at, c, inr (inr g)))) =
+      let handles : Handles = g.grows.lengthens.handles in
+      inl (elim (cases_eq slot at.slot) [
+        | inl e ↦ absurd (unlike at c e)
+        | inr d ↦
+            ap (λ (w : World). finmap.get w.heaps slot) g.grows.grown.rest
+            ∙ inserted_other (finmap.insert (left_in handles.heap old.heaps) at.slot (longer at g.grows.size g.grows.lengthens.bytes).table) at.slot g.grows.grown.table slot d
+            ∙ inserted_other (left_in handles.heap old.heaps) at.slot (longer at g.grows.size g.grows.lengthens.bytes).table slot d
+            ∙ left_is handles.heap old.heaps slot ∙ ap (λ p. left_over p (bytes_at handles.heap slot)) none
+      ])
 
 pub never_back_law : NeverBackLaw
 never_back_law format old new (OfLoading command) reply step slot none = inl (ap (λ (w : World). finmap.get w.heaps slot) step.1 ∙ left_is new.loading.handles.heap old.heaps slot ∙ ap (λ p. left_over p (bytes_at new.loading.handles.heap slot)) none)

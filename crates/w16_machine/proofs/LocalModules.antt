@@ -1,9 +1,10 @@
 -- A local call leaves modules alone, and the bytes of code.
-use Rattle.w16_machine.proofs.Common.{◌≡◌, ℕ, inl, inr, true, false, List, length, Option, Some, None, IfSome, IsSomeAnd, refl, sym, ap, ◌∙◌, subst, false≢true, Kind, Object, object_at, Handles, owned_at, Table, IsSameOutside, Format, LoadingWorld, module_at, IsLoadingWorld, IsOfFiles, Reply, KeepsBytes, same_object, KeepsCode, code_kept, as_it_was, same_source, IsOwned, world_stays, World, LocalHeap, AreLocalHeaps, current_heap, LocalCommand, LocalStep, IsRewritten, IsObjectKept, IsHeapKept, KeepsRest, IsWorld}
+use Rattle.w16_machine.proofs.Common.{◌≡◌, ℕ, inl, inr, true, false, List, length, Option, Some, None, IfSome, IsSomeAnd, refl, sym, ap, ◌∙◌, subst, false≢true, Kind, Object, object_at, Handles, owned_at, Table, IsSameOutside, Format, LoadingWorld, module_at, IsLoadingWorld, IsOfFiles, Reply, KeepsBytes, same_object, KeepsCode, code_kept, as_it_was, same_source, IsOwned, world_stays, World, LocalHeap, AreLocalHeaps, current_heap, LocalCommand, LocalStep, IsRewritten, IsObjectKept, IsHeapKept, KeepsRest, IsWorld, ◌⊎◌, KeepsRestLonger, longer, with_longer, local_options}
 use Rattle.std.specs.FinMap as finmap
 use Rattle.w16_model.specs.Owned.{is_code as owned_code}
-use Rattle.w16_machine.proofs.LocalFacts.{current_there}
+use Rattle.w16_machine.proofs.LocalFacts.{IsThere, current_there}
 use Rattle.w16_machine.proofs.LocalFrame.{frame_law}
+use Rattle.w16_machine.proofs.LocalGrowths.{growth_files, growth_world}
 use Rattle.w16_machine.proofs.LocalWorlds.{local_heaps_kept}
 
 -- an object whose bytes are rewritten has its kind and its size
@@ -47,13 +48,8 @@ module _ (old new : World) (k : KeepsRest old new) (uncoded : (slot : ℕ) → I
     bytes = λ slot handle number m s t. as_it_was format old.loading new.loading.handles.heap slot number m (code_stays slot t);
   }
 
-module _ (old new : World) (command : LocalCommand) (reply : Reply) (is : IsWorld old) (step : LocalStep old command reply new) where
-  k : KeepsRest old new
-  k = frame_law old new command reply is.heaps step
-
-  heaps : AreLocalHeaps new
-  heaps = local_heaps_kept old new command reply is.heaps step
-
+-- Where a local call keeps the rest.
+module _ (old new : World) (is : IsWorld old) (k : KeepsRest old new) where
   all : (X : Type 0) (p : Option Table) → X → IfSome p (λ _. X)
   all X None x = tt
   all X (Some t) x = x
@@ -67,13 +63,36 @@ module _ (old new : World) (command : LocalCommand) (reply : Reply) (is : IsWorl
       turn None e c = absurd c
       turn (Some at) e c = ap (owned_code old.loading.handles) (sym c.0) ∙ subst (λ p. IfSome p (λ _. owned_code old.loading.handles at.slot ≡ false)) (current_there old at e).table (is.uncoded at.slot)
 
-  pub local_world_kept : IsWorld new
-  local_world_kept = record {
+  rest_world : AreLocalHeaps new → IsWorld new
+  rest_world heaps = record {
     loading = subst IsLoadingWorld (sym k.loading) (world_stays old.loading is.loading new.loading.handles heaps.handles (λ q. ap (λ (h : Handles). owned_at h q) k.handles)
         (λ slot kind size code h. kept_owned old new slot kind size (k.objects slot) h.object));
     heaps = heaps;
     uncoded = λ slot. rw (ap (λ (h : Handles). owned_code h slot) k.handles) (kept slot (k.heaps slot));
   }
 
+  rest_files : (format : Format) → IsOfFiles format old.loading → IsOfFiles format new.loading
+  rest_files format of = code_kept format old.loading new.loading (keeps_code old new k is.uncoded format) of
+
+module _ (old new : World) (command : LocalCommand) (reply : Reply) (is : IsWorld old) (step : LocalStep old command reply new) where
+  abbrev Framed : Type 0
+  Framed = KeepsRest old new ⊎ KeepsRestLonger old command new
+
+  by_frame : Framed → IsWorld new
+  by_frame (inl k) = rest_world old new is k (local_heaps_kept old new command reply is.heaps step)
+  by_frame (inr r) =
+      rest_world (with_longer old r.lengthens.handles (longer r.at r.size r.lengthens.bytes)) new (growth_world old r.at (local_options r.flags) r.size r.lengthens is (current_there old r.at r.current) r.longer_size) r.rest
+      (local_heaps_kept old new command reply is.heaps step)
+
+  files_by_frame : (format : Format) → IsOfFiles format old.loading → Framed → IsOfFiles format new.loading
+  files_by_frame format of (inl k) = rest_files old new is k format of
+  files_by_frame format of (inr r) =
+      let there : IsThere old r.at = current_there old r.at r.current in
+      rest_files (with_longer old r.lengthens.handles (longer r.at r.size r.lengthens.bytes)) new (growth_world old r.at (local_options r.flags) r.size r.lengthens is there r.longer_size) r.rest format
+      (growth_files old r.at (local_options r.flags) r.size r.lengthens is there r.longer_size format of)
+
+  pub local_world_kept : IsWorld new
+  local_world_kept = by_frame (frame_law old new command reply is.heaps step)
+
   pub local_files_kept : (format : Format) → IsOfFiles format old.loading → IsOfFiles format new.loading
-  local_files_kept format of = code_kept format old.loading new.loading (keeps_code old new k is.uncoded format) of
+  local_files_kept format of = files_by_frame format of (frame_law old new command reply is.heaps step)

@@ -3,7 +3,7 @@ use Rattle.w16_machine.proofs.Common.{◌≡◌, ◌≢◌, ℕ, ◌+◌, ◌-�
 use Rattle.std.specs.FinMap as finmap
 use Rattle.w16_model.specs.declared.Refusal.TheVariants as refusals
 use Rattle.w16_model.specs.Reallocation.{KeepsRest}
-use Rattle.w16_machine.proofs.LocalOutcomes.{IsAltered, IsRoomed, IsStepped}
+use Rattle.w16_machine.proofs.LocalOutcomes.{IsAltered, IsMade, IsRoomed, IsStepped}
 
 -- a fixed object has bytes
 abbrev pub HasName : Object → Type 0
@@ -183,10 +183,13 @@ module _ (old : Heap) (named : AreNamed old) where
         turn None h = absurd h
         turn (Some o) h = named_own new id h.count h.others (own (local_options flags).zero o (rounded_up size) (object_at new id) h.object)
 
+    pub made_named : (first : Heap) (command : LocalCommand) (answer : ℕ) (new : Heap) → IsMade first old command answer new → AreNamed new
+    made_named first command answer new (inl (flags, size, id, free, made)) = allocated_named id (rounded_up size) (local_kind flags) (local_options flags) new made.allocated
+    made_named first command answer new (inr (inl (size, made))) = room_named size answer new made
+    made_named first command answer new (inr (inr (size, flags, id, named_id, may, resized))) = resized_named id size flags answer new resized
+
     pub roomed_named : (command : LocalCommand) (answer : ℕ) (new : Heap) → IsRoomed old command answer new → AreNamed new
-    roomed_named command answer new (inl (asks, inl (flags, size, id, free, made))) = allocated_named id (rounded_up size) (local_kind flags) (local_options flags) new made.allocated
-    roomed_named command answer new (inl (asks, inr (inl (size, made)))) = room_named size answer new made
-    roomed_named command answer new (inl (asks, inr (inr (size, flags, id, named_id, may, resized)))) = resized_named id size flags answer new resized
+    roomed_named command answer new (inl (asks, made)) = made_named old command answer new made
     roomed_named command answer new (inr (id, named_id, inl e)) = subst (λ r. IfOk r AreNamed) e.1 (free_named id)
     roomed_named command answer new (inr (id, named_id, inr e)) = subst (λ r. IfOk r AreNamed) e (discard_named id)
 

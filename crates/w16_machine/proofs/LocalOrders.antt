@@ -1,13 +1,13 @@
 -- What a local call leaves of the order of use.
-use Rattle.w16_machine.proofs.Common.{◌≡◌, ℕ, inl, inr, Bool, true, false, cond, nat_lt, IfOk, IsSomeAnd, Option, Some, None, Result, Ok, Err, refl, ap, subst, Kind, Refusal, RoomOptions, Heap, Object, IsHeap, object_at, is_discardable, with_ordered, with_newest, without, removed, absent, after_free, after_discard, Allocates, Asked, IsNew, Settles, compaction_prefix, discarded, discards_needed, stays_for, OnlyLeave, OthersStand, stays, same, compacted, allocated, resized, rest_law, twice_out, heap_of, rounded_up, LocalCommand, ResizesObject, local_kind, local_options, IsNamedBy, OrderLaw}
+use Rattle.w16_machine.proofs.Common.{◌≡◌, ℕ, inl, inr, Bool, true, false, cond, nat_lt, IfOk, IsSomeAnd, Option, Some, None, Result, Ok, Err, refl, ap, subst, Kind, Refusal, RoomOptions, Heap, Object, IsHeap, object_at, is_discardable, with_ordered, with_newest, without, removed, absent, after_free, after_discard, Allocates, Asked, IsNew, Settles, compaction_prefix, discarded, discards_needed, stays_for, OnlyLeave, OthersStand, stays, same, compacted, allocated, resized, rest_law, twice_out, heap_of, rounded_up, LocalCommand, ResizesObject, local_kind, local_options, IsNamedBy, OrderLaw, ending}
 use Rattle.w16_model.specs.declared.Refusal.TheVariants as refusals
 use Rattle.w16_model.specs.Reallocation.{KeepsRest}
 use Rattle.w16_model.proofs.Reallocations.{asked as request_of}
 use Rattle.w16_machine.proofs.LocalFacts.{current_there, local_here, heap_here}
 use Rattle.w16_machine.proofs.LocalNames.{names_law}
-use Rattle.w16_machine.proofs.LocalCurrent.{current_becomes}
+use Rattle.w16_machine.proofs.LocalCurrent.{current_becomes, grown_becomes}
 use Rattle.w16_machine.proofs.LocalOthers.{altered_is}
-use Rattle.w16_machine.proofs.LocalOutcomes.{IsGivenUp, IsNamedIn, IsRoomed, IsStepped}
+use Rattle.w16_machine.proofs.LocalOutcomes.{IsGivenUp, IsMade, IsNamedIn, IsRoomed, IsStepped}
 
 module _ (old : Heap) where
   -- the others stand as they did
@@ -57,7 +57,8 @@ module _ (old : Heap) where
         turn (Some o) h = resized old new id (rounded_up size) o (local_options flags) h
 
 pub local_order_law : OrderLaw
-local_order_law old new command reply at after is step c e = current_becomes old at c command reply new Stand (inl (same heap heap refl)) stepped roomed after e step
+local_order_law old new command reply at after is step c e =
+    current_becomes old at c command reply new Stand (inl (same heap heap refl)) stepped roomed (grown_becomes old is at c command new Stand (λ answer next end asks is_later made. made_order end is_later answer next made)) after e step
   where
     heap : Heap
     heap = heap_of at
@@ -78,8 +79,12 @@ local_order_law old new command reply at after is step c e = current_becomes old
     stepped next (inl (id, n, altered)) = altered_is heap id Stand (inl (same heap heap refl)) (λ new p put places rest. of_named id n new rest) next altered
     stepped next (inr (flags, size, id, t, enters)) = inl (same heap next (ap (λ (h : Heap). h.order) enters.entered))
 
+    -- room is made in it, or in it as it ends later
+    made_order : (end : ℕ) → IsHeap (ending heap end) → (answer : ℕ) (next : Heap) → IsMade heap (ending heap end) command answer next → Stand next
+    made_order end is_later answer next (inl (flags, size, id, free, made)) = inr (id, inr free.free.1, allocated_order (ending heap end) is_later next id (rounded_up size) (local_kind flags) (local_options flags) made.allocated)
+    made_order end is_later answer next (inr (inl (size, made))) = inl (compacted (ending heap end) next is_later (compaction_prefix (ending heap end) size) made.settled)
+    made_order end is_later answer next (inr (inr (size, flags, id, n, may, made))) = inr (id, inl (named_by_call id n), resized_order (ending heap end) is_later next id size flags answer made)
+
     roomed : (answer : ℕ) (next : Heap) → IsRoomed heap command answer next → Stand next
-    roomed answer next (inl (asks, inl (flags, size, id, free, made))) = inr (id, inr free.free.1, allocated_order heap is_heap next id (rounded_up size) (local_kind flags) (local_options flags) made.allocated)
-    roomed answer next (inl (asks, inr (inl (size, made)))) = inl (compacted heap next is_heap (compaction_prefix heap size) made.settled)
-    roomed answer next (inl (asks, inr (inr (size, flags, id, n, may, made)))) = inr (id, inl (named_by_call id n), resized_order heap is_heap next id size flags answer made)
+    roomed answer next (inl (asks, made)) = made_order heap.hi is_heap answer next made
     roomed answer next (inr (id, n, up)) = of_named id n next (given_up_rest heap command id next up)

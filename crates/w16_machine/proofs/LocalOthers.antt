@@ -1,12 +1,12 @@
 -- What a local call leaves of the objects that it doesn't name.
-use Rattle.w16_machine.proofs.Common.{◌≡◌, ◌≢◌, ℕ, ◌+◌, ◌-◌, inl, inr, Bool, true, false, cond, not, ◌&&◌, ◌||◌, ◌==◌, nat_lt, IfOk, IfSome, IsSomeAnd, take, Option, Some, None, Result, Ok, Err, is_some, refl, sym, ap, ◌∙◌, subst, false≢true, cases_Bool, Kind, Fixed, Moveable, Discardable, Refusal, RoomOptions, eligible, is_member, Heap, Object, IsHeap, blocks, object_at, is_fixed, is_discardable, is_pinned_object, with_object, with_ordered, with_newest, removed, absent, touched, without, after_lock, after_unlock, after_free, after_discard, after_modify, Allocates, MakesRoom, IsNew, Settles, Asked, compaction_prefix, discarded, discards_needed, stays_for, KeepsOthers, KeepsAddresses, StandsStill, MovesLittle, get-update_other, inserted_other, taken_other, touched_rest, rest_order, rest_law, others_law, address_law, moves_law, World, LocalHeap, AreLocalHeaps, heap_of, current_heap, name_at, rounded_up, LocalCommand, ResizesObject, local_kind, local_options, moveable_or_discardable, IsLocalKept, OthersLaw, PinnedLaw, asks_for_room, may_move_named, named_by}
+use Rattle.w16_machine.proofs.Common.{◌≡◌, ◌≢◌, ℕ, ◌+◌, ◌-◌, inl, inr, Bool, true, false, cond, not, ◌&&◌, ◌||◌, ◌==◌, nat_lt, IfOk, IfSome, IsSomeAnd, take, Option, Some, None, Result, Ok, Err, is_some, refl, sym, ap, ◌∙◌, subst, false≢true, cases_Bool, Kind, Fixed, Moveable, Discardable, Refusal, RoomOptions, eligible, is_member, Heap, Object, IsHeap, blocks, object_at, is_fixed, is_discardable, is_pinned_object, with_object, with_ordered, with_newest, removed, absent, touched, without, after_lock, after_unlock, after_free, after_discard, after_modify, Allocates, MakesRoom, IsNew, Settles, Asked, compaction_prefix, discarded, discards_needed, stays_for, KeepsOthers, KeepsAddresses, StandsStill, MovesLittle, get-update_other, inserted_other, taken_other, touched_rest, rest_order, rest_law, others_law, address_law, moves_law, World, LocalHeap, AreLocalHeaps, heap_of, current_heap, name_at, rounded_up, LocalCommand, ResizesObject, local_kind, local_options, moveable_or_discardable, IsLocalKept, OthersLaw, PinnedLaw, asks_for_room, may_move_named, named_by, ending}
 use Rattle.std.specs.FinMap as finmap
 use Rattle.w16_model.specs.declared.Refusal.TheVariants as refusals
 use Rattle.w16_model.specs.Reallocation.{KeepsRest}
 use Rattle.w16_model.proofs.Reallocations.{asked as request_of}
 use Rattle.w16_machine.proofs.LocalFacts.{current_there, local_here, heap_here}
 use Rattle.w16_machine.proofs.LocalNames.{names_law}
-use Rattle.w16_machine.proofs.LocalCurrent.{current_becomes}
+use Rattle.w16_machine.proofs.LocalCurrent.{current_becomes, grown_becomes}
 use Rattle.w16_machine.proofs.LocalOutcomes.{IsAltered, IsGivenUp, IsMade, IsNamedIn, IsRoomed, IsStepped}
 
 pub stands_same : (old new : Heap) (q : ℕ) → finmap.get new.places q ≡ finmap.get old.places q → StandsStill old new q
@@ -173,17 +173,28 @@ module _ (old : World) (is : AreLocalHeaps old) (at : LocalHeap) (c : current_he
   stepped_kept others next (inr (flags, size, id, t, enters)) =
       put_kept (asks_for_room command) (heap_of at) q o there id (in_use id enters.unused) next (record { kind = local_kind flags; locks = 0; bytes = None }) (ap (λ (h : Heap). h.objects) enters.entered) (ap (λ (h : Heap). h.places) enters.entered)
 
-  pub made_kept : ((id : ℕ) → IsNamedIn (heap_of at) command id → may_move_named command ≡ true → q ≢ id) → (answer : ℕ) (next : Heap) → asks_for_room command ≡ true → IsMade (heap_of at) command answer next → Spared next
+  pub made_kept : ((id : ℕ) → IsNamedIn (heap_of at) command id → may_move_named command ≡ true → q ≢ id) → (answer : ℕ) (next : Heap) → asks_for_room command ≡ true → IsMade (heap_of at) (heap_of at) command answer next → Spared next
   made_kept others answer next asks (inl (flags, size, id, free, made)) = allocated_kept (asks_for_room command) (heap_of at) q o there heap asks id (rounded_up size) (local_kind flags) (local_options flags) next (in_use id free.free.1) made.allocated
   made_kept others answer next asks (inr (inl (size, made))) = compacted_kept (asks_for_room command) (heap_of at) q o there heap asks size answer next made
   made_kept others answer next asks (inr (inr (size, flags, id, named, may, resized))) = resized_kept (asks_for_room command) (heap_of at) q o there heap asks id size flags answer next (others id named may) resized
+
+  -- also where the heap ends later
+  pub longer_kept : ((id : ℕ) → IsNamedIn (heap_of at) command id → may_move_named command ≡ true → q ≢ id) → (answer : ℕ) (next : Heap) (end : ℕ) → asks_for_room command ≡ true → IsHeap (ending (heap_of at) end)
+      → IsMade (heap_of at) (ending (heap_of at) end) command answer next → Spared next
+  longer_kept others answer next end asks is_heap made = let k : IsLocalKept (asks_for_room command) (ending (heap_of at) end) next q o = by made in record { object = k.object; place = k.place; still = k.still }
+    where
+      by : IsMade (heap_of at) (ending (heap_of at) end) command answer next → IsLocalKept (asks_for_room command) (ending (heap_of at) end) next q o
+      by (inl (flags, size, id, free, made)) = allocated_kept (asks_for_room command) (ending (heap_of at) end) q o there is_heap asks id (rounded_up size) (local_kind flags) (local_options flags) next (in_use id free.free.1) made.allocated
+      by (inr (inl (size, made))) = compacted_kept (asks_for_room command) (ending (heap_of at) end) q o there is_heap asks size answer next made
+      by (inr (inr (size, flags, id, named, may, resized))) = resized_kept (asks_for_room command) (ending (heap_of at) end) q o there is_heap asks id size flags answer next (others id named may) resized
 
   pub up_kept : (id : ℕ) → q ≢ id → (next : Heap) → IsGivenUp (heap_of at) command id next → Spared next
   up_kept id d next up = given_up_kept (asks_for_room command) (heap_of at) q o there id d command next up
 
 pub local_others_law : OthersLaw
 local_others_law old new command reply at after q o is step c e there unnamed =
-    current_becomes old at c command reply new (λ next. IsLocalKept (asks_for_room command) (heap_of at) next q o) (itself_kept (asks_for_room command) (heap_of at) q o there) (stepped_kept old is at c command q o there others) roomed after e step
+    current_becomes old at c command reply new (λ next. IsLocalKept (asks_for_room command) (heap_of at) next q o) (itself_kept (asks_for_room command) (heap_of at) q o there) (stepped_kept old is at c command q o there others) roomed
+    (grown_becomes old is at c command new (λ next. IsLocalKept (asks_for_room command) (heap_of at) next q o) (longer_kept old is at c command q o there (λ id named may. others id named))) after e step
   where
     others : (id : ℕ) → IsNamedIn (heap_of at) command id → q ≢ id
     others = other old is at c command q o there unnamed
@@ -212,7 +223,8 @@ discard_loose heap id o next there e = turn (nat_lt 0 o.locks) o.kind (sym (ap o
 
 pub local_pinned_law : PinnedLaw
 local_pinned_law old new command reply at after q o is step c e there pinned unmoved =
-    current_becomes old at c command reply new Stands (stands_same (heap_of at) (heap_of at) q refl) stepped roomed after e step
+    current_becomes old at c command reply new Stands (stands_same (heap_of at) (heap_of at) q refl) stepped roomed
+    (grown_becomes old is at c command new Stands (λ answer next end asks is_heap made. kept_stands next (longer_kept old is at c command q o there others answer next end asks is_heap made))) after e step
   where
     Stands : Heap → Type 0
     Stands next = StandsStill (heap_of at) next q

@@ -1,5 +1,6 @@
--- What a local call does, in four ways: nothing; a heap begins; an object of the current heap is changed where it stands; room is made there.
-use Rattle.w16_machine.proofs.Common.{◌≡◌, ℕ, ◌⊎◌, inl, inr, Bool, true, false, ◌==◌, ◌||◌, not, MatchBool, MatchOption, Option, Some, None, Result, Ok, Err, refl, sym, ap, ◌∙◌, subst, false≢true, Refusal, Heap, MakesRoom, most_room, heap_in, Enters, after_lock, after_unlock, after_free, after_discard, after_modify, has_flag, LMEM_MOVEABLE, LMEM_MODIFY, World, LocalHeap, LocalObject, Beginning, Becomes, Acts, Stays, IsLowestFree, heap_of, current_heap, object_named, id_named, beginning, new_table, with_table, LocalCommand, Answers, Leaves, GivesUp, EntersObject, AllocatesObject, ResizesObject, is_absent_asked, local_kind, AllocatesIn, CompactsIn, LocalInits, OnNamed, ModifiesObject, DiscardsObject, SizesObject, moveable_or_discardable, lock_refused, locks_left, near_pointer, LocalInit, LocalAlloc, LocalReAlloc, LocalDiscard, LocalFree, LocalLock, LocalUnlock, LocalSize, LocalFlags, LocalHandle, LocalCompact, DS, asks_for_room, may_move_named, named_by}
+-- What a local call does, in five ways: nothing; a heap begins; an object of the current heap is changed where it stands; room is made there; or it
+-- grows, and then room is made.
+use Rattle.w16_machine.proofs.Common.{◌≡◌, ℕ, ◌⊎◌, inl, inr, Bool, true, false, ◌==◌, ◌&&◌, ◌||◌, not, MatchBool, MatchOption, Option, Some, None, Result, Ok, Err, refl, sym, ap, ◌∙◌, subst, arith, ne_eqb, false≢true, Refusal, Heap, MakesRoom, most_room, heap_in, Enters, after_lock, after_unlock, after_free, after_discard, after_modify, has_flag, LMEM_MOVEABLE, LMEM_MODIFY, LMEM_NOCOMPACT, World, LocalHeap, LocalObject, Beginning, Becomes, Acts, Stays, IsLowestFree, heap_of, current_heap, object_named, id_named, beginning, new_table, with_table, LocalCommand, Answers, Leaves, GivesUp, EntersObject, AllocatesObject, ResizesObject, MakesObject, Grows, OnceLonger, longer, with_longer, is_absent_asked, local_kind, local_options, rounded_up, AllocatesIn, CompactsIn, LocalInits, OnNamed, ModifiesObject, DiscardsObject, SizesObject, moveable_or_discardable, lock_refused, locks_left, near_pointer, LocalInit, LocalAlloc, LocalReAlloc, LocalDiscard, LocalFree, LocalLock, LocalUnlock, LocalSize, LocalFlags, LocalHandle, LocalCompact, DS, asks_for_room, may_grow, may_move_named, named_by, flags_in}
 use Rattle.w16_machine.proofs.LocalFacts.{named_there}
 
 -- an object is changed where it stands
@@ -18,16 +19,17 @@ pub record IsNamedIn (heap : Heap) (command : LocalCommand) (id : ℕ) : Type 0 
 abbrev pub IsGivenUp : Heap → LocalCommand → ℕ → Heap → Type 0
 IsGivenUp heap command id next = ((may_move_named command ≡ true) × (after_free heap id ≡ Ok next)) ⊎ (after_discard heap id ≡ Ok next)
 
--- room is made by a call that asks for it: for a new object, for no object, or for an object's other size
-abbrev pub IsMade : Heap → LocalCommand → ℕ → Heap → Type 0
-IsMade heap command answer next =
-    ((flags size id : ℕ) × IsLowestFree heap id × AllocatesObject heap flags size id answer next)
+-- room is made by a call that asks for it: for a new object, for no object, or for an object's other size. The entry is told by the heap as it was
+-- first.
+abbrev pub IsMade : Heap → Heap → LocalCommand → ℕ → Heap → Type 0
+IsMade first heap command answer next =
+    ((flags size id : ℕ) × IsLowestFree first id × AllocatesObject heap flags size id answer next)
     ⊎ ((size : ℕ) × MakesRoom heap size answer next)
-    ⊎ ((size flags id : ℕ) × IsNamedIn heap command id × (may_move_named command ≡ true) × ResizesObject heap id size flags answer next)
+    ⊎ ((size flags id : ℕ) × IsNamedIn first command id × (may_move_named command ≡ true) × ResizesObject heap id size flags answer next)
 
 -- or an object gives its bytes up
 abbrev pub IsRoomed : Heap → LocalCommand → ℕ → Heap → Type 0
-IsRoomed heap command answer next = ((asks_for_room command ≡ true) × IsMade heap command answer next) ⊎ ((id : ℕ) × IsNamedIn heap command id × IsGivenUp heap command id next)
+IsRoomed heap command answer next = ((asks_for_room command ≡ true) × IsMade heap heap command answer next) ⊎ ((id : ℕ) × IsNamedIn heap command id × IsGivenUp heap command id next)
 
 -- LocalInit began a heap
 pub record IsInit (old : World) (command : LocalCommand) (answer : ℕ) (new : World) : Type 0 where
@@ -48,9 +50,31 @@ IsEntered heap next = (flags size id : ℕ) × (is_absent_asked flags size ≡ t
 abbrev pub IsStepped : Heap → LocalCommand → Heap → Type 0
 IsStepped heap command next = ((id : ℕ) × IsNamedIn heap command id × IsAltered heap id next) ⊎ IsEntered heap next
 
+-- a heap grows, for a call that may make it, and then room is made
+pub record IsGrown (old : World) (command : LocalCommand) (answer : ℕ) (new : World) (at : LocalHeap) : Type 0 where
+  pub may : may_grow command ≡ true
+  pub id : ℕ
+  pub n : ℕ
+  pub flags : ℕ
+  pub given : flags_in command ≡ Some flags
+  pub grows : Grows old at id n (local_options flags) (λ next longer. Acts next longer (IsMade (heap_of at) (heap_of longer) command answer) new)
+
+first : (a b : Bool) → (a && b) ≡ true → a ≡ true
+first true b e = refl
+first false b e = e
+
+-- such a call asks for room
+pub grow_asks : (command : LocalCommand) → may_grow command ≡ true → asks_for_room command ≡ true
+grow_asks (LocalAlloc flags size) e = first (asks_for_room (LocalAlloc flags size)) (not (has_flag flags LMEM_NOCOMPACT)) e
+grow_asks (LocalReAlloc name size flags) e = first (asks_for_room (LocalReAlloc name size flags)) (not (has_flag flags LMEM_NOCOMPACT)) e
+grow_asks other e = absurd (false≢true e)
+
 -- what was done in a local heap
 abbrev pub IsDone : World → LocalCommand → ℕ → World → LocalHeap → Type 0
-IsDone old command answer new at = ((next : Heap) × IsStepped (heap_of at) command next × Becomes old at next new) ⊎ Acts old at (IsRoomed (heap_of at) command answer) new
+IsDone old command answer new at =
+    ((next : Heap) × IsStepped (heap_of at) command next × Becomes old at next new)
+    ⊎ Acts old at (IsRoomed (heap_of at) command answer) new
+    ⊎ IsGrown old command answer new at
 
 abbrev pub Outcome : World → LocalCommand → ℕ → World → Type 0
 Outcome old command answer new = (new ≡ old) ⊎ IsInit old command answer new ⊎ ((at : LocalHeap) × (current_heap old ≡ Some at) × IsDone old command answer new at)
@@ -101,8 +125,8 @@ module _ (old : World) (command : LocalCommand) (answer : ℕ) (new : World) whe
   gives_up o c named (Ok heap) f taken refused l = inr (inr (
     o.heap,
     c,
-    inr (acts_as old o.heap (λ next. next ≡ heap) (IsRoomed (heap_of o.heap) command answer) new
-        (λ next same. inr (o.id, named, subst (IsGivenUp (heap_of o.heap) command o.id) (sym same) (f heap refl))) l.1),
+    inr (inl (acts_as old o.heap (λ next. next ≡ heap) (IsRoomed (heap_of o.heap) command answer) new
+        (λ next same. inr (o.id, named, subst (IsGivenUp (heap_of o.heap) command o.id) (sym same) (f heap refl))) l.1)),
   ))
   gives_up o c named (Err refusal) f taken refused l = stayed refused l
 
@@ -113,22 +137,48 @@ module _ (old : World) (command : LocalCommand) (answer : ℕ) (new : World) whe
       turn None e s = stayed 0 s
       turn (Some b) e s = inr (inl (record { selector = selector; start = start; end = end; begun = b; asked = asked; may = e; answered = s.0; rest = s.1 }))
 
-  allocates : (flags size : ℕ) → (is_absent_asked flags size ≡ false → asks_for_room command ≡ true) → (at : LocalHeap) → current_heap old ≡ Some at → AllocatesIn old flags size answer new at → Out
-  allocates flags size asks at c (inl refused) = stayed 0 refused.1
-  allocates flags size asks at c (inr (id, free, makes)) = turn (is_absent_asked flags size) refl makes
+  -- what is so of the longer heap, where one grew
+  grown : (at : LocalHeap) → current_heap old ≡ Some at → (id n flags : ℕ) (so : World → LocalHeap → Type 0) → flags_in command ≡ Some flags → (not (has_flag flags LMEM_NOCOMPACT) ≡ true → may_grow command ≡ true)
+      → ((next : World) (longer : LocalHeap) → so next longer → Acts next longer (IsMade (heap_of at) (heap_of longer) command answer) new)
+      → OnceLonger old at id n (local_options flags) so (Stays old 0 answer new) → Out
+  grown at c id n flags so given may made (inl short) = stayed 0 short.1
+  grown at c id n flags so given may made (inr g) = inr (inr (
+    at,
+    c,
+    inr (inr (record {
+      may = may g.growth.may;
+      id = id;
+      n = n;
+      flags = flags;
+      given = given;
+      grows = record { size = g.size; growth = g.growth; lengthens = g.lengthens; grown = made (with_longer old g.lengthens.handles (longer at g.size g.lengthens.bytes)) (longer at g.size g.lengthens.bytes) g.grown };
+    })),
+  ))
+
+  allocates : (flags size : ℕ) → flags_in command ≡ Some flags → (is_absent_asked flags size ≡ false → asks_for_room command ≡ true) → (is_absent_asked flags size ≡ false → not (has_flag flags LMEM_NOCOMPACT) ≡ true → may_grow command ≡ true)
+      → (at : LocalHeap) → current_heap old ≡ Some at → AllocatesIn old flags size answer new at → Out
+  allocates flags size given asks may at c (inl refused) = stayed 0 refused.1
+  allocates flags size given asks may at c (inr (id, free, inl makes)) = turn (is_absent_asked flags size) refl makes
     where
       turn : (b : Bool) → is_absent_asked flags size ≡ b → MatchBool b ((next : Heap) × EntersObject (heap_of at) flags id answer next × Becomes old at next new) (Acts old at (AllocatesObject (heap_of at) flags size id answer) new) → Out
       turn true t e = inr (inr (at, c, inl (e.0, inr (flags, size, id, t, e.1.entered), e.2)))
-      turn false t a = inr (inr (at, c, inr (acts_as old at (AllocatesObject (heap_of at) flags size id answer) (IsRoomed (heap_of at) command answer) new (λ heap m. inl (asks t, inl (flags, size, id, free, m))) a)))
+      turn false t a = inr (inr (at, c, inr (inl (acts_as old at (AllocatesObject (heap_of at) flags size id answer) (IsRoomed (heap_of at) command answer) new (λ heap m. inl (asks t, inl (flags, size, id, free, m))) a))))
+  allocates flags size given asks may at c (inr (id, free, inr (lacks, once))) =
+      grown at c id (rounded_up size) flags (λ next longer. MakesObject next longer flags size id answer new) given (may some)
+      (λ next longer made. acts_as next longer (AllocatesObject (heap_of longer) flags size id answer) (IsMade (heap_of at) (heap_of longer) command answer) new (λ heap m. inl (flags, size, id, free, m))
+      (subst (λ b. MatchBool b ((heap : Heap) × EntersObject (heap_of longer) flags id answer heap × Becomes next longer heap new) (Acts next longer (AllocatesObject (heap_of longer) flags size id answer) new)) some made)) once
+    where
+      some : is_absent_asked flags size ≡ false
+      some = ap (λ b. b && has_flag flags LMEM_MOVEABLE) (ne_eqb size 0 (λ e. absurd (omega (arith, e, lacks.0))))
 
   compacts : (size : ℕ) → ((size == 0) ≡ false → asks_for_room command ≡ true) → (at : LocalHeap) → current_heap old ≡ Some at → CompactsIn old size answer new at → Out
   compacts size asks at c = turn (size == 0) refl
     where
       turn : (b : Bool) → (size == 0) ≡ b → MatchBool b (Stays old (most_room (heap_of at)) answer new) (Acts old at (MakesRoom (heap_of at) size answer) new) → Out
       turn true t s = stayed (most_room (heap_of at)) s
-      turn false t a = inr (inr (at, c, inr (acts_as old at (MakesRoom (heap_of at) size answer) (IsRoomed (heap_of at) command answer) new (λ heap m. inl (asks t, inr (inl (size, m)))) a)))
+      turn false t a = inr (inr (at, c, inr (inl (acts_as old at (MakesRoom (heap_of at) size answer) (IsRoomed (heap_of at) command answer) new (λ heap m. inl (asks t, inr (inl (size, m)))) a))))
 
-  reallocates : (name size flags : ℕ) → (has_flag flags LMEM_MODIFY ≡ false → (size == 0) ≡ false → (asks_for_room command ≡ true) × (may_move_named command ≡ true)) → (o : LocalObject) → current_heap old ≡ Some o.heap → IsNamedIn (heap_of o.heap) command o.id
+  reallocates : (name size flags : ℕ) → (has_flag flags LMEM_MODIFY ≡ false → (size == 0) ≡ false → (asks_for_room command ≡ true) × (may_move_named command ≡ true) × (not (has_flag flags LMEM_NOCOMPACT) ≡ true → may_grow command ≡ true) × (flags_in command ≡ Some flags)) → (o : LocalObject) → current_heap old ≡ Some o.heap → IsNamedIn (heap_of o.heap) command o.id
       → MatchBool (has_flag flags LMEM_MODIFY) (ModifiesObject old name flags answer new o) (MatchBool (size == 0) (DiscardsObject old name flags answer new o) (SizesObject old size flags answer new o)) → Out
   reallocates name size flags asks o c named = modify (has_flag flags LMEM_MODIFY) refl
     where
@@ -136,9 +186,11 @@ module _ (old : World) (command : LocalCommand) (answer : ℕ) (new : World) whe
       discards true l = gives_up o c named (after_discard (heap_of o.heap) o.id) (λ next e. inr e) name 0 l
       discards false s = stayed 0 s
 
-      sizes : (asks_for_room command ≡ true) × (may_move_named command ≡ true) → SizesObject old size flags answer new o → Out
-      sizes may (inl refused) = stayed 0 refused.1
-      sizes may (inr a) = inr (inr (o.heap, c, inr (acts_as old o.heap (ResizesObject (heap_of o.heap) o.id size flags answer) (IsRoomed (heap_of o.heap) command answer) new (λ heap r. inl (may.0, inr (inr (size, flags, o.id, named, may.1, r)))) a)))
+      sizes : (asks_for_room command ≡ true) × (may_move_named command ≡ true) × (not (has_flag flags LMEM_NOCOMPACT) ≡ true → may_grow command ≡ true) × (flags_in command ≡ Some flags) → SizesObject old size flags answer new o → Out
+      sizes may (inl a) = inr (inr (o.heap, c, inr (inl (acts_as old o.heap (ResizesObject (heap_of o.heap) o.id size flags answer) (IsRoomed (heap_of o.heap) command answer) new (λ heap r. inl (may.0, inr (inr (size, flags, o.id, named, may.1, r)))) a))))
+      sizes may (inr (lacks, once)) =
+          grown o.heap c o.id (rounded_up size) flags (λ next longer. Acts next longer (ResizesObject (heap_of longer) o.id size flags answer) new) may.3 may.2
+          (λ next longer a. acts_as next longer (ResizesObject (heap_of longer) o.id size flags answer) (IsMade (heap_of o.heap) (heap_of longer) command answer) new (λ heap r. inr (inr (size, flags, o.id, named, may.1, r))) a) once
 
       by_size : has_flag flags LMEM_MODIFY ≡ false → (b : Bool) → (size == 0) ≡ b → MatchBool b (DiscardsObject old name flags answer new o) (SizesObject old size flags answer new o) → Out
       by_size keeps true e d = discards (has_flag flags LMEM_MOVEABLE) d
@@ -150,9 +202,9 @@ module _ (old : World) (command : LocalCommand) (answer : ℕ) (new : World) whe
 
 pub outcome : (old : World) (command : LocalCommand) (answer : ℕ) (new : World) → Answers old command answer new → Outcome old command answer new
 outcome old (LocalInit selector start end) answer new step = inits old (LocalInit selector start end) answer new selector start end refl step
-outcome old (LocalAlloc flags size) answer new step = on_chosen old (LocalAlloc flags size) answer new (AllocatesIn old flags size answer new) (allocates old (LocalAlloc flags size) answer new flags size (λ some. ap not some)) step
+outcome old (LocalAlloc flags size) answer new step = on_chosen old (LocalAlloc flags size) answer new (AllocatesIn old flags size answer new) (allocates old (LocalAlloc flags size) answer new flags size refl (λ some. ap not some) (λ some may i. not (some i) && may i)) step
 outcome old (LocalReAlloc name size flags) answer new step =
-    on_named old (LocalReAlloc name size flags) answer new name 0 _ refl (λ o c named s. reallocates old (LocalReAlloc name size flags) answer new name size flags (λ keeps some. let asks : asks_for_room (LocalReAlloc name size flags) ≡ true = ap not (ap (λ b. b || (size == 0)) keeps ∙ some) in (asks, asks)) o c named s) step
+    on_named old (LocalReAlloc name size flags) answer new name 0 _ refl (λ o c named s. reallocates old (LocalReAlloc name size flags) answer new name size flags (λ keeps some. let asks : asks_for_room (LocalReAlloc name size flags) ≡ true = ap not (ap (λ b. b || (size == 0)) keeps ∙ some) in (asks, asks, (λ may i. asks i && may i), refl)) o c named s) step
 outcome old (LocalDiscard name) answer new step = on_named old (LocalDiscard name) answer new name 0 _ refl (λ o c named s. reallocates old (LocalDiscard name) answer new name 0 LMEM_MOVEABLE (λ keeps some. absurd (false≢true (sym some))) o c named s) step
 outcome old (LocalFree name) answer new step =
     on_named old (LocalFree name) answer new name name (λ o. GivesUp old o.heap (after_free (heap_of o.heap) o.id) 0 name answer new) refl

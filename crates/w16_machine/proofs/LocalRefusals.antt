@@ -18,7 +18,7 @@ module _ (old new : World) (at : LocalHeap) (flags size id answer : ℕ) where
       none_some e = cc
 
 pub outcome_law : OutcomeLaw
-outcome_law old new at flags size id answer is free made (inl fixed) = nothing size fixed.0 (with_bytes old new at flags size id answer (is_absent_asked flags size) (ap (λ b. (size == 0) && b) fixed.1 ∙ never (size == 0)) made).acted.allocated.some
+outcome_law old new at flags size id answer is free made (inl (inl fixed)) = nothing size fixed.0 (with_bytes old new at flags size id answer (is_absent_asked flags size) (ap (λ b. (size == 0) && b) fixed.1 ∙ never (size == 0)) made).acted.allocated.some
   where
     never : (b : Bool) → (b && false) ≡ false
     never true = refl
@@ -26,6 +26,6 @@ outcome_law old new at flags size id answer is free made (inl fixed) = nothing s
 
     nothing : (n : ℕ) → n ≡ 0 → 0 < rounded_up n → ⊥
     nothing n e lt = omega (arith, e, lt)
-outcome_law old new at flags size id answer is free made (inr (inl full)) = full id free.free
-outcome_law old new at flags size id answer is free made (inr (inr room)) =
+outcome_law old new at flags size id answer is free made (inl (inr full)) = full id free.free
+outcome_law old new at flags size id answer is free made (inr room) =
     roomed old new at flags size id answer is free (with_bytes old new at flags size id answer (is_absent_asked flags size) (ap (λ b. b && has_flag flags LMEM_MOVEABLE) (ne_eqb size 0 (λ e. absurd (omega (arith, e, room.0))))) made) room.1

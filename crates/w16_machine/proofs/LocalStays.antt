@@ -1,7 +1,8 @@
 -- Steps that take no bytes of an object: each has as many as before, and each local heap stays.
-use Rattle.w16_machine.proofs.Common.{◌≡◌, ℕ, false, inl, inr, MatchOption, List, length, Option, Some, None, option_map, IsSomeAnd, refl, sym, ap, subst, false≢true, repeated, Handles, selector_in, offset_in, HandleCommand, Answer, HandleStep, KeepsContents, FarCommand, Read, Write, Fill, Calls, contents, call_outcome, far_reads_file, reads_files, ModuleCommand, ResourceCommand, ModuleStep, ResourceStep, AddsBuiltIn, built_in, OfHandles, OfResizes, OfFar, OfModules, OfResources, Builtin, LoadModule, LoadLibrary, GetModuleHandle, GetModuleUsage, GetProcAddress, FindResource, LoadResource, LockResource, SizeofResource, Fetches, far_read, far_write, Format, Loads, LoadingWorld, handle_named, BuiltIn, Reply, answer_in, HasSameSizes, SizesLaw, HeapsLaw, call_may_take, modules_may_take, resources_may_take}
+use Rattle.w16_machine.proofs.Common.{◌≡◌, ℕ, false, inl, inr, MatchOption, List, length, Option, Some, None, option_map, IsSomeAnd, refl, sym, ap, subst, false≢true, repeated, Handles, selector_in, offset_in, HandleCommand, Answer, HandleStep, KeepsContents, FarCommand, Read, Write, Fill, Calls, contents, call_outcome, far_reads_file, reads_files, ModuleCommand, ResourceCommand, ModuleStep, ResourceStep, AddsBuiltIn, built_in, OfHandles, OfResizes, OfFar, OfModules, OfResources, Builtin, LoadModule, LoadLibrary, GetModuleHandle, GetModuleUsage, GetProcAddress, FindResource, LoadResource, LockResource, SizeofResource, Fetches, far_read, far_write, Format, Loads, LoadingWorld, handle_named, BuiltIn, Reply, answer_in, HasSameSizes, SizesLaw, HeapsLaw, call_may_take, modules_may_take, resources_may_take, ◌⊎◌, ◌∙◌, Object, bytes_in, object_at, LocalHeap, current_heap, IsObjectKept, IsRewritten, IsSameOutside, KeepsRest, KeepsRestLonger, LocalSizesLaw, size_at}
 use Rattle.std.specs.FinMap as finmap
 use Rattle.w16_loading.specs.Families as families
+use Rattle.w16_machine.proofs.LocalFrame.{frame_law}
 use Rattle.w16_machine.proofs.LocalFar.{read_same, write_same, tables_stay}
 use Rattle.w16_machine.proofs.Stepped.{call_replies, once, unread}
 
@@ -65,3 +66,29 @@ sizes_law format old new (OfResources command) reply m step =
 
 pub heaps_law : HeapsLaw
 heaps_law format old new command reply is m step = tables_stay old new is step.1 (sizes_law format old.loading new.loading command reply m step.0)
+
+-- A local call for which no heap may grow.
+pub local_sizes_law : LocalSizesLaw
+local_sizes_law old new command reply is none step = by_frame (frame_law old new command reply is step)
+  where
+    sized : (p : Option (List ℕ)) (n : ℕ) (P : List ℕ → Type 0) → IsSomeAnd p (λ b. (length b ≡ n) × P b) → option_map length p ≡ Some n
+    sized None n P h = absurd h
+    sized (Some b) n P h = ap Some h.0
+
+    rewritten : (at : LocalHeap) (p r : Option Object) → IsSomeAnd p (λ before. IsSomeAnd r (IsRewritten at before)) → option_map length (bytes_in r) ≡ option_map length (bytes_in p)
+    rewritten at None r h = absurd h
+    rewritten at (Some before) None h = absurd h
+    rewritten at (Some before) (Some after) h = sized after.bytes (length at.bytes) (IsSameOutside at.table.lo at.table.hi at.bytes) h.has ∙ sym (ap (option_map length) h.had)
+
+    of_current : (slot : ℕ) (p : Option LocalHeap) → IsSomeAnd p (λ at. (at.slot ≡ slot) × IsSomeAnd (object_at old.loading.handles.heap slot) (λ before. IsSomeAnd (object_at new.loading.handles.heap slot) (IsRewritten at before)))
+        → size_at new.loading.handles slot ≡ size_at old.loading.handles slot
+    of_current slot None h = absurd h
+    of_current slot (Some at) h = rewritten at (object_at old.loading.handles.heap slot) (object_at new.loading.handles.heap slot) h.1
+
+    by_kept : (slot : ℕ) → IsObjectKept old new slot → size_at new.loading.handles slot ≡ size_at old.loading.handles slot
+    by_kept slot (inl same) = ap (λ p. option_map length (bytes_in p)) same
+    by_kept slot (inr h) = of_current slot (current_heap old) h
+
+    by_frame : KeepsRest old new ⊎ KeepsRestLonger old command new → HasSameSizes old.loading.handles new.loading.handles
+    by_frame (inl k) = λ slot. by_kept slot (k.objects slot)
+    by_frame (inr r) = absurd (false≢true (sym none ∙ r.may))

@@ -4,7 +4,7 @@ use Rattle.std.specs.FinMap as finmap
 use Rattle.w16_model.specs.declared.Refusal.TheVariants as refusals
 use Rattle.w16_machine.proofs.LocalCurrent.{current_becomes}
 use Rattle.w16_machine.proofs.LocalOthers.{altered_is}
-use Rattle.w16_machine.proofs.LocalOutcomes.{IsRoomed, IsStepped}
+use Rattle.w16_machine.proofs.LocalOutcomes.{IsRoomed, IsStepped, grow_asks}
 
 -- Calls that only tell.
 
@@ -71,4 +71,4 @@ module _ (heap : Heap) (q pointer : ℕ) where
 pub places_law : PlacesLaw
 places_law old new command reply at after q pointer step c e none =
     let heap : Heap = heap_of at in
-    current_becomes old at c command reply new (Stood heap q pointer) (same_places heap q pointer heap refl) (stepped heap q pointer command none) (roomed heap q pointer command none) after e step
+    current_becomes old at c command reply new (Stood heap q pointer) (same_places heap q pointer heap refl) (stepped heap q pointer command none) (roomed heap q pointer command none) (λ answer after e g. absurd (false≢true (sym none ∙ grow_asks command g.may))) after e step

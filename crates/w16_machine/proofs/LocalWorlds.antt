@@ -1,46 +1,12 @@
 -- Each step of each family keeps what holds of local heaps.
-use Rattle.w16_machine.proofs.Common.{◌≡◌, ◌≢◌, ℕ, ◌<◌, ◌≤◌, inl, inr, Bool, true, false, cond, nat_le, IfSome, IsSomeAnd, List, length, All, Option, Some, None, option_map, refl, sym, ap, ◌∙◌, subst, arith, leb-true, nat_cmp, FinMap, get-retain_keys, nat_cmp-IsAntisymmetric, cases_eq, Heap, Object, object_at, bytes_at, after_write, AreHandles, Table, heap_in, other_handles, same_updated, written_sized, bytes_in, inserted_here, inserted_other, written_heap, put_part, World, Reply, Word, Done, LocalHeap, AreLocalHeaps, IsLocalIn, AreNamed, Becomes, Acts, segment_bytes, heap_of, has_range, left_in, new_table, with_table, with_local, LocalCommand, LocalStep, DS, after_loading}
+use Rattle.w16_machine.proofs.Common.{◌≡◌, ◌≢◌, ℕ, ◌<◌, inl, inr, IsSomeAnd, List, length, All, Some, option_map, refl, sym, ap, subst, arith, cases_eq, Heap, Object, object_at, after_write, AreHandles, Table, heap_in, other_handles, same_updated, written_sized, bytes_in, inserted_here, inserted_other, written_heap, put_part, World, Reply, Word, Done, LocalHeap, AreLocalHeaps, IsLocalIn, AreNamed, Becomes, Acts, segment_bytes, heap_of, new_table, with_table, with_local, LocalCommand, LocalStep, DS, Lengthens, longer, with_longer, local_options}
 use Rattle.std.specs.FinMap as finmap
 use Rattle.w16_machine.proofs.LocalFacts.{IsThere, current_there, local_here, heap_here, object_of, segment_after, segment_other}
 use Rattle.w16_machine.proofs.LocalBegins.{begin_law, new_local}
-use Rattle.w16_machine.proofs.LocalNamed.{named_in, roomed_named, stepped_named}
-use Rattle.w16_machine.proofs.LocalOutcomes.{Outcome, IsRoomed, outcome}
-
--- what is so of each slot
-abbrev pub IsLocalAt : Option Table → Option (List ℕ) → Type 0
-IsLocalAt t b = IfSome t (λ t. IsSomeAnd b (IsLocalIn t))
-
--- Local heaps that go.
-
--- what is left of a heap over these bytes of its segment
-abbrev pub left_over : Option Table → Option (List ℕ) → Option Table
-left_over None b = None
-left_over (Some t) None = None
-left_over (Some t) (Some bytes) = cond (nat_le t.hi (length bytes)) (Some t) None
-
-pub left_is : (heap : Heap) (tables : FinMap nat_cmp Table) (slot : ℕ) → finmap.get (left_in heap tables) slot ≡ left_over (finmap.get tables slot) (bytes_at heap slot)
-left_is heap tables slot =
-    get-retain_keys tables (has_range heap tables) slot (λ x t. ap (has_range heap tables) (sym (nat_cmp-IsAntisymmetric slot x t)))
-    ∙ turn (finmap.get tables slot) (bytes_at heap slot)
-  where
-    turn : (t : Option Table) (b : Option (List ℕ)) → cond (elim t as (λ _. Bool) [ None ↦ false | Some t ↦ elim b [ None ↦ false | Some bytes ↦ nat_le t.hi (length bytes) ] ]) t None ≡ left_over t b
-    turn None b = refl
-    turn (Some t) None = refl
-    turn (Some t) (Some bytes) = refl
-
--- a step of another family
-pub heaps_after : (old new : World) → AreLocalHeaps old → AreHandles new.loading.handles → new ≡ after_loading old new.loading → AreLocalHeaps new
-heaps_after old new is handles rest = subst AreLocalHeaps (sym rest) (record { handles = handles; heaps = λ slot. subst (λ t. IsLocalAt t (bytes_at new.loading.handles.heap slot)) (sym (left_is new.loading.handles.heap old.heaps slot)) (turn (finmap.get old.heaps slot) (segment_bytes old slot) (bytes_at new.loading.handles.heap slot) (is.heaps slot)) })
-  where
-    inside : (t : Table) (before after : List ℕ) → IsLocalIn t before → (b : Bool) → nat_le t.hi (length after) ≡ b → IsLocalAt (cond b (Some t) None) (Some after)
-    inside t before after h true e = let le : t.hi ≤ length after = leb-true t.hi (length after) e in (h.0, le, named_in t h.0.sound.table before after h.1 le h.2)
-    inside t before after h false e = tt
-
-    turn : (t : Option Table) (before after : Option (List ℕ)) → IsLocalAt t before → IsLocalAt (left_over t after) after
-    turn None before after h = tt
-    turn (Some t) before None h = tt
-    turn (Some t) None (Some after) h = absurd h
-    turn (Some t) (Some before) (Some after) h = inside t before after h (nat_le t.hi (length after)) refl
+use Rattle.w16_machine.proofs.LocalGrown.{grown_there, grown_world}
+use Rattle.w16_machine.proofs.LocalLeft.{IsLocalAt}
+use Rattle.w16_machine.proofs.LocalNamed.{made_named, roomed_named, stepped_named}
+use Rattle.w16_machine.proofs.LocalOutcomes.{Outcome, IsMade, IsRoomed, outcome}
 
 -- A world with another table of a local heap, over the same bytes or others of its segment.
 module _ (old : World) (is : AreLocalHeaps old) where
@@ -77,17 +43,25 @@ module _ (old : World) (is : AreLocalHeaps old) where
               (λ q d. ap bytes_in (segment_other old.loading.handles.heap at.slot a.bytes q d));
         })
 
-  -- by what a local call does
-  pub local_world : (command : LocalCommand) (answer : ℕ) (new : World) → Outcome old command answer new → AreLocalHeaps new
-  local_world command answer new (inl same) = subst AreLocalHeaps (sym same) is
-  local_world command answer new (inr (inl init)) =
-      subst AreLocalHeaps (sym init.rest) (tabled_world init.begun.slot (new_table init.begun.range) (new_local old init.selector init.start init.end init.begun ((begin_law old init.selector init.start init.end init.begun).0 init.may)))
-  local_world command answer new (inr (inr (at, c, inl (next, stepped, becomes)))) =
-      let there : IsThere old at = current_there old at c in
-      becomes_world at there next new (stepped_named (heap_of at) (local_here old is at there).2 command next stepped) becomes
-  local_world command answer new (inr (inr (at, c, inr acts))) =
-      let there : IsThere old at = current_there old at c in
-      acts_world at there (IsRoomed (heap_of at) command answer) new (λ heap room. roomed_named (heap_of at) (local_here old is at there).2 (heap_here old is at there) command answer heap room) acts
+-- by what a local call does
+pub local_world : (old : World) → AreLocalHeaps old → (command : LocalCommand) (answer : ℕ) (new : World) → Outcome old command answer new → AreLocalHeaps new
+local_world old is command answer new (inl same) = subst AreLocalHeaps (sym same) is
+local_world old is command answer new (inr (inl init)) =
+    subst AreLocalHeaps (sym init.rest) (tabled_world old is init.begun.slot (new_table init.begun.range) (new_local old init.selector init.start init.end init.begun ((begin_law old init.selector init.start init.end init.begun).0 init.may)))
+local_world old is command answer new (inr (inr (at, c, inl (next, stepped, becomes)))) =
+    let there : IsThere old at = current_there old at c in
+    becomes_world old is at there next new (stepped_named (heap_of at) (local_here old is at there).2 command next stepped) becomes
+local_world old is command answer new (inr (inr (at, c, inr (inl acts)))) =
+    let there : IsThere old at = current_there old at c in
+    acts_world old is at there (IsRoomed (heap_of at) command answer) new (λ heap room. roomed_named (heap_of at) (local_here old is at there).2 (heap_here old is at there) command answer heap room) acts
+local_world old is command answer new (inr (inr (at, c, inr (inr g)))) =
+    let there : IsThere old at = current_there old at c in
+    let l : Lengthens old at (local_options g.flags) g.grows.size = g.grows.lengthens in
+    let mine : LocalHeap = longer at g.grows.size l.bytes in
+    let next : World = with_longer old l.handles mine in
+    let now : AreLocalHeaps next = grown_world old is at there (local_options g.flags) g.grows.size g.grows.growth.served.longer l in
+    let here : IsThere next mine = grown_there old is at there (local_options g.flags) g.grows.size g.grows.growth.served.longer l in
+    acts_world next now mine here (IsMade (heap_of at) (heap_of mine) command answer) new (λ heap made. made_named (heap_of mine) (local_here next now mine here).2 (heap_here next now mine here) (heap_of at) command answer heap made) g.grows.grown
 
 pub local_heaps_kept : (old new : World) (command : LocalCommand) (reply : Reply) → AreLocalHeaps old → LocalStep old command reply new → AreLocalHeaps new
 local_heaps_kept old new (DS selector) Done is step = subst AreLocalHeaps (sym step) (record { handles = is.handles; heaps = is.heaps })

@@ -11,7 +11,7 @@ use Rattle.w16_machine.specs.World.{World}
 use Rattle.w16_machine.specs.Law.{IsWorld}
 use Rattle.w16_machine.specs.Local.{LocalHeap, heap_of, local_in, current_heap}
 use Rattle.w16_machine.specs.LocalCalls.LocalCommand.{DS}
-use Rattle.w16_machine.specs.LocalLaw.{IsNamedBy, IsObjectKept, asks_for_room, but_bytes, may_move_named}
+use Rattle.w16_machine.specs.LocalLaw.{IsLeftByGrowth, IsNamedBy, IsObjectKept, asks_for_room, but_bytes, may_grow, may_move_named}
 use Rattle.w16_machine.specs.Machine.{Command, IsCommand, Event, Step, Run}
 use Rattle.w16_machine.specs.Machine.Command.{OfLoading, OfLocals}
 
@@ -28,10 +28,10 @@ IsGone old (OfLoading command) new q = IsReleased command old.loading.handles ne
 IsGone old (OfLocals command) new q = ⊥
 
 -- It is as it was; or it was discardable and not locked, and has lost its bytes alone; or it is gone with its module or resource. A local call
--- takes no bytes, and changes those of one local heap.
+-- takes no bytes, and changes those of one local heap, unless that grows: then it gets more, and the others are left as by any call for room.
 abbrev pub IsSpared : World → Command → World → ℕ → Type 0
 IsSpared old (OfLoading command) new q = IsKeptOrDiscarded old.loading.handles.heap new.loading.handles.heap q ⊎ IsGone old (OfLoading command) new q
-IsSpared old (OfLocals command) new q = IsObjectKept old new q
+IsSpared old (OfLocals command) new q = IsObjectKept old new q ⊎ ((may_grow command ≡ true) × IsLeftByGrowth old new q)
 
 -- whether a step may move a fixed or locked object that it is about, or free it
 abbrev pub command_may_move_own : Command → Bool

@@ -1,5 +1,6 @@
 pub mod World
 pub mod Local
+pub mod LocalGrowth
 pub mod LocalCalls
 pub mod Machine
 pub mod Fewest

@@ -16,6 +16,7 @@ use Rattle.w16_loading.specs.Replies.{Reply}
 use Rattle.w16_loading.specs.Replies.Reply.{Word, Done}
 use Rattle.w16_machine.specs.World.{World}
 use Rattle.w16_machine.specs.Local.{LocalHeap, LocalObject, Stays, Becomes, Acts, IsFreeEntry, IsLowestFree, heap_of, current_heap, object_named, name_at, id_at, rounded_up, beginning, new_table, with_table}
+use Rattle.w16_machine.specs.LocalGrowth.{OnceLonger}
 
 -- a call on local heaps, with its arguments as numbers
 pub data LocalCommand : Type 0 where
@@ -62,16 +63,16 @@ local_options flags = record {
 abbrev pub IsEmptyFixed : ℕ → ℕ → Type 0
 IsEmptyFixed flags size = (size ≡ 0) × (has_flag flags LMEM_MOVEABLE ≡ false)
 
--- where no entry is free,
+-- where no entry is free, for want of which no heap grows,
 abbrev pub HasNoEntry : Heap → Type 0
 HasNoEntry heap = (id : ℕ) → IsFreeEntry heap id → ⊥
 
--- and where there is no room in the heap; there is no other limit on a size.
+abbrev pub IsRefusedAlloc : Heap → ℕ → ℕ → Type 0
+IsRefusedAlloc heap flags size = IsEmptyFixed flags size ⊎ HasNoEntry heap
+
+-- and where there is no room in the heap, unless it grows; there is no other limit on a size.
 abbrev pub HasNoRoom : Heap → ℕ → ℕ → Type 0
 HasNoRoom heap flags size = (0 < size) × (discards_needed heap (rounded_up size) None (local_options flags) ≡ None)
-
-abbrev pub IsRefusedAlloc : Heap → ℕ → ℕ → Type 0
-IsRefusedAlloc heap flags size = IsEmptyFixed flags size ⊎ HasNoEntry heap ⊎ HasNoRoom heap flags size
 
 -- a moveable object of size 0 has no bytes
 abbrev pub is_absent_asked : ℕ → ℕ → Bool
@@ -92,16 +93,21 @@ MakesObject old at flags size id answer new = MatchBool (is_absent_asked flags s
     ((next : Heap) × EntersObject (heap_of at) flags id answer next × Becomes old at next new)
     (Acts old at (AllocatesObject (heap_of at) flags size id answer) new)
 
+-- or in the heap once it is longer, where it has no room now
+abbrev pub MakesLonger : World → LocalHeap → ℕ → ℕ → ℕ → ℕ → World → Type 0
+MakesLonger old at flags size id answer new = HasNoRoom (heap_of at) flags size
+    × OnceLonger old at id (rounded_up size) (local_options flags) (λ next longer. MakesObject next longer flags size id answer new) (Stays old 0 answer new)
+
 -- LocalAlloc
 abbrev pub AllocatesIn : World → ℕ → ℕ → ℕ → World → LocalHeap → Type 0
 AllocatesIn old flags size answer new at =
     (IsRefusedAlloc (heap_of at) flags size × Stays old 0 answer new)
-    ⊎ ((id : ℕ) × IsLowestFree (heap_of at) id × MakesObject old at flags size id answer new)
+    ⊎ ((id : ℕ) × IsLowestFree (heap_of at) id × (MakesObject old at flags size id answer new ⊎ MakesLonger old at flags size id answer new))
 
 abbrev pub LocalAllocs : World → ℕ → ℕ → ℕ → World → Type 0
 LocalAllocs old flags size answer new = MatchOption (current_heap old) (Stays old 0 answer new) (AllocatesIn old flags size answer new)
 
--- LocalCompact: as the heap compacts; for 0 bytes it only answers what could be made free
+-- LocalCompact: as the heap compacts, which doesn't grow for it; for 0 bytes it only answers what could be made free
 abbrev pub CompactsIn : World → ℕ → ℕ → World → LocalHeap → Type 0
 CompactsIn old size answer new at = MatchBool (size == 0) (Stays old (most_room (heap_of at)) answer new) (Acts old at (MakesRoom (heap_of at) size answer) new)
 
@@ -160,15 +166,17 @@ DiscardsObject old name flags answer new o = MatchBool (has_flag flags LMEM_MOVE
     (GivesUp old o.heap (after_discard (heap_of o.heap) o.id) name 0 answer new)
     (Stays old 0 answer new)
 
--- with another size: the object's name, which a fixed object that is moved has anew, once the heap has reallocated it; 0 where it can't
+-- with another size: the object's name, which a fixed object that is moved has anew, once the heap has reallocated it, longer if need be; 0 where
+-- it can't
 pub record ResizesObject (heap : Heap) (id size flags answer : ℕ) (next : Heap) : Type 0 where
   pub resized : Reallocates heap id (rounded_up size) (local_options flags) true next
   pub named : name_at next id ≡ Some answer
 
 abbrev pub SizesObject : World → ℕ → ℕ → ℕ → World → LocalObject → Type 0
 SizesObject old size flags answer new o =
-    (Reallocates (heap_of o.heap) o.id (rounded_up size) (local_options flags) false (heap_of o.heap) × Stays old 0 answer new)
-    ⊎ Acts old o.heap (ResizesObject (heap_of o.heap) o.id size flags answer) new
+    Acts old o.heap (ResizesObject (heap_of o.heap) o.id size flags answer) new
+    ⊎ (Reallocates (heap_of o.heap) o.id (rounded_up size) (local_options flags) false (heap_of o.heap)
+    × OnceLonger old o.heap o.id (rounded_up size) (local_options flags) (λ next longer. Acts next longer (ResizesObject (heap_of longer) o.id size flags answer) new) (Stays old 0 answer new))
 
 -- LocalReAlloc, by the first case that fits: a bad name, LMEM_MODIFY, a size of 0, and any other size
 abbrev pub LocalReallocs : World → ℕ → ℕ → ℕ → ℕ → World → Type 0

@@ -1,5 +1,5 @@
 -- The laws that show the definitions of local heaps to be the right ones. Each is the contract of a function of the module `local_laws`.
-use Rattle.std.specs.Prelude.{Bool, false, ◌≡◌, ◌≢◌, ℕ, ◌+◌, ◌<◌, ◌≤◌, ◌⊎◌, ◌↔◌, ◌==◌, ◌||◌, not, true, List, length, All, Option, Some, None, is_some, option_map, IsSomeAnd}
+use Rattle.std.specs.Prelude.{Bool, false, ◌≡◌, ◌≢◌, ℕ, ◌+◌, ◌<◌, ◌≤◌, ◌⊎◌, ◌↔◌, ◌==◌, ◌&&◌, ◌||◌, not, true, List, length, take, All, Option, Some, None, is_some, option_map, IsSomeAnd}
 use Rattle.std.specs.FinMap as finmap
 use Rattle.w16_model.specs.declared.Span.{Span}
 use Rattle.w16_model.specs.declared.Kind.{Kind}
@@ -7,7 +7,8 @@ use Rattle.w16_model.specs.declared.Kind.TheVariants.{Discardable}
 use Rattle.w16_model.specs.Heap.{Heap, Object, IsHeap, IsMultiple, empty_heap, object_at, bytes_at, is_pinned_object}
 use Rattle.w16_model.specs.Law.{StandsStill}
 use Rattle.w16_model.specs.Calls.{has_flag}
-use Rattle.w16_model.specs.CallLaws.{OthersStand}
+use Rattle.w16_model.specs.declared.RoomOptions.{RoomOptions}
+use Rattle.w16_model.specs.CallLaws.{IsKeptOrDiscarded, OnlyLeave, OthersStand}
 use Rattle.w16_model.specs.Far.{FarCommand, IsFarCommand}
 use Rattle.w16_model.specs.Owned.{is_code}
 use Rattle.w16_model.specs.Handles.{slot_of_selector}
@@ -19,8 +20,9 @@ use Rattle.w16_loading.specs.Families.{LoadingCommand}
 use Rattle.w16_loading.specs.Replies.{Reply, FarReplies}
 use Rattle.w16_loading.specs.Replies.Reply.{Word}
 use Rattle.w16_machine.specs.World.{World}
-use Rattle.w16_machine.specs.Local.{LocalHeap, Beginning, AreLocalHeaps, IsLowestFree, AreNamed, segment_bytes, heap_of, local_in, current_heap, name_at, id_named, id_at, beginning, selector_or_ds, new_table}
-use Rattle.w16_machine.specs.LocalCalls.{LocalCommand, LocalStep, MakesObject, IsRefusedAlloc, is_absent_asked}
+use Rattle.w16_machine.specs.Local.{LocalHeap, Beginning, AreLocalHeaps, IsLowestFree, AreNamed, segment_bytes, heap_of, local_in, current_heap, name_at, id_named, id_at, beginning, selector_or_ds, new_table, left_in}
+use Rattle.w16_machine.specs.LocalGrowth.{IsGrowth, IsKeptShort, IsLongerSize, Lengthens, longer, with_longer}
+use Rattle.w16_machine.specs.LocalCalls.{LocalCommand, LocalStep, MakesObject, IsRefusedAlloc, HasNoRoom, is_absent_asked, local_options}
 use Rattle.w16_machine.specs.LocalCalls.LocalCommand.{LocalInit, LocalAlloc, LocalCompact, LocalReAlloc, LocalDiscard, LocalFree, LocalLock, LocalUnlock, LocalSize, LocalFlags, LocalHandle}
 use Rattle.w16_machine.specs.Machine.{Command, Step, Event, Run, after_loading}
 use Rattle.w16_machine.specs.Machine.Command.{OfLoading, OfLocals}
@@ -99,15 +101,88 @@ IsHeapKept old new slot =
     ⊎ ((finmap.get old.heaps slot ≡ None) × (is_code old.loading.handles slot ≡ false))
     ⊎ IsSomeAnd (current_heap old) (λ at. (at.slot ≡ slot) × IsSomeAnd (finmap.get new.heaps slot) (λ t. (t.lo ≡ at.table.lo) × (t.hi ≡ at.table.hi)))
 
--- Whatever a local call answers: no address, no order of use and no other part of the handles changes, the number of bytes moved among them.
+-- No address, no order of use and no other part of the handles changes, the number of bytes moved among them.
 pub record KeepsRest (old new : World) : Type 0 where
   pub handles : new.loading.handles ≡ record old.loading.handles { heap = record old.loading.handles.heap { objects = new.loading.handles.heap.objects } }
   pub loading : new.loading ≡ with_handles old.loading new.loading.handles
   pub objects : (slot : ℕ) → IsObjectKept old new slot
   pub heaps : (slot : ℕ) → IsHeapKept old new slot
 
+-- the calls that ask for room: an allocation of bytes, a reallocation to a size other than 0, and a compaction for more than 0 bytes
+abbrev pub asks_for_room : LocalCommand → Bool
+asks_for_room (LocalAlloc flags size) = not (is_absent_asked flags size)
+asks_for_room (LocalReAlloc name size flags) = not (has_flag flags LMEM_MODIFY || size == 0)
+asks_for_room (LocalCompact size) = not (size == 0)
+asks_for_room command = false
+
+-- those for which a heap may grow: the first two, without LMEM_NOCOMPACT
+abbrev pub may_grow : LocalCommand → Bool
+may_grow (LocalAlloc flags size) = asks_for_room (LocalAlloc flags size) && not (has_flag flags LMEM_NOCOMPACT)
+may_grow (LocalReAlloc name size flags) = asks_for_room (LocalReAlloc name size flags) && not (has_flag flags LMEM_NOCOMPACT)
+may_grow command = false
+
+-- the flags that a call for an object's bytes is given
+abbrev pub flags_in : LocalCommand → Option ℕ
+flags_in (LocalAlloc flags size) = Some flags
+flags_in (LocalReAlloc name size flags) = Some flags
+flags_in command = None
+
+-- The current heap grew, for a call that may make it: its segment was lengthened as by GlobalReAlloc, the heap is the current one still, and the
+-- rest of the world that this left is kept. No heap begins.
+pub record KeepsRestLonger (old : World) (command : LocalCommand) (new : World) : Type 0 where
+  pub may : may_grow command ≡ true
+  pub at : LocalHeap
+  pub current : current_heap old ≡ Some at
+  pub flags : ℕ
+  pub given : flags_in command ≡ Some flags
+  pub size : ℕ
+  pub ends : at.table.hi ≡ length at.bytes
+  pub longer_size : IsLongerSize at size
+  pub lengthens : Lengthens old at (local_options flags) size
+  pub still : current_heap (with_longer old lengthens.handles (longer at size lengthens.bytes)) ≡ Some (longer at size lengthens.bytes)
+  pub rest : KeepsRest (with_longer old lengthens.handles (longer at size lengthens.bytes)) new
+  pub begins_none : (slot : ℕ) → finmap.get (with_longer old lengthens.handles (longer at size lengthens.bytes)).heaps slot ≡ None → finmap.get new.heaps slot ≡ None
+
+-- Whatever a local call answers, it keeps the rest, or does so once its heap has grown.
 abbrev pub FrameLaw : Type 0
-FrameLaw = (old new : World) (command : LocalCommand) (reply : Reply) → AreLocalHeaps old → LocalStep old command reply new → KeepsRest old new
+FrameLaw = (old new : World) (command : LocalCommand) (reply : Reply) → AreLocalHeaps old → LocalStep old command reply new → KeepsRest old new ⊎ KeepsRestLonger old command new
+
+-- a segment that was lengthened: all but its bytes is the same, it has more of these, and below the heap the same
+pub record IsLengthened (at : LocalHeap) (before after : Object) : Type 0 where
+  pub kind : after.kind ≡ before.kind
+  pub locks : after.locks ≡ before.locks
+  pub had : before.bytes ≡ Some at.bytes
+  pub has : IsSomeAnd after.bytes (λ bytes. (length at.bytes < length bytes) × (take at.table.lo bytes ≡ take at.table.lo at.bytes))
+
+-- What a growth leaves of a slot's object: it is the segment of the current heap, or it is as it was, or it was discardable and not locked, and has
+-- lost its bytes alone.
+abbrev pub IsLeftByGrowth : World → World → ℕ → Type 0
+IsLeftByGrowth old new slot =
+    IsKeptOrDiscarded old.loading.handles.heap new.loading.handles.heap slot
+    ⊎ IsSomeAnd (current_heap old) (λ at. (at.slot ≡ slot)
+    × IsSomeAnd (object_at old.loading.handles.heap slot) (λ before. IsSomeAnd (object_at new.loading.handles.heap slot) (IsLengthened at before)))
+
+-- and of a slot's local heap: it goes exactly where its segment has lost its range; that of the segment ends later, where its segment does still
+abbrev pub IsHeapLeft : World → World → ℕ → Type 0
+IsHeapLeft old new slot =
+    (finmap.get new.heaps slot ≡ finmap.get (left_in new.loading.handles.heap old.heaps) slot)
+    ⊎ IsSomeAnd (current_heap old) (λ at. (at.slot ≡ slot) × IsSomeAnd (finmap.get new.heaps slot) (λ t. (t.lo ≡ at.table.lo) × (at.table.hi < t.hi) × IsSomeAnd (segment_bytes new slot) (λ bytes. t.hi ≡ length bytes)))
+
+-- So is a call for which a heap has grown: it leaves the other objects and heaps so, and a fixed or locked object its address, the segment's too.
+-- Nothing but handles changes, and of them neither slots nor attributes nor the number of bytes moved; from the order of use only what was discarded
+-- leaves, so the segment keeps its place there.
+pub record LeavesLonger (old new : World) : Type 0 where
+  pub loading : new.loading ≡ with_handles old.loading new.loading.handles
+  pub slots : new.loading.handles.slots ≡ old.loading.handles.slots
+  pub attributes : (slot : ℕ) → finmap.get new.loading.handles.attributes slot ≡ finmap.get old.loading.handles.attributes slot
+  pub moved : new.loading.handles.moved ≡ old.loading.handles.moved
+  pub order : OnlyLeave new.loading.handles.heap old.loading.handles.heap.order new.loading.handles.heap.order
+  pub objects : (slot : ℕ) → is_some (object_at old.loading.handles.heap slot) ≡ true → IsLeftByGrowth old new slot
+  pub pinned : (slot : ℕ) → IsSomeAnd (object_at old.loading.handles.heap slot) (λ o. is_pinned_object o ≡ true) → StandsStill old.loading.handles.heap new.loading.handles.heap slot
+  pub heaps : (slot : ℕ) → IsHeapLeft old new slot
+
+abbrev pub GrowthLaw : Type 0
+GrowthLaw = (old new : World) (command : LocalCommand) → AreLocalHeaps old → KeepsRestLonger old command new → LeavesLonger old new
 
 -- the calls that only tell; LocalCompact only tells where it is asked for 0 bytes
 abbrev pub only_tells : LocalCommand → Bool
@@ -133,13 +208,6 @@ named_by (LocalUnlock name) = Some name
 named_by (LocalSize name) = Some name
 named_by (LocalFlags name) = Some name
 named_by other = None
-
--- the calls that ask for room: an allocation of bytes, a reallocation to a size other than 0, and a compaction for more than 0 bytes
-abbrev pub asks_for_room : LocalCommand → Bool
-asks_for_room (LocalAlloc flags size) = not (is_absent_asked flags size)
-asks_for_room (LocalReAlloc name size flags) = not (has_flag flags LMEM_MODIFY || size == 0)
-asks_for_room (LocalCompact size) = not (size == 0)
-asks_for_room command = false
 
 -- An object that a call doesn't name is as it was, or it was discardable and not locked and has lost its bytes alone; a fixed or locked one keeps
 -- its near pointer. Unless the call asks for room, all keep all.
@@ -183,9 +251,15 @@ abbrev pub OrderLaw : Type 0
 OrderLaw = (old new : World) (command : LocalCommand) (reply : Reply) (at after : LocalHeap) → AreLocalHeaps old → LocalStep old command reply new
     → current_heap old ≡ Some at → local_in new at.slot ≡ Some after → OthersStand (IsNamedBy command (heap_of at)) (λ id. id) (heap_of at) (heap_of after)
 
--- an allocation isn't both refused and answered
+-- an allocation that is answered in the heap as it is isn't refused, and doesn't lack room
 abbrev pub OutcomeLaw : Type 0
-OutcomeLaw = (old new : World) (at : LocalHeap) (flags size id answer : ℕ) → IsHeap (heap_of at) → IsLowestFree (heap_of at) id → MakesObject old at flags size id answer new → IsRefusedAlloc (heap_of at) flags size → ⊥
+OutcomeLaw = (old new : World) (at : LocalHeap) (flags size id answer : ℕ) → IsHeap (heap_of at) → IsLowestFree (heap_of at) id → MakesObject old at flags size id answer new
+    → IsRefusedAlloc (heap_of at) flags size ⊎ HasNoRoom (heap_of at) flags size → ⊥
+
+-- nor is a heap both lengthened and kept short: a request has one size to grow to at most, and a segment gets it or not
+abbrev pub OneGrowthLaw : Type 0
+OneGrowthLaw = (old : World) (at : LocalHeap) (id n size other : ℕ) (options : RoomOptions) → IsGrowth at id n options size → IsGrowth at id n options other
+    → (size ≡ other) × (Lengthens old at options size → IsKeptShort old at options other → ⊥)
 
 -- Far accesses.
 

@@ -15,6 +15,8 @@ use Rattle.w16_loading.specs.Modules.{LoadingWorld}
 use Rattle.w16_loading.specs.Replies.{Reply}
 use Rattle.w16_machine.specs.World.{World}
 use Rattle.w16_machine.specs.Local.{AreLocalHeaps}
+use Rattle.w16_machine.specs.LocalCalls.{LocalCommand, LocalStep}
+use Rattle.w16_machine.specs.LocalLaw.{may_grow}
 use Rattle.w16_machine.specs.Machine.{Step, StoreStep}
 use Rattle.w16_machine.specs.Machine.Command.{OfLoading}
 
@@ -59,3 +61,7 @@ SizesLaw = (format : Format) (old new : LoadingWorld) (command : LoadingCommand)
 -- and so it keeps each local heap.
 abbrev pub HeapsLaw : Type 0
 HeapsLaw = (format : Format) (old new : World) (command : LoadingCommand) (reply : Reply) → AreLocalHeaps old → step_may_take old.loading command ≡ false → Step ⊥ format old (OfLoading command) reply new → new.heaps ≡ old.heaps
+
+-- So does a local call for which no heap may grow.
+abbrev pub LocalSizesLaw : Type 0
+LocalSizesLaw = (old new : World) (command : LocalCommand) (reply : Reply) → AreLocalHeaps old → may_grow command ≡ false → LocalStep old command reply new → HasSameSizes old.loading.handles new.loading.handles

@@ -21,14 +21,14 @@ pub fn runs_keep_worlds()
 {}
 
 /// In every run each call for room discards as few objects as it can, of the global heap or of a local one, whichever way the others slide,
-/// and is refused for room only where no discards would have made it.
+/// and is refused for room only where no discards would have made it, nor any growth of a local heap.
 pub fn runs_discard_fewest()
     ensures { FewestLaw }
 {}
 
 /// DS is changed by the command `DS` alone. Each step, whatever it is and whatever the store answers, leaves objects that it isn't about their
-/// bytes, unless they are discardable and not locked; and a fixed or locked object its address, but for its own reallocation and freeing. The
-/// same holds of the objects of each local heap that stays.
+/// bytes, unless they are discardable and not locked; and a fixed or locked object its address, but for its own reallocation and freeing. A local
+/// call changes bytes of one local heap, whose segment may get more. The same holds of the objects of each local heap that stays.
 pub fn steps_spare_other_objects()
     ensures { StepSparesLaw }
 {}

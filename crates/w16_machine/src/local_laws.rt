@@ -1,8 +1,8 @@
 //! The laws of local heaps. Each function does nothing: its contract is the law.
-ghost use Rattle.w16_machine.specs.LocalLaw.{AreFigures, AreFlags, BeginLaw, FarLaw, FrameLaw, GoesLaw, GoneLaw, NamedLaw, NamesLaw, NeverBackLaw, NewHeapLaw, OrderLaw, OthersLaw, OutcomeLaw, PinnedLaw, PlacesLaw, QueriesLaw};
+ghost use Rattle.w16_machine.specs.LocalLaw.{AreFigures, AreFlags, BeginLaw, FarLaw, FrameLaw, GoesLaw, GoneLaw, GrowthLaw, NamedLaw, NamesLaw, NeverBackLaw, NewHeapLaw, OneGrowthLaw, OrderLaw, OthersLaw, OutcomeLaw, PinnedLaw, PlacesLaw, QueriesLaw};
 ghost use Rattle.w16_machine.specs.LocalFewest.{AllocLaw, CompactLaw, ReallocLaw};
 ghost use Rattle.w16_machine.specs.LocalEffects.{DiscardLaw, FreeLaw, LockLaw, ModifyLaw, RefusedLaw, UnlockLaw};
-ghost use Rattle.w16_machine.specs.LocalStays.{SizesLaw, HeapsLaw};
+ghost use Rattle.w16_machine.specs.LocalStays.{HeapsLaw, LocalSizesLaw, SizesLaw};
 
 /// The figures of local heaps and the flags of the Local calls are these numbers.
 pub fn figures_of_local_heaps()
@@ -22,9 +22,12 @@ pub fn local_heaps_begin_empty()
     ensures empty { NewHeapLaw }
 {}
 
-/// A local call changes bytes in the range of the current heap alone, and no address, no order of use and no other heap of the world.
+/// A local call changes bytes in the range of the current heap alone, and no address, no order of use and no other heap of the world. Where the
+/// heap grows for it, that growth is a `GlobalReAlloc` of its segment: it may move other objects and discard some, with their local heaps, and
+/// leaves the number of bytes moved.
 pub fn local_calls_keep_the_rest()
-    ensures { FrameLaw }
+    ensures rest { FrameLaw }
+    ensures growth { GrowthLaw }
 {}
 
 /// LocalSize, LocalFlags, LocalHandle, and LocalCompact for 0 bytes, only tell: they change nothing.
@@ -66,9 +69,10 @@ pub fn refused_local_calls_change_nothing()
     ensures { RefusedLaw }
 {}
 
-/// A local allocation isn't both refused and answered.
+/// A local allocation isn't both refused and answered, and a heap doesn't both grow for it and not.
 pub fn local_allocations_have_one_outcome()
-    ensures { OutcomeLaw }
+    ensures outcome { OutcomeLaw }
+    ensures growth { OneGrowthLaw }
 {}
 
 /// A far access changes bytes of local objects, and nothing else of any local heap.
@@ -77,7 +81,8 @@ pub fn far_accesses_keep_local_heaps()
 {}
 
 /// A local call for room discards as few objects of its heap as it can, whichever way the others slide, and is refused for room only where
-/// no discards would have made it; then nothing changes.
+/// no discards would have made it; then nothing changes. A heap grows only where it has no room, no farther than it must, and by a request for
+/// its segment that discards as few objects as it can; and it doesn't grow only where no growth would do or its segment doesn't get the size.
 pub fn local_calls_discard_fewest()
     ensures alloc { AllocLaw }
     ensures realloc { ReallocLaw }
@@ -85,8 +90,9 @@ pub fn local_calls_discard_fewest()
 {}
 
 /// Calls that ask for room, that free or cut an object, loads, fetches and modules or resources that go alone may take bytes of an object: a
-/// step of any other command leaves each as many, and each local heap.
+/// step of any other command leaves each as many, and each local heap. Of the local calls those alone may for which a heap may grow.
 pub fn other_steps_keep_local_heaps()
     ensures sizes { SizesLaw }
     ensures heaps { HeapsLaw }
+    ensures locals { LocalSizesLaw }
 {}

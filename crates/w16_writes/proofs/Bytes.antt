@@ -42,7 +42,7 @@ inside bytes i t = turn (slice_get bytes i) refl t
     turn (Some byte) e t = slice_get_within bytes i byte e
 
 -- below a place and from one on
-get-below : (n : ℕ) (xs ys : List ℕ) (i : ℕ) → take n ys ≡ take n xs → i < n → slice_get ys i ≡ slice_get xs i
+pub get-below : (n : ℕ) (xs ys : List ℕ) (i : ℕ) → take n ys ≡ take n xs → i < n → slice_get ys i ≡ slice_get xs i
 get-below n xs ys i same lt = sym (get-take n ys i lt) ∙ ap (λ l. slice_get l i) same ∙ get-take n xs i lt
 
 get-above : (n : ℕ) (xs ys : List ℕ) (i : ℕ) → drop n ys ≡ drop n xs → n ≤ i → slice_get ys i ≡ slice_get xs i

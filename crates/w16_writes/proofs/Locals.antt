@@ -1,6 +1,6 @@
 -- Local calls: each object of the current heap has bytes before and after that agree; and a local object's bytes are its segment's, from its near
 -- pointer on.
-use Rattle.w16_machine.proofs.Common.{◌≡◌, ℕ, ◌+◌, ◌-◌, ◌≤◌, inl, inr, Bool, true, false, cond, not, ◌&&◌, ◌||◌, ◌==◌, nat_lt, IfOk, IsSomeAnd, List, length, Option, Some, None, Result, Ok, Err, is_some, option_map, refl, sym, ap, ◌∙◌, subst, cases_eq, false≢true, Kind, Refusal, Heap, Object, IsHeap, bytes_at, object_at, bytes_in, is_fixed, is_discardable, with_object, with_ordered, with_newest, removed, touched, after_lock, after_unlock, after_free, after_modify, Allocates, MakesRoom, IsNew, Asked, compaction_prefix, discards_needed, inserted_here, inserted_other, taken_here, taken_other, rest_law, others_law, asked, discard_absent, Block, Entry, Table, IsTable, heap_in, entry_at, block_with, object_in, object_is, slice_range, World, LocalHeap, AreLocalHeaps, heap_of, current_heap, local_in, rounded_up, LocalCommand, LocalStep, ResizesObject, Reply, local_kind, local_options, moveable_or_discardable}
+use Rattle.w16_machine.proofs.Common.{◌≡◌, ℕ, ◌+◌, ◌-◌, ◌≤◌, inl, inr, Bool, true, false, cond, not, ◌&&◌, ◌||◌, ◌==◌, nat_lt, IfOk, IsSomeAnd, List, length, Option, Some, None, Result, Ok, Err, is_some, option_map, refl, sym, ap, ◌∙◌, subst, cases_eq, false≢true, Kind, Refusal, Heap, Object, IsHeap, bytes_at, object_at, bytes_in, is_fixed, is_discardable, with_object, with_ordered, with_newest, removed, touched, after_lock, after_unlock, after_free, after_modify, Allocates, MakesRoom, IsNew, Asked, compaction_prefix, discards_needed, inserted_here, inserted_other, taken_here, taken_other, rest_law, others_law, asked, discard_absent, Block, Entry, Table, IsTable, heap_in, entry_at, block_with, object_in, object_is, slice_range, World, LocalHeap, AreLocalHeaps, heap_of, current_heap, local_in, rounded_up, LocalCommand, LocalStep, ResizesObject, Reply, local_kind, local_options, moveable_or_discardable, ending}
 use Rattle.std.specs.FinMap as finmap
 use Rattle.std.specs.List.{slice_get}
 use Rattle.w16_model.specs.declared.Refusal.TheVariants as refusals
@@ -8,7 +8,7 @@ use Rattle.w16_model.specs.declared.RoomOptions.{RoomOptions}
 use Rattle.w16_model.specs.Reallocation.{KeepsRest}
 use Rattle.w16_model.proofs.Bystanders.{kept_or_discarded}
 use Rattle.w16_model.proofs.Tables.{place_is}
-use Rattle.w16_machine.proofs.LocalCurrent.{current_becomes}
+use Rattle.w16_machine.proofs.LocalCurrent.{current_becomes, grown_becomes}
 use Rattle.w16_machine.proofs.LocalFacts.{current_there, heap_here}
 use Rattle.w16_machine.proofs.LocalOutcomes.{IsAltered, IsGivenUp, IsMade, IsRoomed, IsStepped}
 use Rattle.w16_writes.specs.LastWrite.{byte_in}
@@ -110,7 +110,9 @@ module _ (old : Heap) (is : IsHeap old) (q : ℕ) (new : Heap) where
 
 -- So each call leaves each object of the current heap.
 pub local_agrees : (old new : World) → AreLocalHeaps old → (command : LocalCommand) (reply : Reply) → LocalStep old command reply new → (at after : LocalHeap) → current_heap old ≡ Some at → local_in new at.slot ≡ Some after → (q : ℕ) → HeapsAgree (heap_of at) (heap_of after) q
-local_agrees old new is command reply step at after c e q = current_becomes old at c command reply new (λ next. HeapsAgree (heap_of at) next q) (same_object (heap_of at) (heap_of at) q refl) stepped roomed after e step
+local_agrees old new is command reply step at after c e q =
+    current_becomes old at c command reply new (λ next. HeapsAgree (heap_of at) next q) (same_object (heap_of at) (heap_of at) q refl) stepped roomed
+    (grown_becomes old is at c command new (λ next. HeapsAgree (heap_of at) next q) (λ answer next end asks later did. made end later answer next did)) after e step
   where
     heap : IsHeap (heap_of at)
     heap = heap_here old is at (current_there old at c)
@@ -122,13 +124,14 @@ local_agrees old new is command reply step at after c e q = current_becomes old 
       | inr d ↦ same_object (heap_of at) next q (ap (λ (h : Heap). object_at h q) enters.entered ∙ inserted_other (heap_of at).objects id (record { kind = local_kind flags; locks = 0; bytes = None }) q d)
     ]
 
-    made : (answer : ℕ) (next : Heap) → IsMade (heap_of at) command answer next → HeapsAgree (heap_of at) next q
-    made answer next (inl (flags, size, id, free, did)) = allocated (heap_of at) heap q next id (rounded_up size) (local_kind flags) (local_options flags) free.free.1 did.allocated
-    made answer next (inr (inl (size, did))) = compacted (heap_of at) heap q next size answer did
-    made answer next (inr (inr (size, flags, id, named, may, did))) = resized (heap_of at) heap q next id size flags answer did
+    -- room is made in it, or in it as it ends later
+    made : (end : ℕ) → IsHeap (ending (heap_of at) end) → (answer : ℕ) (next : Heap) → IsMade (heap_of at) (ending (heap_of at) end) command answer next → HeapsAgree (heap_of at) next q
+    made end later answer next (inl (flags, size, id, free, did)) = allocated (ending (heap_of at) end) later q next id (rounded_up size) (local_kind flags) (local_options flags) free.free.1 did.allocated
+    made end later answer next (inr (inl (size, did))) = compacted (ending (heap_of at) end) later q next size answer did
+    made end later answer next (inr (inr (size, flags, id, named, may, did))) = resized (ending (heap_of at) end) later q next id size flags answer did
 
     roomed : (answer : ℕ) (next : Heap) → IsRoomed (heap_of at) command answer next → HeapsAgree (heap_of at) next q
-    roomed answer next (inl (asks, did)) = made answer next did
+    roomed answer next (inl (asks, did)) = made at.table.hi heap answer next did
     roomed answer next (inr (id, named, up)) = given_up (heap_of at) id q command next up
 
 -- A byte of a local object is one of its segment, so far behind the near pointer.

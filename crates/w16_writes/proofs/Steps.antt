@@ -1,16 +1,18 @@
 -- Each step keeps what is written, and so does each step of a run.
-use Rattle.w16_machine.proofs.Common.{◌≡◌, ◌≢◌, ℕ, ◌+◌, ◌*◌, ◌<◌, ◌≤◌, ◌⊎◌, inl, inr, Bool, true, false, cond, ◌&&◌, nat_le, nat_lt, IsSomeAnd, List, [], ◌∷◌, length, Option, Some, None, is_some, option_map, refl, sym, ap, ◌∙◌, subst, cases_eq, false≢true, le-leb, lt-ltb, IfSome, IsLocalIn, Each-from_All, bytes_in, Object, bytes_at, object_at, Table, heap_in, offset_in, LoadingCommand, Format, Reply, World, IsWorld, LocalHeap, current_heap, heap_of, local_in, segment_bytes, LocalCommand, LocalStep, IsHeapKept, IsObjectKept, IsRewritten, KeepsRest, Event, IsCommand, Run, Step, OfLoading, OfLocals}
+use Rattle.w16_machine.proofs.Common.{◌≡◌, ◌≢◌, ℕ, ◌+◌, ◌*◌, ◌<◌, ◌≤◌, ◌⊎◌, inl, inr, Bool, true, false, cond, ◌&&◌, nat_le, nat_lt, IsSomeAnd, List, [], ◌∷◌, length, Option, Some, None, is_some, option_map, refl, sym, ap, ◌∙◌, subst, cases_eq, false≢true, le-leb, lt-ltb, IfSome, IsLocalIn, Each-from_All, bytes_in, Object, bytes_at, object_at, Table, heap_in, offset_in, LoadingCommand, Format, Reply, World, IsWorld, LocalHeap, current_heap, heap_of, local_in, segment_bytes, LocalCommand, LocalStep, IsObjectKept, IsRewritten, KeepsRest, Event, IsCommand, Run, Step, OfLoading, OfLocals, arith, take, Discardable, IsLeftByGrowth, IsLengthened, KeepsRestLonger}
 use Rattle.std.specs.FinMap as finmap
 use Rattle.std.specs.List.{AllByRecursion as Each}
 use Rattle.w16_model.specs.declared.TheConstants.{REACH}
 use Rattle.w16_model.specs.Table.{IsSameOutside}
 use Rattle.w16_loading.proofs.Owners.{some_of}
-use Rattle.w16_machine.proofs.LocalFacts.{current_there, found, local_here, local_there, there_local}
+use Rattle.w16_machine.proofs.Bystanders.{other_same}
+use Rattle.w16_machine.proofs.LocalFacts.{current_there, local_here, local_there, there_local}
 use Rattle.w16_machine.proofs.LocalFrame.{frame_law}
 use Rattle.w16_machine.proofs.LocalGoes.{goes_law}
+use Rattle.w16_machine.proofs.LocalLonger.{leaves_longer}
 use Rattle.w16_machine.proofs.Worlds.{world_law}
 use Rattle.w16_writes.specs.LastWrite.{Access, AllKeepWritten, Has, IsThere, KeepsWritten, Position, RunLaw, StepLaw, byte_at, byte_in, is_in_range, place_at, position_after, read, slot_after_step, written}
-use Rattle.w16_writes.proofs.Bytes.{get-outside, split}
+use Rattle.w16_writes.proofs.Bytes.{get-below, get-outside, inside, split}
 use Rattle.w16_writes.proofs.Locals.{local_agrees, segment_byte}
 use Rattle.w16_writes.proofs.Segments.{HasIn, KeepsSegments, loading_keeps}
 
@@ -145,54 +147,70 @@ module _ (format : Format) (old new : World) (command : LoadingCommand) (reply :
 
 -- A local call.
 module _ (old new : World) (command : LocalCommand) (reply : Reply) (is : IsWorld old) (now : IsWorld new) (step : LocalStep old command reply new) where
-  frame : KeepsRest old new
-  frame = frame_law old new command reply is.heaps step
-
-  -- outside the current heap's range a segment keeps its bytes
-  kept_outside : (slot offset : ℕ) → is_in_range (finmap.get old.heaps slot) offset ≡ false → byte_in (segment_bytes new slot) offset ≡ byte_in (segment_bytes old slot) offset
-  kept_outside slot offset out = turn (frame.objects slot)
-    where
-      side : (t : Table) → (nat_le t.lo offset && nat_lt offset t.hi) ≡ false → (offset < t.lo) ⊎ (t.hi ≤ offset)
-      side t e = elim (split offset t.lo) [
-        | inl lt ↦ inl lt
-        | inr le ↦ elim (split offset t.hi) [
-          | inl lt ↦ absurd (false≢true (sym e ∙ (λ i. le-leb t.lo offset le i && lt-ltb offset t.hi lt i)))
-          | inr high ↦ inr high
-        ]
+  -- a byte of a segment that is in no local heap's range is the same where it is there before and after
+  module _ (slot offset : ℕ) (out : is_in_range (finmap.get old.heaps slot) offset ≡ false) (was : is_some (byte_in (segment_bytes old slot) offset) ≡ true) (there : is_some (byte_in (segment_bytes new slot) offset) ≡ true) where
+    side : (t : Table) → (nat_le t.lo offset && nat_lt offset t.hi) ≡ false → (offset < t.lo) ⊎ (t.hi ≤ offset)
+    side t e = elim (split offset t.lo) [
+      | inl lt ↦ inl lt
+      | inr le ↦ elim (split offset t.hi) [
+        | inl lt ↦ absurd (false≢true (sym e ∙ (λ i. le-leb t.lo offset le i && lt-ltb offset t.hi lt i)))
+        | inr high ↦ inr high
       ]
+    ]
 
-      in_objects : (at : LocalHeap) → finmap.get old.heaps slot ≡ Some at.table → (o p : Option Object) → IsSomeAnd o (λ before. IsSomeAnd p (IsRewritten at before)) → byte_in (bytes_in p) offset ≡ byte_in (bytes_in o) offset
-      in_objects at t None p h = absurd h
-      in_objects at t (Some o) None h = absurd h
-      in_objects at t (Some o) (Some p) h = in_bytes p.bytes h.has
-        where
-          in_bytes : (b : Option (List ℕ)) → IsSomeAnd b (λ bytes. (length bytes ≡ length at.bytes) × IsSameOutside at.table.lo at.table.hi at.bytes bytes) → byte_in b offset ≡ byte_in o.bytes offset
-          in_bytes None r = absurd r
-          in_bytes (Some bytes) r = get-outside at.table.lo at.table.hi at.bytes bytes offset r.1 (side at.table (ap (λ t. is_in_range t offset) (sym t) ∙ out)) ∙ ap (λ b. byte_in b offset) (sym h.had)
+    -- it lies below the current heap or above it
+    beside : (at : LocalHeap) → current_heap old ≡ Some at → at.slot ≡ slot → (offset < at.table.lo) ⊎ (at.table.hi ≤ offset)
+    beside at c mine = side at.table (ap (λ t. is_in_range t offset) (sym (ap (finmap.get old.heaps) (sym mine) ∙ (current_there old at c).table)) ∙ out)
 
-      turn : IsObjectKept old new slot → byte_in (segment_bytes new slot) offset ≡ byte_in (segment_bytes old slot) offset
-      turn (inl same) = ap (λ o. byte_in (bytes_in o) offset) same
-      turn (inr h) =
-          let (at, c, (mine, rewritten)) = some_such (current_heap old) h in
-          in_objects at (ap (finmap.get old.heaps) (sym mine) ∙ (current_there old at c).table) (object_at old.loading.handles.heap slot) (object_at new.loading.handles.heap slot) rewritten
+    in_objects : (at : LocalHeap) → current_heap old ≡ Some at → at.slot ≡ slot → (o p : Option Object) → IsSomeAnd o (λ before. IsSomeAnd p (IsRewritten at before)) → byte_in (bytes_in p) offset ≡ byte_in (bytes_in o) offset
+    in_objects at c mine None p h = absurd h
+    in_objects at c mine (Some o) None h = absurd h
+    in_objects at c mine (Some o) (Some p) h = in_bytes p.bytes h.has
+      where
+        in_bytes : (b : Option (List ℕ)) → IsSomeAnd b (λ bytes. (length bytes ≡ length at.bytes) × IsSameOutside at.table.lo at.table.hi at.bytes bytes) → byte_in b offset ≡ byte_in o.bytes offset
+        in_bytes None r = absurd r
+        in_bytes (Some bytes) r = get-outside at.table.lo at.table.hi at.bytes bytes offset r.1 (beside at c mine) ∙ ap (λ b. byte_in b offset) (sym h.had)
 
-  -- a local heap that isn't the current one stays the same
-  other_same : (slot : ℕ) (at after : LocalHeap) → local_in old slot ≡ Some at → local_in new slot ≡ Some after → ((c : LocalHeap) → current_heap old ≡ Some c → c.slot ≢ slot) → after ≡ at
-  other_same slot at after e f other =
-      let both : ◌≡◌ {A = Option LocalHeap} (Some after) (Some at) = sym f ∙ ap (λ t. found slot t (segment_bytes new slot)) (tables (frame.heaps slot)) ∙ ap (found slot (finmap.get old.heaps slot)) (bytes (frame.objects slot)) ∙ e in
-      cc
-    where
-      none_current : (P : LocalHeap → Type 0) → IsSomeAnd (current_heap old) (λ c. (c.slot ≡ slot) × P c) → ⊥
-      none_current P h = let (c, d, (same, q)) = some_such (current_heap old) h in other c d same
+    kept_outside : IsObjectKept old new slot → byte_in (segment_bytes new slot) offset ≡ byte_in (segment_bytes old slot) offset
+    kept_outside (inl same) = ap (λ o. byte_in (bytes_in o) offset) same
+    kept_outside (inr h) =
+        let (at, c, (mine, rewritten)) = some_such (current_heap old) h in
+        in_objects at c mine (object_at old.loading.handles.heap slot) (object_at new.loading.handles.heap slot) rewritten
 
-      tables : IsHeapKept old new slot → finmap.get new.heaps slot ≡ finmap.get old.heaps slot
-      tables (inl same) = same
-      tables (inr (inl none)) = let was = local_there old slot at e in let never : ◌≡◌ {A = Option Table} (Some at.table) None = sym was.0.table ∙ ap (finmap.get old.heaps) was.1 ∙ none.0 in cc
-      tables (inr (inr h)) = absurd (none_current (λ c. IsSomeAnd (finmap.get new.heaps slot) (λ (t : Table). (t.lo ≡ c.table.lo) × (t.hi ≡ c.table.hi))) h)
+    -- The heap grew. It ended where its segment did, so such a byte of the segment lies below it.
+    in_longer : (at : LocalHeap) → current_heap old ≡ Some at → at.slot ≡ slot → at.table.hi ≡ length at.bytes → (o p : Option Object) → is_some (byte_in (bytes_in o) offset) ≡ true → IsSomeAnd o (λ before. IsSomeAnd p (IsLengthened at before))
+        → byte_in (bytes_in p) offset ≡ byte_in (bytes_in o) offset
+    in_longer at c mine ends None p t h = absurd h
+    in_longer at c mine ends (Some o) None t h = absurd h
+    in_longer at c mine ends (Some o) (Some p) t h = in_bytes p.bytes h.has
+      where
+        below : offset < at.table.lo
+        below = elim (beside at c mine) [ inl lt ↦ lt | inr le ↦ absurd (let lt : offset < length at.bytes = inside at.bytes offset (ap (λ b. is_some (byte_in b offset)) (sym h.had) ∙ t) in omega (arith, ends, le, lt)) ]
 
-      bytes : IsObjectKept old new slot → segment_bytes new slot ≡ segment_bytes old slot
-      bytes (inl same) = ap bytes_in same
-      bytes (inr h) = absurd (none_current (λ c. IsSomeAnd (object_at old.loading.handles.heap slot) (λ before. IsSomeAnd (object_at new.loading.handles.heap slot) (IsRewritten c before))) h)
+        in_bytes : (b : Option (List ℕ)) → IsSomeAnd b (λ bytes. (length at.bytes < length bytes) × (take at.table.lo bytes ≡ take at.table.lo at.bytes)) → byte_in b offset ≡ byte_in o.bytes offset
+        in_bytes None r = absurd r
+        in_bytes (Some bytes) r = get-below at.table.lo at.bytes bytes offset r.1 below ∙ ap (λ b. byte_in b offset) (sym h.had)
+
+    gone : (o : Option Object) → IsSomeAnd o (λ o. (o.kind ≡ Discardable) × (o.locks ≡ 0) × (is_some o.bytes ≡ true) × (object_at new.loading.handles.heap slot ≡ Some (record o { bytes = None }))) → ⊥
+    gone None h = h
+    gone (Some o) h = false≢true (sym (ap (λ p. is_some (byte_in (bytes_in p) offset)) h.3) ∙ there)
+
+    longer_outside : (r : KeepsRestLonger old command new) → IsLeftByGrowth old new slot → byte_in (segment_bytes new slot) offset ≡ byte_in (segment_bytes old slot) offset
+    longer_outside r (inl (inl same)) = ap (λ o. byte_in (bytes_in o) offset) same
+    longer_outside r (inl (inr lost)) = absurd (gone (object_at old.loading.handles.heap slot) lost)
+    longer_outside r (inr h) =
+        let (at, c, (mine, longer)) = some_such (current_heap old) h in
+        let both : ◌≡◌ {A = Option LocalHeap} (Some r.at) (Some at) = sym r.current ∙ c in
+        let same : r.at ≡ at = cc in
+        in_longer at c mine (subst (λ (h : LocalHeap). h.table.hi ≡ length h.bytes) same r.ends) (object_at old.loading.handles.heap slot) (object_at new.loading.handles.heap slot) was longer
+
+    is_there : (o : Option Object) → is_some (byte_in (bytes_in o) offset) ≡ true → is_some o ≡ true
+    is_there None t = absurd (false≢true t)
+    is_there (Some o) t = refl
+
+    same_outside : KeepsRest old new ⊎ KeepsRestLonger old command new → byte_in (segment_bytes new slot) offset ≡ byte_in (segment_bytes old slot) offset
+    same_outside (inl k) = kept_outside (k.objects slot)
+    same_outside (inr r) = longer_outside r ((leaves_longer old new command is.heaps r).objects slot (is_there (object_at old.loading.handles.heap slot) was))
 
   local_kept : (p : Position) → IsThere old p → IsThere new p → byte_at new p ≡ byte_at old p
   local_kept p was there = by_entry p.entry was there
@@ -202,12 +220,12 @@ module _ (old new : World) (command : LocalCommand) (reply : Reply) (is : IsWorl
 
       in_heap : (entry : ℕ) (at after : LocalHeap) → local_in old p.slot ≡ Some at → local_in new p.slot ≡ Some after → is_some (bytes (Some at) entry) ≡ true → is_some (bytes (Some after) entry) ≡ true → (c : Option LocalHeap) → current_heap old ≡ c
           → bytes (Some after) entry ≡ bytes (Some at) entry
-      in_heap entry at after e f t u None d = ap (λ h. bytes (Some h) entry) (other_same p.slot at after e f (λ c g. let never : ◌≡◌ {A = Option LocalHeap} None (Some c) = sym d ∙ g in cc))
+      in_heap entry at after e f t u None d = ap (λ h. bytes (Some h) entry) (other_same old new command reply is step p.slot at after e f (λ c g. let never : ◌≡◌ {A = Option LocalHeap} None (Some c) = sym d ∙ g in cc))
       in_heap entry at after e f t u (Some c) d = elim (cases_eq c.slot p.slot) [
         | inl s ↦
             let mine : current_heap old ≡ Some at = d ∙ sym (there_local old c (current_there old c d)) ∙ ap (local_in old) s ∙ e in
             local_agrees old new is.heaps command reply step at after mine (ap (local_in new) (local_there old p.slot at e).1 ∙ f) entry p.offset t u
-        | inr s ↦ ap (λ h. bytes (Some h) entry) (other_same p.slot at after e f (λ b g. let both : ◌≡◌ {A = Option LocalHeap} (Some c) (Some b) = sym d ∙ g in let same : c ≡ b = cc in subst (λ (h : LocalHeap). h.slot ≢ p.slot) same s))
+        | inr s ↦ ap (λ h. bytes (Some h) entry) (other_same old new command reply is step p.slot at after e f (λ b g. let both : ◌≡◌ {A = Option LocalHeap} (Some c) (Some b) = sym d ∙ g in let same : c ≡ b = cc in subst (λ (h : LocalHeap). h.slot ≢ p.slot) same s))
       ]
 
       in_heaps : (entry : ℕ) (l m : Option LocalHeap) → local_in old p.slot ≡ l → local_in new p.slot ≡ m → is_some (bytes l entry) ≡ true → is_some (bytes m entry) ≡ true → bytes m entry ≡ bytes l entry
@@ -217,7 +235,10 @@ module _ (old new : World) (command : LocalCommand) (reply : Reply) (is : IsWorl
 
       by_entry : (entry : Option ℕ) → IsThere old (record { slot = p.slot; entry = entry; offset = p.offset }) → IsThere new (record { slot = p.slot; entry = entry; offset = p.offset })
           → byte_at new (record { slot = p.slot; entry = entry; offset = p.offset }) ≡ byte_at old (record { slot = p.slot; entry = entry; offset = p.offset })
-      by_entry None t u = byte_outside new now p.slot p.offset u ∙ kept_outside p.slot p.offset (outside old is p.slot p.offset t) ∙ sym (byte_outside old is p.slot p.offset t)
+      by_entry None t u =
+          let was : is_some (byte_in (segment_bytes old p.slot) p.offset) ≡ true = ap is_some (sym (byte_outside old is p.slot p.offset t)) ∙ t in
+          let still : is_some (byte_in (segment_bytes new p.slot) p.offset) ≡ true = ap is_some (sym (byte_outside new now p.slot p.offset u)) ∙ u in
+          byte_outside new now p.slot p.offset u ∙ same_outside p.slot p.offset (outside old is p.slot p.offset t) was still (frame_law old new command reply is.heaps step) ∙ sym (byte_outside old is p.slot p.offset t)
       by_entry (Some entry) t u = in_heaps entry (local_in old p.slot) (local_in new p.slot) refl refl t u
 
 pub step_law : StepLaw

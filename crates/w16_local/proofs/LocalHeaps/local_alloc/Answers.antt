@@ -1,6 +1,8 @@
-use Rattle.w16_local.proofs.Common.{Ok, Result, arith, subst, sym, ◌≡◌, ◌∙◌, IsSomeAnd, None, Option, Kind, Refusal, with_object, Heap, Table, IsFull, IsLowest, MayStep, Stepped, outcome, Alloc, Enter, local_alloc_law}
-use Rattle.w16_local.proofs.Acting.{lent_in, may_in}
-use Rattle.w16_local.proofs.Calling.{alloc_as, alloc_calls, alloc_empty, alloc_full, alloc_none, enter_calls, no_object, rounded_size}
+use Rattle.w16_local.proofs.Common.{Ok, Result, Some, arith, subst, sym, ◌≡◌, ◌∙◌, IsSomeAnd, None, Option, Kind, Refusal, with_object, Heap, Table, IsFull, IsLowest, MayStep, Stepped, outcome, Alloc, Enter, local_alloc_law}
+use Rattle.w16_local.specs.declared.growth.Request.{Request}
+use Rattle.w16_local.specs.Growth.{InSlot, Served}
+use Rattle.w16_local.proofs.Acting.{may_in, served_in}
+use Rattle.w16_local.proofs.Calling.{alloc_calls, alloc_empty, alloc_full, alloc_none, enter_calls, no_object, rounded_size}
 use Rattle.w16_local.proofs.Stepping.{holds_in}
 use Rattle.w16_local.proofs.LocalHeaps.local_alloc.Goals as goal
 
@@ -29,8 +31,8 @@ returns-then-size-eq0-clause-step g c =
     enter_calls is c.args.flags c.args.size c.in-Some-free_entry.id lowest c.if-size-eq0.true (sym c.has_flag.ensures ∙ c.if-not-has_flag.false) c.step.result c.step.new.self
     (subst (λ (k : Kind). Stepped c.args.self.now c.in-Some.field-0.slot (λ a b. ◌≡◌ {A = Result Heap Refusal} (Ok (with_object a c.in-Some-free_entry.id (record { kind = k; locks = 0; bytes = None }))) (outcome c.step.result b)) c.step.new.self) c.moveable_or_discardable.ensures c.step.ensures.stepped)
 
-pub act-requires : goal.act-requires
-act-requires g c =
+pub serve-requires : goal.serve-requires
+serve-requires g c =
     let is = c.in-Some.ensures.some in
     let lowest = holds_in (λ (t : Table). IsLowest t c.in-Some-free_entry.id) is.kept c.in-Some-free_entry.ensures.found in
     may_in is (Alloc c.in-Some-free_entry.id c.rounded_up.result c.local_kind.result c.local_options.result)
@@ -40,7 +42,8 @@ pub returns-clause-step : goal.returns-clause-step
 returns-clause-step g c =
     let is = c.in-Some.ensures.some in
     let lowest = holds_in (λ (t : Table). IsLowest t c.in-Some-free_entry.id) is.kept c.in-Some-free_entry.ensures.found in
-    alloc_calls is c.args.flags c.args.size c.in-Some-free_entry.id lowest (let some = c.if-size-eq0.false in omega (arith, some)) (alloc_as c.rounded_up.ensures c.local_kind.ensures c.local_options.ensures c.act.ensures.acted)
+    alloc_calls is c.args.flags c.args.size c.in-Some-free_entry.id lowest (let some = c.if-size-eq0.false in omega (arith, some)) (subst (λ (r : Request). InSlot c.args.global.now.handles c.args.self.now c.in-Some.field-0.slot c.serve.new.global.handles c.serve.new.self (λ old at left. Served r old at c.serve.result left))
+    (λ i. record { id = c.in-Some-free_entry.id; size = c.rounded_up.ensures i; kind = Some (c.local_kind.ensures i); options = c.local_options.ensures i }) c.serve.ensures.served)
 
 pub returns-in_default-clause-fewest : goal.returns-in_default-clause-fewest
 returns-in_default-clause-fewest g c = λ rest is at current. local_alloc_law _ _ c.args.flags c.args.size _ at is (returns-in_default-clause-step g c rest) current
@@ -58,4 +61,4 @@ pub returns-clause-fewest : goal.returns-clause-fewest
 returns-clause-fewest g c = λ rest is at current. local_alloc_law _ _ c.args.flags c.args.size _ at is (returns-clause-step g c rest) current
 
 pub returns-clause-written : goal.returns-clause-written
-returns-clause-written g c = lent_in c.in-Some.ensures.some c.act.new.global c.act.ensures.lent
+returns-clause-written g c = let some = c.if-size-eq0.false in served_in c.in-Some.ensures.some c.serve.new.global c.args.size (omega (arith, some)) c.serve.ensures.written

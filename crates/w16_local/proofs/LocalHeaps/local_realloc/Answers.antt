@@ -1,6 +1,8 @@
-use Rattle.w16_local.proofs.Common.{IsSomeAnd, Option, arith, subst, sym, ◌≡◌, ◌∙◌, Kind, after_modify, Table, MayStep, Stepped, outcome, Discard, Realloc, Modify, local_realloc_law}
-use Rattle.w16_local.proofs.Acting.{lent_in, may_in}
-use Rattle.w16_local.proofs.Calling.{discard_calls, discard_refused, discard_unasked, modify_calls, named_there, realloc_as, realloc_none, resize_calls, rounded_size}
+use Rattle.w16_local.proofs.Common.{IsSomeAnd, None, inl, Option, arith, subst, sym, ◌≡◌, ◌∙◌, Kind, after_modify, Table, MayStep, Stepped, outcome, Discard, Realloc, Modify, local_realloc_law}
+use Rattle.w16_local.specs.declared.growth.Request.{Request}
+use Rattle.w16_local.specs.Growth.{InSlot, Served}
+use Rattle.w16_local.proofs.Acting.{lent_in, may_in, served_in}
+use Rattle.w16_local.proofs.Calling.{discard_calls, discard_refused, discard_unasked, modify_calls, named_there, realloc_none, resize_calls, rounded_size}
 use Rattle.w16_local.proofs.LocalHeaps.local_realloc.Goals as goal
 
 pub returns-in_default-clause-step : goal.returns-in_default-clause-step
@@ -14,11 +16,13 @@ returns-then-has_flag-clause-step g c =
     modify_calls c.in-Some.ensures.some c.args.size c.args.flags (sym c.has_flag.ensures ∙ c.if-has_flag.true) c.step.result c.step.new.self
     (subst (λ (k : Kind). Stepped c.args.self.now c.in-Some.field-0.slot (λ a b. after_modify a c.in-Some.field-0.id k ≡ outcome c.step.result b) c.step.new.self) c.moveable_or_discardable.ensures c.step.ensures.stepped) c.step.ensures.refused
 
-pub act-requires : goal.act-requires
-act-requires g c = let n = c.in-Some.ensures.some in may_in n.heap (Realloc c.in-Some.field-0.id c.rounded_up.result c.local_options.result) (named_there n, rounded_size c.args.size c.rounded_up.result c.rounded_up.ensures c.if-size-gt0.true)
+pub serve-requires : goal.serve-requires
+serve-requires g c = let n = c.in-Some.ensures.some in may_in n.heap (Realloc c.in-Some.field-0.id c.rounded_up.result c.local_options.result) (named_there n, rounded_size c.args.size c.rounded_up.result c.rounded_up.ensures c.if-size-gt0.true)
 
 pub returns-then-size-gt0-clause-step : goal.returns-then-size-gt0-clause-step
-returns-then-size-gt0-clause-step g c = resize_calls c.in-Some.ensures.some c.args.size c.args.flags (sym c.has_flag.ensures ∙ c.if-has_flag.false) c.act.result c.act.new.global.handles c.act.new.self c.if-size-gt0.true (realloc_as c.rounded_up.ensures c.local_options.ensures c.act.ensures.acted)
+returns-then-size-gt0-clause-step g c = resize_calls c.in-Some.ensures.some c.args.size c.args.flags (sym c.has_flag.ensures ∙ c.if-has_flag.false) c.serve.result c.serve.new.global.handles c.serve.new.self c.if-size-gt0.true
+    (subst (λ (r : Request). InSlot c.args.global.now.handles c.args.self.now c.in-Some.field-0.slot c.serve.new.global.handles c.serve.new.self (λ old at left. Served r old at c.serve.result left))
+    (λ i. record { id = c.in-Some.field-0.id; size = c.rounded_up.ensures i; kind = None; options = c.local_options.ensures i }) c.serve.ensures.served)
 
 pub returns-then-not-has_flag-clause-step : goal.returns-then-not-has_flag-clause-step
 returns-then-not-has_flag-clause-step g c = discard_unasked c.in-Some.ensures.some c.args.size c.args.flags (sym c.has_flag.ensures ∙ c.if-has_flag.false) (let none = c.if-size-gt0.false in omega (arith, none)) (sym c.has_flag-2.ensures ∙ c.if-not-has_flag.true)
@@ -28,11 +32,11 @@ returns-then-not-may_discard-clause-step g c =
     let n = c.in-Some.ensures.some in
     discard_refused n c.args.size c.args.flags (sym c.has_flag.ensures ∙ c.if-has_flag.false) (let none = c.if-size-gt0.false in omega (arith, none)) (sym c.has_flag-2.ensures ∙ c.if-not-has_flag.false) (c.may_discard.ensures n.heap.bytes n.heap.over ∙ c.if-not-may_discard.true)
 
-pub act-requires-2 : goal.act-requires-2
-act-requires-2 g c = let n = c.in-Some.ensures.some in may_in n.heap (Discard c.in-Some.field-0.id) (c.may_discard.ensures n.heap.bytes n.heap.over ∙ c.if-not-may_discard.false)
+pub act-requires : goal.act-requires
+act-requires g c = let n = c.in-Some.ensures.some in may_in n.heap (Discard c.in-Some.field-0.id) (c.may_discard.ensures n.heap.bytes n.heap.over ∙ c.if-not-may_discard.false)
 
 pub returns-clause-step : goal.returns-clause-step
-returns-clause-step g c = discard_calls c.in-Some.ensures.some c.args.size c.args.flags (sym c.has_flag.ensures ∙ c.if-has_flag.false) (let none = c.if-size-gt0.false in omega (arith, none)) (sym c.has_flag-2.ensures ∙ c.if-not-has_flag.false) c.act-2.ensures.acted
+returns-clause-step g c = discard_calls c.in-Some.ensures.some c.args.size c.args.flags (sym c.has_flag.ensures ∙ c.if-has_flag.false) (let none = c.if-size-gt0.false in omega (arith, none)) (sym c.has_flag-2.ensures ∙ c.if-not-has_flag.false) c.act.ensures.acted
 
 pub returns-in_default-clause-fewest : goal.returns-in_default-clause-fewest
 returns-in_default-clause-fewest g c = λ rest is o named unmodified some. local_realloc_law _ _ c.args.name c.args.size c.args.flags _ o is (returns-in_default-clause-step g c rest) named unmodified some
@@ -53,7 +57,7 @@ pub returns-clause-fewest : goal.returns-clause-fewest
 returns-clause-fewest g c = λ rest is o named unmodified some. local_realloc_law _ _ c.args.name c.args.size c.args.flags _ o is (returns-clause-step g c rest) named unmodified some
 
 pub returns-then-size-gt0-clause-written : goal.returns-then-size-gt0-clause-written
-returns-then-size-gt0-clause-written g c = let n = c.in-Some.ensures.some in lent_in n.heap c.act.new.global c.act.ensures.lent
+returns-then-size-gt0-clause-written g c = let n = c.in-Some.ensures.some in served_in n.heap c.serve.new.global c.args.size c.if-size-gt0.true c.serve.ensures.written
 
 pub returns-clause-written : goal.returns-clause-written
-returns-clause-written g c = let n = c.in-Some.ensures.some in lent_in n.heap c.act-2.new.global c.act-2.ensures.lent
+returns-clause-written g c = let n = c.in-Some.ensures.some in inl (lent_in n.heap c.act.new.global c.act.ensures.lent)

@@ -1,5 +1,9 @@
 use Rattle.w16_machine.proofs.LocalFrame.{frame_law}
+use Rattle.w16_machine.proofs.LocalLonger.{growth_law}
 use Rattle.w16_machine.proofs.local_laws.local_calls_keep_the_rest.Goals as goal
 
-pub returns : goal.returns
-returns c = frame_law
+pub returns-clause-rest : goal.returns-clause-rest
+returns-clause-rest c = frame_law
+
+pub returns-clause-growth : goal.returns-clause-growth
+returns-clause-growth c = growth_law

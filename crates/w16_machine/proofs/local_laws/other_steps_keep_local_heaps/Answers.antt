@@ -1,4 +1,4 @@
-use Rattle.w16_machine.proofs.LocalStays.{sizes_law, heaps_law}
+use Rattle.w16_machine.proofs.LocalStays.{heaps_law, local_sizes_law, sizes_law}
 use Rattle.w16_machine.proofs.local_laws.other_steps_keep_local_heaps.Goals as goal
 
 pub returns-clause-sizes : goal.returns-clause-sizes
@@ -6,3 +6,6 @@ returns-clause-sizes c = sizes_law
 
 pub returns-clause-heaps : goal.returns-clause-heaps
 returns-clause-heaps c = heaps_law
+
+pub returns-clause-locals : goal.returns-clause-locals
+returns-clause-locals c = local_sizes_law

@@ -1,0 +1,18 @@
+use Rattle.w16_local.proofs.Serving.{grown_writes, may_grow, same, served_grown, served_now, served_still}
+use Rattle.w16_local.proofs.LocalHeaps.serve.Goals as goal
+
+pub returns-in-Answered-clause-served : goal.returns-in-Answered-clause-served
+returns-in-Answered-clause-served g c = served_now c.args.request c.in-Answered.answer c.in-Answered.ensures.acted
+
+pub returns-in-Lacks-None-clause-served : goal.returns-in-Lacks-None-clause-served
+returns-in-Lacks-None-clause-served g c = served_still c.args.request c.in-Lacks-None.field-0 c.in-Lacks-None.ensures.acted c.in-Lacks-None.field-0-is
+
+pub grow-requires : goal.grow-requires
+grow-requires g c = may_grow c.args.request c.in-Lacks-Some.field-0 c.in-Lacks-Some.ensures.acted c.in-Lacks-Some.size c.in-Lacks-Some.field-0-is c.requires
+
+pub returns-in-Lacks-Some-clause-served : goal.returns-in-Lacks-Some-clause-served
+returns-in-Lacks-Some-clause-served g c = served_grown c.args.request c.in-Lacks-Some.field-0 c.in-Lacks-Some.ensures.acted c.in-Lacks-Some.size c.in-Lacks-Some.field-0-is c.grow.ensures.grown
+
+pub returns-in-Lacks-Some-clause-written : goal.returns-in-Lacks-Some-clause-written
+returns-in-Lacks-Some-clause-written g c =
+    grown_writes c.args.global.now c.act.new.global c.grow.new.global c.args.slot (same c.args.request c.in-Lacks-Some.field-0 c.in-Lacks-Some.ensures.acted).1 c.act.ensures.lent c.grow.ensures.written

@@ -1,0 +1,130 @@
+-- What becomes of a request for room in a heap, as it is or as it ends later.
+use Rattle.w16_local.proofs.Common.{◌≡◌, All, ℕ, ◌<◌, ◌≤◌, inl, inr, true, false, List, length, Option, Some, None, sym, ap, refl, unwrap_or, ◌∙◌, subst, arith, cases_lt, false≢true, Kind, Block, Heap, Object, IsHeap, IsMultiple, IsSameOutside, IsBlockOf, Each-at, Each-from_All, blocks, bytes_at, object_at, Handles, AreHandles, Table, heap_in, IsLocalTable, name_at, object_of, ByteOp, Acted, Done, Idle, MayAct, MayActOver, Writes}
+use Rattle.std.specs.FinMap as finmap
+use Rattle.w16_model.specs.declared.TheConstants.{GRAIN}
+use Rattle.w16_model.specs.Ends.{HasNoEnd, IsLeastEnd, ending, is_answered}
+use Rattle.w16_model.specs.Heap.{hold_of_object}
+use Rattle.w16_model.proofs.AtEnds.{answer_law}
+use Rattle.w16_model.proofs.Heaps.{block_member}
+use Rattle.w16_model.proofs.Sound.{sound_law}
+use Rattle.w16_holes.specs.declared.holes.TheConstants.{LAST_END}
+use Rattle.w16_machine.specs.LocalGrowth.{IsGrowth}
+use Rattle.w16_machine.proofs.LocalFewest.{some_name}
+use Rattle.w16_machine.proofs.LocalSizes.{grained, least_size, no_end}
+use Rattle.w16_local.specs.declared.growth.Met.TheVariants.{Lacks}
+use Rattle.w16_local.specs.declared.growth.Request.{Request}
+use Rattle.w16_local.specs.Growth.{Later, MayEndLater, ServedOver, SizeTold, act_of, in_slot}
+
+-- the bytes of a segment are whole grains of the global heap
+module _ (handles : Handles) (is : AreHandles handles) (slot : ℕ) (bytes : List ℕ) (had : bytes_at handles.heap slot ≡ Some bytes) where
+  abbrev its : Object → Block
+  its o = record { id = slot; at = unwrap_or (finmap.get handles.heap.places slot) 0; size = length bytes; hold = hold_of_object o }
+
+  abbrev AreWhole : Block → Type 0
+  AreWhole x = IsMultiple handles.heap.grain x.at × IsMultiple handles.heap.grain x.size
+
+  pub whole : IsMultiple GRAIN (length bytes)
+  whole =
+      let o : (o : Object) × (object_at handles.heap slot ≡ Some o) × (o.bytes ≡ Some bytes) = object_of handles.heap slot bytes had in
+      let block : IsBlockOf handles.heap (its o.0) = record { object = o.0; bytes = bytes; is_there = o.1; has_bytes = o.2; place = refl; size = refl; hold = refl } in
+      subst (λ g. IsMultiple g (length bytes)) is.grain (Each-at AreWhole (blocks handles.heap) (Each-from_All _ (blocks handles.heap) is.heap.grained) (its o.0) (block_member handles.heap (its o.0) block)).1
+
+-- a refused one isn't answered
+pub idle_refused : (r : Request) (heap : Heap) → MayAct (act_of r) heap → (answer : ℕ) → Idle (act_of r) heap answer → is_answered heap r.id r.size r.options ≡ false
+idle_refused r heap may answer = turn r.kind may
+  where
+    turn : (k : Option Kind) → MayAct (act_of (record r { kind = k })) heap → Idle (act_of (record r { kind = k })) heap answer → is_answered heap r.id r.size r.options ≡ false
+    turn (Some kind) m i = sym ((answer_law heap heap r.id r.size r.options false).0 kind 0 m.0.1 i.0)
+    turn None m i = sym ((answer_law heap heap r.id r.size r.options false).1 i.0)
+
+-- What may be asked of a heap doesn't hang on its end.
+pub may_later : (r : Request) (heap : Heap) (end : ℕ) → MayAct (act_of r) heap → MayAct (act_of r) (ending heap end)
+may_later r heap end = turn r.kind
+  where
+    turn : (k : Option Kind) → MayAct (act_of (record r { kind = k })) heap → MayAct (act_of (record r { kind = k })) (ending heap end)
+    turn (Some kind) m = m
+    turn None m = m
+
+-- one that is done has a name for an answer
+done_named : (r : Request) (heap next : Heap) (answer : ℕ) → Done (act_of r) heap answer next → name_at next r.id ≡ Some answer
+done_named r heap next answer = turn r.kind
+  where
+    turn : (k : Option Kind) → Done (act_of (record r { kind = k })) heap answer next → name_at next r.id ≡ Some answer
+    turn (Some kind) d = d.1
+    turn None d = d.1
+
+-- which isn't 0, so that an answer of 0 is a refusal
+pub idle_of : (r : Request) {table left : Table} {bytes after : List ℕ} {answer : ℕ} → Acted (act_of r) table bytes answer left after → answer ≡ 0 → IsHeap (heap_in left after) → IsLocalTable left
+    → Idle (act_of r) (heap_in table bytes) 0 × (left ≡ table) × (after ≡ bytes)
+idle_of r {table} {left} {bytes} {after} {answer} a none is is_local = elim a.act_is [
+  | inl same ↦ (subst (Idle (act_of r) (heap_in table bytes)) none same.0, same.1, same.2)
+  | inr done ↦ absurd (some_name (heap_in left after) is is_local.low r.id (done_named r (heap_in table bytes) (heap_in left after) answer done ∙ ap Some none))
+]
+
+-- An answered one is done where the heap ends later.
+pub later_done : (r : Request) (end : ℕ) {table left : Table} {bytes before after : List ℕ} {answer : ℕ} → MayEndLater r end table bytes → heap_in (record table { hi = end }) before ≡ heap_in (record table { hi = end }) bytes
+    → IsSameOutside table.lo end bytes before → Acted (act_of r) (record table { hi = end }) before answer left after → Later r end table bytes answer left after
+later_done r end {table} {left} {bytes} {before} {after} {answer} may same outside a = record {
+  range = a.range;
+  outside = record { below = a.outside.below ∙ outside.below; above = a.outside.above ∙ outside.above };
+  done = elim a.act_is [
+    | inl idle ↦ absurd (false≢true (sym (idle_refused r (heap_in (record table { hi = end }) bytes) may.may answer (subst (λ h. Idle (act_of r) h answer) same idle.0)) ∙ may.answered))
+    | inr done ↦ subst (λ h. Done (act_of r) h answer (heap_in left after)) same done
+  ];
+}
+
+-- To which size a heap grows for a request that is refused: to none where others may not be moved, or where it ends before its segment;
+module _ (r : Request) (t : Table) (bytes : List ℕ) where
+  pub told_still : r.options.compact ≡ false → SizeTold r t bytes None
+  told_still f slot size g = false≢true (sym f ∙ g.may)
+
+  pub told_before : (t.hi ≡ length bytes → ⊥) → SizeTold r t bytes None
+  told_before before slot size g = before g.ends
+
+  -- and else to the least at which the request is answered, if there is one.
+  module _ (ends : t.hi ≡ length bytes) where
+    pub told_none : HasNoEnd LAST_END (heap_in t bytes) r.id r.size r.options → SizeTold r t bytes None
+    told_none none slot size g = no_end (in_slot t bytes slot) r.id r.size r.options ends LAST_END (omega arith) none size g
+
+    pub told_least : r.options.compact ≡ true → is_answered (heap_in t bytes) r.id r.size r.options ≡ false → (end : ℕ) → end ≤ LAST_END → IsLeastEnd (heap_in t bytes) r.id r.size r.options end → (size : ℕ) → size ≡ grained end → SizeTold r t bytes (Some size)
+    told_least may refused end most l size size_is slot = subst (IsGrowth (in_slot t bytes slot) r.id r.size r.options) (sym size_is) (least_size (in_slot t bytes slot) r.id r.size r.options ends end l later (omega (arith, most)) may)
+      where
+        later : t.hi < end
+        later = elim (cases_lt t.hi end) [
+          | inl lt ↦ lt
+          | inr le ↦ absurd (false≢true (sym refused ∙ l.answered t.hi le))
+        ]
+
+-- What a refused request leaves: the heap and its bytes, in which it isn't answered.
+module _ (r : Request) {act : ByteOp} (act_is : act ≡ act_of r) {t s : Table} {bytes after : List ℕ} {answer : ℕ} (may : MayActOver (act_of r) t bytes) (a : Acted act t bytes answer s after) (long : length after ≡ length bytes)
+    (is_local : IsLocalTable s) (are_bytes : All (λ b. b < 256) after) (none : answer ≡ 0) where
+  pub request_idle : Idle (act_of r) (heap_in t bytes) 0 × (s ≡ t) × (after ≡ bytes)
+  request_idle = idle_of r (subst (λ act. Acted act t bytes answer s after) act_is a) none (sound_law s after is_local.sound (omega (arith, a.range.hi, long, may.0)) are_bytes) is_local
+
+  pub request_refused : is_answered (heap_in s after) r.id r.size r.options ≡ false
+  request_refused = subst (λ h. is_answered h r.id r.size r.options ≡ false) (λ i. heap_in (sym request_idle.1 i) (sym request_idle.2 i)) (idle_refused r (heap_in t bytes) may.1 0 request_idle.0)
+
+  pub request_done : (size : Option ℕ) → SizeTold r s after size → (before count : ℕ) → Writes act (heap_in t bytes) (heap_in s after) before count → ServedOver r t bytes (Lacks size) s after × Writes (act_of r) (heap_in t bytes) (heap_in s after) before count
+  request_done size told before count writes = (
+    (request_idle.0, request_idle.1, request_idle.2, subst (λ (p : Table × List ℕ). SizeTold r p.0 p.1 size) (λ i. (request_idle.1 i, request_idle.2 i)) told),
+    subst (λ act. Writes act (heap_in t bytes) (heap_in s after) before count) act_is writes,
+  )
+
+-- What is asked of a heap once its end has been moved: it may be, and what becomes of it.
+module _ (r : Request) {act : ByteOp} (act_is : act ≡ act_of r) {end : ℕ} {t now : Table} {bytes : List ℕ} (before : List ℕ) (may : MayEndLater r end t bytes) (now_is : now ≡ record t { hi = end }) (same : heap_in now before ≡ heap_in now bytes)
+    (long : length before ≡ length bytes) where
+  same_heap : heap_in (record t { hi = end }) before ≡ heap_in (record t { hi = end }) bytes
+  same_heap = subst (λ t. heap_in t before ≡ heap_in t bytes) now_is same
+
+  pub later_may : MayActOver act now before
+  later_may = (
+    subst (λ (n : Table). n.hi ≤ length before) (sym now_is) (omega (arith, may.ends, long)),
+    subst (λ act. MayAct act (heap_in now before)) (sym act_is) (subst (λ (n : Table). MayAct (act_of r) (heap_in n before)) (sym now_is) (subst (MayAct (act_of r)) (sym same_heap) may.may)),
+  )
+
+  pub later_served : {s : Table} {after : List ℕ} {answer : ℕ} → IsSameOutside t.lo end bytes before → Acted act now before answer s after → (moved count written : ℕ) → moved ≡ count → Writes act (heap_in now before) (heap_in s after) moved written
+      → Later r end t bytes answer s after × Writes (act_of r) (heap_in (record t { hi = end }) bytes) (heap_in s after) count written
+  later_served {s} {after} {answer} outside acted moved count written none writes = (
+    later_done r end may same_heap outside (subst (λ (p : ByteOp × Table). Acted p.0 p.1 before answer s after) (λ i. (act_is i, now_is i)) acted),
+    subst (λ h. Writes (act_of r) h (heap_in s after) count written) same_heap (subst (λ (p : ByteOp × (Table × ℕ)). Writes p.0 (heap_in p.1.0 before) (heap_in s after) p.1.1 written) (λ i. (act_is i, (now_is i, none i))) writes),
+  )

@@ -1,0 +1,136 @@
+-- A request in the heap of a slot, as a call's step.
+use Rattle.w16_local.proofs.Common.{◌≡◌, ℕ, ◌⊎◌, inl, inr, IsSomeAnd, List, length, Option, Some, None, refl, sym, ◌∙◌, subst, arith, nat_cmp, FinMap, Kind, Heap, Handles, Table, bytes_at, heap_in, counted, Global, World, IsLocalTable, ActedIn, Acted, Done, Idle, IsLent, MayAct, MayActIn, MayActOver, Writes, with_parts}
+use Rattle.w16_machine.specs.LocalGrowth.{IsGrowth, IsKeptShort}
+use Rattle.w16_local.specs.declared.growth.Met.{Met}
+use Rattle.w16_local.specs.declared.growth.Met.TheVariants.{Answered, Lacks}
+use Rattle.w16_local.specs.declared.growth.Request.{Request}
+use Rattle.w16_local.specs.Growth.{Grown, InSlot, MayGrowIn, Served, ServedOver, SizeTold, WritesGrown, WritesServed, act_of, in_slot}
+use Rattle.w16_local.proofs.Acting.{acted_same}
+
+-- a refusal answers 0
+idle_none : (r : Request) (heap : Heap) (answer : ℕ) → Idle (act_of r) heap answer → answer ≡ 0
+idle_none r heap answer = turn r.kind
+  where
+    turn : (k : Option Kind) → Idle (act_of (record r { kind = k })) heap answer → answer ≡ 0
+    turn (Some kind) i = i.1
+    turn None i = i.1
+
+-- what is known once the request has been tried
+abbrev pub Tried : Handles → FinMap nat_cmp Table → ℕ → Request → Met → Handles → FinMap nat_cmp Table → Type 0
+Tried handles tables slot r met next new = ActedIn handles tables slot (λ table bytes left after. (count : ℕ) × (ServedOver r table bytes met left after × Writes (act_of r) (heap_in table bytes) (heap_in left after) 0 count)) next new
+
+module _ {handles : Handles} {tables : FinMap nat_cmp Table} {slot : ℕ} (r : Request) where
+  -- It is answered.
+  pub served_now : {next : Handles} {new : FinMap nat_cmp Table} (answer : ℕ) → Tried handles tables slot r (Answered answer) next new → InSlot handles tables slot next new (λ old at left. Served r old at answer left)
+  served_now {next} {new} answer a = record {
+    table = a.before;
+    bytes = a.bytes;
+    was = a.was;
+    had = a.had;
+    holds = λ rest ds. inl (record {
+      table = a.table;
+      bytes = a.after;
+      is_local = a.is_local;
+      range = (acted.range.lo, acted.range.hi);
+      long = a.long;
+      outside = acted.outside;
+      are_bytes = a.are_bytes;
+      acted = done;
+      rest = λ i. with_parts rest (a.rest.1 i) (a.rest.0 i) ds;
+    });
+  }
+    where
+      acted : Acted (act_of r) a.before a.bytes answer a.table a.after
+      acted = a.does.1.0.1
+
+      done : Done (act_of r) (heap_in a.before a.bytes) answer (heap_in a.table a.after)
+      done = elim acted.act_is [
+        | inl idle ↦ absurd (a.does.1.0.0 (idle_none r (heap_in a.before a.bytes) answer idle.0))
+        | inr d ↦ d
+      ]
+
+  -- It is refused, and nothing has changed.
+  module _ {next : Handles} {new : FinMap nat_cmp Table} (size : Option ℕ) (a : Tried handles tables slot r (Lacks size) next new) where
+    idle : Idle (act_of r) (heap_in a.before a.bytes) 0
+    idle = a.does.1.0.0
+
+    told : SizeTold r a.before a.bytes size
+    told = a.does.1.0.3
+
+    pub same : (new ≡ tables) × (next ≡ handles)
+    same = acted_same a a.does.1.0.1 a.does.1.0.2
+
+    same_world : (rest : World) (ds : ℕ) → with_parts rest next new ds ≡ with_parts rest handles tables ds
+    same_world rest ds = λ i. with_parts rest (same.1 i) (same.0 i) ds
+
+    -- There is no size to which the heap is to grow.
+    pub served_still : size ≡ None → InSlot handles tables slot next new (λ old at left. Served r old at 0 left)
+    served_still none = record {
+      table = a.before;
+      bytes = a.bytes;
+      was = a.was;
+      had = a.had;
+      holds = λ rest ds. inr (idle, inl ((λ size g. absurd (subst (SizeTold r a.before a.bytes) none told slot size g)), (refl, same_world rest ds)));
+    }
+
+    -- There is one.
+    module _ (some : ℕ) (some_is : size ≡ Some some) where
+      growth : IsGrowth (in_slot a.before a.bytes slot) r.id r.size r.options some
+      growth = subst (SizeTold r a.before a.bytes) some_is told slot
+
+      pub may_grow : MayActIn handles tables slot (MayActOver (act_of r)) → MayGrowIn next new slot some r
+      may_grow may = subst (λ (p : Handles × FinMap nat_cmp Table). MayGrowIn p.0 p.1 slot some r) (λ i. (sym same.1 i, sym same.0 i)) (record {
+        table = a.before;
+        bytes = a.bytes;
+        was = a.was;
+        had = a.had;
+        is_local = subst IsLocalTable a.does.1.0.1 a.is_local;
+        may = subst (λ (p : Table × List ℕ). MayAct (act_of r) (heap_in p.0 p.1)) (λ i. (table_is i, bytes_are i)) may.may.1;
+        growth = growth;
+      })
+        where
+          table_is : may.table ≡ a.before
+          table_is = let both : ◌≡◌ {A = Option Table} (Some may.table) (Some a.before) = sym may.was ∙ a.was in cc
+
+          bytes_are : may.bytes ≡ a.bytes
+          bytes_are = let both : ◌≡◌ {A = Option (List ℕ)} (Some may.bytes) (Some a.bytes) = sym may.had ∙ a.had in cc
+
+      -- no other size is the least
+      only : (other : ℕ) → IsGrowth (in_slot a.before a.bytes slot) r.id r.size r.options other → some ≡ other
+      only other g = let below = growth.least other g.served in let above = g.least some growth.served in omega (arith, below, above)
+
+      pub served_grown : {answer : ℕ} {last : Handles} {final : FinMap nat_cmp Table} → InSlot next new slot last final (λ old at left. Grown r some old at answer left) → InSlot handles tables slot last final (λ old at left. Served r old at answer left)
+      served_grown {answer} {last} {final} g = record {
+        table = a.before;
+        bytes = a.bytes;
+        was = a.was;
+        had = a.had;
+        holds = λ rest ds. inr (
+          idle,
+          elim (grown rest ds) [
+            | inl short ↦ inl ((λ other is. subst (IsKeptShort (with_parts rest handles tables ds) (in_slot a.before a.bytes slot) r.options) (only other is) short.0), short.1)
+            | inr l ↦ inr (record { size = some; growth = growth; lengthens = l.0; grown = l.1 })
+          ],
+        );
+      }
+        where
+          there : InSlot handles tables slot last final (λ old at left. Grown r some old at answer left)
+          there = subst (λ (p : Handles × FinMap nat_cmp Table). InSlot p.0 p.1 slot last final (λ old at left. Grown r some old at answer left)) (λ i. (same.1 i, same.0 i)) g
+
+          table_is : there.table ≡ a.before
+          table_is = let both : ◌≡◌ {A = Option Table} (Some there.table) (Some a.before) = sym there.was ∙ a.was in cc
+
+          bytes_are : there.bytes ≡ a.bytes
+          bytes_are = let both : ◌≡◌ {A = Option (List ℕ)} (Some there.bytes) (Some a.bytes) = sym there.had ∙ a.had in cc
+
+          grown : (rest : World) (ds : ℕ) → Grown r some (with_parts rest handles tables ds) (in_slot a.before a.bytes slot) answer (with_parts rest last final ds)
+          grown rest ds = subst (λ (p : Table × List ℕ). Grown r some (with_parts rest handles tables ds) (in_slot p.0 p.1 slot) answer (with_parts rest last final ds)) (λ i. (table_is i, bytes_are i)) (there.holds rest ds)
+
+-- What is written where the heap may have grown.
+pub grown_writes : (old between new : Global) (slot : ℕ) → between.handles ≡ old.handles → IsLent old slot between → (new ≡ between) ⊎ WritesGrown between.handles slot between.written new.written → WritesServed old slot new
+grown_writes old between new slot kept lent (inl still) = inl (subst (IsLent old slot) (sym still) lent)
+grown_writes old between new slot kept lent (inr grown) = inr (turn (bytes_at old.handles.heap slot) lent)
+  where
+    turn : (b : Option (List ℕ)) → IsSomeAnd b (λ bytes. between.written ≡ counted old.written (length bytes)) → IsSomeAnd b (λ bytes. WritesGrown old.handles slot (counted old.written (length bytes)) new.written)
+    turn None h = h
+    turn (Some bytes) h = subst (λ (p : Handles × ℕ). WritesGrown p.0 slot p.1 new.written) (λ i. (kept i, h i)) grown

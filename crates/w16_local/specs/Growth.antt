@@ -1,0 +1,108 @@
+-- Requests for room, in heaps that grow with their segments where they have none.
+use Rattle.std.specs.Prelude.{◌≡◌, ◌≢◌, ◌<◌, ◌≤◌, ◌⊎◌, ℕ, List, length, true, Option, Some, None, IsSomeAnd, MatchOption}
+use Rattle.std.specs.Ordering.{nat_cmp}
+use Rattle.std.specs.FinMap as finmap
+use Rattle.std.specs.FinMap.{FinMap}
+use Rattle.w16_model.specs.Ends.{is_answered}
+use Rattle.w16_model.specs.Handles.{Handles, slot_of_handle}
+use Rattle.w16_model.specs.Heap.{IsMultiple, bytes_at}
+use Rattle.w16_model.specs.Resizes.{GlobalReAllocs}
+use Rattle.w16_model.specs.Table.{Table, IsSameOutside, heap_in}
+use Rattle.w16_region.specs.Bytes.{counted}
+use Rattle.w16_arena.specs.State.{IsSameRange}
+use Rattle.w16_global.specs.Joined.{Global}
+use Rattle.w16_machine.specs.declared.local.TheConstants.{LAST_LOCAL_END, LOCAL_GRAIN}
+use Rattle.w16_machine.specs.World.{World}
+use Rattle.w16_machine.specs.Local.{LocalHeap, Acts, IsLocalTable, Stays, current_heap, heap_of}
+use Rattle.w16_machine.specs.LocalGrowth.{IsGrowth, IsKeptShort, Lengthens, OnceLonger, longer, with_longer}
+use Rattle.w16_local.specs.declared.acts.ByteOp.{ByteOp}
+use Rattle.w16_local.specs.declared.acts.ByteOp.TheVariants.{Alloc, Realloc}
+use Rattle.w16_local.specs.declared.growth.Met.{Met}
+use Rattle.w16_local.specs.declared.growth.Met.TheVariants.{Answered, Lacks}
+use Rattle.w16_local.specs.declared.growth.Request.{Request}
+use Rattle.w16_local.specs.Acts.{Acted, Done, Idle, IsLent, IsLentOnce, MayAct}
+use Rattle.w16_local.specs.Parts.{alone, with_parts}
+
+-- what a request does to a heap
+abbrev pub act_of : Request → ByteOp
+act_of r = elim r.kind [ Some kind ↦ Alloc r.id r.size kind r.options | None ↦ Realloc r.id r.size r.options ]
+
+-- a heap in a segment of whatever slot
+abbrev pub in_slot : Table → List ℕ → ℕ → LocalHeap
+in_slot table bytes slot = record { slot = slot; table = table; bytes = bytes }
+
+-- to which size a segment is to grow for it, or that there is none
+abbrev pub SizeTold : Request → Table → List ℕ → Option ℕ → Type 0
+SizeTold r table bytes size = (slot : ℕ) → MatchOption size
+    ((size : ℕ) → IsGrowth (in_slot table bytes slot) r.id r.size r.options size → ⊥)
+    (IsGrowth (in_slot table bytes slot) r.id r.size r.options)
+
+-- what becomes of a request in a heap as it is
+abbrev pub ServedOver : Request → Table → List ℕ → Met → Table → List ℕ → Type 0
+ServedOver r table bytes (Answered answer) left after = (answer ≢ 0) × Acted (act_of r) table bytes answer left after
+ServedOver r table bytes (Lacks size) left after = Idle (act_of r) (heap_in table bytes) 0 × (left ≡ table) × (after ≡ bytes) × SizeTold r table bytes size
+
+-- A heap may end later, at its segment's end, and the request is answered there.
+pub record MayEndLater (r : Request) (end : ℕ) (table : Table) (bytes : List ℕ) : Type 0 where
+  pub later : table.hi ≤ end
+  pub low : IsMultiple LOCAL_GRAIN table.hi
+  pub high : IsMultiple LOCAL_GRAIN end
+  pub last : end ≤ LAST_LOCAL_END
+  pub ends : end ≡ length bytes
+  pub may : MayAct (act_of r) (heap_in (record table { hi = end }) bytes)
+  pub answered : is_answered (heap_in (record table { hi = end }) bytes) r.id r.size r.options ≡ true
+
+-- and what becomes of it in the heap that ends there
+pub record Later (r : Request) (end : ℕ) (table : Table) (bytes : List ℕ) (answer : ℕ) (left : Table) (after : List ℕ) : Type 0 where
+  pub range : IsSameRange (record table { hi = end }) left
+  pub outside : IsSameOutside table.lo end bytes after
+  pub done : Done (act_of r) (heap_in (record table { hi = end }) bytes) answer (heap_in left after)
+
+-- A slot's heap has no room for a request, and is to grow for it to a size.
+pub record MayGrowIn (handles : Handles) (tables : FinMap nat_cmp Table) (slot size : ℕ) (r : Request) : Type 0 where
+  pub table : Table
+  pub bytes : List ℕ
+  pub was : finmap.get tables slot ≡ Some table
+  pub had : bytes_at handles.heap slot ≡ Some bytes
+  pub is_local : IsLocalTable table
+  pub may : MayAct (act_of r) (heap_in table bytes)
+  pub growth : IsGrowth (in_slot table bytes slot) r.id r.size r.options size
+
+-- What becomes of a request in the heap of a slot, in whatever world has these parts: it is answered there, or in the heap as it has grown for it,
+-- or neither.
+abbrev pub Served : Request → World → LocalHeap → ℕ → World → Type 0
+Served r old at answer new = Acts old at (Done (act_of r) (heap_of at) answer) new
+    ⊎ (Idle (act_of r) (heap_of at) 0 × OnceLonger old at r.id r.size r.options (λ next longer. Acts next longer (Done (act_of r) (heap_of longer) answer) new) (Stays old 0 answer new))
+
+-- the same of a heap that grows to a size, if its segment gets it
+abbrev pub Grown : Request → ℕ → World → LocalHeap → ℕ → World → Type 0
+Grown r size old at answer new = (IsKeptShort old at r.options size × Stays old 0 answer new)
+    ⊎ ((l : Lengthens old at r.options size) × Acts (with_longer old l.handles (longer at size l.bytes)) (longer at size l.bytes) (Done (act_of r) (heap_of (longer at size l.bytes)) answer) new)
+
+-- what is so of a slot's heap before a call and of the worlds before and after it
+pub record InSlot (handles : Handles) (tables : FinMap nat_cmp Table) (slot : ℕ) (next : Handles) (new : FinMap nat_cmp Table) (so : World → LocalHeap → World → Type 0) : Type 0 where
+  pub table : Table
+  pub bytes : List ℕ
+  pub was : finmap.get tables slot ≡ Some table
+  pub had : bytes_at handles.heap slot ≡ Some bytes
+  pub holds : (rest : World) (ds : ℕ) → so (with_parts rest handles tables ds) (in_slot table bytes slot) (with_parts rest next new ds)
+
+-- What a growth writes: the bytes that the reallocation of a segment moves, and then its bytes are lent once.
+pub record WritesGrown (handles : Handles) (slot before after : ℕ) : Type 0 where
+  pub handle : ℕ
+  pub named : slot_of_handle handles handle ≡ Some slot
+  pub size : ℕ
+  pub flags : ℕ
+  pub answer : ℕ
+  pub left : Handles
+  pub reallocated : GlobalReAllocs handles handle size flags answer left
+  pub written : after ≡ counted (counted before left.moved) size
+
+-- what is written for a request in a slot's heap: its segment's bytes are lent once, and the heap may grow then
+abbrev pub WritesServed : Global → ℕ → Global → Type 0
+WritesServed old slot new = IsLent old slot new ⊎ IsSomeAnd (bytes_at old.handles.heap slot) (λ bytes. WritesGrown old.handles slot (counted old.written (length bytes)) new.written)
+
+-- the same of a call of a size, in the heap that DS names; none of size 0 grows
+abbrev pub IsLentOrGrown : ℕ → Global → FinMap nat_cmp Table → ℕ → Global → Type 0
+IsLentOrGrown size old tables ds new = IsLentOnce old tables ds new
+    ⊎ ((0 < size) × IsSomeAnd (current_heap (alone old.handles tables ds)) (λ at. WritesGrown old.handles at.slot (counted old.written (length at.bytes)) new.written))

@@ -1,0 +1,183 @@
+//! Requests for room, in heaps that grow with their segments where they have none.
+ghost use Rattle.std.specs.Prelude.{◌≡◌, ◌<◌, ◌≤◌, ◌⊎◌, false, length};
+ghost use Rattle.w16_model.specs.Ends.{is_answered};
+ghost use Rattle.w16_model.specs.Heap.{IsMultiple};
+ghost use Rattle.w16_model.specs.Table.{IsSameOutside, heap_in};
+ghost use Rattle.w16_machine.specs.LocalGrowth as growth;
+ghost use Rattle.w16_machine.specs.declared.local.TheConstants.{LAST_LOCAL_END, LOCAL_GRAIN};
+ghost use Rattle.w16_local.specs.Acts.{MayActIn, MayActOver};
+ghost use Rattle.w16_local.specs.Growth.{Grown, InSlot, MayGrowIn, Served, SizeTold, WritesGrown, WritesServed, act_of};
+
+use crate::LocalHeaps;
+use crate::acts::ByteOp;
+use crate::heap::LocalHeap;
+use std::alloc::Allocator;
+use w16_global::{Global16, Work};
+use w16_model::{GMEM_NODISCARD, GRAIN, Kind, RoomOptions};
+use w16_region::{Space, reveal_bytes};
+
+/// A request for so many bytes, above 0 and a multiple of 4, for an entry: for a new object of a kind, or for the one that it has.
+#[derive(Clone, Copy, Debug)]
+pub(crate) struct Request {
+    pub id: u32,
+    pub size: u32,
+    pub kind: Option<Kind>,
+    pub options: RoomOptions,
+}
+
+/// What becomes of a request in a heap as it is.
+#[derive(Clone, Copy, Debug)]
+pub(crate) enum Met {
+    /// It is answered, by an object's name.
+    Answered(u16),
+    /// The heap has no room. It has at the least size of its segment that this tells; none where it may not grow, or no size serves.
+    Lacks(Option<u32>),
+}
+
+impl Request {
+    /// What it does to a heap.
+    fn act(self) -> ByteOp
+        ensures { result ≡ act_of self }
+    {
+        let Request {
+            id,
+            size,
+            options,
+            ..
+        } = self;
+        match self.kind {
+            Some(kind) => ByteOp::Alloc {
+                id,
+                size,
+                kind,
+                options,
+            },
+            None => ByteOp::Realloc { id, size, options },
+        }
+    }
+}
+
+impl<A: Allocator + Copy> Work<LocalHeap<A>> for Request {
+    type Answer = Met;
+
+    ghost use Rattle.w16_model.specs.Table.{heap_in};
+    ghost use Rattle.w16_local.specs.Acts.{MayActOver, Writes};
+    ghost use Rattle.w16_local.specs.Growth.{ServedOver, act_of};
+
+    ghost may = { λ request table bytes. MayActOver (act_of request) table bytes };
+
+    ghost does = { λ request table bytes met left after count written. ServedOver request table bytes met left after × Writes (act_of request) (heap_in table bytes) (heap_in left after) count written };
+
+    fn work<S: Space>(&self, heap: &mut LocalHeap<A>, space: &mut S) -> Met {
+        let answer = heap.act(space, self.act());
+        if answer != 0 {
+            return Met::Answered(answer);
+        }
+        reveal_bytes(space);
+        heap.reveal_local();
+        Met::Lacks(heap.longer_size(space, *self))
+    }
+}
+
+/// A request in a heap that ends later from now on: where its segment does, by which it is answered.
+#[derive(Clone, Copy, Debug)]
+struct LaterRequest {
+    request: Request,
+    end: u32,
+}
+
+impl<A: Allocator + Copy> Work<LocalHeap<A>> for LaterRequest {
+    type Answer = u16;
+
+    ghost use Rattle.w16_model.specs.Table.{heap_in};
+    ghost use Rattle.w16_local.specs.Acts.{Writes};
+    ghost use Rattle.w16_local.specs.Growth.{Later, MayEndLater, act_of};
+
+    ghost may = { λ later table bytes. MayEndLater later.request later.end table bytes };
+
+    ghost does = { λ later table bytes answer left after count written. Later later.request later.end table bytes answer left after × Writes (act_of later.request) (heap_in (record table { hi = later.end }) bytes) (heap_in left after) count written };
+
+    fn work<S: Space>(&self, heap: &mut LocalHeap<A>, space: &mut S) -> u16 {
+        heap.set_end(space, self.end);
+        let asked = self.request.act();
+        heap.act(space, asked)
+    }
+}
+
+impl<A: Allocator + Copy> LocalHeap<A> {
+    /// The least size of its segment at which a request is answered for which it has no room: above the segment's size, a multiple of 32, and at
+    /// most 65,536. None where the request may move no object, or the heap ends before its segment, or no such size serves.
+    fn longer_size<S: Space>(&self, space: &S, request: Request) -> Option<u32>
+        requires inside { self.now.hi ≤ length (S.bytes space.now) }
+        requires some { 0 < request.size }
+        requires refused { is_answered (heap_in self.now (S.bytes space.now)) request.id request.size request.options ≡ false }
+        ensures { SizeTold request self.now (S.bytes space.now) result }
+    {
+        let to = self.arena.bounds().to;
+        if !request.options.compact || to != space.len() {
+            return None;
+        }
+        let end = self
+            .arena
+            .least_end(space, request.id, request.size, request.options)?;
+        Some(GRAIN * end.div_ceil(GRAIN))
+    }
+
+    /// Moves the end of its range up, to at most 65,536. What is new is free.
+    fn set_end<S: Space>(&mut self, space: &mut S, end: u32)
+        requires later { self.old.hi ≤ end }
+        requires last { end ≤ LAST_LOCAL_END }
+        requires low { IsMultiple LOCAL_GRAIN self.old.hi }
+        requires high { IsMultiple LOCAL_GRAIN end }
+        requires inside { end ≤ length (S.bytes space.old) }
+        ensures value { self.new ≡ record self.old { hi = end } }
+        ensures heap { heap_in self.new (S.bytes space.new) ≡ heap_in self.new (S.bytes space.old) }
+        ensures outside { IsSameOutside self.old.lo end (S.bytes space.old) (S.bytes space.new) }
+        ensures written { S.written space.new ≡ S.written space.old }
+        ensures long { length (S.bytes space.new) ≡ length (S.bytes space.old) }
+        ensures loans { S.lenders space.new ≡ S.lenders space.old }
+    {
+        self.arena.set_end(space, end);
+    }
+}
+
+impl<A: Allocator + Copy> LocalHeaps<A> {
+    /// Serves a request for room in a slot's heap: in the heap as it is; or, where it has no room, in the heap as it has grown for it, by the least
+    /// that serves. It answers the object's name; 0, and nothing has changed, where the heap may not grow, or its segment doesn't get the bytes.
+    pub(crate) fn serve(&mut self, global: &mut Global16<A>, slot: u16, request: Request) -> u16
+        requires { MayActIn global.old.handles self.old slot (MayActOver (act_of request)) }
+        ensures served { InSlot global.old.handles self.old slot global.new.handles self.new (λ old at new. Served request old at result new) }
+        ensures written { WritesServed global.old slot global.new }
+    {
+        match self.act(global, slot, &request) {
+            Met::Answered(answer) => answer,
+            Met::Lacks(None) => 0,
+            Met::Lacks(Some(size)) => self.grow(global, slot, size, request),
+        }
+    }
+
+    /// Gives the segment of a slot's heap another size, ends the heap there, and serves a request in it that is answered then. It answers the
+    /// object's name; 0, and nothing has changed, where the segment doesn't get the bytes. Other local heaps go whose segments lost theirs for it.
+    fn grow(&mut self, global: &mut Global16<A>, slot: u16, size: u32, request: Request) -> u16
+        requires { MayGrowIn global.old.handles self.old slot size request }
+        ensures grown { InSlot global.old.handles self.old slot global.new.handles self.new (λ old at new. Grown request size old at result new) }
+        ensures written { (global.new ≡ global.old) ⊎ WritesGrown global.old.handles slot global.old.written global.new.written }
+    {
+        global.reveal_handles();
+        let flags = growth_flags(request.options);
+        let answer = global.lengthen(slot, size, flags);
+        if answer == 0 {
+            return 0;
+        }
+        self.sweep(global);
+        let later = LaterRequest { request, end: size };
+        self.act(global, slot, &later)
+    }
+}
+
+/// The flags with which a segment is reallocated for a request: no object is discarded for it where the request may discard none.
+fn growth_flags(options: RoomOptions) -> u16
+    ensures { result ≡ growth.growth_flags options }
+{
+    if options.discard { 0 } else { GMEM_NODISCARD }
+}

@@ -1,0 +1,62 @@
+-- The growth of a local heap is a step of loading, but for the number of bytes moved and for the heap's end; so it keeps what holds of every world.
+use Rattle.w16_machine.proofs.Common.{◌≡◌, ℕ, inl, inr, false, length, Option, Some, None, IfSome, refl, sym, ap, ◌∙◌, subst, cond, le-leb, cases_eq, bytes_at, Table, inserted_here, inserted_other, is_code, AnyStep, Format, IsOfFiles, OfResizes, GlobalReAlloc, Word, world_stays, code_law, World, IsWorld, LocalHeap, RoomOptions, Step, OfLoading, after_loading, left_in, with_handles, IsLongerSize, Lengthens, growth_flags, longer, with_longer, arith}
+use Rattle.std.specs.FinMap as finmap
+use Rattle.w16_machine.proofs.Loaded.{loading_world_kept}
+use Rattle.w16_machine.proofs.LocalFacts.{IsThere}
+use Rattle.w16_machine.proofs.LocalGrown.{grown_handles, grown_object, grown_world}
+use Rattle.w16_machine.proofs.LocalLeft.{left_is, left_over}
+use Rattle.w16_machine.proofs.Stepped.{handles_step}
+
+module _ (old : World) (at : LocalHeap) (options : RoomOptions) (size : ℕ) (l : Lengthens old at options size) where
+  -- the world that the reallocation leaves
+  abbrev pub reallocated : World
+  reallocated = after_loading old (with_handles old.loading l.handles)
+
+  any_step : AnyStep old.loading (OfResizes (GlobalReAlloc l.handle size (growth_flags options))) (Word l.answer) (with_handles old.loading l.handles)
+  any_step = record { counted = omega arith; files = refl; step = (l.handles, l.reallocated, refl) }
+
+  -- this is a step
+  pub growth_step : (honest : Type 0) (format : Format) → Step honest format old (OfLoading (OfResizes (GlobalReAlloc l.handle size (growth_flags options)))) (Word l.answer) reallocated
+  growth_step honest format = (
+    record { any = any_step; exact = λ _. handles_step format old.loading l.handles (OfResizes (GlobalReAlloc l.handle size (growth_flags options))) (Word l.answer) refl l.reallocated },
+    refl,
+  )
+
+  module _ (is : IsWorld old) (there : IsThere old at) (is_size : IsLongerSize at size) where
+    abbrev mine : LocalHeap
+    mine = longer at size l.bytes
+
+    abbrev grown : World
+    grown = with_longer old l.handles mine
+
+    is_reallocated : IsWorld reallocated
+    is_reallocated = loading_world_kept old reallocated is (OfResizes (GlobalReAlloc l.handle size (growth_flags options))) (Word l.answer) any_step refl tt
+
+    -- its heap's segment is no code
+    still_here : finmap.get reallocated.heaps at.slot ≡ Some at.table
+    still_here =
+        left_is l.handles.heap old.heaps at.slot ∙ ap (λ p. left_over p (bytes_at l.handles.heap at.slot)) there.table ∙ ap (left_over (Some at.table)) l.has
+        ∙ ap (λ b. cond {A = Option Table} b (Some at.table) None) (le-leb at.table.hi (length l.bytes) (omega (arith, there.inside, is_size.more, (grown_object old is.heaps.handles at there options size is_size l).long)))
+
+    uncoded : (slot : ℕ) → IfSome (finmap.get grown.heaps slot) (λ _. is_code l.handles slot ≡ false)
+    uncoded slot = elim (cases_eq slot at.slot) [
+      | inl e ↦ subst (λ p. IfSome p (λ _. is_code l.handles slot ≡ false)) (sym (inserted_here (left_in l.handles.heap old.heaps) at.slot mine.table slot e))
+          (subst (λ p. IfSome p (λ _. is_code l.handles slot ≡ false)) (ap (finmap.get reallocated.heaps) e ∙ still_here) (is_reallocated.uncoded slot))
+      | inr d ↦ subst (λ p. IfSome p (λ _. is_code l.handles slot ≡ false)) (sym (inserted_other (left_in l.handles.heap old.heaps) at.slot mine.table slot d)) (is_reallocated.uncoded slot)
+    ]
+
+    pub growth_world : IsWorld grown
+    growth_world = record {
+      loading = world_stays (with_handles old.loading l.handles) is_reallocated.loading grown.loading.handles (grown_handles old is.heaps at there options size is_size l) (λ q. refl) (λ slot kind size code h. h.object);
+      heaps = grown_world old is.heaps at there options size is_size l;
+      uncoded = uncoded;
+    }
+
+    pub growth_files : (format : Format) → IsOfFiles format old.loading → IsOfFiles format grown.loading
+    growth_files format of = record {
+      code = λ slot handle number m s coded. after.code slot handle number m (record { loaded = s.loaded; has = s.has }) coded;
+      modules = after.modules;
+    }
+      where
+        after : IsOfFiles format (with_handles old.loading l.handles)
+        after = code_law format old.loading (with_handles old.loading l.handles) (OfResizes (GlobalReAlloc l.handle size (growth_flags options))) (Word l.answer) is.loading of ((growth_step ⊥ format).0.exact (λ e. cc))
