@@ -1,22 +1,50 @@
-//! A system with a name that is no UTF-8, which tells whether anything was opened that is no regular file.
-use std::alloc::{AllocError, Allocator, Global};
+//! A disk of one file, and a system with a name that is no UTF-8, which tells whether anything was opened that is no regular file.
+use std::alloc::{Allocator, Global};
 use std::fs::{Metadata, OpenOptions};
 use std::io;
 use std::io::Cursor;
 use std::rt::Files;
+use w16_store::{DirFault, Disk, DiskFailure};
 
-/// A file that is gone once anything was opened that is no regular file. To open a FIFO would wait in its place.
-pub(super) const UNOPENED: &str = "store_files/UNOPENED";
-
-/// A system whose folders list a name that is no UTF-8 before a good one.
+/// A disk of one file, which may fail.
 #[derive(Drop)]
-pub(super) struct OddNames(pub HostRuntime);
+pub struct OneFile {
+    pub fails: bool,
+}
 
-impl Clone for OddNames {
-    fn clone(&self) -> Result<OddNames, AllocError> {
-        Ok(OddNames(self.0.clone()?))
+impl Disk for OneFile {
+    ghost use Rattle.std.specs.Prelude.{[]};
+
+    ghost files = { λ _. [] };
+
+    ghost failures = { λ _. 0 };
+
+    ghost is_honest = { ⊥ };
+
+    ghost refuses = { λ _ _. Unit {0} };
+
+    fn names(&self, alloc: Global) -> Result<Vec<String>, DirFault> {
+        if self.fails {
+            return Err(DirFault::Folder);
+        }
+        vec![in alloc; String::from_str(alloc, "ONE.TXT")?].map_err(|_| DirFault::Memory)
+    }
+
+    fn read(&mut self, _name: &str, at: u64, buf: &mut [u8]) -> Result<u64, DiskFailure> {
+        if at == 1 {
+            return Err(DiskFailure);
+        }
+        buf.fill(7);
+        Ok(4)
     }
 }
+
+/// A file that is gone once anything was opened that is no regular file. To open a FIFO would wait in its place.
+const UNOPENED: &str = "store_files/UNOPENED";
+
+/// A system whose folders list a name that is no UTF-8 before a good one.
+#[derive(Clone, Drop)]
+pub struct OddNames(pub HostRuntime);
 
 impl Alloc for OddNames {
     type A = Global;
