@@ -93,9 +93,7 @@ impl Bench {
             return out.push_str("no such segment");
         }
         self.store.begin(lie_of(words));
-        let answer = check(&mut self.store, b"FILE", module, segment, &mut self.scratch);
-        self.store.begin(None);
-        match answer {
+        match check(&mut self.store, b"FILE", module, segment, &mut self.scratch) {
             Ok(()) if asked == "image" => put_image(out, self.alloc, &self.scratch, &self.targets),
             Ok(()) => out.push_str("sound"),
             Err(fault) => write!(out, "{fault:?}"),
@@ -126,8 +124,9 @@ impl Bench {
         }
     }
 
-    /// Answers what is asked of a file's bytes.
+    /// Answers what is asked of a file, whose store tells the truth at first.
     fn ask(&mut self, out: &mut String, asked: &str, words: &mut Words<'_>) -> Put {
+        self.store.begin(None);
         let (alloc, bytes) = (self.alloc, &self.bytes);
         let (store, scratch) = (&mut self.store, &mut self.scratch);
         match asked {

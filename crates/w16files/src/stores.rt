@@ -140,6 +140,7 @@ fn put_of(out: &mut String, row: &Row<'_>, kind: &str) -> io::Result<()> {
 
 /// Puts the answers of a store of a kind to a row behind others. The folder is made for it, and gone afterwards.
 pub fn put_answers_of(out: &mut String, row: &Row<'_>, kind: &str) -> io::Result<()> {
+    let _ = fs::remove_dir_all(row.rt, "store_files");
     fs::create_dir_all(row.rt, "store_files/FOLDER")?;
     for line in row.made.split('\n') {
         is_change(row.rt, line)?;
