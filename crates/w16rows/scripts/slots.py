@@ -121,7 +121,7 @@ class Script:
 
 
 def main():
-    print("# Objects of 1 to 255 selectors, made by `src/slots.py`.")
+    print("# Objects of 1 to 255 selectors, made by `scripts/slots.py`.")
     for seed in range(ROWS):
         print(f"\n[runs of slots {seed + 1}]\nmemory: 16777216\nselectors: {SLOTS}\nrefusals: none")
         print("\n".join(Script(seed).run(400)))

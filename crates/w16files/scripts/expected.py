@@ -195,7 +195,7 @@ def answer(data):
 
 
 def main():
-    print("# What is read of the sample files, of each front of one, and with each byte made 00, 01, 7F, 80 and FF. Written by `src/expected.py`.")
+    print("# What is read of the sample files, of each front of one, and with each byte made 00, 01, 7F, 80 and FF. Written by `scripts/expected.py`.")
     for sample in SAMPLES:
         name, *change = sample.split()
         data = bytearray((Path(__file__).parent / "../data" / name).read_bytes())
