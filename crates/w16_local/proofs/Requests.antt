@@ -1,19 +1,16 @@
 -- What becomes of a request for room in a heap, as it is or as it ends later.
-use Rattle.w16_local.proofs.Common.{◌≡◌, All, ℕ, ◌<◌, ◌≤◌, inl, inr, true, false, List, length, Option, Some, None, sym, ap, refl, unwrap_or, ◌∙◌, subst, arith, cases_lt, false≢true, Kind, Block, Heap, Object, IsHeap, IsMultiple, IsSameOutside, IsBlockOf, Each-at, Each-from_All, blocks, bytes_at, object_at, Handles, AreHandles, Table, heap_in, IsLocalTable, name_at, object_of, ByteOp, Acted, Done, Idle, MayAct, MayActOver, Writes}
+use Rattle.w16_local.proofs.Common.{◌≡◌, All, ℕ, ◌<◌, ◌≤◌, inl, inr, true, false, List, length, Option, Some, None, sym, ap, refl, unwrap_or, ◌∙◌, subst, arith, false≢true, Kind, Block, Heap, Object, IsHeap, IsMultiple, IsSameOutside, IsBlockOf, Each-at, Each-from_All, blocks, bytes_at, object_at, Handles, AreHandles, Table, heap_in, IsLocalTable, name_at, object_of, ByteOp, Acted, Done, Idle, MayAct, MayActOver, Writes}
 use Rattle.std.specs.FinMap as finmap
 use Rattle.w16_model.specs.declared.TheConstants.{GRAIN}
-use Rattle.w16_model.specs.Ends.{HasNoEnd, IsLeastEnd, ending, is_answered}
+use Rattle.w16_model.specs.Ends.{ending, is_answered}
 use Rattle.w16_model.specs.Heap.{hold_of_object}
 use Rattle.w16_model.proofs.AtEnds.{answer_law}
 use Rattle.w16_model.proofs.Heaps.{block_member}
 use Rattle.w16_model.proofs.Sound.{sound_law}
-use Rattle.w16_holes.specs.declared.holes.TheConstants.{LAST_END}
-use Rattle.w16_machine.specs.LocalGrowth.{IsGrowth}
 use Rattle.w16_machine.proofs.LocalFewest.{some_name}
-use Rattle.w16_machine.proofs.LocalSizes.{grained, least_size, no_end}
 use Rattle.w16_local.specs.declared.growth.Met.TheVariants.{Lacks}
 use Rattle.w16_local.specs.declared.growth.Request.{Request}
-use Rattle.w16_local.specs.Growth.{Later, MayEndLater, ServedOver, SizeTold, act_of, in_slot}
+use Rattle.w16_local.specs.Growth.{Later, MayEndLater, ServedOver, SizeTold, act_of}
 
 -- the bytes of a segment are whole grains of the global heap
 module _ (handles : Handles) (is : AreHandles handles) (slot : ℕ) (bytes : List ℕ) (had : bytes_at handles.heap slot ≡ Some bytes) where
@@ -72,28 +69,6 @@ later_done r end {table} {left} {bytes} {before} {after} {answer} may same outsi
     | inr done ↦ subst (λ h. Done (act_of r) h answer (heap_in left after)) same done
   ];
 }
-
--- To which size a heap grows for a request that is refused: to none where others may not be moved, or where it ends before its segment;
-module _ (r : Request) (t : Table) (bytes : List ℕ) where
-  pub told_still : r.options.compact ≡ false → SizeTold r t bytes None
-  told_still f slot size g = false≢true (sym f ∙ g.may)
-
-  pub told_before : (t.hi ≡ length bytes → ⊥) → SizeTold r t bytes None
-  told_before before slot size g = before g.ends
-
-  -- and else to the least at which the request is answered, if there is one.
-  module _ (ends : t.hi ≡ length bytes) where
-    pub told_none : HasNoEnd LAST_END (heap_in t bytes) r.id r.size r.options → SizeTold r t bytes None
-    told_none none slot size g = no_end (in_slot t bytes slot) r.id r.size r.options ends LAST_END (omega arith) none size g
-
-    pub told_least : r.options.compact ≡ true → is_answered (heap_in t bytes) r.id r.size r.options ≡ false → (end : ℕ) → end ≤ LAST_END → IsLeastEnd (heap_in t bytes) r.id r.size r.options end → (size : ℕ) → size ≡ grained end → SizeTold r t bytes (Some size)
-    told_least may refused end most l size size_is slot = subst (IsGrowth (in_slot t bytes slot) r.id r.size r.options) (sym size_is) (least_size (in_slot t bytes slot) r.id r.size r.options ends end l later (omega (arith, most)) may)
-      where
-        later : t.hi < end
-        later = elim (cases_lt t.hi end) [
-          | inl lt ↦ lt
-          | inr le ↦ absurd (false≢true (sym refused ∙ l.answered t.hi le))
-        ]
 
 -- What a refused request leaves: the heap and its bytes, in which it isn't answered.
 module _ (r : Request) {act : ByteOp} (act_is : act ≡ act_of r) {t s : Table} {bytes after : List ℕ} {answer : ℕ} (may : MayActOver (act_of r) t bytes) (a : Acted act t bytes answer s after) (long : length after ≡ length bytes)

@@ -1,6 +1,13 @@
 -- Lemmas on the words of a line.
 use Rattle.w16_script.proofs.Common.{if◌then◌else◌, ◌≡◌, ℕ, zero, suc, ◌<◌, ◌≤◌, Bool, true, false, List, [], ◌∷◌, length, take, drop, get_or, refl, sym, ap, ◌∙◌, arith, words_of, is_blank, with_byte}
 
+use Rattle.std.proofs.Common.{◌+◌, ◌%◌, ◌^◌, ◌||◌, ◌==◌, not, cond, map, bit_or}
+use Rattle.std.proofs.lemmas.List.{length-map}
+use Rattle.std.proofs.lemmas.Simd.{map-map, mask_l-mod, length-chunk, first_set_mask_l}
+use Rattle.std.specs.Int.{trailing_zeros, w64}
+use Rattle.std.specs.List.{prefix_len}
+use lib.Lanes.{chunk, mask_l, top}
+
 -- a byte before a blank is a word of its own
 with_byte-before_blank : (x y : ℕ) (ys : List ℕ) (ws : List (List ℕ)) → is_blank y ≡ true → with_byte x (y ∷ ys) ws ≡ (x ∷ []) ∷ ws
 with_byte-before_blank x y ys [] h = refl
@@ -48,3 +55,23 @@ words_of_split (x ∷ y ∷ ys) (suc (suc n)) some within before stop =
     let rest : words_of (y ∷ ys) ≡ take (suc n) (y ∷ ys) ∷ words_of (drop (suc n) (y ∷ ys)) =
     words_of_split (y ∷ ys) (suc n) (omega arith) (omega arith) (λ k h. before (suc k) (omega arith)) (λ h. stop (omega arith)) in
     rw first (ap (with_byte x (y ∷ ys)) rest ∙ with_byte-before_word x y ys (take (suc n) (y ∷ ys)) (words_of (drop (suc n) (y ∷ ys))) next)
+
+-- the place of the lowest bit of a mask of sixteen, or 16
+abbrev pub lowest : ℕ → ℕ
+lowest mask = cond (mask == 0) 16 (trailing_zeros w64 mask)
+
+blank_lane : (a b : Bool) → top 7 (bit_or (cond a 255 0) (cond b 255 0)) ≡ (a || b)
+blank_lane true true = refl
+blank_lane true false = refl
+blank_lane false true = refl
+blank_lane false false = refl
+
+-- the lowest lane that a comparison with both blanks marks is the first blank
+pub blank_lanes : (text : List ℕ) (at r : ℕ) (z : List ℕ) → at + 16 ≤ length text → r ≡ lowest (mask_l (map (top 7) z) % 2 ^ 64)
+    → z ≡ map (λ x. bit_or (cond (x == 32) 255 0) (cond (x == 9) 255 0)) (chunk at 16 text) → r ≡ prefix_len (λ x. not (is_blank x)) (chunk at 16 text)
+blank_lanes text at r z room found lanes =
+    let v = chunk at 16 text in
+    let long = length-chunk at 16 text room in
+    let marked : map (top 7) z ≡ map is_blank v = ap (map (top 7)) lanes ∙ map-map (top 7) _ v ∙ (λ i. map (λ x. blank_lane (x == 32) (x == 9) i) v) in
+    let few = mask_l-mod (map is_blank v) 64 (omega (arith, length-map v is_blank, long)) in
+    found ∙ ap (λ ms. lowest (mask_l ms % 2 ^ 64)) marked ∙ ap lowest few ∙ first_set_mask_l is_blank v 16 long (omega arith)
