@@ -209,4 +209,5 @@ def main():
                 print(f"sum {sample} {at:x}={value:x} ->", answer(data[:at] + bytes([value]) + data[at + 1:]))
 
 
-main()
+if __name__ == "__main__":
+    main()
