@@ -5,4 +5,5 @@
 pub mod files;
 pub mod lines;
 pub mod machine;
+pub mod readings;
 pub mod texts;

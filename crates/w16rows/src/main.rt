@@ -5,6 +5,7 @@
 #![tactic(auto)]
 
 mod play;
+mod readings;
 mod refusals;
 mod rows;
 mod whole;

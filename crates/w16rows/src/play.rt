@@ -1,5 +1,6 @@
 //! Files of rows, played one row after another.
 
+use crate::readings::is_read_right;
 use crate::refusals::is_refused_right;
 use crate::rows::{Row, row_of};
 use crate::whole::is_played_right;
@@ -14,8 +15,11 @@ struct Tally {
     is_right: bool,
 }
 
-/// Plays a row in each way that it is to be played in, and tells what goes otherwise. Whether nothing does.
+/// Plays a row in each way that it is to be played in, or reads it, and tells what goes otherwise. Whether nothing does.
 fn play_row(rt: &(impl Print + AllocGlobal), file: &str, row: &Row<'_>) -> io::Result<bool> {
+    if row.is_reading {
+        return is_read_right(rt, file, row);
+    }
     Ok(is_played_right(rt, file, row)? && (!row.has_refusals || is_refused_right(rt, file, row)?))
 }
 

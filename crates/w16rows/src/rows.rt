@@ -22,6 +22,7 @@
 //! | `memory` | how many bytes the global heap has | 4,096 |
 //! | `selectors` | how many objects there may be | 16 |
 //! | `files` | the module files, as `files` of `w16_play` makes them | none |
+//! | `kind` | `reading`: the lines are read, and behind the arrow stands what each is read as, by `reading` of `w16_play` | the lines are played |
 //! | `refusals` | `none`: the row is just played | it is played again with each growth of the run's memory refused in turn |
 use std::alloc::{AllocError, Global};
 use thiserror::Error;
@@ -59,6 +60,8 @@ pub struct Row<'a> {
     pub memory: u32,
     pub selectors: u32,
     pub files: &'a str,
+    /// Whether its lines are read, and not played.
+    pub is_reading: bool,
     /// Whether it is played with each growth refused in turn too.
     pub has_refusals: bool,
     /// How many of its lines have a reply.
@@ -83,6 +86,7 @@ impl<'a> Row<'a> {
             memory: 4096,
             selectors: 16,
             files: "",
+            is_reading: false,
             has_refusals: true,
             replies: 0,
             lines: String::new(alloc),
@@ -109,6 +113,7 @@ impl<'a> Row<'a> {
             "memory" => self.memory = number(value)?,
             "selectors" => self.selectors = number(value)?,
             "files" => self.files = value,
+            "kind" if value == "reading" => self.is_reading = true,
             "refusals" if value == "none" => self.has_refusals = false,
             _ => match key.strip_suffix(" times") {
                 Some(count) => self.put(number(count)?, value)?,
@@ -124,7 +129,9 @@ impl<'a> Row<'a> {
             return Ok(());
         }
         match line.split_once(": ") {
-            Some((key, value)) if !line.starts_with(";") => self.set(key, value)?,
+            Some((key, value)) if !line.starts_with(";") && !key.contains(" -> ") => {
+                self.set(key, value)?
+            }
             _ => self.put(1, line)?,
         }
         Ok(())

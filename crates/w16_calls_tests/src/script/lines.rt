@@ -3,66 +3,19 @@
 mod tables;
 
 use arrayvec::ArrayVec;
-use std::alloc::Global;
-use tables::{BAD, BYTES, LETTERS, NO_TEXT, ROWS};
+use std::test::Fail;
+use tables::{BYTES, LETTERS, NO_TEXT};
 use w16_kernel::{Call, Label};
+use w16_play::readings::reading;
 use w16_script::{Line, MOST_BYTES, Registers, read_line};
 
-/// Registers of which some have numbers, and all others 0.
-pub fn filled() -> Registers {
-    let mut registers = Registers::new();
-    registers.set(0, 0x0107_0003);
-    registers.set(1, 262);
-    registers.set(5, 1024);
-    registers.set(42, 0xffff_ffff);
-    registers.set(99, 65_535);
-    registers
-}
-
-/// Whether a call, with the register that its reply goes to, is printed so for a programmer.
-fn is_shown(alloc: Global, target: Option<u8>, call: &Call<'_>, text: &str) -> bool {
-    match format!(in alloc; "{target:?} {call:?}") {
-        Ok(found) => found.as_str() == text,
-        Err(_) => false,
-    }
-}
-
-/// Whether a line is read so.
-fn is_read(alloc: Global, line: &[u8], text: &str) -> bool {
-    match read_line(line, &filled(), &mut [0; MOST_BYTES]) {
-        Line::Command { target, call } => is_shown(alloc, target, &call, text),
-        Line::Bad => text == "bad",
-        Line::Silent => text == "silent",
-    }
-}
-
-/// Whether the line of a row is read as the row says.
-fn holds(alloc: Global, row: &str) -> bool {
-    match row.split_once(" -> ") {
-        Some((line, text)) => is_read(alloc, line.as_bytes(), text),
-        None => false,
-    }
-}
-
 #[test]
-fn reads_lines(rt: HostRuntime) {
-    for row in ROWS.split('\n') {
-        assert!(rt; holds(rt.alloc(), row), "{row}");
-    }
-}
-
-#[test]
-fn refuses_bad_lines(rt: HostRuntime) {
-    for line in BAD.split('|') {
-        assert!(rt; is_read(rt.alloc(), line.as_bytes(), "bad"), "{line}");
-    }
-}
-
-#[test]
-fn reads_lines_that_are_no_text(rt: HostRuntime) {
+fn reads_lines_that_are_no_text(rt: HostRuntime) -> Result<(), Fail> {
     for (line, text) in NO_TEXT {
-        assert!(rt; is_read(rt.alloc(), line, text), "the one that is {text}");
+        let found = reading(rt.alloc(), line)?;
+        assert!(rt; found.as_str() == *text, "{line:?} is {found}");
     }
+    Ok(())
 }
 
 /// How many bytes are written by a line that writes so many digits.

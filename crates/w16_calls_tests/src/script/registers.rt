@@ -1,9 +1,9 @@
 //! What registers have.
 
-use crate::script::lines::filled;
 use w16_kernel::Reply;
 use w16_loading::FetchFault;
 use w16_model::FarFault;
+use w16_play::readings::filled;
 use w16_script::Registers;
 
 /// The same registers after replies to some of them, of which words and double words alone are stored.
