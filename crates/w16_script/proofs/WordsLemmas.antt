@@ -1,6 +1,5 @@
 -- Lemmas on the words of a line.
 use Rattle.w16_script.proofs.Common.{if◌then◌else◌, ◌≡◌, ℕ, zero, suc, ◌<◌, ◌≤◌, Bool, true, false, List, [], ◌∷◌, length, take, drop, get_or, refl, sym, ap, ◌∙◌, arith, words_of, is_blank, with_byte}
-
 use Rattle.std.proofs.Common.{◌+◌, ◌%◌, ◌^◌, ◌||◌, ◌==◌, not, cond, map, bit_or}
 use Rattle.std.proofs.lemmas.List.{length-map}
 use Rattle.std.proofs.lemmas.Simd.{map-map, mask_l-mod, length-chunk, first_set_mask_l}
