@@ -1,5 +1,5 @@
 -- Blocks but for an object's, and bytes that are free for it.
-use Rattle.w16_arena.proofs.Common.{◌≡◌, ℕ, ◌+◌, ◌-◌, ◌<◌, ◌≤◌, ◌==◌, ◌⊎◌, inl, inr, true, false, cond, eqb, IsTrue, List, [], ◌∷◌, Option, Some, refl, sym, ap, ◌∙◌, subst, arith, eq-eqb, eqb_tells, Block, block_end, first_from, hole_after, is_any, is_pinned, IsClear, Misses, block_with, Each-map, Each-both, Each-from_All, All-from_Each, first_from-below, laid_each, Layout, AreNamed, FitsFor, IsApart, IsGrained, IsOrdered, all_but, around, all_but_same, all_but_other, all_but_absent, with_same, with_other, rest_differs, each_with, others_apart, others_differ, All-all_but, moved_between, ordered_without, ids_below, EachTwo, Slides, AreMoved, AreFreeBytes, but_for}
+use Rattle.w16_arena.proofs.Common.{◌≡◌, ℕ, ◌+◌, ◌-◌, ◌<◌, ◌≤◌, ◌==◌, ◌⊎◌, inl, inr, true, false, cond, eqb, IsTrue, List, [], ◌∷◌, Option, Some, refl, sym, ap, ◌∙◌, subst, arith, eq-eqb, eqb_tells, Block, block_end, first_from, hole_after, is_any, is_pinned, IsClear, Misses, block_with, Each-both, Each-from_All, All-from_Each, first_from-below, laid_each, Layout, AreNamed, IsApart, IsGrained, IsOrdered, all_but, around, all_but_same, all_but_other, all_but_absent, with_same, with_other, rest_differs, each_with, others_apart, All-all_but, moved_between, ordered_without, ids_below, EachTwo, Slides, AreMoved, AreFreeBytes, but_for}
 use Rattle.std.proofs.lemmas.Bool.{ne_eqb}
 use Rattle.w16_arena.proofs.Pairs.{BothOrNone, with_two}
 
@@ -120,15 +120,4 @@ module _ {l : Layout} (ordered : IsOrdered l) (x : Block) (known : block_with l.
                 | inr same ↦ let at = ap block_end same in inl (omega arith)
               ]
             ]) l.blocks (around l.lo l.hi l.cap x l.blocks ordered.laid ordered.named known) below.1);
-      }
-
-  -- it may stand in free bytes
-  pub fits_at : (n at : ℕ) → x.size ≤ n → AreFreeBytes (but_for x.id l) n at → FitsFor l (record x { at = at })
-  fits_at n at few free =
-      let lies = own_lies in let above = free.above in let below = free.below in record {
-        id = own_below;
-        free = others_differ x.id l.blocks;
-        inside = (above, lies.1, omega arith);
-        apart = Each-map (λ y. Misses y.at y.size at (at + n)) (IsApart (record x { at = at })) (λ y f. elim f [ inl before ↦ inr before | inr behind ↦ inl (omega arith) ]) (all_but x.id l.blocks) free.misses;
-        grained = (free.grained, own_grained.1);
       }

@@ -8,7 +8,7 @@ pub use Rattle.std.proofs.lemmas.Result.{IfOk-weaker}
 pub use Rattle.std.specs.FinMap.{nat_cmp-IsAntisymmetric, same_map}
 pub use Rattle.std.specs.Option.{ForSome}
 pub use Rattle.w16_arena.specs.Asked.{Discards, HasDiscarded, HasDiscardedFor, IsPlaced, IsResized, IsSlid, IsStill, SlidesTogether, Stands, first_eligible, may_grow_in, reallocation_prefix}
-pub use Rattle.w16_arena.specs.Growth.{HasWay, but_for, may_grow}
+pub use Rattle.w16_arena.specs.Growth.{HasGrown, but_for, may_grow}
 pub use Rattle.w16_arena.specs.NewPlace.{AreFreeBytes, AreMoved, EachTwo, Slides, most_for, most_in}
 pub use Rattle.w16_arena.specs.Representation.{ArenaInvariant}
 pub use Rattle.w16_arena.specs.State.{ArenaState, IsSameRange, KeepsBytes, KeepsRest, Steps, after_end, empty_table, entry_of, heap_of, holes_in, relisted, table_of}

@@ -44,12 +44,12 @@ module _ (l : Layout) (b : Block) (known : block_with l.blocks b.id ≡ Some b) 
   pub ends_inside : b.at + b.size ≤ l.hi
   ends_inside = itself.inside.2
 
--- a block fits with a size that is free where it stands, once it is left out
-pub fits_free : (l : Layout) (x : Block) → block_with l.blocks x.id ≡ Some x → IsOrdered l → (n : ℕ) → 0 < n → IsMultiple l.grain n → AreFreeBytes (but_for x.id l) n x.at → FitsFor l (record x { size = n })
-fits_free l x known ordered n some rounded free = record {
+-- a block fits where bytes are free once it is left out
+pub fits_free : (l : Layout) (x : Block) → block_with l.blocks x.id ≡ Some x → IsOrdered l → (n at : ℕ) → 0 < n → IsMultiple l.grain n → AreFreeBytes (but_for x.id l) n at → FitsFor l (record x { at = at; size = n })
+fits_free l x known ordered n at some rounded free = record {
   id = id_known l x known ordered;
   free = others_differ x.id l.blocks;
   inside = (free.above, some, free.below);
-  apart = Each-map (λ c. Misses c.at c.size x.at (x.at + n)) (λ c. IsApart (record x { size = n }) c) (λ c m. elim m [ inl before ↦ inr before | inr behind ↦ inl behind ]) (all_but x.id l.blocks) free.misses;
+  apart = Each-map (λ c. Misses c.at c.size at (at + n)) (λ c. IsApart (record x { at = at; size = n }) c) (λ c m. elim m [ inl before ↦ inr before | inr behind ↦ inl behind ]) (all_but x.id l.blocks) free.misses;
   grained = (free.grained, rounded);
 }

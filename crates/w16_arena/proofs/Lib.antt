@@ -13,7 +13,7 @@ pub mod Rooms
 pub mod Gathering
 pub mod Keeping
 pub mod ButFor
-pub mod Shifted
+pub mod Grown
 pub mod Opening
 pub mod OtherGap
 pub mod Ways

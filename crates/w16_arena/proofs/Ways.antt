@@ -1,6 +1,7 @@
 -- When there is a place where an object may grow, and what the place tells.
-use Rattle.w16_arena.proofs.Common.{◌≡◌, ℕ, ◌+◌, ◌-◌, ◌<◌, ◌≤◌, ◌==◌, Bool, true, false, nat_le, IsTrue, IfSome, List, [], Option, Some, None, refl, sym, ap, ◌∙◌, subst, arith, le-leb, eq-eqb, ForSome, cond-true, false≢true, lt-leb, or_from, or_left, or_right, Block, fits_in_place, snapshot, block_end, hole_after, is_any, longest_hole, room, IsClear, Misses, block_with, All-from_Each, Each-map, Layout, IsOrdered, all_but, with_id, moved_same, ordered_without, Placed, AreMoved, AreFreeBytes, but_for, may_grow, HasWay}
+use Rattle.w16_arena.proofs.Common.{◌≡◌, ℕ, ◌+◌, ◌-◌, ◌<◌, ◌≤◌, ◌==◌, Bool, true, false, nat_le, IsTrue, IfSome, List, [], Option, Some, None, refl, sym, ap, ◌∙◌, subst, arith, le-leb, eq-eqb, ForSome, cond-true, false≢true, lt-leb, or_from, or_left, or_right, Block, fits_in_place, snapshot, block_end, hole_after, is_any, longest_hole, room, IsClear, Misses, block_with, All-from_Each, Each-map, Layout, IsOrdered, all_but, with_id, moved_same, ordered_without, Placed, AreMoved, AreFreeBytes, but_for, may_grow, HasGrown}
 use Rattle.w16_arena.proofs.Arranged.{free_fits, same_moved}
+use Rattle.w16_arena.proofs.Grown.{HasWay}
 use Rattle.w16_arena.proofs.ButFor.{behind_free, hole_clear}
 use Rattle.w16_arena.proofs.Rooms.{first_hole, hole_enough, hole_missing}
 
@@ -47,7 +48,7 @@ module _ {l : Layout} (ordered : IsOrdered l) (b : Block) (known : block_with l.
       (fits_is ∙ lt-leb n (b.size + hole_after l.hi l.blocks (block_end b)) (omega arith)) (lt-leb n (longest_hole l.lo l.hi l.blocks) (hole_missing ordered n some none false refl))
 
   -- what gaps answer
-  pub slid_enough : (memory after : List ℕ) (new : Layout) (o : Option Placed) → IfSome o (λ p. HasWay n b l memory p new after) → (compact : Bool) → compact ≡ true → IfSome o (λ _. IsTrue (may_grow l b.id n compact))
+  pub slid_enough : (memory after : List ℕ) (new : Layout) (o : Option Placed) → IfSome o (λ p. HasGrown n b l memory p new after) → (compact : Bool) → compact ≡ true → IfSome o (λ _. IsTrue (may_grow l b.id n compact))
   slid_enough memory after new None way compact on = tt
   slid_enough memory after new (Some p) way compact on = subst (λ t. IsTrue (may_grow l b.id n t)) (sym on) (enough_slid new p.at way.slid way.free)
 

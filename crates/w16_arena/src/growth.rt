@@ -1,29 +1,28 @@
-//! A place for an object that grows: behind it, in a hole, or in a gap whose other blocks slide.
-ghost use Rattle.std.specs.Prelude.{◌≡◌, ◌+◌, ◌<◌, ◌≤◌, ◌==◌, ◌⊎◌, ℕ, false, length, Some, IsTrue, IsSome, IfSome, IfNone, if◌then◌else◌, All};
-ghost use Rattle.std.specs.Option.{ForSome};
-ghost use Rattle.w16_model.specs.declared.Hold.TheVariants.{Loose};
+//! A block gets longer: over the hole behind it, in another hole, or in a gap whose other blocks slide.
+ghost use Rattle.std.specs.Prelude.{◌≡◌, ◌+◌, ◌<◌, ◌≤◌, ◌≢◌, ◌⊎◌, ℕ, false, length, Some, IsTrue, IfSome, IfNone, All};
 ghost use Rattle.w16_model.specs.Bytes.{part};
-ghost use Rattle.w16_model.specs.Gap.{block_end, is_any, IsClear, room};
+ghost use Rattle.w16_model.specs.Gap.{is_any, IsClear, room};
 ghost use Rattle.w16_model.specs.Heap.{IsMultiple};
 ghost use Rattle.w16_model.specs.Table.{block_with};
 ghost use Rattle.w16_region.specs.Bytes.{counted};
-ghost use Rattle.w16_blocks.specs.Layout.{FitsFor, IsOrdered, all_but, holes_of, replaced};
+ghost use Rattle.w16_blocks.specs.Layout.{IsOrdered, all_but, holes_of, replaced};
 ghost use Rattle.w16_compact.specs.Gap.{without, HasRoom};
-ghost use Rattle.w16_compact.specs.Gather.{contents, moved_between};
+ghost use Rattle.w16_compact.specs.Gather.{contents};
 ghost use Rattle.w16_compact.specs.Rest.{IsSameRest};
-ghost use Rattle.w16_arena.specs.NewPlace.{AreMoved, AreFreeBytes};
-ghost use Rattle.w16_arena.specs.Growth.{but_for, may_grow, HasWay};
+ghost use Rattle.w16_arena.specs.NewPlace.{AreFreeBytes};
+ghost use Rattle.w16_arena.specs.Growth.{may_grow, HasGrown};
 
+use crate::in_place::resize;
 use crate::new_place::{NOTHING, Placed};
 use w16_blocks::{Block, Blocks, Span};
 use w16_compact::{Gap, gap_for, gather, open, packed_to};
 use w16_holes::{HoleList, Holes};
 use w16_region::{Space, reveal_bytes};
 
-/// Brings a block, whatever its hold is, to where it may have `size` bytes, more than it has: where it stands, if the hole behind it is long
-/// enough; in the lowest hole of that size; or, where blocks may slide, in the lowest gap with room for it when it is left out, which is opened
-/// behind it where it stands in it. The block keeps its hold and its size. Nothing is changed where there is no place.
-pub(crate) fn make_way<S: Space, H: Holes<S>>(
+/// Gives a block more bytes, whatever its hold is: where it stands, if the hole behind it is long enough; in the lowest hole of that size; or,
+/// where blocks may slide, in the lowest gap with room for it when it is left out, which is opened behind it where it stands in it. The block
+/// keeps its hold and its bytes. Nothing is changed where there is no place.
+pub(crate) fn grow_block<S: Space, H: Holes<S>>(
     blocks: &mut Blocks<H>,
     space: &mut S,
     block: Block,
@@ -36,7 +35,7 @@ pub(crate) fn make_way<S: Space, H: Holes<S>>(
     requires kept { H.are_in (holes_of blocks.old) (S.bytes space.old) }
     requires inside { blocks.old.hi ≤ length (S.bytes space.old) }
     ensures ordered { IsOrdered blocks.old }
-    ensures way { IfSome result (λ p. HasWay size block blocks.old (S.bytes space.old) p blocks.new (S.bytes space.new)) }
+    ensures grown { IfSome result (λ p. HasGrown size block blocks.old (S.bytes space.old) p blocks.new (S.bytes space.new)) }
     ensures enough { IfSome result (λ _. IsTrue (may_grow blocks.old block.id size compact)) }
     ensures still { compact ≡ false → IfSome result (λ p. (all_but block.id blocks.new.blocks ≡ all_but block.id blocks.old.blocks)
         × ((p.at ≡ block.at) ⊎ IsClear is_any blocks.old.lo blocks.old.hi blocks.old.blocks p.at (p.at + size))) }
@@ -47,6 +46,7 @@ pub(crate) fn make_way<S: Space, H: Holes<S>>(
 {
     let _ = blocks.bounds();
     if size - block.size <= blocks.free_after(space, block.id) {
+        resize(blocks, space, block, size);
         return Some(Placed {
             at: block.at,
             slid: NOTHING,
@@ -63,7 +63,7 @@ pub(crate) fn make_way<S: Space, H: Holes<S>>(
     }
 }
 
-/// Moves a block to a hole of `size` bytes.
+/// Moves a block to a hole of `size` bytes, which it gets.
 fn move_to_hole<S: Space, H: Holes<S>>(
     blocks: &mut Blocks<H>,
     space: &mut S,
@@ -73,27 +73,26 @@ fn move_to_hole<S: Space, H: Holes<S>>(
 ) -> Placed
     requires known { block_with blocks.old.blocks block.id ≡ Some block }
     requires more { block.size < size }
+    requires rounded { IsMultiple blocks.old.grain size }
     requires free { AreFreeBytes blocks.old size at }
     requires kept { H.are_in (holes_of blocks.old) (S.bytes space.old) }
     requires inside { blocks.old.hi ≤ length (S.bytes space.old) }
     ensures at { result.at ≡ at }
-    ensures way { HasWay size block blocks.old (S.bytes space.old) result blocks.new (S.bytes space.new) }
+    ensures grown { HasGrown size block blocks.old (S.bytes space.old) result blocks.new (S.bytes space.new) }
     ensures still { all_but block.id blocks.new.blocks ≡ all_but block.id blocks.old.blocks }
     ensures rest { IsSameRest S.bytes S.lenders blocks.old.lo blocks.old.hi space.old space.new }
     ensures kept { H.are_in (holes_of blocks.new) (S.bytes space.new) }
     ensures written { S.written space.new ≡ counted (S.written space.old) result.moved }
 {
-    let _ = blocks.bounds();
-    let moved = shift_to(blocks, space, block, at);
+    move_to(blocks, space, block, at, size);
     Placed {
         at,
         slid: NOTHING,
-        moved: u64::from(moved),
+        moved: u64::from(block.size),
     }
 }
 
-/// Brings a block to where it may have `size` bytes, in the lowest gap with room for it when it is left out. Nothing is changed where there is
-/// none.
+/// Gives a block `size` bytes in the lowest gap with room for it when it is left out. Nothing is changed where there is none.
 fn slide_for<S: Space, H: Holes<S>>(
     blocks: &mut Blocks<H>,
     space: &mut S,
@@ -105,7 +104,7 @@ fn slide_for<S: Space, H: Holes<S>>(
     requires rounded { IsMultiple blocks.old.grain size }
     requires kept { H.are_in (holes_of blocks.old) (S.bytes space.old) }
     requires inside { blocks.old.hi ≤ length (S.bytes space.old) }
-    ensures way { IfSome result (λ p. HasWay size block blocks.old (S.bytes space.old) p blocks.new (S.bytes space.new)) }
+    ensures grown { IfSome result (λ p. HasGrown size block blocks.old (S.bytes space.old) p blocks.new (S.bytes space.new)) }
     ensures rest { IsSameRest S.bytes S.lenders blocks.old.lo blocks.old.hi space.old space.new }
     ensures kept { H.are_in (holes_of blocks.new) (S.bytes space.new) }
     ensures written { IfSome result (λ p. S.written space.new ≡ counted (S.written space.old) p.moved) }
@@ -121,7 +120,7 @@ fn slide_for<S: Space, H: Holes<S>>(
     }
 }
 
-/// Opens the gap in which a block stands behind it, so that it may have `size` bytes.
+/// Opens the gap in which a block stands behind it, and gives it `size` bytes there.
 fn open_own<S: Space, H: Holes<S>>(
     blocks: &mut Blocks<H>,
     space: &mut S,
@@ -136,7 +135,7 @@ fn open_own<S: Space, H: Holes<S>>(
     requires own { (gap.low ≤ block.at) × (block.at < gap.high) }
     requires kept { H.are_in (holes_of blocks.old) (S.bytes space.old) }
     requires inside { blocks.old.hi ≤ length (S.bytes space.old) }
-    ensures way { HasWay size block blocks.old (S.bytes space.old) result blocks.new (S.bytes space.new) }
+    ensures grown { HasGrown size block blocks.old (S.bytes space.old) result blocks.new (S.bytes space.new) }
     ensures rest { IsSameRest S.bytes S.lenders blocks.old.lo blocks.old.hi space.old space.new }
     ensures kept { H.are_in (holes_of blocks.new) (S.bytes space.new) }
     ensures written { S.written space.new ≡ counted (S.written space.old) result.moved }
@@ -147,6 +146,7 @@ fn open_own<S: Space, H: Holes<S>>(
     let Some(opened) = blocks.find(block.id) else {
         unreachable!();
     };
+    resize(blocks, space, opened, size);
     Placed {
         at: opened.at,
         slid: Span {
@@ -169,7 +169,7 @@ fn whole_grains<H: HoleList>(blocks: &Blocks<H>, block: Block, high: u32) -> u32
     high - high % blocks.grain()
 }
 
-/// Gathers a gap in which a block doesn't stand, and moves it behind the blocks there.
+/// Gathers a gap in which a block doesn't stand, and moves it behind the blocks there, where it gets `size` bytes.
 fn move_to_gap<S: Space, H: Holes<S>>(
     blocks: &mut Blocks<H>,
     space: &mut S,
@@ -179,11 +179,12 @@ fn move_to_gap<S: Space, H: Holes<S>>(
 ) -> Placed
     requires known { block_with blocks.old.blocks block.id ≡ Some block }
     requires more { block.size < size }
+    requires rounded { IsMultiple blocks.old.grain size }
     requires gap { HasRoom (without (Some block.id) blocks.old) size gap }
     requires other { (block.at < gap.low) ⊎ (gap.high ≤ block.at) }
     requires kept { H.are_in (holes_of blocks.old) (S.bytes space.old) }
     requires inside { blocks.old.hi ≤ length (S.bytes space.old) }
-    ensures way { HasWay size block blocks.old (S.bytes space.old) result blocks.new (S.bytes space.new) }
+    ensures grown { HasGrown size block blocks.old (S.bytes space.old) result blocks.new (S.bytes space.new) }
     ensures rest { IsSameRest S.bytes S.lenders blocks.old.lo blocks.old.hi space.old space.new }
     ensures kept { H.are_in (holes_of blocks.new) (S.bytes space.new) }
     ensures written { S.written space.new ≡ counted (S.written space.old) result.moved }
@@ -193,38 +194,40 @@ fn move_to_gap<S: Space, H: Holes<S>>(
     let gathered = gather(blocks, space, gap.low, gap.high);
     reveal_bytes(space);
     let at = gap.low + gap.loose;
-    let own = shift_to(blocks, space, block, at);
+    move_to(blocks, space, block, at, size);
     Placed {
         at,
         slid: Span { from, to: gap.high },
-        moved: gathered + u64::from(own),
+        moved: gathered + u64::from(block.size),
     }
 }
 
-/// Moves a block to a place that meets no other. Answers how many bytes were moved, which is none where it stands there.
-fn shift_to<S: Space, H: Holes<S>>(
+/// Moves a block to `size` free bytes, which it gets. What the others have stays.
+fn move_to<S: Space, H: Holes<S>>(
     blocks: &mut Blocks<H>,
     space: &mut S,
     block: Block,
     to: u32,
-) -> u32
+    size: u32,
+)
     requires known { block_with blocks.old.blocks block.id ≡ Some block }
-    requires fits { FitsFor blocks.old (record block { at = to }) }
+    requires more { block.size < size }
+    requires rounded { IsMultiple blocks.old.grain size }
+    requires free { AreFreeBytes blocks.old size to }
     requires kept { H.are_in (holes_of blocks.old) (S.bytes space.old) }
     requires inside { blocks.old.hi ≤ length (S.bytes space.old) }
-    ensures value { blocks.new ≡ record blocks.old { blocks = replaced (record block { at = to }) blocks.old.blocks } }
+    ensures before { IsOrdered blocks.old }
+    ensures elsewhere { to ≢ block.at }
+    ensures value { blocks.new ≡ record blocks.old { blocks = replaced (record block { at = to; size = size }) blocks.old.blocks } }
     ensures laid { IsOrdered blocks.new }
     ensures bytes { part (S.bytes space.new) to block.size ≡ part (S.bytes space.old) block.at block.size }
     ensures others { contents (S.bytes space.new) (all_but block.id blocks.old.blocks) ≡ contents (S.bytes space.old) (all_but block.id blocks.old.blocks) }
     ensures small { All (λ b. b < 256) (S.bytes space.new) }
     ensures rest { IsSameRest S.bytes S.lenders blocks.old.lo blocks.old.hi space.old space.new }
     ensures kept { H.are_in (holes_of blocks.new) (S.bytes space.new) }
-    ensures moved { result ≡ (if to == block.at then 0 else block.size) }
-    ensures written { S.written space.new ≡ counted (S.written space.old) result }
+    ensures written { S.written space.new ≡ counted (S.written space.old) block.size }
 {
     let _ = blocks.bounds();
-    let moved = if to == block.at { 0 } else { block.size };
-    blocks.shift(space, block.id, to);
+    blocks.move_grown(space, block, to, size);
     reveal_bytes(space);
-    moved
 }

@@ -15,7 +15,6 @@ ghost use Rattle.w16_arena.specs.State.{empty_table, holes_in};
 mod bytes;
 mod discards;
 mod ends;
-mod grown;
 mod growth;
 mod in_place;
 mod modify;

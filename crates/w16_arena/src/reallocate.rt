@@ -10,7 +10,7 @@ ghost use Rattle.w16_arena.specs.State.{KeepsRest, holes_in};
 ghost use Rattle.w16_arena.specs.Asked.{HasDiscardedFor, IsPlaced, IsResized, Stands, may_grow_in};
 
 use crate::Arena;
-use crate::grown::grow_block;
+use crate::growth::grow_block;
 use crate::new_place::{Placed, clear_if};
 use crate::requests::{NoRoom, may_discard};
 use w16_holes::{HoleList, Holes};

@@ -7,7 +7,7 @@ use Rattle.w16_blocks.proofs.Ordered.{IsOrdered-placed, IsOrdered-all_but, sum_f
 use Rattle.w16_blocks.proofs.Tables.{blocks_in-add, AreTables-add, blocks_in-drop, AreTables-drop, blocks_in-move, AreTables-move, cell_at, unit_told, same_cells}
 use Rattle.w16_blocks.proofs.Step.{lies, grained_known, free_added, holes_added, part_known, used_known, holes_left, holes_same, fits_itself, part_more, part_less, free_more, used_less, holes_more, holes_less}
 
-abbrev size_of : Block → ℕ
+abbrev pub size_of : Block → ℕ
 size_of b = b.size
 
 -- Blocks that table and cells tell are told as a layout `l`, which is what callers speak of.

@@ -9,9 +9,9 @@ pub mod Step
 pub mod Keeping
 pub mod Renamed
 pub mod After
-pub mod Shift
+pub mod Moved
 pub mod Slid
-pub mod Shifting
+pub mod MovedKept
 pub mod Next
 pub mod Downward
 pub mod Walk

@@ -8,7 +8,6 @@ ghost use Rattle.std.specs.Int.{div_ceil};
 ghost use Rattle.std.specs.Option.{ForSome};
 ghost use Rattle.w16_model.specs.Heap.{IsMultiple};
 ghost use Rattle.w16_blocks.specs.Kept.{pins_of};
-ghost use Rattle.w16_blocks.specs.Stay.{IsBeyond};
 
 mod below;
 mod by_address;
@@ -88,35 +87,14 @@ fn unit_of(place: u32, lo: u32, grain: u32) -> usize
     units_in(place - lo, grain) as usize
 }
 
-/// What the `size` bytes at a place have beyond those at another.
-fn beyond(other: u32, place: u32, size: u32) -> Span
-    requires another { place ≢ other }
-    requires some { 0 < size }
-    requires other { other + size < 2 ^ 32 }
-    requires place { place + size < 2 ^ 32 }
-    ensures { IsBeyond other place size result }
-{
-    if place < other {
-        Span {
-            from: place,
-            to: other.min(place + size),
-        }
-    } else {
-        Span {
-            from: place.max(other + size),
-            to: place + size,
-        }
-    }
-}
-
 impl<H: HoleList> Blocks<H> {
     ghost use Rattle.w16_model.specs.Table.{block_with};
     ghost use Rattle.w16_model.specs.Gap.{hole_after, block_end, is_pinned};
     ghost use Rattle.w16_holes.specs.Holes.{lowest, add_span, AreSameOutside};
     ghost use Rattle.w16_model.specs.Bytes.{part};
     ghost use Rattle.w16_region.specs.Bytes.{counted};
-    ghost use Rattle.w16_blocks.specs.Stay.{AreSameOutsideBoth, AreSameBut};
-    ghost use Rattle.w16_blocks.specs.Layout.{Layout, IsOrdered, Fits, FitsFor, placed, all_but, replaced, rank, holes_of};
+    ghost use Rattle.w16_blocks.specs.Stay.{AreSameOutsideBoth};
+    ghost use Rattle.w16_blocks.specs.Layout.{Layout, IsApart, IsOrdered, Fits, FitsFor, placed, all_but, replaced, rank, holes_of};
 
     /// No blocks yet, between `lo` and `hi`, with ids below `cap`, at multiples of the grain, over holes of which all that is one. All the
     /// memory that the blocks ever have is taken here, for an end at [`LAST_END`] too; fails where there is not enough.
@@ -290,65 +268,40 @@ impl<H: HoleList> Blocks<H> {
         note_end(&mut self.ends, self.lo, self.grain, Block { size, ..block });
     }
 
-    /// Moves an id's block to a place that meets no other block, its bytes with it: what the new place has beyond the old one is taken from
-    /// the holes, and what the old one has beyond the new joins them. Its size counts as written, once, where it moves. Bytes outside the
-    /// holes of before and after stay, but for those of the new place.
-    pub fn shift<S: Space>(&mut self, space: &mut S, id: u32, to: u32)
-    where
-        H: Holes<S>,
-        requires id { id < self.old.cap }
-        requires known { IsSome (block_with self.old.blocks id) }
-        requires fits { ForSome (block_with self.old.blocks id) (λ b. FitsFor self.old (record b { at = to })) }
-        requires kept { H.are_in (holes_of self.old) (S.bytes space.old) }
-        requires inside { self.old.hi ≤ length (S.bytes space.old) }
-        ensures value { IfSome (block_with self.old.blocks id) (λ b. self.new ≡ record self.old { blocks = replaced (record b { at = to }) self.old.blocks }) }
-        ensures ordered { IsOrdered self.new }
-        ensures kept { H.are_in (holes_of self.new) (S.bytes space.new) }
-        ensures contents { IfSome (block_with self.old.blocks id) (λ b. part (S.bytes space.new) to b.size ≡ part (S.bytes space.old) b.at b.size) }
-        ensures bytes { IfSome (block_with self.old.blocks id) (λ b. AreSameBut to b.size (holes_of self.old) (holes_of self.new) (S.bytes space.old) (S.bytes space.new)) }
-        ensures written { IfSome (block_with self.old.blocks id) (λ b. S.written space.new ≡ (if to == b.at then S.written space.old else counted (S.written space.old) b.size)) }
-        ensures lenders { S.lenders space.new ≡ S.lenders space.old }
-    {
-        let block = self.block_of(id);
-        if to != block.at {
-            self.relocate(space, block, to)
-        }
-    }
-
-    /// Moves a block to another place.
-    fn relocate<S: Space>(&mut self, space: &mut S, block: Block, to: u32)
+    /// Gives a block `size` free bytes elsewhere, at least as many as it has. Its own bytes come along to the begin of these, and its old place
+    /// joins the holes. The size that it had counts as written, once. Bytes outside the holes of before and after stay.
+    pub fn move_grown<S: Space>(&mut self, space: &mut S, block: Block, to: u32, size: u32)
     where
         H: Holes<S>,
         requires known { block_with self.old.blocks block.id ≡ Some block }
-        requires another { to ≢ block.at }
-        requires fits { FitsFor self.old (record block { at = to }) }
+        requires more { block.size ≤ size }
+        requires fits { FitsFor self.old (record block { at = to; size = size }) }
+        requires apart { IsApart (record block { at = to; size = size }) block }
         requires kept { H.are_in (holes_of self.old) (S.bytes space.old) }
         requires inside { self.old.hi ≤ length (S.bytes space.old) }
-        ensures value { self.new ≡ record self.old { blocks = replaced (record block { at = to }) self.old.blocks } }
+        ensures value { self.new ≡ record self.old { blocks = replaced (record block { at = to; size = size }) self.old.blocks } }
         ensures ordered { IsOrdered self.new }
         ensures kept { H.are_in (holes_of self.new) (S.bytes space.new) }
         ensures contents { part (S.bytes space.new) to block.size ≡ part (S.bytes space.old) block.at block.size }
-        ensures bytes { AreSameBut to block.size (holes_of self.old) (holes_of self.new) (S.bytes space.old) (S.bytes space.new) }
+        ensures bytes { AreSameOutsideBoth (holes_of self.old) (holes_of self.new) (S.bytes space.old) (S.bytes space.new) }
         ensures written { S.written space.new ≡ counted (S.written space.old) block.size }
         ensures lenders { S.lenders space.new ≡ S.lenders space.old }
     {
         let from_unit = unit_of(block.at, self.lo, self.grain);
         let to_unit = unit_of(to, self.lo, self.grain);
-        let entered = beyond(block.at, to, block.size);
-        let left = beyond(to, block.at, block.size);
-        self.holes
-            .take(space, entered.from, entered.to - entered.from);
+        self.holes.take(space, to, size);
         space.slide(block.at, to, block.size);
-        self.holes.put(space, left.from, left.to - left.from);
+        self.holes.put(space, block.at, block.size);
+        let grown = Block {
+            at: to,
+            size,
+            ..block
+        };
         self.begins[from_unit] = 0;
         self.begins[to_unit] = block.id + 1;
-        self.slots[block.id as usize] = Block { at: to, ..block };
-        note_end(
-            &mut self.ends,
-            self.lo,
-            self.grain,
-            Block { at: to, ..block },
-        );
+        self.slots[block.id as usize] = grown;
+        note_end(&mut self.ends, self.lo, self.grain, grown);
+        self.free -= size - block.size;
     }
 
     /// Moves the end of the range up to `end`, a multiple of the grain of at most [`LAST_END`]. What is new is free, and joined with a hole

@@ -127,8 +127,8 @@ impl<A: Allocator + Copy> Global16<A> {
         self.attributes_of(slot)?.owned
     }
 
-    /// Whether a module owns a slot's object.
-    pub(crate) fn is_owned(&self, slot: u16) -> bool
+    /// Whether a module owns a slot's object; none owns what isn't there.
+    pub fn is_owned(&self, slot: u16) -> bool
         ensures { result ≡ owned.is_owned self.now.handles slot }
     {
         self.owned_at(slot).is_some()

@@ -89,6 +89,9 @@ fn fetch_selected<S: Store + Drop, A: Allocator + Copy>(
 {
     // The low word is the object's handle.
     let handle = offset_in(global.global_handle(selector));
+    if !global.is_owned(slot_of(handle)) {
+        return Err(Reply::Fault(FarFault::NotPresent));
+    }
     if !library.resources.owns(slot_of(handle)) {
         return fetch_segment(global, library, selector);
     }

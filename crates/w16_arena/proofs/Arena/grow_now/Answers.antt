@@ -1,16 +1,11 @@
 use Rattle.w16_arena.proofs.Written.{counted_if}
 use Rattle.w16_arena.proofs.Common.{counted, ◌≡◌, ◌+◌, ◌≤◌, length, IsSomeAnd, Some, arith, ℕ, ◌-◌, true, ap, ◌∙◌, refl, if◌then◌else◌, Block, IsMultiple, object_at, IsGrown, StaysOrMovesToHole, block_with, heap_in, IsSound, rest_wider, rest_same, Stands, may_grow_in, but_for, KeepsRest, table_of, heap_of, ArenaState}
-use Rattle.w16_arena.proofs.Fitting.{id_known}
 use Rattle.w16_arena.proofs.Keeping.{same_in, used_placed}
 use Rattle.w16_arena.proofs.Shown.{known as known_in, told}
 use Rattle.w16_arena.proofs.Sized.{of_object}
 use Rattle.w16_arena.proofs.Regrown.{kept_grown, rest_grown, stands_grown, hole_grown}
 use Rattle.w16_arena.proofs.Arena.grow_now.Given as Given
 use Rattle.w16_arena.proofs.Arena.grow_now.Goals as goal
-
-pub grow_block-requires-clause-id : goal.grow_block-requires-clause-id
-grow_block-requires-clause-id g c =
-    id_known c.self.inside.blocks c.args.block (known_in c.self.invariant c.self.view_is (λ t. block_with t.blocks c.args.block.id ≡ Some c.args.block) c.requires.known) c.bounds.ensures.ordered
 
 -- what is required, of the table inside
 module _ (g : Given.Over) (c : goal.After-clear_if g) where
@@ -26,7 +21,7 @@ module _ (g : Given.Over) (c : goal.After-clear_if g) where
 pub invariant_of-self-2 : goal.invariant_of-self-2
 invariant_of-self-2 g c =
     let m = g.S.Space.bytes c.args.space.now in let b : Block = c.args.block in let n = c.args.size in let e = c.in_ok-placed.ensures in let p = c.in_ok-placed.placed in
-    kept_grown c.self.invariant b (known g c) c.bounds.ensures.ordered m (inside g c) n c.requires.more (rounded g c) c.args.options p e.value e.laid e.slid e.free e.object c.reveal_bytes.ensures c.clear_if.ensures.bytes
+    kept_grown c.self.invariant b (known g c) c.bounds.ensures.ordered m (inside g c) n c.requires.more (rounded g c) c.args.options p e.grown.value e.grown.laid e.grown.slid e.grown.free e.grown.bytes c.reveal_bytes.ensures c.clear_if.ensures.bytes
 
 pub returns-clause-stands : goal.returns-clause-stands
 returns-clause-stands g c =
@@ -34,25 +29,25 @@ returns-clause-stands g c =
     told c.self.invariant c.self.view_is (λ t. IsSomeAnd (object_at (heap_in t m) b.id) (λ o. Stands (heap_in t m) b.id n (IsGrown c.args.options.zero n o) (λ _ order. order) c.args.options p (heap_of c.self.inside.entries.items c.grow_block.new.blocks c.self.inside.order.ids (g.S.Space.bytes c.clear_if.new.space))))
     (of_object (table_of c.self.inside.entries.items c.self.inside.blocks c.self.inside.order.ids) c.self.invariant.sound m (inside g c) b (known g c)
     (λ o. Stands (heap_of c.self.inside.entries.items c.self.inside.blocks c.self.inside.order.ids m) b.id n (IsGrown c.args.options.zero n o) (λ _ order. order) c.args.options p (heap_of c.self.inside.entries.items c.grow_block.new.blocks c.self.inside.order.ids (g.S.Space.bytes c.clear_if.new.space)))
-    (stands_grown c.self.invariant b (known g c) c.bounds.ensures.ordered m (inside g c) n c.requires.more (rounded g c) c.args.options p e.value e.laid e.slid e.free e.object c.reveal_bytes.ensures c.clear_if.ensures.bytes (λ off. (e.still off).0) e.moved))
+    (stands_grown c.self.invariant b (known g c) c.bounds.ensures.ordered m (inside g c) n c.requires.more (rounded g c) c.args.options p e.grown.value e.grown.laid e.grown.slid e.grown.free e.grown.bytes c.reveal_bytes.ensures c.clear_if.ensures.bytes (λ off. (e.still off).0) e.grown.moved))
 
 pub returns-clause-hole : goal.returns-clause-hole
 returns-clause-hole g c =
     let m = g.S.Space.bytes c.args.space.now in let b : Block = c.args.block in let n = c.args.size in let e = c.in_ok-placed.ensures in let p = c.in_ok-placed.placed in
     λ off. told c.self.invariant c.self.view_is (λ t. StaysOrMovesToHole (heap_in t m) b.id n (heap_of c.self.inside.entries.items c.grow_block.new.blocks c.self.inside.order.ids (g.S.Space.bytes c.clear_if.new.space)))
-    (hole_grown c.self.invariant b (known g c) c.bounds.ensures.ordered m (inside g c) n c.requires.more (rounded g c) c.args.options p e.value e.laid e.slid e.free e.object c.reveal_bytes.ensures c.clear_if.ensures.bytes (λ off. (e.still off).0) (e.still off).1)
+    (hole_grown c.self.invariant b (known g c) c.bounds.ensures.ordered m (inside g c) n c.requires.more (rounded g c) c.args.options p e.grown.value e.grown.laid e.grown.slid e.grown.free e.grown.bytes c.reveal_bytes.ensures c.clear_if.ensures.bytes (λ off. (e.still off).0) (e.still off).1)
 
 pub returns-clause-rest : goal.returns-clause-rest
 returns-clause-rest g c =
     let m = g.S.Space.bytes c.args.space.now in let b : Block = c.args.block in let n = c.args.size in let e = c.in_ok-placed.ensures in let p = c.in_ok-placed.placed in
-    told c.self.invariant c.self.view_is (λ t. KeepsRest g.S.Space.bytes g.S.Space.lenders t c.args.space.now (table_of c.self.inside.entries.items c.grow_block.new.blocks c.self.inside.order.ids) c.clear_if.new.space) (rest_grown c.self.invariant b (known g c) c.bounds.ensures.ordered m (inside g c) n c.requires.more (rounded g c) c.args.options p e.value e.laid e.slid e.free e.object c.reveal_bytes.ensures c.clear_if.ensures.bytes e.rest c.clear_if.ensures.rest)
+    told c.self.invariant c.self.view_is (λ t. KeepsRest g.S.Space.bytes g.S.Space.lenders t c.args.space.now (table_of c.self.inside.entries.items c.grow_block.new.blocks c.self.inside.order.ids) c.clear_if.new.space) (rest_grown c.self.invariant b (known g c) c.bounds.ensures.ordered m (inside g c) n c.requires.more (rounded g c) c.args.options p e.grown.value e.grown.laid e.grown.slid e.grown.free e.grown.bytes c.reveal_bytes.ensures c.clear_if.ensures.bytes e.rest c.clear_if.ensures.rest)
 
 pub returns-clause-kept : goal.returns-clause-kept
 returns-clause-kept g c =
     let b : Block = c.args.block in let n = c.args.size in let e = c.in_ok-placed.ensures in let p = c.in_ok-placed.placed in let more = c.requires.more in
     let wide = rest_wider {low = p.at} {high = p.at + n} c.clear_if.ensures.rest (omega arith) (omega arith) in
     g.met.H.Holes.stay _ (g.S.Space.bytes c.grow_block.new.space) (g.S.Space.bytes c.clear_if.new.space) e.kept
-    (same_in p.at (p.at + n) _ _ _ wide.long wide.outside (used_placed (but_for b.id c.grow_block.new.blocks) c.grow_block.new.blocks (record b { at = p.at; size = n }) e.value e.laid))
+    (same_in p.at (p.at + n) _ _ _ wide.long wide.outside (used_placed (but_for b.id c.grow_block.new.blocks) c.grow_block.new.blocks (record b { at = p.at; size = n }) e.grown.value e.grown.laid))
 
 pub returns-clause-written : goal.returns-clause-written
 returns-clause-written g c =

@@ -1,7 +1,10 @@
-use Rattle.w16_arena.proofs.Common.{◌≡◌, ◌+◌, ◌≤◌, Option, Some, IfSome, refl, ap, ◌∙◌, subst, sym, Block, block_end, is_any, loose_bytes, IsClear, block_with, Layout, with_loose, opened, end_in, spare_in}
+use Rattle.w16_arena.proofs.Common.{◌≡◌, ℕ, ◌+◌, ◌<◌, ◌≤◌, Option, Some, IfSome, refl, ap, ◌∙◌, subst, sym, arith, Block, part, block_end, is_any, loose_bytes, IsClear, IsMultiple, block_with, Layout, FitsFor, all_but, replaced, contents, with_loose, opened, end_in, spare_in, Placed, HasGrown}
 use Rattle.w16_arena.proofs.ButFor.{own_below}
+use Rattle.w16_arena.proofs.Fitting.{fits_free}
+use Rattle.w16_arena.proofs.Grown.{HasWay, grown_there}
 use Rattle.w16_arena.proofs.Opening.{may_open_held, own_within_held, own_way_held}
 use Rattle.w16_arena.proofs.growth.open_own.Given as Given
+use Rattle.w16_arena.proofs.growth.open_own.Goals.{After-reveal_bytes}
 use Rattle.w16_arena.proofs.growth.open_own.Goals as goal
 
 pub open-moved-requires-clause-id : goal.open-moved-requires-clause-id
@@ -24,7 +27,7 @@ find-requires g c =
     own_below c.open-moved.ensures.ordered _ (subst (λ o. IfSome o (λ (b : Block). block_with c.open-moved.new.blocks.blocks c.args.block.id ≡ Some (record b { at = c.args.gap.low + loose_bytes bs c.args.gap.low b.at }))) c.requires.known c.open-moved.ensures.place)
 
 -- what holds of the block there holds of the one that is given
-module _ (g : Given.Over) (c : goal.In-Some g) where
+module _ (g : Given.Over) (c : After-reveal_bytes g) where
   of_block : (P : Block → Type 0) → IfSome (block_with c.args.blocks.now.blocks c.args.block.id) P → P c.args.block
   of_block P holds = subst (λ o. IfSome o P) c.requires.known holds
 
@@ -34,11 +37,44 @@ module _ (g : Given.Over) (c : goal.In-Some g) where
   place : block_with c.open-moved.new.blocks.blocks c.args.block.id ≡ Some (record c.args.block { at = c.args.gap.low + loose_bytes old.blocks c.args.gap.low c.args.block.at })
   place = of_block (λ b. block_with c.open-moved.new.blocks.blocks c.args.block.id ≡ Some (record b { at = c.args.gap.low + loose_bytes old.blocks c.args.gap.low b.at })) c.open-moved.ensures.place
 
-pub returns-clause-way : goal.returns-clause-way
-returns-clause-way g c =
-    let high = c.whole_grains-high.ensures in let e = c.open-moved.ensures in let l = c.args.blocks.now in let bs = (old g c).blocks in let low = c.args.gap.low in
-    let found : ◌≡◌ {A = Option Block} (Some c.in-Some.opened) (Some (record c.args.block { at = low + loose_bytes bs low c.args.block.at })) = c.in-Some.ensures.value ∙ place g c in
-    own_way_held high.ordered c.args.block c.requires.known c.requires.more c.requires.rounded c.requires.gap c.requires.own high.below high.last
-    (of_block g c (λ b. with_loose c.args.block.id c.open-moved.new.blocks ≡ record (old g c) { blocks = opened low (block_end b) c.whole_grains-high.result bs }) e.blocks) e.ordered e.contents e.rest.long c.reveal_bytes.ensures (place g c)
-    (of_block g c (λ b. IsClear is_any l.lo l.hi c.open-moved.new.blocks.blocks (end_in bs low b) (end_in bs low b + spare_in bs low c.whole_grains-high.result)) e.clear) _
-    (let is : c.in-Some.opened ≡ record c.args.block { at = low + loose_bytes bs low c.args.block.at } = cc in ap (λ (b : Block). b.at) is) refl e.moved
+  abbrev there : Block
+  there = record c.args.block { at = c.args.gap.low + loose_bytes old.blocks c.args.gap.low c.args.block.at }
+
+  abbrev mid : Layout
+  mid = c.open-moved.new.blocks
+
+  is : (opened : Block) → Some opened ≡ block_with mid.blocks c.args.block.id → opened ≡ there
+  is opened value = let found : ◌≡◌ {A = Option Block} (Some opened) (Some there) = value ∙ place in cc
+
+  abbrev placed : Placed
+  placed = record { at = there.at; slid = record { from = c.args.gap.low; to = c.whole_grains-high.result }; moved = c.open-moved.result }
+
+  -- the place that is opened for it
+  way : HasWay c.args.size c.args.block c.args.blocks.now (g.S.Space.bytes c.args.space.now) placed mid (g.S.Space.bytes c.open-moved.new.space)
+  way =
+      let high = c.whole_grains-high.ensures in let e = c.open-moved.ensures in let l = c.args.blocks.now in let low = c.args.gap.low in
+      own_way_held high.ordered c.args.block c.requires.known c.requires.more c.requires.rounded c.requires.gap c.requires.own high.below high.last
+      (of_block (λ b. with_loose c.args.block.id mid ≡ record old { blocks = opened low (block_end b) c.whole_grains-high.result old.blocks }) e.blocks) e.ordered e.contents e.rest.long c.reveal_bytes.ensures place
+      (of_block (λ b. IsClear is_any l.lo l.hi mid.blocks (end_in old.blocks low b) (end_in old.blocks low b + spare_in old.blocks low c.whole_grains-high.result)) e.clear) placed refl refl e.moved
+
+pub resize-requires-clause-id : goal.resize-requires-clause-id
+resize-requires-clause-id g c =
+    let d = (goal.at.resize-requires-clause-id g c).After-reveal_bytes in let same = is g d c.in-Some.opened c.in-Some.ensures.value in subst (λ (b : Block). b.id < c.open-moved.new.blocks.cap) (sym same) (own_below c.open-moved.ensures.ordered (there g d) (place g d))
+
+pub resize-requires-clause-fits : goal.resize-requires-clause-fits
+resize-requires-clause-fits g c =
+    let d = (goal.at.resize-requires-clause-fits g c).After-reveal_bytes in let same = is g d c.in-Some.opened c.in-Some.ensures.value in
+    let more = c.requires.more in
+    subst (λ (b : Block). FitsFor c.open-moved.new.blocks (record b { size = c.args.size })) (sym same)
+    (fits_free c.open-moved.new.blocks (there g d) (place g d) c.open-moved.ensures.ordered c.args.size (there g d).at (omega arith) (subst (λ k. IsMultiple k c.args.size) (sym (ap (λ (k : Layout). k.grain) (way g d).slid.same)) c.requires.rounded) (way g d).free)
+
+pub returns-clause-grown : goal.returns-clause-grown
+returns-clause-grown g c =
+    let d = (goal.at.returns-clause-grown g c).After-reveal_bytes in let same = is g d c.in-Some.opened c.in-Some.ensures.value in
+    let e = c.resize.ensures in
+    subst (λ (b : Block). HasGrown c.args.size c.args.block c.args.blocks.now (g.S.Space.bytes c.args.space.now) (record (placed g d) { at = b.at }) c.resize.new.blocks (g.S.Space.bytes c.resize.new.space)) (sym same)
+    (grown_there c.args.size c.args.block c.args.blocks.now c.open-moved.new.blocks c.resize.new.blocks (g.S.Space.bytes c.args.space.now) (g.S.Space.bytes c.open-moved.new.space) (g.S.Space.bytes c.resize.new.space) (placed g d) (way g d) c.requires.more
+    (e.value ∙ ap (λ (b : Block). record c.open-moved.new.blocks { blocks = replaced (record b { size = c.args.size }) c.open-moved.new.blocks.blocks }) same) e.ordered
+    (subst (λ (b : Block). (m : ℕ) → m ≤ b.size → m ≤ c.args.size → part (g.S.Space.bytes c.resize.new.space) b.at m ≡ part (g.S.Space.bytes c.open-moved.new.space) b.at m) same e.own)
+    (subst (λ (b : Block). contents (g.S.Space.bytes c.resize.new.space) (all_but b.id c.open-moved.new.blocks.blocks) ≡ contents (g.S.Space.bytes c.open-moved.new.space) (all_but b.id c.open-moved.new.blocks.blocks)) same e.bytes.contents)
+    e.bytes.rest.long e.small)

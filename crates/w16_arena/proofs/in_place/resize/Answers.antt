@@ -1,15 +1,21 @@
 use Rattle.w16_arena.proofs.Common.{◌≡◌, IfSome, refl, subst, Block, Layout, replaced}
-use Rattle.w16_arena.proofs.Kept.{own_kept, others_kept}
+use Rattle.w16_arena.proofs.Kept.{own_kept, others_kept, outside_kept}
+use Rattle.w16_arena.proofs.in_place.resize.Given as Given
 use Rattle.w16_arena.proofs.in_place.resize.Goals as goal
+
+value : (g : Given.Over) (c : goal.After-reveal_bytes g) → c.resize.new.self ≡ record c.args.blocks.now { blocks = replaced (record c.args.block { size = c.args.size }) c.args.blocks.now.blocks }
+value g c = subst (λ p. IfSome p (λ (b : Block). c.resize.new.self ≡ record c.args.blocks.now { blocks = replaced (record b { size = c.args.size }) c.args.blocks.now.blocks })) c.requires.known c.resize.ensures.value
 
 pub returns-clause-bytes : goal.returns-clause-bytes
 returns-clause-bytes g c =
-    let l : Layout = c.args.blocks.now in let b : Block = c.args.block in
-    let value = subst (λ p. IfSome p (λ (b : Block). c.resize.new.self ≡ record l { blocks = replaced (record b { size = c.args.size }) l.blocks })) c.requires.known c.resize.ensures.value in
-    others_kept l b c.args.size c.requires.known c.bounds.ensures.ordered value c.resize.ensures.ordered c.resize.ensures.bytes c.args.space.now c.resize.new.space refl refl c.resize.ensures.lenders c.resize.ensures.written
+    let l : Layout = c.args.blocks.now in let b : Block = c.args.block in let e = c.resize.ensures in
+    record {
+      contents = others_kept l b b.at c.args.size c.bounds.ensures.ordered (value g c) e.ordered e.bytes;
+      rest = record { long = e.bytes.long; outside = outside_kept l b b.at c.args.size c.bounds.ensures.ordered (value g c) e.ordered e.bytes; loans = e.lenders };
+      count = e.written;
+    }
 
 pub returns-clause-own : goal.returns-clause-own
 returns-clause-own g c =
-    let l : Layout = c.args.blocks.now in let b : Block = c.args.block in
-    let value = subst (λ p. IfSome p (λ (b : Block). c.resize.new.self ≡ record l { blocks = replaced (record b { size = c.args.size }) l.blocks })) c.requires.known c.resize.ensures.value in
-    own_kept l b c.args.size c.requires.known c.bounds.ensures.ordered value c.resize.ensures.ordered c.resize.ensures.bytes
+    let b : Block = c.args.block in let e = c.resize.ensures in
+    own_kept c.args.blocks.now b b.at c.args.size c.bounds.ensures.ordered (value g c) e.ordered e.bytes c.requires.known refl

@@ -1,19 +1,33 @@
 use Rattle.w16_arena.proofs.Written.{counted_none}
 use Rattle.w16_arena.proofs.Common.{rest_same, false≢true, ◌≡◌, ◌+◌, inr, IfSome, refl, sym, ◌∙◌, subst, arith, inl, Block, block_end, hole_after, is_any, IsClear}
 use Rattle.w16_arena.proofs.ButFor.{free_but, own_below}
+use Rattle.w16_arena.proofs.Fitting.{fits_more}
+use Rattle.w16_arena.proofs.Grown.{grown_there}
+use Rattle.w16_arena.proofs.Replaced.{but_same}
 use Rattle.w16_arena.proofs.Rooms.{hole_free}
 use Rattle.w16_arena.proofs.Ways.{way_here, enough_here, enough_hole, none_still, slid_enough, clear_bytes}
-use Rattle.w16_arena.proofs.growth.make_way.Goals as goal
+use Rattle.w16_arena.proofs.growth.grow_block.Goals as goal
 
 pub free_after-requires-clause-id : goal.free_after-requires-clause-id
 free_after-requires-clause-id g c = own_below c.bounds.ensures.ordered c.args.block c.requires.known
 
 -- where it stands
-pub returns-then-size-block-clause-way : goal.returns-then-size-block-clause-way
-returns-then-size-block-clause-way g c =
-    let l = c.args.blocks.now in
+pub resize-requires-clause-id : goal.resize-requires-clause-id
+resize-requires-clause-id g c = own_below c.bounds.ensures.ordered c.args.block c.requires.known
+
+pub resize-requires-clause-fits : goal.resize-requires-clause-fits
+resize-requires-clause-fits g c =
+    let l = c.args.blocks.now in let long = c.if-size-block.true in let more = c.requires.more in
     let behind = subst (λ o. IfSome o (λ (b : Block). c.free_after.result ≡ hole_after l.hi l.blocks (block_end b))) c.requires.known c.free_after.ensures.value in
-    way_here c.bounds.ensures.ordered c.args.block c.requires.known c.args.size c.requires.more c.free_after.result behind c.if-size-block.true (g.S.Space.bytes c.args.space.now)
+    fits_more l c.args.block c.requires.known c.bounds.ensures.ordered c.args.size c.requires.more (omega arith) c.requires.rounded
+
+pub returns-then-size-block-clause-grown : goal.returns-then-size-block-clause-grown
+returns-then-size-block-clause-grown g c =
+    let l = c.args.blocks.now in let e = c.resize.ensures in let memory = g.S.Space.bytes c.args.space.now in
+    let behind = subst (λ o. IfSome o (λ (b : Block). c.free_after.result ≡ hole_after l.hi l.blocks (block_end b))) c.requires.known c.free_after.ensures.value in
+    grown_there c.args.size c.args.block l l c.resize.new.blocks memory memory (g.S.Space.bytes c.resize.new.space) _
+    (way_here c.bounds.ensures.ordered c.args.block c.requires.known c.args.size c.requires.more c.free_after.result behind c.if-size-block.true memory)
+    c.requires.more e.value e.ordered e.own e.bytes.contents e.bytes.rest.long e.small
 
 pub returns-then-size-block-clause-enough : goal.returns-then-size-block-clause-enough
 returns-then-size-block-clause-enough g c =
@@ -39,7 +53,7 @@ returns-in-Some-clause-still g c = λ off.
 
 -- in a gap
 pub returns-then-compact-clause-enough : goal.returns-then-compact-clause-enough
-returns-then-compact-clause-enough g c = slid_enough c.bounds.ensures.ordered c.args.block c.requires.known c.args.size _ _ _ c.slide_for.result c.slide_for.ensures.way c.args.compact c.if-compact.true
+returns-then-compact-clause-enough g c = slid_enough c.bounds.ensures.ordered c.args.block c.requires.known c.args.size _ _ _ c.slide_for.result c.slide_for.ensures.grown c.args.compact c.if-compact.true
 
 -- nowhere
 pub returns-else-compact-clause-refused : goal.returns-else-compact-clause-refused
@@ -52,13 +66,10 @@ returns-else-compact-clause-refused g c =
     )
 
 pub returns-then-size-block-clause-still : goal.returns-then-size-block-clause-still
-returns-then-size-block-clause-still g c = λ off. (refl, inl refl)
-
-pub returns-then-size-block-clause-rest : goal.returns-then-size-block-clause-rest
-returns-then-size-block-clause-rest g c = rest_same c.args.blocks.now.lo c.args.blocks.now.hi c.args.space.now
+returns-then-size-block-clause-still g c = λ off. (but_same c.args.blocks.now _ c.resize.ensures.value, inl refl)
 
 pub returns-then-size-block-clause-written : goal.returns-then-size-block-clause-written
-returns-then-size-block-clause-written g c = sym (counted_none (g.S.Space.written c.args.space.now))
+returns-then-size-block-clause-written g c = c.resize.ensures.bytes.count ∙ sym (counted_none (g.S.Space.written c.args.space.now))
 
 pub returns-then-compact-clause-still : goal.returns-then-compact-clause-still
 returns-then-compact-clause-still g c = λ off. absurd (false≢true (sym off ∙ c.if-compact.true))
