@@ -10,7 +10,6 @@ pub mod Keeping
 pub mod Renamed
 pub mod After
 pub mod Moved
-pub mod Slid
 pub mod MovedKept
 pub mod Next
 pub mod Downward

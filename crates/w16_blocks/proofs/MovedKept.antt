@@ -4,7 +4,8 @@ use Rattle.w16_blocks.proofs.Place.{sum-placed}
 use Rattle.w16_blocks.proofs.Ordered.{IsOrdered-placed, IsOrdered-all_but, sum_fits}
 use Rattle.w16_blocks.proofs.Step.{part_known}
 use Rattle.w16_blocks.proofs.Keeping.{size_of, known_now, lies_in, used_kept, sum_split, cell_is, fits_for, with_blocks, blocks_moved, BlocksInvariant-move}
-use Rattle.w16_blocks.proofs.Slid.{free_stays, come_along, others_stay, used_apart}
+use Rattle.w16_holes.proofs.Slid.{free_stays, come_along, others_stay}
+use Rattle.w16_holes.proofs.Write as write
 use Rattle.w16_blocks.proofs.Moved as moved
 
 module _ {cap lo hi g : ℕ} {slots : List Block} {cells : List ℕ} {free pinned : ℕ} {range : Range} {kept : List Span} (k : BlocksInvariant cap lo hi g slots cells free pinned range kept) (long : cap ≡ length slots)
@@ -84,5 +85,5 @@ module _ {cap lo hi g : ℕ} {slots : List Block} {cells : List ℕ} {free pinne
         pub others_same : AreSameOutsideBoth (holes_of l) kept' first last
         others_same = subst (λ (hs : List Span). AreSameOutsideBoth hs kept' first last) (k.between ∙ ap holes_of is) (let stay = others_stay x.at to x.size first second third last kept kept' take_same slid put_same (source_in inside) (target_in inside) in record {
           long = stay.long;
-          same = λ at m one two. stay.same at m one two (elim (used_apart at (at + m) to (to + n) kept one free_new) [ inl below ↦ inl below | inr above ↦ inr (omega arith) ]);
+          same = λ at m one two. stay.same at m one two (elim (write.apart to (to + n) at (at + m) kept free_new one) [ inl above ↦ inr (omega arith) | inr below ↦ inl below ]);
         })

@@ -1,12 +1,12 @@
 -- Blocks of a run that slide up one after another, from the last: what a step needs, and what it leaves.
-use Rattle.w16_blocks.proofs.Common.{ℕ, ◌≡◌, ◌≢◌, ◌+◌, ◌-◌, ◌<◌, ◌≤◌, ◌^◌, ◌⊎◌, List, [], ◌∷◌, map, Some, eqb, arith, refl, sym, ap, ◌∙◌, subst, inl, inr, cases_lt, eqb_tells, AllByRecursion, Block, Span, IsLaid, block_end, IsMultiple, block_with, Each-map, Each-both, laid_each, multiple_sum, IsLastBelow, Layout, IsOrdered, FitsFor, replaced, IsCut, IsRun, IsBare, slid_with}
+use Rattle.w16_blocks.proofs.Common.{multiple_less, ℕ, ◌≡◌, ◌≢◌, ◌+◌, ◌-◌, ◌<◌, ◌≤◌, ◌^◌, ◌⊎◌, List, [], ◌∷◌, map, Some, eqb, arith, refl, sym, ap, ◌∙◌, subst, inl, inr, cases_lt, eqb_tells, AllByRecursion, Block, Span, IsLaid, block_end, IsMultiple, block_with, Each-map, Each-both, laid_each, multiple_sum, IsLastBelow, Layout, IsOrdered, FitsFor, replaced, IsCut, IsRun, IsBare, slid_with}
 use Rattle.std.proofs.lemmas.Bool.{eq-eqb}
 use Rattle.w16_blocks.proofs.Free.{Lacks, lacks_free}
 use Rattle.w16_blocks.proofs.Lifting.{IsPassed, fits_lifted, around}
 use Rattle.w16_blocks.proofs.Remove.{with_same, with_other, each_with}
 use Rattle.w16_blocks.proofs.RunHoles.{All-mapped, All-unmapped}
 use Rattle.w16_blocks.proofs.Sliding.{IsAround, replaced-slid, slid_below, slid_above, slid_inside, moved_to}
-use Rattle.w16_blocks.proofs.Step.{lies, grained_known, lacks_known, multiple_less}
+use Rattle.w16_blocks.proofs.Step.{lies, grained_known, lacks_known}
 
 -- an id's block, where blocks move
 pub with_back : (f : Block → Block) (x : Block) (bs : List Block) → ((c : Block) → (f c).id ≡ c.id) → ((c : Block) → f c ≡ x → c ≡ x) → block_with (map f bs) x.id ≡ Some x → block_with bs x.id ≡ Some x

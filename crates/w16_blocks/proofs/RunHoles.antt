@@ -1,7 +1,6 @@
 -- The holes where a run of blocks slides down: what its new place has beyond the old one is taken, and what the old one has beyond the new is put.
-use Rattle.w16_blocks.proofs.Common.{ℕ, ◌≡◌, ◌+◌, ◌-◌, ◌<◌, ◌≤◌, ◌⊎◌, min, List, [], ◌∷◌, map, sum_by, arith, refl, sym, ap, ◌∙◌, subst, inl, inr, cases_lt, sum_by-cons, AllByRecursion, Block, Span, IsLaid, block_end, holes, IsMultiple, Each-map, Each-both, multiple_sum, AreHoles, IsFree, IsUsed, IsPart, taken, joined, IsIn, AreHoles-taken, taken_in, in_taken, AreHoles-joined, joined_in, in_joined, Layout, IsOrdered, range_of, holes_of, IsCut, IsRun, IsBare, slid_with}
+use Rattle.w16_blocks.proofs.Common.{ℕ, ◌≡◌, ◌+◌, ◌-◌, ◌<◌, ◌≤◌, ◌⊎◌, min, List, [], ◌∷◌, map, sum_by, arith, refl, sym, ap, ◌∙◌, subst, inl, inr, cases_lt, sum_by-cons, AllByRecursion, Block, Span, IsLaid, block_end, holes, IsMultiple, Each-map, Each-both, multiple_sum, AreHoles, IsFree, IsUsed, IsPart, taken, joined, IsIn, AreHoles-taken, taken_in, in_taken, AreHoles-joined, joined_in, in_joined, Layout, IsOrdered, range_of, holes_of, IsCut, IsRun, IsBare, slid_with, multiple_less}
 use Rattle.w16_blocks.proofs.Free.{Lacks, AreHoles-holes, free_lacks, lacks_free, are_between, used_of, free_of}
-use Rattle.w16_blocks.proofs.Step.{multiple_less}
 use Rattle.w16_blocks.proofs.Sliding.{slid_below, slid_above, slid_inside}
 
 -- what holds of each block of a list, and of what comes of each
@@ -122,6 +121,17 @@ way_up l run is some to apart up high bare grained least =
           ]) l.blocks bare is.whole.0;
       grained = (multiple_less l.grain (to + (run.to - run.from)) apart (multiple_sum l.grain to (run.to - run.from) grained (multiple_less l.grain run.to run.from is.grained.1 is.grained.0)) part, is.grained.0, part);
     }
+
+-- where no block is there is one hole
+pub bare_free : (l : Layout) → IsOrdered l → (from to : ℕ) → l.lo ≤ from → from < to → to ≤ l.hi → IsBare from to l.blocks → IsFree from to (holes_of l)
+bare_free l ordered from to low some high bare =
+    free_of from to l.lo l.hi (holes_of l) some (AreHoles-holes l.lo l.lo l.hi l.blocks (omega arith) ordered.laid)
+    (λ p ge lt. lacks_free p l.lo l.hi l.blocks ordered.laid (omega arith) (omega arith)
+    (Each-map (λ b. (block_end b ≤ from) ⊎ (to ≤ b.at)) (Lacks p) (λ b out. elim out [ inl before ↦ inr (omega arith) | inr behind ↦ inl (omega arith) ]) l.blocks bare))
+
+-- a run's bytes are a part of the range, and so are they at another place in it
+pub run_part : (l : Layout) (run : Span) → IsRun l run → run.from < run.to → (at : ℕ) → l.lo ≤ at → at + (run.to - run.from) ≤ l.hi → IsMultiple l.grain at → IsPart (range_of l) at (run.to - run.from)
+run_part l run is some at low high grained = record { some = omega arith; from = low; to = high; grained = grained; rounded = multiple_less l.grain run.to run.from is.grained.1 is.grained.0 }
 
 module _ (l : Layout) (ordered : IsOrdered l) (run : Span) (is : IsRun l run) (some : run.from < run.to) (to a c apart : ℕ) (way : IsWay l run to a c apart) where
   abbrev size : ℕ

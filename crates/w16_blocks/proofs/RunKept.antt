@@ -1,7 +1,7 @@
 -- What is kept where a run of blocks slides.
 use Rattle.std.specs.Prelude.{Vec}
 use Rattle.w16_blocks.proofs.Common.{with_items, with_items_is, ℕ, ◌≡◌, ◌+◌, ◌-◌, ◌<◌, ◌≤◌, List, length, map, sum_by, arith, refl, sym, ap, ◌∙◌, subst, Block, Span, part, put_part, IsLaid, holes, Range, IsFree, IsUsed, IsPart, AreSameIn, AreSameOutside, taken, joined, Layout, holes_of, blocks_in, layout_in, pins_in, AreTables, BlocksInvariant, IsRun, slid_with, AreSameBut}
-use Rattle.w16_blocks.proofs.Slid.{free_stays, come_along, others_stay}
+use Rattle.w16_holes.proofs.Slid.{free_stays, come_along, others_stay}
 use Rattle.w16_blocks.proofs.RunHoles as run_holes
 use Rattle.w16_blocks.proofs.RunHoles.{IsWay, sum-slid}
 
@@ -22,6 +22,9 @@ module _ {cap lo hi g : ℕ} {slots : List Block} {cells : List ℕ} {free pinne
 
   pub free_entered : IsFree a (a + apart) kept
   free_entered = subst (IsFree a (a + apart)) (sym k.between) (run_holes.free_entered now k.tables.ordered run is some to a c apart way)
+
+  pub used_run : IsUsed run.from (run.from + (run.to - run.from)) kept
+  used_run = subst (IsUsed run.from (run.from + (run.to - run.from))) (sym k.between) (run_holes.used_run now k.tables.ordered run is some to a c apart way)
 
   -- the run lies inside, there and here
   module _ {m : ℕ} (inside : l.hi ≤ m) where
@@ -70,7 +73,7 @@ module _ {cap lo hi g : ℕ} {slots : List Block} {cells : List ℕ} {free pinne
       module _ {first second third last : List ℕ} (inside : l.hi ≤ length first) (take_same : AreSameOutside kept first second) (slid : third ≡ put_part second to (part second run.from (run.to - run.from))) (put_same : AreSameOutside kept' third last) where
         pub come_too : part last to (run.to - run.from) ≡ part first run.from (run.to - run.from)
         come_too = come_along run.from to (run.to - run.from) first second third last kept kept' take_same slid put_same (source_in inside) (target_in inside)
-            (subst (IsUsed run.from (run.from + (run.to - run.from))) (sym k.between) (run_holes.used_run now k.tables.ordered run is some to a c apart way)) used_now
+            used_run used_now
 
         pub others_same : AreSameBut to (run.to - run.from) (holes_of l) kept' first last
         others_same = subst (λ (hs : List Span). AreSameBut to (run.to - run.from) hs kept' first last) (k.between ∙ ap holes_of is_l)

@@ -1,18 +1,9 @@
 -- What adding a block and taking one away make of the holes.
-use Rattle.w16_blocks.proofs.Common.{ℕ, ◌≡◌, ◌<◌, ◌≤◌, ◌+◌, ◌-◌, ◌*◌, ◌^◌, ◌⊎◌, List, [], ◌∷◌, Some, arith, sym, ap, ◌∙◌, subst, inl, inr, cases_lt, AllByRecursion, Block, Hold, Span, block_end, holes, IsMultiple, block_with, Each-map, laid_each, AreHoles, IsFree, IsUsed, IsPart, taken, joined, IsIn, up, multiple_sum, same_holes, AreHoles-taken, taken_in, in_taken, AreHoles-joined, joined_in, in_joined, Layout, IsApart, IsGrained, IsOrdered, Fits, FitsFor, placed, all_but, replaced, range_of, holes_of}
+use Rattle.w16_blocks.proofs.Common.{multiple_less, ℕ, ◌≡◌, ◌<◌, ◌≤◌, ◌+◌, ◌-◌, ◌^◌, ◌⊎◌, List, [], ◌∷◌, Some, arith, sym, ◌∙◌, subst, inl, inr, cases_lt, AllByRecursion, Block, Hold, Span, block_end, holes, block_with, Each-map, laid_each, AreHoles, IsFree, IsUsed, IsPart, taken, joined, IsIn, multiple_sum, same_holes, AreHoles-taken, taken_in, in_taken, AreHoles-joined, joined_in, in_joined, Layout, IsApart, IsGrained, IsOrdered, Fits, FitsFor, placed, all_but, replaced, range_of, holes_of}
 use Rattle.w16_blocks.proofs.Place.{placed_after, placed_before, All-placed, IsLaid-placed}
 use Rattle.w16_blocks.proofs.Remove.{All-all_but, All-back, IsLaid-all_but, each_with, others_apart, others_differ}
 use Rattle.w16_blocks.proofs.Ordered.{IsOrdered-all_but}
 use Rattle.w16_blocks.proofs.Free.{Lacks, AreHoles-holes, free_lacks, lacks_free, are_between, used_of, free_of}
-
-pub multiple_less : (g a b : ℕ) → IsMultiple g a → IsMultiple g b → IsMultiple g (a - b)
-multiple_less g a b one two = let e = one.1 in let f = two.1 in (one.0 - two.0, less (one.0) (two.0) e f)
-  where
-    less : (m n : ℕ) → a ≡ g * m → b ≡ g * n → a - b ≡ g * (m - n)
-    less m n e f = elim (cases_lt m n) [
-      | inl under ↦ let r = up g m n (omega arith) in let z : m - n ≡ 0 = omega arith in let zero_is : g * (m - n) ≡ g * 0 = ap (λ (i : ℕ). g * i) z in omega arith
-      | inr over ↦ let sum : m ≡ n + (m - n) = omega arith in let parts : g * m ≡ g * (n + (m - n)) = ap (λ (i : ℕ). g * i) sum in omega arith
-    ]
 
 pub All-first : (P : Block → Type 0) (b : Block) (bs : List Block) → AllByRecursion P (placed b bs) → P b × AllByRecursion P bs
 All-first P b [] all = (all.0, tt)

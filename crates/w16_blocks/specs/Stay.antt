@@ -1,5 +1,5 @@
 -- What stays of the bytes where a block changes its size or its place.
-use Rattle.std.specs.Prelude.{ℕ, ◌≤◌, ◌≡◌, ◌+◌, ◌⊎◌, List, length}
+use Rattle.std.specs.Prelude.{ℕ, ◌≡◌, ◌+◌, List, length}
 use Rattle.w16_model.specs.Bytes.{part}
 use Rattle.w16_model.specs.declared.Span.{Span}
 use Rattle.w16_holes.specs.Holes.{IsUsed}
@@ -8,8 +8,3 @@ use Rattle.w16_holes.specs.Holes.{IsUsed}
 pub record AreSameOutsideBoth (before after : List Span) (old new : List ℕ) : Type 0 where
   pub long : length new ≡ length old
   pub same : (at m : ℕ) → IsUsed at (at + m) before → IsUsed at (at + m) after → part new at m ≡ part old at m
-
--- the same, but for the n bytes at a place
-pub record AreSameBut (place n : ℕ) (before after : List Span) (old new : List ℕ) : Type 0 where
-  pub long : length new ≡ length old
-  pub same : (at m : ℕ) → IsUsed at (at + m) before → IsUsed at (at + m) after → (at + m ≤ place) ⊎ (place + n ≤ at) → part new at m ≡ part old at m

@@ -54,7 +54,7 @@ impl<H: HoleList> Blocks<H> {
     ghost use Rattle.w16_model.specs.Bytes.{part};
     ghost use Rattle.w16_region.specs.Bytes.{counted};
     ghost use Rattle.w16_blocks.specs.Layout.{IsOrdered, holes_of};
-    ghost use Rattle.w16_blocks.specs.Stay.{AreSameBut};
+    ghost use Rattle.w16_holes.specs.Holes.{AreSameBut};
     ghost use Rattle.w16_blocks.specs.Runs.{IsCut, BeginsAt};
 
     /// Where the run of blocks begins that stand one behind another up to a place: at `low` at the earliest, which no block reaches over,

@@ -104,7 +104,7 @@ impl<H: HoleList> Blocks<H> {
     ghost use Rattle.w16_model.specs.Bytes.{part};
     ghost use Rattle.w16_region.specs.Bytes.{counted};
     ghost use Rattle.w16_blocks.specs.Layout.{IsOrdered, holes_of};
-    ghost use Rattle.w16_blocks.specs.Stay.{AreSameBut};
+    ghost use Rattle.w16_holes.specs.Holes.{AreSameBut};
     ghost use Rattle.w16_blocks.specs.Runs.{IsCut, IsRun, IsBare, EndsAt, slid_with};
 
     /// The block that begins at a place, in one step. None begins at a place outside the bounds, or at no multiple of the grain.
@@ -182,11 +182,8 @@ impl<H: HoleList> Blocks<H> {
             within,
             to,
         );
-        let size = end - within.from;
-        let apart = size.min(within.from - to);
-        self.holes.take(space, to, apart);
-        space.slide(within.from, to, size);
-        self.holes.put(space, end - apart, apart);
+        self.holes
+            .slide_down(space, within.from, to, end - within.from);
         end
     }
 }

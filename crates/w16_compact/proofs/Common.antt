@@ -7,7 +7,7 @@ pub use Rattle.std.proofs.lemmas.List.Sums.{count_by-le-length, length-filter}
 pub use Rattle.std.proofs.lemmas.Option.{get_or_from_slice_get, slice_get_within}
 pub use Rattle.std.specs.Borrow.{GName}
 pub use Rattle.std.specs.Ordering.{ord_max}
-pub use Rattle.w16_blocks.proofs.Common.{All-from_Each, AllByRecursion, AreHoles, AreNamed, AreSameBut, Each-at, Each-both, Each-from_All, Each-map, IsApart, IsBare, IsCut, IsGrained, IsIn, IsOrdered, IsRun, IsSome, IsUsed, Layout, Member, all_but, counted, drop-put_part, eqb, eqb_tells, from_address, get_or-set_other, get_or-set_same, holes_of, laid_each, laid_placed, le-ltb, length-map, length-put_part, list_any, lt-ltb, multiple_sum, placed, rank, replaced, slice_index, slid_with, take-put_part, ◌^◌}
+pub use Rattle.w16_blocks.proofs.Common.{All-from_Each, AllByRecursion, AreHoles, AreNamed, AreSameBut, Each-at, Each-both, Each-from_All, Each-map, IsApart, IsBare, IsCut, IsGrained, IsIn, IsOrdered, IsRun, IsSome, IsUsed, Layout, Member, all_but, counted, drop-put_part, eqb, eqb_tells, from_address, get_or-set_other, get_or-set_same, holes_of, laid_each, laid_placed, le-ltb, length-map, length-put_part, list_any, lt-ltb, multiple_less, multiple_sum, placed, rank, replaced, slice_index, slid_with, take-put_part, ◌^◌}
 pub use Rattle.w16_blocks.proofs.Free.{AreHoles-holes, Lacks, free_lacks, lacks_free, laid_le, later}
 pub use Rattle.std.proofs.lemmas.Bool.{eqb-true}
 pub use Rattle.w16_blocks.proofs.Later.{laid_later}
@@ -18,7 +18,7 @@ pub use Rattle.w16_blocks.proofs.Remove.{All-all_but, All-back, AreNamed-all_but
 pub use Rattle.w16_blocks.proofs.Rising.{with_back}
 pub use Rattle.w16_blocks.proofs.RunHoles.{All-mapped, All-unmapped, Lies, lies_of}
 pub use Rattle.w16_blocks.proofs.Sliding.{map-same, moved_to, slid_above, slid_below, slid_inside}
-pub use Rattle.w16_blocks.proofs.Step.{grained_known, lies, multiple_less}
+pub use Rattle.w16_blocks.proofs.Step.{grained_known, lies}
 pub use Rattle.w16_blocks.specs.Runs.{BeginsAt, EndsAt}
 pub use Rattle.w16_compact.specs.Gap.{HasRoom, IsLowest, others, without}
 pub use Rattle.w16_compact.specs.Gather.{AreSlid, FitsGap, MayGather, contents, gathered, moved_between, packed}

@@ -8,6 +8,9 @@ pub mod Last
 pub mod Steps
 pub mod Sets
 pub mod Write
+pub mod Slid
+pub mod Passing
+pub mod Pass
 pub mod Thread
 pub mod Cuts
 pub mod Links

@@ -80,7 +80,7 @@ first_free a b (h ∷ hs) some free = elim free [
 -- A part taken out of a hole.
 module _ (hi a b : ℕ) (some : a < b) where
   -- where it lies in the first hole, or behind it
-  here_or_rest : (lo : ℕ) (h : Span) (hs : List Span) → AreHoles lo hi (h ∷ hs) → IsFree a b (h ∷ hs) → ((h.from ≤ a) × (b ≤ h.to)) ⊎ ((h.to ≤ a) × IsFree a b hs)
+  pub here_or_rest : (lo : ℕ) (h : Span) (hs : List Span) → AreHoles lo hi (h ∷ hs) → IsFree a b (h ∷ hs) → ((h.from ≤ a) × (b ≤ h.to)) ⊎ ((h.to ≤ a) × IsFree a b hs)
   here_or_rest lo h hs are free = elim free [
     | inl here ↦ inl here
     | inr rest ↦ let r = low (suc h.to) hi a hs are.3 (first_free a b hs some rest) in inr (omega arith, rest)

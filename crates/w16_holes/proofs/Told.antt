@@ -50,7 +50,7 @@ free_cell g (m ∷ ms) u a b some free = elim (cases_lt u (u + m)) [
   | inr le ↦ let r = free_cell g ms (u + g) a b some (rw (le-ltb u (u + m) le) at free) in let from = r.1 in let to = r.2 in (suc r.0, omega arith, omega arith)
 ]
 
-used_cells : (g : ℕ) (ns : List ℕ) (u a b : ℕ) → IsUsed a b (spans g u ns) → (j : ℕ) → 0 < slice_index ns j → (u + g * j + slice_index ns j ≤ a) ⊎ (b ≤ u + g * j)
+pub used_cells : (g : ℕ) (ns : List ℕ) (u a b : ℕ) → IsUsed a b (spans g u ns) → (j : ℕ) → 0 < slice_index ns j → (u + g * j + slice_index ns j ≤ a) ⊎ (b ≤ u + g * j)
 used_cells g [] u a b used j some = absurd (omega arith)
 used_cells g (m ∷ ms) u a b used zero some =
     let here = rw (lt-ltb u (u + m) (omega arith)) at used in

@@ -37,3 +37,12 @@ whole_units g lo place some le low high =
 
 pub multiple_sum : (g a b : ℕ) → IsMultiple g a → IsMultiple g b → IsMultiple g (a + b)
 multiple_sum g a b one two = let e = one.1 in let f = two.1 in (one.0 + two.0, omega arith)
+
+pub multiple_less : (g a b : ℕ) → IsMultiple g a → IsMultiple g b → IsMultiple g (a - b)
+multiple_less g a b one two = let e = one.1 in let f = two.1 in (one.0 - two.0, less (one.0) (two.0) e f)
+  where
+    less : (m n : ℕ) → a ≡ g * m → b ≡ g * n → a - b ≡ g * (m - n)
+    less m n e f = elim (cases_lt m n) [
+      | inl under ↦ let r = up g m n (omega arith) in let z : m - n ≡ 0 = omega arith in let zero_is : g * (m - n) ≡ g * 0 = ap (λ (i : ℕ). g * i) z in omega arith
+      | inr over ↦ let sum : m ≡ n + (m - n) = omega arith in let parts : g * m ≡ g * (n + (m - n)) = ap (λ (i : ℕ). g * i) sum in omega arith
+    ]

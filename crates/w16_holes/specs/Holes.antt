@@ -75,6 +75,10 @@ abbrev pub joined : ℕ → ℕ → List Span → List Span
 joined a b [] = record { from = a; to = b } ∷ []
 joined a b (h ∷ hs) = if nat_lt h.to a then h ∷ joined a b hs else if nat_lt b h.from then record { from = a; to = b } ∷ h ∷ hs else joined (min a h.from) (max b h.to) hs
 
+-- the holes once n used bytes slid down over free ones: what their new place has beyond the old one is taken, and what the old one has beyond the new is put
+abbrev pub slid_down : ℕ → ℕ → ℕ → List Span → List Span
+slid_down from to n hs = joined (from + n - min n (from - to)) (from + n) (taken to (to + min n (from - to)) hs)
+
 -- What is asked for: a part of a range, at multiples of its grain.
 
 -- a place in a range, or its end
@@ -102,3 +106,8 @@ pub record AreSameIn (hs : List Span) (old new : List ℕ) : Type 0 where
 pub record AreSameOutside (hs : List Span) (old new : List ℕ) : Type 0 where
   pub long : length new ≡ length old
   pub same : (at n : ℕ) → IsUsed at (at + n) hs → part new at n ≡ part old at n
+
+-- two memories have the same bytes wherever there is no hole before and none after, but for the n bytes at a place
+pub record AreSameBut (place n : ℕ) (before after : List Span) (old new : List ℕ) : Type 0 where
+  pub long : length new ≡ length old
+  pub same : (at m : ℕ) → IsUsed at (at + m) before → IsUsed at (at + m) after → (at + m ≤ place) ⊎ (place + n ≤ at) → part new at m ≡ part old at m

@@ -1,7 +1,9 @@
 //! What code over holes is generic in.
-ghost use Rattle.std.specs.Prelude.{◌≡◌, ◌+◌, ◌≤◌, List, ℕ, length};
+ghost use Rattle.std.specs.Prelude.{◌≡◌, ◌+◌, ◌<◌, ◌≤◌, List, ℕ, length};
+ghost use Rattle.w16_model.specs.Bytes.{part};
+ghost use Rattle.w16_region.specs.Bytes.{counted};
 ghost use Rattle.w16_model.specs.declared.Span.{Span};
-ghost use Rattle.w16_holes.specs.Holes.{Range, AreHoles, IsFree, IsUsed, IsPlace, IsPart, lowest, length_at, length_to, longest, taken, joined, AreSameIn, AreSameOutside};
+ghost use Rattle.w16_holes.specs.Holes.{Range, AreHoles, IsFree, IsUsed, IsPlace, IsPart, lowest, length_at, length_to, longest, taken, joined, slid_down, AreSameIn, AreSameOutside, AreSameBut};
 
 use std::alloc::Allocator;
 use w16_region::Space;
@@ -38,7 +40,8 @@ pub trait HoleList {
 /// - It speaks of lists of holes and of bytes alone, so that who keeps other lists that tell the
 ///   holes, as blocks do, can say it of those.
 /// - `take` and `put` change bytes of holes alone: of those before `take`, of those after `put`. So
-///   no byte in use is written, and links, which `written` doesn't count, may be.
+///   no byte in use is written, and links, which `written` doesn't count, may be. `slide_down` is a
+///   slide between the two, in one call.
 /// - Who writes elsewhere keeps the holes: `stay` asks only that the bytes in the holes do.
 pub trait Holes<S: Space>: HoleList {
     /// What is kept of a list of holes in the bytes of a space.
@@ -92,6 +95,25 @@ pub trait Holes<S: Space>: HoleList {
         ensures kept { are_in (Self.holes self.new) (S.bytes space.new) }
         ensures bytes { AreSameOutside (Self.holes self.new) (S.bytes space.old) (S.bytes space.new) }
         ensures written { S.written space.new ≡ S.written space.old }
+        ensures lenders { S.lenders space.new ≡ S.lenders space.old };
+
+    /// Slides `size` used bytes down over free ones, from one place to another: what their new place has beyond the old one is taken, and what
+    /// the old one has beyond the new is put. They count as written, once. Bytes outside the holes of before and after stay, but for those of
+    /// the new place.
+    fn slide_down(&mut self, space: &mut S, from: u32, to: u32, size: u32)
+        requires kept { are_in (Self.holes self.old) (S.bytes space.old) }
+        requires down { to < from }
+        requires new { IsPart (Self.range self.old) to size }
+        requires old { IsPart (Self.range self.old) from size }
+        requires free { IsFree to from (Self.holes self.old) }
+        requires used { IsUsed from (from + size) (Self.holes self.old) }
+        requires inside { from + size ≤ length (S.bytes space.old) }
+        ensures holes { Self.holes self.new ≡ slid_down from to size (Self.holes self.old) }
+        ensures range { Self.range self.new ≡ Self.range self.old }
+        ensures kept { are_in (Self.holes self.new) (S.bytes space.new) }
+        ensures contents { part (S.bytes space.new) to size ≡ part (S.bytes space.old) from size }
+        ensures bytes { AreSameBut to size (Self.holes self.old) (Self.holes self.new) (S.bytes space.old) (S.bytes space.new) }
+        ensures written { S.written space.new ≡ counted (S.written space.old) size }
         ensures lenders { S.lenders space.new ≡ S.lenders space.old };
 
     /// Where the bytes in the holes stay, so does what is kept of the holes.

@@ -1,7 +1,7 @@
 //! Holes beside the memory.
 ghost use Rattle.std.specs.Prelude.{◌≡◌, ◌+◌, ◌*◌, ◌-◌, ◌^◌, ◌<◌, ◌≤◌, ◌∷◌, [], ℕ, length, slice_index, option_map, IfOk};
 ghost use Rattle.w16_model.specs.Heap.{IsMultiple};
-ghost use Rattle.w16_holes.specs.Holes.{AreHoles, IsFree, IsUsed, IsPlace, IsPart, last_before, length_to, taken, joined, add_span};
+ghost use Rattle.w16_holes.specs.Holes.{AreHoles, IsFree, IsUsed, IsPlace, IsPart, last_before, length_at, length_to, taken, joined, slid_down, add_span};
 ghost use Rattle.w16_holes.specs.Cells.{IsApart, IsInside, IsBeginOf};
 ghost use Rattle.w16_tree.specs.Last.{last_below};
 
@@ -184,6 +184,36 @@ impl<A: Allocator> SideHoles<A> {
     }
 }
 
+impl<A: Allocator> SideHoles<A> {
+    /// Tells the prover that the holes are ordered, and lie below 4 GiB, as they always do. It does nothing else.
+    pub(crate) fn reveal_order(&self)
+        ensures ordered { AreHoles self.now.range.lo self.now.range.hi self.now.holes }
+        ensures small { self.now.range.hi < 2 ^ 32 }
+    {
+        let _ = &self.lo;
+    }
+
+    /// A hole, which begins at a place, and the `size` used bytes behind it, which begin at another, change places, and it is joined with a
+    /// hole behind these.
+    fn pass(&mut self, from: u32, to: u32, size: u32)
+        requires down { to < from }
+        requires whole { length_at to self.old.holes ≡ from - to }
+        requires new { IsPart self.old.range to size }
+        requires old { IsPart self.old.range from size }
+        requires used { IsUsed from (from + size) self.old.holes }
+        ensures holes { self.new.holes ≡ slid_down from to size self.old.holes }
+        ensures range { self.new.range ≡ self.old.range }
+    {
+        let unit = unit_of(to, self.lo, self.grain);
+        let behind = unit_of(to + size, self.lo, self.grain);
+        let next = unit_of(from + size, self.lo, self.grain);
+        let above = self.lengths.get(next);
+        self.lengths.set(behind, from - to + above);
+        self.lengths.set(unit, 0);
+        self.lengths.set(next, 0);
+    }
+}
+
 impl<A: Allocator + Copy> HoleList for SideHoles<A> {
     type Alloc = A;
 
@@ -228,5 +258,19 @@ impl<S: Space, A: Allocator + Copy> Holes<S> for SideHoles<A> {
     fn put(&mut self, _space: &mut S, place: u32, n: u32) {
         let below = self.below(place);
         self.put_back(place, n, below.unit);
+    }
+
+    fn slide_down(&mut self, space: &mut S, from: u32, to: u32, size: u32) {
+        self.reveal_order();
+        // Where the hole begins there, as it does where blocks are gathered, no look below it is needed.
+        if self.at(space, to) == from - to {
+            space.slide(from, to, size);
+            self.pass(from, to, size);
+        } else {
+            let apart = size.min(from - to);
+            self.take(space, to, apart);
+            space.slide(from, to, size);
+            self.put(space, from + size - apart, apart);
+        }
     }
 }

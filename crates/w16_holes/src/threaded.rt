@@ -8,7 +8,7 @@ ghost use Rattle.w16_holes.specs.Thread.{AreThreaded, first_of, next_above, put_
 use crate::{HoleList, Holes, SideHoles};
 use std::alloc::{AllocError, Allocator, Global};
 use std::marker::Model;
-use w16_region::Region;
+use w16_region::{Region, Space};
 
 /// What the last hole has in place of the next.
 const NO_HOLE: u32 = 0xffff_ffff;
@@ -203,5 +203,13 @@ impl<A: Allocator + Copy> Holes<Region<A>> for ThreadedHoles<A> {
         link(space, below.begin, from);
         set_words(space, from, end - from, next);
         self.side.put_back(place, n, below.unit);
+    }
+
+    fn slide_down(&mut self, space: &mut Region<A>, from: u32, to: u32, size: u32) {
+        self.side.reveal_order();
+        let apart = size.min(from - to);
+        self.take(space, to, apart);
+        space.slide(from, to, size);
+        self.put(space, from + size - apart, apart);
     }
 }

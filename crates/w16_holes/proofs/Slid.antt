@@ -1,5 +1,6 @@
--- The bytes of a block that moves come along, and others stay.
-use Rattle.w16_blocks.proofs.Common.{ℕ, ◌≡◌, ◌≤◌, ◌+◌, ◌⊎◌, List, [], ◌∷◌, length, arith, sym, ap, ◌∙◌, subst, inl, inr, Span, part, put_part, length-part, length-put_part, part-put_part, take-put_part, drop-put_part, part_below, part_above, IsFree, IsUsed, AreSameIn, AreSameOutside, AreSameIn-put_part, AreSameBut}
+-- Bytes that slide come along, and others stay.
+use Rattle.w16_holes.proofs.Common.{ℕ, ◌≡◌, ◌≤◌, ◌+◌, ◌⊎◌, List, length, arith, refl, sym, ap, ◌∙◌, subst, inl, inr, Span, part, put_part, length-part, length-put_part, part-put_part, take-put_part, drop-put_part, part_below, part_above, IsUsed, AreSameIn, AreSameOutside, AreSameBut}
+use Rattle.w16_holes.proofs.Write.{AreSameIn-put_part}
 
 -- bytes that slide
 module _ (at to size : ℕ) (second third : List ℕ) (slid : third ≡ put_part second to (part second at size)) (source : at + size ≤ length second) (target : to + size ≤ length second) where
@@ -43,10 +44,7 @@ module _ (at to size : ℕ) (first second third last : List ℕ) (before after :
     same = λ p m one two out. put_same.same p m two ∙ stays at to size second third slid source_then target_then p m out ∙ take_same.same p m one;
   }
 
--- a part that no hole has misses each part of a hole
-pub used_apart : (a b c d : ℕ) (hs : List Span) → IsUsed a b hs → IsFree c d hs → (b ≤ c) ⊎ (d ≤ a)
-used_apart a b c d [] used free = absurd free
-used_apart a b c d (h ∷ hs) used free = elim free [
-  | inl here ↦ let from = here.0 in let to = here.1 in elim used.0 [ inl before ↦ inr (omega arith) | inr behind ↦ inl (omega arith) ]
-  | inr there ↦ used_apart a b c d hs used.1 there
-]
+-- the same of bytes that only slide
+pub slid_alone : (at to size : ℕ) (first last : List ℕ) (before after : List Span) → last ≡ put_part first to (part first at size) → at + size ≤ length first → to + size ≤ length first → AreSameBut to size before after first last
+slid_alone at to size first last before after slid source target =
+    others_stay at to size first first last last before after (record { long = refl; same = λ p m used. refl }) slid (record { long = refl; same = λ p m used. refl }) source target
