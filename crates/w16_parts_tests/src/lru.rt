@@ -126,19 +126,6 @@ static ROWS: &[(&str, u32, &[Line])] = &[
         ],
     ),
     (
-        "a walk goes from the oldest to the newest",
-        5,
-        &[
-            (Change::Newest(3), &[3]),
-            (Change::Newest(0), &[3, 0]),
-            (Change::Oldest(4), &[4, 3, 0]),
-            (Change::Newest(2), &[4, 3, 0, 2]),
-            (Change::Remove(3), &[4, 0, 2]),
-            (Change::Remove(4), &[0, 2]),
-            (Change::Newest(0), &[2, 0]),
-        ],
-    ),
-    (
         "the order of use is kept",
         5,
         &[

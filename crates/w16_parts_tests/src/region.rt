@@ -59,18 +59,6 @@ fn blank_in_slice(bytes: &mut [u8], at: u32, size: u32)
     window.fill(at, size, 0);
 }
 
-/// Copies inside a region.
-fn copy_in_region(region: &mut Region, from: u32, to: u32, size: u32)
-    requires source { from + size ≤ length region.old.bytes.items }
-    requires target { to + size ≤ length region.old.bytes.items }
-    requires apart { (from + size ≤ to) ⊎ (to + size ≤ from) }
-    ensures bytes { let old = region.old.bytes.items in
-        region.new.bytes.items ≡ put_part old to (part old from size) }
-    ensures written { region.new.written ≡ counted region.old.written size }
-{
-    copy_apart(region, from, to, size);
-}
-
 /// Whether a part lies in twelve bytes.
 fn is_inside(at: u32, size: u32) -> bool
     ensures { IsTrue result → at + size ≤ 12 }
@@ -248,15 +236,6 @@ fn window_is_a_space_over_its_slice(rt: HostRuntime) {
     let mut bytes = [0; 12];
     check_window(&rt, &mut bytes);
     assert!(rt; bytes == LEFT && slice_is_changed());
-}
-
-#[test]
-fn region_is_changed_in_place(rt: HostRuntime) -> Result<(), Fail> {
-    let mut region = Region::new(rt.alloc(), 6)?;
-    region.fill(0, 2, 8);
-    copy_in_region(&mut region, 0, 4, 2);
-    assert!(rt; region.view(0, 6) == [8, 8, 0, 0, 8, 8].as_slice() && region.written() == 4);
-    Ok(())
 }
 
 /// A word that is set at a place, with the bytes of the region afterwards, or one that is read there.

@@ -14,9 +14,8 @@ use w16_selectors::{Descriptor, Selectors};
 /// One call of a table of descriptors, with the answer that is wanted where it has one.
 #[derive(Clone, Copy)]
 enum Call {
-    Take(u16, SelKind),
-    /// The same with a number.
-    TakeNumbered(u16, SelKind, u8),
+    /// A slot, a kind and a number.
+    Take(u16, SelKind, u8),
     Give(u16),
     /// A slot, a base and a limit.
     Place(u16, u32, u32),
@@ -96,10 +95,7 @@ impl Bench {
     /// Makes a call that changes the table; false where it can't be made.
     fn change(&mut self, call: Call) -> bool {
         match call {
-            Take(slot, kind) if is_free(&self.selectors, slot) => self
-                .selectors
-                .take(slot, kind, 0),
-            TakeNumbered(slot, kind, number) if is_free(&self.selectors, slot) => {
+            Take(slot, kind, number) if is_free(&self.selectors, slot) => {
                 self.selectors.take(slot, kind, number)
             }
             Give(slot) if is_taken(&self.selectors, slot) => self.selectors.give(slot),
@@ -119,8 +115,7 @@ const ABSENT_CODE: Descriptor = Descriptor {
     base: 0,
     limit: 0,
     present: false,
-    kind: Code,
-    number: 0,
+    ..CODE
 };
 
 /// And once it has 32 bytes at 4,096.
@@ -134,11 +129,8 @@ const CODE: Descriptor = Descriptor {
 
 /// The same of the last of 255 selectors.
 const LAST_CODE: Descriptor = Descriptor {
-    base: 4096,
-    limit: 31,
-    present: true,
-    kind: Code,
     number: 254,
+    ..CODE
 };
 
 /// What a row shows, and the calls that are made from six free slots on.
@@ -147,14 +139,14 @@ static ROWS: &[(&str, &[Call])] = &[
         "the lowest free slot is found",
         &[
             LowestFree(Some(32)),
-            Take(32, Data),
-            Take(34, Data),
+            Take(32, Data, 0),
+            Take(34, Data, 0),
             LowestFree(Some(33)),
-            Take(33, Data),
+            Take(33, Data, 0),
             LowestFree(Some(35)),
-            Take(35, Data),
-            Take(36, Data),
-            Take(37, Data),
+            Take(35, Data, 0),
+            Take(36, Data, 0),
+            Take(37, Data, 0),
             LowestFree(None),
             Give(34),
             Give(36),
@@ -169,7 +161,7 @@ static ROWS: &[(&str, &[Call])] = &[
             FindRun(6, Some(32)),
             FindRun(7, None),
             FindRun(0, Some(32)),
-            Take(34, Data),
+            Take(34, Data, 0),
             FindRun(1, Some(32)),
             FindRun(3, Some(35)),
             FindRun(4, None),
@@ -183,7 +175,7 @@ static ROWS: &[(&str, &[Call])] = &[
             IsFreeRun(38, 0, true),
             IsFreeRun(38, 1, false),
             IsFreeRun(40, 0, true),
-            Take(34, Data),
+            Take(34, Data, 0),
             IsFreeRun(32, 2, true),
             IsFreeRun(32, 3, false),
             IsFreeRun(34, 0, true),
@@ -197,7 +189,7 @@ static ROWS: &[(&str, &[Call])] = &[
         "numbers are kept",
         &[
             NumberAt(34, 0),
-            TakeNumbered(34, Code, 254),
+            Take(34, Code, 254),
             NumberAt(34, 254),
             Place(34, 4096, 31),
             NumberAt(34, 254),
@@ -211,7 +203,7 @@ static ROWS: &[(&str, &[Call])] = &[
     (
         "one slot is changed",
         &[
-            Take(34, Code),
+            Take(34, Code, 0),
             Find(279, Some(ABSENT_CODE)),
             Place(34, 4096, 31),
             Find(279, Some(CODE)),
@@ -228,7 +220,7 @@ static ROWS: &[(&str, &[Call])] = &[
     (
         "an access is resolved",
         &[
-            Take(32, Data),
+            Take(32, Data, 0),
             Place(32, 4096, 31),
             Resolve(263, 0, 32, true, Ok(4096)),
             Resolve(263, 31, 1, false, Ok(4127)),
@@ -243,7 +235,7 @@ static ROWS: &[(&str, &[Call])] = &[
     (
         "an access is refused by kind and presence",
         &[
-            Take(32, Code),
+            Take(32, Code, 0),
             Resolve(263, 40, 2, true, Err(ReadOnly)),
             Resolve(263, 40, 2, false, Err(NotPresent)),
             Place(32, 4096, 31),
