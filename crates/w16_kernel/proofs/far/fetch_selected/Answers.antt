@@ -1,18 +1,8 @@
 -- What is fetched is the object that the access asked for.
-use Rattle.w16_kernel.proofs.Common.{inl, inr, refl, ap, ◌∙◌, ◌≡◌, ◌/◌, Some, None, Global, is_some, offset_in, owned_at, true, rules}
+use Rattle.w16_kernel.proofs.Common.{inr, refl, ap, ◌∙◌, ◌≡◌, ◌/◌, Some, None, Global, is_some, offset_in, true, rules}
 use Rattle.std.specs.FinMap as finmap
-use Rattle.w16_kernel.proofs.Refetching.{here, not_needed, resource_fetched, resource_needed}
+use Rattle.w16_kernel.proofs.Refetching.{here, resource_fetched, resource_needed}
 use Rattle.w16_kernel.proofs.far.fetch_selected.Goals as goal
-
--- no module owns it
-pub returns-then-is_owned : goal.returns-then-is_owned
-returns-then-is_owned g c =
-    let none : owned_at c.args.global.now.handles (c.offset_in-handle.result / 8) ≡ None = search rules in
-    inl (
-      not_needed g.S.Store.is_honest c.args.global.now.handles c.args.library.now.registry c.args.library.now.resources (g.S.Store.files c.args.library.now.store) (g.S.Store.failures c.args.library.now.store) c.requires.loading c.args.selector c.requires.absent c.ranges.selector.fits c.offset_in-handle.result (c.offset_in-handle.ensures ∙ ap offset_in c.global_handle.ensures) none,
-      refl,
-      refl,
-    )
 
 pub fetch_segment-requires-clause-segment : goal.fetch_segment-requires-clause-segment
 fetch_segment-requires-clause-segment g c =
