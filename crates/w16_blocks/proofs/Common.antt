@@ -14,7 +14,7 @@ pub use Rattle.w16_blocks.specs.Kept.{AreBegun, AreTables, Begins, BlocksInvaria
 pub use Rattle.w16_blocks.specs.Layout.{AreNamed, Fits, FitsFor, IsApart, IsGrained, IsOrdered, Layout, all_but, from_address, holes_of, placed, range_of, rank, renamed, replaced, with_other_id}
 pub use Rattle.w16_blocks.specs.Parts.{IsBehindAll, IsFirstBlock, IsFirstHole}
 pub use Rattle.w16_blocks.specs.Runs.{IsBare, IsCut, IsRun, slid_with}
-pub use Rattle.w16_blocks.specs.Stay.{AreSameOutsideBoth}
+pub use Rattle.w16_blocks.specs.Stay.{AreSameOutsideBoth, HasRange, Leaves}
 pub use Rattle.w16_holes.proofs.Common.{AreHoles, AreSameIn, AreSameOutside, IsFree, IsIn, IsPart, IsPlace, IsSameOutside, IsUsed, Range, add_span, drop-put_part, eqb_tells, get_or-set_other, get_or-set_same, joined, le-ltb, length-put_part, length-replicate, length-set, length_at, lt-ltb, part_above, part_below, set-get_or, slice_index, take-put_part, taken, ◌^◌}
 pub use Rattle.w16_holes.specs.Holes.{AreSameBut, slid_down}
 pub use Rattle.w16_holes.specs.declared.holes.TheConstants.{LAST_END}

@@ -93,7 +93,7 @@ impl<H: HoleList> Blocks<H> {
     ghost use Rattle.w16_holes.specs.Holes.{lowest, add_span, AreSameOutside};
     ghost use Rattle.w16_model.specs.Bytes.{part};
     ghost use Rattle.w16_region.specs.Bytes.{counted};
-    ghost use Rattle.w16_blocks.specs.Stay.{AreSameOutsideBoth};
+    ghost use Rattle.w16_blocks.specs.Stay.{AreSameOutsideBoth, HasRange, Leaves};
     ghost use Rattle.w16_blocks.specs.Layout.{Layout, IsApart, IsOrdered, Fits, FitsFor, placed, all_but, replaced, rank, holes_of};
 
     /// No blocks yet, between `lo` and `hi`, with ids below `cap`, at multiples of the grain, over holes of which all that is one. All the
@@ -160,10 +160,8 @@ impl<H: HoleList> Blocks<H> {
         requires kept { H.are_in (holes_of self.old) (S.bytes space.old) }
         ensures value { self.new ≡ record self.old { blocks = placed block self.old.blocks } }
         ensures ordered { IsOrdered self.new }
-        ensures kept { H.are_in (holes_of self.new) (S.bytes space.new) }
-        ensures bytes { AreSameOutside (holes_of self.old) (S.bytes space.old) (S.bytes space.new) }
         ensures written { S.written space.new ≡ S.written space.old }
-        ensures lenders { S.lenders space.new ≡ S.lenders space.old }
+        ensures rest { Leaves H.are_in S.bytes S.lenders (holes_of self.new) (AreSameOutside (holes_of self.old)) space.old space.new }
     {
         let unit = unit_of(block.at, self.lo, self.grain);
         self.holes.take(space, block.at, block.size);
@@ -180,14 +178,11 @@ impl<H: HoleList> Blocks<H> {
         H: Holes<S>,
         requires id { id < self.old.cap }
         requires known { IsSome (block_with self.old.blocks id) }
-        requires kept { H.are_in (holes_of self.old) (S.bytes space.old) }
-        requires inside { self.old.hi ≤ length (S.bytes space.old) }
+        requires memory { HasRange H.are_in (holes_of self.old) self.old.hi (S.bytes space.old) }
         ensures value { self.new ≡ record self.old { blocks = all_but id self.old.blocks } }
         ensures ordered { IsOrdered self.new }
-        ensures kept { H.are_in (holes_of self.new) (S.bytes space.new) }
-        ensures bytes { AreSameOutside (holes_of self.new) (S.bytes space.old) (S.bytes space.new) }
         ensures written { S.written space.new ≡ S.written space.old }
-        ensures lenders { S.lenders space.new ≡ S.lenders space.old }
+        ensures rest { Leaves H.are_in S.bytes S.lenders (holes_of self.new) (AreSameOutside (holes_of self.new)) space.old space.new }
     {
         let block = self.block_of(id);
         let unit = unit_of(block.at, self.lo, self.grain);
@@ -206,14 +201,11 @@ impl<H: HoleList> Blocks<H> {
         requires id { id < self.old.cap }
         requires known { IsSome (block_with self.old.blocks id) }
         requires fits { ForSome (block_with self.old.blocks id) (λ b. FitsFor self.old (record b { size = size })) }
-        requires kept { H.are_in (holes_of self.old) (S.bytes space.old) }
-        requires inside { self.old.hi ≤ length (S.bytes space.old) }
+        requires memory { HasRange H.are_in (holes_of self.old) self.old.hi (S.bytes space.old) }
         ensures value { IfSome (block_with self.old.blocks id) (λ b. self.new ≡ record self.old { blocks = replaced (record b { size = size }) self.old.blocks }) }
         ensures ordered { IsOrdered self.new }
-        ensures kept { H.are_in (holes_of self.new) (S.bytes space.new) }
-        ensures bytes { AreSameOutsideBoth (holes_of self.old) (holes_of self.new) (S.bytes space.old) (S.bytes space.new) }
         ensures written { S.written space.new ≡ S.written space.old }
-        ensures lenders { S.lenders space.new ≡ S.lenders space.old }
+        ensures rest { Leaves H.are_in S.bytes S.lenders (holes_of self.new) (AreSameOutsideBoth (holes_of self.old) (holes_of self.new)) space.old space.new }
     {
         let block = self.block_of(id);
         if block.size < size {
@@ -233,10 +225,8 @@ impl<H: HoleList> Blocks<H> {
         requires kept { H.are_in (holes_of self.old) (S.bytes space.old) }
         ensures value { self.new ≡ record self.old { blocks = replaced (record block { size = size }) self.old.blocks } }
         ensures ordered { IsOrdered self.new }
-        ensures kept { H.are_in (holes_of self.new) (S.bytes space.new) }
-        ensures bytes { AreSameOutside (holes_of self.old) (S.bytes space.old) (S.bytes space.new) }
         ensures written { S.written space.new ≡ S.written space.old }
-        ensures lenders { S.lenders space.new ≡ S.lenders space.old }
+        ensures rest { Leaves H.are_in S.bytes S.lenders (holes_of self.new) (AreSameOutside (holes_of self.old)) space.old space.new }
     {
         let more = size - block.size;
         self.holes.take(space, block.at + block.size, more);
@@ -252,14 +242,11 @@ impl<H: HoleList> Blocks<H> {
         requires known { block_with self.old.blocks block.id ≡ Some block }
         requires less { size < block.size }
         requires fits { FitsFor self.old (record block { size = size }) }
-        requires kept { H.are_in (holes_of self.old) (S.bytes space.old) }
-        requires inside { self.old.hi ≤ length (S.bytes space.old) }
+        requires memory { HasRange H.are_in (holes_of self.old) self.old.hi (S.bytes space.old) }
         ensures value { self.new ≡ record self.old { blocks = replaced (record block { size = size }) self.old.blocks } }
         ensures ordered { IsOrdered self.new }
-        ensures kept { H.are_in (holes_of self.new) (S.bytes space.new) }
-        ensures bytes { AreSameOutside (holes_of self.new) (S.bytes space.old) (S.bytes space.new) }
         ensures written { S.written space.new ≡ S.written space.old }
-        ensures lenders { S.lenders space.new ≡ S.lenders space.old }
+        ensures rest { Leaves H.are_in S.bytes S.lenders (holes_of self.new) (AreSameOutside (holes_of self.new)) space.old space.new }
     {
         let less = block.size - size;
         self.holes.put(space, block.at + size, less);
@@ -277,15 +264,12 @@ impl<H: HoleList> Blocks<H> {
         requires more { block.size ≤ size }
         requires fits { FitsFor self.old (record block { at = to; size = size }) }
         requires apart { IsApart (record block { at = to; size = size }) block }
-        requires kept { H.are_in (holes_of self.old) (S.bytes space.old) }
-        requires inside { self.old.hi ≤ length (S.bytes space.old) }
+        requires memory { HasRange H.are_in (holes_of self.old) self.old.hi (S.bytes space.old) }
         ensures value { self.new ≡ record self.old { blocks = replaced (record block { at = to; size = size }) self.old.blocks } }
         ensures ordered { IsOrdered self.new }
-        ensures kept { H.are_in (holes_of self.new) (S.bytes space.new) }
         ensures contents { part (S.bytes space.new) to block.size ≡ part (S.bytes space.old) block.at block.size }
-        ensures bytes { AreSameOutsideBoth (holes_of self.old) (holes_of self.new) (S.bytes space.old) (S.bytes space.new) }
         ensures written { S.written space.new ≡ counted (S.written space.old) block.size }
-        ensures lenders { S.lenders space.new ≡ S.lenders space.old }
+        ensures rest { Leaves H.are_in S.bytes S.lenders (holes_of self.new) (AreSameOutsideBoth (holes_of self.old) (holes_of self.new)) space.old space.new }
     {
         let from_unit = unit_of(block.at, self.lo, self.grain);
         let to_unit = unit_of(to, self.lo, self.grain);
@@ -313,14 +297,11 @@ impl<H: HoleList> Blocks<H> {
         requires reserved { end ≤ LAST_END }
         requires low { IsMultiple self.old.grain self.old.hi }
         requires high { IsMultiple self.old.grain end }
-        requires kept { H.are_in (holes_of self.old) (S.bytes space.old) }
-        requires inside { end ≤ length (S.bytes space.old) }
+        requires memory { HasRange H.are_in (holes_of self.old) end (S.bytes space.old) }
         ensures value { self.new ≡ record self.old { hi = end } }
         ensures ordered { IsOrdered self.new }
-        ensures kept { H.are_in (holes_of self.new) (S.bytes space.new) }
-        ensures bytes { AreSameOutside (holes_of self.new) (S.bytes space.old) (S.bytes space.new) }
         ensures written { S.written space.new ≡ S.written space.old }
-        ensures lenders { S.lenders space.new ≡ S.lenders space.old }
+        ensures rest { Leaves H.are_in S.bytes S.lenders (holes_of self.new) (AreSameOutside (holes_of self.new)) space.old space.new }
     {
         let from = self.hi;
         if from < end {

@@ -55,6 +55,7 @@ impl<H: HoleList> Blocks<H> {
     ghost use Rattle.w16_region.specs.Bytes.{counted};
     ghost use Rattle.w16_blocks.specs.Layout.{IsOrdered, holes_of};
     ghost use Rattle.w16_holes.specs.Holes.{AreSameBut};
+    ghost use Rattle.w16_blocks.specs.Stay.{HasRange, Leaves};
     ghost use Rattle.w16_blocks.specs.Runs.{IsCut, BeginsAt};
 
     /// Where the run of blocks begins that stand one behind another up to a place: at `low` at the earliest, which no block reaches over,
@@ -91,15 +92,12 @@ impl<H: HoleList> Blocks<H> {
         requires grained { IsMultiple self.old.grain to }
         requires up { (run.from < to) × (to + (run.to - run.from) ≤ self.old.hi) }
         requires bare { IsBare run.to (to + (run.to - run.from)) self.old.blocks }
-        requires kept { H.are_in (holes_of self.old) (S.bytes space.old) }
-        requires inside { self.old.hi ≤ length (S.bytes space.old) }
+        requires memory { HasRange H.are_in (holes_of self.old) self.old.hi (S.bytes space.old) }
         ensures value { self.new ≡ record self.old { blocks = map (slid_with run to) self.old.blocks } }
         ensures ordered { IsOrdered self.new }
-        ensures kept { H.are_in (holes_of self.new) (S.bytes space.new) }
         ensures contents { part (S.bytes space.new) to (run.to - run.from) ≡ part (S.bytes space.old) run.from (run.to - run.from) }
-        ensures bytes { AreSameBut to (run.to - run.from) (holes_of self.old) (holes_of self.new) (S.bytes space.old) (S.bytes space.new) }
         ensures written { S.written space.new ≡ counted (S.written space.old) (run.to - run.from) }
-        ensures lenders { S.lenders space.new ≡ S.lenders space.old }
+        ensures rest { Leaves H.are_in S.bytes S.lenders (holes_of self.new) (AreSameBut to (run.to - run.from) (holes_of self.old) (holes_of self.new)) space.old space.new }
     {
         let size = run.to - run.from;
         let apart = size.min(to - run.from);

@@ -105,6 +105,7 @@ impl<H: HoleList> Blocks<H> {
     ghost use Rattle.w16_region.specs.Bytes.{counted};
     ghost use Rattle.w16_blocks.specs.Layout.{IsOrdered, holes_of};
     ghost use Rattle.w16_holes.specs.Holes.{AreSameBut};
+    ghost use Rattle.w16_blocks.specs.Stay.{HasRange, Leaves};
     ghost use Rattle.w16_blocks.specs.Runs.{IsCut, IsRun, IsBare, EndsAt, slid_with};
 
     /// The block that begins at a place, in one step. None begins at a place outside the bounds, or at no multiple of the grain.
@@ -154,19 +155,16 @@ impl<H: HoleList> Blocks<H> {
         requires whole { IsCut within.from self.old.blocks × IsCut within.to self.old.blocks }
         requires begins { AllByRecursion (λ b. b.at ≢ within.from) self.old.blocks → ⊥ }
         requires bare { IsBare to within.from self.old.blocks }
-        requires kept { H.are_in (holes_of self.old) (S.bytes space.old) }
-        requires inside { self.old.hi ≤ length (S.bytes space.old) }
+        requires memory { HasRange H.are_in (holes_of self.old) self.old.hi (S.bytes space.old) }
         ensures run { IsRun self.old (record { from = within.from; to = result }) }
         ensures some { within.from < result }
         ensures high { result ≤ within.to }
         ensures last { EndsAt self.old within.to result }
         ensures value { self.new ≡ record self.old { blocks = map (slid_with (record { from = within.from; to = result }) to) self.old.blocks } }
         ensures ordered { IsOrdered self.new }
-        ensures kept { H.are_in (holes_of self.new) (S.bytes space.new) }
         ensures contents { part (S.bytes space.new) to (result - within.from) ≡ part (S.bytes space.old) within.from (result - within.from) }
-        ensures bytes { AreSameBut to (result - within.from) (holes_of self.old) (holes_of self.new) (S.bytes space.old) (S.bytes space.new) }
         ensures written { S.written space.new ≡ counted (S.written space.old) (result - within.from) }
-        ensures lenders { S.lenders space.new ≡ S.lenders space.old }
+        ensures rest { Leaves H.are_in S.bytes S.lenders (holes_of self.new) (AreSameBut to (result - within.from) (holes_of self.old) (holes_of self.new)) space.old space.new }
     {
         let bounds = Span {
             from: self.lo,

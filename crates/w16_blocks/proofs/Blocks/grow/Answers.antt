@@ -1,4 +1,4 @@
-use Rattle.w16_blocks.proofs.Common.{List, subst, Span}
+use Rattle.w16_blocks.proofs.Common.{List, subst, Span, AreSameOutside, holes_of, ap, ◌∙◌}
 use Rattle.w16_blocks.proofs.Keeping.{part_taken, free_taken, counts_more, layout_sized, BlocksInvariant-more}
 use Rattle.w16_blocks.proofs.Blocks.grow.Goals as goal
 
@@ -21,5 +21,9 @@ returns-clause-value g c = layout_sized c.self.invariant c.self.inside.slots.ok.
 pub returns-clause-ordered : goal.returns-clause-ordered
 returns-clause-ordered g c = (invariant_of-self g c).tables.ordered
 
-pub returns-clause-kept : goal.returns-clause-kept
-returns-clause-kept g c = subst (λ (hs : List Span). g.H.Holes.are_in hs (g.S.Space.bytes c.take.new.space)) (invariant_of-self g c).between c.take.ensures.kept
+pub returns-clause-rest : goal.returns-clause-rest
+returns-clause-rest g c = record {
+  kept = subst (λ (hs : List Span). g.H.Holes.are_in hs (g.S.Space.bytes c.take.new.space)) (invariant_of-self g c).between c.take.ensures.kept;
+  bytes = subst (λ (hs : List Span). AreSameOutside hs (g.S.Space.bytes c.args.space.now) (g.S.Space.bytes c.take.new.space)) (c.self.invariant.between ∙ ap holes_of c.self.view_is) c.take.ensures.bytes;
+  loans = c.take.ensures.lenders;
+}

@@ -1,4 +1,4 @@
-use Rattle.w16_blocks.proofs.Common.{List, ap, arith, subst, Span, AreSameOutside, Layout}
+use Rattle.w16_blocks.proofs.Common.{List, ap, arith, subst, Span, AreSameOutside, Layout, Leaves}
 use Rattle.w16_blocks.proofs.Keeping.{lies_in, place_grained, part_kept, used_kept, with_size, pins_below, unit_inside, layout_dropped, BlocksInvariant-drop}
 use Rattle.w16_blocks.proofs.Blocks.remove.Goals as goal
 
@@ -18,7 +18,7 @@ pub put-requires-clause-inside : goal.put-requires-clause-inside
 put-requires-clause-inside g c =
     let end = (lies_in c.self.invariant c.self.inside.slots.ok.0 c.self.view_is c.args.id c.block_of-block.ensures.known).2 in
     let top = ap (λ (l : Layout). l.hi) c.self.view_is in
-    let inside = c.requires.inside in omega arith
+    let inside = c.requires.memory.inside in omega arith
 
 pub index_mut-requires-2 : goal.index_mut-requires-2
 index_mut-requires-2 g c =
@@ -41,8 +41,7 @@ returns-clause-value g c = layout_dropped c.self.invariant c.self.inside.slots.o
 pub returns-clause-ordered : goal.returns-clause-ordered
 returns-clause-ordered g c = (invariant_of-self g c).tables.ordered
 
-pub returns-clause-kept : goal.returns-clause-kept
-returns-clause-kept g c = subst (λ (hs : List Span). g.H.Holes.are_in hs (g.S.Space.bytes c.put.new.space)) (invariant_of-self g c).between c.put.ensures.kept
-
-pub returns-clause-bytes : goal.returns-clause-bytes
-returns-clause-bytes g c = subst (λ (hs : List Span). AreSameOutside hs (g.S.Space.bytes c.args.space.now) (g.S.Space.bytes c.put.new.space)) (invariant_of-self g c).between c.put.ensures.bytes
+pub returns-clause-rest : goal.returns-clause-rest
+returns-clause-rest g c =
+    subst (λ (hs : List Span). Leaves g.H.Holes.are_in g.S.Space.bytes g.S.Space.lenders hs (AreSameOutside hs) c.args.space.now c.put.new.space) (invariant_of-self g c).between
+    (record { kept = c.put.ensures.kept; bytes = c.put.ensures.bytes; loans = c.put.ensures.lenders })

@@ -1,4 +1,4 @@
-use Rattle.w16_blocks.proofs.Common.{◌+◌, ◌-◌, List, ap, ◌∙◌, subst, Span, joined, AreSameOutside}
+use Rattle.w16_blocks.proofs.Common.{◌+◌, ◌-◌, List, ap, ◌∙◌, subst, Span, joined, AreSameOutside, Leaves}
 use Rattle.w16_blocks.proofs.Later.{used_later, part_later, BlocksInvariant-later}
 use Rattle.w16_blocks.proofs.Blocks.set_end.Goals as goal
 
@@ -16,8 +16,7 @@ invariant_of-self g c =
 pub returns-then-from-end-clause-ordered : goal.returns-then-from-end-clause-ordered
 returns-then-from-end-clause-ordered g c = (invariant_of-self g c).tables.ordered
 
-pub returns-then-from-end-clause-kept : goal.returns-then-from-end-clause-kept
-returns-then-from-end-clause-kept g c = subst (λ (hs : List Span). g.H.Holes.are_in hs (g.S.Space.bytes c.put.new.space)) (invariant_of-self g c).between c.put.ensures.kept
-
-pub returns-then-from-end-clause-bytes : goal.returns-then-from-end-clause-bytes
-returns-then-from-end-clause-bytes g c = subst (λ (hs : List Span). AreSameOutside hs (g.S.Space.bytes c.args.space.now) (g.S.Space.bytes c.put.new.space)) (invariant_of-self g c).between c.put.ensures.bytes
+pub returns-then-from-end-clause-rest : goal.returns-then-from-end-clause-rest
+returns-then-from-end-clause-rest g c =
+    subst (λ (hs : List Span). Leaves g.H.Holes.are_in g.S.Space.bytes g.S.Space.lenders hs (AreSameOutside hs) c.args.space.now c.put.new.space) (invariant_of-self g c).between
+    (record { kept = c.put.ensures.kept; bytes = c.put.ensures.bytes; loans = c.put.ensures.lenders })

@@ -63,7 +63,7 @@ slide_down-requires-clause-used g c =
 
 pub slide_down-requires-clause-inside : goal.slide_down-requires-clause-inside
 slide_down-requires-clause-inside g c =
-    let w = way g (goal.at.slide_down-requires-clause-inside g c).After-retag_run-end in let top = w.0.inside.2 in let inside = c.requires.inside in omega arith
+    let w = way g (goal.at.slide_down-requires-clause-inside g c).After-retag_run-end in let top = w.0.inside.2 in let inside = c.requires.memory.inside in omega arith
 
 pub invariant_of-self : goal.invariant_of-self
 invariant_of-self g c =
@@ -83,15 +83,6 @@ returns-clause-some g c = (way g (goal.at.returns-clause-some g c).After-retag_r
 pub returns-clause-last : goal.returns-clause-last
 returns-clause-last g c = subst (λ (l : Layout). EndsAt l c.args.within.to c.retag_run-end.result) (same g (goal.at.returns-clause-last g c).After-retag_run-end) c.retag_run-end.ensures.last
 
-pub returns-clause-kept : goal.returns-clause-kept
-returns-clause-kept g c = subst (λ (hs : List Span). g.H.Holes.are_in hs (g.S.Space.bytes c.slide_down.new.space)) (invariant_of-self g c).between c.slide_down.ensures.kept
-
-pub returns-clause-bytes : goal.returns-clause-bytes
-returns-clause-bytes g c =
-    let n = c.retag_run-end.result - c.args.within.from in
-    subst (λ (hs : List Span). AreSameBut c.args.to n (holes_of c.args.self.now) hs (g.S.Space.bytes c.args.space.now) (g.S.Space.bytes c.slide_down.new.space)) (invariant_of-self g c).between
-    (subst (λ (hs : List Span). AreSameBut c.args.to n hs (g.H.HoleList.holes c.slide_down.new.self) (g.S.Space.bytes c.args.space.now) (g.S.Space.bytes c.slide_down.new.space)) (c.self.invariant.between ∙ ap holes_of c.self.view_is) c.slide_down.ensures.bytes)
-
 pub returns-clause-value : goal.returns-clause-value
 returns-clause-value g c =
     let s = c.self.inside in let d = (goal.at.returns-clause-value g c).After-retag_run-end in
@@ -99,3 +90,13 @@ returns-clause-value g c =
 
 pub returns-clause-ordered : goal.returns-clause-ordered
 returns-clause-ordered g c = (invariant_of-self g c).tables.ordered
+
+pub returns-clause-rest : goal.returns-clause-rest
+returns-clause-rest g c = record {
+  kept = subst (λ (hs : List Span). g.H.Holes.are_in hs (g.S.Space.bytes c.slide_down.new.space)) (invariant_of-self g c).between c.slide_down.ensures.kept;
+  bytes =
+    let n = c.retag_run-end.result - c.args.within.from in
+    subst (λ (hs : List Span). AreSameBut c.args.to n (holes_of c.args.self.now) hs (g.S.Space.bytes c.args.space.now) (g.S.Space.bytes c.slide_down.new.space)) (invariant_of-self g c).between
+    (subst (λ (hs : List Span). AreSameBut c.args.to n hs (g.H.HoleList.holes c.slide_down.new.self) (g.S.Space.bytes c.args.space.now) (g.S.Space.bytes c.slide_down.new.space)) (c.self.invariant.between ∙ ap holes_of c.self.view_is) c.slide_down.ensures.bytes);
+  loans = c.slide_down.ensures.lenders;
+}
