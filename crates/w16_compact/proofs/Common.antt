@@ -24,6 +24,7 @@ pub use Rattle.w16_compact.specs.Gap.{HasRoom, IsLowest, others, without}
 pub use Rattle.w16_compact.specs.Gather.{AreSlid, FitsGap, MayGather, contents, gathered, moved_between, packed}
 pub use Rattle.w16_compact.specs.Open.{end_in, opened, raised, raised_in, spare_in, with_loose}
 pub use Rattle.w16_compact.specs.Rest.{IsSameRest}
+pub use Rattle.w16_blocks.specs.Stay.{HasRange, Leaves}
 pub use Rattle.w16_compact.specs.Told.{AreTold, Tells}
 pub use Rattle.w16_compact.specs.declared.gaps.Gap.{Gap}
 pub use Rattle.w16_compact.specs.declared.reach.Reached.{Reached}

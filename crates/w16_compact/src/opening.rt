@@ -11,6 +11,7 @@ ghost use Rattle.w16_blocks.specs.Runs.{IsRun, IsBare, slid_with};
 ghost use Rattle.w16_compact.specs.Gather.{contents, moved_between, MayGather, AreSlid};
 ghost use Rattle.w16_compact.specs.Open.{with_loose, raised, opened, end_in, spare_in};
 ghost use Rattle.w16_compact.specs.Rest.{IsSameRest};
+ghost use Rattle.w16_blocks.specs.Stay.{HasRange, Leaves};
 
 use crate::slide::{gather, reveal_order};
 use w16_blocks::{Block, Blocks, Hold, Span};
@@ -36,13 +37,11 @@ pub fn open<S: Space, H: Holes<S>>(
     requires within { IfSome (block_with blocks.old.blocks id) (λ b. (low ≤ b.at) × (block_end b ≤ high)) }
     requires gap { MayGather (with_loose id blocks.old) low high }
     requires grained { IsMultiple blocks.old.grain low × IsMultiple blocks.old.grain high }
-    requires kept { H.are_in (holes_of blocks.old) (S.bytes space.old) }
-    requires inside { blocks.old.hi ≤ length (S.bytes space.old) }
+    requires memory { HasRange H.are_in (holes_of blocks.old) blocks.old.hi (S.bytes space.old) }
     ensures blocks { IfSome (block_with blocks.old.blocks id) (λ b.
         let old = with_loose id blocks.old in
         with_loose id blocks.new ≡ record old { blocks = opened low (block_end b) high old.blocks }) }
     ensures ordered { IsOrdered blocks.new }
-    ensures kept { H.are_in (holes_of blocks.new) (S.bytes space.new) }
     ensures slid { AreSlid (with_loose id blocks.old).blocks (with_loose id blocks.new).blocks }
     ensures contents { contents (S.bytes space.new) blocks.new.blocks
         ≡ contents (S.bytes space.old) blocks.old.blocks }
@@ -71,7 +70,7 @@ pub fn open<S: Space, H: Holes<S>>(
         → (q ≤ low) ⊎ (high ≤ p) }
     ensures moved { result ≡ moved_between blocks.old.blocks blocks.new.blocks }
     ensures written { S.written space.new ≡ counted (S.written space.old) result }
-    ensures rest { IsSameRest S.bytes S.lenders blocks.old.lo blocks.old.hi space.old space.new }
+    ensures rest { Leaves H.are_in S.bytes S.lenders (holes_of blocks.new) (IsSameRest blocks.old.lo blocks.old.hi) space.old space.new }
 {
     let Some(block) = blocks.find(id) else {
         unreachable!();
@@ -95,12 +94,10 @@ fn open_loose<S: Space, H: Holes<S>>(
     requires within { IfSome (block_with blocks.old.blocks id) (λ b. (low ≤ b.at) × (block_end b ≤ high)) }
     requires gap { MayGather blocks.old low high }
     requires grained { IsMultiple blocks.old.grain low × IsMultiple blocks.old.grain high }
-    requires kept { H.are_in (holes_of blocks.old) (S.bytes space.old) }
-    requires inside { blocks.old.hi ≤ length (S.bytes space.old) }
+    requires memory { HasRange H.are_in (holes_of blocks.old) blocks.old.hi (S.bytes space.old) }
     ensures blocks { IfSome (block_with blocks.old.blocks id) (λ b. blocks.new
         ≡ record blocks.old { blocks = opened low (block_end b) high blocks.old.blocks }) }
     ensures ordered { IsOrdered blocks.new }
-    ensures kept { H.are_in (holes_of blocks.new) (S.bytes space.new) }
     ensures slid { AreSlid blocks.old.blocks blocks.new.blocks }
     ensures contents { contents (S.bytes space.new) blocks.new.blocks
         ≡ contents (S.bytes space.old) blocks.old.blocks }
@@ -127,7 +124,7 @@ fn open_loose<S: Space, H: Holes<S>>(
         → (q ≤ low) ⊎ (high ≤ p) }
     ensures moved { result ≡ moved_between blocks.old.blocks blocks.new.blocks }
     ensures written { S.written space.new ≡ counted (S.written space.old) result }
-    ensures rest { IsSameRest S.bytes S.lenders blocks.old.lo blocks.old.hi space.old space.new }
+    ensures rest { Leaves H.are_in S.bytes S.lenders (holes_of blocks.new) (IsSameRest blocks.old.lo blocks.old.hi) space.old space.new }
 {
     let Some(block) = blocks.find(id) else {
         unreachable!();
@@ -142,17 +139,15 @@ fn open_loose<S: Space, H: Holes<S>>(
 fn raise<S: Space, H: Holes<S>>(blocks: &mut Blocks<H>, space: &mut S, low: u32, high: u32) -> u64
     requires gap { MayGather blocks.old low high }
     requires grained { IsMultiple blocks.old.grain high }
-    requires kept { H.are_in (holes_of blocks.old) (S.bytes space.old) }
-    requires inside { blocks.old.hi ≤ length (S.bytes space.old) }
+    requires memory { HasRange H.are_in (holes_of blocks.old) blocks.old.hi (S.bytes space.old) }
     ensures blocks { blocks.new ≡ record blocks.old { blocks = raised low high blocks.old.blocks } }
     ensures ordered { IsOrdered blocks.new }
-    ensures kept { H.are_in (holes_of blocks.new) (S.bytes space.new) }
     ensures slid { AreSlid blocks.old.blocks blocks.new.blocks }
     ensures contents { contents (S.bytes space.new) blocks.new.blocks
         ≡ contents (S.bytes space.old) blocks.old.blocks }
     ensures moved { result ≡ moved_between blocks.old.blocks blocks.new.blocks }
     ensures written { S.written space.new ≡ counted (S.written space.old) result }
-    ensures rest { IsSameRest S.bytes S.lenders blocks.old.lo blocks.old.hi space.old space.new }
+    ensures rest { Leaves H.are_in S.bytes S.lenders (holes_of blocks.new) (IsSameRest blocks.old.lo blocks.old.hi) space.old space.new }
 {
     reveal_order(blocks);
     let mut from = high;
@@ -193,16 +188,14 @@ fn lift<S: Space, H: Holes<S>>(blocks: &mut Blocks<H>, space: &mut S, run: Span,
     requires bare { IsBare run.to (to + (run.to - run.from)) blocks.old.blocks }
     requires grained { IsMultiple blocks.old.grain to }
     requires up { (run.from ≤ to) × (to + (run.to - run.from) ≤ blocks.old.hi) }
-    requires kept { H.are_in (holes_of blocks.old) (S.bytes space.old) }
-    requires inside { blocks.old.hi ≤ length (S.bytes space.old) }
+    requires memory { HasRange H.are_in (holes_of blocks.old) blocks.old.hi (S.bytes space.old) }
     ensures blocks { blocks.new ≡ record blocks.old { blocks = map (slid_with run to) blocks.old.blocks } }
     ensures ordered { IsOrdered blocks.new }
-    ensures kept { H.are_in (holes_of blocks.new) (S.bytes space.new) }
     ensures contents { contents (S.bytes space.new) blocks.new.blocks
         ≡ contents (S.bytes space.old) blocks.old.blocks }
     ensures moved { result ≡ (if run.from == to then 0 else run.to - run.from) }
     ensures written { S.written space.new ≡ counted (S.written space.old) result }
-    ensures rest { IsSameRest S.bytes S.lenders blocks.old.lo blocks.old.hi space.old space.new }
+    ensures rest { Leaves H.are_in S.bytes S.lenders (holes_of blocks.new) (IsSameRest blocks.old.lo blocks.old.hi) space.old space.new }
 {
     if run.from == to {
         return 0;

@@ -9,6 +9,7 @@ ghost use Rattle.w16_blocks.specs.Layout.{IsOrdered, holes_of, rank};
 ghost use Rattle.w16_blocks.specs.Runs.{IsCut, IsRun, IsBare, EndsAt, slid_with};
 ghost use Rattle.w16_compact.specs.Gather.{gathered, contents, moved_between, MayGather, AreSlid};
 ghost use Rattle.w16_compact.specs.Rest.{IsSameRest};
+ghost use Rattle.w16_blocks.specs.Stay.{HasRange, Leaves};
 
 use w16_blocks::{Block, Blocks, Span};
 use w16_holes::{HoleList, Holes};
@@ -28,12 +29,10 @@ pub fn gather<S: Space, H: Holes<S>>(
 ) -> u64
     requires gap { MayGather blocks.old low high }
     requires grained { IsMultiple blocks.old.grain low }
-    requires kept { H.are_in (holes_of blocks.old) (S.bytes space.old) }
-    requires inside { blocks.old.hi ≤ length (S.bytes space.old) }
+    requires memory { HasRange H.are_in (holes_of blocks.old) blocks.old.hi (S.bytes space.old) }
     ensures blocks { blocks.new
         ≡ record blocks.old { blocks = gathered low high blocks.old.blocks } }
     ensures ordered { IsOrdered blocks.new }
-    ensures kept { H.are_in (holes_of blocks.new) (S.bytes space.new) }
     ensures slid { AreSlid blocks.old.blocks blocks.new.blocks }
     ensures contents { contents (S.bytes space.new) blocks.new.blocks
         ≡ contents (S.bytes space.old) blocks.old.blocks }
@@ -52,7 +51,7 @@ pub fn gather<S: Space, H: Holes<S>>(
         → (b ≤ low) ⊎ (high ≤ a) }
     ensures moved { result ≡ moved_between blocks.old.blocks blocks.new.blocks }
     ensures written { S.written space.new ≡ counted (S.written space.old) result }
-    ensures rest { IsSameRest S.bytes S.lenders blocks.old.lo blocks.old.hi space.old space.new }
+    ensures rest { Leaves H.are_in S.bytes S.lenders (holes_of blocks.new) (IsSameRest blocks.old.lo blocks.old.hi) space.old space.new }
 {
     reveal_order(blocks);
     let mut to = packed_to(blocks, space, low, high);
@@ -135,18 +134,16 @@ fn settle<S: Space, H: Holes<S>>(
     requires whole { IsCut within.from blocks.old.blocks × IsCut within.to blocks.old.blocks }
     requires begins { AllByRecursion (λ b. b.at ≢ within.from) blocks.old.blocks → ⊥ }
     requires bare { IsBare to within.from blocks.old.blocks }
-    requires kept { H.are_in (holes_of blocks.old) (S.bytes space.old) }
-    requires inside { blocks.old.hi ≤ length (S.bytes space.old) }
+    requires memory { HasRange H.are_in (holes_of blocks.old) blocks.old.hi (S.bytes space.old) }
     ensures run { IsRun blocks.old (record { from = within.from; to = result }) }
     ensures high { result ≤ within.to }
     ensures last { EndsAt blocks.old within.to result }
     ensures blocks { blocks.new ≡ record blocks.old { blocks = map (slid_with (record { from = within.from; to = result }) to) blocks.old.blocks } }
     ensures ordered { IsOrdered blocks.new }
-    ensures kept { H.are_in (holes_of blocks.new) (S.bytes space.new) }
     ensures contents { contents (S.bytes space.new) blocks.new.blocks
         ≡ contents (S.bytes space.old) blocks.old.blocks }
     ensures written { S.written space.new ≡ counted (S.written space.old) (if within.from == to then 0 else result - within.from) }
-    ensures rest { IsSameRest S.bytes S.lenders blocks.old.lo blocks.old.hi space.old space.new }
+    ensures rest { Leaves H.are_in S.bytes S.lenders (holes_of blocks.new) (IsSameRest blocks.old.lo blocks.old.hi) space.old space.new }
 {
     if within.from == to {
         return blocks.run_end(to, within.to);

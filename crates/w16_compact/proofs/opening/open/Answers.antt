@@ -1,4 +1,4 @@
-use Rattle.w16_compact.proofs.Common.{ℕ, ◌≡◌, ◌+◌, ◌<◌, ◌≤◌, ◌⊎◌, ◌∙◌, List, Option, Some, IfSome, IsSome, refl, sym, ap, subst, Block, Loose, IsClear, IsGap, IsHole, is_any, block_end, loose_bytes, block_with, Layout, IsOrdered, holes_of, replaced, contents, moved_between, AreSlid, MayGather, with_loose, opened, end_in, spare_in}
+use Rattle.w16_compact.proofs.Common.{ℕ, ◌≡◌, ◌+◌, ◌<◌, ◌≤◌, ◌⊎◌, ◌∙◌, List, Option, Some, IfSome, IsSome, refl, sym, ap, subst, Block, Loose, IsClear, IsGap, IsHole, is_any, block_end, loose_bytes, block_with, Layout, IsOrdered, holes_of, replaced, contents, moved_between, AreSlid, MayGather, with_loose, opened, end_in, spare_in, length, IsSameRest, HasRange, Leaves}
 use Rattle.w16_compact.proofs.Opened.{of_known, if_known}
 use Rattle.w16_compact.proofs.Loosened.{held, with_hold, clear_held, contents_held, hole_held, hole_unheld, holes_held, loosened_back, moved_from, moved_to, own_held, set_held}
 use Rattle.w16_compact.proofs.opening.open.Given as Given
@@ -87,9 +87,12 @@ pub open_loose-moved-requires-clause-gap : goal.open_loose-moved-requires-clause
 open_loose-moved-requires-clause-gap g c =
     subst (λ k. MayGather k c.args.low c.args.high) (sym (begun_is c.args.blocks.now c.find.ensures.ordered c.args.id c.in-Some.block (sym c.in-Some.ensures.value) _ c.set_hold.ensures.value)) c.requires.gap
 
-pub open_loose-moved-requires-clause-kept : goal.open_loose-moved-requires-clause-kept
-open_loose-moved-requires-clause-kept g c =
-    subst (λ hs. g.H.Holes.are_in hs (g.S.Space.bytes c.args.space.now)) (begun_holes c.args.blocks.now c.find.ensures.ordered c.args.id c.in-Some.block (sym c.in-Some.ensures.value) _ c.set_hold.ensures.value) c.requires.kept
+pub open_loose-moved-requires-clause-memory : goal.open_loose-moved-requires-clause-memory
+open_loose-moved-requires-clause-memory g c =
+    let same = begun_is c.args.blocks.now c.find.ensures.ordered c.args.id c.in-Some.block (sym c.in-Some.ensures.value) _ c.set_hold.ensures.value in record {
+      kept = subst (λ hs. g.H.Holes.are_in hs (g.S.Space.bytes c.args.space.now)) (begun_holes c.args.blocks.now c.find.ensures.ordered c.args.id c.in-Some.block (sym c.in-Some.ensures.value) _ c.set_hold.ensures.value) c.requires.memory.kept;
+      inside = subst (λ (n : ℕ). n ≤ length (g.S.Space.bytes c.args.space.now)) (sym (ap (λ (l : Layout). l.hi) same)) c.requires.memory.inside;
+    }
 
 pub set_hold-requires-2-clause-known : goal.set_hold-requires-2-clause-known
 set_hold-requires-2-clause-known g c =
@@ -141,11 +144,15 @@ module _ (g : Given.Over) (c : goal.After-set_hold-2 g) where
   begun_old : c.set_hold.new.self ≡ old
   begun_old = begun_is l c.find.ensures.ordered c.args.id block known _ c.set_hold.ensures.value
 
-pub returns-clause-kept : goal.returns-clause-kept
-returns-clause-kept g c =
+pub returns-clause-rest : goal.returns-clause-rest
+returns-clause-rest g c =
     let e = c.open_loose-moved.ensures in
-    subst (λ hs. g.H.Holes.are_in hs (g.S.Space.bytes c.open_loose-moved.new.space))
-    (new_holes c.args.blocks.now c.find.ensures.ordered c.args.id c.in-Some.block (sym c.in-Some.ensures.value) _ c.set_hold.ensures.value c.args.low c.args.high _ e.ordered e.blocks e.place _ c.set_hold-2.ensures.value) e.kept
+    let same = begun_is c.args.blocks.now c.find.ensures.ordered c.args.id c.in-Some.block (sym c.in-Some.ensures.value) _ c.set_hold.ensures.value in record {
+      kept = subst (λ hs. g.H.Holes.are_in hs (g.S.Space.bytes c.open_loose-moved.new.space))
+          (new_holes c.args.blocks.now c.find.ensures.ordered c.args.id c.in-Some.block (sym c.in-Some.ensures.value) _ c.set_hold.ensures.value c.args.low c.args.high _ e.ordered e.blocks e.place _ c.set_hold-2.ensures.value) e.rest.kept;
+      bytes = subst (λ (l : Layout). IsSameRest l.lo l.hi (g.S.Space.bytes c.args.space.now) (g.S.Space.bytes c.open_loose-moved.new.space)) same e.rest.bytes;
+      loans = e.rest.loans;
+    }
 
 pub returns-clause-place : goal.returns-clause-place
 returns-clause-place g c =

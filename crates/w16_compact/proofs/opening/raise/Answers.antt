@@ -1,7 +1,7 @@
 use Rattle.w16_compact.proofs.Common.{ℕ, ◌≡◌, ◌≢◌, Some, inl, inr, ◌-◌, ◌<◌, ◌≤◌, ◌⊎◌, ◌∙◌, arith, refl, sym, ap, subst, cases_lt, AllByRecursion, Block, block_end, IsMultiple, block_with, multiple_sum, Layout, IsOrdered, IsRun, BeginsAt, each_with, lies, multiple_less, grained_known, moved_between, AreSlid, raised}
 use Rattle.w16_compact.proofs.Gathering.{cut_low, cut_high, at_most}
 use Rattle.w16_compact.proofs.Raising.{loose_empty, raised_none, raised_all, moved_start, slid_raised, cut_low_now, cut_end_now, end_below, room_then, bare_then, place_then, list_then, cut_then, moved_then}
-use Rattle.w16_compact.proofs.Rests.{rest_more, rest_same}
+use Rattle.w16_compact.proofs.Rests.{leaves_more, rest_same}
 use Rattle.w16_compact.proofs.opening.raise.Given as Given
 use Rattle.w16_compact.proofs.opening.raise.Goals as goal
 
@@ -22,8 +22,7 @@ loop-block-init g c =
       small = omega arith;
       written = omega arith;
       contents = refl;
-      kept = c.requires.kept;
-      rest = rest_same _ _ c.args.space.now;
+      rest = record { kept = c.requires.memory.kept; bytes = rest_same _ _ (g.S.Space.bytes c.args.space.now); loans = refl };
     }
 
 -- the run that ends with a block has bytes
@@ -136,8 +135,7 @@ loop-block-preserved g c =
       small = let h = inv.small in omega arith;
       written = let h = inv.written in let k = c.lift.ensures.written in let wide = c.from-moved.ensures in omega (arith, h, k, wide);
       contents = c.lift.ensures.contents ∙ inv.contents;
-      kept = c.lift.ensures.kept;
-      rest = let lo = inv.bounds.1 in let hi = inv.bounds.2 in rest_more inv.rest c.lift.ensures.rest (omega arith) (omega arith);
+      rest = let lo = inv.bounds.1 in let hi = inv.bounds.2 in leaves_more inv.rest c.lift.ensures.rest (omega arith) (omega arith);
     }
 
 module _ (g : Given.Over) (c : goal.In_default g) where

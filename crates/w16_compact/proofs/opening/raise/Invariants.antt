@@ -1,4 +1,4 @@
-use Rattle.w16_compact.proofs.Common.{◌≡◌, ◌+◌, ◌≤◌, loose_bytes, IsMultiple, counted, IsOrdered, holes_of, IsCut, contents, moved_between, raised, IsSameRest}
+use Rattle.w16_compact.proofs.Common.{◌≡◌, ◌+◌, ◌≤◌, loose_bytes, IsMultiple, counted, IsOrdered, holes_of, IsCut, contents, moved_between, raised, IsSameRest, Leaves}
 use Rattle.w16_compact.proofs.opening.raise.Given as goal
 
 abbrev pub invariant-loop-block : goal.invariant-loop-block
@@ -21,8 +21,7 @@ invariant-loop-block g l =
       written : g.S.Space.written l.space ≡ counted (g.S.Space.written l.fn.space) l.moved;
       -- the space
       contents : contents (bytes l.space) l.blocks.blocks ≡ contents (bytes l.fn.space) l.fn.blocks.blocks;
-      kept : g.H.Holes.are_in (holes_of l.blocks) (bytes l.space);
-      rest : IsSameRest bytes g.S.Space.lenders l.fn.blocks.lo l.fn.blocks.hi l.fn.space l.space;
+      rest : Leaves g.H.Holes.are_in bytes g.S.Space.lenders (holes_of l.blocks) (IsSameRest l.fn.blocks.lo l.fn.blocks.hi) l.fn.space l.space;
     }
 
 abbrev pub decreases-loop-block : goal.decreases-loop-block

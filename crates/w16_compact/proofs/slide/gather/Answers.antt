@@ -1,6 +1,6 @@
 use Rattle.w16_compact.proofs.Common.{◌≡◌, ◌≢◌, ◌+◌, ◌-◌, inl, inr, refl, sym, ◌∙◌, ap, subst, arith, AllByRecursion, Span, IsClear, IsHole, is_any, loose_bytes, Layout, gathered, moved_between, FitsGap, AreSlid}
 use Rattle.w16_compact.proofs.Cleared.{slid_gathered, clear_gathered, hole_gathered, alone_gathered}
-use Rattle.w16_compact.proofs.Rests.{rest_more, rest_same}
+use Rattle.w16_compact.proofs.Rests.{leaves_more, rest_same}
 use Rattle.w16_compact.proofs.Order.{each_got}
 use Rattle.w16_compact.proofs.Gathering.{AreKept, kept_start, moved_same, some_run, above, cuts, bare_to, grained_at, fits_then, list_then, run_then, kept_then, moved_step, at_most, list_end}
 use Rattle.w16_compact.proofs.slide.gather.Given as Given
@@ -21,8 +21,7 @@ loop-block-init g c =
       small = omega arith;
       written = omega arith;
       contents = refl;
-      kept = c.requires.kept;
-      rest = rest_same _ _ c.args.space.now;
+      rest = record { kept = c.requires.memory.kept; bytes = rest_same _ _ (g.S.Space.bytes c.args.space.now); loans = refl };
     }
 
 pub settle-requires-clause-part : goal.settle-requires-clause-part
@@ -89,8 +88,7 @@ loop-block-preserved g c =
       small = let h = inv.small in omega arith;
       written = let h = inv.written in let k = c.settle.ensures.written in let wide = c.from-moved.ensures in let own = c.moved_bytes.ensures in omega (arith, h, k, wide, own);
       contents = c.settle.ensures.contents ∙ inv.contents;
-      kept = c.settle.ensures.kept;
-      rest = let lo = inv.bounds.1 in let hi = inv.bounds.2 in rest_more inv.rest c.settle.ensures.rest (omega arith) (omega arith);
+      rest = let lo = inv.bounds.1 in let hi = inv.bounds.2 in leaves_more inv.rest c.settle.ensures.rest (omega arith) (omega arith);
     }
 
 module _ (g : Given.Over) (c : goal.In_default g) where

@@ -1,4 +1,4 @@
-use Rattle.w16_compact.proofs.Common.{◌≡◌, ◌-◌, ◌≤◌, AllByRecursion, counted, IsOrdered, holes_of, IsRun, gathered, contents, moved_between, FitsGap, IsSameRest}
+use Rattle.w16_compact.proofs.Common.{◌≡◌, ◌-◌, ◌≤◌, AllByRecursion, counted, IsOrdered, holes_of, IsRun, gathered, contents, moved_between, FitsGap, IsSameRest, Leaves}
 use Rattle.w16_compact.proofs.Gathering.{AreKept}
 use Rattle.w16_compact.proofs.slide.gather.Given as goal
 
@@ -20,8 +20,7 @@ invariant-loop-block g l =
       written : g.S.Space.written l.space ≡ counted (g.S.Space.written l.fn.space) l.moved;
       -- the space
       contents : contents (bytes l.space) l.blocks.blocks ≡ contents (bytes l.fn.space) l.fn.blocks.blocks;
-      kept : g.H.Holes.are_in (holes_of l.blocks) (bytes l.space);
-      rest : IsSameRest bytes g.S.Space.lenders l.fn.blocks.lo l.fn.blocks.hi l.fn.space l.space;
+      rest : Leaves g.H.Holes.are_in bytes g.S.Space.lenders (holes_of l.blocks) (IsSameRest l.fn.blocks.lo l.fn.blocks.hi) l.fn.space l.space;
     }
 
 abbrev pub decreases-loop-block : goal.decreases-loop-block
