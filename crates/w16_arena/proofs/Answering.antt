@@ -1,6 +1,6 @@
 -- A request, by what was found and made for it.
 use Rattle.std.specs.List.{AllByRecursion as Each}
-use Rattle.w16_arena.proofs.Common.{◌≡◌, ◌≢◌, ℕ, ◌+◌, ◌<◌, ◌≤◌, ◌⊎◌, inl, inr, true, false, ◌&&◌, if◌then◌else◌, IfSome, IsSomeAnd, MatchBool, MatchOption, All, List, [], ◌∷◌, length, take, fold, slice_range, Option, Some, None, option_map, is_some, unwrap_or, refl, sym, ap, ◌∙◌, subst, arith, ne_eqb, eq-eqb, take_all, false≢true, and_parts, cases_eq, cases_Bool, Block, Kind, Discardable, Span, KeepsOthers, RoomOptions, room, longest_hole, is_pinned, eligible, blocks_without, room_for, needed, snapshot, Heap, Object, IsHeap, IsMultiple, blocks, object_at, bytes_at, absent, with_newest, with_ordered, moved_bytes, Allocates, Compacts, MakesRoom, IsNew, Settles, discards_needed, stays_for, discarded, compaction_prefix, eligible_count, most_room, snapshot_of, Table, IsSound, block_with, heap_in, Each-from, place_is, table_longest, sound_heap, taken_here, taken_other, room-discarded, others_law, prefix_hole, prefix_no_hole, prefix_now, prefix_kept, prefix_needed, needed_by_members, needed_enough, eligible_by_members, room_by_members, allocates_after, settles_after, settles_before, moved_after, discarded_all, Layout, Stands, SlidesTogether, HasDiscarded, IsStill, IsPlaced, IsSlid, Discards, first_eligible, Placed, Compacted, GName, IsSameRest, rest_more, ArenaState, IsSameRange, KeepsRest, most_in, room_whole}
+use Rattle.w16_arena.proofs.Common.{◌≡◌, ◌≢◌, ℕ, ◌+◌, ◌<◌, ◌≤◌, ◌⊎◌, inl, inr, true, false, ◌&&◌, if◌then◌else◌, IfSome, IsSomeAnd, MatchBool, MatchOption, All, List, [], ◌∷◌, length, take, fold, slice_range, Option, Some, None, option_map, is_some, unwrap_or, refl, sym, ap, ◌∙◌, subst, arith, ne_eqb, eq-eqb, take_all, false≢true, and_parts, cases_eq, cases_Bool, Block, Kind, Discardable, Span, KeepsOthers, RoomOptions, room, longest_hole, is_pinned, eligible, blocks_without, room_for, needed, snapshot, Heap, Object, IsHeap, IsMultiple, blocks, object_at, bytes_at, absent, with_newest, with_ordered, moved_bytes, Allocates, Compacts, MakesRoom, IsNew, Settles, discards_needed, stays_for, discarded, compaction_prefix, eligible_count, most_room, snapshot_of, Table, IsSound, block_with, heap_in, Each-from, place_is, table_longest, sound_heap, taken_here, taken_other, room-discarded, others_law, prefix_hole, prefix_no_hole, prefix_now, prefix_kept, prefix_needed, needed_by_members, needed_enough, eligible_by_members, room_by_members, allocates_after, settles_after, settles_before, moved_after, discarded_all, Layout, Stands, SlidesTogether, HasDiscarded, IsStill, IsPlaced, IsSlid, Discards, first_eligible, Placed, Compacted, GName, IsSameRest, rest_more, ArenaState, IsSameRange, KeepsRest, most_in, room_whole, Leaves, leaves_more, rest_wider}
 use Rattle.std.specs.FinMap as finmap
 use Rattle.w16_arena.proofs.Parts.{AreParts, range_then}
 use Rattle.w16_arena.proofs.Lookups.{bytes_here}
@@ -32,16 +32,10 @@ still_before heap new k h slid q = from (finmap.get new.places q)
     from None f = tt
     from (Some at) f = λ out. places_before (take k (eligible (blocks heap) heap.order h)) heap q at (f out)
 
--- what a step after another leaves of the rest
-rest_then : {X : Type 0} {bytes : X → List ℕ} {lenders : X → List GName} {old mid new : Table} {x y : X} → IsSameRange old mid → KeepsRest bytes lenders mid x new y → KeepsRest bytes lenders old x new y
-rest_then {X} {bytes} {lenders} {old} {mid} {new} {x} {y} range rest = record {
-  range = range_then range rest.range;
-  memory = subst (λ lo. IsSameRest bytes lenders lo old.hi x y) range.lo (subst (λ hi. IsSameRest bytes lenders mid.lo hi x y) range.hi rest.memory);
-}
-
--- and after a step that kept all but free bytes
-pub rest_after : {X : Type 0} {bytes : X → List ℕ} {lenders : X → List GName} {old mid new : Table} {x y z : X} → IsSameRange old mid → IsSameRest bytes lenders mid.lo mid.hi x y → KeepsRest bytes lenders mid y new z → KeepsRest bytes lenders old x new z
-rest_after {X} {bytes} {lenders} {old} {mid} {new} {x} {y} {z} range first rest = rest_then range (record { range = rest.range; memory = rest_more first rest.memory (omega arith) (omega arith) })
+-- what a step leaves of the rest, after a step that kept all but free bytes
+pub rest_after : {X : Type 0} {are_in : List Span → List ℕ → Type 0} {bytes : X → List ℕ} {lenders : X → List GName} {hs : List Span} {old mid new : Table} {x y z : X} → IsSameRange old mid → Leaves are_in bytes lenders hs (IsSameRest mid.lo mid.hi) x y → KeepsRest are_in bytes lenders mid y new z
+    → KeepsRest are_in bytes lenders old x new z
+rest_after range made rest = let lo = range.lo in let hi = range.hi in record { range = range_then range rest.range; memory = leaves_more (record { kept = made.kept; bytes = rest_wider made.bytes (omega arith) (omega arith); loans = made.loans }) rest.memory (omega arith) (omega arith) }
 
 -- each stands where it stands
 pub still_same : (heap : Heap) (slid : Span) (q : ℕ) → IsStill slid heap heap q

@@ -1,5 +1,6 @@
 -- What the call for a place leaves kept and answers.
-use Rattle.w16_arena.proofs.Common.{◌≡◌, ℕ, ◌+◌, ◌<◌, ◌≤◌, true, false, ◌&&◌, if◌then◌else◌, All, List, length, set, slice_range, Option, Some, None, refl, ap, ◌∙◌, subst, sym, arith, length-set, Entry, Hold, Kind, RoomOptions, IsMultiple, is_discardable, newest, with_newest, IsNew, block_with, hold_of_entry, heap_in, put_part, repeated, Layout, IsOrdered, Fits, placed, moved_between, Uses, Placed, Stands, GName, IsSameRest, ArenaState, KeepsRest, table_of, heap_of, ArenaInvariant, AreMoved, AreFreeBytes, rest_more}
+use Rattle.w16_arena.proofs.Keeping.{leaves_cleared, used_placed}
+use Rattle.w16_arena.proofs.Common.{◌≡◌, ℕ, ◌+◌, ◌<◌, ◌≤◌, true, false, ◌&&◌, if◌then◌else◌, All, List, length, set, slice_range, Option, Some, None, refl, ap, ◌∙◌, subst, sym, arith, length-set, Entry, Hold, Kind, RoomOptions, IsMultiple, is_discardable, newest, with_newest, IsNew, block_with, hold_of_entry, heap_in, put_part, repeated, Layout, IsOrdered, Fits, placed, moved_between, Uses, Placed, Stands, GName, IsSameRest, ArenaState, KeepsRest, table_of, heap_of, ArenaInvariant, AreMoved, AreFreeBytes, rest_more, Leaves, Span, holes_of, AreSameIn}
 use Rattle.w16_arena.proofs.Parts.{AreParts}
 use Rattle.w16_arena.proofs.Steps.{state_of, beside, kept_with}
 use Rattle.w16_arena.proofs.Shown.{known, told}
@@ -72,10 +73,10 @@ module _ {entries : List (Option Entry)} {layout : Layout} {uses : Uses} {gap_ro
           (record { same_kind = refl; same_locks = refl; new_bytes = fresh p.at n mid_memory after in_memory (moved.bytes bytes) options.zero filled })
           (joined parts id kind absent 0 (slice_range after p.at (p.at + n)) ∙ sym ids_are) counted)
 
-      pub rest_placed : {X : Type 0} {bytes : X → List ℕ} {lenders : X → List GName} {x y z : X}
-          → IsSameRest bytes lenders layout.lo layout.hi x y → IsSameRest bytes lenders p.at (p.at + n) y z → KeepsRest bytes lenders old.table x (table_of (set entries id (Some entry)) new uses'.ids) z
-      rest_placed {X} {bytes} {lenders} {x} {y} {z} made cleared =
-          told kept shown (λ t. KeepsRest bytes lenders t x (table_of (set entries id (Some entry)) new uses'.ids) z) (record {
+      pub rest_placed : {X : Type 0} {are_in : List Span → List ℕ → Type 0} {bytes : X → List ℕ} {lenders : X → List GName} {x y z : X} → ((hs : List Span) (old new : List ℕ) → are_in hs old → AreSameIn hs old new → are_in hs new)
+          → Leaves are_in bytes lenders (holes_of new) (IsSameRest layout.lo layout.hi) x y → IsSameRest p.at (p.at + n) (bytes y) (bytes z) → lenders z ≡ lenders y → KeepsRest are_in bytes lenders old.table x (table_of (set entries id (Some entry)) new uses'.ids) z
+      rest_placed {X} {are_in} {bytes} {lenders} {x} {y} {z} stay made cleared loans =
+          told kept shown (λ t. KeepsRest are_in bytes lenders t x (table_of (set entries id (Some entry)) new uses'.ids) z) (record {
             range = record { lo = same.0; hi = same.1; grain = same.2; ids = length-set entries id (Some entry); sound = parts_after.sound };
-            memory = rest_more made cleared (let lo = ap (λ (l : Layout). l.lo) moved.same in let above = place.above in omega arith) (let hi = ap (λ (l : Layout). l.hi) moved.same in let end = place.below in omega arith);
+            memory = leaves_cleared p.at (p.at + n) stay made cleared loans (let lo = ap (λ (l : Layout). l.lo) moved.same in let above = place.above in omega arith) (let hi = ap (λ (l : Layout). l.hi) moved.same in let end = place.below in omega arith) (used_placed mid new _ value ordered);
           })

@@ -1,5 +1,5 @@
 -- An object that got another size where it stands: what its call leaves kept and answers.
-use Rattle.w16_arena.proofs.Common.{◌≡◌, ◌≢◌, ℕ, ◌+◌, ◌<◌, ◌≤◌, ◌⊎◌, true, false, not, ◌&&◌, cond, IfSome, List, [], length, take, drop, replicate, slice_range, Option, Some, None, option_map, refl, sym, ap, ◌∙◌, subst, arith, le-leb, ne_eqb, lt-leb, FinMap, nat_cmp, take-take, GName, Block, Entry, RoomOptions, part, block_end, hole_after, holds_still, Heap, Object, IsMultiple, with_object, IsGrown, Reallocates, Table, block_with, heap_in, range_part, Layout, IsOrdered, all_but, replaced, contents, IsSameRest, Uses, Placed, IsResized, IsPlaced, KeepsRest, table_of, heap_of, ArenaInvariant}
+use Rattle.w16_arena.proofs.Common.{◌≡◌, ◌≢◌, ℕ, ◌+◌, ◌<◌, ◌≤◌, ◌⊎◌, true, false, not, ◌&&◌, cond, IfSome, List, [], length, take, drop, replicate, slice_range, Option, Some, None, option_map, refl, sym, ap, ◌∙◌, subst, arith, le-leb, ne_eqb, lt-leb, FinMap, nat_cmp, take-take, GName, Block, Entry, RoomOptions, part, block_end, hole_after, holds_still, Heap, Object, IsMultiple, with_object, IsGrown, Reallocates, Table, block_with, heap_in, range_part, Layout, IsOrdered, all_but, replaced, contents, IsSameRest, Uses, Placed, IsResized, IsPlaced, KeepsRest, table_of, heap_of, ArenaInvariant, Leaves, Span, holes_of}
 use Rattle.std.specs.FinMap as finmap
 use Rattle.w16_arena.proofs.Parts.{AreParts}
 use Rattle.w16_arena.proofs.With.{with-without}
@@ -28,7 +28,7 @@ module _ {entries : List (Option Entry)} {layout : Layout} {uses : Uses} {gap_ro
   pub kept_resized : ArenaInvariant entries new uses gap_rooms room
   kept_resized = kept_with kept entries new uses sound_resized.sound refl same.3 refl
 
-  pub rest_resized : {X : Type 0} {bytes : X → List ℕ} {lenders : X → List GName} {x y : X} → IsSameRest bytes lenders layout.lo layout.hi x y → KeepsRest bytes lenders t x (table_of entries new uses.ids) y
+  pub rest_resized : {X : Type 0} {are_in : List Span → List ℕ → Type 0} {bytes : X → List ℕ} {lenders : X → List GName} {x y : X} → Leaves are_in bytes lenders (holes_of new) (IsSameRest layout.lo layout.hi) x y → KeepsRest are_in bytes lenders t x (table_of entries new uses.ids) y
   rest_resized rest = record { range = record { lo = same.0; hi = same.1; grain = same.2; ids = refl; sound = sound_resized.sound }; memory = rest }
 
   module _ (memory : List ℕ) (inside : layout.hi ≤ length memory) where

@@ -1,5 +1,5 @@
 -- What keeps each block's bytes keeps a table's heap: where only bytes of holes change, and after one step more.
-use Rattle.w16_arena.proofs.Common.{ℕ, ◌≡◌, ◌+◌, ◌<◌, List, [], ◌∷◌, length, slice_range, Some, option_map, refl, sym, ap, ◌∙◌, subst, arith, inl, inr, All, eqb_tells, GName, AllByRecursion, Block, Span, part, IsLaid, block_end, holes, Table, IsSameOutside, block_with, by_id, heap_in, range_part, part_below, part_above, IsFree, IsUsed, AreSameIn, AreSameOutside, Layout, IsOrdered, all_but, placed, holes_of, used_each, outside_holes, All-first, contents, rest_more, rest_same, KeepsBytes, EachTwo, Slides, AreMoved}
+use Rattle.w16_arena.proofs.Common.{ℕ, ◌≡◌, ◌+◌, ◌<◌, List, [], ◌∷◌, length, slice_range, Some, option_map, refl, sym, ap, ◌∙◌, subst, arith, inl, inr, All, eqb_tells, GName, AllByRecursion, Block, Span, part, IsLaid, block_end, holes, Table, IsSameOutside, block_with, by_id, heap_in, range_part, part_below, part_above, IsFree, IsUsed, AreSameIn, AreSameOutside, Layout, IsOrdered, all_but, placed, holes_of, used_each, outside_holes, All-first, contents, rest_more, rest_same, KeepsBytes, EachTwo, Slides, AreMoved, Leaves, leaves_more, IsSameRest, KeepsRest, holes_in, IsSound, ◌≤◌, rest_wider}
 use Rattle.std.specs.FinMap as finmap
 
 module _ (m n : List ℕ) where
@@ -51,24 +51,36 @@ contents_outside : (lo hi : ℕ) (all : List Block) (old new : List ℕ) → Are
 contents_outside lo hi all old new same [] used = refl
 contents_outside lo hi all old new same (b ∷ bs) used = λ i. (b.id, same.same b.at b.size used.0 i) ∷ contents_outside lo hi all old new same bs used.1 i
 
-module _ {X : Type 0} {bytes : X → List ℕ} {lenders : X → List GName} {written : X → ℕ} where
-  pub keeps_same : (lo hi : ℕ) (bs : List Block) (x : X) → KeepsBytes bytes lenders written lo hi bs x x
-  keeps_same lo hi bs x = record { contents = refl; rest = rest_same lo hi x; count = refl }
+module _ {X : Type 0} {are_in : List Span → List ℕ → Type 0} {bytes : X → List ℕ} {lenders : X → List GName} where
+  pub leaves_same : {hs : List Span} (lo hi : ℕ) (x : X) → are_in hs (bytes x) → Leaves are_in bytes lenders hs (IsSameRest lo hi) x x
+  leaves_same lo hi x kept = record { kept = kept; bytes = rest_same lo hi (bytes x); loans = refl }
 
-  pub keeps_holes : (lo hi : ℕ) (bs : List Block) (x y : X) → IsLaid lo hi bs → AreSameOutside (holes lo hi bs) (bytes x) (bytes y) → lenders y ≡ lenders x → written y ≡ written x → KeepsBytes bytes lenders written lo hi bs x y
-  keeps_holes lo hi bs x y laid same loans count = record {
-    contents = contents_outside lo hi bs (bytes x) (bytes y) same bs (used_each lo hi bs laid);
-    rest = record { long = same.long; outside = outside_holes lo hi bs (bytes x) (bytes y) laid same; loans = loans };
-    count = count;
-  }
+  pub none_changed : {t : Table} (x : X) → IsSound t → are_in (holes_in t) (bytes x) → KeepsRest are_in bytes lenders t x t x
+  none_changed {t} x sound kept = record { range = record { lo = refl; hi = refl; grain = refl; ids = refl; sound = sound }; memory = leaves_same t.lo t.hi x kept }
 
-  -- and one block less
-  pub keeps_more : (lo hi id : ℕ) (bs : List Block) (x y z : X) → KeepsBytes bytes lenders written lo hi bs x y → KeepsBytes bytes lenders written lo hi (all_but id bs) y z → KeepsBytes bytes lenders written lo hi (all_but id bs) x z
-  keeps_more lo hi id bs x y z p q = record {
-    contents = q.contents ∙ contents_all_but (bytes x) (bytes y) id bs p.contents;
-    rest = rest_more p.rest q.rest (omega arith) (omega arith);
-    count = q.count ∙ p.count;
-  }
+  module _ {written : X → ℕ} where
+    pub keeps_same : {hs : List Span} (lo hi : ℕ) (bs : List Block) (x : X) → are_in hs (bytes x) → KeepsBytes are_in bytes lenders written hs lo hi bs x x
+    keeps_same lo hi bs x kept = record { contents = refl; rest = leaves_same lo hi x kept; count = refl }
+
+    pub keeps_holes : {hs : List Span} (lo hi : ℕ) (bs : List Block) (x y : X) → IsLaid lo hi bs → Leaves are_in bytes lenders hs (AreSameOutside (holes lo hi bs)) x y → written y ≡ written x → KeepsBytes are_in bytes lenders written hs lo hi bs x y
+    keeps_holes lo hi bs x y laid rest count = record {
+      contents = contents_outside lo hi bs (bytes x) (bytes y) rest.bytes bs (used_each lo hi bs laid);
+      rest = record { kept = rest.kept; bytes = record { long = rest.bytes.long; outside = outside_holes lo hi bs (bytes x) (bytes y) laid rest.bytes }; loans = rest.loans };
+      count = count;
+    }
+
+    -- and a block less, over the table that it leaves
+    pub keeps_more : (t after : Table) (id : ℕ) (x y z : X) → after.lo ≡ t.lo → after.hi ≡ t.hi → after.blocks ≡ all_but id t.blocks → KeepsBytes are_in bytes lenders written (holes_in t) t.lo t.hi t.blocks x y
+        → KeepsBytes are_in bytes lenders written (holes_in after) after.lo after.hi after.blocks y z → KeepsBytes are_in bytes lenders written (holes_in after) after.lo after.hi after.blocks x z
+    keeps_more t after id x y z lo hi blocks p q = record {
+      contents = q.contents ∙ subst (λ (bs : List Block). contents (bytes y) bs ≡ contents (bytes x) bs) (sym blocks) (contents_all_but (bytes x) (bytes y) id t.blocks p.contents);
+      rest = record {
+        kept = q.rest.kept;
+        bytes = rest_wider (rest_more p.rest.bytes q.rest.bytes (omega arith) (omega arith)) (omega arith) (omega arith);
+        loans = q.rest.loans ∙ p.rest.loans;
+      };
+      count = q.count ∙ p.count;
+    }
 
 -- a memory that changes in a part that is no hole's has the same bytes in the holes
 pub same_in : (at end : ℕ) (hs : List Span) (old new : List ℕ) → length new ≡ length old → IsSameOutside at end old new → IsUsed at end hs → AreSameIn hs old new
@@ -85,6 +97,16 @@ same_in at end hs old new long outside used = record { long = long; same = λ p 
           ]
       | inr there ↦ apart p n hs there used.1
     ]
+
+-- and what was kept of them is kept
+pub leaves_cleared : {X : Type 0} {are_in : List Span → List ℕ → Type 0} {bytes : X → List ℕ} {lenders : X → List GName} {hs : List Span} {lo hi : ℕ} (at end : ℕ) {x y z : X}
+    → ((hs : List Span) (old new : List ℕ) → are_in hs old → AreSameIn hs old new → are_in hs new) → Leaves are_in bytes lenders hs (IsSameRest lo hi) x y
+    → IsSameRest at end (bytes y) (bytes z) → lenders z ≡ lenders y → lo ≤ at → end ≤ hi → IsUsed at end hs → Leaves are_in bytes lenders hs (IsSameRest lo hi) x z
+leaves_cleared {X} {are_in} {bytes} {lenders} {hs} {lo} {hi} at end {x} {y} {z} stay made cleared loans below above used = record {
+  kept = stay hs (bytes y) (bytes z) made.kept (same_in at end hs (bytes y) (bytes z) cleared.long cleared.outside used);
+  bytes = rest_more made.bytes cleared below above;
+  loans = loans ∙ made.loans;
+}
 
 pub moved_kept : (low high : ℕ) (old new : Layout) (memory mid after : List ℕ) → AreMoved low high old memory new mid → contents after new.blocks ≡ contents mid new.blocks → length after ≡ length mid → All (λ b. b < 256) after → AreMoved low high old memory new after
 moved_kept low high old new memory mid after moved same long small = record {

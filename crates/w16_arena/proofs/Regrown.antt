@@ -1,5 +1,6 @@
 -- An object that got more bytes, where it stood or elsewhere: what its call leaves kept and answers. It is looked at as if it had been absent.
-use Rattle.w16_arena.proofs.Common.{◌≡◌, ℕ, ◌+◌, ◌-◌, ◌<◌, ◌≤◌, ◌⊎◌, inl, inr, Bool, true, false, not, ◌&&◌, ◌==◌, cond, if◌then◌else◌, IsTrue, IfSome, IsSomeAnd, All, List, length, get_or, set, slice_range, Option, Some, None, refl, sym, ap, ◌∙◌, subst, arith, eq-eqb, length-set, set-set, set-get_or, Block, Entry, RoomOptions, part, put_part, repeated, IsClear, Misses, is_any, Heap, Object, IsMultiple, blocks, is_discardable, without, IsGrown, StaysOrMovesToHole, is_elsewhere, moved_bytes, Table, IsCountedBy, block_with, heap_in, hold_of_entry, is_listed, Each-at, Each-from, Each-from_All, All-from_Each, EachPair-from_AllPairs, AllPairs-from_EachPair, pairs_filter, range_part, Layout, IsOrdered, all_but, placed, IsLaid-all_but, All-all_but, sum-all_but, moved_between, IsSameRest, rest_more, Uses, GName, Placed, Stands, KeepsRest, table_of, heap_of, ArenaInvariant, but_for, AreMoved, AreFreeBytes}
+use Rattle.w16_arena.proofs.Keeping.{leaves_cleared, used_placed}
+use Rattle.w16_arena.proofs.Common.{◌≡◌, ℕ, ◌+◌, ◌-◌, ◌<◌, ◌≤◌, ◌⊎◌, inl, inr, Bool, true, false, not, ◌&&◌, ◌==◌, cond, if◌then◌else◌, IsTrue, IfSome, IsSomeAnd, All, List, length, get_or, set, slice_range, Option, Some, None, refl, sym, ap, ◌∙◌, subst, arith, eq-eqb, length-set, set-set, set-get_or, Block, Entry, RoomOptions, part, put_part, repeated, IsClear, Misses, is_any, Heap, Object, IsMultiple, blocks, is_discardable, without, IsGrown, StaysOrMovesToHole, is_elsewhere, moved_bytes, Table, IsCountedBy, block_with, heap_in, hold_of_entry, is_listed, Each-at, Each-from, Each-from_All, All-from_Each, EachPair-from_AllPairs, AllPairs-from_EachPair, pairs_filter, range_part, Layout, IsOrdered, all_but, placed, IsLaid-all_but, All-all_but, sum-all_but, moved_between, IsSameRest, rest_more, Uses, GName, Placed, Stands, KeepsRest, table_of, heap_of, ArenaInvariant, but_for, AreMoved, AreFreeBytes, Leaves, Span, holes_of, AreSameIn, rest_wider}
 use Rattle.std.specs.FinMap as finmap
 use Rattle.w16_arena.proofs.Parts.{AreParts}
 use Rattle.w16_arena.proofs.With.{with-without}
@@ -91,13 +92,13 @@ module _ {entries : List (Option Entry)} {layout : Layout} {uses : Uses} {gap_ro
     pub kept_grown : ArenaInvariant entries new uses gap_rooms room
     kept_grown = kept_with kept entries new uses parts_after.sound refl (ap (λ (l : Layout). l.cap) moved.same) refl
 
-    pub rest_grown : {X : Type 0} {bytes : X → List ℕ} {lenders : X → List GName} {x y z : X}
-        → IsSameRest bytes lenders layout.lo layout.hi x y → IsSameRest bytes lenders (p.at + b.size) (p.at + b.size + (n - b.size)) y z → KeepsRest bytes lenders t x (table_of entries new uses.ids) z
-    rest_grown first cleared =
+    pub rest_grown : {X : Type 0} {are_in : List Span → List ℕ → Type 0} {bytes : X → List ℕ} {lenders : X → List GName} {x y z : X} → ((hs : List Span) (old new : List ℕ) → are_in hs old → AreSameIn hs old new → are_in hs new)
+        → Leaves are_in bytes lenders (holes_of new) (IsSameRest layout.lo layout.hi) x y → IsSameRest (p.at + b.size) (p.at + b.size + (n - b.size)) (bytes y) (bytes z) → lenders z ≡ lenders y → KeepsRest are_in bytes lenders t x (table_of entries new uses.ids) z
+    rest_grown stay made cleared loans =
         let lo = ap (λ (l : Layout). l.lo) moved.same in let hi = ap (λ (l : Layout). l.hi) moved.same in let above = place.above in let end = place.below in
         record {
           range = record { lo = lo; hi = hi; grain = ap (λ (l : Layout). l.grain) moved.same; ids = refl; sound = parts_after.sound };
-          memory = rest_more first cleared (omega arith) (omega arith);
+          memory = leaves_cleared p.at (p.at + n) stay made (rest_wider cleared (omega arith) (omega arith)) loans (omega arith) (omega arith) (used_placed (but_for b.id new) new _ value laid);
         }
 
     abbrev grown : Heap

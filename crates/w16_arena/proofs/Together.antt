@@ -1,5 +1,5 @@
 -- Blocks that have slid together, and nothing else: what is kept, and the heap after it.
-use Rattle.w16_arena.proofs.Common.{arith, ◌≡◌, ℕ, ◌<◌, ◌≤◌, IsTrue, All, List, length, Option, Some, refl, sym, ap, ◌∙◌, subst, nat_cmp_total, same_map, nat_cmp-IsAntisymmetric, Entry, Span, is_pinned, longest_hole, Heap, blocks, Settles, heap_in, Each-from, All-from_Each, table_longest, Layout, moved_between, Uses, SlidesTogether, IsStill, Compacted, GName, IsSameRest, ArenaState, KeepsRest, table_of, heap_of, ArenaInvariant, AreMoved}
+use Rattle.w16_arena.proofs.Common.{arith, ◌≡◌, ℕ, ◌<◌, ◌≤◌, IsTrue, All, List, length, Option, Some, refl, sym, ap, ◌∙◌, subst, nat_cmp_total, same_map, nat_cmp-IsAntisymmetric, Entry, Span, is_pinned, longest_hole, Heap, blocks, Settles, heap_in, Each-from, All-from_Each, table_longest, Layout, moved_between, Uses, SlidesTogether, IsStill, Compacted, GName, IsSameRest, ArenaState, KeepsRest, table_of, heap_of, ArenaInvariant, AreMoved, Leaves, holes_of}
 use Rattle.std.specs.FinMap as finmap
 use Rattle.w16_arena.proofs.Parts.{AreParts}
 use Rattle.w16_arena.proofs.Lookups.{is_heap}
@@ -25,8 +25,8 @@ module _ {entries : List (Option Entry)} {layout : Layout} {uses : Uses} {gap_ro
   pub kept_slid : ArenaInvariant entries new uses gap_rooms room
   kept_slid = kept_with kept entries new uses parts_new.sound refl (ap (λ (l : Layout). l.cap) moved.same) refl
 
-  pub rest_slid : {X : Type 0} {bytes : X → List ℕ} {lenders : X → List GName} {x y : X} → IsSameRest bytes lenders layout.lo layout.hi x y → KeepsRest bytes lenders old.table x (table_of entries new uses.ids) y
-  rest_slid {X} {bytes} {lenders} {x} {y} rest = told kept shown (λ t. KeepsRest bytes lenders t x (table_of entries new uses.ids) y) (record {
+  pub rest_slid : {X : Type 0} {are_in : List Span → List ℕ → Type 0} {bytes : X → List ℕ} {lenders : X → List GName} {x y : X} → Leaves are_in bytes lenders (holes_of new) (IsSameRest layout.lo layout.hi) x y → KeepsRest are_in bytes lenders old.table x (table_of entries new uses.ids) y
+  rest_slid {X} {are_in} {bytes} {lenders} {x} {y} rest = told kept shown (λ t. KeepsRest are_in bytes lenders t x (table_of entries new uses.ids) y) (record {
     range = record {
       lo = ap (λ (l : Layout). l.lo) moved.same;
       hi = ap (λ (l : Layout). l.hi) moved.same;

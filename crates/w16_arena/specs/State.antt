@@ -11,6 +11,7 @@ use Rattle.w16_model.specs.OneObject.{after_newest, after_oldest}
 use Rattle.w16_model.specs.Table.{Table, IsSound, heap_in}
 use Rattle.std.specs.Borrow.{GName}
 use Rattle.w16_blocks.specs.Layout.{Layout}
+use Rattle.w16_blocks.specs.Stay.{Leaves}
 use Rattle.w16_lru.specs.declared.End.{End}
 use Rattle.w16_lru.specs.declared.End.TheVariants.{Oldest, Newest}
 use Rattle.w16_compact.specs.Gather.{contents}
@@ -49,15 +50,15 @@ pub record IsSameRange (old new : Table) : Type 0 where
   pub ids : length new.entries ≡ length old.entries
   pub sound : IsSound new
 
--- What a step of an arena leaves of the rest: the table's range and its soundness, and the memory outside it.
-pub record KeepsRest {X : Type 0} (bytes : X → List ℕ) (lenders : X → List GName) (old : Table) (before : X) (new : Table) (after : X) : Type 0 where
+-- What a step of an arena leaves of the rest: the table's range and its soundness, and the memory, which has what is kept of the holes that there are then, and is the same outside the range.
+pub record KeepsRest {X : Type 0} (are_in : List Span → List ℕ → Type 0) (bytes : X → List ℕ) (lenders : X → List GName) (old : Table) (before : X) (new : Table) (after : X) : Type 0 where
   pub range : IsSameRange old new
-  pub memory : IsSameRest bytes lenders old.lo old.hi before after
+  pub memory : Leaves are_in bytes lenders (holes_in new) (IsSameRest old.lo old.hi) before after
 
--- What a step leaves of a memory where it only gives or takes free bytes between two bounds: each block's bytes, all outside the bounds, and the count of bytes written.
-pub record KeepsBytes {X : Type 0} (bytes : X → List ℕ) (lenders : X → List GName) (written : X → ℕ) (lo hi : ℕ) (blocks : List Block) (before after : X) : Type 0 where
+-- What a step leaves of a memory where it only gives or takes free bytes between two bounds: each block's bytes, the count of bytes written, and the memory but for the bounds, with what is kept of the holes that there are then.
+pub record KeepsBytes {X : Type 0} (are_in : List Span → List ℕ → Type 0) (bytes : X → List ℕ) (lenders : X → List GName) (written : X → ℕ) (holes : List Span) (lo hi : ℕ) (blocks : List Block) (before after : X) : Type 0 where
   pub contents : contents (bytes after) blocks ≡ contents (bytes before) blocks
-  pub rest : IsSameRest bytes lenders lo hi before after
+  pub rest : Leaves are_in bytes lenders holes (IsSameRest lo hi) before after
   pub count : written after ≡ written before
 
 -- A step that asks for no room, in every memory that has the range: it changes the table alone.

@@ -2,6 +2,7 @@
 ghost use Rattle.std.specs.Prelude.{◌≡◌, ◌≤◌, length, take, Option, vec_capacity};
 ghost use Rattle.w16_model.specs.Discards.{eligible};
 ghost use Rattle.w16_arena.specs.Asked.{Discards};
+ghost use Rattle.w16_blocks.specs.Stay.{HasRange};
 ghost use Rattle.w16_arena.specs.State.{KeepsBytes, holes_in};
 
 use crate::Arena;
@@ -16,11 +17,9 @@ impl<H: HoleList> Arena<H> {
     pub(crate) fn discard_first<S: Space>(&mut self, space: &mut S, k: usize, h: Option<u32>)
     where
         H: Holes<S>,
-        requires kept { H.are_in (holes_in self.old.table) (S.bytes space.old) }
-        requires inside { self.old.table.hi ≤ length (S.bytes space.old) }
+        requires memory { HasRange H.are_in (holes_in self.old.table) self.old.table.hi (S.bytes space.old) }
         ensures discards { Discards k h self.old self.new }
-        ensures bytes { KeepsBytes S.bytes S.lenders S.written self.new.table.lo self.new.table.hi self.new.table.blocks space.old space.new }
-        ensures kept { H.are_in (holes_in self.new.table) (S.bytes space.new) }
+        ensures bytes { KeepsBytes H.are_in S.bytes S.lenders S.written (holes_in self.new.table) self.new.table.lo self.new.table.hi self.new.table.blocks space.old space.new }
     {
         list_eligible(&self.blocks, &self.order, k, h, &mut self.discarded);
         for i in 0..self.discarded.len() {

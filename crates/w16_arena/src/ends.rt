@@ -6,6 +6,7 @@ ghost use Rattle.w16_model.specs.Heap.{IsMultiple};
 ghost use Rattle.w16_model.specs.Ends.{ending, IsLeastEnd, HasNoEnd};
 ghost use Rattle.w16_model.specs.Table.{block_with, heap_in, IsSound};
 ghost use Rattle.w16_blocks.specs.Layout.{IsOrdered, holes_of};
+ghost use Rattle.w16_blocks.specs.Stay.{HasRange};
 ghost use Rattle.w16_compact.specs.Stretch.{stretch_at};
 ghost use Rattle.w16_holes.specs.declared.holes.TheConstants.{LAST_END};
 ghost use Rattle.w16_arena.specs.State.{KeepsBytes, holes_in};
@@ -28,13 +29,11 @@ impl<H: HoleList> Arena<H> {
         requires reserved { end ≤ LAST_END }
         requires low { IsMultiple self.old.table.grain self.old.table.hi }
         requires high { IsMultiple self.old.table.grain end }
-        requires kept { H.are_in (holes_in self.old.table) (S.bytes space.old) }
-        requires inside { end ≤ length (S.bytes space.old) }
+        requires memory { HasRange H.are_in (holes_in self.old.table) end (S.bytes space.old) }
         ensures value { self.new ≡ record self.old { table = record self.old.table { hi = end } } }
         ensures heap { heap_in self.new.table (S.bytes space.new) ≡ ending (heap_in self.old.table (S.bytes space.old)) end }
         ensures sound { IsSound self.new.table }
-        ensures bytes { KeepsBytes S.bytes S.lenders S.written self.new.table.lo self.new.table.hi self.new.table.blocks space.old space.new }
-        ensures kept { H.are_in (holes_in self.new.table) (S.bytes space.new) }
+        ensures bytes { KeepsBytes H.are_in S.bytes S.lenders S.written (holes_in self.new.table) self.new.table.lo self.new.table.hi self.new.table.blocks space.old space.new }
     {
         self.blocks.set_end(space, end);
     }
@@ -52,8 +51,7 @@ impl<H: HoleList> Arena<H> {
     where
         H: Holes<S>,
         requires some { 0 < size }
-        requires kept { H.are_in (holes_in self.now.table) (S.bytes space.now) }
-        requires inside { self.now.table.hi ≤ length (S.bytes space.now) }
+        requires memory { HasRange H.are_in (holes_in self.now.table) self.now.table.hi (S.bytes space.now) }
         ensures least { IfSome result (λ end. (end ≤ LAST_END) × IsLeastEnd (heap_in self.now.table (S.bytes space.now)) id size options end) }
         ensures none { IfNone result (HasNoEnd LAST_END (heap_in self.now.table (S.bytes space.now)) id size options) }
     {

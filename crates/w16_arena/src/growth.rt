@@ -6,6 +6,7 @@ ghost use Rattle.w16_model.specs.Heap.{IsMultiple};
 ghost use Rattle.w16_model.specs.Table.{block_with};
 ghost use Rattle.w16_region.specs.Bytes.{counted};
 ghost use Rattle.w16_blocks.specs.Layout.{IsOrdered, all_but, holes_of, replaced};
+ghost use Rattle.w16_blocks.specs.Stay.{HasRange, Leaves};
 ghost use Rattle.w16_compact.specs.Gap.{without, HasRoom};
 ghost use Rattle.w16_compact.specs.Gather.{contents};
 ghost use Rattle.w16_compact.specs.Rest.{IsSameRest};
@@ -32,15 +33,13 @@ pub(crate) fn grow_block<S: Space, H: Holes<S>>(
     requires known { block_with blocks.old.blocks block.id ≡ Some block }
     requires more { block.size < size }
     requires rounded { IsMultiple blocks.old.grain size }
-    requires kept { H.are_in (holes_of blocks.old) (S.bytes space.old) }
-    requires inside { blocks.old.hi ≤ length (S.bytes space.old) }
+    requires memory { HasRange H.are_in (holes_of blocks.old) blocks.old.hi (S.bytes space.old) }
     ensures ordered { IsOrdered blocks.old }
     ensures grown { IfSome result (λ p. HasGrown size block blocks.old (S.bytes space.old) p blocks.new (S.bytes space.new)) }
     ensures enough { IfSome result (λ _. IsTrue (may_grow blocks.old block.id size compact)) }
     ensures still { compact ≡ false → IfSome result (λ p. (all_but block.id blocks.new.blocks ≡ all_but block.id blocks.old.blocks)
         × ((p.at ≡ block.at) ⊎ IsClear is_any blocks.old.lo blocks.old.hi blocks.old.blocks p.at (p.at + size))) }
-    ensures rest { IsSameRest S.bytes S.lenders blocks.old.lo blocks.old.hi space.old space.new }
-    ensures kept { H.are_in (holes_of blocks.new) (S.bytes space.new) }
+    ensures rest { Leaves H.are_in S.bytes S.lenders (holes_of blocks.new) (IsSameRest blocks.old.lo blocks.old.hi) space.old space.new }
     ensures written { IfSome result (λ p. S.written space.new ≡ counted (S.written space.old) p.moved) }
     ensures refused { IfNone result ((may_grow blocks.old block.id size compact ≡ false) × (blocks.new ≡ blocks.old) × (space.new ≡ space.old)) }
 {
@@ -75,13 +74,11 @@ fn move_to_hole<S: Space, H: Holes<S>>(
     requires more { block.size < size }
     requires rounded { IsMultiple blocks.old.grain size }
     requires free { AreFreeBytes blocks.old size at }
-    requires kept { H.are_in (holes_of blocks.old) (S.bytes space.old) }
-    requires inside { blocks.old.hi ≤ length (S.bytes space.old) }
+    requires memory { HasRange H.are_in (holes_of blocks.old) blocks.old.hi (S.bytes space.old) }
     ensures at { result.at ≡ at }
     ensures grown { HasGrown size block blocks.old (S.bytes space.old) result blocks.new (S.bytes space.new) }
     ensures still { all_but block.id blocks.new.blocks ≡ all_but block.id blocks.old.blocks }
-    ensures rest { IsSameRest S.bytes S.lenders blocks.old.lo blocks.old.hi space.old space.new }
-    ensures kept { H.are_in (holes_of blocks.new) (S.bytes space.new) }
+    ensures rest { Leaves H.are_in S.bytes S.lenders (holes_of blocks.new) (IsSameRest blocks.old.lo blocks.old.hi) space.old space.new }
     ensures written { S.written space.new ≡ counted (S.written space.old) result.moved }
 {
     move_to(blocks, space, block, at, size);
@@ -102,11 +99,9 @@ fn slide_for<S: Space, H: Holes<S>>(
     requires known { block_with blocks.old.blocks block.id ≡ Some block }
     requires more { block.size < size }
     requires rounded { IsMultiple blocks.old.grain size }
-    requires kept { H.are_in (holes_of blocks.old) (S.bytes space.old) }
-    requires inside { blocks.old.hi ≤ length (S.bytes space.old) }
+    requires memory { HasRange H.are_in (holes_of blocks.old) blocks.old.hi (S.bytes space.old) }
     ensures grown { IfSome result (λ p. HasGrown size block blocks.old (S.bytes space.old) p blocks.new (S.bytes space.new)) }
-    ensures rest { IsSameRest S.bytes S.lenders blocks.old.lo blocks.old.hi space.old space.new }
-    ensures kept { H.are_in (holes_of blocks.new) (S.bytes space.new) }
+    ensures rest { Leaves H.are_in S.bytes S.lenders (holes_of blocks.new) (IsSameRest blocks.old.lo blocks.old.hi) space.old space.new }
     ensures written { IfSome result (λ p. S.written space.new ≡ counted (S.written space.old) p.moved) }
     ensures refused { IfNone result ((room blocks.old.lo blocks.old.hi (all_but block.id blocks.old.blocks) < size)
         × (blocks.new ≡ blocks.old) × (space.new ≡ space.old)) }
@@ -133,11 +128,9 @@ fn open_own<S: Space, H: Holes<S>>(
     requires rounded { IsMultiple blocks.old.grain size }
     requires gap { HasRoom (without (Some block.id) blocks.old) size gap }
     requires own { (gap.low ≤ block.at) × (block.at < gap.high) }
-    requires kept { H.are_in (holes_of blocks.old) (S.bytes space.old) }
-    requires inside { blocks.old.hi ≤ length (S.bytes space.old) }
+    requires memory { HasRange H.are_in (holes_of blocks.old) blocks.old.hi (S.bytes space.old) }
     ensures grown { HasGrown size block blocks.old (S.bytes space.old) result blocks.new (S.bytes space.new) }
-    ensures rest { IsSameRest S.bytes S.lenders blocks.old.lo blocks.old.hi space.old space.new }
-    ensures kept { H.are_in (holes_of blocks.new) (S.bytes space.new) }
+    ensures rest { Leaves H.are_in S.bytes S.lenders (holes_of blocks.new) (IsSameRest blocks.old.lo blocks.old.hi) space.old space.new }
     ensures written { S.written space.new ≡ counted (S.written space.old) result.moved }
 {
     let high = whole_grains(blocks, block, gap.high);
@@ -182,11 +175,9 @@ fn move_to_gap<S: Space, H: Holes<S>>(
     requires rounded { IsMultiple blocks.old.grain size }
     requires gap { HasRoom (without (Some block.id) blocks.old) size gap }
     requires other { (block.at < gap.low) ⊎ (gap.high ≤ block.at) }
-    requires kept { H.are_in (holes_of blocks.old) (S.bytes space.old) }
-    requires inside { blocks.old.hi ≤ length (S.bytes space.old) }
+    requires memory { HasRange H.are_in (holes_of blocks.old) blocks.old.hi (S.bytes space.old) }
     ensures grown { HasGrown size block blocks.old (S.bytes space.old) result blocks.new (S.bytes space.new) }
-    ensures rest { IsSameRest S.bytes S.lenders blocks.old.lo blocks.old.hi space.old space.new }
-    ensures kept { H.are_in (holes_of blocks.new) (S.bytes space.new) }
+    ensures rest { Leaves H.are_in S.bytes S.lenders (holes_of blocks.new) (IsSameRest blocks.old.lo blocks.old.hi) space.old space.new }
     ensures written { S.written space.new ≡ counted (S.written space.old) result.moved }
 {
     let _ = blocks.bounds();
@@ -214,8 +205,7 @@ fn move_to<S: Space, H: Holes<S>>(
     requires more { block.size < size }
     requires rounded { IsMultiple blocks.old.grain size }
     requires free { AreFreeBytes blocks.old size to }
-    requires kept { H.are_in (holes_of blocks.old) (S.bytes space.old) }
-    requires inside { blocks.old.hi ≤ length (S.bytes space.old) }
+    requires memory { HasRange H.are_in (holes_of blocks.old) blocks.old.hi (S.bytes space.old) }
     ensures before { IsOrdered blocks.old }
     ensures elsewhere { to ≢ block.at }
     ensures value { blocks.new ≡ record blocks.old { blocks = replaced (record block { at = to; size = size }) blocks.old.blocks } }
@@ -223,8 +213,7 @@ fn move_to<S: Space, H: Holes<S>>(
     ensures bytes { part (S.bytes space.new) to block.size ≡ part (S.bytes space.old) block.at block.size }
     ensures others { contents (S.bytes space.new) (all_but block.id blocks.old.blocks) ≡ contents (S.bytes space.old) (all_but block.id blocks.old.blocks) }
     ensures small { All (λ b. b < 256) (S.bytes space.new) }
-    ensures rest { IsSameRest S.bytes S.lenders blocks.old.lo blocks.old.hi space.old space.new }
-    ensures kept { H.are_in (holes_of blocks.new) (S.bytes space.new) }
+    ensures rest { Leaves H.are_in S.bytes S.lenders (holes_of blocks.new) (IsSameRest blocks.old.lo blocks.old.hi) space.old space.new }
     ensures written { S.written space.new ≡ counted (S.written space.old) block.size }
 {
     let _ = blocks.bounds();

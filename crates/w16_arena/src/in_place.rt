@@ -8,6 +8,7 @@ ghost use Rattle.w16_model.specs.Table.{block_with, heap_in, hold_of_entry};
 ghost use Rattle.w16_model.specs.Gap.{holds_still};
 ghost use Rattle.w16_region.specs.Bytes.{counted};
 ghost use Rattle.w16_blocks.specs.Layout.{FitsFor, IsOrdered, all_but, holes_of, replaced};
+ghost use Rattle.w16_blocks.specs.Stay.{HasRange};
 ghost use Rattle.w16_arena.specs.State.{KeepsBytes, KeepsRest, holes_in};
 ghost use Rattle.w16_arena.specs.Asked.{IsResized};
 
@@ -28,13 +29,11 @@ impl<H: HoleList> Arena<H> {
         requires some { 0 < size }
         requires less { size ≤ block.size }
         requires rounded { IsMultiple self.old.table.grain size }
-        requires kept { H.are_in (holes_in self.old.table) (S.bytes space.old) }
-        requires inside { self.old.table.hi ≤ length (S.bytes space.old) }
+        requires memory { HasRange H.are_in (holes_in self.old.table) self.old.table.hi (S.bytes space.old) }
         ensures resized { (options : RoomOptions) → IsResized (heap_in self.old.table (S.bytes space.old)) block.id size options result self.new.discarded
             (heap_in self.new.table (S.bytes space.new)) }
         ensures moved { result.moved ≡ 0 }
-        ensures rest { KeepsRest S.bytes S.lenders self.old.table space.old self.new.table space.new }
-        ensures kept { H.are_in (holes_in self.new.table) (S.bytes space.new) }
+        ensures rest { KeepsRest H.are_in S.bytes S.lenders self.old.table space.old self.new.table space.new }
         ensures written { S.written space.new ≡ S.written space.old }
     {
         reveal_bytes(space);
@@ -62,15 +61,13 @@ impl<H: HoleList> Arena<H> {
         requires held { (holds_still block.hold && not options.may_move) ≡ true }
         requires more { block.size < size }
         requires rounded { IsMultiple self.old.table.grain size }
-        requires kept { H.are_in (holes_in self.old.table) (S.bytes space.old) }
-        requires inside { self.old.table.hi ≤ length (S.bytes space.old) }
+        requires memory { HasRange H.are_in (holes_in self.old.table) self.old.table.hi (S.bytes space.old) }
         ensures resized { IfOk result (λ p. IsResized (heap_in self.old.table (S.bytes space.old)) block.id size options p self.new.discarded
             (heap_in self.new.table (S.bytes space.new))) }
         ensures moved { IfOk result (λ p. p.moved ≡ 0) }
         ensures refused { OnErr result (Reallocates (heap_in self.old.table (S.bytes space.old)) block.id size options false (heap_in self.old.table (S.bytes space.old))
             × (self.new ≡ self.old) × (space.new ≡ space.old)) }
-        ensures rest { KeepsRest S.bytes S.lenders self.old.table space.old self.new.table space.new }
-        ensures kept { H.are_in (holes_in self.new.table) (S.bytes space.new) }
+        ensures rest { KeepsRest H.are_in S.bytes S.lenders self.old.table space.old self.new.table space.new }
         ensures written { IfOk result (λ _. S.written space.new ≡ counted (S.written space.old) (if options.zero then size - block.size else 0)) }
     {
         reveal_bytes(space);
@@ -104,12 +101,10 @@ pub(crate) fn resize<S: Space, H: Holes<S>>(
     requires id { block.id < blocks.old.cap }
     requires known { block_with blocks.old.blocks block.id ≡ Some block }
     requires fits { FitsFor blocks.old (record block { size = size }) }
-    requires kept { H.are_in (holes_of blocks.old) (S.bytes space.old) }
-    requires inside { blocks.old.hi ≤ length (S.bytes space.old) }
+    requires memory { HasRange H.are_in (holes_of blocks.old) blocks.old.hi (S.bytes space.old) }
     ensures value { blocks.new ≡ record blocks.old { blocks = replaced (record block { size = size }) blocks.old.blocks } }
     ensures ordered { IsOrdered blocks.new }
-    ensures kept { H.are_in (holes_of blocks.new) (S.bytes space.new) }
-    ensures bytes { KeepsBytes S.bytes S.lenders S.written blocks.old.lo blocks.old.hi (all_but block.id blocks.old.blocks) space.old space.new }
+    ensures bytes { KeepsBytes H.are_in S.bytes S.lenders S.written (holes_of blocks.new) blocks.old.lo blocks.old.hi (all_but block.id blocks.old.blocks) space.old space.new }
     ensures own { (m : ℕ) → m ≤ block.size → m ≤ size → part (S.bytes space.new) block.at m ≡ part (S.bytes space.old) block.at m }
     ensures small { All (λ b. b < 256) (S.bytes space.new) }
 {

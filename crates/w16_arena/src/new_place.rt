@@ -2,6 +2,7 @@
 ghost use Rattle.std.specs.Prelude.{◌≡◌, ◌<◌, ◌≤◌, false, true, length, IfSome, IfNone, if◌then◌else◌, ◌+◌, All};
 ghost use Rattle.w16_model.specs.Gap.{room};
 ghost use Rattle.w16_blocks.specs.Layout.{Fits, IsOrdered, holes_of, placed};
+ghost use Rattle.w16_blocks.specs.Stay.{HasRange, Leaves};
 ghost use Rattle.w16_compact.specs.Gather.{moved_between};
 ghost use Rattle.w16_model.specs.Bytes.{put_part, repeated};
 ghost use Rattle.w16_region.specs.Bytes.{counted};
@@ -35,8 +36,7 @@ pub(crate) fn make_room<S: Space, H: Holes<S>>(
     compact: bool,
 ) -> Option<Placed>
     requires some { 0 < size }
-    requires kept { H.are_in (holes_of blocks.old) (S.bytes space.old) }
-    requires inside { blocks.old.hi ≤ length (S.bytes space.old) }
+    requires memory { HasRange H.are_in (holes_of blocks.old) blocks.old.hi (S.bytes space.old) }
     ensures ordered { IsOrdered blocks.old }
     ensures slid { IfSome result (λ p. AreMoved p.slid.from p.slid.to blocks.old (S.bytes space.old) blocks.new (S.bytes space.new)) }
     ensures free { IfSome result (λ p. AreFreeBytes blocks.new size p.at) }
@@ -44,8 +44,7 @@ pub(crate) fn make_room<S: Space, H: Holes<S>>(
     ensures lowest { IfSome result (λ p. IsLowestPlace blocks.old size p.at) }
     ensures enough { IfSome result (λ _. size ≤ most_for blocks.old compact) }
     ensures still { compact ≡ false → (blocks.new ≡ blocks.old) × (space.new ≡ space.old) }
-    ensures rest { IsSameRest S.bytes S.lenders blocks.old.lo blocks.old.hi space.old space.new }
-    ensures kept { H.are_in (holes_of blocks.new) (S.bytes space.new) }
+    ensures rest { Leaves H.are_in S.bytes S.lenders (holes_of blocks.new) (IsSameRest blocks.old.lo blocks.old.hi) space.old space.new }
     ensures written { IfSome result (λ p. S.written space.new ≡ counted (S.written space.old) p.moved) }
     ensures refused { IfNone result ((most_for blocks.old compact < size) × (blocks.new ≡ blocks.old) × (space.new ≡ space.old)) }
 {
@@ -70,14 +69,12 @@ fn gather_for<S: Space, H: Holes<S>>(
     size: u32,
 ) -> Option<Placed>
     requires some { 0 < size }
-    requires kept { H.are_in (holes_of blocks.old) (S.bytes space.old) }
-    requires inside { blocks.old.hi ≤ length (S.bytes space.old) }
+    requires memory { HasRange H.are_in (holes_of blocks.old) blocks.old.hi (S.bytes space.old) }
     ensures slid { IfSome result (λ p. AreMoved p.slid.from p.slid.to blocks.old (S.bytes space.old) blocks.new (S.bytes space.new)) }
     ensures free { IfSome result (λ p. AreFreeBytes blocks.new size p.at) }
     ensures moved { IfSome result (λ p. p.moved ≡ moved_between blocks.old.blocks blocks.new.blocks) }
     ensures lowest { IfSome result (λ p. IsLowestGathered blocks.old size p.at) }
-    ensures rest { IsSameRest S.bytes S.lenders blocks.old.lo blocks.old.hi space.old space.new }
-    ensures kept { H.are_in (holes_of blocks.new) (S.bytes space.new) }
+    ensures rest { Leaves H.are_in S.bytes S.lenders (holes_of blocks.new) (IsSameRest blocks.old.lo blocks.old.hi) space.old space.new }
     ensures written { IfSome result (λ p. S.written space.new ≡ counted (S.written space.old) p.moved) }
     ensures refused { IfNone result ((most_for blocks.old true < size) × (blocks.new ≡ blocks.old) × (space.new ≡ space.old)) }
 {
@@ -98,8 +95,7 @@ pub(crate) fn insert<S: Space, H: Holes<S>>(blocks: &mut Blocks<H>, space: &mut 
     requires kept { H.are_in (holes_of blocks.old) (S.bytes space.old) }
     ensures value { blocks.new ≡ record blocks.old { blocks = placed block blocks.old.blocks } }
     ensures ordered { IsOrdered blocks.new }
-    ensures kept { H.are_in (holes_of blocks.new) (S.bytes space.new) }
-    ensures bytes { KeepsBytes S.bytes S.lenders S.written blocks.old.lo blocks.old.hi blocks.old.blocks space.old space.new }
+    ensures bytes { KeepsBytes H.are_in S.bytes S.lenders S.written (holes_of blocks.new) blocks.old.lo blocks.old.hi blocks.old.blocks space.old space.new }
     ensures small { All (λ b. b < 256) (S.bytes space.new) }
 {
     blocks.bounds();
@@ -112,7 +108,8 @@ pub(crate) fn clear_if<S: Space>(asked: bool, space: &mut S, at: u32, size: u32)
     requires { at + size ≤ length (S.bytes space.old) }
     ensures bytes { S.bytes space.new ≡ if asked then put_part (S.bytes space.old) at (repeated size 0) else S.bytes space.old }
     ensures written { S.written space.new ≡ if asked then counted (S.written space.old) size else S.written space.old }
-    ensures rest { IsSameRest S.bytes S.lenders at (at + size) space.old space.new }
+    ensures rest { IsSameRest at (at + size) (S.bytes space.old) (S.bytes space.new) }
+    ensures lenders { S.lenders space.new ≡ S.lenders space.old }
 {
     if asked {
         space.fill(at, size, 0);

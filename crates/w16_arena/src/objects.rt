@@ -6,6 +6,7 @@ ghost use Rattle.w16_model.specs.Table.{block_with, entry_at, hold_of_entry, IsC
 ghost use Rattle.w16_model.specs.Changes as changes;
 ghost use Rattle.w16_model.specs.Discards.{is_member};
 ghost use Rattle.w16_blocks.specs.Layout.{IsOrdered, all_but, holes_of, replaced};
+ghost use Rattle.w16_blocks.specs.Stay.{HasRange};
 ghost use Rattle.w16_arena.specs.State.{KeepsBytes, Steps, after_end, holes_in};
 
 use crate::Arena;
@@ -30,11 +31,9 @@ impl<H: HoleList> Arena<H> {
     pub fn release<S: Space>(&mut self, space: &mut S, id: u32)
     where
         H: Holes<S>,
-        requires kept { H.are_in (holes_in self.old.table) (S.bytes space.old) }
-        requires inside { self.old.table.hi ≤ length (S.bytes space.old) }
+        requires memory { HasRange H.are_in (holes_in self.old.table) self.old.table.hi (S.bytes space.old) }
         ensures steps { Steps self.old self.new (λ old new. new ≡ after_release old id) }
-        ensures bytes { KeepsBytes S.bytes S.lenders S.written self.new.table.lo self.new.table.hi self.new.table.blocks space.old space.new }
-        ensures kept { H.are_in (holes_in self.new.table) (S.bytes space.new) }
+        ensures bytes { KeepsBytes H.are_in S.bytes S.lenders S.written (holes_in self.new.table) self.new.table.lo self.new.table.hi self.new.table.blocks space.old space.new }
     {
         if self.entry(id).is_some() {
             remove_block(&mut self.blocks, space, id);
@@ -47,13 +46,11 @@ impl<H: HoleList> Arena<H> {
     pub fn free<S: Space>(&mut self, space: &mut S, id: u32) -> Result<(), Refusal>
     where
         H: Holes<S>,
-        requires kept { H.are_in (holes_in self.old.table) (S.bytes space.old) }
-        requires inside { self.old.table.hi ≤ length (S.bytes space.old) }
+        requires memory { HasRange H.are_in (holes_in self.old.table) self.old.table.hi (S.bytes space.old) }
         ensures ok { OnOk result (Steps self.old self.new (λ old new. after_free old id ≡ Ok new)) }
         ensures err { IfErr result (λ r. (self.new ≡ self.old) × Steps self.old self.new (λ old new. after_free old id ≡ Err r)) }
         ensures refused { OnErr result (space.new ≡ space.old) }
-        ensures bytes { KeepsBytes S.bytes S.lenders S.written self.new.table.lo self.new.table.hi self.new.table.blocks space.old space.new }
-        ensures kept { H.are_in (holes_in self.new.table) (S.bytes space.new) }
+        ensures bytes { KeepsBytes H.are_in S.bytes S.lenders S.written (holes_in self.new.table) self.new.table.lo self.new.table.hi self.new.table.blocks space.old space.new }
     {
         let Some(entry) = self.entry(id) else {
             return Ok(());
@@ -110,13 +107,11 @@ impl<H: HoleList> Arena<H> {
     pub fn discard<S: Space>(&mut self, space: &mut S, id: u32) -> Result<(), Refusal>
     where
         H: Holes<S>,
-        requires kept { H.are_in (holes_in self.old.table) (S.bytes space.old) }
-        requires inside { self.old.table.hi ≤ length (S.bytes space.old) }
+        requires memory { HasRange H.are_in (holes_in self.old.table) self.old.table.hi (S.bytes space.old) }
         ensures ok { OnOk result (Steps self.old self.new (λ old new. after_discard old id ≡ Ok new)) }
         ensures err { IfErr result (λ r. (self.new ≡ self.old) × Steps self.old self.new (λ old new. after_discard old id ≡ Err r)) }
         ensures refused { OnErr result (space.new ≡ space.old) }
-        ensures bytes { KeepsBytes S.bytes S.lenders S.written self.new.table.lo self.new.table.hi self.new.table.blocks space.old space.new }
-        ensures kept { H.are_in (holes_in self.new.table) (S.bytes space.new) }
+        ensures bytes { KeepsBytes H.are_in S.bytes S.lenders S.written (holes_in self.new.table) self.new.table.lo self.new.table.hi self.new.table.blocks space.old space.new }
     {
         let Some(entry) = self.entry(id) else {
             return Err(Refusal::NotDiscardable);
@@ -197,15 +192,13 @@ impl<H: HoleList> Arena<H> {
     pub(crate) fn give_up<S: Space>(&mut self, space: &mut S, id: u32)
     where
         H: Holes<S>,
-        requires kept { H.are_in (holes_in self.old.table) (S.bytes space.old) }
-        requires inside { self.old.table.hi ≤ length (S.bytes space.old) }
+        requires memory { HasRange H.are_in (holes_in self.old.table) self.old.table.hi (S.bytes space.old) }
         requires unlocked { IsSomeAnd (entry_at self.old.table id) (λ e. e.locks ≡ 0) }
         ensures steps { Steps self.old self.new (λ old new. new ≡ changes.absent old id) }
         ensures blocks { self.new.table.blocks ≡ all_but id self.old.table.blocks }
         ensures order { self.new.table.order ≡ changes.without id self.old.table.order }
         ensures entries { self.new.table.entries ≡ self.old.table.entries }
-        ensures bytes { KeepsBytes S.bytes S.lenders S.written self.new.table.lo self.new.table.hi self.new.table.blocks space.old space.new }
-        ensures kept { H.are_in (holes_in self.new.table) (S.bytes space.new) }
+        ensures bytes { KeepsBytes H.are_in S.bytes S.lenders S.written (holes_in self.new.table) self.new.table.lo self.new.table.hi self.new.table.blocks space.old space.new }
     {
         remove_block(&mut self.blocks, space, id);
         self.order.remove(id);
@@ -235,12 +228,10 @@ impl<H: HoleList> Arena<H> {
 /// Takes an id's block away, if it has one.
 fn remove_block<S: Space, H: Holes<S>>(blocks: &mut Blocks<H>, space: &mut S, id: u32)
     requires id { id < blocks.old.cap }
-    requires kept { H.are_in (holes_of blocks.old) (S.bytes space.old) }
-    requires inside { blocks.old.hi ≤ length (S.bytes space.old) }
+    requires memory { HasRange H.are_in (holes_of blocks.old) blocks.old.hi (S.bytes space.old) }
     ensures value { blocks.new ≡ record blocks.old { blocks = all_but id blocks.old.blocks } }
     ensures ordered { IsOrdered blocks.new }
-    ensures kept { H.are_in (holes_of blocks.new) (S.bytes space.new) }
-    ensures bytes { KeepsBytes S.bytes S.lenders S.written blocks.new.lo blocks.new.hi blocks.new.blocks space.old space.new }
+    ensures bytes { KeepsBytes H.are_in S.bytes S.lenders S.written (holes_of blocks.new) blocks.new.lo blocks.new.hi blocks.new.blocks space.old space.new }
 {
     if blocks.find(id).is_some() {
         blocks.remove(space, id);

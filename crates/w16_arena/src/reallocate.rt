@@ -7,6 +7,7 @@ ghost use Rattle.w16_model.specs.Table.{IsSound, block_with, entry_at, heap_in};
 ghost use Rattle.w16_model.specs.Request.{IsGrown, Reallocates, StaysOrMovesToHole};
 ghost use Rattle.w16_model.specs.Reallocation.{ReallocatesFewest};
 ghost use Rattle.w16_arena.specs.State.{KeepsRest, holes_in};
+ghost use Rattle.w16_blocks.specs.Stay.{HasRange};
 ghost use Rattle.w16_arena.specs.Asked.{HasDiscardedFor, IsPlaced, IsResized, Stands, may_grow_in};
 
 use crate::Arena;
@@ -35,8 +36,7 @@ impl<H: HoleList> Arena<H> {
         requires object { IsSome (entry_at self.old.table id) }
         requires some { 0 < size }
         requires rounded { IsMultiple self.old.table.grain size }
-        requires kept { H.are_in (holes_in self.old.table) (S.bytes space.old) }
-        requires inside { self.old.table.hi ≤ length (S.bytes space.old) }
+        requires memory { HasRange H.are_in (holes_in self.old.table) self.old.table.hi (S.bytes space.old) }
         ensures reallocated { Reallocates (heap_in self.old.table (S.bytes space.old)) id size options (is_ok result)
             (heap_in self.new.table (S.bytes space.new)) }
         ensures fewest { IsSomeAnd (object_at (heap_in self.old.table (S.bytes space.old)) id) (λ o. ReallocatesFewest (heap_in self.old.table (S.bytes space.old)) id size o options (is_ok result)
@@ -45,8 +45,7 @@ impl<H: HoleList> Arena<H> {
             (heap_in self.new.table (S.bytes space.new))) }
         ensures discarded { IfOk result (λ _. HasDiscardedFor (heap_in self.old.table (S.bytes space.old)) id size options self.new.discarded) }
         ensures refused { OnErr result ((self.new ≡ self.old) × (space.new ≡ space.old)) }
-        ensures rest { KeepsRest S.bytes S.lenders self.old.table space.old self.new.table space.new }
-        ensures kept { H.are_in (holes_in self.new.table) (S.bytes space.new) }
+        ensures rest { KeepsRest H.are_in S.bytes S.lenders self.old.table space.old self.new.table space.new }
         ensures written { IfOk result (λ p. S.written space.new ≡ counted (counted (S.written space.old) p.moved)
             (if options.zero then size - unwrap_or (option_map length (bytes_at (heap_in self.old.table (S.bytes space.old)) id)) 0 else 0)) }
     {
@@ -81,14 +80,12 @@ impl<H: HoleList> Arena<H> {
         requires free { (holds_still block.hold && not options.may_move) ≡ false }
         requires more { block.size < size }
         requires rounded { IsMultiple self.old.table.grain size }
-        requires kept { H.are_in (holes_in self.old.table) (S.bytes space.old) }
-        requires inside { self.old.table.hi ≤ length (S.bytes space.old) }
+        requires memory { HasRange H.are_in (holes_in self.old.table) self.old.table.hi (S.bytes space.old) }
         ensures resized { IfOk result (λ p. IsResized (heap_in self.old.table (S.bytes space.old)) block.id size options p self.new.discarded
             (heap_in self.new.table (S.bytes space.new))) }
         ensures refused { OnErr result (Reallocates (heap_in self.old.table (S.bytes space.old)) block.id size options false (heap_in self.old.table (S.bytes space.old))
             × (self.new ≡ self.old) × (space.new ≡ space.old)) }
-        ensures rest { KeepsRest S.bytes S.lenders self.old.table space.old self.new.table space.new }
-        ensures kept { H.are_in (holes_in self.new.table) (S.bytes space.new) }
+        ensures rest { KeepsRest H.are_in S.bytes S.lenders self.old.table space.old self.new.table space.new }
         ensures written { IfOk result (λ p. S.written space.new ≡ counted (counted (S.written space.old) p.moved) (if options.zero then size - block.size else 0)) }
     {
         if let Some(placed) = self.grow_now(space, block, size, options) {
@@ -115,15 +112,13 @@ impl<H: HoleList> Arena<H> {
         requires free { (holds_still block.hold && not options.may_move) ≡ false }
         requires more { block.size < size }
         requires rounded { IsMultiple self.old.table.grain size }
-        requires kept { H.are_in (holes_in self.old.table) (S.bytes space.old) }
-        requires inside { self.old.table.hi ≤ length (S.bytes space.old) }
+        requires memory { HasRange H.are_in (holes_in self.old.table) self.old.table.hi (S.bytes space.old) }
         requires may { (options.compact && options.discard) ≡ true }
         ensures resized { IfOk result (λ p. IsResized (heap_in self.old.table (S.bytes space.old)) block.id size options p self.new.discarded
             (heap_in self.new.table (S.bytes space.new))) }
         ensures refused { OnErr result (Reallocates (heap_in self.old.table (S.bytes space.old)) block.id size options false (heap_in self.old.table (S.bytes space.old))
             × (self.new ≡ self.old) × (space.new ≡ space.old)) }
-        ensures rest { KeepsRest S.bytes S.lenders self.old.table space.old self.new.table space.new }
-        ensures kept { H.are_in (holes_in self.new.table) (S.bytes space.new) }
+        ensures rest { KeepsRest H.are_in S.bytes S.lenders self.old.table space.old self.new.table space.new }
         ensures written { IfOk result (λ p. S.written space.new ≡ counted (counted (S.written space.old) p.moved) (if options.zero then size - block.size else 0)) }
     {
         self.is_sound();
@@ -151,8 +146,7 @@ impl<H: HoleList> Arena<H> {
         requires known { block_with self.old.table.blocks block.id ≡ Some block }
         requires more { block.size < size }
         requires rounded { IsMultiple self.old.table.grain size }
-        requires kept { H.are_in (holes_in self.old.table) (S.bytes space.old) }
-        requires inside { self.old.table.hi ≤ length (S.bytes space.old) }
+        requires memory { HasRange H.are_in (holes_in self.old.table) self.old.table.hi (S.bytes space.old) }
         ensures stands { IfSome result (λ p. IsSomeAnd (object_at (heap_in self.old.table (S.bytes space.old)) block.id) (λ o. Stands (heap_in self.old.table (S.bytes space.old)) block.id size
             (IsGrown options.zero size o) (λ _ order. order) options p (heap_in self.new.table (S.bytes space.new)))) }
         ensures hole { options.compact ≡ false → IfSome result (λ _. StaysOrMovesToHole (heap_in self.old.table (S.bytes space.old)) block.id size
@@ -160,8 +154,7 @@ impl<H: HoleList> Arena<H> {
         ensures enough { IfSome result (λ _. may_grow_in self.old.table block.id size options.compact ≡ true) }
         ensures refused { IfNone result ((may_grow_in self.old.table block.id size options.compact ≡ false) × (self.new ≡ self.old) × (space.new ≡ space.old)) }
         ensures discarded { self.new.discarded ≡ self.old.discarded }
-        ensures rest { KeepsRest S.bytes S.lenders self.old.table space.old self.new.table space.new }
-        ensures kept { H.are_in (holes_in self.new.table) (S.bytes space.new) }
+        ensures rest { KeepsRest H.are_in S.bytes S.lenders self.old.table space.old self.new.table space.new }
         ensures written { IfSome result (λ p. S.written space.new ≡ counted (counted (S.written space.old) p.moved) (if options.zero then size - block.size else 0)) }
         ensures sound { IsSound self.old.table }
     {

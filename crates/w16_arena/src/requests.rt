@@ -7,6 +7,7 @@ ghost use Rattle.w16_model.specs.Table.{block_with, heap_in, IsSound};
 ghost use Rattle.w16_model.specs.Request.{Allocates, Compacts, compaction_prefix};
 ghost use Rattle.w16_model.specs.Fewest.{AllocatesFewest, CompactsFewest};
 ghost use Rattle.w16_arena.specs.State.{KeepsRest, holes_in};
+ghost use Rattle.w16_blocks.specs.Stay.{HasRange};
 ghost use Rattle.w16_arena.specs.Asked.{HasDiscarded, IsPlaced, IsSlid, first_eligible};
 
 use crate::Arena;
@@ -39,8 +40,7 @@ impl<H: HoleList> Arena<H> {
         requires absent { block_with self.old.table.blocks id ≡ None }
         requires some { 0 < size }
         requires rounded { IsMultiple self.old.table.grain size }
-        requires kept { H.are_in (holes_in self.old.table) (S.bytes space.old) }
-        requires inside { self.old.table.hi ≤ length (S.bytes space.old) }
+        requires memory { HasRange H.are_in (holes_in self.old.table) self.old.table.hi (S.bytes space.old) }
         ensures allocated { Allocates (heap_in self.old.table (S.bytes space.old)) id size kind 0 options (is_ok result)
             (heap_in self.new.table (S.bytes space.new)) }
         ensures fewest { AllocatesFewest (heap_in self.old.table (S.bytes space.old)) id size options (is_ok result)
@@ -49,8 +49,7 @@ impl<H: HoleList> Arena<H> {
             (heap_in self.new.table (S.bytes space.new))) }
         ensures discarded { IfOk result (λ _. HasDiscarded (heap_in self.old.table (S.bytes space.old)) id size options self.new.discarded) }
         ensures refused { OnErr result ((self.new ≡ self.old) × (space.new ≡ space.old)) }
-        ensures rest { KeepsRest S.bytes S.lenders self.old.table space.old self.new.table space.new }
-        ensures kept { H.are_in (holes_in self.new.table) (S.bytes space.new) }
+        ensures rest { KeepsRest H.are_in S.bytes S.lenders self.old.table space.old self.new.table space.new }
         ensures written { IfOk result (λ p. S.written space.new
             ≡ counted (counted (S.written space.old) p.moved) (if options.zero then size else 0)) }
     {
@@ -80,8 +79,7 @@ impl<H: HoleList> Arena<H> {
         requires absent { block_with self.old.table.blocks id ≡ None }
         requires some { 0 < size }
         requires rounded { IsMultiple self.old.table.grain size }
-        requires kept { H.are_in (holes_in self.old.table) (S.bytes space.old) }
-        requires inside { self.old.table.hi ≤ length (S.bytes space.old) }
+        requires memory { HasRange H.are_in (holes_in self.old.table) self.old.table.hi (S.bytes space.old) }
         requires may { (options.compact && options.discard) ≡ true }
         ensures allocated { Allocates (heap_in self.old.table (S.bytes space.old)) id size kind 0 options (is_ok result)
             (heap_in self.new.table (S.bytes space.new)) }
@@ -89,8 +87,7 @@ impl<H: HoleList> Arena<H> {
             (heap_in self.new.table (S.bytes space.new))) }
         ensures discarded { IfOk result (λ _. HasDiscarded (heap_in self.old.table (S.bytes space.old)) id size options self.new.discarded) }
         ensures refused { OnErr result ((self.new ≡ self.old) × (space.new ≡ space.old)) }
-        ensures rest { KeepsRest S.bytes S.lenders self.old.table space.old self.new.table space.new }
-        ensures kept { H.are_in (holes_in self.new.table) (S.bytes space.new) }
+        ensures rest { KeepsRest H.are_in S.bytes S.lenders self.old.table space.old self.new.table space.new }
         ensures written { IfOk result (λ p. S.written space.new
             ≡ counted (counted (S.written space.old) p.moved) (if options.zero then size else 0)) }
     {
@@ -110,8 +107,7 @@ impl<H: HoleList> Arena<H> {
     pub fn compact<S: Space>(&mut self, space: &mut S, n: u32) -> Compacted
     where
         H: Holes<S>,
-        requires kept { H.are_in (holes_in self.old.table) (S.bytes space.old) }
-        requires inside { self.old.table.hi ≤ length (S.bytes space.old) }
+        requires memory { HasRange H.are_in (holes_in self.old.table) self.old.table.hi (S.bytes space.old) }
         ensures compacted { Compacts (heap_in self.old.table (S.bytes space.old)) n result.room
             (heap_in self.new.table (S.bytes space.new)) }
         ensures fewest { CompactsFewest (heap_in self.old.table (S.bytes space.old)) n result.room
@@ -120,8 +116,7 @@ impl<H: HoleList> Arena<H> {
         ensures discarded { 0 < n → self.new.discarded ≡ first_eligible (heap_in self.old.table (S.bytes space.old))
             (compaction_prefix (heap_in self.old.table (S.bytes space.old)) n) None }
         ensures none { n ≡ 0 → (self.new.discarded ≡ []) × (space.new ≡ space.old) }
-        ensures rest { KeepsRest S.bytes S.lenders self.old.table space.old self.new.table space.new }
-        ensures kept { H.are_in (holes_in self.new.table) (S.bytes space.new) }
+        ensures rest { KeepsRest H.are_in S.bytes S.lenders self.old.table space.old self.new.table space.new }
         ensures written { S.written space.new ≡ counted (S.written space.old) result.moved }
     {
         self.is_sound();
@@ -143,15 +138,13 @@ impl<H: HoleList> Arena<H> {
     where
         H: Holes<S>,
         requires some { 0 < n }
-        requires kept { H.are_in (holes_in self.old.table) (S.bytes space.old) }
-        requires inside { self.old.table.hi ≤ length (S.bytes space.old) }
+        requires memory { HasRange H.are_in (holes_in self.old.table) self.old.table.hi (S.bytes space.old) }
         ensures compacted { Compacts (heap_in self.old.table (S.bytes space.old)) n result.room
             (heap_in self.new.table (S.bytes space.new)) }
         ensures slid { IsSlid (heap_in self.old.table (S.bytes space.old)) result (heap_in self.new.table (S.bytes space.new)) }
         ensures discarded { self.new.discarded ≡ first_eligible (heap_in self.old.table (S.bytes space.old))
             (compaction_prefix (heap_in self.old.table (S.bytes space.old)) n) None }
-        ensures rest { KeepsRest S.bytes S.lenders self.old.table space.old self.new.table space.new }
-        ensures kept { H.are_in (holes_in self.new.table) (S.bytes space.new) }
+        ensures rest { KeepsRest H.are_in S.bytes S.lenders self.old.table space.old self.new.table space.new }
         ensures written { S.written space.new ≡ counted (S.written space.old) result.moved }
     {
         reveal_bytes(space);

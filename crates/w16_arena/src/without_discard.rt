@@ -7,6 +7,7 @@ ghost use Rattle.w16_model.specs.Changes as changes;
 ghost use Rattle.w16_model.specs.Table.{block_with, heap_in, IsSound};
 ghost use Rattle.w16_model.specs.Request.{IsNew, most_room};
 ghost use Rattle.w16_blocks.specs.Layout.{IsOrdered, holes_of};
+ghost use Rattle.w16_blocks.specs.Stay.{HasRange};
 ghost use Rattle.w16_arena.specs.State.{KeepsRest, holes_in};
 ghost use Rattle.w16_arena.specs.NewPlace.{most_in};
 ghost use Rattle.w16_arena.specs.Asked.{SlidesTogether, Stands};
@@ -47,15 +48,13 @@ impl<H: HoleList> Arena<H> {
         requires absent { block_with self.old.table.blocks id ≡ None }
         requires some { 0 < size }
         requires rounded { IsMultiple self.old.table.grain size }
-        requires kept { H.are_in (holes_in self.old.table) (S.bytes space.old) }
-        requires inside { self.old.table.hi ≤ length (S.bytes space.old) }
+        requires memory { HasRange H.are_in (holes_in self.old.table) self.old.table.hi (S.bytes space.old) }
         ensures stands { IfSome result (λ p. Stands (heap_in self.old.table (S.bytes space.old)) id size (IsNew options.zero size kind 0) (changes.with_newest id) options p
             (heap_in self.new.table (S.bytes space.new))) }
         ensures enough { IfSome result (λ _. size ≤ most_in self.old.table options.compact) }
         ensures refused { IfNone result ((most_in self.old.table options.compact < size) × (self.new ≡ self.old) × (space.new ≡ space.old)) }
         ensures discarded { self.new.discarded ≡ self.old.discarded }
-        ensures rest { KeepsRest S.bytes S.lenders self.old.table space.old self.new.table space.new }
-        ensures kept { H.are_in (holes_in self.new.table) (S.bytes space.new) }
+        ensures rest { KeepsRest H.are_in S.bytes S.lenders self.old.table space.old self.new.table space.new }
         ensures written { IfSome result (λ p. S.written space.new
             ≡ counted (counted (S.written space.old) p.moved) (if options.zero then size else 0)) }
         ensures sound { IsSound self.old.table }
@@ -80,14 +79,12 @@ impl<H: HoleList> Arena<H> {
     pub(crate) fn slide_together<S: Space>(&mut self, space: &mut S) -> Compacted
     where
         H: Holes<S>,
-        requires kept { H.are_in (holes_in self.old.table) (S.bytes space.old) }
-        requires inside { self.old.table.hi ≤ length (S.bytes space.old) }
+        requires memory { HasRange H.are_in (holes_in self.old.table) self.old.table.hi (S.bytes space.old) }
         ensures room { result.room ≡ room self.old.table.lo self.old.table.hi self.old.table.blocks }
         ensures slides { SlidesTogether (heap_in self.old.table (S.bytes space.old)) result
             (heap_in self.new.table (S.bytes space.new)) }
         ensures discarded { self.new.discarded ≡ self.old.discarded }
-        ensures rest { KeepsRest S.bytes S.lenders self.old.table space.old self.new.table space.new }
-        ensures kept { H.are_in (holes_in self.new.table) (S.bytes space.new) }
+        ensures rest { KeepsRest H.are_in S.bytes S.lenders self.old.table space.old self.new.table space.new }
         ensures written { S.written space.new ≡ counted (S.written space.old) result.moved }
     {
         reveal_bytes(space);

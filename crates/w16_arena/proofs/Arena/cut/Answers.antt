@@ -22,12 +22,12 @@ returns-clause-resized g c = λ options.
     let known = known_in c.self.invariant c.self.view_is (λ t. block_with t.blocks b.id ≡ Some b) c.requires.known in
     let fits = fits_less _ b known c.bounds.ensures.ordered n c.requires.some c.requires.less (known_in c.self.invariant c.self.view_is (λ t. IsMultiple t.grain n) c.requires.rounded) in
     rw c.forget_discards.ensures (told c.self.invariant c.self.view_is (λ t. IsResized (heap_in t m) b.id n options p [] (heap_of c.self.inside.entries.items c.resize.new.blocks c.self.inside.order.ids (g.S.Space.bytes c.resize.new.space)))
-    (is_cut c.self.invariant b known n c.resize.ensures.value c.resize.ensures.ordered m (known_in c.self.invariant c.self.view_is (λ t. t.hi ≤ length m) c.requires.inside)
-    (g.S.Space.bytes c.resize.new.space) c.resize.ensures.bytes.rest.long (others_with c.self.invariant b known n c.resize.ensures.value c.resize.ensures.ordered m (g.S.Space.bytes c.resize.new.space) c.resize.ensures.bytes.contents)
+    (is_cut c.self.invariant b known n c.resize.ensures.value c.resize.ensures.ordered m (known_in c.self.invariant c.self.view_is (λ t. t.hi ≤ length m) c.requires.memory.inside)
+    (g.S.Space.bytes c.resize.new.space) c.resize.ensures.bytes.rest.bytes.long (others_with c.self.invariant b known n c.resize.ensures.value c.resize.ensures.ordered m (g.S.Space.bytes c.resize.new.space) c.resize.ensures.bytes.contents)
     c.requires.some (known_in c.self.invariant c.self.view_is (λ t. IsMultiple t.grain n) c.requires.rounded) options p refl refl fits.inside.2 c.requires.less (c.resize.ensures.own n c.requires.less (omega arith)) refl))
 
 pub returns-clause-rest : goal.returns-clause-rest
 returns-clause-rest g c =
     let known = known_in c.self.invariant c.self.view_is (λ t. block_with t.blocks c.args.block.id ≡ Some c.args.block) c.requires.known in
-    rw c.forget_discards.ensures (told c.self.invariant c.self.view_is (λ t. KeepsRest g.S.Space.bytes g.S.Space.lenders t c.args.space.now (table_of c.self.inside.entries.items c.resize.new.blocks c.self.inside.order.ids) c.resize.new.space)
+    rw c.forget_discards.ensures (told c.self.invariant c.self.view_is (λ t. KeepsRest g.H.Holes.are_in g.S.Space.bytes g.S.Space.lenders t c.args.space.now (table_of c.self.inside.entries.items c.resize.new.blocks c.self.inside.order.ids) c.resize.new.space)
     (rest_resized c.self.invariant c.args.block known c.args.size c.resize.ensures.value c.resize.ensures.ordered c.resize.ensures.bytes.rest))

@@ -1,4 +1,4 @@
-use Rattle.w16_arena.proofs.Common.{◌<◌, length, sym, ap, ◌∙◌, subst, arith, Table, IsSound, all_but, ArenaState, KeepsBytes, table_of, holes_in}
+use Rattle.w16_arena.proofs.Common.{◌<◌, length, sym, ap, ◌∙◌, subst, arith, Table, IsSound, all_but, ArenaState, KeepsBytes, table_of, holes_in, holes}
 use Rattle.w16_arena.proofs.Keeping.{keeps_same, keeps_more}
 use Rattle.w16_arena.proofs.Oldest.{ArePartly, partly_none, partly_more, full, next_unlocked, order_short}
 use Rattle.w16_arena.proofs.Arena.discard_first.Goals as goal
@@ -14,8 +14,7 @@ loop-i-init g c =
       partly = subst (λ (s : ArenaState). ArePartly s c.args.k c.args.h 0 (record { table = t; discarded = c.list_eligible.new.listed.items })) c.self.view_is
           (partly_none (record { table = t; discarded = c.self.inside.discarded.items }) c.self.invariant.sound c.args.k c.args.h c.list_eligible.new.listed.items c.list_eligible.ensures.listed);
       end = let len = c.list_eligible.new.listed.ok.0 in let told = c.len-i-end.ensures in omega arith;
-      bytes = keeps_same t.lo t.hi t.blocks c.args.space.now;
-      kept = subst (λ (s : ArenaState). g.H.Holes.are_in (holes_in s.table) (g.S.Space.bytes c.args.space.now)) (sym c.self.view_is) c.requires.kept;
+      bytes = keeps_same t.lo t.hi t.blocks c.args.space.now (subst (λ (s : ArenaState). g.H.Holes.are_in (holes_in s.table) (g.S.Space.bytes c.args.space.now)) (sym c.self.view_is) c.requires.memory.kept);
     }
 
 pub give_up-requires-clause-unlocked : goal.give_up-requires-clause-unlocked
@@ -28,13 +27,11 @@ pub loop-i-preserved : goal.loop-i-preserved
 loop-i-preserved g c =
     let now = c.loop-i in let lt : now.i < length now.self.discarded = let test = c.loop-i-test.true in let end = now.invariant.end in omega arith in
     let sound = subst (λ (s : ArenaState). IsSound s.table) c.self.view_is c.self.invariant.sound in
-    let id = c.index-id.result.now in let given = c.give_up.ensures in let range = given.steps.range in let t : Table = now.self.table in let after : Table = c.give_up.new.self.table in
-    let gives : KeepsBytes g.S.Space.bytes g.S.Space.lenders g.S.Space.written t.lo t.hi (all_but id t.blocks) now.space c.give_up.new.space = rw (range.lo, range.hi, given.blocks) at given.bytes in
+    let id = c.index-id.result.now in let given = c.give_up.ensures in let range = given.steps.range in
     record {
       partly = partly_more c.args.self.now sound c.args.k c.args.h now.i now.self now.invariant.partly lt c.self-in-loop-i.inside.discarded.items (ap (λ (s : ArenaState). s.discarded) c.self-in-loop-i.view_is) id c.index-id.ensures c.give_up.new.self given.steps given.entries;
       end = now.invariant.end ∙ sym (ap (λ (s : ArenaState). length s.discarded) given.steps.rest);
-      bytes = rw (range.lo, range.hi, given.blocks) (keeps_more t.lo t.hi id t.blocks c.args.space.now now.space c.give_up.new.space now.invariant.bytes gives);
-      kept = given.kept;
+      bytes = keeps_more now.self.table c.give_up.new.self.table id c.args.space.now now.space c.give_up.new.space range.lo range.hi given.blocks now.invariant.bytes given.bytes;
     }
 
 pub returns-clause-discards : goal.returns-clause-discards

@@ -13,10 +13,10 @@ pub returns-clause-ok : goal.returns-clause-ok
 returns-clause-ok g c = free_ok c.args.self.now c.entry.ensures.sound c.args.id c.in-Some.entry (sym c.entry.ensures.value ∙ c.in-Some.is) (le-ltb 0 c.in-Some.entry.locks c.if-entry-gt0.false) c.release.ensures.steps
 
 pub returns-in_default-clause-bytes : goal.returns-in_default-clause-bytes
-returns-in_default-clause-bytes g c = keeps_same c.args.self.now.table.lo c.args.self.now.table.hi c.args.self.now.table.blocks c.args.space.now
+returns-in_default-clause-bytes g c = keeps_same c.args.self.now.table.lo c.args.self.now.table.hi c.args.self.now.table.blocks c.args.space.now c.requires.memory.kept
 
 pub returns-then-entry-gt0-clause-bytes : goal.returns-then-entry-gt0-clause-bytes
-returns-then-entry-gt0-clause-bytes g c = keeps_same c.args.self.now.table.lo c.args.self.now.table.hi c.args.self.now.table.blocks c.args.space.now
+returns-then-entry-gt0-clause-bytes g c = keeps_same c.args.self.now.table.lo c.args.self.now.table.hi c.args.self.now.table.blocks c.args.space.now c.requires.memory.kept
 
 pub returns-then-entry-gt0-clause-ok : goal.returns-then-entry-gt0-clause-ok
 returns-then-entry-gt0-clause-ok g c = tt

@@ -1,16 +1,16 @@
-use Rattle.w16_arena.proofs.Common.{refl, sym, subst, ◌∙◌, ArenaState, holes_in}
+use Rattle.w16_arena.proofs.Common.{refl, sym, subst, ◌∙◌, ArenaState, holes_in, HasRange, List, ℕ, ap}
 use Rattle.w16_arena.proofs.Growing.{refused_now, grows_now}
 use Rattle.w16_arena.proofs.Arena.grow.Goals as goal
 
 pub returns-in-Some-clause-resized : goal.returns-in-Some-clause-resized
 returns-in-Some-clause-resized g c =
     let m = g.S.Space.bytes c.args.space.now in let b = c.args.block in let e = c.in-Some.ensures in
-    rw c.forget_discards.ensures (grows_now c.args.self.now e.sound m c.requires.inside b c.requires.known c.args.size c.requires.more c.requires.rounded c.args.options c.requires.free e.enough e.stands e.hole refl)
+    rw c.forget_discards.ensures (grows_now c.args.self.now e.sound m c.requires.memory.inside b c.requires.known c.args.size c.requires.more c.requires.rounded c.args.options c.requires.free e.enough e.stands e.hole refl)
 
 pub returns-then-not-may_discard-clause-refused : goal.returns-then-not-may_discard-clause-refused
 returns-then-not-may_discard-clause-refused g c =
     let m = g.S.Space.bytes c.args.space.now in let b = c.args.block in let e = c.in_default.ensures in
-    (refused_now c.args.self.now e.sound m c.requires.inside b c.requires.known c.args.size c.requires.more c.requires.rounded c.args.options c.requires.free e.refused.0 (sym c.may_discard.ensures ∙ c.if-not-may_discard.true), e.refused.1, e.refused.2)
+    (refused_now c.args.self.now e.sound m c.requires.memory.inside b c.requires.known c.args.size c.requires.more c.requires.rounded c.args.options c.requires.free e.refused.0 (sym c.may_discard.ensures ∙ c.if-not-may_discard.true), e.refused.1, e.refused.2)
 
 pub returns-clause-resized : goal.returns-clause-resized
 returns-clause-resized g c = let r = c.in_default.ensures.refused in rw (← r.1, ← r.2) c.grow_discarding.ensures.resized
@@ -21,9 +21,6 @@ returns-clause-refused g c = let r = c.in_default.ensures.refused in rw (← r.1
 pub returns-in-Some-clause-rest : goal.returns-in-Some-clause-rest
 returns-in-Some-clause-rest g c = rw c.forget_discards.ensures c.in-Some.ensures.rest
 
-pub returns-in-Some-clause-kept : goal.returns-in-Some-clause-kept
-returns-in-Some-clause-kept g c = subst (λ (s : ArenaState). g.H.Holes.are_in (holes_in s.table) (g.S.Space.bytes c.grow_now.new.space)) (sym c.forget_discards.ensures) c.in-Some.ensures.kept
-
 pub returns-then-not-may_discard-clause-rest : goal.returns-then-not-may_discard-clause-rest
 returns-then-not-may_discard-clause-rest g c = c.in_default.ensures.rest
 
@@ -33,8 +30,10 @@ grow_discarding-requires-clause-known g c = rw c.in_default.ensures.refused.1 c.
 pub grow_discarding-requires-clause-rounded : goal.grow_discarding-requires-clause-rounded
 grow_discarding-requires-clause-rounded g c = rw c.in_default.ensures.refused.1 c.requires.rounded
 
-pub grow_discarding-requires-clause-inside : goal.grow_discarding-requires-clause-inside
-grow_discarding-requires-clause-inside g c = let r = c.in_default.ensures.refused in rw (r.1, r.2) c.requires.inside
+pub grow_discarding-requires-clause-memory : goal.grow_discarding-requires-clause-memory
+grow_discarding-requires-clause-memory g c =
+    let r = c.in_default.ensures.refused in let m = g.S.Space.bytes c.args.space.now in
+    subst (λ (m : List ℕ). HasRange g.H.Holes.are_in (holes_in c.grow_now.new.self.table) c.grow_now.new.self.table.hi m) (sym (ap g.S.Space.bytes r.2)) (subst (λ (s : ArenaState). HasRange g.H.Holes.are_in (holes_in s.table) s.table.hi m) (sym r.1) c.requires.memory)
 
 pub grow_discarding-requires-clause-may : goal.grow_discarding-requires-clause-may
 grow_discarding-requires-clause-may g c = sym c.may_discard.ensures ∙ c.if-not-may_discard.false

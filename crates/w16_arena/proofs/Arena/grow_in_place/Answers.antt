@@ -3,7 +3,7 @@ use Rattle.w16_arena.proofs.Common.{counted, ◌≡◌, ◌+◌, ◌≤◌, fals
 use Rattle.w16_arena.proofs.Shown.{known as known_in, told}
 use Rattle.w16_arena.proofs.Fitting.{id_known, fits_more, spare_small, ends_inside}
 use Rattle.w16_arena.proofs.InPlace.{kept_resized, rest_resized, is_extended, not_extended}
-use Rattle.w16_arena.proofs.Keeping.{same_in, used_placed}
+use Rattle.w16_arena.proofs.Keeping.{leaves_cleared, used_placed}
 use Rattle.w16_arena.proofs.Extending.{long_after, others_after, grown_after}
 use Rattle.w16_arena.proofs.Arena.grow_in_place.Goals as goal
 
@@ -27,7 +27,7 @@ returns-then-block-free_after-clause-refused g c =
     let free : c.free_after.result ≡ hole_after l.hi l.blocks (block_end b) = subst (λ p. IfSome p (λ (b : Block). c.free_after.result ≡ hole_after l.hi l.blocks (block_end b))) known c.free_after.ensures.value in
     let short = c.if-block-free_after.true in (
       told c.self.invariant c.self.view_is (λ t. Reallocates (heap_in t m) b.id n c.args.options false (heap_in t m))
-          (not_extended c.self.invariant b known n m (known_in c.self.invariant c.self.view_is (λ t. t.hi ≤ length m) c.requires.inside) (known_in c.self.invariant c.self.view_is (λ t. IsMultiple t.grain n) c.requires.rounded) c.args.options c.requires.more c.requires.held (omega arith)),
+          (not_extended c.self.invariant b known n m (known_in c.self.invariant c.self.view_is (λ t. t.hi ≤ length m) c.requires.memory.inside) (known_in c.self.invariant c.self.view_is (λ t. IsMultiple t.grain n) c.requires.rounded) c.args.options c.requires.more c.requires.held (omega arith)),
       refl,
       refl,
     )
@@ -57,8 +57,8 @@ clear_if-requires g c =
     let free : c.free_after.result ≡ hole_after l.hi l.blocks (block_end b) = subst (λ p. IfSome p (λ (b : Block). c.free_after.result ≡ hole_after l.hi l.blocks (block_end b))) known c.free_after.ensures.value in
     let enough = c.if-block-free_after.false in
     let end = (fits_more l b known c.bounds.ensures.ordered c.args.size c.requires.more (omega arith) (known_in c.self.invariant c.self.view_is (λ t. IsMultiple t.grain c.args.size) c.requires.rounded)).inside.2 in
-    let inside = known_in c.self.invariant c.self.view_is (λ t. t.hi ≤ length (g.S.Space.bytes c.args.space.now)) c.requires.inside in
-    let long = c.resize.ensures.bytes.rest.long in
+    let inside = known_in c.self.invariant c.self.view_is (λ t. t.hi ≤ length (g.S.Space.bytes c.args.space.now)) c.requires.memory.inside in
+    let long = c.resize.ensures.bytes.rest.bytes.long in
     let more = c.requires.more in
     omega arith
 
@@ -74,11 +74,11 @@ returns-clause-resized g c =
     let free : c.free_after.result ≡ hole_after l.hi l.blocks (block_end b) = subst (λ p. IfSome p (λ (b : Block). c.free_after.result ≡ hole_after l.hi l.blocks (block_end b))) known c.free_after.ensures.value in
     let enough = c.if-block-free_after.false in
     let fits = fits_more l b known c.bounds.ensures.ordered c.args.size c.requires.more (omega arith) (known_in c.self.invariant c.self.view_is (λ t. IsMultiple t.grain c.args.size) c.requires.rounded) in
-    let inside = known_in c.self.invariant c.self.view_is (λ t. t.hi ≤ length m) c.requires.inside in
+    let inside = known_in c.self.invariant c.self.view_is (λ t. t.hi ≤ length m) c.requires.memory.inside in
     let kept = c.resize.ensures in let more = c.requires.more in
-    let long = long_after c.self.invariant b known n fits more kept.value kept.ordered m mid after inside kept.bytes.rest.long kept.small kept.bytes.contents kept.own c.args.options.zero c.clear_if.ensures.bytes in
-    let others = others_after c.self.invariant b known n fits more kept.value kept.ordered m mid after inside kept.bytes.rest.long kept.small kept.bytes.contents kept.own c.args.options.zero c.clear_if.ensures.bytes in
-    let grown = grown_after c.self.invariant b known n fits more kept.value kept.ordered m mid after inside kept.bytes.rest.long kept.small kept.bytes.contents kept.own c.args.options.zero c.clear_if.ensures.bytes in
+    let long = long_after c.self.invariant b known n fits more kept.value kept.ordered m mid after inside kept.bytes.rest.bytes.long kept.small kept.bytes.contents kept.own c.args.options.zero c.clear_if.ensures.bytes in
+    let others = others_after c.self.invariant b known n fits more kept.value kept.ordered m mid after inside kept.bytes.rest.bytes.long kept.small kept.bytes.contents kept.own c.args.options.zero c.clear_if.ensures.bytes in
+    let grown = grown_after c.self.invariant b known n fits more kept.value kept.ordered m mid after inside kept.bytes.rest.bytes.long kept.small kept.bytes.contents kept.own c.args.options.zero c.clear_if.ensures.bytes in
     rw c.forget_discards.ensures (told c.self.invariant c.self.view_is (λ t. IsResized (heap_in t m) b.id n c.args.options p [] (heap_of c.self.inside.entries.items c.resize.new.blocks c.self.inside.order.ids after))
     (is_extended c.self.invariant b known n kept.value kept.ordered m inside after long others (omega arith) (known_in c.self.invariant c.self.view_is (λ t. IsMultiple t.grain n) c.requires.rounded) c.args.options p refl refl fits.inside.2
     more c.requires.held (omega arith) grown refl))
@@ -90,15 +90,8 @@ returns-clause-rest g c =
     let free : c.free_after.result ≡ hole_after l.hi l.blocks (block_end b) = subst (λ p. IfSome p (λ (b : Block). c.free_after.result ≡ hole_after l.hi l.blocks (block_end b))) known c.free_after.ensures.value in
     let enough = c.if-block-free_after.false in
     let fits = fits_more l b known c.bounds.ensures.ordered c.args.size c.requires.more (omega arith) (known_in c.self.invariant c.self.view_is (λ t. IsMultiple t.grain c.args.size) c.requires.rounded) in let from = fits.inside.0 in let end = fits.inside.2 in let more = c.requires.more in
-    rw c.forget_discards.ensures (told c.self.invariant c.self.view_is (λ t. KeepsRest g.S.Space.bytes g.S.Space.lenders t c.args.space.now (table_of c.self.inside.entries.items c.resize.new.blocks c.self.inside.order.ids) c.clear_if.new.space)
-    (rest_resized c.self.invariant b known c.args.size c.resize.ensures.value c.resize.ensures.ordered (rest_more c.resize.ensures.bytes.rest c.clear_if.ensures.rest (omega arith) (omega arith))))
-
-pub returns-clause-kept : goal.returns-clause-kept
-returns-clause-kept g c =
-    let b : Block = c.args.block in let n = c.args.size in let more = c.requires.more in
-    let wide = rest_wider {low = b.at} {high = b.at + n} c.clear_if.ensures.rest (omega arith) (omega arith) in
-    subst (λ (s : ArenaState). g.H.Holes.are_in (holes_in s.table) (g.S.Space.bytes c.clear_if.new.space)) (sym c.forget_discards.ensures) (g.met.H.Holes.stay _ (g.S.Space.bytes c.resize.new.space) (g.S.Space.bytes c.clear_if.new.space) c.resize.ensures.kept
-    (same_in b.at (b.at + n) _ _ _ wide.long wide.outside (used_placed (but_for b.id c.self.inside.blocks) c.resize.new.blocks (record b { size = n }) c.resize.ensures.value c.resize.ensures.ordered)))
+    rw c.forget_discards.ensures (told c.self.invariant c.self.view_is (λ t. KeepsRest g.H.Holes.are_in g.S.Space.bytes g.S.Space.lenders t c.args.space.now (table_of c.self.inside.entries.items c.resize.new.blocks c.self.inside.order.ids) c.clear_if.new.space)
+    (rest_resized c.self.invariant b known c.args.size c.resize.ensures.value c.resize.ensures.ordered (leaves_cleared b.at (b.at + c.args.size) g.met.H.Holes.stay c.resize.ensures.bytes.rest (rest_wider c.clear_if.ensures.rest (omega arith) (omega arith)) c.clear_if.ensures.lenders (omega arith) (omega arith) (used_placed (but_for b.id l) c.resize.new.blocks (record b { size = c.args.size }) c.resize.ensures.value c.resize.ensures.ordered))))
 
 pub returns-clause-written : goal.returns-clause-written
 returns-clause-written g c =

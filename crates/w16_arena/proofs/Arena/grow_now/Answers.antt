@@ -1,6 +1,6 @@
 use Rattle.w16_arena.proofs.Written.{counted_if}
-use Rattle.w16_arena.proofs.Common.{counted, ◌≡◌, ◌+◌, ◌≤◌, length, IsSomeAnd, Some, arith, ℕ, ◌-◌, true, ap, ◌∙◌, refl, if◌then◌else◌, Block, IsMultiple, object_at, IsGrown, StaysOrMovesToHole, block_with, heap_in, IsSound, rest_wider, rest_same, Stands, may_grow_in, but_for, KeepsRest, table_of, heap_of, ArenaState}
-use Rattle.w16_arena.proofs.Keeping.{same_in, used_placed}
+use Rattle.w16_arena.proofs.Common.{counted, ◌≡◌, ◌+◌, ◌≤◌, length, IsSomeAnd, Some, arith, ℕ, ◌-◌, true, ap, ◌∙◌, refl, if◌then◌else◌, Block, IsMultiple, object_at, IsGrown, StaysOrMovesToHole, block_with, heap_in, IsSound, rest_wider, rest_same, Stands, may_grow_in, but_for, KeepsRest, table_of, heap_of, ArenaState, holes_in, HasRange}
+use Rattle.w16_arena.proofs.Keeping.{same_in, used_placed, none_changed}
 use Rattle.w16_arena.proofs.Shown.{known as known_in, told}
 use Rattle.w16_arena.proofs.Sized.{of_object}
 use Rattle.w16_arena.proofs.Regrown.{kept_grown, rest_grown, stands_grown, hole_grown}
@@ -13,7 +13,7 @@ module _ (g : Given.Over) (c : goal.After-clear_if g) where
   known = known_in c.self.invariant c.self.view_is (λ t. block_with t.blocks c.args.block.id ≡ Some c.args.block) c.requires.known
 
   inside : c.self.inside.blocks.hi ≤ length (g.S.Space.bytes c.args.space.now)
-  inside = known_in c.self.invariant c.self.view_is (λ t. t.hi ≤ length (g.S.Space.bytes c.args.space.now)) c.requires.inside
+  inside = known_in c.self.invariant c.self.view_is (λ t. t.hi ≤ length (g.S.Space.bytes c.args.space.now)) c.requires.memory.inside
 
   rounded : IsMultiple c.self.inside.blocks.grain c.args.size
   rounded = known_in c.self.invariant c.self.view_is (λ t. IsMultiple t.grain c.args.size) c.requires.rounded
@@ -40,14 +40,7 @@ returns-clause-hole g c =
 pub returns-clause-rest : goal.returns-clause-rest
 returns-clause-rest g c =
     let m = g.S.Space.bytes c.args.space.now in let b : Block = c.args.block in let n = c.args.size in let e = c.in_ok-placed.ensures in let p = c.in_ok-placed.placed in
-    told c.self.invariant c.self.view_is (λ t. KeepsRest g.S.Space.bytes g.S.Space.lenders t c.args.space.now (table_of c.self.inside.entries.items c.grow_block.new.blocks c.self.inside.order.ids) c.clear_if.new.space) (rest_grown c.self.invariant b (known g c) c.bounds.ensures.ordered m (inside g c) n c.requires.more (rounded g c) c.args.options p e.grown.value e.grown.laid e.grown.slid e.grown.free e.grown.bytes c.reveal_bytes.ensures c.clear_if.ensures.bytes e.rest c.clear_if.ensures.rest)
-
-pub returns-clause-kept : goal.returns-clause-kept
-returns-clause-kept g c =
-    let b : Block = c.args.block in let n = c.args.size in let e = c.in_ok-placed.ensures in let p = c.in_ok-placed.placed in let more = c.requires.more in
-    let wide = rest_wider {low = p.at} {high = p.at + n} c.clear_if.ensures.rest (omega arith) (omega arith) in
-    g.met.H.Holes.stay _ (g.S.Space.bytes c.grow_block.new.space) (g.S.Space.bytes c.clear_if.new.space) e.kept
-    (same_in p.at (p.at + n) _ _ _ wide.long wide.outside (used_placed (but_for b.id c.grow_block.new.blocks) c.grow_block.new.blocks (record b { at = p.at; size = n }) e.grown.value e.grown.laid))
+    told c.self.invariant c.self.view_is (λ t. KeepsRest g.H.Holes.are_in g.S.Space.bytes g.S.Space.lenders t c.args.space.now (table_of c.self.inside.entries.items c.grow_block.new.blocks c.self.inside.order.ids) c.clear_if.new.space) (rest_grown c.self.invariant b (known g c) c.bounds.ensures.ordered m (inside g c) n c.requires.more (rounded g c) c.args.options p e.grown.value e.grown.laid e.grown.slid e.grown.free e.grown.bytes c.reveal_bytes.ensures c.clear_if.ensures.bytes g.met.H.Holes.stay e.rest c.clear_if.ensures.rest c.clear_if.ensures.lenders)
 
 pub returns-clause-written : goal.returns-clause-written
 returns-clause-written g c =
@@ -72,10 +65,10 @@ grow_block-requires-clause-known g c = known_in c.self.invariant c.self.view_is 
 pub grow_block-requires-clause-rounded : goal.grow_block-requires-clause-rounded
 grow_block-requires-clause-rounded g c = known_in c.self.invariant c.self.view_is (λ t. IsMultiple t.grain c.args.size) c.requires.rounded
 
-pub grow_block-requires-clause-inside : goal.grow_block-requires-clause-inside
-grow_block-requires-clause-inside g c = known_in c.self.invariant c.self.view_is (λ t. t.hi ≤ length (g.S.Space.bytes c.args.space.now)) c.requires.inside
+pub grow_block-requires-clause-memory : goal.grow_block-requires-clause-memory
+grow_block-requires-clause-memory g c = known_in c.self.invariant c.self.view_is (λ t. HasRange g.H.Holes.are_in (holes_in t) t.hi (g.S.Space.bytes c.args.space.now)) c.requires.memory
 
 pub returns-in_err-placed-clause-rest : goal.returns-in_err-placed-clause-rest
 returns-in_err-placed-clause-rest g c = let r = c.in_err-placed.ensures.refused in
-    told c.self.invariant c.self.view_is (λ t. KeepsRest g.S.Space.bytes g.S.Space.lenders t c.args.space.now (table_of c.self.inside.entries.items c.grow_block.new.blocks c.self.inside.order.ids) c.grow_block.new.space)
-    (rw (r.1, r.2) (record { range = record { lo = refl; hi = refl; grain = refl; ids = refl; sound = c.self.invariant.sound }; memory = rest_same c.self.inside.blocks.lo c.self.inside.blocks.hi c.args.space.now }))
+    told c.self.invariant c.self.view_is (λ t. KeepsRest g.H.Holes.are_in g.S.Space.bytes g.S.Space.lenders t c.args.space.now (table_of c.self.inside.entries.items c.grow_block.new.blocks c.self.inside.order.ids) c.grow_block.new.space)
+    (rw (r.1, r.2) (none_changed c.args.space.now c.self.invariant.sound (known_in c.self.invariant c.self.view_is (λ t. g.H.Holes.are_in (holes_in t) (g.S.Space.bytes c.args.space.now)) c.requires.memory.kept)))

@@ -29,7 +29,7 @@ module _ (g : _) (c : goal.After-end_for g) where
 
   inside : table.hi ≤ length memory
   unfolding memory table
-  inside = known c.self.invariant c.self.view_is (λ t. t.hi ≤ length (g.S.Space.bytes c.args.space.now)) c.requires.inside
+  inside = known c.self.invariant c.self.view_is (λ t. t.hi ≤ length (g.S.Space.bytes c.args.space.now)) c.requires.memory.inside
 
   top : c.bounds.result.to ≡ table.hi
   unfolding table

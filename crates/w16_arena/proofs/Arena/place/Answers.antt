@@ -1,25 +1,25 @@
-use Rattle.w16_arena.proofs.Common.{most_in, IsSound, ArenaState, KeepsRest, table_of, counted, ◌+◌, ap, arith, ℕ, ◌∙◌, refl, if◌then◌else◌, ◌≤◌, Layout, rest_more, rest_same}
-use Rattle.w16_arena.proofs.Shown.{told}
+use Rattle.w16_arena.proofs.Common.{most_in, IsSound, ArenaState, KeepsRest, table_of, counted, ◌+◌, ap, arith, ℕ, ◌∙◌, refl, if◌then◌else◌, ◌≤◌, Layout, rest_more, rest_same, holes_in, leaves_more}
+use Rattle.w16_arena.proofs.Shown.{known as known_in, told}
 use Rattle.w16_arena.proofs.Written.{counted_if}
 use Rattle.w16_arena.proofs.Granting.{may_insert, kept_placed, rest_placed, stands_placed}
-use Rattle.w16_arena.proofs.Keeping.{moved_kept, same_in, used_placed}
+use Rattle.w16_arena.proofs.Keeping.{moved_kept, same_in, used_placed, none_changed}
 use Rattle.w16_arena.proofs.Arena.place.Goals as goal
 
 pub insert-requires-clause-fits : goal.insert-requires-clause-fits
 insert-requires-clause-fits g c =
-    may_insert c.self.invariant c.self.view_is (g.S.Space.bytes c.args.space.now) c.reveal_bytes.ensures c.requires.inside c.args.id c.args.size c.args.kind c.args.options c.requires.id c.requires.absent c.requires.some c.requires.rounded
+    may_insert c.self.invariant c.self.view_is (g.S.Space.bytes c.args.space.now) c.reveal_bytes.ensures c.requires.memory.inside c.args.id c.args.size c.args.kind c.args.options c.requires.id c.requires.absent c.requires.some c.requires.rounded
     c.in_ok-placed.placed c.in_ok-placed.ensures.slid c.in_ok-placed.ensures.free c.hold.ensures
 
 pub invariant_of-self-2 : goal.invariant_of-self-2
 invariant_of-self-2 g c =
-    let moved = moved_kept c.in_ok-placed.placed.slid.from c.in_ok-placed.placed.slid.to _ _ _ _ _ c.in_ok-placed.ensures.slid c.insert.ensures.bytes.contents c.insert.ensures.bytes.rest.long c.insert.ensures.small in
-    kept_placed c.self.invariant c.self.view_is (g.S.Space.bytes c.args.space.now) c.reveal_bytes.ensures c.requires.inside c.args.id c.args.size c.args.kind c.args.options c.requires.id c.requires.absent c.requires.some c.requires.rounded
+    let moved = moved_kept c.in_ok-placed.placed.slid.from c.in_ok-placed.placed.slid.to _ _ _ _ _ c.in_ok-placed.ensures.slid c.insert.ensures.bytes.contents c.insert.ensures.bytes.rest.bytes.long c.insert.ensures.small in
+    kept_placed c.self.invariant c.self.view_is (g.S.Space.bytes c.args.space.now) c.reveal_bytes.ensures c.requires.memory.inside c.args.id c.args.size c.args.kind c.args.options c.requires.id c.requires.absent c.requires.some c.requires.rounded
     c.in_ok-placed.placed moved c.in_ok-placed.ensures.free c.hold.ensures c.insert.ensures.value c.insert.ensures.ordered c.clear_if.ensures.bytes c.list_new.ensures
 
 pub returns-clause-stands : goal.returns-clause-stands
 returns-clause-stands g c =
-    let moved = moved_kept c.in_ok-placed.placed.slid.from c.in_ok-placed.placed.slid.to _ _ _ _ _ c.in_ok-placed.ensures.slid c.insert.ensures.bytes.contents c.insert.ensures.bytes.rest.long c.insert.ensures.small in
-    stands_placed c.self.invariant c.self.view_is (g.S.Space.bytes c.args.space.now) c.reveal_bytes.ensures c.requires.inside c.args.id c.args.size c.args.kind c.args.options c.requires.id c.requires.absent c.requires.some c.requires.rounded
+    let moved = moved_kept c.in_ok-placed.placed.slid.from c.in_ok-placed.placed.slid.to _ _ _ _ _ c.in_ok-placed.ensures.slid c.insert.ensures.bytes.contents c.insert.ensures.bytes.rest.bytes.long c.insert.ensures.small in
+    stands_placed c.self.invariant c.self.view_is (g.S.Space.bytes c.args.space.now) c.reveal_bytes.ensures c.requires.memory.inside c.args.id c.args.size c.args.kind c.args.options c.requires.id c.requires.absent c.requires.some c.requires.rounded
     c.in_ok-placed.placed moved c.in_ok-placed.ensures.free c.hold.ensures c.insert.ensures.value c.insert.ensures.ordered c.clear_if.ensures.bytes c.list_new.ensures
     (λ off. (c.in_ok-placed.ensures.still off).0) c.in_ok-placed.ensures.moved
 
@@ -27,16 +27,10 @@ pub returns-clause-rest : goal.returns-clause-rest
 returns-clause-rest g c =
     let slid = c.in_ok-placed.ensures.slid in
     let lo = ap (λ (l : Layout). l.lo) slid.same in let hi = ap (λ (l : Layout). l.hi) slid.same in
-    let moved = moved_kept c.in_ok-placed.placed.slid.from c.in_ok-placed.placed.slid.to _ _ _ _ _ slid c.insert.ensures.bytes.contents c.insert.ensures.bytes.rest.long c.insert.ensures.small in
-    rest_placed c.self.invariant c.self.view_is (g.S.Space.bytes c.args.space.now) c.reveal_bytes.ensures c.requires.inside c.args.id c.args.size c.args.kind c.args.options c.requires.id c.requires.absent c.requires.some c.requires.rounded
-    c.in_ok-placed.placed moved c.in_ok-placed.ensures.free c.hold.ensures c.insert.ensures.value c.insert.ensures.ordered c.clear_if.ensures.bytes c.list_new.ensures
-    (rest_more c.in_ok-placed.ensures.rest c.insert.ensures.bytes.rest (omega arith) (omega arith)) c.clear_if.ensures.rest
-
-pub returns-clause-kept : goal.returns-clause-kept
-returns-clause-kept g c =
-    let cleared = c.clear_if.ensures.rest in
-    g.met.H.Holes.stay _ (g.S.Space.bytes c.insert.new.space) (g.S.Space.bytes c.clear_if.new.space) c.insert.ensures.kept
-    (same_in c.in_ok-placed.placed.at (c.in_ok-placed.placed.at + c.args.size) _ _ _ cleared.long cleared.outside (used_placed _ _ _ c.insert.ensures.value c.insert.ensures.ordered))
+    let moved = moved_kept c.in_ok-placed.placed.slid.from c.in_ok-placed.placed.slid.to _ _ _ _ _ slid c.insert.ensures.bytes.contents c.insert.ensures.bytes.rest.bytes.long c.insert.ensures.small in
+    rest_placed c.self.invariant c.self.view_is (g.S.Space.bytes c.args.space.now) c.reveal_bytes.ensures c.requires.memory.inside c.args.id c.args.size c.args.kind c.args.options c.requires.id c.requires.absent c.requires.some c.requires.rounded
+    c.in_ok-placed.placed moved c.in_ok-placed.ensures.free c.hold.ensures c.insert.ensures.value c.insert.ensures.ordered c.clear_if.ensures.bytes c.list_new.ensures g.met.H.Holes.stay
+    (leaves_more c.in_ok-placed.ensures.rest c.insert.ensures.bytes.rest (omega arith) (omega arith)) c.clear_if.ensures.rest c.clear_if.ensures.lenders
 
 pub returns-clause-written : goal.returns-clause-written
 returns-clause-written g c =
@@ -54,8 +48,8 @@ invariant_of-self g c = rw c.in_err-placed.ensures.refused.1 c.self.invariant
 
 pub returns-in_err-placed-clause-rest : goal.returns-in_err-placed-clause-rest
 returns-in_err-placed-clause-rest g c = let r = c.in_err-placed.ensures.refused in
-    told c.self.invariant c.self.view_is (λ t. KeepsRest g.S.Space.bytes g.S.Space.lenders t c.args.space.now (table_of c.self.inside.entries.items c.make_room.new.blocks c.self.inside.order.ids) c.make_room.new.space)
-    (rw (r.1, r.2) (record { range = record { lo = refl; hi = refl; grain = refl; ids = refl; sound = c.self.invariant.sound }; memory = rest_same c.self.inside.blocks.lo c.self.inside.blocks.hi c.args.space.now }))
+    told c.self.invariant c.self.view_is (λ t. KeepsRest g.H.Holes.are_in g.S.Space.bytes g.S.Space.lenders t c.args.space.now (table_of c.self.inside.entries.items c.make_room.new.blocks c.self.inside.order.ids) c.make_room.new.space)
+    (rw (r.1, r.2) (none_changed c.args.space.now c.self.invariant.sound (known_in c.self.invariant c.self.view_is (λ t. g.H.Holes.are_in (holes_in t) (g.S.Space.bytes c.args.space.now)) c.requires.memory.kept)))
 
 pub returns-clause-enough : goal.returns-clause-enough
 returns-clause-enough g c = told c.self.invariant c.self.view_is (λ t. c.args.size ≤ most_in t c.args.options.compact) c.in_ok-placed.ensures.enough

@@ -18,22 +18,22 @@ alloc-requires-clause-absent g c = sym c.in_default-block.ensures.value
 
 pub returns-in_default-block-clause-reallocated : goal.returns-in_default-block-clause-reallocated
 returns-in_default-block-clause-reallocated g c =
-    revived c.args.self.now.table c.in-Some.ensures.sound (g.S.Space.bytes c.args.space.now) c.requires.inside c.args.id c.in-Some.entry (sym c.in-Some.ensures.value) (sym c.in_default-block.ensures.value) c.args.size c.args.options (is_ok c.alloc.result) (heap_in c.alloc.new.self.table (g.S.Space.bytes c.alloc.new.space)) c.alloc.ensures.allocated
+    revived c.args.self.now.table c.in-Some.ensures.sound (g.S.Space.bytes c.args.space.now) c.requires.memory.inside c.args.id c.in-Some.entry (sym c.in-Some.ensures.value) (sym c.in_default-block.ensures.value) c.args.size c.args.options (is_ok c.alloc.result) (heap_in c.alloc.new.self.table (g.S.Space.bytes c.alloc.new.space)) c.alloc.ensures.allocated
 
 pub returns-in_default-block-clause-fewest : goal.returns-in_default-block-clause-fewest
 returns-in_default-block-clause-fewest g c =
     let m = g.S.Space.bytes c.args.space.now in let t : Table = c.args.self.now.table in
-    fewest_law (heap_in t m) (heap_in c.alloc.new.self.table (g.S.Space.bytes c.alloc.new.space)) c.args.id c.args.size c.args.options (is_ok c.alloc.result) (sound_heap t c.in-Some.ensures.sound m c.requires.inside c.reveal_bytes.ensures) (returns-in_default-block-clause-reallocated g c)
+    fewest_law (heap_in t m) (heap_in c.alloc.new.self.table (g.S.Space.bytes c.alloc.new.space)) c.args.id c.args.size c.args.options (is_ok c.alloc.result) (sound_heap t c.in-Some.ensures.sound m c.requires.memory.inside c.reveal_bytes.ensures) (returns-in_default-block-clause-reallocated g c)
 
 pub returns-in_default-block-clause-discarded : goal.returns-in_default-block-clause-discarded
 returns-in_default-block-clause-discarded g c =
-    revived_listed c.args.self.now.table c.in-Some.ensures.sound (g.S.Space.bytes c.args.space.now) c.requires.inside c.args.id c.in-Some.entry (sym c.in-Some.ensures.value) (sym c.in_default-block.ensures.value) c.args.size c.args.options c.alloc.new.self.discarded c.alloc.result c.alloc.ensures.discarded
+    revived_listed c.args.self.now.table c.in-Some.ensures.sound (g.S.Space.bytes c.args.space.now) c.requires.memory.inside c.args.id c.in-Some.entry (sym c.in-Some.ensures.value) (sym c.in_default-block.ensures.value) c.args.size c.args.options c.alloc.new.self.discarded c.alloc.result c.alloc.ensures.discarded
 
 pub returns-in_default-block-clause-written : goal.returns-in_default-block-clause-written
 returns-in_default-block-clause-written g c =
     let m = g.S.Space.bytes c.args.space.now in let t : Table = c.args.self.now.table in
     revived_written c.alloc.result (g.S.Space.written c.args.space.now) (g.S.Space.written c.alloc.new.space) c.args.options.zero c.args.size (unwrap_or (option_map (length {A = ℕ}) (bytes_at (heap_in t m) c.args.id)) 0)
-    (no_size t c.in-Some.ensures.sound m c.requires.inside c.args.id c.in-Some.entry (sym c.in-Some.ensures.value) (sym c.in_default-block.ensures.value)) c.alloc.ensures.written
+    (no_size t c.in-Some.ensures.sound m c.requires.memory.inside c.args.id c.in-Some.entry (sym c.in-Some.ensures.value) (sym c.in_default-block.ensures.value)) c.alloc.ensures.written
 
 -- One that has as many bytes or more.
 
@@ -51,7 +51,7 @@ returns-then-size-block-clause-reallocated g c = (cut_is g c).reallocated
 pub returns-then-size-block-clause-fewest : goal.returns-then-size-block-clause-fewest
 returns-then-size-block-clause-fewest g c =
     let m = g.S.Space.bytes c.args.space.now in let t : Table = c.args.self.now.table in
-    fewest_law (heap_in t m) (heap_in c.cut.new.self.table (g.S.Space.bytes c.cut.new.space)) c.args.id c.args.size c.args.options true (sound_heap t c.in-Some.ensures.sound m c.requires.inside c.reveal_bytes.ensures) (cut_is g c).reallocated
+    fewest_law (heap_in t m) (heap_in c.cut.new.self.table (g.S.Space.bytes c.cut.new.space)) c.args.id c.args.size c.args.options true (sound_heap t c.in-Some.ensures.sound m c.requires.memory.inside c.reveal_bytes.ensures) (cut_is g c).reallocated
 
 pub returns-then-size-block-clause-placed : goal.returns-then-size-block-clause-placed
 returns-then-size-block-clause-placed g c = (cut_is g c).placed
@@ -62,7 +62,7 @@ returns-then-size-block-clause-discarded g c = (cut_is g c).listed
 pub returns-then-size-block-clause-written : goal.returns-then-size-block-clause-written
 returns-then-size-block-clause-written g c =
     let m = g.S.Space.bytes c.args.space.now in let t : Table = c.args.self.now.table in let n = c.args.size in
-    let s = size_told t c.in-Some.ensures.sound m c.requires.inside c.args.id c.in-Some-block.block c.in-Some-block.ensures.value in
+    let s = size_told t c.in-Some.ensures.sound m c.requires.memory.inside c.args.id c.in-Some-block.block c.in-Some-block.ensures.value in
     cut_written c.args.options.zero (g.S.Space.written c.args.space.now) (g.S.Space.written c.cut.new.space) c.cut.result.moved n (unwrap_or (option_map (length {A = ℕ}) (bytes_at (heap_in t m) c.args.id)) 0) c.cut.ensures.moved c.cut.ensures.written (subst (λ k. n ≤ k) (sym s) c.if-size-block.true)
 
 -- One that keeps its address while it grows.
@@ -83,7 +83,7 @@ returns-then-is_held-clause-reallocated g c = (grow_in_place_is g c).reallocated
 pub returns-then-is_held-clause-fewest : goal.returns-then-is_held-clause-fewest
 returns-then-is_held-clause-fewest g c =
     let m = g.S.Space.bytes c.args.space.now in let t : Table = c.args.self.now.table in
-    fewest_law (heap_in t m) (heap_in c.grow_in_place.new.self.table (g.S.Space.bytes c.grow_in_place.new.space)) c.args.id c.args.size c.args.options (is_ok c.grow_in_place.result) (sound_heap t c.in-Some.ensures.sound m c.requires.inside c.reveal_bytes.ensures) (grow_in_place_is g c).reallocated
+    fewest_law (heap_in t m) (heap_in c.grow_in_place.new.self.table (g.S.Space.bytes c.grow_in_place.new.space)) c.args.id c.args.size c.args.options (is_ok c.grow_in_place.result) (sound_heap t c.in-Some.ensures.sound m c.requires.memory.inside c.reveal_bytes.ensures) (grow_in_place_is g c).reallocated
 
 pub returns-then-is_held-clause-placed : goal.returns-then-is_held-clause-placed
 returns-then-is_held-clause-placed g c = (grow_in_place_is g c).placed
@@ -97,7 +97,7 @@ returns-then-is_held-clause-refused g c = (grow_in_place_is g c).refused
 pub returns-then-is_held-clause-written : goal.returns-then-is_held-clause-written
 returns-then-is_held-clause-written g c =
     let m = g.S.Space.bytes c.args.space.now in let t : Table = c.args.self.now.table in let n = c.args.size in let b = c.in-Some-block.block in
-    let s = size_told t c.in-Some.ensures.sound m c.requires.inside c.args.id b c.in-Some-block.ensures.value in
+    let s = size_told t c.in-Some.ensures.sound m c.requires.memory.inside c.args.id b c.in-Some-block.ensures.value in
     size_written c.grow_in_place.result (g.S.Space.written c.args.space.now) (g.S.Space.written c.grow_in_place.new.space) c.args.options.zero n b.size (unwrap_or (option_map (length {A = ℕ}) (bytes_at (heap_in t m) c.args.id)) 0) (sym s) (still_written c.grow_in_place.result (g.S.Space.written c.args.space.now) (g.S.Space.written c.grow_in_place.new.space) (if c.args.options.zero then n - b.size else 0) c.grow_in_place.ensures.moved c.grow_in_place.ensures.written)
 
 -- One that may move.
@@ -118,7 +118,7 @@ returns-else-is_held-clause-reallocated g c = (grow_is g c).reallocated
 pub returns-else-is_held-clause-fewest : goal.returns-else-is_held-clause-fewest
 returns-else-is_held-clause-fewest g c =
     let m = g.S.Space.bytes c.args.space.now in let t : Table = c.args.self.now.table in
-    fewest_law (heap_in t m) (heap_in c.grow.new.self.table (g.S.Space.bytes c.grow.new.space)) c.args.id c.args.size c.args.options (is_ok c.grow.result) (sound_heap t c.in-Some.ensures.sound m c.requires.inside c.reveal_bytes.ensures) (grow_is g c).reallocated
+    fewest_law (heap_in t m) (heap_in c.grow.new.self.table (g.S.Space.bytes c.grow.new.space)) c.args.id c.args.size c.args.options (is_ok c.grow.result) (sound_heap t c.in-Some.ensures.sound m c.requires.memory.inside c.reveal_bytes.ensures) (grow_is g c).reallocated
 
 pub returns-else-is_held-clause-placed : goal.returns-else-is_held-clause-placed
 returns-else-is_held-clause-placed g c = (grow_is g c).placed
@@ -132,5 +132,5 @@ returns-else-is_held-clause-refused g c = (grow_is g c).refused
 pub returns-else-is_held-clause-written : goal.returns-else-is_held-clause-written
 returns-else-is_held-clause-written g c =
     let m = g.S.Space.bytes c.args.space.now in let t : Table = c.args.self.now.table in let n = c.args.size in let b = c.in-Some-block.block in
-    let s = size_told t c.in-Some.ensures.sound m c.requires.inside c.args.id b c.in-Some-block.ensures.value in
+    let s = size_told t c.in-Some.ensures.sound m c.requires.memory.inside c.args.id b c.in-Some-block.ensures.value in
     size_written c.grow.result (g.S.Space.written c.args.space.now) (g.S.Space.written c.grow.new.space) c.args.options.zero n b.size (unwrap_or (option_map (length {A = ℕ}) (bytes_at (heap_in t m) c.args.id)) 0) (sym s) c.grow.ensures.written

@@ -19,4 +19,4 @@ returns-else-is_some-clause-steps g c =
     (known c.self.invariant c.self.view_is (λ t. entry_at t c.args.id ≡ None) (nothing (entry_at c.args.self.now.table c.args.id) (ap is_some (sym c.entry.ensures.value) ∙ sym c.is_some.ensures ∙ c.if-is_some.false)))
 
 pub returns-else-is_some-clause-bytes : goal.returns-else-is_some-clause-bytes
-returns-else-is_some-clause-bytes g c = keeps_same c.args.self.now.table.lo c.args.self.now.table.hi c.args.self.now.table.blocks c.args.space.now
+returns-else-is_some-clause-bytes g c = keeps_same c.args.self.now.table.lo c.args.self.now.table.hi c.args.self.now.table.blocks c.args.space.now c.requires.memory.kept

@@ -17,7 +17,7 @@ pub returns-clause-sound : goal.returns-clause-sound
 returns-clause-sound g c = (invariant_of-self g c).sound
 
 pub returns-clause-bytes : goal.returns-clause-bytes
-returns-clause-bytes g c = let l = c.set_end.new.self in keeps_holes l.lo l.hi l.blocks c.args.space.now c.set_end.new.space c.set_end.ensures.ordered.laid c.set_end.ensures.bytes c.set_end.ensures.lenders c.set_end.ensures.written
+returns-clause-bytes g c = let l = c.set_end.new.self in keeps_holes l.lo l.hi l.blocks c.args.space.now c.set_end.new.space c.set_end.ensures.ordered.laid c.set_end.ensures.rest c.set_end.ensures.written
 
 pub returns-clause-heap : goal.returns-clause-heap
 returns-clause-heap g c =

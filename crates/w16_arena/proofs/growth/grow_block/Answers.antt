@@ -1,9 +1,10 @@
 use Rattle.w16_arena.proofs.Written.{counted_none}
-use Rattle.w16_arena.proofs.Common.{rest_same, false≢true, ◌≡◌, ◌+◌, inr, IfSome, refl, sym, ◌∙◌, subst, arith, inl, Block, block_end, hole_after, is_any, IsClear}
+use Rattle.w16_arena.proofs.Common.{false≢true, ◌≡◌, ◌+◌, inr, IfSome, refl, sym, ◌∙◌, subst, arith, inl, Block, block_end, hole_after, is_any, IsClear}
 use Rattle.w16_arena.proofs.ButFor.{free_but, own_below}
 use Rattle.w16_arena.proofs.Fitting.{fits_more}
 use Rattle.w16_arena.proofs.Grown.{grown_there}
 use Rattle.w16_arena.proofs.Replaced.{but_same}
+use Rattle.w16_arena.proofs.Keeping.{leaves_same}
 use Rattle.w16_arena.proofs.Rooms.{hole_free}
 use Rattle.w16_arena.proofs.Ways.{way_here, enough_here, enough_hole, none_still, slid_enough, clear_bytes}
 use Rattle.w16_arena.proofs.growth.grow_block.Goals as goal
@@ -27,7 +28,7 @@ returns-then-size-block-clause-grown g c =
     let behind = subst (λ o. IfSome o (λ (b : Block). c.free_after.result ≡ hole_after l.hi l.blocks (block_end b))) c.requires.known c.free_after.ensures.value in
     grown_there c.args.size c.args.block l l c.resize.new.blocks memory memory (g.S.Space.bytes c.resize.new.space) _
     (way_here c.bounds.ensures.ordered c.args.block c.requires.known c.args.size c.requires.more c.free_after.result behind c.if-size-block.true memory)
-    c.requires.more e.value e.ordered e.own e.bytes.contents e.bytes.rest.long e.small
+    c.requires.more e.value e.ordered e.own e.bytes.contents e.bytes.rest.bytes.long e.small
 
 pub returns-then-size-block-clause-enough : goal.returns-then-size-block-clause-enough
 returns-then-size-block-clause-enough g c =
@@ -75,4 +76,4 @@ pub returns-then-compact-clause-still : goal.returns-then-compact-clause-still
 returns-then-compact-clause-still g c = λ off. absurd (false≢true (sym off ∙ c.if-compact.true))
 
 pub returns-else-compact-clause-rest : goal.returns-else-compact-clause-rest
-returns-else-compact-clause-rest g c = rest_same c.args.blocks.now.lo c.args.blocks.now.hi c.args.space.now
+returns-else-compact-clause-rest g c = leaves_same c.args.blocks.now.lo c.args.blocks.now.hi c.args.space.now c.requires.memory.kept

@@ -17,9 +17,13 @@ pub returns-clause-elsewhere : goal.returns-clause-elsewhere
 returns-clause-elsewhere g c = elsewhere c.bounds.ensures.ordered c.args.block c.requires.known c.args.size c.args.to c.requires.free (let more = c.requires.more in omega arith)
 
 pub returns-clause-others : goal.returns-clause-others
-returns-clause-others g c = let e = c.move_grown.ensures in others_kept c.args.blocks.now c.args.block c.args.to c.args.size c.bounds.ensures.ordered e.value e.ordered e.bytes
+returns-clause-others g c = let e = c.move_grown.ensures in others_kept c.args.blocks.now c.args.block c.args.to c.args.size c.bounds.ensures.ordered e.value e.ordered e.rest.bytes
 
 pub returns-clause-rest : goal.returns-clause-rest
 returns-clause-rest g c =
     let e = c.move_grown.ensures in
-    record { long = e.bytes.long; outside = outside_kept c.args.blocks.now c.args.block c.args.to c.args.size c.bounds.ensures.ordered e.value e.ordered e.bytes; loans = e.lenders }
+    record {
+      kept = e.rest.kept;
+      bytes = record { long = e.rest.bytes.long; outside = outside_kept c.args.blocks.now c.args.block c.args.to c.args.size c.bounds.ensures.ordered e.value e.ordered e.rest.bytes };
+      loans = e.rest.loans;
+    }

@@ -54,7 +54,7 @@ module _ (g : Given.Over) (c : After-reveal_bytes g) where
   way =
       let high = c.whole_grains-high.ensures in let e = c.open-moved.ensures in let l = c.args.blocks.now in let low = c.args.gap.low in
       own_way_held high.ordered c.args.block c.requires.known c.requires.more c.requires.rounded c.requires.gap c.requires.own high.below high.last
-      (of_block (λ b. with_loose c.args.block.id mid ≡ record old { blocks = opened low (block_end b) c.whole_grains-high.result old.blocks }) e.blocks) e.ordered e.contents e.rest.long c.reveal_bytes.ensures place
+      (of_block (λ b. with_loose c.args.block.id mid ≡ record old { blocks = opened low (block_end b) c.whole_grains-high.result old.blocks }) e.blocks) e.ordered e.contents e.rest.bytes.long c.reveal_bytes.ensures place
       (of_block (λ b. IsClear is_any l.lo l.hi mid.blocks (end_in old.blocks low b) (end_in old.blocks low b + spare_in old.blocks low c.whole_grains-high.result)) e.clear) placed refl refl e.moved
 
 pub resize-requires-clause-id : goal.resize-requires-clause-id
@@ -77,4 +77,4 @@ returns-clause-grown g c =
     (e.value ∙ ap (λ (b : Block). record c.open-moved.new.blocks { blocks = replaced (record b { size = c.args.size }) c.open-moved.new.blocks.blocks }) same) e.ordered
     (subst (λ (b : Block). (m : ℕ) → m ≤ b.size → m ≤ c.args.size → part (g.S.Space.bytes c.resize.new.space) b.at m ≡ part (g.S.Space.bytes c.open-moved.new.space) b.at m) same e.own)
     (subst (λ (b : Block). contents (g.S.Space.bytes c.resize.new.space) (all_but b.id c.open-moved.new.blocks.blocks) ≡ contents (g.S.Space.bytes c.open-moved.new.space) (all_but b.id c.open-moved.new.blocks.blocks)) same e.bytes.contents)
-    e.bytes.rest.long e.small)
+    e.bytes.rest.bytes.long e.small)

@@ -10,12 +10,12 @@ pub returns-clause-bytes : goal.returns-clause-bytes
 returns-clause-bytes g c =
     let l : Layout = c.args.blocks.now in let b : Block = c.args.block in let e = c.resize.ensures in
     record {
-      contents = others_kept l b b.at c.args.size c.bounds.ensures.ordered (value g c) e.ordered e.bytes;
-      rest = record { long = e.bytes.long; outside = outside_kept l b b.at c.args.size c.bounds.ensures.ordered (value g c) e.ordered e.bytes; loans = e.lenders };
+      contents = others_kept l b b.at c.args.size c.bounds.ensures.ordered (value g c) e.ordered e.rest.bytes;
+      rest = record { kept = e.rest.kept; bytes = record { long = e.rest.bytes.long; outside = outside_kept l b b.at c.args.size c.bounds.ensures.ordered (value g c) e.ordered e.rest.bytes }; loans = e.rest.loans };
       count = e.written;
     }
 
 pub returns-clause-own : goal.returns-clause-own
 returns-clause-own g c =
     let b : Block = c.args.block in let e = c.resize.ensures in
-    own_kept c.args.blocks.now b b.at c.args.size c.bounds.ensures.ordered (value g c) e.ordered e.bytes c.requires.known refl
+    own_kept c.args.blocks.now b b.at c.args.size c.bounds.ensures.ordered (value g c) e.ordered e.rest.bytes c.requires.known refl

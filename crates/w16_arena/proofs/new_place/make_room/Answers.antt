@@ -1,6 +1,7 @@
 use Rattle.w16_arena.proofs.Written.{counted_none}
-use Rattle.w16_arena.proofs.Common.{rest_same, rules, sym, ◌∙◌, moved_same}
+use Rattle.w16_arena.proofs.Common.{rules, sym, ◌∙◌, moved_same}
 use Rattle.w16_arena.proofs.Arranged.{same_moved}
+use Rattle.w16_arena.proofs.Keeping.{leaves_same}
 use Rattle.w16_arena.proofs.Rooms.{hole_free, hole_enough, hole_missing, made_enough}
 use Rattle.w16_arena.proofs.new_place.make_room.Goals as goal
 
@@ -29,7 +30,7 @@ pub returns-in-Some-clause-written : goal.returns-in-Some-clause-written
 returns-in-Some-clause-written g c = sym (counted_none (g.S.Space.written c.args.space.now))
 
 pub returns-in-Some-clause-rest : goal.returns-in-Some-clause-rest
-returns-in-Some-clause-rest g c = rest_same c.args.blocks.now.lo c.args.blocks.now.hi c.args.space.now
+returns-in-Some-clause-rest g c = leaves_same c.args.blocks.now.lo c.args.blocks.now.hi c.args.space.now c.requires.memory.kept
 
 pub returns-else-compact-clause-rest : goal.returns-else-compact-clause-rest
-returns-else-compact-clause-rest g c = rest_same c.args.blocks.now.lo c.args.blocks.now.hi c.args.space.now
+returns-else-compact-clause-rest g c = leaves_same c.args.blocks.now.lo c.args.blocks.now.hi c.args.space.now c.requires.memory.kept
