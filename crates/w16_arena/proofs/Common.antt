@@ -34,6 +34,7 @@ pub use Rattle.w16_compact.proofs.OnePass.{room_whole}
 pub use Rattle.w16_compact.proofs.Opened.{loose_most, may_high, may_low, moved_most}
 pub use Rattle.w16_compact.proofs.Raising.{by_reach, loose_skip, loose_split}
 pub use Rattle.w16_compact.proofs.Rests.{leaves_more, rest_more, rest_put, rest_same, rest_wider}
+pub use Rattle.w16_compact.specs.Gather.{LeavesFree}
 pub use Rattle.w16_blocks.specs.Stay.{HasRange, Leaves}
 pub use Rattle.w16_compact.proofs.Searched.{below_cap, first_here, passed_here}
 pub use Rattle.w16_compact.proofs.Skips.{ids_below, rest_after}

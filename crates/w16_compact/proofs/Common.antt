@@ -21,7 +21,7 @@ pub use Rattle.w16_blocks.proofs.Sliding.{map-same, moved_to, slid_above, slid_b
 pub use Rattle.w16_blocks.proofs.Step.{grained_known, lies}
 pub use Rattle.w16_blocks.specs.Runs.{BeginsAt, EndsAt}
 pub use Rattle.w16_compact.specs.Gap.{HasRoom, IsLowest, others, without}
-pub use Rattle.w16_compact.specs.Gather.{AreSlid, FitsGap, MayGather, contents, gathered, moved_between, packed}
+pub use Rattle.w16_compact.specs.Gather.{AreSlid, FitsGap, MayGather, contents, gathered, moved_between, packed, LeavesFree}
 pub use Rattle.w16_compact.specs.Open.{end_in, opened, raised, raised_in, spare_in, with_loose}
 pub use Rattle.w16_compact.specs.Rest.{IsSameRest}
 pub use Rattle.w16_blocks.specs.Stay.{HasRange, Leaves}

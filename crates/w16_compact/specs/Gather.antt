@@ -1,10 +1,10 @@
 -- Blocks slid to the low end of a gap.
-use Rattle.std.specs.Prelude.{ℕ, IsTrue, ◌+◌, ◌≤◌, ◌≡◌, ◌==◌, ◌⊎◌, nat_lt, if◌then◌else◌, List, [], ◌∷◌, map}
+use Rattle.std.specs.Prelude.{ℕ, IsTrue, ◌+◌, ◌<◌, ◌≤◌, ◌≡◌, ◌==◌, ◌⊎◌, nat_lt, if◌then◌else◌, List, [], ◌∷◌, map}
 use Rattle.std.specs.List.{AllByRecursion}
 use Rattle.w16_model.specs.Bytes.{part}
 use Rattle.w16_model.specs.declared.Block.{Block}
 use Rattle.w16_model.specs.declared.Hold.TheVariants.{Loose}
-use Rattle.w16_model.specs.Gap.{block_end, is_pinned}
+use Rattle.w16_model.specs.Gap.{block_end, is_any, is_pinned, IsClear, IsGap, IsHole}
 use Rattle.w16_blocks.specs.Layout.{Layout}
 
 -- blocks by address, those below `high` one after another from `to` on, and the others as they are
@@ -42,3 +42,9 @@ AreSlid [] [] = Unit {0}
 AreSlid [] (c ∷ cs) = ⊥
 AreSlid (b ∷ bs) [] = ⊥
 AreSlid (b ∷ bs) (c ∷ cs) = (c ≡ record b { at = c.at }) × (IsTrue (is_pinned b) → c.at ≡ b.at) × AreSlid bs cs
+
+-- Of [low, high) just [free, end) is left free: no block has a byte of it, and where the interval was a gap it is a hole, if it has a byte, and the only one there.
+pub record LeavesFree (low high free end : ℕ) (old new : Layout) : Type 0 where
+  pub clear : IsClear is_any old.lo old.hi new.blocks free end
+  pub hole : IsGap old.lo old.hi old.blocks low high → free < end → IsHole old.lo old.hi new.blocks free end
+  pub alone : IsGap old.lo old.hi old.blocks low high → (a b : ℕ) → IsHole old.lo old.hi new.blocks a b → (b ≤ low) ⊎ ((high ≤ a) ⊎ ((a ≡ free) × (b ≡ end)))

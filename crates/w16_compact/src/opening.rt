@@ -2,13 +2,13 @@
 ghost use Rattle.std.specs.Prelude.{◌≡◌, ℕ, ◌+◌, ◌<◌, ◌≤◌, ◌⊎◌, ◌-◌, ◌==◌, length, map, Some, IsSome, IfSome, if◌then◌else◌, MatchOption};
 ghost use Rattle.std.specs.List.{AllByRecursion};
 ghost use Rattle.w16_region.specs.Bytes.{counted};
-ghost use Rattle.w16_model.specs.Gap.{block_end, is_any, IsClear, IsGap, IsHole, loose_bytes};
+ghost use Rattle.w16_model.specs.Gap.{block_end, loose_bytes};
 ghost use Rattle.w16_model.specs.Heap.{IsMultiple};
 ghost use Rattle.w16_model.specs.Table.{block_with};
 ghost use Rattle.w16_blocks.specs.Layout.{IsOrdered, holes_of};
 ghost use Rattle.w16_blocks.specs.Below.{IsLastBelow};
 ghost use Rattle.w16_blocks.specs.Runs.{IsRun, IsBare, slid_with};
-ghost use Rattle.w16_compact.specs.Gather.{contents, moved_between, MayGather, AreSlid};
+ghost use Rattle.w16_compact.specs.Gather.{contents, moved_between, MayGather, AreSlid, LeavesFree};
 ghost use Rattle.w16_compact.specs.Open.{with_loose, raised, opened, end_in, spare_in};
 ghost use Rattle.w16_compact.specs.Rest.{IsSameRest};
 ghost use Rattle.w16_blocks.specs.Stay.{HasRange, Leaves};
@@ -47,27 +47,9 @@ pub fn open<S: Space, H: Holes<S>>(
         ≡ contents (S.bytes space.old) blocks.old.blocks }
     ensures place { IfSome (block_with blocks.old.blocks id) (λ b. block_with blocks.new.blocks id
         ≡ Some (record b { at = low + loose_bytes (with_loose id blocks.old).blocks low b.at })) }
-    ensures clear { IfSome (block_with blocks.old.blocks id) (λ b.
-        let old = (with_loose id blocks.old).blocks in
-        let free = end_in old low b in
-        IsClear is_any blocks.old.lo blocks.old.hi blocks.new.blocks free (free + spare_in old low high)) }
-    ensures hole { IfSome (block_with blocks.old.blocks id) (λ b.
-        let old = (with_loose id blocks.old).blocks in
-        let free = end_in old low b in
-        IsGap blocks.old.lo blocks.old.hi old low high
-        → 0 < spare_in old low high
-        → IsHole blocks.old.lo blocks.old.hi blocks.new.blocks free (free + spare_in old low high)) }
-    ensures alone { IfSome (block_with blocks.old.blocks id) (λ b.
-        let old = (with_loose id blocks.old).blocks in
-        let free = end_in old low b in
-        IsGap blocks.old.lo blocks.old.hi old low high
-        → (p q : ℕ) → IsHole blocks.old.lo blocks.old.hi blocks.new.blocks p q
-        → (q ≤ low) ⊎ ((high ≤ p) ⊎ ((p ≡ free) × (q ≡ free + spare_in old low high)))) }
-    ensures full { let old = (with_loose id blocks.old).blocks in
-        IsGap blocks.old.lo blocks.old.hi old low high
-        → spare_in old low high ≡ 0
-        → (p q : ℕ) → IsHole blocks.old.lo blocks.old.hi blocks.new.blocks p q
-        → (q ≤ low) ⊎ (high ≤ p) }
+    ensures left { IfSome (block_with blocks.old.blocks id) (λ b.
+        let old = with_loose id blocks.old in let free = end_in old.blocks low b in
+        LeavesFree low high free (free + spare_in old.blocks low high) old blocks.new) }
     ensures moved { result ≡ moved_between blocks.old.blocks blocks.new.blocks }
     ensures written { S.written space.new ≡ counted (S.written space.old) result }
     ensures rest { Leaves H.are_in S.bytes S.lenders (holes_of blocks.new) (IsSameRest blocks.old.lo blocks.old.hi) space.old space.new }
@@ -103,25 +85,9 @@ fn open_loose<S: Space, H: Holes<S>>(
         ≡ contents (S.bytes space.old) blocks.old.blocks }
     ensures place { IfSome (block_with blocks.old.blocks id) (λ b. block_with blocks.new.blocks id
         ≡ Some (record b { at = low + loose_bytes blocks.old.blocks low b.at })) }
-    ensures clear { IfSome (block_with blocks.old.blocks id) (λ b.
+    ensures left { IfSome (block_with blocks.old.blocks id) (λ b.
         let free = end_in blocks.old.blocks low b in
-        let spare = spare_in blocks.old.blocks low high in
-        IsClear is_any blocks.old.lo blocks.old.hi blocks.new.blocks free (free + spare)) }
-    ensures hole { IfSome (block_with blocks.old.blocks id) (λ b.
-        let free = end_in blocks.old.blocks low b in
-        let spare = spare_in blocks.old.blocks low high in
-        IsGap blocks.old.lo blocks.old.hi blocks.old.blocks low high
-        → 0 < spare → IsHole blocks.old.lo blocks.old.hi blocks.new.blocks free (free + spare)) }
-    ensures alone { IfSome (block_with blocks.old.blocks id) (λ b.
-        let free = end_in blocks.old.blocks low b in
-        let spare = spare_in blocks.old.blocks low high in
-        IsGap blocks.old.lo blocks.old.hi blocks.old.blocks low high
-        → (p q : ℕ) → IsHole blocks.old.lo blocks.old.hi blocks.new.blocks p q
-        → (q ≤ low) ⊎ ((high ≤ p) ⊎ ((p ≡ free) × (q ≡ free + spare)))) }
-    ensures full { IsGap blocks.old.lo blocks.old.hi blocks.old.blocks low high
-        → spare_in blocks.old.blocks low high ≡ 0
-        → (p q : ℕ) → IsHole blocks.old.lo blocks.old.hi blocks.new.blocks p q
-        → (q ≤ low) ⊎ (high ≤ p) }
+        LeavesFree low high free (free + spare_in blocks.old.blocks low high) blocks.old blocks.new) }
     ensures moved { result ≡ moved_between blocks.old.blocks blocks.new.blocks }
     ensures written { S.written space.new ≡ counted (S.written space.old) result }
     ensures rest { Leaves H.are_in S.bytes S.lenders (holes_of blocks.new) (IsSameRest blocks.old.lo blocks.old.hi) space.old space.new }

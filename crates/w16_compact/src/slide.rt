@@ -2,12 +2,12 @@
 ghost use Rattle.std.specs.Prelude.{◌≡◌, ◌≢◌, ℕ, ◌+◌, ◌<◌, ◌≤◌, ◌⊎◌, ◌-◌, ◌==◌, length, map, slice_get, if◌then◌else◌, MatchOption, IfSome};
 ghost use Rattle.std.specs.List.{AllByRecursion};
 ghost use Rattle.w16_region.specs.Bytes.{counted};
-ghost use Rattle.w16_model.specs.Gap.{block_end, is_any, IsClear, IsGap, IsHole, loose_bytes};
+ghost use Rattle.w16_model.specs.Gap.{block_end, loose_bytes};
 ghost use Rattle.w16_model.specs.Heap.{IsMultiple};
 ghost use Rattle.w16_holes.specs.Holes.{lowest};
 ghost use Rattle.w16_blocks.specs.Layout.{IsOrdered, holes_of, rank};
 ghost use Rattle.w16_blocks.specs.Runs.{IsCut, IsRun, IsBare, EndsAt, slid_with};
-ghost use Rattle.w16_compact.specs.Gather.{gathered, contents, moved_between, MayGather, AreSlid};
+ghost use Rattle.w16_compact.specs.Gather.{gathered, contents, moved_between, MayGather, AreSlid, LeavesFree};
 ghost use Rattle.w16_compact.specs.Rest.{IsSameRest};
 ghost use Rattle.w16_blocks.specs.Stay.{HasRange, Leaves};
 
@@ -36,19 +36,7 @@ pub fn gather<S: Space, H: Holes<S>>(
     ensures slid { AreSlid blocks.old.blocks blocks.new.blocks }
     ensures contents { contents (S.bytes space.new) blocks.new.blocks
         ≡ contents (S.bytes space.old) blocks.old.blocks }
-    ensures clear { let free = low + loose_bytes blocks.old.blocks low high in
-        IsClear is_any blocks.old.lo blocks.old.hi blocks.new.blocks free high }
-    ensures hole { let free = low + loose_bytes blocks.old.blocks low high in
-        IsGap blocks.old.lo blocks.old.hi blocks.old.blocks low high
-        → free < high → IsHole blocks.old.lo blocks.old.hi blocks.new.blocks free high }
-    ensures alone { let free = low + loose_bytes blocks.old.blocks low high in
-        IsGap blocks.old.lo blocks.old.hi blocks.old.blocks low high
-        → (a b : ℕ) → IsHole blocks.old.lo blocks.old.hi blocks.new.blocks a b
-        → (b ≤ low) ⊎ ((high ≤ a) ⊎ ((a ≡ free) × (b ≡ high))) }
-    ensures full { IsGap blocks.old.lo blocks.old.hi blocks.old.blocks low high
-        → low + loose_bytes blocks.old.blocks low high ≡ high
-        → (a b : ℕ) → IsHole blocks.old.lo blocks.old.hi blocks.new.blocks a b
-        → (b ≤ low) ⊎ (high ≤ a) }
+    ensures left { LeavesFree low high (low + loose_bytes blocks.old.blocks low high) high blocks.old blocks.new }
     ensures moved { result ≡ moved_between blocks.old.blocks blocks.new.blocks }
     ensures written { S.written space.new ≡ counted (S.written space.old) result }
     ensures rest { Leaves H.are_in S.bytes S.lenders (holes_of blocks.new) (IsSameRest blocks.old.lo blocks.old.hi) space.old space.new }

@@ -21,7 +21,7 @@ pub move_to-requires-clause-rounded : goal.move_to-requires-clause-rounded
 move_to-requires-clause-rounded g c = subst (λ k. IsMultiple k c.args.size) (sym (ap (λ (m : Layout). m.grain) c.gather-gathered.ensures.blocks)) c.requires.rounded
 
 pub move_to-requires-clause-free : goal.move_to-requires-clause-free
-move_to-requires-clause-free g c = let r = c.requires in let e = c.gather-gathered.ensures in all_free c.bounds.ensures.ordered c.args.block r.known r.gap r.other e.blocks e.clear
+move_to-requires-clause-free g c = let r = c.requires in let e = c.gather-gathered.ensures in all_free c.bounds.ensures.ordered c.args.block r.known r.gap r.other e.blocks e.left.clear
 
 pub overflow_add-result : goal.overflow_add-result
 overflow_add-result g c =
@@ -36,7 +36,7 @@ returns-clause-grown g c =
     let ordered = c.bounds.ensures.ordered in let small = c.reveal_bytes.ensures in let at = c.args.gap.low + c.args.gap.loose in
     has_grown c.args.size b l c.gather-gathered.new.blocks c.move_to.new.blocks (g.S.Space.bytes c.args.space.now) (g.S.Space.bytes c.gather-gathered.new.space) (g.S.Space.bytes c.move_to.new.space) _
     (moved_but_for b.id (all_moved ordered b r.known r.gap r.other p.run p.high e.blocks e.ordered _ _ e.contents e.rest.bytes.long small))
-    (free_but b.id c.args.size at (all_free ordered b r.known r.gap r.other e.blocks e.clear))
+    (free_but b.id c.args.size at (all_free ordered b r.known r.gap r.other e.blocks e.left.clear))
     (f.bytes ∙ bytes_mid ordered b r.known r.gap r.other p.run p.high e.blocks e.ordered _ _ e.contents e.rest.bytes.long small) f.value f.laid f.others f.rest.bytes.long f.small
     (let others = others_moved ordered b r.known r.gap r.other p.run p.high e.blocks e.ordered _ _ e.contents e.rest.bytes.long small in
     let moved = e.moved in let same = c.from.ensures in let own = cond-false (at == b.at) 0 b.size (ne_eqb at b.at f.elsewhere) in omega (arith, others, moved, own, same))

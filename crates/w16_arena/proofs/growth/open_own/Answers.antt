@@ -1,4 +1,4 @@
-use Rattle.w16_arena.proofs.Common.{◌≡◌, ℕ, ◌+◌, ◌<◌, ◌≤◌, Option, Some, IfSome, refl, ap, ◌∙◌, subst, sym, arith, Block, part, block_end, is_any, loose_bytes, IsClear, IsMultiple, block_with, Layout, FitsFor, all_but, replaced, contents, with_loose, opened, end_in, spare_in, Placed, HasGrown}
+use Rattle.w16_arena.proofs.Common.{◌≡◌, ℕ, ◌+◌, ◌<◌, ◌≤◌, Option, Some, IfSome, refl, ap, ◌∙◌, subst, sym, arith, Block, part, block_end, is_any, loose_bytes, IsClear, IsMultiple, block_with, Layout, FitsFor, all_but, replaced, contents, with_loose, opened, end_in, spare_in, Placed, HasGrown, LeavesFree}
 use Rattle.w16_arena.proofs.ButFor.{own_below}
 use Rattle.w16_arena.proofs.Fitting.{fits_free}
 use Rattle.w16_arena.proofs.Grown.{HasWay, grown_there}
@@ -55,7 +55,7 @@ module _ (g : Given.Over) (c : After-reveal_bytes g) where
       let high = c.whole_grains-high.ensures in let e = c.open-moved.ensures in let l = c.args.blocks.now in let low = c.args.gap.low in
       own_way_held high.ordered c.args.block c.requires.known c.requires.more c.requires.rounded c.requires.gap c.requires.own high.below high.last
       (of_block (λ b. with_loose c.args.block.id mid ≡ record old { blocks = opened low (block_end b) c.whole_grains-high.result old.blocks }) e.blocks) e.ordered e.contents e.rest.bytes.long c.reveal_bytes.ensures place
-      (of_block (λ b. IsClear is_any l.lo l.hi mid.blocks (end_in old.blocks low b) (end_in old.blocks low b + spare_in old.blocks low c.whole_grains-high.result)) e.clear) placed refl refl e.moved
+      (of_block (λ b. LeavesFree low c.whole_grains-high.result (end_in old.blocks low b) (end_in old.blocks low b + spare_in old.blocks low c.whole_grains-high.result) old mid) e.left).clear placed refl refl e.moved
 
 pub resize-requires-clause-id : goal.resize-requires-clause-id
 resize-requires-clause-id g c =

@@ -1,4 +1,4 @@
-use Rattle.w16_compact.proofs.Common.{ℕ, ◌≡◌, ◌+◌, ◌<◌, ◌≤◌, ◌⊎◌, ◌∙◌, List, Option, Some, IfSome, IsSome, refl, sym, ap, subst, Block, Loose, IsClear, IsGap, IsHole, is_any, block_end, loose_bytes, block_with, Layout, IsOrdered, holes_of, replaced, contents, moved_between, AreSlid, MayGather, with_loose, opened, end_in, spare_in, length, IsSameRest, HasRange, Leaves}
+use Rattle.w16_compact.proofs.Common.{ℕ, ◌≡◌, ◌+◌, ◌<◌, ◌≤◌, ◌⊎◌, ◌∙◌, List, Option, Some, IfSome, IsSome, refl, sym, ap, subst, Block, Loose, IsClear, IsGap, IsHole, is_any, block_end, loose_bytes, block_with, Layout, IsOrdered, holes_of, replaced, contents, moved_between, AreSlid, MayGather, with_loose, opened, end_in, spare_in, length, IsSameRest, HasRange, Leaves, LeavesFree}
 use Rattle.w16_compact.proofs.Opened.{of_known, if_known}
 use Rattle.w16_compact.proofs.Loosened.{held, with_hold, clear_held, contents_held, hole_held, hole_unheld, holes_held, loosened_back, moved_from, moved_to, own_held, set_held}
 use Rattle.w16_compact.proofs.opening.open.Given as Given
@@ -173,34 +173,17 @@ returns-clause-contents g c =
     new_contents c.args.blocks.now c.find.ensures.ordered c.args.id (block g c) (known g c) _ c.set_hold.ensures.value c.args.low c.args.high _ e.ordered e.blocks e.place _ c.set_hold-2.ensures.value _
     ∙ e.contents ∙ begun_contents c.args.blocks.now c.find.ensures.ordered c.args.id (block g c) (known g c) _ c.set_hold.ensures.value _
 
-pub returns-clause-clear : goal.returns-clause-clear
-returns-clause-clear g c =
-    let l = c.args.blocks.now in let bs = (old g c).blocks in
-    if_known (λ b. IsClear is_any l.lo l.hi (new g c).blocks (end_in bs c.args.low b) (end_in bs c.args.low b + spare_in bs c.args.low c.args.high)) _ (block g c) (known g c)
-    ((to_new g c l.lo l.hi _ _).0 (of_begun g c (λ k b. IsClear is_any k.lo k.hi (mid g c).blocks (end_in k.blocks c.args.low b) (end_in k.blocks c.args.low b + spare_in k.blocks c.args.low c.args.high)) c.open_loose-moved.ensures.clear))
-
-pub returns-clause-hole : goal.returns-clause-hole
-returns-clause-hole g c =
-    let l = c.args.blocks.now in let bs = (old g c).blocks in
-    if_known (λ b. IsGap l.lo l.hi bs c.args.low c.args.high → 0 < spare_in bs c.args.low c.args.high → IsHole l.lo l.hi (new g c).blocks (end_in bs c.args.low b) (end_in bs c.args.low b + spare_in bs c.args.low c.args.high)) _ (block g c) (known g c)
-    (λ gap some. (to_new g c l.lo l.hi _ _).1
-    (of_begun g c (λ k b. IsGap k.lo k.hi k.blocks c.args.low c.args.high → 0 < spare_in k.blocks c.args.low c.args.high → IsHole k.lo k.hi (mid g c).blocks (end_in k.blocks c.args.low b) (end_in k.blocks c.args.low b + spare_in k.blocks c.args.low c.args.high))
-    c.open_loose-moved.ensures.hole gap some))
-
-pub returns-clause-alone : goal.returns-clause-alone
-returns-clause-alone g c =
-    let l = c.args.blocks.now in let bs = (old g c).blocks in
-    if_known (λ b. IsGap l.lo l.hi bs c.args.low c.args.high → (p q : ℕ) → IsHole l.lo l.hi (new g c).blocks p q → (q ≤ c.args.low) ⊎ ((c.args.high ≤ p) ⊎ ((p ≡ end_in bs c.args.low b) × (q ≡ end_in bs c.args.low b + spare_in bs c.args.low c.args.high)))) _ (block g c) (known g c)
-    (λ gap p q hole. of_begun g c
-    (λ k b. IsGap k.lo k.hi k.blocks c.args.low c.args.high → (p q : ℕ) → IsHole k.lo k.hi (mid g c).blocks p q → (q ≤ c.args.low) ⊎ ((c.args.high ≤ p) ⊎ ((p ≡ end_in k.blocks c.args.low b) × (q ≡ end_in k.blocks c.args.low b + spare_in k.blocks c.args.low c.args.high))))
-    c.open_loose-moved.ensures.alone gap p q ((to_new g c l.lo l.hi p q).2 hole))
-
-pub returns-clause-full : goal.returns-clause-full
-returns-clause-full g c = λ gap filled p q hole.
-    subst (λ (k : Layout). IsGap k.lo k.hi k.blocks c.args.low c.args.high → spare_in k.blocks c.args.low c.args.high ≡ 0 → (p q : ℕ) → IsHole k.lo k.hi (mid g c).blocks p q → (q ≤ c.args.low) ⊎ (c.args.high ≤ p)) (begun_old g c)
-    c.open_loose-moved.ensures.full gap filled p q ((to_new g c c.args.blocks.now.lo c.args.blocks.now.hi p q).2 hole)
-
 pub returns-clause-moved : goal.returns-clause-moved
 returns-clause-moved g c =
     let e = c.open_loose-moved.ensures in
     e.moved ∙ new_moved c.args.blocks.now c.find.ensures.ordered c.args.id (block g c) (known g c) _ c.set_hold.ensures.value c.args.low c.args.high _ e.ordered e.blocks e.place _ c.set_hold-2.ensures.value
+
+pub returns-clause-left : goal.returns-clause-left
+returns-clause-left g c =
+    let l = c.args.blocks.now in let bs = (old g c).blocks in
+    let mid_left = of_begun g c (λ k b. LeavesFree c.args.low c.args.high (end_in k.blocks c.args.low b) (end_in k.blocks c.args.low b + spare_in k.blocks c.args.low c.args.high) k (mid g c)) c.open_loose-moved.ensures.left in
+    if_known (λ b. LeavesFree c.args.low c.args.high (end_in bs c.args.low b) (end_in bs c.args.low b + spare_in bs c.args.low c.args.high) (old g c) (new g c)) _ (block g c) (known g c) (record {
+      clear = (to_new g c l.lo l.hi _ _).0 mid_left.clear;
+      hole = λ gap some. (to_new g c l.lo l.hi _ _).1 (mid_left.hole gap some);
+      alone = λ gap p q hole. mid_left.alone gap p q ((to_new g c l.lo l.hi p q).2 hole);
+    })

@@ -1,4 +1,4 @@
-use Rattle.w16_compact.proofs.Common.{ℕ, ◌≡◌, ◌+◌, ◌<◌, ◌≤◌, ◌⊎◌, ◌∙◌, Some, IfSome, arith, inl, inr, sym, ap, subst, Block, IsClear, IsGap, IsHole, IsLaid, is_any, block_end, loose_bytes, block_with, Layout, sum_fits, with_id, gathered, moved_between, AreSlid, raised, opened, end_in, spare_in}
+use Rattle.w16_compact.proofs.Common.{ℕ, ◌≡◌, ◌+◌, ◌<◌, ◌≤◌, ◌⊎◌, ◌∙◌, Some, IfSome, arith, inl, inr, sym, ap, subst, Block, IsClear, IsGap, IsHole, IsLaid, is_any, block_end, loose_bytes, block_with, Layout, sum_fits, with_id, gathered, moved_between, AreSlid, raised, opened, end_in, spare_in, LeavesFree}
 use Rattle.w16_compact.proofs.Opened.{may_low, may_high, slid_more, moved_most, moved_opened, with_opened, clear_opened, hole_opened, alone_opened, known_by, of_known, if_known}
 use Rattle.w16_compact.proofs.opening.open_loose.Given as Given
 use Rattle.w16_compact.proofs.opening.open_loose.Goals as goal
@@ -53,45 +53,20 @@ module _ (g : Given.Over) (c : goal.After-raise g) where
   laid_mid : IsLaid l.lo l.hi (gathered c.args.low (block_end x) l.blocks)
   laid_mid = subst (λ (m : Layout). IsLaid m.lo m.hi m.blocks) c.gather-down.ensures.blocks c.gather-down.ensures.ordered.laid
 
-  alone : IsGap l.lo l.hi l.blocks c.args.low c.args.high → (p q : ℕ) → IsHole l.lo l.hi c.raise.new.blocks.blocks p q
-      → (q ≤ c.args.low) ⊎ ((c.args.high ≤ p) ⊎ ((p ≡ end_in l.blocks c.args.low x) × (q ≡ end_in l.blocks c.args.low x + spare_in l.blocks c.args.low c.args.high)))
-  alone gap p q hole = alone_opened l c.find.ensures.ordered c.args.low c.args.high c.requires.gap x known at.0 at.1 gap slid laid_mid p q (subst (λ bs. IsHole l.lo l.hi bs p q) list hole)
+  left : LeavesFree c.args.low c.args.high (end_in l.blocks c.args.low x) (end_in l.blocks c.args.low x + spare_in l.blocks c.args.low c.args.high) l c.raise.new.blocks
+  left = record {
+    clear = subst (λ bs. IsClear is_any l.lo l.hi bs (end_in l.blocks c.args.low x) (end_in l.blocks c.args.low x + spare_in l.blocks c.args.low c.args.high)) (sym list)
+        (clear_opened l c.find.ensures.ordered c.args.low c.args.high c.requires.gap x known at.0 at.1);
+    hole = λ gap some. subst (λ bs. IsHole l.lo l.hi bs (end_in l.blocks c.args.low x) (end_in l.blocks c.args.low x + spare_in l.blocks c.args.low c.args.high)) (sym list)
+        (hole_opened l c.find.ensures.ordered c.args.low c.args.high c.requires.gap x known at.0 at.1 gap slid laid_mid (omega arith));
+    alone = λ gap p q hole. alone_opened l c.find.ensures.ordered c.args.low c.args.high c.requires.gap x known at.0 at.1 gap slid laid_mid p q (subst (λ bs. IsHole l.lo l.hi bs p q) list hole);
+  }
 
 pub returns-clause-place : goal.returns-clause-place
 returns-clause-place g c =
     if_known (λ b. block_with c.raise.new.blocks.blocks c.args.id ≡ Some (record b { at = c.args.low + loose_bytes c.args.blocks.now.blocks c.args.low b.at })) _ c.in-Some.block (sym c.in-Some.ensures.value)
     (ap (block_with c.raise.new.blocks.blocks) (sym (with_id c.args.id c.in-Some.block c.args.blocks.now.blocks (sym c.in-Some.ensures.value))) ∙ ap (λ bs. block_with bs c.in-Some.block.id) (list g c)
     ∙ with_opened c.args.blocks.now c.find.ensures.ordered c.args.low c.args.high c.requires.gap c.in-Some.block (known g c) (at g c).0 (at g c).1)
-
-pub returns-clause-clear : goal.returns-clause-clear
-returns-clause-clear g c =
-    let l = c.args.blocks.now in
-    if_known (λ b. IsClear is_any l.lo l.hi c.raise.new.blocks.blocks (end_in l.blocks c.args.low b) (end_in l.blocks c.args.low b + spare_in l.blocks c.args.low c.args.high)) _ c.in-Some.block (sym c.in-Some.ensures.value)
-    (subst (λ bs. IsClear is_any l.lo l.hi bs (end_in l.blocks c.args.low c.in-Some.block) (end_in l.blocks c.args.low c.in-Some.block + spare_in l.blocks c.args.low c.args.high)) (sym (list g c))
-    (clear_opened c.args.blocks.now c.find.ensures.ordered c.args.low c.args.high c.requires.gap c.in-Some.block (known g c) (at g c).0 (at g c).1))
-
-pub returns-clause-hole : goal.returns-clause-hole
-returns-clause-hole g c =
-    let l = c.args.blocks.now in
-    if_known (λ b. IsGap l.lo l.hi l.blocks c.args.low c.args.high → 0 < spare_in l.blocks c.args.low c.args.high → IsHole l.lo l.hi c.raise.new.blocks.blocks (end_in l.blocks c.args.low b) (end_in l.blocks c.args.low b + spare_in l.blocks c.args.low c.args.high)) _
-    c.in-Some.block (sym c.in-Some.ensures.value)
-    (λ gap some. subst (λ bs. IsHole l.lo l.hi bs (end_in l.blocks c.args.low c.in-Some.block) (end_in l.blocks c.args.low c.in-Some.block + spare_in l.blocks c.args.low c.args.high)) (sym (list g c))
-    (hole_opened c.args.blocks.now c.find.ensures.ordered c.args.low c.args.high c.requires.gap c.in-Some.block (known g c) (at g c).0 (at g c).1 gap (slid g c) (laid_mid g c) (omega arith)))
-
-pub returns-clause-alone : goal.returns-clause-alone
-returns-clause-alone g c =
-    let l = c.args.blocks.now in
-    if_known (λ b. IsGap l.lo l.hi l.blocks c.args.low c.args.high → (p q : ℕ) → IsHole l.lo l.hi c.raise.new.blocks.blocks p q
-    → (q ≤ c.args.low) ⊎ ((c.args.high ≤ p) ⊎ ((p ≡ end_in l.blocks c.args.low b) × (q ≡ end_in l.blocks c.args.low b + spare_in l.blocks c.args.low c.args.high)))) _
-    c.in-Some.block (sym c.in-Some.ensures.value) (alone g c)
-
-pub returns-clause-full : goal.returns-clause-full
-returns-clause-full g c = λ gap filled p q hole.
-    let some = hole.some in
-    elim (alone g c gap p q hole) [
-      | inl k ↦ inl k
-      | inr e ↦ elim e [ inl k ↦ inr k | inr k ↦ let one = k.0 in let two = k.1 in absurd (omega arith) ]
-    ]
 
 pub returns-clause-moved : goal.returns-clause-moved
 returns-clause-moved g c =
@@ -101,3 +76,8 @@ returns-clause-moved g c =
     let first = ap (moved_between l.blocks) (mid g c) in let second : moved_between c.gather-down.new.blocks.blocks c.raise.new.blocks.blocks ≡ moved_between (gathered c.args.low (block_end c.in-Some.block) l.blocks) (opened c.args.low (block_end c.in-Some.block) c.args.high l.blocks) = λ i. moved_between (mid g c i) (list g c i) in
     let all = ap (moved_between l.blocks) (list g c) in
     omega (arith, down, up, both, first, second, all)
+
+pub returns-clause-left : goal.returns-clause-left
+returns-clause-left g c =
+    let l = c.args.blocks.now in
+    if_known (λ b. LeavesFree c.args.low c.args.high (end_in l.blocks c.args.low b) (end_in l.blocks c.args.low b + spare_in l.blocks c.args.low c.args.high) l c.raise.new.blocks) _ c.in-Some.block (sym c.in-Some.ensures.value) (left g c)

@@ -105,25 +105,10 @@ returns-clause-slid g c =
     let l = c.args.blocks.now in
     subst (AreSlid l.blocks) (sym (list g c)) (slid_gathered c.args.low c.args.high l.lo l.hi l.blocks c.reveal_order.ensures.laid c.requires.gap.loose)
 
-pub returns-clause-clear : goal.returns-clause-clear
-returns-clause-clear g c =
-    let l = c.args.blocks.now in
-    subst (λ bs. IsClear is_any l.lo l.hi bs (c.args.low + loose_bytes l.blocks c.args.low c.args.high) c.args.high) (sym (list g c)) (clear_gathered l c.args.low c.args.high c.reveal_order.ensures.laid c.requires.gap)
-
-pub returns-clause-hole : goal.returns-clause-hole
-returns-clause-hole g c = λ gap some.
-    let l = c.args.blocks.now in
-    subst (λ bs. IsHole l.lo l.hi bs (c.args.low + loose_bytes l.blocks c.args.low c.args.high) c.args.high) (sym (list g c)) (hole_gathered l c.args.low c.args.high c.reveal_order.ensures.laid c.requires.gap gap some)
-
-pub returns-clause-alone : goal.returns-clause-alone
-returns-clause-alone g c = λ gap a b hole.
-    let l = c.args.blocks.now in
-    alone_gathered l c.args.low c.args.high c.reveal_order.ensures.laid c.requires.gap gap a b (subst (λ bs. IsHole l.lo l.hi bs a b) (list g c) hole)
-
-pub returns-clause-full : goal.returns-clause-full
-returns-clause-full g c = λ gap filled a b hole.
-    let some = hole.some in
-    elim (returns-clause-alone g c gap a b hole) [
-      | inl k ↦ inl k
-      | inr e ↦ elim e [ inl k ↦ inr k | inr k ↦ let one = k.0 in let two = k.1 in absurd (omega arith) ]
-    ]
+pub returns-clause-left : goal.returns-clause-left
+returns-clause-left g c =
+    let l = c.args.blocks.now in let low = c.args.low in let high = c.args.high in let free = low + loose_bytes l.blocks low high in let laid = c.reveal_order.ensures.laid in record {
+      clear = subst (λ bs. IsClear is_any l.lo l.hi bs free high) (sym (list g c)) (clear_gathered l low high laid c.requires.gap);
+      hole = λ gap some. subst (λ bs. IsHole l.lo l.hi bs free high) (sym (list g c)) (hole_gathered l low high laid c.requires.gap gap some);
+      alone = λ gap a b hole. alone_gathered l low high laid c.requires.gap gap a b (subst (λ bs. IsHole l.lo l.hi bs a b) (list g c) hole);
+    }
