@@ -19,7 +19,7 @@ returns-then-is_err-clause-acted g c =
     let is = sym c.is_err.ensures.value ∙ c.if-is_err.true in
     let same = on_err c.alloc-placed.result _ is c.alloc-placed.ensures.refused in
     let rest = c.alloc-placed.ensures.rest in
-    alloc_idle c.self.view_is (g.S.Space.bytes c.args.space.now) c.alloc-placed.new.self.table (g.S.Space.bytes c.alloc-placed.new.space) rest.range rest.memory.outside
+    alloc_idle c.self.view_is (g.S.Space.bytes c.args.space.now) c.alloc-placed.new.self.table (g.S.Space.bytes c.alloc-placed.new.space) rest.range rest.memory.bytes.outside
     c.alloc-placed.result is (ap (λ (s : ArenaState). s.table) same.0) (ap g.S.Space.bytes same.1) c.args.id c.args.size c.args.kind c.args.options c.alloc-placed.ensures.allocated
 
 pub returns-clause-acted : goal.returns-clause-acted
@@ -29,17 +29,17 @@ returns-clause-acted g c =
     let may = may_shown c.self.view_is bytes (Alloc c.args.id c.args.size c.args.kind c.args.options) c.requires in
     let is = sym c.is_err.ensures.value ∙ c.if-is_err.false in
     let rest = c.alloc-placed.ensures.rest in
-    let over = over_after c.self.invariant bytes may.0 c.reveal_bytes.ensures rest.range after rest.memory.long c.reveal_bytes-2.ensures in
+    let over = over_after c.self.invariant bytes may.0 c.reveal_bytes.ensures rest.range after rest.memory.bytes.long c.reveal_bytes-2.ensures in
     subst (λ n. Acted (Alloc c.args.id c.args.size c.args.kind c.args.options) c.args.self.now bytes n c.alloc-placed.new.self.table after) (sym c.unwrap_or.ensures)
-    (alloc_done c.self.view_is bytes c.alloc-placed.new.self.table after rest.range rest.memory.outside
-    c.alloc-placed.result is (heap_after c.self.invariant bytes may.0 c.reveal_bytes.ensures rest.range after rest.memory.long c.reveal_bytes-2.ensures) c.args.id c.args.size c.alloc-placed.ensures.placed c.name_at.result (c.name_at.ensures after over)
+    (alloc_done c.self.view_is bytes c.alloc-placed.new.self.table after rest.range rest.memory.bytes.outside
+    c.alloc-placed.result is (heap_after c.self.invariant bytes may.0 c.reveal_bytes.ensures rest.range after rest.memory.bytes.long c.reveal_bytes-2.ensures) c.args.id c.args.size c.alloc-placed.ensures.placed c.name_at.result (c.name_at.ensures after over)
     c.args.kind c.args.options c.alloc-placed.ensures.allocated)
 
 pub invariant_of-self-2 : goal.invariant_of-self-2
 invariant_of-self-2 g c =
     let may = may_shown c.self.view_is (g.S.Space.bytes c.args.space.now) (Alloc c.args.id c.args.size c.args.kind c.args.options) c.requires in
     subst (λ (free : List ℕ). LocalHeapInvariant c.alloc-placed.new.self.table free) (sym c.set.ensures)
-    (alloc_kept c.self.invariant (g.S.Space.bytes c.args.space.now) may.0 c.reveal_bytes.ensures c.alloc-placed.ensures.rest.range (g.S.Space.bytes c.alloc-placed.new.space) c.alloc-placed.ensures.rest.memory.long
+    (alloc_kept c.self.invariant (g.S.Space.bytes c.args.space.now) may.0 c.reveal_bytes.ensures c.alloc-placed.ensures.rest.range (g.S.Space.bytes c.alloc-placed.new.space) c.alloc-placed.ensures.rest.memory.bytes.long
     c.alloc-placed.result (sym c.is_err.ensures.value ∙ c.if-is_err.false) c.args.id c.args.size c.args.kind c.args.options may.1.0.0 c.alloc-placed.ensures.allocated c.alloc-placed.ensures.placed c.reveal_bytes-2.ensures)
 
 pub returns-then-is_err-clause-written : goal.returns-then-is_err-clause-written

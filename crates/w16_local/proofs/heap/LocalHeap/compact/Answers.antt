@@ -14,12 +14,12 @@ overflow_cast-result g c = elim (cases_lt 0 c.compact.result.room) [
 pub invariant_of-self : goal.invariant_of-self
 invariant_of-self g c =
     let may = may_shown c.self.view_is (g.S.Space.bytes c.args.space.now) (Compact c.args.size) c.requires in
-    compact_kept c.self.invariant (g.S.Space.bytes c.args.space.now) may.0 c.reveal_bytes.ensures c.compact.ensures.rest.range (g.S.Space.bytes c.compact.new.space) c.compact.ensures.rest.memory.long c.args.size c.compact.result.room c.compact.ensures.compacted
+    compact_kept c.self.invariant (g.S.Space.bytes c.args.space.now) may.0 c.reveal_bytes.ensures c.compact.ensures.rest.range (g.S.Space.bytes c.compact.new.space) c.compact.ensures.rest.memory.bytes.long c.args.size c.compact.result.room c.compact.ensures.compacted
 
 pub returns-clause-acted : goal.returns-clause-acted
 returns-clause-acted g c =
     let may = may_shown c.self.view_is (g.S.Space.bytes c.args.space.now) (Compact c.args.size) c.requires in
-    compact_acted c.self.view_is (g.S.Space.bytes c.args.space.now) c.compact.new.self.table (g.S.Space.bytes c.compact.new.space) c.compact.ensures.rest.range c.compact.ensures.rest.memory.outside
+    compact_acted c.self.view_is (g.S.Space.bytes c.args.space.now) c.compact.new.self.table (g.S.Space.bytes c.compact.new.space) c.compact.ensures.rest.range c.compact.ensures.rest.memory.bytes.outside
     c.self.invariant.is_local.sound may.0 c.args.size c.compact.result.room c.compact.ensures.compacted (λ e. ap g.S.Space.bytes (c.compact.ensures.none e).1)
 
 pub returns-clause-written : goal.returns-clause-written

@@ -18,7 +18,7 @@ invariant_of-self g c =
 pub returns-clause-acted : goal.returns-clause-acted
 returns-clause-acted g c =
     let may = may_shown c.self.view_is (g.S.Space.bytes c.args.space.now) (Free c.args.id) c.requires in
-    free_done c.self.view_is (g.S.Space.bytes c.args.space.now) c.free.new.self.table (g.S.Space.bytes c.free.new.space) c.in-Ok.ensures.ok.range c.free.ensures.bytes.rest.outside c.free.ensures.bytes.contents c.args.id (c.in-Ok.ensures.ok.heaps (g.S.Space.bytes c.args.space.now) may.0)
+    free_done c.self.view_is (g.S.Space.bytes c.args.space.now) c.free.new.self.table (g.S.Space.bytes c.free.new.space) c.in-Ok.ensures.ok.range c.free.ensures.bytes.rest.bytes.outside c.free.ensures.bytes.contents c.args.id (c.in-Ok.ensures.ok.heaps (g.S.Space.bytes c.args.space.now) may.0)
 
 pub set-requires : goal.set-requires
 set-requires g c =

@@ -19,7 +19,7 @@ returns-then-is_err-clause-acted g c =
     let is = sym c.is_err.ensures.value ∙ c.if-is_err.true in
     let same = on_err c.realloc-placed.result _ is c.realloc-placed.ensures.refused in
     let rest = c.realloc-placed.ensures.rest in
-    realloc_idle c.self.view_is (g.S.Space.bytes c.args.space.now) c.realloc-placed.new.self.table (g.S.Space.bytes c.realloc-placed.new.space) rest.range rest.memory.outside
+    realloc_idle c.self.view_is (g.S.Space.bytes c.args.space.now) c.realloc-placed.new.self.table (g.S.Space.bytes c.realloc-placed.new.space) rest.range rest.memory.bytes.outside
     c.realloc-placed.result is (ap (λ (s : ArenaState). s.table) same.0) (ap g.S.Space.bytes same.1) c.args.id c.args.size c.args.options c.realloc-placed.ensures.reallocated
 
 pub returns-clause-acted : goal.returns-clause-acted
@@ -29,16 +29,16 @@ returns-clause-acted g c =
     let may = may_shown c.self.view_is bytes (Realloc c.args.id c.args.size c.args.options) c.requires in
     let is = sym c.is_err.ensures.value ∙ c.if-is_err.false in
     let rest = c.realloc-placed.ensures.rest in
-    let over = over_after c.self.invariant bytes may.0 c.reveal_bytes.ensures rest.range after rest.memory.long c.reveal_bytes-2.ensures in
+    let over = over_after c.self.invariant bytes may.0 c.reveal_bytes.ensures rest.range after rest.memory.bytes.long c.reveal_bytes-2.ensures in
     subst (λ n. Acted (Realloc c.args.id c.args.size c.args.options) c.args.self.now bytes n c.realloc-placed.new.self.table after) (sym c.unwrap_or.ensures)
-    (realloc_done c.self.view_is bytes c.realloc-placed.new.self.table after rest.range rest.memory.outside
-    c.realloc-placed.result is (heap_after c.self.invariant bytes may.0 c.reveal_bytes.ensures rest.range after rest.memory.long c.reveal_bytes-2.ensures) c.args.id c.args.size c.realloc-placed.ensures.placed c.name_at.result (c.name_at.ensures after over)
+    (realloc_done c.self.view_is bytes c.realloc-placed.new.self.table after rest.range rest.memory.bytes.outside
+    c.realloc-placed.result is (heap_after c.self.invariant bytes may.0 c.reveal_bytes.ensures rest.range after rest.memory.bytes.long c.reveal_bytes-2.ensures) c.args.id c.args.size c.realloc-placed.ensures.placed c.name_at.result (c.name_at.ensures after over)
     c.args.options c.realloc-placed.ensures.reallocated)
 
 pub invariant_of-self-2 : goal.invariant_of-self-2
 invariant_of-self-2 g c =
     let may = may_shown c.self.view_is (g.S.Space.bytes c.args.space.now) (Realloc c.args.id c.args.size c.args.options) c.requires in
-    realloc_kept c.self.invariant (g.S.Space.bytes c.args.space.now) may.0 c.reveal_bytes.ensures c.realloc-placed.ensures.rest.range (g.S.Space.bytes c.realloc-placed.new.space) c.realloc-placed.ensures.rest.memory.long
+    realloc_kept c.self.invariant (g.S.Space.bytes c.args.space.now) may.0 c.reveal_bytes.ensures c.realloc-placed.ensures.rest.range (g.S.Space.bytes c.realloc-placed.new.space) c.realloc-placed.ensures.rest.memory.bytes.long
     c.realloc-placed.result (sym c.is_err.ensures.value ∙ c.if-is_err.false) c.args.id c.args.size c.args.options c.realloc-placed.ensures.reallocated
 
 pub returns-then-is_err-clause-written : goal.returns-then-is_err-clause-written
