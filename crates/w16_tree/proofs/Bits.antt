@@ -1,10 +1,37 @@
 -- The bits of a row: one for each of its numbers that reaches a bound.
-use Rattle.std.proofs.Common.{◌≡◌, ◌+◌, ◌-◌, ◌*◌, ◌/◌, ◌%◌, ◌^◌, ◌<◌, ◌≤◌, ℕ, suc, nat_le, if◌then◌else◌, sym, ◌∙◌, ap, arith, inl, inr, zero}
+use Rattle.std.proofs.Common.{◌≡◌, ◌+◌, ◌-◌, ◌*◌, ◌/◌, ◌%◌, ◌^◌, ◌<◌, ◌≤◌, ℕ, suc, nat_le, if◌then◌else◌, sym, ◌∙◌, ap, subst, arith, inl, inr, zero, List, Bool, true, false, cond, length, map, replicate, drop, slice_index}
+use Rattle.std.proofs.lemmas.List.{length-map, get_or-map, get_or-take, get_or-drop}
+use Rattle.std.proofs.lemmas.Simd.{tops_compared, zip2_splat_left, mask_l-mod, mask_l-lt, bit_mask_l, length-chunk}
+use lib.Lanes.{chunk, mask_l, top, zip2}
 use Rattle.std.specs.Int.{bit_at, trailing_zeros, w32}
 use Rattle.std.proofs.Math.Nat.{pow-suc, pow-le-pow_right, div-add-mod, mul_comm, mod-lt}
 use Rattle.std.proofs.lemmas.Bool.Decides.{leb_tells}
 use Rattle.std.proofs.lemmas.Nat.{pow_pos}
 use Rattle.std.proofs.lemmas.Nat.Bits.{bit_at_cat_low, bit_at_cat_high, bit_at-trailing_zeros, bit_at_above, bit_at_lowest}
+
+-- the mask of the numbers of a row that reach a bound, all compared at once
+module _ (n at : ℕ) (nodes : List ℕ) (inside : at + 16 ≤ length nodes) where
+  abbrev row : List ℕ
+  row = chunk at 16 nodes
+
+  abbrev mask : ℕ
+  mask = mask_l (map (top 31) (zip2 (λ a b. cond (nat_le a b) (2 ^ 32 - 1) 0) (replicate 16 n) row)) % 2 ^ 64
+
+  long : length row ≡ 16
+  long = length-chunk at 16 nodes inside
+
+  mask_is : mask ≡ mask_l (map (nat_le n) row)
+  mask_is =
+      ap (λ bs. mask_l bs % 2 ^ 64) (tops_compared w32 nat_le (replicate 16 n) row ∙ zip2_splat_left nat_le n 16 row long)
+      ∙ mask_l-mod (map (nat_le n) row) 64 (omega (arith, length-map row (nat_le n), long))
+
+  pub mask_small : mask < 2 ^ 16
+  mask_small = let lt = mask_l-lt (map (nat_le n) row) in subst (λ (m : ℕ). m < 2 ^ 16) (sym mask_is) (subst (λ (k : ℕ). mask_l (map (nat_le n) row) < 2 ^ k) (length-map row (nat_le n) ∙ long) lt)
+
+  pub mask_bits : (k : ℕ) → k < 16 → bit_at mask k ≡ (if nat_le n (slice_index nodes (at + k)) then 1 else 0)
+  mask_bits k lt =
+      ap (λ m. bit_at m k) mask_is ∙ bit_mask_l (map (nat_le n) row) k
+      ∙ ap (λ b. cond b 1 0) (get_or-map (nat_le n) row k 0 false (omega (arith, long)) ∙ ap (nat_le n) (get_or-take 16 (drop at nodes) k 0 lt ∙ get_or-drop at nodes k 0))
 
 -- what one bit more in front does
 pub record IsLonger (mask k bit longer : ℕ) : Type 0 where
@@ -25,10 +52,6 @@ longer_by mask k bit longer small two is =
       here = ap (λ x. bit_at x k) is ∙ (bit_at_cat_high bit k mask k small (omega arith) ∙ (ap (bit_at bit) z ∙ (bit_at_lowest bit ∙ omega arith)));
       kept = λ j lt. ap (λ x. bit_at x j) is ∙ bit_at_cat_low bit k mask j lt;
     }
-
--- so each bit is what it is to be, if the one in front is and the others are
-pub told_more : (f : ℕ → ℕ) (mask k bit longer : ℕ) → IsLonger mask k bit longer → bit ≡ f k → ((j : ℕ) → j < k → bit_at mask j ≡ f j) → (j : ℕ) → j < k + 1 → bit_at longer j ≡ f j
-told_more f mask k bit longer l is told j lt = grind (arith, l.kept j, l.here, told j)
 
 -- whether a bound is reached, as a bit
 abbrev pub flag : ℕ → ℕ → ℕ

@@ -3,6 +3,8 @@ ghost use Rattle.std.specs.Prelude.{◌≡◌, ◌+◌, ◌-◌, ◌^◌, ◌<�
 ghost use Rattle.std.specs.Int.{bit_at};
 ghost use Rattle.w16_tree.specs.Tree.{number, IsMost};
 
+use std::simd::prelude::*;
+
 /// How many numbers a row has.
 const FAN: usize = 16;
 
@@ -19,17 +21,14 @@ pub(crate) fn row_max(nodes: &[u32], at: usize) -> u32
 }
 
 /// Which numbers of the row that begins at a place are at least `n`, a bit for each from the lowest
-/// on. It has no branch, so that none is foretold wrongly.
+/// on. All sixteen are compared at once.
 fn reaching(nodes: &[u32], at: usize, n: u32) -> u32
     requires { at + 16 ≤ length nodes.now }
     ensures small { result < 2 ^ 16 }
     ensures bits { (k : ℕ) → k < 16 → bit_at result k ≡ (if nat_le n (slice_index nodes.now (at + k)) then 1 else 0) }
 {
-    let mut mask = 0;
-    for k in 0..FAN {
-        mask += u32::from(nodes[at + k] >= n) << k;
-    }
-    mask
+    let row = u32x16::from_slice(&nodes[at..]);
+    row.simd_ge(u32x16::splat(n)).to_bitmask() as u32
 }
 
 /// How many numbers of a row stand before the first of at least `n`: all, where there is none.

@@ -1,13 +1,13 @@
-use Rattle.std.proofs.Common.{◌+◌, ◌^◌, ◌<◌, ◌≡◌, ◌*◌, ◌%◌, slice_index, arith}
-use Rattle.std.proofs.Math.Pow.{shl_exact}
-use Rattle.w16_tree.proofs.Bits.{flag, longer_by, told_more}
+use Rattle.std.proofs.Common.{◌+◌, ◌%◌, ◌^◌, ◌<◌, ◌≤◌, ◌≡◌, ◌∙◌, ℕ, List, Bool, true, false, cond, length, map, replicate, nat_le, slice_index, if◌then◌else◌, Fits, w32, refl, ap, arith}
+use Rattle.std.specs.Int.{bit_at}
+use Rattle.w16_tree.proofs.Bits.{mask_small, mask_bits}
 use Rattle.w16_tree.proofs.rows.reaching.Goals as goal
 
-pub loop-k-preserved : goal.loop-k-preserved
-loop-k-preserved c =
-    let two : c.from.result < 2 = grind arith in
-    let e : c.from.result * 2 ^ c.loop-k.k % 2 ^ 32 ≡ c.from.result * 2 ^ c.loop-k.k = shl_exact 1 c.loop-k.k 32 two (let k = c.loop-k-test.true in omega arith) in
-    let l = longer_by c.loop-k.mask c.loop-k.k c.from.result (c.loop-k.mask + c.from.result * 2 ^ c.loop-k.k % 2 ^ 32) c.loop-k.invariant.small two (omega arith) in record {
-      small = l.small;
-      bits = told_more (λ j. flag c.args.n (slice_index c.args.nodes.now (c.args.at + j))) c.loop-k.mask c.loop-k.k c.from.result (c.loop-k.mask + c.from.result * 2 ^ c.loop-k.k % 2 ^ 32) l (grind arith) c.loop-k.invariant.bits;
-    }
+pub overflow_cast-result : goal.overflow_cast-result
+overflow_cast-result c = record { fits = let small = mask_small c.args.n c.args.at c.args.nodes.now c.requires in omega (arith, small) }
+
+pub returns-clause-small : goal.returns-clause-small
+returns-clause-small c = mask_small c.args.n c.args.at c.args.nodes.now c.requires
+
+pub returns-clause-bits : goal.returns-clause-bits
+returns-clause-bits c = mask_bits c.args.n c.args.at c.args.nodes.now c.requires
