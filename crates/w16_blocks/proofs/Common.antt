@@ -1,8 +1,8 @@
 -- The names of definitions and of lower crates that the proofs of this crate cite, passed on from one place. Declares nothing.
-pub use Rattle.std.proofs.Common.{IsSome, None, Option, Some, eqb}
+pub use Rattle.std.proofs.Common.{IsSome, None, Option, Some, eqb, ◌++◌}
 pub use Rattle.std.proofs.lemmas.Bool.{eqb-true, le-leb, ne_eqb}
 pub use Rattle.std.proofs.lemmas.Grind.{div_ceil_times}
-pub use Rattle.std.proofs.lemmas.List.{get_or-drop, get_or-take, get_or_past, get_or_read, length-drop, length-map, set-set, with_items_is}
+pub use Rattle.std.proofs.lemmas.List.{get_or-drop, get_or-take, get_or_past, get_or_read, length-append, length-drop, length-map, set-set, with_items_is}
 pub use Rattle.std.proofs.lemmas.Map.Steps.{length-le_from_distinct_below}
 pub use Rattle.std.proofs.lemmas.Nat.{le_or_l, le_or_r}
 pub use Rattle.std.specs.Int.{div_ceil}
@@ -10,7 +10,7 @@ pub use Rattle.std.specs.Int.Bits.{bit_or}
 pub use Rattle.std.specs.List.{AllByRecursion, list_any}
 unfoldable pub use Rattle.std.specs.List.{IsDistinct}
 pub use Rattle.w16_blocks.specs.Below.{IsLastBelow}
-pub use Rattle.w16_blocks.specs.Kept.{AreBegun, AreTables, Begins, BlocksInvariant, blocks_in, layout_in, no_block, pins_in, pins_of, slot_of}
+pub use Rattle.w16_blocks.specs.Kept.{AreBegun, AreReserved, AreTables, Begins, BlocksInvariant, blocks_in, layout_in, no_block, pins_in, pins_of, slot_of}
 pub use Rattle.w16_blocks.specs.Layout.{AreNamed, Fits, FitsFor, IsApart, IsGrained, IsOrdered, Layout, all_but, from_address, holes_of, placed, range_of, rank, renamed, replaced, with_other_id}
 pub use Rattle.w16_blocks.specs.Parts.{IsBehindAll, IsFirstBlock, IsFirstHole}
 pub use Rattle.w16_blocks.specs.Runs.{IsBare, IsCut, IsRun, slid_with}

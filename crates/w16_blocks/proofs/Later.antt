@@ -1,8 +1,9 @@
 -- A range that ends later: its new part joins the holes.
-use Rattle.w16_blocks.proofs.Common.{◌≡◌, ℕ, ◌+◌, ◌-◌, ◌/◌, ◌<◌, ◌≤◌, min, max, Bool, true, false, nat_lt, List, [], ◌∷◌, refl, sym, ap, ◌∙◌, subst, arith, inl, inr, lt-ltb, le-ltb, cases_lt, IsMultiple, whole_units, Block, Span, IsLaid, block_end, holes, holes-cons, add_span, joined, Range, IsPart, IsUsed, Layout, range_of, layout_in, blocks_in, BlocksInvariant, LAST_END}
+use Rattle.w16_blocks.proofs.Common.{◌≡◌, ℕ, ◌+◌, ◌-◌, ◌/◌, ◌<◌, ◌≤◌, min, max, Bool, true, false, nat_lt, List, [], ◌∷◌, ◌++◌, length, replicate, slice_index, zero, suc, ◌*◌, refl, sym, ap, ◌∙◌, subst, arith, inl, inr, lt-ltb, le-ltb, cases_lt, IsMultiple, whole_units, below, up, length-append, length-replicate, Block, Span, IsLaid, block_end, holes, holes-cons, add_span, joined, Range, IsPart, IsUsed, Layout, IsOrdered, sum_by, pins_in, range_of, layout_in, slot_of, blocks_in, AreReserved, BlocksInvariant, LAST_END}
 use Rattle.std.proofs.Common.{cond}
 use Rattle.w16_blocks.proofs.Free.{laid_le}
 use Rattle.w16_blocks.proofs.Outside.{used_high}
+use Rattle.w16_blocks.proofs.Tables.{blocks_in-none, get_or-replicate_same}
 
 pub laid_later : (lo hi end : ℕ) (bs : List Block) → IsLaid lo hi bs → hi ≤ end → IsLaid lo end bs
 laid_later lo hi end [] laid le = omega (arith, laid, le)
@@ -36,6 +37,42 @@ holes_later lo hi end (x ∷ xs) laid l =
     ∙ ap (add_span lo x.at) (holes_later (block_end x) hi end xs laid.2 l)
     ∙ sym (ap (joined hi end) (holes-cons lo hi x xs laid) ∙ joined_behind lo x.at hi end (holes (block_end x) hi xs) (omega (arith, below, laid.1)))
 
+-- cells of 0 behind the others tell no block
+blocks_in-longer : (slots : List Block) (cells : List ℕ) (n : ℕ) → blocks_in slots (cells ++ replicate n 0) ≡ blocks_in slots cells
+blocks_in-longer slots [] n = blocks_in-none slots (replicate n 0) (λ k. get_or-replicate_same n k 0)
+blocks_in-longer slots (zero ∷ cells) n = blocks_in-longer slots cells n
+blocks_in-longer slots (suc id ∷ cells) n = ap (λ (bs : List Block). slot_of slots id ∷ bs) (blocks_in-longer slots cells n)
+
+slice_index-longer : (cells : List ℕ) (n k : ℕ) → slice_index (cells ++ replicate n 0) k ≡ slice_index cells k
+slice_index-longer [] n k = get_or-replicate_same n k 0
+slice_index-longer (x ∷ cells) n zero = refl
+slice_index-longer (x ∷ cells) n (suc k) = slice_index-longer cells n k
+
+-- p / g + 1 cells reach over an end that lies p bytes behind the begin of the range
+pub cells_reach : (g p : ℕ) → 0 < g → p < g * (p / g + 1)
+cells_reach g p some = omega arith
+
+-- and so do cells that are lengthened to so many
+longer_reach : (g p : ℕ) (cells : List ℕ) → 0 < g → p < g * length (cells ++ replicate (p / g + 1 - length cells) 0)
+longer_reach g p cells some =
+    let n = p / g + 1 - length cells in let sum = length-append cells (replicate n 0) in let more = length-replicate {A = ℕ} n 0 in
+    let many = up g (p / g + 1) (length (cells ++ replicate n 0)) (omega arith) in let reach = cells_reach g p some in omega arith
+
+-- capacity that reaches over a later end is enough for them
+pub cells_fit : {g p q room n : ℕ} → 0 < g → n ≡ p / g + 1 → p ≤ q → q < g * room → n ≤ room
+cells_fit {g} {p} {q} {room} some is le reach = let less = below g (p / g) room (omega arith) in omega arith
+
+-- capacity for the cells to a later end reaches over an end before it
+pub cells_reserved : {g n room : ℕ} (p q : ℕ) → 0 < g → n ≡ q / g + 1 → p ≤ q → n ≤ room → p < g * room
+cells_reserved {g} {n} {room} p q some is le many = let reach = cells_reach g q some in let all = up g (q / g + 1) room (omega arith) in omega arith
+
+-- tables that have more capacity have still enough
+pub AreReserved-more : {lo g a b a' b' : ℕ} → AreReserved lo g a b → a ≤ a' → b ≤ b' → AreReserved lo g a' b'
+AreReserved-more {lo} {g} {a} {b} {a'} {b'} r begins ends = record {
+  begins = let old = r.begins in let more = up g a a' begins in omega arith;
+  ends = let old = r.ends in let more = up g b b' ends in omega arith;
+}
+
 -- what is kept of blocks whose range ends later
 module _ {cap lo hi g : ℕ} {slots : List Block} {cells : List ℕ} {free pinned : ℕ} {range : Range} {kept : List Span} (k : BlocksInvariant cap lo hi g slots cells free pinned range kept)
     (end : ℕ) (later : hi < end) {range' : Range} (moved : range' ≡ record range { hi = end }) where
@@ -62,26 +99,45 @@ module _ {cap lo hi g : ℕ} {slots : List Block} {cells : List ℕ} {free pinne
         rounded = ((end - hi) / g, sym (whole_units g hi end some (omega arith) from to));
       })
 
-  pub BlocksInvariant-later : {kept' : List Span} → end ≤ LAST_END → kept' ≡ joined hi (hi + (end - hi)) kept → BlocksInvariant cap lo end g slots cells (free + (end - hi)) pinned range' kept'
-  BlocksInvariant-later low joins = record {
-    tables = record {
-      some = k.tables.some;
-      ids = k.tables.ids;
-      long = let all = k.tables.reserved in omega arith;
-      reserved = k.tables.reserved;
-      ordered = record {
-        laid = laid_later lo hi end (blocks_in slots cells) k.tables.ordered.laid (omega arith);
-        named = k.tables.ordered.named;
-        grained = k.tables.ordered.grained;
-        from = k.tables.ordered.from;
-        small = omega arith;
-        few = k.tables.ordered.few;
-      };
-      begun = k.tables.begun;
-      found = k.tables.found;
-    };
-    counted = let counted = k.counted in omega arith;
-    pins = k.pins;
-    ranged = ranged_later;
-    between = joins ∙ ap (λ (b : ℕ). joined hi b kept) sum_end ∙ ap (joined hi end) k.between ∙ sym (holes_later lo hi end (blocks_in slots cells) k.tables.ordered.laid later);
+  ordered_later : end ≤ LAST_END → IsOrdered (layout_in cap lo end g slots cells)
+  ordered_later low = record {
+    laid = laid_later lo hi end (blocks_in slots cells) k.tables.ordered.laid (omega arith);
+    named = k.tables.ordered.named;
+    grained = k.tables.ordered.grained;
+    from = k.tables.ordered.from;
+    small = omega arith;
+    few = k.tables.ordered.few;
   }
+
+  -- the cells are lengthened to the later end
+  module _ {cells' : List ℕ} (longer : cells' ≡ cells ++ replicate ((end - lo) / g + 1 - length cells) 0) where
+    abbrev more : ℕ
+    more = (end - lo) / g + 1 - length cells
+
+    told_later : blocks_in slots cells' ≡ blocks_in slots cells
+    told_later = ap (blocks_in slots) longer ∙ blocks_in-longer slots cells more
+
+    cells_later : (u : ℕ) → slice_index cells' u ≡ slice_index cells u
+    cells_later u = ap (λ (ns : List ℕ). slice_index ns u) longer ∙ slice_index-longer cells more u
+
+    pub layout_later : {l : Layout} → layout_in cap lo hi g slots cells ≡ l → layout_in cap lo end g slots cells' ≡ record l { hi = end }
+    layout_later is =
+        ap (λ (bs : List Block). record { cap = cap; lo = lo; hi = end; grain = g; blocks = bs }) told_later ∙ ap (λ (m : Layout). record m { hi = end }) is
+
+    pub BlocksInvariant-later : {kept' : List Span} → end ≤ LAST_END → kept' ≡ joined hi (hi + (end - hi)) kept → BlocksInvariant cap lo end g slots cells' (free + (end - hi)) pinned range' kept'
+    BlocksInvariant-later low joins = record {
+      tables = record {
+        some = k.tables.some;
+        ids = k.tables.ids;
+        long = subst (λ (ns : List ℕ). end - lo < g * length ns) (sym longer) (longer_reach g (end - lo) cells k.tables.some);
+        ordered = subst (λ (bs : List Block). IsOrdered (record { cap = cap; lo = lo; hi = end; grain = g; blocks = bs })) (sym told_later) (ordered_later low);
+        begun = λ u id e. k.tables.begun u id (sym (cells_later u) ∙ e);
+        found = λ id has. let cell = k.tables.found id has in (cell.0, cells_later cell.0 ∙ cell.1);
+      };
+      counted = let sum = ap (sum_by (λ (b : Block). b.size)) told_later in let counted = k.counted in omega arith;
+      pins = k.pins ∙ ap (sum_by pins_in) (sym told_later);
+      ranged = ranged_later;
+      between =
+          joins ∙ ap (λ (b : ℕ). joined hi b kept) sum_end ∙ ap (joined hi end) k.between
+          ∙ sym (holes_later lo hi end (blocks_in slots cells) k.tables.ordered.laid later) ∙ ap (holes lo end) (sym told_later);
+    }

@@ -1,5 +1,5 @@
 -- Table and cells where a block is added or taken away.
-use Rattle.w16_blocks.proofs.Common.{ℕ, zero, suc, ◌≡◌, ◌≢◌, ◌+◌, ◌-◌, ◌*◌, ◌^◌, ◌<◌, ◌≤◌, ◌⊎◌, List, [], ◌∷◌, length, get_or, set, replicate, Some, None, IsSome, is_some, arith, refl, sym, ap, ◌∙◌, subst, inl, inr, slice_index, cases_lt, false≢true, get_or-set_same, get_or-set_other, length-set, set-set, set-get_or, get_or_past, get_or_read, Block, IsMultiple, block_with, above, below, IsApart, IsOrdered, Fits, FitsFor, placed, all_but, replaced, no_block, slot_of, blocks_in, layout_in, Begins, AreBegun, AreTables, LAST_END}
+use Rattle.w16_blocks.proofs.Common.{ℕ, zero, suc, ◌≡◌, ◌≢◌, ◌+◌, ◌-◌, ◌*◌, ◌^◌, ◌<◌, ◌≤◌, ◌⊎◌, List, [], ◌∷◌, length, get_or, set, replicate, Some, None, IsSome, is_some, arith, refl, sym, ap, ◌∙◌, subst, inl, inr, slice_index, cases_lt, false≢true, get_or-set_same, get_or-set_other, length-set, set-set, set-get_or, get_or_past, get_or_read, Block, IsMultiple, block_with, above, below, IsApart, IsOrdered, Fits, FitsFor, placed, all_but, replaced, no_block, slot_of, blocks_in, layout_in, Begins, AreBegun, AreTables}
 use Rattle.w16_blocks.proofs.Cells.{each_told, blocks_in-set, blocks_in-begin, blocks_in-clear, told_with, told_none, with_cell}
 use Rattle.w16_blocks.proofs.Ordered.{IsOrdered-placed, IsOrdered-all_but}
 
@@ -87,7 +87,6 @@ module _ {cap lo hi g : ℕ} {slots : List Block} {cells : List ℕ} (t : AreTab
       some = t.some;
       ids = t.ids;
       long = let many = t.long in subst (λ (n : ℕ). hi - lo < g * n) (sym (length-set cells u (suc b.id))) many;
-      reserved = let many = t.reserved in subst (λ (n : ℕ). LAST_END - lo < g * n) (sym (length-set cells u (suc b.id))) many;
       ordered = subst (λ (bs : List Block). IsOrdered (record { cap = cap; lo = lo; hi = hi; grain = g; blocks = bs })) (sym blocks_in-add) (IsOrdered-placed (layout_in cap lo hi g slots cells) b t.ids fits t.ordered);
       begun = begun_add;
       found = λ id has. elim (same_or id b.id) [
@@ -130,7 +129,6 @@ module _ {cap lo hi g : ℕ} {slots : List Block} {cells : List ℕ} (t : AreTab
       some = t.some;
       ids = t.ids;
       long = let many = t.long in subst (λ (n : ℕ). hi - lo < g * n) (sym (length-set cells u 0)) many;
-      reserved = let many = t.reserved in subst (λ (n : ℕ). LAST_END - lo < g * n) (sym (length-set cells u 0)) many;
       ordered = subst (λ (bs : List Block). IsOrdered (record { cap = cap; lo = lo; hi = hi; grain = g; blocks = bs })) (sym blocks_in-drop) (IsOrdered-all_but (layout_in cap lo hi g slots cells) id t.ids t.ordered);
       begun = λ k j e.
           let other = other_cell k j e in let old = t.begun k j other.1 in
@@ -209,12 +207,11 @@ blocks_in-none slots (zero ∷ cells) zeros = blocks_in-none slots cells (λ k. 
 blocks_in-none slots (suc id ∷ cells) zeros = let clear = zeros 0 in absurd (omega arith)
 
 module _ {cap lo hi g : ℕ} {slots : List Block} {cells : List ℕ} (tells : (k : ℕ) → slice_index cells k ≡ 0) (none : (id : ℕ) → slot_of slots id ≡ no_block) where
-  pub AreTables-none : 0 < g → cap < 2 ^ 32 → hi < 2 ^ 32 → lo ≤ hi → IsMultiple g lo → hi - lo < g * length cells → LAST_END - lo < g * length cells → AreTables cap lo hi g slots cells
-  AreTables-none some ids small le low long reserved = record {
+  pub AreTables-none : 0 < g → cap < 2 ^ 32 → hi < 2 ^ 32 → lo ≤ hi → IsMultiple g lo → hi - lo < g * length cells → AreTables cap lo hi g slots cells
+  AreTables-none some ids small le low long = record {
     some = some;
     ids = ids;
     long = long;
-    reserved = reserved;
     ordered = subst (λ (bs : List Block). IsOrdered (record { cap = cap; lo = lo; hi = hi; grain = g; blocks = bs })) (sym (blocks_in-none slots cells tells))
         (record { laid = le; named = tt; grained = tt; from = low; small = small; few = omega arith });
     begun = λ k id e. let clear = tells k in absurd (omega arith);

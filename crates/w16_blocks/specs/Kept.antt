@@ -41,13 +41,11 @@ AreBegun p grain slots cells = (k id : ℕ) → slice_index cells k ≡ suc id �
 abbrev pub AreFound : List Block → List ℕ → Type 0
 AreFound slots cells = (id : ℕ) → 0 < (slot_of slots id).size → (k : ℕ) × (slice_index cells k ≡ suc id)
 
--- table and cells agree, and tell an ordered layout; there is a cell for each place, the end among them, and for each up to the highest end that
--- the range may be given later
+-- table and cells agree, and tell an ordered layout; there is a cell for each place, the end among them
 pub record AreTables (cap lo hi grain : ℕ) (slots : List Block) (cells : List ℕ) : Type 0 where
   pub some : 0 < grain
   pub ids : cap < 2 ^ 32
   pub long : hi - lo < grain * length cells
-  pub reserved : LAST_END - lo < grain * length cells
   pub ordered : IsOrdered (layout_in cap lo hi grain slots cells)
   pub begun : AreBegun lo grain slots cells
   pub found : AreFound slots cells
@@ -67,3 +65,8 @@ pub record BlocksInvariant (cap lo hi grain : ℕ) (slots : List Block) (cells :
   pub pins : pinned ≡ sum_by pins_in (blocks_in slots cells)
   pub ranged : range ≡ range_of (layout_in cap lo hi grain slots cells)
   pub between : kept ≡ holes_of (layout_in cap lo hi grain slots cells)
+
+-- two tables by unit have the capacity for a cell of each place up to the highest end that the range may be given later, that end among them
+pub record AreReserved (lo grain begin_room end_room : ℕ) : Type 0 where
+  pub begins : LAST_END - lo < grain * begin_room
+  pub ends : LAST_END - lo < grain * end_room

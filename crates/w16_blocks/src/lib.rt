@@ -2,7 +2,7 @@
 //! a trait. No call but the constructor takes memory, and none is refused.
 #![tactic(auto)]
 
-ghost use Rattle.std.specs.Prelude.{◌≡◌, ◌≢◌, ◌+◌, ◌-◌, ◌*◌, ◌^◌, ◌<◌, ◌≤◌, ◌==◌, [], length, IfOk, IsSome, IfSome, vec_len, slice_get, sum_by, Some, if◌then◌else◌};
+ghost use Rattle.std.specs.Prelude.{◌≡◌, ◌≢◌, ◌+◌, ◌-◌, ◌*◌, ◌/◌, ◌^◌, ◌<◌, ◌≤◌, ◌==◌, ◌++◌, [], length, replicate, IfOk, IsSome, IfSome, vec_capacity, vec_len, slice_get, sum_by, Some, if◌then◌else◌};
 ghost use Rattle.std.specs.List.{list_any};
 ghost use Rattle.std.specs.Int.{div_ceil};
 ghost use Rattle.std.specs.Option.{ForSome};
@@ -20,7 +20,7 @@ mod runs;
 pub use by_address::ByAddress;
 use ends::note_end;
 pub use parts::Part;
-use std::alloc::AllocError;
+use std::alloc::{AllocError, Allocator};
 use std::marker::Model;
 use w16_holes::{HoleList, Holes, LAST_END, units_in, units_over};
 pub use w16_model::{Block, Hold, Span};
@@ -39,7 +39,8 @@ const NO_BLOCK: Block = Block {
 pub struct Blocks<H: HoleList> {
     /// By id, the block of no bytes where an id has none.
     slots: Vec<Block, H::Alloc>,
-    /// By unit of grain from `lo` on: one more than the id of the block that begins there, or 0.
+    /// By unit of grain from `lo` on, as far as the range goes: one more than the id of the block that begins there, or 0. It has the
+    /// capacity for an end at [`LAST_END`], and so has `ends`.
     begins: Vec<u32, H::Alloc>,
     /// By unit of grain from `lo` on: the id of the block that was the last to be placed so that it ended there. It may end elsewhere by
     /// now, so who reads a note looks at the block.
@@ -56,14 +57,15 @@ pub struct Blocks<H: HoleList> {
 
 impl<H: HoleList> Model for Blocks<H> {
     ghost use Rattle.w16_blocks.specs.Layout.{Layout};
-    ghost use Rattle.w16_blocks.specs.Kept.{layout_in, BlocksInvariant};
-    ghost use Rattle.std.specs.Prelude.{vec_len};
+    ghost use Rattle.w16_blocks.specs.Kept.{layout_in, AreReserved, BlocksInvariant};
+    ghost use Rattle.std.specs.Prelude.{vec_capacity, vec_len};
 
     ghost Value = { Layout };
 
     ghost view = { λ s. layout_in (vec_len s.slots) s.lo s.hi s.grain s.slots.items s.begins.items };
 
-    ghost invariant = { λ s. BlocksInvariant (vec_len s.slots) s.lo s.hi s.grain s.slots.items s.begins.items s.free s.pinned (H.range s.holes) (H.holes s.holes) };
+    ghost invariant = { λ s. BlocksInvariant (vec_len s.slots) s.lo s.hi s.grain s.slots.items s.begins.items s.free s.pinned (H.range s.holes) (H.holes s.holes)
+        × AreReserved s.lo s.grain (vec_capacity s.begins) (vec_capacity s.ends) };
 }
 
 /// How many blocks keep their address, of one with this hold.
@@ -85,6 +87,28 @@ fn unit_of(place: u32, lo: u32, grain: u32) -> usize
     ensures { place ≡ lo + grain * result }
 {
     units_in(place - lo, grain) as usize
+}
+
+/// How many cells a table by unit needs, where the range ends at `end`: one for each place, the end among them.
+fn cells_to(end: u32, lo: u32, grain: u32) -> usize
+    requires some { 0 < grain }
+    requires from { lo ≤ end }
+    ensures { result ≡ (end - lo) / grain + 1 }
+{
+    units_in(end - lo, grain) as usize + 1
+}
+
+/// Gives a table at least so many cells, for which it has the capacity. The new ones are `cell`. No memory is taken.
+fn lengthen<T: Copy, A: Allocator>(table: &mut Vec<T, A>, cells: usize, cell: T)
+    requires { cells ≤ vec_capacity table.old }
+    ensures items { table.new.items ≡ table.old.items ++ replicate (cells - vec_len table.old) cell }
+    ensures capacity { vec_capacity table.old ≤ vec_capacity table.new }
+{
+    if table.len() < cells {
+        let Ok(()) = table.resize(cells, cell) else {
+            unreachable!()
+        };
+    }
 }
 
 impl<H: HoleList> Blocks<H> {
@@ -115,10 +139,14 @@ impl<H: HoleList> Blocks<H> {
         requires whole { H.holes holes ≡ add_span lo hi [] }
         ensures { IfOk result (λ made. made ≡ record { cap = cap; lo = lo; hi = hi; grain = grain; blocks = [] }) }
     {
-        let units = ((hi.max(LAST_END) - lo) / grain) as usize + 1;
         let slots = vec![in alloc; NO_BLOCK; cap as usize]?;
-        let begins = vec![in alloc; 0; units]?;
-        let ends = vec![in alloc; 0; units]?;
+        let most = cells_to(hi.max(LAST_END), lo, grain);
+        let mut begins = Vec::with_capacity(alloc, most)?;
+        let mut ends = Vec::with_capacity(alloc, most)?;
+        // Cells for a later end are not written before there is one, and so cost the host no memory until then.
+        let cells = cells_to(hi, lo, grain);
+        lengthen(&mut begins, cells, 0);
+        lengthen(&mut ends, cells, 0);
         Ok(Blocks {
             slots,
             begins,
@@ -307,6 +335,9 @@ impl<H: HoleList> Blocks<H> {
         if from < end {
             self.holes.set_end(end);
             self.holes.put(space, from, end - from);
+            let cells = cells_to(end, self.lo, self.grain);
+            lengthen(&mut self.begins, cells, 0);
+            lengthen(&mut self.ends, cells, 0);
             self.free += end - from;
             self.hi = end;
         }

@@ -7,7 +7,7 @@ use Rattle.w16_blocks.proofs.Blocks.beginning_at.Goals.{then-place-bounds-via-th
 pub returns-then-place-bounds-clause-value : goal.returns-then-place-bounds-clause-value
 returns-then-place-bounds-clause-value g c =
     let bounds = c.bounds-bounds.ensures in let from = ap (λ (s : Span). s.from) bounds.value in let to = ap (λ (s : Span). s.to) bounds.value in
-    let grain = ap (λ (l : Layout). l.grain) c.self.view_is in let some = c.self.invariant.tables.some in
+    let grain = ap (λ (l : Layout). l.grain) c.self.view_is in let some = c.self.invariant.0.tables.some in
     none_off c.args.self.now c.args.place bounds.ordered (omega arith) (λ low high whole. elim c.then-place-bounds.branch [
       | then-place-bounds-via-then-place-bounds w ↦ let below = w.if-place-bounds.true in omega arith
       | then-place-bounds-via-else-place-bounds+then-place-bounds-2 w ↦ let above = w.if-place-bounds-2.true in omega arith

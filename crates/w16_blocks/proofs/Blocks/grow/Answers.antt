@@ -3,27 +3,27 @@ use Rattle.w16_blocks.proofs.Keeping.{part_taken, free_taken, counts_more, layou
 use Rattle.w16_blocks.proofs.Blocks.grow.Goals as goal
 
 pub take-requires-clause-part : goal.take-requires-clause-part
-take-requires-clause-part g c = part_taken c.self.invariant c.self.inside.slots.ok.0 c.self.view_is c.args.block c.requires.known c.requires.fits c.requires.more
+take-requires-clause-part g c = part_taken c.self.invariant.0 c.self.inside.slots.ok.0 c.self.view_is c.args.block c.requires.known c.requires.fits c.requires.more
 
 pub take-requires-clause-free : goal.take-requires-clause-free
-take-requires-clause-free g c = free_taken c.self.invariant c.self.inside.slots.ok.0 c.self.view_is c.args.block c.requires.known c.requires.fits c.requires.more
+take-requires-clause-free g c = free_taken c.self.invariant.0 c.self.inside.slots.ok.0 c.self.view_is c.args.block c.requires.known c.requires.fits c.requires.more
 
 pub overflow_sub-self : goal.overflow_sub-self
-overflow_sub-self g c = counts_more c.self.invariant c.self.inside.slots.ok.0 c.self.view_is c.args.block c.requires.known c.requires.fits c.requires.more
+overflow_sub-self g c = counts_more c.self.invariant.0 c.self.inside.slots.ok.0 c.self.view_is c.args.block c.requires.known c.requires.fits c.requires.more
 
 pub invariant_of-self : goal.invariant_of-self
 invariant_of-self g c =
-    BlocksInvariant-more c.self.invariant c.self.inside.slots.ok.0 c.self.view_is c.args.block c.requires.known c.requires.fits c.requires.more c.take.ensures.range c.take.ensures.holes
+    (BlocksInvariant-more c.self.invariant.0 c.self.inside.slots.ok.0 c.self.view_is c.args.block c.requires.known c.requires.fits c.requires.more c.take.ensures.range c.take.ensures.holes, c.self.invariant.1)
 
 pub returns-clause-value : goal.returns-clause-value
-returns-clause-value g c = layout_sized c.self.invariant c.self.inside.slots.ok.0 c.self.view_is c.args.block c.requires.known c.requires.fits
+returns-clause-value g c = layout_sized c.self.invariant.0 c.self.inside.slots.ok.0 c.self.view_is c.args.block c.requires.known c.requires.fits
 
 pub returns-clause-ordered : goal.returns-clause-ordered
-returns-clause-ordered g c = (invariant_of-self g c).tables.ordered
+returns-clause-ordered g c = (invariant_of-self g c).0.tables.ordered
 
 pub returns-clause-rest : goal.returns-clause-rest
 returns-clause-rest g c = record {
-  kept = subst (λ (hs : List Span). g.H.Holes.are_in hs (g.S.Space.bytes c.take.new.space)) (invariant_of-self g c).between c.take.ensures.kept;
-  bytes = subst (λ (hs : List Span). AreSameOutside hs (g.S.Space.bytes c.args.space.now) (g.S.Space.bytes c.take.new.space)) (c.self.invariant.between ∙ ap holes_of c.self.view_is) c.take.ensures.bytes;
+  kept = subst (λ (hs : List Span). g.H.Holes.are_in hs (g.S.Space.bytes c.take.new.space)) (invariant_of-self g c).0.between c.take.ensures.kept;
+  bytes = subst (λ (hs : List Span). AreSameOutside hs (g.S.Space.bytes c.args.space.now) (g.S.Space.bytes c.take.new.space)) (c.self.invariant.0.between ∙ ap holes_of c.self.view_is) c.take.ensures.bytes;
   loans = c.take.ensures.lenders;
 }

@@ -45,21 +45,21 @@ module _ (g : Given.Over) (c : After-retag_run-end g) where
 pub slide_down-requires-clause-new : goal.slide_down-requires-clause-new
 slide_down-requires-clause-new g c =
     let w = way g (goal.at.slide_down-requires-clause-new g c).After-retag_run-end in let r = c.requires in
-    subst (λ (r : Range). IsPart r c.args.to (c.retag_run-end.result - c.args.within.from)) (sym (c.self.invariant.ranged ∙ ap range_of c.self.view_is)) (run_part c.args.self.now _ w.0 w.1 c.args.to r.part.0 w.2.high r.grained.1)
+    subst (λ (r : Range). IsPart r c.args.to (c.retag_run-end.result - c.args.within.from)) (sym (c.self.invariant.0.ranged ∙ ap range_of c.self.view_is)) (run_part c.args.self.now _ w.0 w.1 c.args.to r.part.0 w.2.high r.grained.1)
 
 pub slide_down-requires-clause-old : goal.slide_down-requires-clause-old
 slide_down-requires-clause-old g c =
     let w = way g (goal.at.slide_down-requires-clause-old g c).After-retag_run-end in let low = w.0.inside.0 in let top = w.0.inside.2 in
-    subst (λ (r : Range). IsPart r c.args.within.from (c.retag_run-end.result - c.args.within.from)) (sym (c.self.invariant.ranged ∙ ap range_of c.self.view_is)) (run_part c.args.self.now _ w.0 w.1 c.args.within.from low (omega arith) w.0.grained.0)
+    subst (λ (r : Range). IsPart r c.args.within.from (c.retag_run-end.result - c.args.within.from)) (sym (c.self.invariant.0.ranged ∙ ap range_of c.self.view_is)) (run_part c.args.self.now _ w.0 w.1 c.args.within.from low (omega arith) w.0.grained.0)
 
 pub slide_down-requires-clause-free : goal.slide_down-requires-clause-free
 slide_down-requires-clause-free g c =
-    let r = c.requires in let one = r.part.0 in let three = r.part.2 in let four = r.part.3 in let ordered = c.self.invariant.tables.ordered in
-    subst (IsFree c.args.to c.args.within.from) (sym (c.self.invariant.between ∙ ap holes_of c.self.view_is)) (bare_free c.args.self.now (subst IsOrdered c.self.view_is ordered) c.args.to c.args.within.from one r.part.1 (omega arith) r.bare)
+    let r = c.requires in let one = r.part.0 in let three = r.part.2 in let four = r.part.3 in let ordered = c.self.invariant.0.tables.ordered in
+    subst (IsFree c.args.to c.args.within.from) (sym (c.self.invariant.0.between ∙ ap holes_of c.self.view_is)) (bare_free c.args.self.now (subst IsOrdered c.self.view_is ordered) c.args.to c.args.within.from one r.part.1 (omega arith) r.bare)
 
 pub slide_down-requires-clause-used : goal.slide_down-requires-clause-used
 slide_down-requires-clause-used g c =
-    let w = way g (goal.at.slide_down-requires-clause-used g c).After-retag_run-end in used_run c.self.invariant c.self.view_is w.0 w.1 w.2
+    let w = way g (goal.at.slide_down-requires-clause-used g c).After-retag_run-end in used_run c.self.invariant.0 c.self.view_is w.0 w.1 w.2
 
 pub slide_down-requires-clause-inside : goal.slide_down-requires-clause-inside
 slide_down-requires-clause-inside g c =
@@ -70,9 +70,11 @@ invariant_of-self g c =
     let d = (goal.at.invariant_of-self g c).After-retag_run-end in let w = way g d in let e = c.slide_down.ensures in let from = c.args.within.from in let end = c.retag_run-end.result in
     let above = w.0.inside.1 in let few : min (end - from) (from - c.args.to) ≤ end - from = omega arith in
     let begin : from + (end - from) - min (end - from) (from - c.args.to) ≡ end - min (end - from) (from - c.args.to) = omega arith in
-    let high : from + (end - from) ≡ end - min (end - from) (from - c.args.to) + min (end - from) (from - c.args.to) = omega arith in
-    BlocksInvariant-run c.self.invariant c.self.view_is w.0 w.1 w.2 refl refl e.range
-    (e.holes ∙ (λ i. joined (begin i) (high i) (taken c.args.to (c.args.to + min (end - from) (from - c.args.to)) (g.H.HoleList.holes c.self.inside.holes)))) (tables g d) (blocks g d)
+    let high : from + (end - from) ≡ end - min (end - from) (from - c.args.to) + min (end - from) (from - c.args.to) = omega arith in (
+      BlocksInvariant-run c.self.invariant.0 c.self.view_is w.0 w.1 w.2 refl refl e.range
+          (e.holes ∙ (λ i. joined (begin i) (high i) (taken c.args.to (c.args.to + min (end - from) (from - c.args.to)) (g.H.HoleList.holes c.self.inside.holes)))) (tables g d) (blocks g d),
+      c.self.invariant.1,
+    )
 
 pub returns-clause-run : goal.returns-clause-run
 returns-clause-run g c = (way g (goal.at.returns-clause-run g c).After-retag_run-end).0
@@ -89,14 +91,14 @@ returns-clause-value g c =
     (λ i. record (layout_in s.slots.len s.lo s.hi s.grain s.slots.items s.begins.items) { blocks = blocks g d i }) ∙ ap (λ (l : Layout). record l { blocks = map (slid_with (run g d) c.args.to) l.blocks }) c.self.view_is
 
 pub returns-clause-ordered : goal.returns-clause-ordered
-returns-clause-ordered g c = (invariant_of-self g c).tables.ordered
+returns-clause-ordered g c = (invariant_of-self g c).0.tables.ordered
 
 pub returns-clause-rest : goal.returns-clause-rest
 returns-clause-rest g c = record {
-  kept = subst (λ (hs : List Span). g.H.Holes.are_in hs (g.S.Space.bytes c.slide_down.new.space)) (invariant_of-self g c).between c.slide_down.ensures.kept;
+  kept = subst (λ (hs : List Span). g.H.Holes.are_in hs (g.S.Space.bytes c.slide_down.new.space)) (invariant_of-self g c).0.between c.slide_down.ensures.kept;
   bytes =
-    let n = c.retag_run-end.result - c.args.within.from in
-    subst (λ (hs : List Span). AreSameBut c.args.to n (holes_of c.args.self.now) hs (g.S.Space.bytes c.args.space.now) (g.S.Space.bytes c.slide_down.new.space)) (invariant_of-self g c).between
-    (subst (λ (hs : List Span). AreSameBut c.args.to n hs (g.H.HoleList.holes c.slide_down.new.self) (g.S.Space.bytes c.args.space.now) (g.S.Space.bytes c.slide_down.new.space)) (c.self.invariant.between ∙ ap holes_of c.self.view_is) c.slide_down.ensures.bytes);
+      let n = c.retag_run-end.result - c.args.within.from in
+      subst (λ (hs : List Span). AreSameBut c.args.to n (holes_of c.args.self.now) hs (g.S.Space.bytes c.args.space.now) (g.S.Space.bytes c.slide_down.new.space)) (invariant_of-self g c).0.between
+      (subst (λ (hs : List Span). AreSameBut c.args.to n hs (g.H.HoleList.holes c.slide_down.new.self) (g.S.Space.bytes c.args.space.now) (g.S.Space.bytes c.slide_down.new.space)) (c.self.invariant.0.between ∙ ap holes_of c.self.view_is) c.slide_down.ensures.bytes);
   loans = c.slide_down.ensures.lenders;
 }
