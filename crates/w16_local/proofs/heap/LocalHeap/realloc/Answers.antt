@@ -6,7 +6,7 @@ use Rattle.w16_local.proofs.heap.LocalHeap.realloc.Goals as goal
 pub realloc-placed-requires : goal.realloc-placed-requires
 realloc-placed-requires g c =
     let may = may_shown c.self.view_is (g.S.Space.bytes c.args.space.now) (Realloc c.args.id c.args.size c.args.options) c.requires in
-    record { object = has_entry c.self.invariant (g.S.Space.bytes c.args.space.now) may.0 c.args.id may.1.0; some = may.1.1.0; rounded = grained c.self.invariant (g.S.Space.bytes c.args.space.now) may.0 c.args.size may.1.1.1; kept = tt; inside = may.0 }
+    record { object = has_entry c.self.invariant (g.S.Space.bytes c.args.space.now) may.0 c.args.id may.1.0; some = may.1.1.0; rounded = grained c.self.invariant (g.S.Space.bytes c.args.space.now) may.0 c.args.size may.1.1.1; memory = record { kept = tt; inside = may.0 } }
 
 pub name_at-requires : goal.name_at-requires
 name_at-requires g c = is_local c.self.invariant c.realloc-placed.ensures.rest.range
