@@ -193,8 +193,8 @@ impl<A: Allocator> SideHoles<A> {
         let _ = &self.lo;
     }
 
-    /// A hole, which begins at a place, and the `size` used bytes behind it, which begin at another, change places, and it is joined with a
-    /// hole behind these.
+    /// Moves the `size` used bytes at `from` down to `to`, over the whole hole that lies between. The hole then lies behind them, joined with
+    /// the hole that began there, if one did.
     fn pass(&mut self, from: u32, to: u32, size: u32)
         requires down { to < from }
         requires whole { length_at to self.old.holes ≡ from - to }

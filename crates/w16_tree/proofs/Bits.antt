@@ -1,5 +1,5 @@
 -- The bits of a row: one for each of its numbers that reaches a bound.
-use Rattle.std.proofs.Common.{◌≡◌, ◌+◌, ◌-◌, ◌*◌, ◌/◌, ◌%◌, ◌^◌, ◌<◌, ◌≤◌, ℕ, suc, nat_le, if◌then◌else◌, sym, ◌∙◌, ap, subst, arith, inl, inr, zero, List, Bool, true, false, cond, length, map, replicate, drop, slice_index}
+use Rattle.std.proofs.Common.{◌≡◌, ◌+◌, ◌-◌, ◌*◌, ◌/◌, ◌%◌, ◌^◌, ◌<◌, ◌≤◌, ℕ, suc, nat_le, if◌then◌else◌, sym, ◌∙◌, ap, subst, arith, inl, inr, zero, List, false, cond, length, map, replicate, drop, slice_index}
 use Rattle.std.proofs.lemmas.List.{length-map, get_or-map, get_or-take, get_or-drop}
 use Rattle.std.proofs.lemmas.Simd.{tops_compared, zip2_splat_left, mask_l-mod, mask_l-lt, bit_mask_l, length-chunk}
 use lib.Lanes.{chunk, mask_l, top, zip2}

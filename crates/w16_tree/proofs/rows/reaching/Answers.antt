@@ -1,5 +1,4 @@
-use Rattle.std.proofs.Common.{◌+◌, ◌%◌, ◌^◌, ◌<◌, ◌≤◌, ◌≡◌, ◌∙◌, ℕ, List, Bool, true, false, cond, length, map, replicate, nat_le, slice_index, if◌then◌else◌, Fits, w32, refl, ap, arith}
-use Rattle.std.specs.Int.{bit_at}
+use Rattle.std.proofs.Common.{arith}
 use Rattle.w16_tree.proofs.Bits.{mask_small, mask_bits}
 use Rattle.w16_tree.proofs.rows.reaching.Goals as goal
 

@@ -23,18 +23,18 @@ pub put-requires-clause-used : goal.put-requires-clause-used
 put-requires-clause-used g c = let r = c.requires in rw c.take.ensures.holes (used_put c.args.self.now.range c.args.self.now.holes (rw (← c.self.view_is) c.reveal_order.ensures.ordered) c.args.from c.args.to c.args.size r.down r.new r.old r.free r.used c.min-apart.result c.min-apart.ensures)
 
 -- the holes afterwards
-then : (g : given.Over) (c : goal.After-put g) → c.put.new.self.holes ≡ joined (c.args.from + c.args.size - c.min-apart.result) (c.args.from + c.args.size - c.min-apart.result + c.min-apart.result) (taken c.args.to (c.args.to + c.min-apart.result) c.args.self.now.holes)
-then g c = c.put.ensures.holes ∙ ap (joined (c.args.from + c.args.size - c.min-apart.result) (c.args.from + c.args.size - c.min-apart.result + c.min-apart.result)) c.take.ensures.holes
+once_put : (g : given.Over) (c : goal.After-put g) → c.put.new.self.holes ≡ joined (c.args.from + c.args.size - c.min-apart.result) (c.args.from + c.args.size - c.min-apart.result + c.min-apart.result) (taken c.args.to (c.args.to + c.min-apart.result) c.args.self.now.holes)
+once_put g c = c.put.ensures.holes ∙ ap (joined (c.args.from + c.args.size - c.min-apart.result) (c.args.from + c.args.size - c.min-apart.result + c.min-apart.result)) c.take.ensures.holes
 
 pub returns-clause-contents : goal.returns-clause-contents
 returns-clause-contents g c =
     let r = c.requires in
     come_too c.args.self.now.range c.args.self.now.holes (rw (← c.self.view_is) c.reveal_order.ensures.ordered) c.args.from c.args.to c.args.size r.down r.new r.old r.free r.used c.min-apart.result c.min-apart.ensures (length c.args.space.now.bytes.items) r.inside c.take.ensures.bytes.long c.slide.ensures.bytes refl c.take.ensures.bytes
-    (subst (λ (hs : List Span). AreSameOutside hs c.slide.new.self.bytes.items c.put.new.space.bytes.items) (then g c) c.put.ensures.bytes)
+    (subst (λ (hs : List Span). AreSameOutside hs c.slide.new.self.bytes.items c.put.new.space.bytes.items) (once_put g c) c.put.ensures.bytes)
 
 pub returns-clause-bytes : goal.returns-clause-bytes
 returns-clause-bytes g c =
     let r = c.requires in
-    subst (λ (hs : List Span). AreSameBut c.args.to c.args.size c.args.self.now.holes hs c.args.space.now.bytes.items c.put.new.space.bytes.items) (sym (then g c))
+    subst (λ (hs : List Span). AreSameBut c.args.to c.args.size c.args.self.now.holes hs c.args.space.now.bytes.items c.put.new.space.bytes.items) (sym (once_put g c))
     (others_same c.args.self.now.range c.args.self.now.holes (rw (← c.self.view_is) c.reveal_order.ensures.ordered) c.args.from c.args.to c.args.size r.down r.new r.old r.free r.used c.min-apart.result c.min-apart.ensures (length c.args.space.now.bytes.items) r.inside c.take.ensures.bytes.long c.slide.ensures.bytes refl c.take.ensures.bytes
-    (subst (λ (hs : List Span). AreSameOutside hs c.slide.new.self.bytes.items c.put.new.space.bytes.items) (then g c) c.put.ensures.bytes))
+    (subst (λ (hs : List Span). AreSameOutside hs c.slide.new.self.bytes.items c.put.new.space.bytes.items) (once_put g c) c.put.ensures.bytes))
