@@ -2,8 +2,8 @@ use Rattle.w16_local.proofs.Common.{ap, arith, inl, inr, ◌∙◌, cases_lt, He
 use Rattle.w16_local.proofs.OneAct.{compact_acted, compact_bound, compact_kept, may_shown}
 use Rattle.w16_local.proofs.heap.LocalHeap.compact.Goals as goal
 
-pub compact-requires-clause-memory : goal.compact-requires-clause-memory
-compact-requires-clause-memory g c = record { kept = tt; inside = (may_shown c.self.view_is (g.S.Space.bytes c.args.space.now) (Compact c.args.size) c.requires).0 }
+pub compact-requires : goal.compact-requires
+compact-requires g c = record { memory = record { kept = tt; inside = (may_shown c.self.view_is (g.S.Space.bytes c.args.space.now) (Compact c.args.size) c.requires).0 } }
 
 pub overflow_cast-result : goal.overflow_cast-result
 overflow_cast-result g c = elim (cases_lt 0 c.compact.result.room) [

@@ -2,8 +2,8 @@ use Rattle.w16_local.proofs.Common.{ap, is_ok, sym, ◌∙◌, false≢true, Dis
 use Rattle.w16_local.proofs.OneAct.{discard_done, discard_kept, may_shown}
 use Rattle.w16_local.proofs.heap.LocalHeap.discard.Goals as goal
 
-pub discard-requires-clause-memory : goal.discard-requires-clause-memory
-discard-requires-clause-memory g c = record { kept = tt; inside = (may_shown c.self.view_is (g.S.Space.bytes c.args.space.now) (Discard c.args.id) c.requires).0 }
+pub discard-requires : goal.discard-requires
+discard-requires g c = record { memory = record { kept = tt; inside = (may_shown c.self.view_is (g.S.Space.bytes c.args.space.now) (Discard c.args.id) c.requires).0 } }
 
 pub unreachable-requires : goal.unreachable-requires
 unreachable-requires g c =

@@ -2,8 +2,8 @@ use Rattle.w16_local.proofs.Common.{List, ap, arith, is_ok, subst, sym, ◌∙�
 use Rattle.w16_local.proofs.OneAct.{entry_lt, free_done, free_kept, may_shown}
 use Rattle.w16_local.proofs.heap.LocalHeap.free.Goals as goal
 
-pub free-requires-clause-memory : goal.free-requires-clause-memory
-free-requires-clause-memory g c = record { kept = tt; inside = (may_shown c.self.view_is (g.S.Space.bytes c.args.space.now) (Free c.args.id) c.requires).0 }
+pub free-requires : goal.free-requires
+free-requires g c = record { memory = record { kept = tt; inside = (may_shown c.self.view_is (g.S.Space.bytes c.args.space.now) (Free c.args.id) c.requires).0 } }
 
 pub unreachable-requires : goal.unreachable-requires
 unreachable-requires g c =
