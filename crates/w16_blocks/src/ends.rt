@@ -5,18 +5,18 @@ ghost use Rattle.w16_blocks.specs.Kept.{slot_of};
 use crate::Block;
 use w16_holes::units_in;
 
-/// In which unit a place lies.
+/// In which unit a place lies, if it isn't below the range.
 fn unit_at(place: u32, lo: u32, grain: u32) -> usize
     requires { 0 < grain }
 {
-    units_in(place.saturating_sub(lo), grain) as usize
+    units_in(place.wrapping_sub(lo), grain) as usize
 }
 
 /// Notes where a block ends.
 pub(crate) fn note_end(ends: &mut [u16], lo: u32, grain: u32, block: Block)
     requires { 0 < grain }
 {
-    let unit = unit_at(block.at.saturating_add(block.size), lo, grain);
+    let unit = unit_at(block.at.wrapping_add(block.size), lo, grain);
     if let (Some(note), Ok(id)) = (ends.get_mut(unit), u16::try_from(block.id)) {
         *note = id;
     }

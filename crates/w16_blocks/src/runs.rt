@@ -26,7 +26,9 @@ fn block_at(slots: &[Block], begins: &[u32], bounds: Span, grain: u32, place: u3
     if begin == 0 {
         return None;
     }
-    Some(slots[begin - 1])
+    // It begins at the place, which needn't be read.
+    let block = slots[begin - 1];
+    Some(Block { at: place, ..block })
 }
 
 /// The table, the cells and the notes of ends, with a block at another place.
@@ -49,7 +51,7 @@ pub(crate) fn retag(
 {
     begins[unit_of(block.at, bounds.from, grain)] = 0;
     begins[unit_of(to, bounds.from, grain)] = block.id + 1;
-    slots[block.id as usize] = Block { at: to, ..block };
+    slots[block.id as usize].at = to;
     note_end(ends, bounds.from, grain, Block { at: to, ..block });
 }
 

@@ -1,6 +1,7 @@
-use Rattle.w16_blocks.proofs.Common.{ℕ, ◌∙◌, ap, length, set, refl, sym, subst, add-one, blocks_in, layout_in, AreTables}
+use Rattle.w16_blocks.proofs.Common.{ℕ, ◌+◌, Block, ◌∙◌, ap, length, set, refl, sym, subst, add-one, blocks_in, layout_in, AreTables}
 use Rattle.w16_blocks.proofs.Step.{lies, grained_known}
 use Rattle.w16_blocks.proofs.Tables.{cell_at, unit_told, AreTables-move, blocks_in-move}
+use Rattle.w16_blocks.proofs.Tagged.{entry_is}
 use Rattle.w16_blocks.proofs.runs.retag.Goals as goal
 
 pub unit_of-requires-clause-from : goal.unit_of-requires-clause-from
@@ -14,12 +15,15 @@ bounds-begins-unit_of c = unit_told c.requires.tables refl c.unit_of.result (cel
 
 pub returns-clause-tables : goal.returns-clause-tables
 returns-clause-tables c =
-    subst
-    (λ (i : ℕ). AreTables (length c.args.slots.now) c.args.bounds.from c.args.bounds.to c.args.grain (set c.args.slots.now c.args.block.id (record c.args.block { at = c.args.to })) (set (set c.args.begins.now c.unit_of.result 0) c.unit_of-2.result i))
-    (sym (add-one c.args.block.id))
-    (AreTables-move c.requires.tables refl c.unit_of.result c.unit_of-2.result (cell_at c.requires.tables refl c.unit_of.result c.requires.known c.unit_of.ensures) c.requires.fits c.unit_of-2.ensures)
+    let u = c.unit_of.result in let v = c.unit_of-2.result in let x = c.args.block in let cell = cell_at c.requires.tables refl u c.requires.known c.unit_of.ensures in
+    subst (λ (b : Block). AreTables (length c.args.slots.now) c.args.bounds.from c.args.bounds.to c.args.grain (set c.args.slots.now x.id (record b { at = c.args.to })) (set (set c.args.begins.now u 0) v (x.id + 1)))
+    (sym (entry_is c.requires.tables x.id x c.requires.known _))
+    (subst (λ (i : ℕ). AreTables (length c.args.slots.now) c.args.bounds.from c.args.bounds.to c.args.grain (set c.args.slots.now x.id (record x { at = c.args.to })) (set (set c.args.begins.now u 0) v i)) (sym (add-one x.id))
+    (AreTables-move c.requires.tables refl u v cell c.requires.fits c.unit_of-2.ensures))
 
 pub returns-clause-blocks : goal.returns-clause-blocks
 returns-clause-blocks c =
-    ap (λ (i : ℕ). blocks_in (set c.args.slots.now c.args.block.id (record c.args.block { at = c.args.to })) (set (set c.args.begins.now c.unit_of.result 0) c.unit_of-2.result i)) (add-one c.args.block.id)
-    ∙ blocks_in-move c.requires.tables refl c.unit_of.result c.unit_of-2.result (cell_at c.requires.tables refl c.unit_of.result c.requires.known c.unit_of.ensures) c.requires.fits c.unit_of-2.ensures
+    let u = c.unit_of.result in let v = c.unit_of-2.result in let x = c.args.block in let cell = cell_at c.requires.tables refl u c.requires.known c.unit_of.ensures in
+    ap (λ (b : Block). blocks_in (set c.args.slots.now x.id (record b { at = c.args.to })) (set (set c.args.begins.now u 0) v (x.id + 1))) (entry_is c.requires.tables x.id x c.requires.known _)
+    ∙ ap (λ (i : ℕ). blocks_in (set c.args.slots.now x.id (record x { at = c.args.to })) (set (set c.args.begins.now u 0) v i)) (add-one x.id)
+    ∙ blocks_in-move c.requires.tables refl u v cell c.requires.fits c.unit_of-2.ensures
