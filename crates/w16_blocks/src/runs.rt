@@ -1,5 +1,5 @@
 //! Runs of blocks that stand one behind another, which slide as one.
-ghost use Rattle.std.specs.Prelude.{◌≡◌, ◌≢◌, ◌+◌, ◌-◌, ◌<◌, ◌≤◌, Some, length, map, MatchOption};
+ghost use Rattle.std.specs.Prelude.{◌≡◌, ◌≢◌, ◌+◌, ◌-◌, ◌%◌, ◌<◌, ◌≤◌, ◌↔◌, IsTrue, Some, length, map, MatchOption};
 ghost use Rattle.std.specs.List.{AllByRecursion};
 ghost use Rattle.w16_model.specs.Heap.{IsMultiple};
 ghost use Rattle.w16_model.specs.Table.{block_with};
@@ -9,8 +9,16 @@ ghost use Rattle.w16_blocks.specs.Runs.{IsCut, IsRun, IsBare, EndsAt, slid_with}
 
 use crate::ends::note_end;
 use crate::{Block, Blocks, Span, unit_of};
-use w16_holes::{HoleList, Holes};
+use w16_holes::{HoleList, Holes, units_in};
 use w16_region::Space;
+
+/// Whether a place is a multiple of the grain, by a shift and no division where [`units_in`] takes one.
+fn is_grained(place: u32, grain: u32) -> bool
+    requires { 0 < grain }
+    ensures { IsTrue result ↔ (place % grain ≡ 0) }
+{
+    units_in(place, grain) * grain == place
+}
 
 /// The block that begins at a place of the range.
 fn block_at(slots: &[Block], begins: &[u32], bounds: Span, grain: u32, place: u32) -> Option<Block>
@@ -118,7 +126,7 @@ impl<H: HoleList> Blocks<H> {
         ensures ordered { IsOrdered self.now }
     {
         let bounds = self.bounds();
-        if place < bounds.from || place > bounds.to || place % self.grain != 0 {
+        if place < bounds.from || place > bounds.to || !is_grained(place, self.grain) {
             return None;
         }
         block_at(&self.slots, &self.begins, bounds, self.grain, place)

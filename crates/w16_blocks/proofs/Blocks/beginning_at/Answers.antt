@@ -1,8 +1,8 @@
 use Rattle.std.specs.Prelude.{◌%◌}
-use Rattle.w16_blocks.proofs.Common.{◌≡◌, ◌≢◌, ◌∙◌, ap, arith, sym, subst, Some, MatchOption, List, ℕ, AllByRecursion, Block, Span, Layout, block_with, blocks_in}
+use Rattle.w16_blocks.proofs.Common.{false≢true, ◌≡◌, ◌≢◌, ◌∙◌, ap, arith, sym, subst, Some, MatchOption, List, ℕ, AllByRecursion, Block, Span, Layout, block_with, blocks_in}
 use Rattle.w16_blocks.proofs.Tagged.{none_off}
 use Rattle.w16_blocks.proofs.Blocks.beginning_at.Goals as goal
-use Rattle.w16_blocks.proofs.Blocks.beginning_at.Goals.{then-place-bounds-via-then-place-bounds, then-place-bounds-via-else-place-bounds+then-place-bounds-2, then-place-bounds-via-else-place-bounds+else-place-bounds-2+then-place-self-ne0}
+use Rattle.w16_blocks.proofs.Blocks.beginning_at.Goals.{then-place-bounds-via-then-place-bounds, then-place-bounds-via-else-place-bounds+then-place-bounds-2, then-place-bounds-via-else-place-bounds+else-place-bounds-2+then-not-is_grained}
 
 pub returns-then-place-bounds-clause-value : goal.returns-then-place-bounds-clause-value
 returns-then-place-bounds-clause-value g c =
@@ -11,7 +11,7 @@ returns-then-place-bounds-clause-value g c =
     none_off c.args.self.now c.args.place bounds.ordered (omega arith) (λ low high whole. elim c.then-place-bounds.branch [
       | then-place-bounds-via-then-place-bounds w ↦ let below = w.if-place-bounds.true in omega arith
       | then-place-bounds-via-else-place-bounds+then-place-bounds-2 w ↦ let above = w.if-place-bounds-2.true in omega arith
-      | then-place-bounds-via-else-place-bounds+else-place-bounds-2+then-place-self-ne0 w ↦ w.if-place-self-ne0.true (subst (λ k. c.args.place % k ≡ 0) (sym grain) whole)
+      | then-place-bounds-via-else-place-bounds+else-place-bounds-2+then-not-is_grained w ↦ false≢true (sym w.if-not-is_grained.true ∙ w.is_grained.ensures.1 (subst (λ k. c.args.place % k ≡ 0) (sym grain) whole))
     ])
 
 pub returns-clause-value : goal.returns-clause-value
