@@ -34,9 +34,7 @@ fn block_at(slots: &[Block], begins: &[u32], bounds: Span, grain: u32, place: u3
     if begin == 0 {
         return None;
     }
-    // It begins at the place, which needn't be read.
-    let block = slots[begin - 1];
-    Some(Block { at: place, ..block })
+    Some(slots[begin - 1])
 }
 
 /// The table, the cells and the notes of ends, with a block at another place.
