@@ -1,4 +1,4 @@
-use Rattle.w16_arena.proofs.Common.{ArenaState, refl, sym, arith, ap, heap_in, sound_heap, compaction_law, rest_same}
+use Rattle.w16_arena.proofs.Common.{ArenaState, refl, sym, arith, ap, heap_in, sound_heap, compaction_law}
 use Rattle.w16_arena.proofs.Keeping.{none_changed}
 use Rattle.w16_arena.proofs.Moved.{moved_few}
 use Rattle.w16_arena.proofs.Unmoved.{unmoved}

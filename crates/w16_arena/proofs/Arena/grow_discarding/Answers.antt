@@ -1,4 +1,4 @@
-use Rattle.w16_arena.proofs.Common.{rest_same, ℕ, ap, ◌∙◌, subst, refl, sym, if◌then◌else◌, ◌-◌, IsSomeAnd, false≢true, counted, object_at, IsGrown, heap_in, Stands}
+use Rattle.w16_arena.proofs.Common.{ℕ, ap, ◌∙◌, subst, refl, sym, if◌then◌else◌, ◌-◌, IsSomeAnd, false≢true, counted, object_at, IsGrown, heap_in, Stands}
 use Rattle.w16_arena.proofs.Keeping.{heap_kept, none_changed}
 use Rattle.w16_arena.proofs.Answering.{rest_after}
 use Rattle.w16_arena.proofs.Growing.{entry_below, refused_then, known_then, room_then, grows_then}

@@ -1,5 +1,5 @@
 use Rattle.w16_arena.proofs.Written.{counted_if}
-use Rattle.w16_arena.proofs.Common.{counted, ◌≡◌, ◌+◌, ◌≤◌, false, [], length, IfSome, Some, refl, subst, sym, arith, ℕ, ◌-◌, ap, ◌∙◌, if◌then◌else◌, Block, block_end, hole_after, IsMultiple, Reallocates, block_with, heap_in, Layout, IsResized, Placed, ArenaState, KeepsRest, table_of, heap_of, holes_in, but_for, rest_more, rest_wider}
+use Rattle.w16_arena.proofs.Common.{counted, ◌≡◌, ◌+◌, ◌≤◌, false, [], length, IfSome, Some, refl, subst, arith, ℕ, ◌-◌, ap, ◌∙◌, if◌then◌else◌, Block, block_end, hole_after, IsMultiple, Reallocates, block_with, heap_in, Layout, IsResized, Placed, KeepsRest, table_of, heap_of, but_for, rest_wider}
 use Rattle.w16_arena.proofs.Shown.{known as known_in, told}
 use Rattle.w16_arena.proofs.Fitting.{id_known, fits_more, spare_small, ends_inside}
 use Rattle.w16_arena.proofs.InPlace.{kept_resized, rest_resized, is_extended, not_extended}

@@ -1,6 +1,6 @@
 use Rattle.w16_arena.proofs.Written.{counted_if}
-use Rattle.w16_arena.proofs.Common.{counted, ◌≡◌, ◌+◌, ◌≤◌, length, IsSomeAnd, Some, arith, ℕ, ◌-◌, true, ap, ◌∙◌, refl, if◌then◌else◌, Block, IsMultiple, object_at, IsGrown, StaysOrMovesToHole, block_with, heap_in, IsSound, rest_wider, rest_same, Stands, may_grow_in, but_for, KeepsRest, table_of, heap_of, ArenaState, holes_in, HasRange}
-use Rattle.w16_arena.proofs.Keeping.{same_in, used_placed, none_changed}
+use Rattle.w16_arena.proofs.Common.{counted, ◌≡◌, ◌≤◌, length, IsSomeAnd, Some, ℕ, ◌-◌, true, ap, ◌∙◌, if◌then◌else◌, Block, IsMultiple, object_at, IsGrown, StaysOrMovesToHole, block_with, heap_in, IsSound, Stands, may_grow_in, KeepsRest, table_of, heap_of, ArenaState, holes_in, HasRange}
+use Rattle.w16_arena.proofs.Keeping.{none_changed}
 use Rattle.w16_arena.proofs.Shown.{known as known_in, told}
 use Rattle.w16_arena.proofs.Sized.{of_object}
 use Rattle.w16_arena.proofs.Regrown.{kept_grown, rest_grown, stands_grown, hole_grown}

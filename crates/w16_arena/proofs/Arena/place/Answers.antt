@@ -1,8 +1,8 @@
-use Rattle.w16_arena.proofs.Common.{most_in, IsSound, ArenaState, KeepsRest, table_of, counted, ◌+◌, ap, arith, ℕ, ◌∙◌, refl, if◌then◌else◌, ◌≤◌, Layout, rest_more, rest_same, holes_in, leaves_more}
+use Rattle.w16_arena.proofs.Common.{most_in, IsSound, ArenaState, KeepsRest, table_of, counted, ap, arith, ℕ, ◌∙◌, if◌then◌else◌, ◌≤◌, Layout, holes_in, leaves_more}
 use Rattle.w16_arena.proofs.Shown.{known as known_in, told}
 use Rattle.w16_arena.proofs.Written.{counted_if}
 use Rattle.w16_arena.proofs.Granting.{may_insert, kept_placed, rest_placed, stands_placed}
-use Rattle.w16_arena.proofs.Keeping.{moved_kept, same_in, used_placed, none_changed}
+use Rattle.w16_arena.proofs.Keeping.{moved_kept, none_changed}
 use Rattle.w16_arena.proofs.Arena.place.Goals as goal
 
 pub insert-requires-clause-fits : goal.insert-requires-clause-fits

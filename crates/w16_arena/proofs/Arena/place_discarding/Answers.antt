@@ -1,4 +1,4 @@
-use Rattle.w16_arena.proofs.Common.{rest_same, ℕ, arith, ap, ◌∙◌, subst, if◌then◌else◌, refl, counted, with_newest, IsNew, heap_in, Stands}
+use Rattle.w16_arena.proofs.Common.{ℕ, arith, ap, ◌∙◌, subst, if◌then◌else◌, refl, counted, with_newest, IsNew, heap_in, Stands}
 use Rattle.w16_arena.proofs.Keeping.{heap_kept, none_changed}
 use Rattle.w16_arena.proofs.Answering.{refused_needed, absent_then, room_then, allocates_then, placed_then, discards_then, rest_after}
 use Rattle.w16_arena.proofs.Arena.place_discarding.Goals as goal

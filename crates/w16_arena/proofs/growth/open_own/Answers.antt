@@ -1,4 +1,4 @@
-use Rattle.w16_arena.proofs.Common.{◌≡◌, ℕ, ◌+◌, ◌<◌, ◌≤◌, Option, Some, IfSome, refl, ap, ◌∙◌, subst, sym, arith, Block, part, block_end, is_any, loose_bytes, IsClear, IsMultiple, block_with, Layout, FitsFor, all_but, replaced, contents, with_loose, opened, end_in, spare_in, Placed, HasGrown, LeavesFree}
+use Rattle.w16_arena.proofs.Common.{◌≡◌, ℕ, ◌+◌, ◌<◌, ◌≤◌, Option, Some, IfSome, refl, ap, ◌∙◌, subst, sym, arith, Block, part, block_end, loose_bytes, IsMultiple, block_with, Layout, FitsFor, all_but, replaced, contents, with_loose, opened, end_in, spare_in, Placed, HasGrown, LeavesFree}
 use Rattle.w16_arena.proofs.ButFor.{own_below}
 use Rattle.w16_arena.proofs.Fitting.{fits_free}
 use Rattle.w16_arena.proofs.Grown.{HasWay, grown_there}

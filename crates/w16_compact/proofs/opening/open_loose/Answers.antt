@@ -1,4 +1,4 @@
-use Rattle.w16_compact.proofs.Common.{ℕ, ◌≡◌, ◌+◌, ◌<◌, ◌≤◌, ◌⊎◌, ◌∙◌, Some, IfSome, arith, inl, inr, sym, ap, subst, Block, IsClear, IsGap, IsHole, IsLaid, is_any, block_end, loose_bytes, block_with, Layout, sum_fits, with_id, gathered, moved_between, AreSlid, raised, opened, end_in, spare_in, LeavesFree}
+use Rattle.w16_compact.proofs.Common.{ℕ, ◌≡◌, ◌+◌, ◌≤◌, ◌∙◌, Some, IfSome, arith, sym, ap, subst, Block, IsClear, IsHole, IsLaid, is_any, block_end, loose_bytes, block_with, Layout, sum_fits, with_id, gathered, moved_between, AreSlid, raised, opened, end_in, spare_in, LeavesFree}
 use Rattle.w16_compact.proofs.Opened.{may_low, may_high, slid_more, moved_most, moved_opened, with_opened, clear_opened, hole_opened, alone_opened, known_by, of_known, if_known}
 use Rattle.w16_compact.proofs.opening.open_loose.Given as Given
 use Rattle.w16_compact.proofs.opening.open_loose.Goals as goal

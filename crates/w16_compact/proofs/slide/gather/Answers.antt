@@ -1,4 +1,4 @@
-use Rattle.w16_compact.proofs.Common.{◌≡◌, ◌≢◌, ◌+◌, ◌-◌, inl, inr, refl, sym, ◌∙◌, ap, subst, arith, AllByRecursion, Span, IsClear, IsHole, is_any, loose_bytes, Layout, gathered, moved_between, FitsGap, AreSlid}
+use Rattle.w16_compact.proofs.Common.{◌≡◌, ◌≢◌, ◌+◌, ◌-◌, refl, sym, ◌∙◌, ap, subst, arith, AllByRecursion, Span, IsClear, IsHole, is_any, loose_bytes, Layout, gathered, moved_between, FitsGap, AreSlid}
 use Rattle.w16_compact.proofs.Cleared.{slid_gathered, clear_gathered, hole_gathered, alone_gathered}
 use Rattle.w16_compact.proofs.Rests.{leaves_more, rest_same}
 use Rattle.w16_compact.proofs.Order.{each_got}
