@@ -96,6 +96,21 @@ fn takes_and_puts<H: Holes<Region>>(holes: &mut H, space: &mut Region) -> bool
     right && tells(holes, space, ALL_PUT)
 }
 
+/// The third unit has slid down to the first, and what was free before it has joined the hole behind it.
+const ONE_SLID: &[(Look, Option<u32>)] = &[(Look::At(0), Some(0)), (Look::At(32), Some(224))];
+
+/// Whether used bytes slide down over the free ones before them, from one hole of 256 bytes at grain 32 on.
+fn slides<H: Holes<Region>>(holes: &mut H, space: &mut Region) -> bool
+    requires kept { H.are_in (H.holes holes.old) space.old.bytes.items }
+    requires inside { 256 ≤ length space.old.bytes.items }
+    requires range { H.range holes.old ≡ record { lo = 0; hi = 256; grain = 32 } }
+    requires whole { H.holes holes.old ≡ record { from = 0; to = 256 } ∷ [] }
+{
+    holes.take(space, 64, 32);
+    holes.slide_down(space, 64, 0, 32);
+    tells(holes, space, ONE_SLID)
+}
+
 #[test]
 fn side_holes(rt: HostRuntime) -> Result<(), Fail> {
     let mut space = Region::new(rt.alloc(), 256)?;
@@ -109,6 +124,14 @@ fn threaded_holes(rt: HostRuntime) -> Result<(), Fail> {
     let mut space = Region::new(rt.alloc(), 256)?;
     let mut holes = ThreadedHoles::new(rt.alloc(), &mut space, 0, 256, 32)?;
     assert!(rt; takes_and_puts(&mut holes, &mut space));
+    Ok(())
+}
+
+#[test]
+fn side_holes_slide(rt: HostRuntime) -> Result<(), Fail> {
+    let mut space = Region::new(rt.alloc(), 256)?;
+    let mut holes = SideHoles::new(rt.alloc(), 0, 256, 32)?;
+    assert!(rt; slides(&mut holes, &mut space));
     Ok(())
 }
 
