@@ -1,6 +1,9 @@
 -- The heap after an object was put at a free place, under an id that has no block.
 use Rattle.std.specs.List.{AllByRecursion as Each}
-use Rattle.w16_arena.proofs.Common.{◌≡◌, ◌≢◌, ℕ, ◌+◌, ◌<◌, ◌≤◌, inl, inr, IsTrue, cond, List, length, set, slice_range, Option, Some, None, option_map, refl, sym, ap, ◌∙◌, arith, nat_cmp, eq_by_cmp, nat_cmp_total, get-insert, cases_eq, Block, Entry, Misses, Heap, Object, IsMultiple, object_at, is_fixed, block_with, hold_of_entry, is_listed, Each-from, Each-at, Each-map, EachPair-from_AllPairs, tied_itself, untied, member_with, with_member, Layout, IsOrdered, Fits, IsApart, placed, heap_of, AreFreeBytes}
+use Rattle.w16_arena.proofs.Common.{◌≡◌, ◌≢◌, ℕ, ◌+◌, ◌<◌, ◌≤◌, inl, inr, IsTrue, cond, List, length, set, slice_range, Option, Some, None, option_map, refl, sym, ap, ◌∙◌, arith, nat_cmp}
+use Rattle.w16_arena.proofs.Common.{eq_by_cmp, nat_cmp_total, get-insert, cases_eq, Block, Entry, Misses, Heap, Object, IsMultiple, object_at, is_fixed, block_with, hold_of_entry, is_listed}
+use Rattle.w16_arena.proofs.Common.{Each-from, Each-at, Each-map, EachPair-from_AllPairs, tied_itself, untied, member_with, with_member, Layout, IsOrdered, Fits, IsApart, placed, heap_of}
+use Rattle.w16_arena.proofs.Common.{AreFreeBytes}
 use Rattle.std.specs.FinMap as finmap
 use Rattle.w16_arena.proofs.Parts.{AreParts}
 use Rattle.w16_arena.proofs.With.{with-placed}

@@ -1,6 +1,12 @@
 -- A request, by what was found and made for it.
 use Rattle.std.specs.List.{AllByRecursion as Each}
-use Rattle.w16_arena.proofs.Common.{◌≡◌, ◌≢◌, ℕ, ◌+◌, ◌<◌, ◌≤◌, ◌⊎◌, inl, inr, true, false, ◌&&◌, if◌then◌else◌, IfSome, IsSomeAnd, MatchBool, MatchOption, All, List, [], ◌∷◌, length, take, fold, slice_range, Option, Some, None, option_map, is_some, unwrap_or, refl, sym, ap, ◌∙◌, subst, arith, ne_eqb, eq-eqb, take_all, false≢true, and_parts, cases_eq, cases_Bool, Block, Kind, Discardable, Span, KeepsOthers, RoomOptions, room, longest_hole, is_pinned, eligible, blocks_without, room_for, needed, snapshot, Heap, Object, IsHeap, IsMultiple, blocks, object_at, bytes_at, absent, with_newest, with_ordered, moved_bytes, Allocates, Compacts, MakesRoom, IsNew, Settles, discards_needed, stays_for, discarded, compaction_prefix, eligible_count, most_room, snapshot_of, Table, IsSound, block_with, heap_in, Each-from, place_is, table_longest, sound_heap, taken_here, taken_other, room-discarded, others_law, prefix_hole, prefix_no_hole, prefix_now, prefix_kept, prefix_needed, needed_by_members, needed_enough, eligible_by_members, room_by_members, allocates_after, settles_after, settles_before, moved_after, discarded_all, Layout, Stands, SlidesTogether, HasDiscarded, IsStill, IsPlaced, IsSlid, Discards, first_eligible, Placed, Compacted, GName, IsSameRest, ArenaState, IsSameRange, KeepsRest, most_in, room_whole, Leaves, leaves_more, rest_wider}
+use Rattle.w16_arena.proofs.Common.{◌≡◌, ◌≢◌, ℕ, ◌+◌, ◌<◌, ◌≤◌, ◌⊎◌, inl, inr, true, false, ◌&&◌, if◌then◌else◌, IfSome, IsSomeAnd, MatchBool, MatchOption, All, List, [], ◌∷◌, length, take, fold, slice_range, Option, Some, None, option_map, is_some}
+use Rattle.w16_arena.proofs.Common.{unwrap_or, refl, sym, ap, ◌∙◌, subst, arith, ne_eqb, eq-eqb, take_all, false≢true, and_parts, cases_eq, cases_Bool, Block, Kind, Discardable, Span, KeepsOthers, RoomOptions, room, longest_hole, is_pinned, eligible}
+use Rattle.w16_arena.proofs.Common.{blocks_without, room_for, needed, snapshot, Heap, Object, IsHeap, IsMultiple, blocks, object_at, bytes_at, absent, with_newest, with_ordered, moved_bytes, Allocates, Compacts, MakesRoom, IsNew, Settles, discards_needed}
+use Rattle.w16_arena.proofs.Common.{stays_for, discarded, compaction_prefix, eligible_count, most_room, snapshot_of, Table, IsSound, block_with, heap_in, Each-from, place_is, table_longest, sound_heap, taken_here, taken_other, room-discarded, others_law}
+use Rattle.w16_arena.proofs.Common.{prefix_hole, prefix_no_hole, prefix_now, prefix_kept, prefix_needed, needed_by_members, needed_enough, eligible_by_members, room_by_members, allocates_after, settles_after, settles_before, moved_after, discarded_all}
+use Rattle.w16_arena.proofs.Common.{Layout, Stands, SlidesTogether, HasDiscarded, IsStill, IsPlaced, IsSlid, Discards, first_eligible, Placed, Compacted, GName, IsSameRest, ArenaState, IsSameRange, KeepsRest, most_in, room_whole, Leaves, leaves_more}
+use Rattle.w16_arena.proofs.Common.{rest_wider}
 use Rattle.std.specs.FinMap as finmap
 use Rattle.w16_arena.proofs.Parts.{AreParts, range_then}
 use Rattle.w16_arena.proofs.Lookups.{bytes_here}
@@ -163,7 +169,10 @@ module _ (old : ArenaState) (sound : IsSound old.table) (memory : List ℕ) (ins
             from : (b : Option Block) → block_with mid.table.blocks id ≡ b → b ≡ None
             from None e = refl
             from (Some x) e =
-                let out : ◌≡◌ {A = Option ℕ} None (Some x.at) = sym (places_none (take k (eligible (blocks h) h.order (Some id))) h id here) ∙ ap (λ (g : Heap). finmap.get g.places id) (sym (discards.heaps memory inside)) ∙ place_is mid.table discards.range.sound.table memory mid_inside id ∙ ap (option_map (λ (y : Block). y.at)) e in
+                let out : ◌≡◌ {A = Option ℕ} None (Some x.at) = sym
+                (places_none (take k (eligible (blocks h) h.order (Some id))) h id here) ∙ ap
+                (λ (g : Heap). finmap.get g.places id) (sym (discards.heaps memory inside)) ∙ place_is mid.table
+                discards.range.sound.table memory mid_inside id ∙ ap (option_map (λ (y : Block). y.at)) e in
                 cc
 
         -- so there is as much room as that

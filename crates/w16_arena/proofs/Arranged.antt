@@ -1,5 +1,7 @@
 -- Blocks that slid are an arrangement, so no free range among them is longer than the room.
-use Rattle.w16_arena.proofs.Common.{◌≡◌, ℕ, ◌+◌, ◌-◌, ◌<◌, ◌≤◌, inl, inr, Bool, true, false, not, ◌&&◌, nat_le, nat_lt, IsTrue, List, option_map, unwrap_or, refl, sym, ap, ◌∙◌, subst, arith, leb-true, ltb-true, false≢true, and_parts, cases_lt, Block, IsArrangement, Misses, block_end, is_pinned, is_loose, is_any, begins_in, ArePlaced, IsClear, IsGap, room, longest_hole, first_from, block_with, Each-from, Each-at, All-from_Each, AllPairs-from_EachPair, EachPair-member, Member, last_to, laid_placed, none_longer, missed, clear_from, gap_around, gap_same, inside, sized, two, hole_is_longest, with_member, Layout, IsOrdered, Slides, AreMoved, AreFreeBytes}
+use Rattle.w16_arena.proofs.Common.{◌≡◌, ℕ, ◌+◌, ◌-◌, ◌<◌, ◌≤◌, inl, inr, Bool, true, false, not, ◌&&◌, nat_le, nat_lt, IsTrue, List, option_map, unwrap_or, refl, sym, ap, ◌∙◌, subst, arith, leb-true, ltb-true, false≢true, and_parts, cases_lt}
+use Rattle.w16_arena.proofs.Common.{Block, IsArrangement, Misses, block_end, is_pinned, is_loose, is_any, begins_in, ArePlaced, IsClear, IsGap, room, longest_hole, first_from, block_with, Each-from, Each-at, All-from_Each, AllPairs-from_EachPair}
+use Rattle.w16_arena.proofs.Common.{EachPair-member, Member, last_to, laid_placed, none_longer, missed, clear_from, gap_around, gap_same, inside, sized, two, hole_is_longest, with_member, Layout, IsOrdered, Slides, AreMoved, AreFreeBytes}
 use Rattle.w16_arena.proofs.Lookups.{named_pairs}
 use Rattle.w16_arena.proofs.Pairs.{two_member, two_same}
 use Rattle.w16_arena.proofs.Slid.{pinned_stands}
@@ -120,12 +122,26 @@ module _ {low high : ℕ} {old : Layout} {memory : List ℕ} {new : Layout} {aft
   -- a free range of n bytes is as long as the room allows, and some hole is no shorter
   pub free_fits : (n at : ℕ) → AreFreeBytes new n at → n ≤ room old.lo old.hi xs
   free_fits n at free =
-      let r = free_in_room at (at + n) (record { above = free.above; below = free.below; misses = All-from_Each (λ x. IsTrue (is_any x) → Misses x.at x.size at (at + n)) new.blocks (Each-from (λ x. IsTrue (is_any x) → Misses x.at x.size at (at + n)) new.blocks (λ x m t. Each-at (λ (x : Block). Misses x.at x.size at (at + n)) new.blocks free.misses x m)) }) in
+      let r = free_in_room at (at + n) (record {
+        above = free.above;
+        below = free.below;
+        misses = All-from_Each
+            (λ x. IsTrue (is_any x) → Misses x.at x.size at (at + n)) new.blocks
+            (Each-from (λ x. IsTrue (is_any x) → Misses x.at x.size at (at + n)) new.blocks
+            (λ x m t. Each-at (λ (x : Block). Misses x.at x.size at (at + n)) new.blocks free.misses x m));
+      }) in
       omega arith
 
   pub free_in_hole : (n at : ℕ) → 0 < n → AreFreeBytes new n at → n ≤ longest_hole new.lo new.hi new.blocks
   free_in_hole n at some free =
       let around = gap_around is_any new.lo new.hi new.blocks (sized new.lo new.hi new.blocks placed_new) at (at + n) (omega arith)
-      (record { above = free.above; below = free.below; misses = All-from_Each (λ x. IsTrue (is_any x) → Misses x.at x.size at (at + n)) new.blocks (Each-from (λ x. IsTrue (is_any x) → Misses x.at x.size at (at + n)) new.blocks (λ x m t. Each-at (λ (x : Block). Misses x.at x.size at (at + n)) new.blocks free.misses x m)) }) in
+      (record {
+        above = free.above;
+        below = free.below;
+        misses = All-from_Each
+            (λ x. IsTrue (is_any x) → Misses x.at x.size at (at + n)) new.blocks
+            (Each-from (λ x. IsTrue (is_any x) → Misses x.at x.size at (at + n)) new.blocks
+            (λ x m t. Each-at (λ (x : Block). Misses x.at x.size at (at + n)) new.blocks free.misses x m));
+      }) in
       let most = (hole_is_longest new.lo new.hi new.blocks placed_new).none_longer (last_to is_any new.lo new.blocks at) (first_from is_any new.hi new.blocks (last_to is_any new.lo new.blocks at)) around.0 in
       omega (arith, around.1, around.2, most)

@@ -1,5 +1,7 @@
 -- Blocks but for an object's, and bytes that are free for it.
-use Rattle.w16_arena.proofs.Common.{◌≡◌, ℕ, ◌+◌, ◌-◌, ◌<◌, ◌≤◌, ◌==◌, ◌⊎◌, inl, inr, true, false, cond, eqb, IsTrue, List, [], ◌∷◌, Option, Some, refl, sym, ap, ◌∙◌, subst, arith, eq-eqb, eqb_tells, Block, block_end, first_from, hole_after, is_any, is_pinned, IsClear, Misses, block_with, Each-both, Each-from_All, All-from_Each, first_from-below, laid_each, Layout, AreNamed, IsApart, IsGrained, IsOrdered, all_but, around, all_but_same, all_but_other, all_but_absent, with_same, with_other, rest_differs, each_with, others_apart, All-all_but, moved_between, ordered_without, ids_below, EachTwo, Slides, AreMoved, AreFreeBytes, but_for}
+use Rattle.w16_arena.proofs.Common.{◌≡◌, ℕ, ◌+◌, ◌-◌, ◌<◌, ◌≤◌, ◌==◌, ◌⊎◌, inl, inr, true, false, cond, eqb, IsTrue, List, [], ◌∷◌, Option, Some, refl, sym, ap, ◌∙◌, subst, arith, eq-eqb, eqb_tells, Block, block_end, first_from, hole_after}
+use Rattle.w16_arena.proofs.Common.{is_any, is_pinned, IsClear, Misses, block_with, Each-both, Each-from_All, All-from_Each, first_from-below, laid_each, Layout, AreNamed, IsApart, IsGrained, IsOrdered, all_but, around, all_but_same}
+use Rattle.w16_arena.proofs.Common.{all_but_other, all_but_absent, with_same, with_other, rest_differs, each_with, others_apart, All-all_but, moved_between, ordered_without, ids_below, EachTwo, Slides, AreMoved, AreFreeBytes, but_for}
 use Rattle.std.proofs.lemmas.Bool.{ne_eqb}
 use Rattle.w16_arena.proofs.Pairs.{BothOrNone, with_two}
 

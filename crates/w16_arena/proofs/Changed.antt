@@ -1,5 +1,6 @@
 -- The parts and their heap where one id's entry and block have changed.
-use Rattle.w16_arena.proofs.Common.{◌≡◌, ◌≢◌, ℕ, ◌+◌, ◌<◌, ◌==◌, Bool, true, false, cond, IfSome, IsSomeAnd, List, length, get_or, set, slice_range, AllPairs, Option, Some, None, option_map, refl, sym, ap, ◌∙◌, subst, arith, inl, inr, eqb_tells, get_or-set_same, get_or-set_other, length-set, Block, Entry, Object, object_at, IsCountedBy, block_with, hold_of_entry, is_listed, is_member, Layout, heap_of}
+use Rattle.w16_arena.proofs.Common.{◌≡◌, ◌≢◌, ℕ, ◌+◌, ◌<◌, ◌==◌, Bool, true, false, cond, IfSome, IsSomeAnd, List, length, get_or, set, slice_range, AllPairs, Option, Some, None, option_map, refl, sym, ap, ◌∙◌, subst}
+use Rattle.w16_arena.proofs.Common.{arith, inl, inr, eqb_tells, get_or-set_same, get_or-set_other, length-set, Block, Entry, Object, object_at, IsCountedBy, block_with, hold_of_entry, is_listed, is_member, Layout, heap_of}
 use Rattle.std.specs.FinMap as finmap
 use Rattle.std.proofs.lemmas.Bool.{ne_eqb, eq-eqb}
 use Rattle.w16_arena.proofs.Parts.{AreParts}

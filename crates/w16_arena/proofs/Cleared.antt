@@ -1,5 +1,6 @@
 -- A memory in which a range was given to an object, or the end of a range to one that grew.
-use Rattle.w16_arena.proofs.Common.{◌≡◌, ℕ, ◌+◌, ◌-◌, ◌<◌, ◌≤◌, ◌⊎◌, inl, inr, Bool, true, false, if◌then◌else◌, List, length, drop, slice_range, All, refl, sym, ap, ◌∙◌, subst, arith, false≢true, All-take, All-drop, Misses, AreNew, length_range, put_part, repeated, length-put_part, length-repeated, range-put_part, range_apart, All-put_part, All-repeated}
+use Rattle.w16_arena.proofs.Common.{◌≡◌, ℕ, ◌+◌, ◌-◌, ◌<◌, ◌≤◌, ◌⊎◌, inl, inr, Bool, true, false, if◌then◌else◌, List, length, drop, slice_range, All, refl, sym, ap, ◌∙◌, subst, arith, false≢true}
+use Rattle.w16_arena.proofs.Common.{All-take, All-drop, Misses, AreNew, length_range, put_part, repeated, length-put_part, length-repeated, range-put_part, range_apart, All-put_part, All-repeated}
 
 -- it is as long as before, and the same but for the range
 pub record Makes (at n : ℕ) (memory after : List ℕ) : Type 0 where

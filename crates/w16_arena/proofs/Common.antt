@@ -25,7 +25,11 @@ pub use Rattle.w16_blocks.specs.Parts.{IfBlock, IfHole}
 pub use Rattle.w16_blocks.specs.Stay.{AreSameOutsideBoth}
 pub use Rattle.w16_compact.proofs.Bounded.{clear_pinned}
 pub use Rattle.w16_compact.proofs.Cleared.{inside_is}
-pub use Rattle.w16_compact.proofs.Common.{All-all_but, All-back, All-from_Each, AllByRecursion, AreHoles-holes, AreNamed, AreSameBut, Each-at, Each-both, Each-from, Each-from_All, Each-map, Each-of_map, EachPair, EachPair-from_AllPairs, FitsGap, GName, HasRoom, IsApart, IsCut, IsGrained, IsLaid-all_but, IsLaid-from, IsOrdered, IsSameRest, IsSome, IsUsed, Lacks, Layout, MayGather, Member, Uses, all_but, all_but_absent, all_but_other, all_but_same, around, contents, counted, each_with, end_in, eqb, eqb_tells, filter_member, free_lacks, gathered, get_or-set_other, get_or-set_same, holes_of, lacks_free, laid_each, laid_later, laid_le, laid_placed, le-ltb, length-put_part, list_any, lt-ltb, moved_between, opened, others_apart, outside_but, packed, pairs_filter, placed, raised_in, rank, replaced, spare_in, sum-all_but, sum_filter, sum_fits, take-append-drop, used_each, with_id, with_loose, with_other, with_same}
+pub use Rattle.w16_compact.proofs.Common.{All-all_but, All-back, All-from_Each, AllByRecursion, AreHoles-holes, AreNamed, AreSameBut, Each-at, Each-both, Each-from, Each-from_All, Each-map, Each-of_map, EachPair, EachPair-from_AllPairs, FitsGap, GName, HasRoom}
+pub use Rattle.w16_compact.proofs.Common.{IsApart, IsCut, IsGrained, IsLaid-all_but, IsLaid-from, IsOrdered, IsSameRest, IsSome, IsUsed, Lacks, Layout, MayGather, Member, Uses, all_but, all_but_absent, all_but_other, all_but_same, around, contents, counted}
+pub use Rattle.w16_compact.proofs.Common.{each_with, end_in, eqb, eqb_tells, filter_member, free_lacks, gathered, get_or-set_other, get_or-set_same, holes_of, lacks_free, laid_each, laid_later, laid_le, laid_placed, le-ltb, length-put_part, list_any, lt-ltb}
+pub use Rattle.w16_compact.proofs.Common.{moved_between, opened, others_apart, outside_but, packed, pairs_filter, placed, raised_in, rank, replaced, spare_in, sum-all_but, sum_filter, sum_fits, take-append-drop, used_each, with_id, with_loose, with_other}
+pub use Rattle.w16_compact.proofs.Common.{with_same}
 pub use Rattle.w16_compact.proofs.Gathering.{cut_high, moved_same}
 pub use Rattle.w16_compact.proofs.LeftOut.{lies_outside, may_beside, may_with, ordered_without}
 pub use Rattle.w16_compact.proofs.Loose.{loose_here, loose_one}
@@ -44,7 +48,16 @@ pub use Rattle.w16_lru.proofs.Walks.{all_left}
 pub use Rattle.w16_lru.specs.declared.End.{End}
 pub use Rattle.w16_lru.specs.declared.End.TheVariants.{Newest, Oldest}
 pub use Rattle.w16_model.proofs.Answered.{allocates_after, discarded_all, discarded_next, discarded_none, eligible_rest, moved_after, settles_after, settles_before}
-pub use Rattle.w16_model.proofs.Common.{All, All-drop, All-take, AllPairs, Allocates, AreNew, ArePlaced, Bool, Contains, Enters, FinMap, Grows, Heap, IfOk, IfSome, IsArrangement, IsClear, IsCountedBy, IsFirstItem, IsGap, IsGrown, IsHeap, IsHole, IsItem, IsLaid, IsMultiple, IsNew, IsPermutation, IsSomeAnd, IsSound, IsTrue, KeepsOthers, List, MakesRoom, MatchBool, MatchOption, Misses, Object, Reallocates, ReallocatesObject, Request, Settles, StaysOrMovesToHole, Table, [], absent, after_discard, after_free, after_lock, after_modify, after_touch, after_unlock, and_parts, ap, append_assoc, arith, begins_in, block_end, block_of, block_with, blocks, blocks_without, by_id, bytes_at, cases_Bool, cases_eq, cases_lt, common_steps, compaction_prefix, cond, cond-true, discarded, discards_needed, drop, drop-drop, drop-take, eligible, eligible_count, entry_at, eq-eqb, eq_by_cmp, false, false≢true, filter, filter_map, find, first_from, fits_in_place, fold, get-insert, get-remove, get_or, growth_for, heap_in, hold_of_entry, holds_still, hole_after, holes, if◌then◌else◌, inl, inr, is_about, is_any, is_discardable, is_elsewhere, is_fixed, is_listed, is_loose, is_member, is_pinned, is_pinned_id, is_pinned_object, is_some, le-leb, leb-false, leb-true, length, length-append, longest_hole, loose_bytes, lt-leb, ltb-true, map, most_room, moved_bytes, nat_cmp, nat_cmp_total, nat_le, nat_lt, ne_eqb, needed, newest, none_discarded_if, not, not-true, object_at, object_in, oldest, option_map, or_cases, or_from, or_left, or_parts, or_right, part, put_part, refl, refused_order, removed, replicate, room, room_for, rules, set, slice_get, slice_range, snapshot, snapshot_of, starts, stays_for, subst, suc, sum_by, sum_by-IsPermutation, sum_by-cons, sym, take, take-take, touched, true, unwrap_or, with_newest, with_object, with_ordered, without, zero, ℕ, ◌&&◌, ◌*◌, ◌++◌, ◌+◌, ◌-◌, ◌/◌, ◌<◌, ◌==◌, ◌||◌, ◌∙◌, ◌∷◌, ◌≡◌, ◌≢◌, ◌≤◌, ◌⊎◌}
+pub use Rattle.w16_model.proofs.Common.{All, All-drop, All-take, AllPairs, Allocates, AreNew, ArePlaced, Bool, Contains, Enters, FinMap, Grows, Heap, IfOk, IfSome, IsArrangement, IsClear, IsCountedBy, IsFirstItem, IsGap, IsGrown, IsHeap, IsHole}
+pub use Rattle.w16_model.proofs.Common.{IsItem, IsLaid, IsMultiple, IsNew, IsPermutation, IsSomeAnd, IsSound, IsTrue, KeepsOthers, List, MakesRoom, MatchBool, MatchOption, Misses, Object, Reallocates, ReallocatesObject, Request, Settles, StaysOrMovesToHole}
+pub use Rattle.w16_model.proofs.Common.{Table, [], absent, after_discard, after_free, after_lock, after_modify, after_touch, after_unlock, and_parts, ap, append_assoc, arith, begins_in, block_end, block_of, block_with, blocks, blocks_without, by_id}
+pub use Rattle.w16_model.proofs.Common.{bytes_at, cases_Bool, cases_eq, cases_lt, common_steps, compaction_prefix, cond, cond-true, discarded, discards_needed, drop, drop-drop, drop-take, eligible, eligible_count, entry_at, eq-eqb, eq_by_cmp, false}
+pub use Rattle.w16_model.proofs.Common.{false≢true, filter, filter_map, find, first_from, fits_in_place, fold, get-insert, get-remove, get_or, growth_for, heap_in, hold_of_entry, holds_still, hole_after, holes, if◌then◌else◌, inl, inr, is_about}
+pub use Rattle.w16_model.proofs.Common.{is_any, is_discardable, is_elsewhere, is_fixed, is_listed, is_loose, is_member, is_pinned, is_pinned_id, is_pinned_object, is_some, le-leb, leb-false, leb-true, length, length-append, longest_hole, loose_bytes}
+pub use Rattle.w16_model.proofs.Common.{lt-leb, ltb-true, map, most_room, moved_bytes, nat_cmp, nat_cmp_total, nat_le, nat_lt, ne_eqb, needed, newest, none_discarded_if, not, not-true, object_at, object_in, oldest, option_map, or_cases, or_from}
+pub use Rattle.w16_model.proofs.Common.{or_left, or_parts, or_right, part, put_part, refl, refused_order, removed, replicate, room, room_for, rules, set, slice_get, slice_range, snapshot, snapshot_of, starts, stays_for, subst, suc, sum_by}
+pub use Rattle.w16_model.proofs.Common.{sum_by-IsPermutation, sum_by-cons, sym, take, take-take, touched, true, unwrap_or, with_newest, with_object, with_ordered, without, zero, ℕ, ◌&&◌, ◌*◌, ◌++◌, ◌+◌, ◌-◌, ◌/◌, ◌<◌, ◌==◌, ◌||◌, ◌∙◌, ◌∷◌, ◌≡◌, ◌≢◌}
+pub use Rattle.w16_model.proofs.Common.{◌≤◌, ◌⊎◌}
 unfoldable pub use Rattle.w16_model.proofs.Common.{repeated}
 pub use Rattle.w16_model.proofs.Cuts.{HasTold, told_at, told_more, told_none, told_past}
 pub use Rattle.w16_model.proofs.Discards.{absents_of_block, eligible_loose, from_take, room-discarded, true-is_member}

@@ -1,5 +1,6 @@
 -- An object that got more bytes where it stands: its own and new ones, and the others' as they were.
-use Rattle.w16_arena.proofs.Common.{◌≡◌, ◌≢◌, ℕ, ◌+◌, ◌-◌, ◌<◌, ◌≤◌, inl, inr, Bool, not, ◌==◌, if◌then◌else◌, All, List, length, slice_range, Option, Some, None, option_map, refl, sym, ap, ◌∙◌, arith, ne_eqb, Block, Entry, part, put_part, repeated, Misses, Object, IsGrown, block_with, Each-at, filter_member, range_part, member_with, Layout, IsOrdered, IsApart, FitsFor, all_but, replaced, contents, Uses, table_of, ArenaInvariant}
+use Rattle.w16_arena.proofs.Common.{◌≡◌, ◌≢◌, ℕ, ◌+◌, ◌-◌, ◌<◌, ◌≤◌, inl, inr, Bool, not, ◌==◌, if◌then◌else◌, All, List, length, slice_range, Option, Some, None, option_map, refl, sym, ap, ◌∙◌, arith, ne_eqb, Block, Entry, part}
+use Rattle.w16_arena.proofs.Common.{put_part, repeated, Misses, Object, IsGrown, block_with, Each-at, filter_member, range_part, member_with, Layout, IsOrdered, IsApart, FitsFor, all_but, replaced, contents, Uses, table_of, ArenaInvariant}
 use Rattle.w16_arena.proofs.Cleared.{Makes}
 use Rattle.w16_arena.proofs.Longer as longer
 use Rattle.w16_arena.proofs.InPlace.{others_with}

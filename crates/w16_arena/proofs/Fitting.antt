@@ -1,5 +1,6 @@
 -- A block with another size fits where it stands: with less, and with more where the hole behind it is long enough.
-use Rattle.w16_arena.proofs.Common.{◌≡◌, ℕ, ◌+◌, ◌<◌, ◌≤◌, IsTrue, Some, refl, arith, inl, inr, Block, Misses, block_end, first_from, hole_after, is_any, IsMultiple, block_with, Each-map, Each-both, first_from-below, Layout, IsOrdered, IsApart, FitsFor, all_but, All-all_but, each_with, others_differ, named_each, fits_itself, but_for, AreFreeBytes}
+use Rattle.w16_arena.proofs.Common.{◌≡◌, ℕ, ◌+◌, ◌<◌, ◌≤◌, IsTrue, Some, refl, arith, inl, inr, Block, Misses, block_end, first_from, hole_after, is_any, IsMultiple, block_with, Each-map}
+use Rattle.w16_arena.proofs.Common.{Each-both, first_from-below, Layout, IsOrdered, IsApart, FitsFor, all_but, All-all_but, each_with, others_differ, named_each, fits_itself, but_for, AreFreeBytes}
 use Rattle.std.specs.List.{AllByRecursion as Each}
 
 module _ (l : Layout) (b : Block) (known : block_with l.blocks b.id ≡ Some b) (ordered : IsOrdered l) where

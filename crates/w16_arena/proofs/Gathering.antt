@@ -1,6 +1,7 @@
 -- A gap that was gathered: the blocks that slid, and the place that they leave.
 use Rattle.std.specs.List.{AllByRecursion as Each}
-use Rattle.w16_arena.proofs.Common.{◌≡◌, ℕ, ◌+◌, ◌<◌, ◌≤◌, ◌⊎◌, inl, inr, Bool, true, false, cond, ◌&&◌, IsTrue, List, [], ◌∷◌, length, All, refl, sym, ap, ◌∙◌, subst, arith, Block, block_end, is_any, is_loose, is_pinned, begins_in, loose_bytes, IsClear, Misses, IsMultiple, All-from_Each, Each-both, Each-from_All, Each-map, FitsGap, lacks_free, Layout, IsOrdered, IsGrained, Gap, HasRoom, contents, gathered, loose_one, EachTwo, AreMoved, AreFreeBytes}
+use Rattle.w16_arena.proofs.Common.{◌≡◌, ℕ, ◌+◌, ◌<◌, ◌≤◌, ◌⊎◌, inl, inr, Bool, true, false, cond, ◌&&◌, IsTrue, List, [], ◌∷◌, length, All, refl, sym, ap, ◌∙◌, subst, arith, Block, block_end, is_any, is_loose, is_pinned, begins_in, loose_bytes}
+use Rattle.w16_arena.proofs.Common.{IsClear, Misses, IsMultiple, All-from_Each, Each-both, Each-from_All, Each-map, FitsGap, lacks_free, Layout, IsOrdered, IsGrained, Gap, HasRoom, contents, gathered, loose_one, EachTwo, AreMoved, AreFreeBytes}
 use Rattle.w16_blocks.specs.Runs.{IsRun}
 use Rattle.w16_compact.proofs.Packed.{gathered_past}
 use Rattle.w16_arena.proofs.Pairs.{Stands, two_gathered, two_slides}

@@ -1,6 +1,8 @@
 -- What the call for a place leaves kept and answers.
 use Rattle.w16_arena.proofs.Keeping.{leaves_cleared, used_placed}
-use Rattle.w16_arena.proofs.Common.{◌≡◌, ℕ, ◌+◌, ◌<◌, ◌≤◌, true, false, ◌&&◌, if◌then◌else◌, All, List, length, set, slice_range, Option, Some, None, refl, ap, ◌∙◌, subst, sym, arith, length-set, Entry, Hold, Kind, RoomOptions, IsMultiple, is_discardable, newest, with_newest, IsNew, block_with, hold_of_entry, heap_in, put_part, repeated, Layout, IsOrdered, Fits, placed, moved_between, Uses, Placed, Stands, GName, IsSameRest, ArenaState, KeepsRest, table_of, heap_of, ArenaInvariant, AreMoved, AreFreeBytes, Leaves, Span, holes_of, AreSameIn}
+use Rattle.w16_arena.proofs.Common.{◌≡◌, ℕ, ◌+◌, ◌<◌, ◌≤◌, true, false, ◌&&◌, if◌then◌else◌, All, List, length, set, slice_range, Option, Some, None, refl, ap, ◌∙◌, subst, sym, arith, length-set, Entry}
+use Rattle.w16_arena.proofs.Common.{Hold, Kind, RoomOptions, IsMultiple, is_discardable, newest, with_newest, IsNew, block_with, hold_of_entry, heap_in, put_part, repeated, Layout, IsOrdered, Fits, placed}
+use Rattle.w16_arena.proofs.Common.{moved_between, Uses, Placed, Stands, GName, IsSameRest, ArenaState, KeepsRest, table_of, heap_of, ArenaInvariant, AreMoved, AreFreeBytes, Leaves, Span, holes_of, AreSameIn}
 use Rattle.w16_arena.proofs.Parts.{AreParts}
 use Rattle.w16_arena.proofs.Steps.{state_of, beside, kept_with}
 use Rattle.w16_arena.proofs.Shown.{known, told}

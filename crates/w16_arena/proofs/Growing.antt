@@ -1,5 +1,9 @@
 -- A growth, by what was found and made for it.
-use Rattle.w16_arena.proofs.Common.{◌≡◌, ℕ, ◌<◌, ◌≤◌, inl, inr, Bool, true, false, not, ◌&&◌, ◌||◌, ◌==◌, cond, nat_le, IsSomeAnd, MatchOption, All, List, [], ◌∷◌, length, replicate, take, fold, Option, Some, None, refl, sym, ap, ◌∙◌, subst, arith, eq-eqb, leb-true, leb-false, le-leb, false≢true, and_parts, cases_Bool, length-replicate, Block, RoomOptions, KeepsOthers, holds_still, room, longest_hole, eligible, growth_for, fits_in_place, needed, none_discarded_if, room_for, snapshot, is_pinned_id, is_about, Heap, Object, IsMultiple, blocks, object_at, absent, with_ordered, IsGrown, Reallocates, Settles, StaysOrMovesToHole, stays_for, discarded, moved_bytes, discards_needed, snapshot_of, Table, IsSound, block_with, heap_in, Member, EachPair-from_AllPairs, member_filter, IsBlockOf, get-update_other, member_with, with_member, table_block, block_table, table_longest, sound_heap, others_law, from_take, absents_of_block, room-discarded, prefix_now, prefix_kept, prefix_needed, needed_by_members, needed_enough, eligible_by_members, room_by_members, settles_after, moved_after, all_but, Stands, IsResized, Discards, may_grow_in, Placed, ArenaState}
+use Rattle.w16_arena.proofs.Common.{◌≡◌, ℕ, ◌<◌, ◌≤◌, inl, inr, Bool, true, false, not, ◌&&◌, ◌||◌, ◌==◌, cond, nat_le, IsSomeAnd, MatchOption, All, List, [], ◌∷◌, length, replicate, take, fold, Option, Some, None, refl, sym, ap, ◌∙◌, subst, arith, eq-eqb}
+use Rattle.w16_arena.proofs.Common.{leb-true, leb-false, le-leb, false≢true, and_parts, cases_Bool, length-replicate, Block, RoomOptions, KeepsOthers, holds_still, room, longest_hole, eligible, growth_for, fits_in_place, needed, none_discarded_if, room_for}
+use Rattle.w16_arena.proofs.Common.{snapshot, is_pinned_id, is_about, Heap, Object, IsMultiple, blocks, object_at, absent, with_ordered, IsGrown, Reallocates, Settles, StaysOrMovesToHole, stays_for, discarded, moved_bytes, discards_needed, snapshot_of, Table}
+use Rattle.w16_arena.proofs.Common.{IsSound, block_with, heap_in, Member, EachPair-from_AllPairs, member_filter, IsBlockOf, get-update_other, member_with, with_member, table_block, block_table, table_longest, sound_heap, others_law, from_take, absents_of_block}
+use Rattle.w16_arena.proofs.Common.{room-discarded, prefix_now, prefix_kept, prefix_needed, needed_by_members, needed_enough, eligible_by_members, room_by_members, settles_after, moved_after, all_but, Stands, IsResized, Discards, may_grow_in, Placed, ArenaState}
 use Rattle.w16_arena.proofs.Parts.{AreParts}
 use Rattle.w16_arena.proofs.Lookups.{in_list}
 use Rattle.w16_arena.proofs.Listed.{listed_permutation}

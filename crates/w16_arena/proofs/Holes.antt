@@ -1,5 +1,7 @@
 -- What the search for a hole tells of the table's heap.
-use Rattle.w16_arena.proofs.Common.{find, ◌≡◌, ℕ, ◌+◌, ◌-◌, ◌*◌, ◌<◌, ◌≤◌, inl, inr, Bool, true, false, cond, nat_le, nat_lt, IsTrue, List, [], ◌∷◌, map, filter, get_or, length, Option, Some, None, option_map, refl, sym, ap, subst, arith, leb-true, leb-false, Contains, zero, suc, cases_lt, Block, Span, block_end, first_from, is_any, starts, holes, longest_hole, Misses, ArePlaced, IsHole, IsMultiple, Member, Each-at, Each-from, Each-from_All, Each-map, Each-of_map, member_filter, spans_are, hole_is_longest}
+use Rattle.w16_arena.proofs.Common.{find, ◌≡◌, ℕ, ◌+◌, ◌-◌, ◌*◌, ◌<◌, ◌≤◌, inl, inr, Bool, true, false, cond, nat_le, nat_lt, IsTrue, List, [], ◌∷◌, map, filter, get_or, length, Option, Some}
+use Rattle.w16_arena.proofs.Common.{None, option_map, refl, sym, ap, subst, arith, leb-true, leb-false, Contains, zero, suc, cases_lt, Block, Span, block_end, first_from, is_any, starts, holes}
+use Rattle.w16_arena.proofs.Common.{longest_hole, Misses, ArePlaced, IsHole, IsMultiple, Member, Each-at, Each-from, Each-from_All, Each-map, Each-of_map, member_filter, spans_are, hole_is_longest}
 use Rattle.std.specs.List.{AllByRecursion as Each}
 
 -- what passes, where it is found; and where nothing is, none passes
@@ -86,7 +88,10 @@ module _ (lo hi grain : ℕ) (xs : List Block) (placed : ArePlaced lo hi xs) (lo
     | inl long ↦
         let best = (hole_is_longest lo hi xs placed).one_as_long long in
         let listed : Member (record { from = best.0; to = best.1 }) (holes lo hi xs) = member_of (holes lo hi xs) (record { from = best.0; to = best.1 }) ((spans_are lo hi xs placed is_any).each best.0 best.1 best.2) in
-        let short : nat_le n (best.1 - best.0) ≡ false = Each-at (λ (s : Span). nat_le n (s.to - s.from) ≡ false) (holes lo hi xs) (none_passes (λ s. nat_le n (s.to - s.from)) (holes lo hi xs) (nothing (find (λ s. nat_le n (s.to - s.from)) (holes lo hi xs)) e)) (record { from = best.0; to = best.1 }) listed in
+        let short : nat_le n (best.1 - best.0) ≡ false = Each-at (λ (s : Span). nat_le n (s.to - s.from) ≡ false)
+        (holes lo hi xs) (none_passes (λ s. nat_le n (s.to - s.from)) (holes lo hi xs)
+        (nothing (find (λ s. nat_le n (s.to - s.from)) (holes lo hi xs)) e)) (record { from = best.0; to = best.1 })
+        listed in
         omega (arith, leb-false n (best.1 - best.0) short, best.3)
   ]
     where

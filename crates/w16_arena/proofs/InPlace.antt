@@ -1,5 +1,7 @@
 -- An object that got another size where it stands: what its call leaves kept and answers.
-use Rattle.w16_arena.proofs.Common.{◌≡◌, ◌≢◌, ℕ, ◌+◌, ◌<◌, ◌≤◌, ◌⊎◌, true, false, not, ◌&&◌, cond, IfSome, List, [], length, take, drop, replicate, slice_range, Option, Some, None, option_map, refl, sym, ap, ◌∙◌, subst, arith, le-leb, ne_eqb, lt-leb, FinMap, nat_cmp, take-take, GName, Block, Entry, RoomOptions, part, block_end, hole_after, holds_still, Heap, Object, IsMultiple, with_object, IsGrown, Reallocates, Table, block_with, heap_in, range_part, Layout, IsOrdered, all_but, replaced, contents, IsSameRest, Uses, Placed, IsResized, IsPlaced, KeepsRest, table_of, heap_of, ArenaInvariant, Leaves, Span, holes_of}
+use Rattle.w16_arena.proofs.Common.{◌≡◌, ◌≢◌, ℕ, ◌+◌, ◌<◌, ◌≤◌, ◌⊎◌, true, false, not, ◌&&◌, cond, IfSome, List, [], length, take, drop, replicate, slice_range, Option, Some, None, option_map, refl, sym, ap, ◌∙◌, subst, arith}
+use Rattle.w16_arena.proofs.Common.{le-leb, ne_eqb, lt-leb, FinMap, nat_cmp, take-take, GName, Block, Entry, RoomOptions, part, block_end, hole_after, holds_still, Heap, Object, IsMultiple, with_object, IsGrown, Reallocates, Table}
+use Rattle.w16_arena.proofs.Common.{block_with, heap_in, range_part, Layout, IsOrdered, all_but, replaced, contents, IsSameRest, Uses, Placed, IsResized, IsPlaced, KeepsRest, table_of, heap_of, ArenaInvariant, Leaves, Span, holes_of}
 use Rattle.std.specs.FinMap as finmap
 use Rattle.w16_arena.proofs.Parts.{AreParts}
 use Rattle.w16_arena.proofs.With.{with-without}

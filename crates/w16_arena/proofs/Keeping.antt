@@ -1,5 +1,7 @@
 -- What keeps each block's bytes keeps a table's heap: where only bytes of holes change, and after one step more.
-use Rattle.w16_arena.proofs.Common.{ℕ, ◌≡◌, ◌+◌, ◌<◌, List, [], ◌∷◌, length, slice_range, Some, option_map, refl, sym, ap, ◌∙◌, subst, arith, inl, inr, All, eqb_tells, GName, AllByRecursion, Block, Span, part, IsLaid, block_end, holes, Table, IsSameOutside, block_with, by_id, heap_in, range_part, part_below, part_above, IsFree, IsUsed, AreSameIn, AreSameOutside, Layout, IsOrdered, all_but, placed, holes_of, used_each, outside_holes, All-first, contents, rest_more, rest_same, KeepsBytes, EachTwo, Slides, AreMoved, Leaves, IsSameRest, KeepsRest, holes_in, IsSound, ◌≤◌, rest_wider}
+use Rattle.w16_arena.proofs.Common.{ℕ, ◌≡◌, ◌+◌, ◌<◌, List, [], ◌∷◌, length, slice_range, Some, option_map, refl, sym, ap, ◌∙◌, subst, arith, inl, inr, All, eqb_tells, GName, AllByRecursion, Block, Span, part, IsLaid}
+use Rattle.w16_arena.proofs.Common.{block_end, holes, Table, IsSameOutside, block_with, by_id, heap_in, range_part, part_below, part_above, IsFree, IsUsed, AreSameIn, AreSameOutside, Layout, IsOrdered, all_but, placed}
+use Rattle.w16_arena.proofs.Common.{holes_of, used_each, outside_holes, All-first, contents, rest_more, rest_same, KeepsBytes, EachTwo, Slides, AreMoved, Leaves, IsSameRest, KeepsRest, holes_in, IsSound, ◌≤◌, rest_wider}
 use Rattle.std.specs.FinMap as finmap
 
 module _ (m n : List ℕ) where

@@ -1,5 +1,6 @@
 -- What a block's new size leaves of the bytes: those of the others, its own as far as it has them before and after, and all outside the bounds.
-use Rattle.w16_arena.proofs.Common.{ℕ, ◌≡◌, ◌+◌, ◌≤◌, List, [], ◌∷◌, Some, refl, subst, arith, inl, inr, AllByRecursion, Block, Span, part, block_end, IsSameOutside, block_with, IsUsed, Layout, IsOrdered, all_but, placed, replaced, holes_of, AreSameOutsideBoth, used_each, outside_but, All-all_but, each_with, laid_le, All-first, contents}
+use Rattle.w16_arena.proofs.Common.{ℕ, ◌≡◌, ◌+◌, ◌≤◌, List, [], ◌∷◌, Some, refl, subst, arith, inl, inr, AllByRecursion, Block, Span, part, block_end, IsSameOutside, block_with, IsUsed}
+use Rattle.w16_arena.proofs.Common.{Layout, IsOrdered, all_but, placed, replaced, holes_of, AreSameOutsideBoth, used_each, outside_but, All-all_but, each_with, laid_le, All-first, contents}
 
 -- a shorter place is used too
 used_less : (a b c : ℕ) (hs : List Span) → b ≤ c → IsUsed a c hs → IsUsed a b hs

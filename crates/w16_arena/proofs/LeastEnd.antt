@@ -1,5 +1,6 @@
 -- At which ends a request is answered, by the blocks of a table, and the least such end.
-use Rattle.w16_arena.proofs.Common.{◌≡◌, ℕ, ◌<◌, ◌≤◌, Bool, true, false, not, ◌&&◌, ◌||◌, cond, nat_le, List, length, Option, Some, None, is_some, IfSome, IfNone, refl, sym, ap, ◌∙◌, arith, Block, Entry, RoomOptions, Layout, Uses, table_of, holds_still, longest_hole, fits_in_place, growth_for, none_discarded_if, snapshot, Heap, Object, blocks, object_at, Table, IsSound, block_with, heap_in, needed_by_members, room_by_members}
+use Rattle.w16_arena.proofs.Common.{◌≡◌, ℕ, ◌<◌, ◌≤◌, Bool, true, false, not, ◌&&◌, ◌||◌, cond, nat_le, List, length, Option, Some, None, is_some, IfSome, IfNone, refl, sym, ap, ◌∙◌, arith, Block, Entry, RoomOptions, Layout, Uses}
+use Rattle.w16_arena.proofs.Common.{table_of, holds_still, longest_hole, fits_in_place, growth_for, none_discarded_if, snapshot, Heap, Object, blocks, object_at, Table, IsSound, block_with, heap_in, needed_by_members, room_by_members}
 use Rattle.w16_model.specs.Discards.{Snapshot, prefix_for}
 use Rattle.w16_model.specs.Ends.{ending, is_grown, is_resized, is_answered, IsLeastEnd, HasNoEnd}
 use Rattle.w16_model.proofs.Pinned.{longest_hole-permutation}

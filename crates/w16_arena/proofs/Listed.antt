@@ -1,5 +1,6 @@
 -- The blocks of the parts' heap are those that are listed, in another order.
-use Rattle.w16_arena.proofs.Common.{◌≡◌, ◌≢◌, ℕ, ◌≤◌, List, length, Option, Some, ap, IsPermutation, Block, Entry, room, blocks, block_with, EachPair, Member, EachPair-map, EachPair-from_AllPairs, member_block, blocks_permutation, room-permutation, table_block, block_table, with_member, Layout, table_of, heap_of}
+use Rattle.w16_arena.proofs.Common.{◌≡◌, ◌≢◌, ℕ, ◌≤◌, List, length, Option, Some, ap, IsPermutation, Block, Entry, room, blocks, block_with, EachPair, Member, EachPair-map}
+use Rattle.w16_arena.proofs.Common.{EachPair-from_AllPairs, member_block, blocks_permutation, room-permutation, table_block, block_table, with_member, Layout, table_of, heap_of}
 use Rattle.w16_arena.proofs.Parts.{AreParts}
 
 module _ {entries : List (Option Entry)} {layout : Layout} {order memory : List ℕ} (parts : AreParts entries layout order memory) where

@@ -1,5 +1,6 @@
 -- The bytes of an object that got longer: those that it had came along, and those behind them are new.
-use Rattle.w16_arena.proofs.Common.{◌≡◌, ℕ, ◌+◌, ◌-◌, ◌<◌, ◌≤◌, inl, inr, Bool, if◌then◌else◌, List, ◌++◌, length, take, drop, slice_range, All, Some, refl, sym, ap, ◌∙◌, subst, arith, take-take, take-append-drop, drop-take, drop-drop, Kind, part, put_part, repeated, Misses, AreNew, IsGrown, range_part}
+use Rattle.w16_arena.proofs.Common.{◌≡◌, ℕ, ◌+◌, ◌-◌, ◌<◌, ◌≤◌, inl, inr, Bool, if◌then◌else◌, List, ◌++◌, length, take, drop, slice_range, All, Some, refl, sym, ap, ◌∙◌}
+use Rattle.w16_arena.proofs.Common.{subst, arith, take-take, take-append-drop, drop-take, drop-drop, Kind, part, put_part, repeated, Misses, AreNew, IsGrown, range_part}
 use Rattle.w16_arena.proofs.Cleared.{Makes, makes, fresh}
 
 -- a part by two

@@ -1,5 +1,7 @@
 -- What the heap of the parts has at an id, and when it is another heap.
-use Rattle.w16_arena.proofs.Common.{◌≡◌, ◌≢◌, ℕ, zero, suc, ◌+◌, ◌<◌, ◌≤◌, IfSome, IsSomeAnd, List, [], ◌∷◌, length, get_or, slice_range, All, AllPairs, Option, Some, None, option_map, refl, sym, ap, ◌∙◌, subst, arith, nat_cmp_total, same_map, nat_cmp-IsAntisymmetric, AllByRecursion, Block, Entry, Heap, Object, IsHeap, object_at, bytes_at, IsMultiple, IsCountedBy, IsSound, block_with, object_in, hold_of_entry, is_listed, is_member, EachPair, Each-from, Each-at, Each-from_All, All-from_Each, AllPairs-from_EachPair, EachPair-from_AllPairs, object_is, place_is, with_member, member_with, length_range, sound_heap, laid_each, block_end, IsLaid, Layout, IsOrdered, AreNamed, table_of, heap_of, entry_of}
+use Rattle.w16_arena.proofs.Common.{◌≡◌, ◌≢◌, ℕ, zero, suc, ◌+◌, ◌<◌, ◌≤◌, IfSome, IsSomeAnd, List, [], ◌∷◌, length, get_or, slice_range, All, AllPairs, Option, Some, None, option_map, refl, sym, ap, ◌∙◌, subst, arith, nat_cmp_total, same_map, nat_cmp-IsAntisymmetric}
+use Rattle.w16_arena.proofs.Common.{AllByRecursion, Block, Entry, Heap, Object, IsHeap, object_at, bytes_at, IsMultiple, IsCountedBy, IsSound, block_with, object_in, hold_of_entry, is_listed, is_member, EachPair, Each-from, Each-at, Each-from_All, All-from_Each}
+use Rattle.w16_arena.proofs.Common.{AllPairs-from_EachPair, EachPair-from_AllPairs, object_is, place_is, with_member, member_with, length_range, sound_heap, laid_each, block_end, IsLaid, Layout, IsOrdered, AreNamed, table_of, heap_of, entry_of}
 use Rattle.std.specs.FinMap as finmap
 use Rattle.w16_arena.proofs.Parts.{AreParts}
 

@@ -1,5 +1,6 @@
 -- An object's kind is changed: its entry and its place in the order of use, and nothing else.
-use Rattle.w16_arena.proofs.Common.{◌≡◌, ℕ, ◌+◌, ◌<◌, ◌≤◌, ◌&&◌, ◌||◌, Bool, true, false, IfSome, IsSomeAnd, List, length, get_or, set, slice_range, Option, Some, None, Ok, option_map, is_some, refl, sym, ap, ◌∙◌, subst, false≢true, or_parts, length-set, Block, Entry, Kind, is_member, Heap, is_fixed, is_discardable, with_ordered, after_modify, IsSound, IsCountedBy, block_with, hold_of_entry, object_in, is_listed, Layout, Uses, Newest, ArenaState, Steps, table_of, heap_of, relisted, ArenaInvariant}
+use Rattle.w16_arena.proofs.Common.{◌≡◌, ℕ, ◌+◌, ◌<◌, ◌≤◌, ◌&&◌, ◌||◌, Bool, true, false, IfSome, IsSomeAnd, List, length, get_or, set, slice_range, Option, Some, None, Ok, option_map, is_some, refl, sym, ap, ◌∙◌, subst, false≢true, or_parts, length-set, Block, Entry}
+use Rattle.w16_arena.proofs.Common.{Kind, is_member, Heap, is_fixed, is_discardable, with_ordered, after_modify, IsSound, IsCountedBy, block_with, hold_of_entry, object_in, is_listed, Layout, Uses, Newest, ArenaState, Steps, table_of, heap_of, relisted, ArenaInvariant}
 use Rattle.w16_arena.proofs.Parts.{AreParts}
 use Rattle.w16_arena.proofs.Lookups.{in_list, holds_at, object_here, sound_arranged}
 use Rattle.w16_arena.proofs.Changed.{GoTogether, ChangesOne, ReordersOne, changes_none}

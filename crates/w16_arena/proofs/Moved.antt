@@ -1,5 +1,6 @@
 -- The bytes that were moved, by the blocks and by the heap.
-use Rattle.w16_arena.proofs.Common.{◌≡◌, ℕ, ◌+◌, ◌≤◌, true, false, length, ◌==◌, inl, inr, Bool, cond, List, [], ◌∷◌, filter, sum_by, Option, Some, option_map, refl, sym, ap, ◌∙◌, arith, eq-eqb, ne_eqb, IsPermutation, eqb_tells, sum_by-IsPermutation, sum_by-cons, Block, Entry, Heap, blocks, is_elsewhere, moved_bytes, IsLaid, block_end, Table, IsSound, block_with, heap_in, Member, sum_filter, with_member, Layout, moved_between, heap_of, EachTwo, Slides, AreMoved}
+use Rattle.w16_arena.proofs.Common.{◌≡◌, ℕ, ◌+◌, ◌≤◌, true, false, length, ◌==◌, inl, inr, Bool, cond, List, [], ◌∷◌, filter, sum_by, Option, Some, option_map, refl, sym, ap, ◌∙◌, arith, eq-eqb, ne_eqb, IsPermutation, eqb_tells, sum_by-IsPermutation}
+use Rattle.w16_arena.proofs.Common.{sum_by-cons, Block, Entry, Heap, blocks, is_elsewhere, moved_bytes, IsLaid, block_end, Table, IsSound, block_with, heap_in, Member, sum_filter, with_member, Layout, moved_between, heap_of, EachTwo, Slides, AreMoved}
 use Rattle.std.specs.FinMap as finmap
 use Rattle.w16_arena.proofs.Parts.{AreParts}
 use Rattle.w16_arena.proofs.Lookups.{named_pairs, place_here}

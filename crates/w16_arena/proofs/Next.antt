@@ -1,6 +1,7 @@
 -- The lowest block at or above an address.
 use Rattle.std.specs.List.{AllByRecursion as Each}
-use Rattle.w16_arena.proofs.Common.{◌≡◌, ◌≢◌, ℕ, ◌<◌, ◌≤◌, ◌⊎◌, inl, inr, IfSome, IfNone, List, [], ◌∷◌, MatchOption, Option, Some, None, slice_get, refl, sym, subst, arith, cases_lt, lt-ltb, le-ltb, Block, IsLaid, block_end, Table, IsSound, block_with, Member, Each-at, Each-map, EachPair-from_AllPairs, with_member, member_with, rank, laid_each}
+use Rattle.w16_arena.proofs.Common.{◌≡◌, ◌≢◌, ℕ, ◌<◌, ◌≤◌, ◌⊎◌, inl, inr, IfSome, IfNone, List, [], ◌∷◌, MatchOption, Option, Some, None, slice_get, refl, sym, subst, arith, cases_lt, lt-ltb}
+use Rattle.w16_arena.proofs.Common.{le-ltb, Block, IsLaid, block_end, Table, IsSound, block_with, Member, Each-at, Each-map, EachPair-from_AllPairs, with_member, member_with, rank, laid_each}
 
 -- what the block of a rank is to an address
 abbrev pub IsNext : ℕ → List Block → Option Block → Type 0

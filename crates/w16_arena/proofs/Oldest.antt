@@ -1,5 +1,8 @@
 -- The oldest that a request may discard: their list along the order of use, and their discards one by one.
-use Rattle.w16_arena.proofs.Common.{◌≡◌, ℕ, zero, suc, ◌+◌, ◌-◌, ◌<◌, ◌≤◌, inl, inr, Bool, true, false, cond, not, ◌&&◌, ◌||◌, nat_lt, IsSomeAnd, subst, List, [], ◌∷◌, ◌++◌, append_assoc, length, take, Option, Some, None, refl, sym, ap, ◌∙◌, arith, eqb, list_any, false≢true, cases_Bool, ltb-false, or_cases, eqb-true, Decides-eqb, length-append, length-take, append-nil, IsDistinct-from_AllPairs, length-le_from_distinct_below, Block, Entry, absent, Heap, blocks, is_fixed, is_discardable, holds_still, Pinned, Loose, member_with, length-filter_both, eligible, is_member, is_about, is_pinned_id, Table, IsSound, hold_of_entry, block_with, entry_at, heap_in, is_listed, true-is_member, eligible_loose, Member, member_filter, eligible_by_members, Layout, ArenaState, Steps, IsSameRange, Discards, get_or, from_take, take_all, fold, ◌≢◌, first_here, passed_here}
+use Rattle.w16_arena.proofs.Common.{◌≡◌, ℕ, zero, suc, ◌+◌, ◌-◌, ◌<◌, ◌≤◌, inl, inr, Bool, true, false, cond, not, ◌&&◌, ◌||◌, nat_lt, IsSomeAnd, subst, List, [], ◌∷◌, ◌++◌, append_assoc, length, take, Option, Some, None, refl, sym, ap, ◌∙◌}
+use Rattle.w16_arena.proofs.Common.{arith, eqb, list_any, false≢true, cases_Bool, ltb-false, or_cases, eqb-true, Decides-eqb, length-append, length-take, append-nil, IsDistinct-from_AllPairs, length-le_from_distinct_below, Block, Entry, absent}
+use Rattle.w16_arena.proofs.Common.{Heap, blocks, is_fixed, is_discardable, holds_still, Pinned, Loose, member_with, length-filter_both, eligible, is_member, is_about, is_pinned_id, Table, IsSound, hold_of_entry, block_with, entry_at, heap_in}
+use Rattle.w16_arena.proofs.Common.{is_listed, true-is_member, eligible_loose, Member, member_filter, eligible_by_members, Layout, ArenaState, Steps, IsSameRange, Discards, get_or, from_take, take_all, fold, ◌≢◌, first_here, passed_here}
 use Rattle.std.proofs.lemmas.List.{get_or_read, take_more}
 use Rattle.std.proofs.lemmas.List.Sums.{fold-append}
 use Rattle.w16_compact.proofs.Searched.{may_go}

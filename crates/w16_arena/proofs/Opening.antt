@@ -1,6 +1,9 @@
 -- A gap that was opened behind a block: the blocks that slid, and the bytes that are free for it.
 use Rattle.std.specs.List.{AllByRecursion as Each}
-use Rattle.w16_arena.proofs.Common.{◌≡◌, ℕ, ◌+◌, ◌<◌, ◌≤◌, ◌==◌, ◌⊎◌, inl, inr, cond, List, [], ◌∷◌, map, length, All, Some, refl, sym, ap, ◌∙◌, subst, arith, cases_lt, lt-ltb, le-ltb, eqb_tells, Block, Loose, Span, part, block_end, is_any, loose_bytes, IsClear, IsLaid, IsMultiple, block_with, Each-both, Layout, AreNamed, IsGrained, IsOrdered, all_but, IsCut, IsLaid-from, all_but_same, all_but_other, all_but_absent, rest_differs, with_same, with_other, each_with, All-all_but, Gap, HasRoom, contents, gathered, moved_between, packed, FitsGap, MayGather, with_loose, raised_in, opened, end_in, spare_in, clear_pinned, inside_is, cut_high, may_with, loose_one, loose_here, held, clear_held, contents_held, moved_from, moved_to, ordered_held, others_held, own_held, loose_most, may_low, may_high, by_reach, loose_skip, loose_split, Placed, EachTwo, Slides, AreMoved, AreFreeBytes, but_for}
+use Rattle.w16_arena.proofs.Common.{◌≡◌, ℕ, ◌+◌, ◌<◌, ◌≤◌, ◌==◌, ◌⊎◌, inl, inr, cond, List, [], ◌∷◌, map, length, All, Some, refl, sym, ap, ◌∙◌, subst, arith, cases_lt, lt-ltb, le-ltb, eqb_tells, Block, Loose, Span, part, block_end, is_any, loose_bytes}
+use Rattle.w16_arena.proofs.Common.{IsClear, IsLaid, IsMultiple, block_with, Each-both, Layout, AreNamed, IsGrained, IsOrdered, all_but, IsCut, IsLaid-from, all_but_same, all_but_other, all_but_absent, rest_differs, with_same, with_other, each_with}
+use Rattle.w16_arena.proofs.Common.{All-all_but, Gap, HasRoom, contents, gathered, moved_between, packed, FitsGap, MayGather, with_loose, raised_in, opened, end_in, spare_in, clear_pinned, inside_is, cut_high, may_with, loose_one, loose_here, held}
+use Rattle.w16_arena.proofs.Common.{clear_held, contents_held, moved_from, moved_to, ordered_held, others_held, own_held, loose_most, may_low, may_high, by_reach, loose_skip, loose_split, Placed, EachTwo, Slides, AreMoved, AreFreeBytes, but_for}
 use Rattle.w16_compact.specs.Gap.{without}
 use Rattle.w16_arena.proofs.Grown.{HasWay}
 use Rattle.w16_arena.proofs.ButFor.{two_own, moved_both, slides_ids, moved_but_for, own_lies, own_grained, behind_free}

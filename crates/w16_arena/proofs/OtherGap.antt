@@ -1,5 +1,7 @@
 -- A gap that is gathered for a block that stands elsewhere.
-use Rattle.w16_arena.proofs.Common.{◌≡◌, ℕ, ◌+◌, ◌<◌, ◌≤◌, ◌==◌, ◌⊎◌, inl, inr, IsTrue, List, [], ◌∷◌, length, All, Option, Some, None, refl, sym, ap, ◌∙◌, subst, arith, eq-eqb, cond-true, eqb_tells, Block, part, block_end, is_any, is_pinned, loose_bytes, IsClear, Misses, block_with, Each-from_All, All-from_Each, Layout, AreNamed, IsOrdered, all_but, all_but_same, all_but_other, all_but_absent, rest_differs, with_same, with_other, All-all_but, All-back, Gap, HasRoom, contents, gathered, moved_between, lies_outside, may_beside, loose_one, loose_skip, Slides, AreMoved, AreFreeBytes}
+use Rattle.w16_arena.proofs.Common.{◌≡◌, ℕ, ◌+◌, ◌<◌, ◌≤◌, ◌==◌, ◌⊎◌, inl, inr, IsTrue, List, [], ◌∷◌, length, All, Option, Some, None, refl, sym, ap, ◌∙◌, subst, arith, eq-eqb, cond-true, eqb_tells, Block, part, block_end}
+use Rattle.w16_arena.proofs.Common.{is_any, is_pinned, loose_bytes, IsClear, Misses, block_with, Each-from_All, All-from_Each, Layout, AreNamed, IsOrdered, all_but, all_but_same, all_but_other, all_but_absent, rest_differs}
+use Rattle.w16_arena.proofs.Common.{with_same, with_other, All-all_but, All-back, Gap, HasRoom, contents, gathered, moved_between, lies_outside, may_beside, loose_one, loose_skip, Slides, AreMoved, AreFreeBytes}
 use Rattle.w16_blocks.specs.Runs.{IsRun}
 use Rattle.w16_compact.specs.Gap.{without}
 use Rattle.w16_arena.proofs.ButFor.{moved_both, slides_ids, own_lies}
@@ -55,7 +57,10 @@ module _ {l : Layout} (ordered : IsOrdered l) (x : Block) (known : block_with l.
   pub all_free : {mid : Layout} → mid ≡ record l { blocks = gathered gap.low gap.high l.blocks } → IsClear is_any l.lo l.hi mid.blocks (gap.low + loose_bytes l.blocks gap.low gap.high) gap.high → AreFreeBytes mid n (gap.low + gap.loose)
   all_free value clear = gathered_free ordered room_all value clear
 
-  module _ {from : ℕ} (run : IsRun l (record { from = gap.low; to = from })) (top : from ≤ gap.high) {mid : Layout} (value : mid ≡ record l { blocks = gathered gap.low gap.high l.blocks }) (laid : IsOrdered mid) (memory after : List ℕ) (bytes : contents after mid.blocks ≡ contents memory l.blocks) (long : length after ≡ length memory)
+  module _ {from : ℕ} (run : IsRun l (record { from = gap.low; to = from })) (top : from ≤ gap.high) {mid : Layout}
+      (value : mid ≡ record l { blocks = gathered gap.low gap.high l.blocks }) (laid : IsOrdered mid)
+      (memory after : List ℕ) (bytes : contents after mid.blocks ≡ contents memory l.blocks)
+      (long : length after ≡ length memory)
       (small : All (λ b. b < 256) after) where
     pub all_moved : AreMoved from gap.high l memory mid after
     all_moved = gathered_moved ordered room_all run top value bytes long laid small

@@ -1,6 +1,7 @@
 -- Two lists of blocks, block by block.
 use Rattle.std.specs.List.{AllByRecursion as Each}
-use Rattle.w16_arena.proofs.Common.{◌≡◌, ℕ, ◌+◌, ◌≤◌, ◌⊎◌, inl, inr, true, false, eqb, List, [], ◌∷◌, Option, Some, None, refl, sym, ap, ◌∙◌, subst, arith, cases_lt, lt-ltb, le-ltb, eqb_tells, part, Block, Loose, block_end, IsLaid, block_with, Member, contents, gathered, packed, FitsGap, inside_is, EachTwo, Slides}
+use Rattle.w16_arena.proofs.Common.{◌≡◌, ℕ, ◌+◌, ◌≤◌, ◌⊎◌, inl, inr, true, false, eqb, List, [], ◌∷◌, Option, Some, None, refl, sym, ap, ◌∙◌, subst, arith, cases_lt, lt-ltb}
+use Rattle.w16_arena.proofs.Common.{le-ltb, eqb_tells, part, Block, Loose, block_end, IsLaid, block_with, Member, contents, gathered, packed, FitsGap, inside_is, EachTwo, Slides}
 
 pub two_same : (R : Block → Block → Type 0) → ((b : Block) → R b b) → (bs : List Block) → EachTwo R bs bs
 two_same R f [] = tt

@@ -1,5 +1,6 @@
 -- An object that got bytes while it was left out of the heap: of the whole heap the same holds.
-use Rattle.w16_arena.proofs.Common.{◌≡◌, ◌≢◌, ℕ, ◌+◌, ◌<◌, ◌≤◌, ◌⊎◌, not, ◌==◌, IsTrue, IfSome, Option, Some, None, unwrap_or, sym, ap, ◌∙◌, eq-eqb, inl, inr, nat_cmp, nat_cmp_total, FinMap, same_map, nat_cmp-IsAntisymmetric, cases_eq, false≢true, and_parts, Block, RoomOptions, Heap, Object, blocks, removed, stays_for, moved_bytes, Each-at, Each-from, Each-from_All, All-from_Each, IsBlockOf, block_member, member_block, inserted_here, inserted_other, taken_other, Stands, Placed}
+use Rattle.w16_arena.proofs.Common.{◌≡◌, ◌≢◌, ℕ, ◌+◌, ◌<◌, ◌≤◌, ◌⊎◌, not, ◌==◌, IsTrue, IfSome, Option, Some, None, unwrap_or, sym, ap, ◌∙◌, eq-eqb, inl, inr, nat_cmp, nat_cmp_total, FinMap, same_map, nat_cmp-IsAntisymmetric, cases_eq, false≢true, and_parts}
+use Rattle.w16_arena.proofs.Common.{Block, RoomOptions, Heap, Object, blocks, removed, stays_for, moved_bytes, Each-at, Each-from, Each-from_All, All-from_Each, IsBlockOf, block_member, member_block, inserted_here, inserted_other, taken_other, Stands, Placed}
 use Rattle.std.specs.FinMap as finmap
 
 -- what is put where something was taken away is as if nothing had been

@@ -1,6 +1,8 @@
 use Rattle.w16_arena.proofs.Written.{counted_none}
 -- A reallocation by its cases: an object without bytes, and one with a block.
-use Rattle.w16_arena.proofs.Common.{ArenaState, ◌≡◌, ℕ, ◌+◌, ◌-◌, ◌≤◌, Bool, true, false, not, ◌&&◌, ◌||◌, nat_lt, if◌then◌else◌, is_ok, IfSome, IsSomeAnd, IfOk, OnErr, List, length, slice_range, Option, Some, None, Result, Ok, Err, option_map, unwrap_or, sym, ap, ◌∙◌, subst, arith, counted, Block, Entry, RoomOptions, holds_still, Heap, Object, bytes_at, is_fixed, object_at, Allocates, Reallocates, ReallocatesObject, Table, IsSound, IsCountedBy, block_with, entry_at, heap_in, hold_of_entry, object_in, object_is, member_with, Layout, HasDiscarded, HasDiscardedFor, IsPlaced, IsResized, reallocation_prefix, Placed, NoRoom}
+use Rattle.w16_arena.proofs.Common.{ArenaState, ◌≡◌, ℕ, ◌+◌, ◌-◌, ◌≤◌, Bool, true, false, not, ◌&&◌, ◌||◌, nat_lt, if◌then◌else◌, is_ok, IfSome, IsSomeAnd, IfOk, OnErr, List, length, slice_range, Option, Some, None, Result, Ok, Err}
+use Rattle.w16_arena.proofs.Common.{option_map, unwrap_or, sym, ap, ◌∙◌, subst, arith, counted, Block, Entry, RoomOptions, holds_still, Heap, Object, bytes_at, is_fixed, object_at, Allocates, Reallocates, ReallocatesObject, Table}
+use Rattle.w16_arena.proofs.Common.{IsSound, IsCountedBy, block_with, entry_at, heap_in, hold_of_entry, object_in, object_is, member_with, Layout, HasDiscarded, HasDiscardedFor, IsPlaced, IsResized, reallocation_prefix, Placed, NoRoom}
 use Rattle.w16_arena.proofs.Lookups.{holds_at}
 use Rattle.w16_arena.proofs.Sized.{size_is, still_hold}
 

@@ -1,6 +1,10 @@
 -- An object that got more bytes, where it stood or elsewhere: what its call leaves kept and answers. It is looked at as if it had been absent.
 use Rattle.w16_arena.proofs.Keeping.{leaves_cleared, used_placed}
-use Rattle.w16_arena.proofs.Common.{◌≡◌, ℕ, ◌+◌, ◌-◌, ◌<◌, ◌≤◌, ◌⊎◌, inl, inr, Bool, true, false, not, ◌&&◌, ◌==◌, cond, if◌then◌else◌, IsTrue, IfSome, IsSomeAnd, All, List, length, get_or, set, slice_range, Option, Some, None, refl, sym, ap, ◌∙◌, subst, arith, eq-eqb, length-set, set-set, set-get_or, Block, Entry, RoomOptions, part, put_part, repeated, IsClear, Misses, is_any, Heap, Object, IsMultiple, blocks, is_discardable, without, IsGrown, StaysOrMovesToHole, is_elsewhere, moved_bytes, Table, IsCountedBy, block_with, heap_in, hold_of_entry, is_listed, Each-at, Each-from, Each-from_All, All-from_Each, EachPair-from_AllPairs, AllPairs-from_EachPair, pairs_filter, range_part, Layout, IsOrdered, all_but, placed, IsLaid-all_but, All-all_but, sum-all_but, moved_between, IsSameRest, Uses, GName, Placed, Stands, KeepsRest, table_of, heap_of, ArenaInvariant, but_for, AreMoved, AreFreeBytes, Leaves, Span, holes_of, AreSameIn, rest_wider}
+use Rattle.w16_arena.proofs.Common.{◌≡◌, ℕ, ◌+◌, ◌-◌, ◌<◌, ◌≤◌, ◌⊎◌, inl, inr, Bool, true, false, not, ◌&&◌, ◌==◌, cond, if◌then◌else◌, IsTrue, IfSome, IsSomeAnd, All, List, length, get_or, set, slice_range, Option, Some, None, refl, sym, ap, ◌∙◌, subst, arith}
+use Rattle.w16_arena.proofs.Common.{eq-eqb, length-set, set-set, set-get_or, Block, Entry, RoomOptions, part, put_part, repeated, IsClear, Misses, is_any, Heap, Object, IsMultiple, blocks, is_discardable, without, IsGrown, StaysOrMovesToHole, is_elsewhere}
+use Rattle.w16_arena.proofs.Common.{moved_bytes, Table, IsCountedBy, block_with, heap_in, hold_of_entry, is_listed, Each-at, Each-from, Each-from_All, All-from_Each, EachPair-from_AllPairs, AllPairs-from_EachPair, pairs_filter, range_part, Layout, IsOrdered}
+use Rattle.w16_arena.proofs.Common.{all_but, placed, IsLaid-all_but, All-all_but, sum-all_but, moved_between, IsSameRest, Uses, GName, Placed, Stands, KeepsRest, table_of, heap_of, ArenaInvariant, but_for, AreMoved, AreFreeBytes, Leaves, Span, holes_of, AreSameIn}
+use Rattle.w16_arena.proofs.Common.{rest_wider}
 use Rattle.std.specs.FinMap as finmap
 use Rattle.w16_arena.proofs.Parts.{AreParts}
 use Rattle.w16_arena.proofs.With.{with-without}

@@ -1,5 +1,7 @@
 -- An object under another id: the entries, the blocks and the order of use with its id changed, and the heap that they stand for.
-use Rattle.w16_arena.proofs.Common.{◌≡◌, ◌≢◌, ℕ, ◌+◌, ◌<◌, ◌≤◌, ◌==◌, true, false, cond, IfSome, IsSomeAnd, List, [], ◌∷◌, length, get_or, set, slice_range, Option, Some, None, option_map, is_some, refl, sym, ap, ◌∙◌, subst, arith, inl, inr, false≢true, ne_eqb, eqb_tells, get_or-set_same, get_or-set_other, length-set, AllByRecursion, Block, Entry, is_member, Heap, Object, IsSound, IsCountedBy, block_with, entry_at, object_in, hold_of_entry, is_listed, Layout, IsOrdered, holes_of, with_same, with_other, Uses, ArenaState, Steps, table_of, heap_of, holes_in, ArenaInvariant}
+use Rattle.w16_arena.proofs.Common.{◌≡◌, ◌≢◌, ℕ, ◌+◌, ◌<◌, ◌≤◌, ◌==◌, true, false, cond, IfSome, IsSomeAnd, List, [], ◌∷◌, length, get_or, set, slice_range, Option, Some, None, option_map, is_some, refl, sym, ap, ◌∙◌}
+use Rattle.w16_arena.proofs.Common.{subst, arith, inl, inr, false≢true, ne_eqb, eqb_tells, get_or-set_same, get_or-set_other, length-set, AllByRecursion, Block, Entry, is_member, Heap, Object, IsSound, IsCountedBy}
+use Rattle.w16_arena.proofs.Common.{block_with, entry_at, object_in, hold_of_entry, is_listed, Layout, IsOrdered, holes_of, with_same, with_other, Uses, ArenaState, Steps, table_of, heap_of, holes_in, ArenaInvariant}
 use Rattle.std.proofs.lemmas.List.{get_or_read}
 use Rattle.w16_model.specs.Resizes.{rehoused, rekeyed}
 use Rattle.w16_model.proofs.Rehoused.{swap_to, swap_from, swap_other, which, rekeyed_at}

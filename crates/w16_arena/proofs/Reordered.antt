@@ -1,5 +1,6 @@
 -- The order of use with one id taken out, or put at an end.
-use Rattle.w16_arena.proofs.Common.{◌≡◌, ◌≢◌, ℕ, Bool, true, false, not, ◌&&◌, ◌||◌, ◌==◌, List, [], ◌∷◌, AllPairs, refl, sym, ap, ◌∙◌, eq-eqb, ne_eqb, false≢true, not-true, or_parts, is_member, without, oldest, End, Oldest, Newest, at_end, Each-from, EachPair-from_AllPairs, AllPairs-from_EachPair, member_filter, pairs_filter, member_without, member_newest, newest_differ}
+use Rattle.w16_arena.proofs.Common.{◌≡◌, ◌≢◌, ℕ, Bool, true, false, not, ◌&&◌, ◌||◌, ◌==◌, List, [], ◌∷◌, AllPairs, refl, sym, ap, ◌∙◌, eq-eqb, ne_eqb, false≢true, not-true, or_parts, is_member, without}
+use Rattle.w16_arena.proofs.Common.{oldest, End, Oldest, Newest, at_end, Each-from, EachPair-from_AllPairs, AllPairs-from_EachPair, member_filter, pairs_filter, member_without, member_newest, newest_differ}
 use Rattle.w16_arena.proofs.Changed.{ReordersOne}
 
 and_true : (b : Bool) → (b && not false) ≡ b

@@ -1,5 +1,6 @@
 -- The heap after an object got another size where it stands.
-use Rattle.w16_arena.proofs.Common.{◌≡◌, ◌≢◌, ℕ, ◌+◌, ◌<◌, true, ◌&&◌, cond, IfSome, List, length, get_or, set, slice_range, Option, Some, None, option_map, refl, sym, ap, ◌∙◌, subst, inl, inr, nat_cmp, eq_by_cmp, nat_cmp_total, get-insert, cases_eq, set-get_or, Block, Entry, Heap, Object, object_at, is_discardable, with_object, IsCountedBy, block_with, hold_of_entry, is_listed, tied_itself, untied, Layout, IsOrdered, replaced, heap_of}
+use Rattle.w16_arena.proofs.Common.{◌≡◌, ◌≢◌, ℕ, ◌+◌, ◌<◌, true, ◌&&◌, cond, IfSome, List, length, get_or, set, slice_range, Option, Some, None, option_map, refl, sym, ap, ◌∙◌, subst, inl, inr, nat_cmp, eq_by_cmp, nat_cmp_total, get-insert}
+use Rattle.w16_arena.proofs.Common.{cases_eq, set-get_or, Block, Entry, Heap, Object, object_at, is_discardable, with_object, IsCountedBy, block_with, hold_of_entry, is_listed, tied_itself, untied, Layout, IsOrdered, replaced, heap_of}
 use Rattle.std.specs.FinMap as finmap
 use Rattle.w16_arena.proofs.Parts.{AreParts}
 use Rattle.w16_arena.proofs.With.{with-replaced}

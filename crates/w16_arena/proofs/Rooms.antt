@@ -1,5 +1,7 @@
 -- A place that was found or made, and how much there can be.
-use Rattle.w16_arena.proofs.Common.{find, ◌≡◌, ℕ, ◌-◌, ◌<◌, ◌≤◌, Bool, true, false, nat_le, IfSome, List, [], Option, Some, None, option_map, sym, subst, arith, Block, moved_between, moved_same, Span, ArePlaced, holes, room, longest_hole, laid_placed, Layout, IsOrdered, Placed, AreMoved, AreFreeBytes, most_for}
+use Rattle.w16_arena.proofs.Common.{find, ◌≡◌, ℕ, ◌-◌, ◌<◌, ◌≤◌, Bool, true, false, nat_le, IfSome, List, [], Option, Some, None, option_map, sym, subst, arith, Block}
+use Rattle.w16_arena.proofs.Common.{moved_between, moved_same, Span, ArePlaced, holes, room, longest_hole, laid_placed, Layout, IsOrdered, Placed, AreMoved, AreFreeBytes}
+use Rattle.w16_arena.proofs.Common.{most_for}
 use Rattle.w16_arena.proofs.Arranged.{same_moved, longest_in_room, free_fits, free_in_hole}
 use Rattle.w16_arena.proofs.Holes.{hole_found, hole_none}
 

@@ -1,5 +1,9 @@
 -- The single steps of an arena, by its value.
-use Rattle.w16_arena.proofs.Common.{◌≡◌, ℕ, ◌<◌, ◌≤◌, true, false, IfSome, IfNone, IsSomeAnd, List, length, replicate, get_or, set, Option, Some, None, Ok, is_some, refl, sym, ap, ◌∙◌, subst, arith, inl, inr, cases_eq, false≢true, length-set, length-replicate, Entry, Hold, Kind, is_member, Heap, object_at, removed, absent, with_object, newest, without, Enters, after_touch, refused_order, Table, IsSound, IsCountedBy, block_with, entry_at, hold_of_entry, heap_in, Layout, IsOrdered, all_but, holes_of, replaced, Lacks, AreHoles-holes, free_lacks, lacks_free, All-placed, All-all_but, All-back, All-first, same_holes, Block, IsLaid, holes, Each-at, member_with, Uses, ArenaState, Steps, table_of, heap_of, holes_in, after_end, ArenaInvariant, End, Newest, at_end}
+use Rattle.w16_arena.proofs.Common.{◌≡◌, ℕ, ◌<◌, ◌≤◌, true, false, IfSome, IfNone, IsSomeAnd, List, length, replicate, get_or, set, Option, Some, None, Ok, is_some, refl, sym, ap, ◌∙◌, subst, arith, inl, inr, cases_eq}
+use Rattle.w16_arena.proofs.Common.{false≢true, length-set, length-replicate, Entry, Hold, Kind, is_member, Heap, object_at, removed, absent, with_object, newest, without, Enters, after_touch, refused_order, Table}
+use Rattle.w16_arena.proofs.Common.{IsSound, IsCountedBy, block_with, entry_at, hold_of_entry, heap_in, Layout, IsOrdered, all_but, holes_of, replaced, Lacks, AreHoles-holes, free_lacks, lacks_free, All-placed}
+use Rattle.w16_arena.proofs.Common.{All-all_but, All-back, All-first, same_holes, Block, IsLaid, holes, Each-at, member_with, Uses, ArenaState, Steps, table_of, heap_of, holes_in, after_end, ArenaInvariant, End, Newest}
+use Rattle.w16_arena.proofs.Common.{at_end}
 use Rattle.w16_blocks.specs.Layout as layouts
 use Rattle.w16_arena.proofs.Lookups.{in_list, no_block, past_end}
 use Rattle.w16_arena.proofs.Reordered.{end_reorders}

@@ -1,5 +1,6 @@
 -- The heaps after one id's object is taken away, or put there.
-use Rattle.w16_arena.proofs.Common.{◌≡◌, ℕ, ◌+◌, ◌<◌, false, cond, List, length, set, slice_range, Option, Some, None, option_map, refl, sym, ap, ◌∙◌, inl, inr, nat_cmp, eq_by_cmp, nat_cmp_total, get-insert, get-remove, cases_eq, Block, Entry, Heap, Object, object_at, removed, with_object, block_with, is_listed, tied_itself, untied, Layout, all_but, heap_of}
+use Rattle.w16_arena.proofs.Common.{◌≡◌, ℕ, ◌+◌, ◌<◌, false, cond, List, length, set, slice_range, Option, Some, None, option_map, refl, sym, ap, ◌∙◌, inl, inr, nat_cmp, eq_by_cmp, nat_cmp_total}
+use Rattle.w16_arena.proofs.Common.{get-insert, get-remove, cases_eq, Block, Entry, Heap, Object, object_at, removed, with_object, block_with, is_listed, tied_itself, untied, Layout, all_but, heap_of}
 use Rattle.std.specs.FinMap as finmap
 use Rattle.w16_model.specs.Changes as changes
 use Rattle.w16_arena.proofs.Parts.{AreParts}

@@ -1,5 +1,8 @@
 -- The object of a block, and its reallocation by what was found and made for it.
-use Rattle.w16_arena.proofs.Common.{◌≡◌, ℕ, ◌+◌, ◌<◌, ◌≤◌, Bool, true, false, not, ◌&&◌, nat_le, cond, MatchBool, IsSomeAnd, IsTrue, List, [], ◌∷◌, length, take, get_or, slice_range, Option, Some, None, option_map, unwrap_or, refl, sym, ap, ◌∙◌, subst, arith, le-leb, inl, inr, lt-leb, eqb_tells, Block, Entry, Hold, Pinned, Loose, RoomOptions, holds_still, block_end, first_from, hole_after, is_any, fits_in_place, growth_for, snapshot, Heap, Object, IsMultiple, blocks, object_at, bytes_at, is_pinned_object, with_object, Request, IsGrown, Grows, Reallocates, ReallocatesObject, StaysOrMovesToHole, snapshot_of, Table, IsSound, block_with, heap_in, hold_of_entry, object_in, Member, Each-at, Each-from, first_from-below, first_from-greatest, block_member, length_range, member_with, table_block, Layout, laid_le, reallocation_prefix}
+use Rattle.w16_arena.proofs.Common.{◌≡◌, ℕ, ◌+◌, ◌<◌, ◌≤◌, Bool, true, false, not, ◌&&◌, nat_le, cond, MatchBool, IsSomeAnd, IsTrue, List, [], ◌∷◌, length, take, get_or, slice_range, Option, Some, None, option_map, unwrap_or, refl, sym}
+use Rattle.w16_arena.proofs.Common.{ap, ◌∙◌, subst, arith, le-leb, inl, inr, lt-leb, eqb_tells, Block, Entry, Hold, Pinned, Loose, RoomOptions, holds_still, block_end, first_from, hole_after, is_any, fits_in_place, growth_for, snapshot}
+use Rattle.w16_arena.proofs.Common.{Heap, Object, IsMultiple, blocks, object_at, bytes_at, is_pinned_object, with_object, Request, IsGrown, Grows, Reallocates, ReallocatesObject, StaysOrMovesToHole, snapshot_of, Table, IsSound, block_with}
+use Rattle.w16_arena.proofs.Common.{heap_in, hold_of_entry, object_in, Member, Each-at, Each-from, first_from-below, first_from-greatest, block_member, length_range, member_with, table_block, Layout, laid_le, reallocation_prefix}
 use Rattle.std.specs.FinMap as finmap
 use Rattle.std.specs.List.{AllByRecursion as Each}
 use Rattle.w16_arena.proofs.Parts.{AreParts}

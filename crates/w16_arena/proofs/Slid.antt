@@ -1,5 +1,6 @@
 -- The heap of parts whose blocks slid: the same objects at other addresses.
-use Rattle.w16_arena.proofs.Common.{◌≡◌, ℕ, ◌+◌, ◌<◌, ◌≤◌, ◌⊎◌, inl, inr, ◌&&◌, IsTrue, IfSome, IsSomeAnd, is_some, List, get_or, slice_range, Option, Some, None, option_map, refl, sym, ap, ◌∙◌, subst, arith, false≢true, range_part, Block, Entry, block_end, is_pinned, holds_still, Object, object_at, is_discardable, IsCountedBy, block_with, hold_of_entry, is_listed, Each-at, laid_each, member_with, Layout, heap_of, Slides, AreMoved}
+use Rattle.w16_arena.proofs.Common.{◌≡◌, ℕ, ◌+◌, ◌<◌, ◌≤◌, ◌⊎◌, inl, inr, ◌&&◌, IsTrue, IfSome, IsSomeAnd, is_some, List, get_or, slice_range, Option, Some, None, option_map, refl, sym, ap, ◌∙◌, subst, arith, false≢true, range_part}
+use Rattle.w16_arena.proofs.Common.{Block, Entry, block_end, is_pinned, holds_still, Object, object_at, is_discardable, IsCountedBy, block_with, hold_of_entry, is_listed, Each-at, laid_each, member_with, Layout, heap_of, Slides, AreMoved}
 use Rattle.std.specs.FinMap as finmap
 use Rattle.w16_arena.proofs.Parts.{AreParts}
 use Rattle.w16_arena.proofs.Pairs.{BothOrNone, with_two}

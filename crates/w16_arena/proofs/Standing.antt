@@ -1,5 +1,7 @@
 -- An object at a place that was found or made: what its call asks, and the heap after it. Its id has no block before.
-use Rattle.w16_arena.proofs.Common.{◌≡◌, ◌≢◌, ℕ, ◌+◌, ◌<◌, ◌≤◌, ◌⊎◌, inl, inr, Bool, true, false, not, ◌&&◌, ◌||◌, ◌==◌, IsTrue, IfSome, List, length, set, slice_range, Option, Some, None, option_map, refl, sym, ap, ◌∙◌, subst, arith, nat_cmp_total, same_map, nat_cmp-IsAntisymmetric, false≢true, cases_Bool, and_parts, Block, Entry, Hold, RoomOptions, is_pinned, Heap, Object, IsMultiple, blocks, is_discardable, stays_for, block_with, hold_of_entry, Member, Each-from, Each-at, All-from_Each, Layout, IsOrdered, Fits, placed, moved_between, Placed, Stands, table_of, heap_of, Slides, AreMoved, AreFreeBytes}
+use Rattle.w16_arena.proofs.Common.{◌≡◌, ◌≢◌, ℕ, ◌+◌, ◌<◌, ◌≤◌, ◌⊎◌, inl, inr, Bool, true, false, not, ◌&&◌, ◌||◌, ◌==◌, IsTrue, IfSome, List, length, set, slice_range, Option, Some, None, option_map, refl, sym, ap, ◌∙◌, subst}
+use Rattle.w16_arena.proofs.Common.{arith, nat_cmp_total, same_map, nat_cmp-IsAntisymmetric, false≢true, cases_Bool, and_parts, Block, Entry, Hold, RoomOptions, is_pinned, Heap, Object, IsMultiple, blocks, is_discardable}
+use Rattle.w16_arena.proofs.Common.{stays_for, block_with, hold_of_entry, Member, Each-from, Each-at, All-from_Each, Layout, IsOrdered, Fits, placed, moved_between, Placed, Stands, table_of, heap_of, Slides, AreMoved, AreFreeBytes}
 use Rattle.std.specs.FinMap as finmap
 use Rattle.w16_arena.proofs.Parts.{AreParts}
 use Rattle.w16_arena.proofs.Lookups.{is_heap, place_here}

@@ -1,5 +1,7 @@
 -- The steps that ask for no room: what each leaves kept, and the heap after it, in every memory.
-use Rattle.w16_arena.proofs.Common.{◌≡◌, ℕ, zero, suc, ◌+◌, ◌<◌, ◌≤◌, ◌==◌, Bool, true, false, cond, ◌&&◌, IfSome, IfNone, IsSomeAnd, AllPairs, replicate, List, [], ◌∷◌, length, get_or, set, slice_range, Option, Some, None, option_map, is_some, refl, sym, ap, ◌∙◌, subst, inl, inr, arith, cases_eq, length-replicate, Block, Entry, Hold, Kind, is_member, Heap, Object, object_at, is_discardable, removed, absent, with_object, touched, newest, without, Enters, IsSound, IsCountedBy, block_with, hold_of_entry, object_in, is_listed, get-update_same, get-update_other, taken_here, taken_other, Layout, IsOrdered, replaced, member_with, Uses, ArenaState, Steps, table_of, heap_of, ArenaInvariant}
+use Rattle.w16_arena.proofs.Common.{◌≡◌, ℕ, zero, suc, ◌+◌, ◌<◌, ◌≤◌, ◌==◌, Bool, true, false, cond, ◌&&◌, IfSome, IfNone, IsSomeAnd, AllPairs, replicate, List, [], ◌∷◌, length, get_or, set, slice_range, Option, Some, None, option_map, is_some, refl, sym}
+use Rattle.w16_arena.proofs.Common.{ap, ◌∙◌, subst, inl, inr, arith, cases_eq, length-replicate, Block, Entry, Hold, Kind, is_member, Heap, Object, object_at, is_discardable, removed, absent, with_object, touched, newest, without, Enters, IsSound}
+use Rattle.w16_arena.proofs.Common.{IsCountedBy, block_with, hold_of_entry, object_in, is_listed, get-update_same, get-update_other, taken_here, taken_other, Layout, IsOrdered, replaced, member_with, Uses, ArenaState, Steps, table_of, heap_of, ArenaInvariant}
 use Rattle.std.specs.FinMap as finmap
 use Rattle.w16_blocks.specs.Layout as layouts
 use Rattle.w16_arena.proofs.Parts.{AreParts}

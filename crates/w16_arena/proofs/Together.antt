@@ -1,5 +1,6 @@
 -- Blocks that have slid together, and nothing else: what is kept, and the heap after it.
-use Rattle.w16_arena.proofs.Common.{arith, ◌≡◌, ℕ, ◌<◌, ◌≤◌, IsTrue, All, List, length, Option, Some, refl, sym, ap, ◌∙◌, subst, nat_cmp_total, same_map, nat_cmp-IsAntisymmetric, Entry, Span, is_pinned, longest_hole, Heap, blocks, Settles, heap_in, Each-from, All-from_Each, table_longest, Layout, moved_between, Uses, SlidesTogether, IsStill, Compacted, GName, IsSameRest, ArenaState, KeepsRest, table_of, heap_of, ArenaInvariant, AreMoved, Leaves, holes_of}
+use Rattle.w16_arena.proofs.Common.{arith, ◌≡◌, ℕ, ◌<◌, ◌≤◌, IsTrue, All, List, length, Option, Some, refl, sym, ap, ◌∙◌, subst, nat_cmp_total, same_map, nat_cmp-IsAntisymmetric, Entry, Span, is_pinned, longest_hole, Heap, blocks, Settles, heap_in}
+use Rattle.w16_arena.proofs.Common.{Each-from, All-from_Each, table_longest, Layout, moved_between, Uses, SlidesTogether, IsStill, Compacted, GName, IsSameRest, ArenaState, KeepsRest, table_of, heap_of, ArenaInvariant, AreMoved, Leaves, holes_of}
 use Rattle.std.specs.FinMap as finmap
 use Rattle.w16_arena.proofs.Parts.{AreParts}
 use Rattle.w16_arena.proofs.Lookups.{is_heap}

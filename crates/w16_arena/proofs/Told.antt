@@ -1,5 +1,6 @@
 -- What the single steps of a heap say, by what it has at an id.
-use Rattle.w16_arena.proofs.Common.{◌≡◌, ℕ, ◌+◌, ◌-◌, ◌==◌, ◌||◌, true, false, nat_lt, is_some, Some, None, Ok, Err, refl, Kind, Heap, Object, object_at, is_fixed, is_discardable, absent, removed, touched, with_object, with_ordered, after_lock, after_unlock, after_free, after_discard, after_modify, refused_order, after_newest, after_oldest, End, Oldest, Newest, at_end, after_end, relisted}
+use Rattle.w16_arena.proofs.Common.{◌≡◌, ℕ, ◌+◌, ◌-◌, ◌==◌, ◌||◌, true, false, nat_lt, is_some, Some, None, Ok, Err, refl, Kind, Heap, Object, object_at, is_fixed, is_discardable, absent, removed, touched, with_object}
+use Rattle.w16_arena.proofs.Common.{with_ordered, after_lock, after_unlock, after_free, after_discard, after_modify, refused_order, after_newest, after_oldest, End, Oldest, Newest, at_end, after_end, relisted}
 use Rattle.w16_model.specs.declared.Refusal.TheVariants as refusals
 
 module _ (heap : Heap) (id : ℕ) where

@@ -1,6 +1,8 @@
 -- The first part of a heap at or above an address.
 use Rattle.std.specs.List.{AllByRecursion as Each}
-use Rattle.w16_arena.proofs.Common.{◌≡◌, ℕ, zero, suc, ◌+◌, ◌-◌, ◌<◌, ◌≤◌, ◌⊎◌, inl, inr, All, IsTrue, IfSome, IsSomeAnd, List, [], ◌∷◌, length, slice_range, MatchOption, Option, Some, None, option_map, slice_get, refl, sym, ap, ◌∙◌, subst, arith, cases_lt, Block, Entry, Item, Owner, IsLaid, IsHole, IsClear, Misses, block_end, is_any, Object, blocks, Table, IsSound, block_with, entry_at, heap_in, object_in, hold_of_entry, IsItem, IsFirstItem, by_its_id, Member, Each-at, Each-from, Each-from_All, All-from_Each, laid_each, table_block, member_with, length_range, block_member, Layout, rank, clear_from, gap_same, missed}
+use Rattle.w16_arena.proofs.Common.{◌≡◌, ℕ, zero, suc, ◌+◌, ◌-◌, ◌<◌, ◌≤◌, ◌⊎◌, inl, inr, All, IsTrue, IfSome, IsSomeAnd, List, [], ◌∷◌, length, slice_range, MatchOption, Option, Some, None, option_map, slice_get, refl, sym, ap}
+use Rattle.w16_arena.proofs.Common.{◌∙◌, subst, arith, cases_lt, Block, Entry, Item, Owner, IsLaid, IsHole, IsClear, Misses, block_end, is_any, Object, blocks, Table, IsSound, block_with, entry_at, heap_in, object_in, hold_of_entry}
+use Rattle.w16_arena.proofs.Common.{IsItem, IsFirstItem, by_its_id, Member, Each-at, Each-from, Each-from_All, All-from_Each, laid_each, table_block, member_with, length_range, block_member, Layout, rank, clear_from, gap_same, missed}
 use Rattle.w16_arena.proofs.Next.{IsNext, next_is}
 use Rattle.w16_arena.proofs.Listed.{is_listed, listed_with}
 use Rattle.w16_arena.proofs.Lookups.{object_here, place_here, ends_in_memory, holds_at}
@@ -105,7 +107,10 @@ module _ {t : Table} (sound : IsSound t) (memory : List ℕ) (whole : t.hi ≤ l
           let same_at : x.at ≡ at = cc in
           let object : (option_map (length {A = ℕ}) (option_map (λ (x : Block). slice_range memory x.at (x.at + x.size)) (block_with t.blocks item.0)) ≡ Some size) × (owner.kind ≡ e.kind) × (owner.locks ≡ e.locks) =
           subst (λ (o : Option Object). IsSomeAnd o (λ o. (option_map length o.bytes ≡ Some size) × (owner.kind ≡ o.kind) × (owner.locks ≡ o.locks))) (object_here parts item.0 ∙ ap (option_map (object_in t.blocks memory item.0)) is) item.2.object in
-          let sizes : ◌≡◌ {A = Option ℕ} (Some x.size) (Some size) = sym (ap (λ (b : Option Block). option_map (length {A = ℕ}) (option_map (λ (x : Block). slice_range memory x.at (x.at + x.size)) b)) here ∙ ap Some (length_range memory x.at x.size (ends_in_memory parts item.0 x here).1)) ∙ object.0 in
+          let sizes : ◌≡◌ {A = Option ℕ} (Some x.size) (Some size) = sym
+          (ap (λ (b : Option Block). option_map (length {A = ℕ})
+          (option_map (λ (x : Block). slice_range memory x.at (x.at + x.size)) b)) here ∙ ap Some
+          (length_range memory x.at x.size (ends_in_memory parts item.0 x here).1)) ∙ object.0 in
           let same_size : x.size ≡ size = cc in
           let name : owner.name ≡ x.id = item.1 ∙ sym m.1 in
           let one : ◌≡◌ {A = Item} (record { at = at; size = size; owner = Some owner }) (item_of x e) =

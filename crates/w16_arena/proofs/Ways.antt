@@ -1,5 +1,7 @@
 -- When there is a place where an object may grow, and what the place tells.
-use Rattle.w16_arena.proofs.Common.{◌≡◌, ℕ, ◌+◌, ◌-◌, ◌<◌, ◌≤◌, ◌==◌, Bool, true, false, nat_le, IsTrue, IfSome, List, [], Option, Some, None, refl, sym, ap, ◌∙◌, subst, arith, le-leb, eq-eqb, ForSome, cond-true, false≢true, lt-leb, or_from, or_left, or_right, Block, fits_in_place, snapshot, block_end, hole_after, is_any, longest_hole, room, IsClear, Misses, block_with, All-from_Each, Each-map, Layout, IsOrdered, all_but, with_id, moved_same, ordered_without, Placed, AreMoved, AreFreeBytes, but_for, may_grow, HasGrown}
+use Rattle.w16_arena.proofs.Common.{◌≡◌, ℕ, ◌+◌, ◌-◌, ◌<◌, ◌≤◌, ◌==◌, Bool, true, false, nat_le, IsTrue, IfSome, List, [], Option, Some, None, refl, sym, ap, ◌∙◌, subst, arith, le-leb, eq-eqb, ForSome}
+use Rattle.w16_arena.proofs.Common.{cond-true, false≢true, lt-leb, or_from, or_left, or_right, Block, fits_in_place, snapshot, block_end, hole_after, is_any, longest_hole, room, IsClear, Misses}
+use Rattle.w16_arena.proofs.Common.{block_with, All-from_Each, Each-map, Layout, IsOrdered, all_but, with_id, moved_same, ordered_without, Placed, AreMoved, AreFreeBytes, but_for, may_grow, HasGrown}
 use Rattle.w16_arena.proofs.Arranged.{free_fits, same_moved}
 use Rattle.w16_arena.proofs.Grown.{HasWay}
 use Rattle.w16_arena.proofs.ButFor.{behind_free, hole_clear}

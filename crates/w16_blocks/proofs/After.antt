@@ -1,5 +1,6 @@
 -- The hole that begins where a block ends.
-use Rattle.w16_blocks.proofs.Common.{ℕ, suc, ◌≡◌, ◌≢◌, ◌-◌, ◌<◌, ◌≤◌, List, [], ◌∷◌, Some, is_some, arith, refl, sym, ap, ◌∙◌, inl, inr, eq-eqb, cases_lt, lt-ltb, le-ltb, ne_eqb, false≢true, eqb_tells, Block, Span, IsLaid, block_end, holes, hole_after, block_with, holes-cons, laid_each, first_hole_end, first_behind, AreHoles, add_span, length_at}
+use Rattle.w16_blocks.proofs.Common.{ℕ, suc, ◌≡◌, ◌≢◌, ◌-◌, ◌<◌, ◌≤◌, List, [], ◌∷◌, Some, is_some, arith, refl, sym, ap, ◌∙◌, inl, inr, eq-eqb, cases_lt, lt-ltb, le-ltb, ne_eqb, false≢true}
+use Rattle.w16_blocks.proofs.Common.{eqb_tells, Block, Span, IsLaid, block_end, holes, hole_after, block_with, holes-cons, laid_each, first_hole_end, first_behind, AreHoles, add_span, length_at}
 use Rattle.w16_blocks.proofs.Remove.{with_same, with_other, each_with}
 use Rattle.w16_blocks.proofs.Free.{AreHoles-holes}
 

@@ -1,5 +1,6 @@
 -- The list of blocks that a table and its cells tell.
-use Rattle.w16_blocks.proofs.Common.{ℕ, zero, suc, ◌≡◌, ◌≢◌, ◌+◌, ◌*◌, ◌<◌, ◌≤◌, List, [], ◌∷◌, length, set, Some, None, is_some, eq-eqb, arith, refl, sym, ap, ◌∙◌, subst, inl, inr, slice_index, eqb_tells, get_or-set_other, AllByRecursion, Block, block_with, placed, all_but, no_block, slot_of, blocks_in, AreBegun, ne_eqb, false≢true}
+use Rattle.w16_blocks.proofs.Common.{ℕ, zero, suc, ◌≡◌, ◌≢◌, ◌+◌, ◌*◌, ◌<◌, ◌≤◌, List, [], ◌∷◌, length, set, Some, None, is_some, eq-eqb, arith, refl, sym, ap, ◌∙◌, subst, inl, inr}
+use Rattle.w16_blocks.proofs.Common.{slice_index, eqb_tells, get_or-set_other, AllByRecursion, Block, block_with, placed, all_but, no_block, slot_of, blocks_in, AreBegun, ne_eqb, false≢true}
 use Rattle.w16_blocks.proofs.Place.{placed_first, placed_after}
 use Rattle.w16_blocks.proofs.Remove.{all_but_same, all_but_other, all_but_absent, with_same, with_other, with_none}
 

@@ -15,13 +15,17 @@ pub use Rattle.w16_blocks.specs.Layout.{AreNamed, Fits, FitsFor, IsApart, IsGrai
 pub use Rattle.w16_blocks.specs.Parts.{IsBehindAll, IsFirstBlock, IsFirstHole}
 pub use Rattle.w16_blocks.specs.Runs.{IsBare, IsCut, IsRun, slid_with}
 pub use Rattle.w16_blocks.specs.Stay.{AreSameOutsideBoth, HasRange, Leaves}
-pub use Rattle.w16_holes.proofs.Common.{AreHoles, AreSameIn, AreSameOutside, IsFree, IsIn, IsPart, IsPlace, IsSameOutside, IsUsed, Range, add_span, drop-put_part, eqb_tells, get_or-set_other, get_or-set_same, joined, le-ltb, length-put_part, length-replicate, length-set, length_at, lt-ltb, part_above, part_below, set-get_or, slice_index, take-put_part, taken, ◌^◌}
+pub use Rattle.w16_holes.proofs.Common.{AreHoles, AreSameIn, AreSameOutside, IsFree, IsIn, IsPart, IsPlace, IsSameOutside, IsUsed, Range, add_span, drop-put_part, eqb_tells, get_or-set_other, get_or-set_same}
+pub use Rattle.w16_holes.proofs.Common.{joined, le-ltb, length-put_part, length-replicate, length-set, length_at, lt-ltb, part_above, part_below, set-get_or, slice_index, take-put_part, taken, ◌^◌}
 pub use Rattle.w16_holes.specs.Holes.{AreSameBut, slid_down}
 pub use Rattle.w16_holes.specs.declared.holes.TheConstants.{LAST_END}
 pub use Rattle.w16_holes.proofs.Sets.{AreHoles-joined, AreHoles-taken, in_joined, in_taken, joined_in, low, same_holes, taken_in}
 pub use Rattle.w16_holes.proofs.Units.{above, below, multiple_less, multiple_sum, up, whole_units}
 pub use Rattle.w16_holes.proofs.Write.{AreSameIn-put_part}
-pub use Rattle.w16_model.proofs.Common.{AreAllOf, Bool, IfSome, IsHole, IsLaid, IsMultiple, IsTrue, List, MatchOption, Misses, [], add-one, ap, arith, block_end, block_with, cases_lt, common_steps, cond, drop, eq-eqb, false, false≢true, filter, first_from, get_or, holds_still, hole_after, holes, inl, inr, is_any, is_pinned, is_some, length, length-take-le, lt-leb, map, max, min, nat_le, nat_lt, or_cases, part, put_part, refl, replicate, rules, set, slice_get, subst, suc, sum_by, sum_by-cons, sym, take, take_all, true, zero, ℕ, ◌*◌, ◌+◌, ◌-◌, ◌/◌, ◌<◌, ◌==◌, ◌||◌, ◌∙◌, ◌∷◌, ◌≡◌, ◌≢◌, ◌≤◌, ◌⊎◌}
+pub use Rattle.w16_model.proofs.Common.{AreAllOf, Bool, IfSome, IsHole, IsLaid, IsMultiple, IsTrue, List, MatchOption, Misses, [], add-one, ap, arith, block_end, block_with, cases_lt, common_steps, cond, drop, eq-eqb, false}
+pub use Rattle.w16_model.proofs.Common.{false≢true, filter, first_from, get_or, holds_still, hole_after, holes, inl, inr, is_any, is_pinned, is_some, length, length-take-le, lt-leb, map, max, min, nat_le, nat_lt, or_cases}
+pub use Rattle.w16_model.proofs.Common.{part, put_part, refl, replicate, rules, set, slice_get, subst, suc, sum_by, sum_by-cons, sym, take, take_all, true, zero, ℕ, ◌*◌, ◌+◌, ◌-◌, ◌/◌, ◌<◌, ◌==◌, ◌||◌, ◌∙◌, ◌∷◌, ◌≡◌, ◌≢◌, ◌≤◌}
+pub use Rattle.w16_model.proofs.Common.{◌⊎◌}
 pub use Rattle.w16_model.proofs.Gaps.{All-from_Each, Each-at, Each-both, Each-from_All, Each-map, Member}
 pub use Rattle.w16_model.proofs.Laid.{first_behind, first_hole_end, holes-cons, laid_each, laid_placed}
 pub use Rattle.w16_model.proofs.Parts.{part-put_part}

@@ -1,5 +1,6 @@
 -- What is kept where a block is added, taken away or changed.
-use Rattle.w16_blocks.proofs.Common.{ℕ, suc, ◌≡◌, ◌+◌, ◌-◌, ◌*◌, ◌^◌, ◌<◌, ◌≤◌, List, length, set, Some, sum_by, arith, refl, sym, ap, ◌∙◌, subst, slice_index, Block, Hold, Span, block_end, holes, IsMultiple, block_with, Range, IsFree, IsUsed, IsPart, taken, joined, Layout, Fits, FitsFor, placed, all_but, replaced, no_block, slot_of, blocks_in, layout_in, pins_of, pins_in, AreTables, BlocksInvariant}
+use Rattle.w16_blocks.proofs.Common.{ℕ, suc, ◌≡◌, ◌+◌, ◌-◌, ◌*◌, ◌^◌, ◌<◌, ◌≤◌, List, length, set, Some, sum_by, arith, refl, sym, ap, ◌∙◌, subst, slice_index, Block, Hold, Span, block_end, holes, IsMultiple, block_with}
+use Rattle.w16_blocks.proofs.Common.{Range, IsFree, IsUsed, IsPart, taken, joined, Layout, Fits, FitsFor, placed, all_but, replaced, no_block, slot_of, blocks_in, layout_in, pins_of, pins_in, AreTables, BlocksInvariant}
 use Rattle.w16_blocks.proofs.Cells.{with_cell}
 use Rattle.w16_blocks.proofs.Place.{sum-placed}
 use Rattle.w16_blocks.proofs.Remove.{with_id, sum-all_but}

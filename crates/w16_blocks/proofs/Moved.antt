@@ -1,5 +1,6 @@
 -- A block that gets a place elsewhere, at least as long as its own: the new place is taken from a hole, and the old one is put.
-use Rattle.w16_blocks.proofs.Common.{ℕ, ◌≡◌, ◌<◌, ◌≤◌, ◌+◌, ◌^◌, ◌⊎◌, List, Some, arith, subst, inl, inr, Block, Span, block_end, holes, block_with, Each-map, AreHoles, IsFree, IsUsed, IsPart, taken, joined, IsIn, AreHoles-taken, taken_in, in_taken, AreHoles-joined, joined_in, in_joined, Layout, IsApart, IsOrdered, FitsFor, all_but, replaced, range_of, holes_of}
+use Rattle.w16_blocks.proofs.Common.{ℕ, ◌≡◌, ◌<◌, ◌≤◌, ◌+◌, ◌^◌, ◌⊎◌, List, Some, arith, subst, inl, inr, Block, Span, block_end, holes, block_with, Each-map, AreHoles, IsFree, IsUsed, IsPart, taken}
+use Rattle.w16_blocks.proofs.Common.{joined, IsIn, AreHoles-taken, taken_in, in_taken, AreHoles-joined, joined_in, in_joined, Layout, IsApart, IsOrdered, FitsFor, all_but, replaced, range_of, holes_of}
 use Rattle.w16_blocks.proofs.Remove.{All-back}
 use Rattle.w16_blocks.proofs.Free.{Lacks, AreHoles-holes, lacks_free, used_of, free_of}
 use Rattle.w16_blocks.proofs.Step.{lies, lacks_known, holes_moved}

@@ -1,5 +1,6 @@
 -- What is kept where a block gets a place elsewhere, at least as long as its own.
-use Rattle.w16_blocks.proofs.Common.{ℕ, suc, ◌≡◌, ◌+◌, ◌-◌, ◌*◌, ◌≤◌, List, length, set, Some, arith, refl, sym, ap, ◌∙◌, subst, inl, inr, Block, Span, holes, block_with, part, put_part, Range, IsFree, IsUsed, IsPart, AreSameIn, AreSameOutside, taken, joined, Layout, IsApart, FitsFor, all_but, replaced, holes_of, blocks_in, layout_in, BlocksInvariant, AreSameOutsideBoth}
+use Rattle.w16_blocks.proofs.Common.{ℕ, suc, ◌≡◌, ◌+◌, ◌-◌, ◌*◌, ◌≤◌, List, length, set, Some, arith, refl, sym, ap, ◌∙◌, subst, inl, inr, Block, Span, holes, block_with, part, put_part, Range, IsFree}
+use Rattle.w16_blocks.proofs.Common.{IsUsed, IsPart, AreSameIn, AreSameOutside, taken, joined, Layout, IsApart, FitsFor, all_but, replaced, holes_of, blocks_in, layout_in, BlocksInvariant, AreSameOutsideBoth}
 use Rattle.w16_blocks.proofs.Place.{sum-placed}
 use Rattle.w16_blocks.proofs.Ordered.{IsOrdered-placed, IsOrdered-all_but, sum_fits}
 use Rattle.w16_blocks.proofs.Step.{part_known}

@@ -1,5 +1,6 @@
 -- The first block from a place on, by the cells from a unit on.
-use Rattle.w16_blocks.proofs.Common.{ℕ, zero, suc, ◌≡◌, ◌+◌, ◌-◌, ◌*◌, ◌/◌, ◌<◌, ◌≤◌, ◌⊎◌, max, List, [], ◌∷◌, length, drop, Some, None, arith, refl, sym, ap, ◌∙◌, inl, inr, slice_index, slice_get, cases_lt, lt-ltb, le-ltb, eqb_tells, AllByRecursion, Block, Span, laid_each, block_end, holes, IsPlace, length_at, IsIn, div_ceil, div_ceil_times, up, above, multiple_sum, rank, slot_of, blocks_in, AreBegun, AreTables, Layout, layout_in}
+use Rattle.w16_blocks.proofs.Common.{ℕ, zero, suc, ◌≡◌, ◌+◌, ◌-◌, ◌*◌, ◌/◌, ◌<◌, ◌≤◌, ◌⊎◌, max, List, [], ◌∷◌, length, drop, Some, None, arith, refl, sym, ap, ◌∙◌, inl, inr, slice_index, slice_get, cases_lt, lt-ltb, le-ltb, eqb_tells}
+use Rattle.w16_blocks.proofs.Common.{AllByRecursion, Block, Span, laid_each, block_end, holes, IsPlace, length_at, IsIn, div_ceil, div_ceil_times, up, above, multiple_sum, rank, slot_of, blocks_in, AreBegun, AreTables, Layout, layout_in}
 use Rattle.w16_blocks.proofs.Cells.{All-told, each_told, begun_rest}
 use Rattle.w16_blocks.proofs.Free.{Lacks, free_lacks}
 

@@ -1,5 +1,7 @@
 -- A layout stays ordered where a block is added or taken away.
-use Rattle.w16_blocks.proofs.Common.{ℕ, ◌≡◌, ◌≢◌, ◌+◌, ◌<◌, ◌≤◌, ◌^◌, Bool, List, [], ◌∷◌, length, map, eqb, true, false, ◌||◌, nat_lt, sum_by, refl, arith, sym, ap, ◌∙◌, inl, inr, ne_eqb, eqb-true, or_cases, false≢true, length-map, sum_by-cons, length-le_from_distinct_below, AllByRecursion, list_any, IsDistinct, Block, Hold, Pinned, Loose, IsLaid, block_end, is_pinned, holds_still, Layout, AreNamed, IsGrained, IsOrdered, Fits, placed, all_but, pins_of, pins_in}
+use Rattle.w16_blocks.proofs.Common.{ℕ, ◌≡◌, ◌≢◌, ◌+◌, ◌<◌, ◌≤◌, ◌^◌, Bool, List, [], ◌∷◌, length, map, eqb, true, false, ◌||◌, nat_lt, sum_by, refl, arith, sym, ap, ◌∙◌, inl, inr, ne_eqb, eqb-true, or_cases, false≢true, length-map, sum_by-cons}
+use Rattle.w16_blocks.proofs.Common.{length-le_from_distinct_below, AllByRecursion, list_any, IsDistinct, Block, Hold, Pinned, Loose, IsLaid, block_end, is_pinned, holds_still, Layout, AreNamed, IsGrained, IsOrdered, Fits, placed, all_but, pins_of}
+use Rattle.w16_blocks.proofs.Common.{pins_in}
 use Rattle.std.proofs.Common.{lt-ltb}
 use Rattle.w16_blocks.proofs.Place.{All-placed, IsLaid-placed, AreNamed-placed}
 use Rattle.w16_blocks.proofs.Remove.{All-all_but, IsLaid-all_but, AreNamed-all_but}

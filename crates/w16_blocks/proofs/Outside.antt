@@ -1,5 +1,6 @@
 -- What a step on blocks leaves of the bytes, where it keeps those that no hole has: each block's, and all outside the bounds.
-use Rattle.w16_blocks.proofs.Common.{Range, IsPart, Layout, range_of, ap, ℕ, ◌≡◌, ◌+◌, ◌-◌, ◌<◌, ◌≤◌, List, [], ◌∷◌, length, drop, arith, sym, ◌∙◌, inl, inr, length-drop, take_all, AllByRecursion, Block, Span, part, IsLaid, block_end, holes, IsSameOutside, laid_each, AreHoles, IsUsed, AreSameOutside, AreSameBut}
+use Rattle.w16_blocks.proofs.Common.{Range, IsPart, Layout, range_of, ap, ℕ, ◌≡◌, ◌+◌, ◌-◌, ◌<◌, ◌≤◌, List, [], ◌∷◌, length, drop, arith, sym, ◌∙◌, inl, inr, length-drop}
+use Rattle.w16_blocks.proofs.Common.{take_all, AllByRecursion, Block, Span, part, IsLaid, block_end, holes, IsSameOutside, laid_each, AreHoles, IsUsed, AreSameOutside, AreSameBut}
 use Rattle.w16_blocks.proofs.Free.{Lacks, AreHoles-holes, free_lacks, used_of}
 
 -- each block's bytes are used

@@ -1,5 +1,8 @@
 -- The first part at or above a place, by the units in which none begins.
-use Rattle.w16_blocks.proofs.Common.{ℕ, ◌≡◌, ◌+◌, ◌-◌, ◌*◌, ◌/◌, ◌<◌, ◌≤◌, ◌⊎◌, IsTrue, List, [], ◌∷◌, drop, suc, arith, refl, sym, ap, ◌∙◌, subst, inl, inr, slice_index, slice_get, cases_lt, lt-ltb, le-ltb, eqb_tells, AllByRecursion, div_ceil, Block, Span, IsLaid, IsHole, Misses, block_end, holes, is_any, IsMultiple, AreAllOf, Member, Each-at, Each-from_All, All-from_Each, holes-cons, laid_placed, gap_list_law, member_contained, AreHoles, length_at, up, multiple_sum, whole_units, IsGrained, rank, slot_of, blocks_in, layout_in, AreTables, Layout, IsFirstHole, IsFirstBlock, IsBehindAll}
+use Rattle.w16_blocks.proofs.Common.{ℕ, ◌≡◌, ◌+◌, ◌-◌, ◌*◌, ◌/◌, ◌<◌, ◌≤◌, ◌⊎◌, IsTrue, List, [], ◌∷◌, drop, suc, arith, refl, sym, ap, ◌∙◌, subst, inl, inr, slice_index, slice_get, cases_lt, lt-ltb, le-ltb, eqb_tells}
+use Rattle.w16_blocks.proofs.Common.{AllByRecursion, div_ceil, Block, Span, IsLaid, IsHole, Misses, block_end, holes, is_any, IsMultiple, AreAllOf, Member, Each-at, Each-from_All, All-from_Each, holes-cons, laid_placed}
+use Rattle.w16_blocks.proofs.Common.{gap_list_law, member_contained, AreHoles, length_at, up, multiple_sum, whole_units, IsGrained, rank, slot_of, blocks_in, layout_in, AreTables, Layout, IsFirstHole, IsFirstBlock}
+use Rattle.w16_blocks.proofs.Common.{IsBehindAll}
 use Rattle.w16_blocks.proofs.Cells.{All-told, each_told}
 use Rattle.w16_blocks.proofs.Free.{AreHoles-holes}
 use Rattle.w16_blocks.proofs.Next.{first_by_unit, pass, first_here, none_behind, behind_all, units_below, units_above}

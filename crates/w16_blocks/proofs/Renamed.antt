@@ -1,5 +1,7 @@
 -- A block that gets another id.
-use Rattle.w16_blocks.proofs.Common.{◌≡◌, ◌≢◌, ℕ, suc, ◌+◌, ◌*◌, ◌<◌, ◌==◌, Bool, true, false, cond, min, nat_le, nat_lt, List, [], ◌∷◌, length, map, filter, set, slice_index, Some, None, sum_by, sum_by-cons, arith, refl, sym, ap, ◌∙◌, subst, inl, inr, cases_lt, ne_eqb, eq-eqb, length-set, set-set, AllByRecursion, Block, Span, block_end, first_from, holes, is_any, block_with, Range, Layout, Fits, placed, all_but, renamed, with_other_id, no_block, blocks_in, layout_in, pins_in, AreTables, BlocksInvariant}
+use Rattle.w16_blocks.proofs.Common.{◌≡◌, ◌≢◌, ℕ, suc, ◌+◌, ◌*◌, ◌<◌, ◌==◌, Bool, true, false, cond, min, nat_le, nat_lt, List, [], ◌∷◌, length, map, filter, set, slice_index, Some, None, sum_by}
+use Rattle.w16_blocks.proofs.Common.{sum_by-cons, arith, refl, sym, ap, ◌∙◌, subst, inl, inr, cases_lt, ne_eqb, eq-eqb, length-set, set-set, AllByRecursion, Block, Span, block_end, first_from}
+use Rattle.w16_blocks.proofs.Common.{holes, is_any, block_with, Range, Layout, Fits, placed, all_but, renamed, with_other_id, no_block, blocks_in, layout_in, pins_in, AreTables, BlocksInvariant}
 use Rattle.w16_blocks.proofs.Place.{placed_after, placed_before}
 use Rattle.w16_blocks.proofs.Remove.{All-all_but, none_with, others_apart, others_differ, replaced-itself, with_id}
 use Rattle.w16_blocks.proofs.Tables.{AreTables-drop, AreTables-add, blocks_in-drop, blocks_in-add}

@@ -1,5 +1,6 @@
 -- Blocks of a run that slide up one after another, from the last: what a step needs, and what it leaves.
-use Rattle.w16_blocks.proofs.Common.{multiple_less, ℕ, ◌≡◌, ◌≢◌, ◌+◌, ◌-◌, ◌<◌, ◌≤◌, ◌^◌, ◌⊎◌, List, [], ◌∷◌, map, Some, eqb, arith, refl, sym, ap, ◌∙◌, subst, inl, inr, cases_lt, eqb_tells, AllByRecursion, Block, Span, IsLaid, block_end, IsMultiple, block_with, Each-map, Each-both, laid_each, multiple_sum, IsLastBelow, Layout, IsOrdered, FitsFor, replaced, IsCut, IsRun, IsBare, slid_with}
+use Rattle.w16_blocks.proofs.Common.{multiple_less, ℕ, ◌≡◌, ◌≢◌, ◌+◌, ◌-◌, ◌<◌, ◌≤◌, ◌^◌, ◌⊎◌, List, [], ◌∷◌, map, Some, eqb, arith, refl, sym, ap, ◌∙◌, subst, inl, inr, cases_lt, eqb_tells, AllByRecursion, Block}
+use Rattle.w16_blocks.proofs.Common.{Span, IsLaid, block_end, IsMultiple, block_with, Each-map, Each-both, laid_each, multiple_sum, IsLastBelow, Layout, IsOrdered, FitsFor, replaced, IsCut, IsRun, IsBare, slid_with}
 use Rattle.std.proofs.lemmas.Bool.{eq-eqb}
 use Rattle.w16_blocks.proofs.Free.{Lacks, lacks_free}
 use Rattle.w16_blocks.proofs.Lifting.{IsPassed, fits_lifted, around}

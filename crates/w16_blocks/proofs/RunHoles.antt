@@ -1,5 +1,6 @@
 -- The holes where a run of blocks slides down: what its new place has beyond the old one is taken, and what the old one has beyond the new is put.
-use Rattle.w16_blocks.proofs.Common.{ℕ, ◌≡◌, ◌+◌, ◌-◌, ◌<◌, ◌≤◌, ◌⊎◌, min, List, [], ◌∷◌, map, sum_by, arith, refl, sym, ap, ◌∙◌, subst, inl, inr, cases_lt, sum_by-cons, AllByRecursion, Block, Span, IsLaid, block_end, holes, IsMultiple, Each-map, Each-both, multiple_sum, AreHoles, IsFree, IsUsed, IsPart, taken, joined, IsIn, AreHoles-taken, taken_in, in_taken, AreHoles-joined, joined_in, in_joined, Layout, IsOrdered, range_of, holes_of, IsCut, IsRun, IsBare, slid_with, multiple_less}
+use Rattle.w16_blocks.proofs.Common.{ℕ, ◌≡◌, ◌+◌, ◌-◌, ◌<◌, ◌≤◌, ◌⊎◌, min, List, [], ◌∷◌, map, sum_by, arith, refl, sym, ap, ◌∙◌, subst, inl, inr, cases_lt, sum_by-cons, AllByRecursion, Block, Span, IsLaid, block_end, holes, IsMultiple, Each-map, Each-both}
+use Rattle.w16_blocks.proofs.Common.{multiple_sum, AreHoles, IsFree, IsUsed, IsPart, taken, joined, IsIn, AreHoles-taken, taken_in, in_taken, AreHoles-joined, joined_in, in_joined, Layout, IsOrdered, range_of, holes_of, IsCut, IsRun, IsBare, slid_with, multiple_less}
 use Rattle.w16_blocks.proofs.Free.{Lacks, AreHoles-holes, free_lacks, lacks_free, are_between, used_of, free_of}
 use Rattle.w16_blocks.proofs.Sliding.{slid_below, slid_above, slid_inside}
 

@@ -1,6 +1,7 @@
 -- What is kept where a run of blocks slides.
 use Rattle.std.specs.Prelude.{Vec}
-use Rattle.w16_blocks.proofs.Common.{with_items, with_items_is, ℕ, ◌≡◌, ◌+◌, ◌-◌, ◌<◌, ◌≤◌, List, length, map, sum_by, arith, refl, sym, ap, ◌∙◌, subst, Block, Span, part, put_part, IsLaid, holes, Range, IsFree, IsUsed, IsPart, AreSameIn, AreSameOutside, taken, joined, Layout, holes_of, blocks_in, layout_in, pins_in, AreTables, BlocksInvariant, IsRun, slid_with, AreSameBut}
+use Rattle.w16_blocks.proofs.Common.{with_items, with_items_is, ℕ, ◌≡◌, ◌+◌, ◌-◌, ◌<◌, ◌≤◌, List, length, map, sum_by, arith, refl, sym, ap, ◌∙◌, subst, Block, Span, part, put_part, IsLaid, holes, Range}
+use Rattle.w16_blocks.proofs.Common.{IsFree, IsUsed, IsPart, AreSameIn, AreSameOutside, taken, joined, Layout, holes_of, blocks_in, layout_in, pins_in, AreTables, BlocksInvariant, IsRun, slid_with, AreSameBut}
 use Rattle.w16_holes.proofs.Slid.{free_stays, come_along, others_stay}
 use Rattle.w16_blocks.proofs.RunHoles as run_holes
 use Rattle.w16_blocks.proofs.RunHoles.{IsWay, sum-slid}

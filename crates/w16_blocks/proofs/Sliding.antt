@@ -1,5 +1,6 @@
 -- Blocks of a run that slide one after another: what a step needs, and what it leaves.
-use Rattle.w16_blocks.proofs.Common.{ℕ, ◌≡◌, ◌+◌, ◌-◌, ◌<◌, ◌≤◌, ◌^◌, ◌⊎◌, List, [], ◌∷◌, map, Some, is_some, arith, refl, sym, ap, ◌∙◌, inl, inr, lt-ltb, le-ltb, le-leb, lt-leb, cases_lt, false≢true, eqb_tells, AllByRecursion, Block, Span, IsLaid, block_end, IsMultiple, block_with, Each-map, Each-both, laid_each, multiple_sum, Layout, IsApart, IsOrdered, FitsFor, AreNamed, placed, all_but, replaced, IsCut, IsRun, IsBare, slid_with}
+use Rattle.w16_blocks.proofs.Common.{ℕ, ◌≡◌, ◌+◌, ◌-◌, ◌<◌, ◌≤◌, ◌^◌, ◌⊎◌, List, [], ◌∷◌, map, Some, is_some, arith, refl, sym, ap, ◌∙◌, inl, inr, lt-ltb, le-ltb, le-leb, lt-leb, cases_lt, false≢true, eqb_tells, AllByRecursion, Block}
+use Rattle.w16_blocks.proofs.Common.{Span, IsLaid, block_end, IsMultiple, block_with, Each-map, Each-both, laid_each, multiple_sum, Layout, IsApart, IsOrdered, FitsFor, AreNamed, placed, all_but, replaced, IsCut, IsRun, IsBare, slid_with}
 use Rattle.w16_blocks.proofs.Place.{placed_first, placed_after, All-placed}
 use Rattle.w16_blocks.proofs.Remove.{all_but_same, all_but_other, all_but_absent, rest_differs, with_same, with_other, All-all_but, All-back, each_with, others_apart, others_differ}
 use Rattle.w16_blocks.proofs.Step.{lies, grained_known, lacks_known}

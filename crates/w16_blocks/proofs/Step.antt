@@ -1,5 +1,6 @@
 -- What adding a block and taking one away make of the holes.
-use Rattle.w16_blocks.proofs.Common.{multiple_less, ℕ, ◌≡◌, ◌<◌, ◌≤◌, ◌+◌, ◌-◌, ◌^◌, ◌⊎◌, List, [], ◌∷◌, Some, arith, sym, ◌∙◌, subst, inl, inr, cases_lt, AllByRecursion, Block, Hold, Span, block_end, holes, block_with, Each-map, laid_each, AreHoles, IsFree, IsUsed, IsPart, taken, joined, IsIn, multiple_sum, same_holes, AreHoles-taken, taken_in, in_taken, AreHoles-joined, joined_in, in_joined, Layout, IsApart, IsGrained, IsOrdered, Fits, FitsFor, placed, all_but, replaced, range_of, holes_of}
+use Rattle.w16_blocks.proofs.Common.{multiple_less, ℕ, ◌≡◌, ◌<◌, ◌≤◌, ◌+◌, ◌-◌, ◌^◌, ◌⊎◌, List, [], ◌∷◌, Some, arith, sym, ◌∙◌, subst, inl, inr, cases_lt, AllByRecursion, Block, Hold, Span, block_end, holes, block_with, Each-map, laid_each, AreHoles, IsFree, IsUsed}
+use Rattle.w16_blocks.proofs.Common.{IsPart, taken, joined, IsIn, multiple_sum, same_holes, AreHoles-taken, taken_in, in_taken, AreHoles-joined, joined_in, in_joined, Layout, IsApart, IsGrained, IsOrdered, Fits, FitsFor, placed, all_but, replaced, range_of, holes_of}
 use Rattle.w16_blocks.proofs.Place.{placed_after, placed_before, All-placed, IsLaid-placed}
 use Rattle.w16_blocks.proofs.Remove.{All-all_but, All-back, IsLaid-all_but, each_with, others_apart, others_differ}
 use Rattle.w16_blocks.proofs.Ordered.{IsOrdered-all_but}

@@ -1,5 +1,7 @@
 -- Table and cells where a block is added or taken away.
-use Rattle.w16_blocks.proofs.Common.{ℕ, zero, suc, ◌≡◌, ◌≢◌, ◌+◌, ◌-◌, ◌*◌, ◌^◌, ◌<◌, ◌≤◌, ◌⊎◌, List, [], ◌∷◌, length, get_or, set, replicate, Some, None, IsSome, is_some, arith, refl, sym, ap, ◌∙◌, subst, inl, inr, slice_index, cases_lt, false≢true, get_or-set_same, get_or-set_other, length-set, set-set, set-get_or, get_or_past, get_or_read, Block, IsMultiple, block_with, above, below, IsApart, IsOrdered, Fits, FitsFor, placed, all_but, replaced, no_block, slot_of, blocks_in, layout_in, Begins, AreBegun, AreTables}
+use Rattle.w16_blocks.proofs.Common.{ℕ, zero, suc, ◌≡◌, ◌≢◌, ◌+◌, ◌-◌, ◌*◌, ◌^◌, ◌<◌, ◌≤◌, ◌⊎◌, List, [], ◌∷◌, length, get_or, set, replicate, Some, None, IsSome, is_some, arith, refl, sym, ap, ◌∙◌}
+use Rattle.w16_blocks.proofs.Common.{subst, inl, inr, slice_index, cases_lt, false≢true, get_or-set_same, get_or-set_other, length-set, set-set, set-get_or, get_or_past, get_or_read, Block, IsMultiple}
+use Rattle.w16_blocks.proofs.Common.{block_with, above, below, IsApart, IsOrdered, Fits, FitsFor, placed, all_but, replaced, no_block, slot_of, blocks_in, layout_in, Begins, AreBegun, AreTables}
 use Rattle.w16_blocks.proofs.Cells.{each_told, blocks_in-set, blocks_in-begin, blocks_in-clear, told_with, told_none, with_cell}
 use Rattle.w16_blocks.proofs.Ordered.{IsOrdered-placed, IsOrdered-all_but}
 

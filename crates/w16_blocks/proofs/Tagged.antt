@@ -1,7 +1,8 @@
 -- The block that begins at a place, by the place's cell.
 use Rattle.std.proofs.lemmas.Nat.{mod-mul-add}
 use Rattle.std.specs.Prelude.{◌%◌}
-use Rattle.w16_blocks.proofs.Common.{Each-both, laid_each, block_end, IsOrdered, IsGrained, ℕ, zero, suc, ◌≡◌, ◌≢◌, ◌+◌, ◌-◌, ◌*◌, ◌<◌, ◌≤◌, List, [], ◌∷◌, length, get_or, Some, arith, refl, sym, ap, ◌∙◌, subst, slice_index, AllByRecursion, Block, block_with, Layout, no_block, slot_of, blocks_in, layout_in, AreTables}
+use Rattle.w16_blocks.proofs.Common.{Each-both, laid_each, block_end, IsOrdered, IsGrained, ℕ, zero, suc, ◌≡◌, ◌≢◌, ◌+◌, ◌-◌, ◌*◌, ◌<◌, ◌≤◌, List, [], ◌∷◌, length, get_or, Some}
+use Rattle.w16_blocks.proofs.Common.{arith, refl, sym, ap, ◌∙◌, subst, slice_index, AllByRecursion, Block, block_with, Layout, no_block, slot_of, blocks_in, layout_in, AreTables}
 use Rattle.w16_blocks.proofs.Cells.{All-told, told_with, with_cell}
 use Rattle.w16_blocks.proofs.Tables.{same_unit}
 

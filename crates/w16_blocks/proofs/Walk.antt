@@ -1,5 +1,6 @@
 -- The blocks from an address on, one after another.
-use Rattle.w16_blocks.proofs.Common.{ℕ, zero, suc, ◌≡◌, ◌<◌, ◌≤◌, List, [], ◌∷◌, drop, Some, None, is_some, arith, refl, sym, ap, ◌∙◌, subst, inl, inr, slice_get, cases_lt, false≢true, AllByRecursion, Block, IsLaid, block_end, Each-map, laid_each, Layout, IsOrdered, rank, from_address, block_with, eqb_tells}
+use Rattle.w16_blocks.proofs.Common.{ℕ, zero, suc, ◌≡◌, ◌<◌, ◌≤◌, List, [], ◌∷◌, drop, Some, None, is_some, arith, refl, sym, ap, ◌∙◌, subst, inl, inr, slice_get, cases_lt}
+use Rattle.w16_blocks.proofs.Common.{false≢true, AllByRecursion, Block, IsLaid, block_end, Each-map, laid_each, Layout, IsOrdered, rank, from_address, block_with, eqb_tells}
 use Rattle.w16_blocks.proofs.Next.{rank_none, rank_more, rank_same}
 use Rattle.w16_blocks.proofs.Remove.{each_with, with_other}
 

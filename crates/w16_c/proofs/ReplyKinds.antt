@@ -1,5 +1,11 @@
 -- A step's reply has the kind that its command's has.
-use Rattle.w16_c.proofs.Common.{◌≡◌, ℕ, ◌+◌, Bool, true, false, MatchBool, MatchOption, cond, nat_lt, if◌then◌else◌, List, [], length, Option, Some, None, unwrap_or, Result, Ok, Err, refl, sym, subst, Refusal, FarFault, ReadOnly, part, repeated, Heap, bytes_at, after_free, after_lock, after_unlock, after_newest, after_oldest, after_touch, Handles, slot_of_handle, selector_of, selector_in, offset_in, far_pointer, owns, refuses_write, length-part, HandleCommand, Answer, HandleStep, free_own, global_free, global_lock, global_unlock, handle_or_0, locks_at, GlobalAlloc, GlobalFree, GlobalLock, GlobalUnlock, GlobalSize, GlobalFlags, GlobalHandle, GetSelectorBase, GetSelectorLimit, GlobalCompact, GlobalLRUNewest, GlobalLRUOldest, Moved, FarAnswer, Reached, reached, far_fault, far_slot, after_write, Read, Write, Fill, FetchFault, AnyFetches, Fetching, Accesses, gives, needs_fetch, reply_of_far, LoadingWorld, OfHandles, OfResizes, OfFar, ResizeCommand, ResizeStep, GlobalReAlloc, GlobalDiscard, Reply, HandleReplies, ResizeReplies, Word, Dword, Done, Failed, Walked, LocalCommand, LocalStep, DS, World, Command, OfLoading, OfLocals, KernelStep, AnswersWord, AnswersDword, IsWrite, IsWord, IsDword, IsDoneOrFault, IsBytes}
+use Rattle.w16_c.proofs.Common.{◌≡◌, ℕ, ◌+◌, Bool, true, false, MatchBool, MatchOption, cond, nat_lt, if◌then◌else◌, List, [], length, Option, Some, None, unwrap_or, Result, Ok, Err, refl, sym, subst, Refusal, FarFault, ReadOnly}
+use Rattle.w16_c.proofs.Common.{part, repeated, Heap, bytes_at, after_free, after_lock, after_unlock, after_newest, after_oldest, after_touch, Handles, slot_of_handle, selector_of, selector_in, offset_in, far_pointer, owns}
+use Rattle.w16_c.proofs.Common.{refuses_write, length-part, HandleCommand, Answer, HandleStep, free_own, global_free, global_lock, global_unlock, handle_or_0, locks_at, GlobalAlloc, GlobalFree, GlobalLock, GlobalUnlock, GlobalSize}
+use Rattle.w16_c.proofs.Common.{GlobalFlags, GlobalHandle, GetSelectorBase, GetSelectorLimit, GlobalCompact, GlobalLRUNewest, GlobalLRUOldest, Moved, FarAnswer, Reached, reached, far_fault, far_slot, after_write, Read, Write, Fill}
+use Rattle.w16_c.proofs.Common.{FetchFault, AnyFetches, Fetching, Accesses, gives, needs_fetch, reply_of_far, LoadingWorld, OfHandles, OfResizes, OfFar, ResizeCommand, ResizeStep, GlobalReAlloc, GlobalDiscard, Reply, HandleReplies}
+use Rattle.w16_c.proofs.Common.{ResizeReplies, Word, Dword, Done, Failed, Walked, LocalCommand, LocalStep, DS, World, Command, OfLoading, OfLocals, KernelStep, AnswersWord, AnswersDword, IsWrite, IsWord, IsDword, IsDoneOrFault}
+use Rattle.w16_c.proofs.Common.{IsBytes}
 use Rattle.std.specs.FinMap as finmap
 use Rattle.std.proofs.Common.{◌⊎◌, ◌∙◌, ap, inl, inr}
 use Rattle.w16_loading.specs.Replies.Reply.{Bytes, Fault}

@@ -1,5 +1,7 @@
 -- Blocks of which none is pinned: all is one gap.
-use Rattle.w16_compact.proofs.Common.{list_any, slice_index, ◌≡◌, ◌≢◌, ℕ, ◌+◌, ◌-◌, ◌<◌, ◌≤◌, ◌||◌, max, Bool, true, false, Option, Some, None, List, [], ◌∷◌, drop, length, replicate, set, sum_by, refl, sym, ap, ◌∙◌, subst, arith, false≢true, cond-false, get_or-replicate, get_or-set_same, sum_by-cons, Block, room, is_pinned, block_with, blocks_without, Each-map, Each-filter, Layout, IsOrdered, AreNamed, all_but, sum_fits, all_but_absent, sum-all_but, Reached, others, Tells}
+use Rattle.w16_compact.proofs.Common.{list_any, slice_index, ◌≡◌, ◌≢◌, ℕ, ◌+◌, ◌-◌, ◌<◌, ◌≤◌, ◌||◌, max, Bool, true, false, Option, Some, None, List, [], ◌∷◌, drop, length, replicate, set, sum_by, refl, sym, ap, ◌∙◌, subst, arith, false≢true, cond-false}
+use Rattle.w16_compact.proofs.Common.{get_or-replicate, get_or-set_same, sum_by-cons, Block, room, is_pinned, block_with, blocks_without, Each-map, Each-filter, Layout, IsOrdered, AreNamed, all_but, sum_fits, all_but_absent, sum-all_but, Reached, others}
+use Rattle.w16_compact.proofs.Common.{Tells}
 use Rattle.std.specs.List.{AllByRecursion as Each}
 use Rattle.w16_compact.proofs.OnePass.{scan, scan-room, none_out_all}
 use Rattle.w16_blocks.proofs.Remove.{none_with}

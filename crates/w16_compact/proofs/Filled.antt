@@ -1,6 +1,8 @@
 -- A table is filled by one pass.
 use Rattle.std.specs.List.{AllByRecursion as Each}
-use Rattle.w16_compact.proofs.Common.{slice_index, ◌≡◌, ◌≢◌, ℕ, ◌+◌, ◌-◌, ◌<◌, ◌≤◌, Bool, true, false, cond, filter, List, [], ◌∷◌, length, set, refl, sym, ◌∙◌, subst, arith, false≢true, cond-true, cond-false, get_or-set_same, get_or-set_other, Block, is_pinned, block_end, Each-map, Each-filter, AreNamed, Reached, Tells}
+use Rattle.w16_compact.proofs.Common.{slice_index, ◌≡◌, ◌≢◌, ℕ, ◌+◌, ◌-◌, ◌<◌, ◌≤◌, Bool, true, false, cond, filter, List, [], ◌∷◌, length, set, refl, sym, ◌∙◌, subst, arith}
+use Rattle.w16_compact.proofs.Common.{false≢true, cond-true, cond-false, get_or-set_same, get_or-set_other, Block, is_pinned, block_end, Each-map, Each-filter, AreNamed, Reached}
+use Rattle.w16_compact.proofs.Common.{Tells}
 use Rattle.w16_compact.proofs.Skips.{passed, ids_below}
 
 pub named_filter : (p : Block → Bool) (cap : ℕ) (xs : List Block) → AreNamed cap xs → AreNamed cap (filter p xs)

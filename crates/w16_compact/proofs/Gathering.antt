@@ -1,5 +1,8 @@
 -- A gather from its start, by a run, to its end.
-use Rattle.w16_compact.proofs.Common.{ℕ, ◌≡◌, ◌≢◌, ◌+◌, ◌-◌, ◌<◌, ◌≤◌, ◌⊎◌, max, List, [], ◌∷◌, map, cond, eqb, Some, is_some, arith, refl, sym, ◌∙◌, subst, ap, inl, inr, slice_get, IfSome, lt-ltb, le-ltb, cases_lt, eq-eqb, cond-true, cond-false, false≢true, eqb_tells, AllByRecursion, Block, Span, IsLaid, block_end, IsMultiple, Each-map, Each-both, multiple_sum, Layout, IsGrained, IsOrdered, rank, IsCut, IsRun, IsBare, EndsAt, slid_with, Lacks, later, free_lacks, lacks_free, multiple_less, slid_below, slid_above, slid_inside, map-same, Lies, lies_of, All-mapped, All-unmapped, gathered, packed, moved_between, FitsGap, MayGather}
+use Rattle.w16_compact.proofs.Common.{ℕ, ◌≡◌, ◌≢◌, ◌+◌, ◌-◌, ◌<◌, ◌≤◌, ◌⊎◌, max, List, [], ◌∷◌, map, cond, eqb, Some, is_some, arith, refl, sym, ◌∙◌, subst, ap, inl, inr, slice_get, IfSome, lt-ltb, le-ltb, cases_lt, eq-eqb, cond-true}
+use Rattle.w16_compact.proofs.Common.{cond-false, false≢true, eqb_tells, AllByRecursion, Block, Span, IsLaid, block_end, IsMultiple, Each-map, Each-both, multiple_sum, Layout, IsGrained, IsOrdered, rank, IsCut, IsRun, IsBare, EndsAt}
+use Rattle.w16_compact.proofs.Common.{slid_with, Lacks, later, free_lacks, lacks_free, multiple_less, slid_below, slid_above, slid_inside, map-same, Lies, lies_of, All-mapped, All-unmapped, gathered, packed, moved_between, FitsGap}
+use Rattle.w16_compact.proofs.Common.{MayGather}
 use Rattle.std.proofs.lemmas.Bool.{ne_eqb}
 use Rattle.w16_compact.proofs.Settled.{same_layout}
 use Rattle.w16_compact.proofs.Order.{each_got, apart_got, all_from}

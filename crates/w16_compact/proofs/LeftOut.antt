@@ -1,5 +1,7 @@
 -- A layout with an object's block left out, and a gap of what is left.
-use Rattle.w16_compact.proofs.Common.{◌≡◌, ℕ, ◌+◌, ◌<◌, ◌≤◌, ◌⊎◌, inl, inr, max, min, true, false, IsTrue, List, [], ◌∷◌, length, Option, Some, None, refl, sym, ap, ◌∙◌, arith, cases_lt, false≢true, eqb_tells, Block, Loose, is_about, IsClear, Misses, is_pinned, block_end, block_with, Each-both, Each-from_All, All-from_Each, laid_each, Layout, IsOrdered, IsGrained, IsApart, all_but, all_but_same, all_but_other, with_same, with_other, each_with, others_apart, IsLaid-all_but, AreNamed-all_but, All-back, All-all_but, others, without, HasRoom, FitsGap, MayGather, Gap}
+use Rattle.w16_compact.proofs.Common.{◌≡◌, ℕ, ◌+◌, ◌<◌, ◌≤◌, ◌⊎◌, inl, inr, max, min, true, false, IsTrue, List, [], ◌∷◌, length, Option, Some, None, refl, sym, ap, ◌∙◌, arith, cases_lt, false≢true, eqb_tells, Block}
+use Rattle.w16_compact.proofs.Common.{Loose, is_about, IsClear, Misses, is_pinned, block_end, block_with, Each-both, Each-from_All, All-from_Each, laid_each, Layout, IsOrdered, IsGrained, IsApart, all_but, all_but_same}
+use Rattle.w16_compact.proofs.Common.{all_but_other, with_same, with_other, each_with, others_apart, IsLaid-all_but, AreNamed-all_but, All-back, All-all_but, others, without, HasRoom, FitsGap, MayGather, Gap}
 
 few_left : (id : ℕ) (xs : List Block) → length (all_but id xs) ≤ length xs
 few_left id [] = omega arith

@@ -1,5 +1,7 @@
 -- The bytes of the loose blocks of an interval.
-use Rattle.w16_compact.proofs.Common.{◌≡◌, ℕ, ◌+◌, ◌<◌, ◌≤◌, ◌⊎◌, inl, inr, true, false, cond, not, ◌&&◌, nat_le, nat_lt, List, [], ◌∷◌, ◌++◌, refl, sym, ap, arith, le-leb, zero-add, AllByRecursion, cond-true, cond-false, and_from, and_left, and_right, le-ltb, lt-leb, Block, Loose, is_loose, holds_still, begins_in, loose_bytes, sum_filter}
+use Rattle.w16_compact.proofs.Common.{◌≡◌, ℕ, ◌+◌, ◌<◌, ◌≤◌, ◌⊎◌, inl, inr, true, false, cond, not, ◌&&◌, nat_le, nat_lt, List, [], ◌∷◌, ◌++◌, refl, sym, ap, arith, le-leb, zero-add}
+use Rattle.w16_compact.proofs.Common.{AllByRecursion, cond-true, cond-false, and_from, and_left, and_right, le-ltb, lt-leb, Block, Loose, is_loose, holds_still, begins_in, loose_bytes}
+use Rattle.w16_compact.proofs.Common.{sum_filter}
 use Rattle.std.proofs.Common.{lt-ltb}
 
 pub loose_one : (x : Block) (xs : List Block) (a b : ℕ) → loose_bytes (x ∷ xs) a b ≡ cond (is_loose x && begins_in a b x) x.size 0 + loose_bytes xs a b

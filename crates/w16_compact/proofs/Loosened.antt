@@ -1,5 +1,8 @@
 -- Blocks in which an id's has another hold: nothing else of them differs.
-use Rattle.w16_compact.proofs.Common.{◌≡◌, ℕ, ◌+◌, ◌<◌, ◌^◌, cond, true, false, inl, inr, IsTrue, List, [], ◌∷◌, ◌==◌, map, nat_lt, filter, Option, Some, IfSome, refl, sym, ap, ◌∙◌, subst, eqb_tells, length-map, Block, Hold, Loose, Span, part, IsClear, IsHole, IsLaid, Misses, block_end, first_from, is_any, block_with, Each-from_All, All-from_Each, Layout, AreNamed, IsGrained, IsOrdered, all_but, holes_of, placed, replaced, all_but_same, all_but_other, with_id, with_same, with_other, replaced-itself, contents, moved_between, with_loose}
+use Rattle.w16_compact.proofs.Common.{◌≡◌, ℕ, ◌+◌, ◌<◌, ◌^◌, cond, true, false, inl, inr, IsTrue, List, [], ◌∷◌, ◌==◌, map, nat_lt, filter, Option, Some, IfSome, refl, sym, ap, ◌∙◌, subst, eqb_tells}
+use Rattle.w16_compact.proofs.Common.{length-map, Block, Hold, Loose, Span, part, IsClear, IsHole, IsLaid, Misses, block_end, first_from, is_any, block_with, Each-from_All, All-from_Each, Layout, AreNamed}
+use Rattle.w16_compact.proofs.Common.{IsGrained, IsOrdered, all_but, holes_of, placed, replaced, all_but_same, all_but_other, with_id, with_same, with_other, replaced-itself, contents, moved_between}
+use Rattle.w16_compact.proofs.Common.{with_loose}
 use Rattle.std.specs.List.{AllByRecursion as Each}
 use Rattle.w16_compact.proofs.Opened.{of_known}
 

@@ -1,5 +1,8 @@
 -- Room by one pass over the blocks by address.
-use Rattle.w16_compact.proofs.Common.{◌≡◌, ℕ, ◌+◌, ◌-◌, ◌<◌, ◌≤◌, max, min, Bool, true, false, cond, not, ◌&&◌, nat_le, nat_lt, IsTrue, List, [], ◌∷◌, map, filter, sum_by, refl, ap, ◌∙◌, arith, None, zero-add, le-leb, and_left, lt-leb, le-ltb, and_right, cond-true, cond-false, and_from, ord_max, nat_cmp, nat_tests, sum_by-cons, Block, Each-map, Each-of_map, Each-filter, sum_filter, blocks_without, room_for, snapshot, is_pinned, is_loose, block_end, begins_in, first_from, loose_bytes, largest, room_from, room, IsLaid, sum_fits}
+use Rattle.w16_compact.proofs.Common.{◌≡◌, ℕ, ◌+◌, ◌-◌, ◌<◌, ◌≤◌, max, min, Bool, true, false, cond, not, ◌&&◌, nat_le, nat_lt, IsTrue, List, [], ◌∷◌, map, filter, sum_by, refl, ap, ◌∙◌, arith, None}
+use Rattle.w16_compact.proofs.Common.{zero-add, le-leb, and_left, lt-leb, le-ltb, and_right, cond-true, cond-false, and_from, ord_max, nat_cmp, nat_tests, sum_by-cons, Block, Each-map, Each-of_map}
+use Rattle.w16_compact.proofs.Common.{Each-filter, sum_filter, blocks_without, room_for, snapshot, is_pinned, is_loose, block_end, begins_in, first_from, loose_bytes, largest, room_from, room, IsLaid}
+use Rattle.w16_compact.proofs.Common.{sum_fits}
 use Rattle.std.proofs.Common.{lt-ltb}
 use Rattle.std.specs.List.{AllByRecursion as Each}
 

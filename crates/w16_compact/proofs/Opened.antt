@@ -1,5 +1,8 @@
 -- What opening a gap leaves: the same blocks, one hole, and it directly behind the block.
-use Rattle.w16_compact.proofs.Common.{ℕ, ◌≡◌, ◌+◌, ◌-◌, ◌<◌, ◌≤◌, ◌⊎◌, max, min, IsTrue, Bool, true, false, ◌&&◌, nat_le, nat_lt, cond, eqb, List, [], ◌∷◌, map, Option, Some, IfSome, is_some, sum_by, arith, refl, sym, ap, ◌∙◌, subst, inl, inr, lt-ltb, le-ltb, cases_lt, eq-eqb, cond-true, false≢true, eqb_tells, sum_by-cons, AllByRecursion, Block, Loose, IsLaid, IsGap, IsHole, IsClear, Misses, is_any, is_loose, is_pinned, block_end, loose_bytes, block_with, Each-map, Each-both, All-from_Each, laid_each, Layout, IsOrdered, IsCut, around, with_id, with_same, with_other, each_with, All-mapped, All-unmapped, lies, gathered, packed, moved_between, FitsGap, MayGather, AreSlid, raised_in, opened, end_in, spare_in}
+use Rattle.w16_compact.proofs.Common.{ℕ, ◌≡◌, ◌+◌, ◌-◌, ◌<◌, ◌≤◌, ◌⊎◌, max, min, IsTrue, Bool, true, false, ◌&&◌, nat_le, nat_lt, cond, eqb, List, [], ◌∷◌, map, Option, Some, IfSome, is_some, sum_by, arith, refl, sym, ap, ◌∙◌, subst, inl, inr, lt-ltb, le-ltb}
+use Rattle.w16_compact.proofs.Common.{cases_lt, eq-eqb, cond-true, false≢true, eqb_tells, sum_by-cons, AllByRecursion, Block, Loose, IsLaid, IsGap, IsHole, IsClear, Misses, is_any, is_loose, is_pinned, block_end, loose_bytes, block_with, Each-map, Each-both}
+use Rattle.w16_compact.proofs.Common.{All-from_Each, laid_each, Layout, IsOrdered, IsCut, around, with_id, with_same, with_other, each_with, All-mapped, All-unmapped, lies, gathered, packed, moved_between, FitsGap, MayGather, AreSlid, raised_in, opened, end_in}
+use Rattle.w16_compact.proofs.Common.{spare_in}
 use Rattle.w16_compact.proofs.Cleared.{Past, inside_is, tiled, clear_from, missed, one_hole, no_other}
 use Rattle.w16_compact.proofs.Gathering.{moved_same, cut_high}
 use Rattle.w16_compact.proofs.Loose.{loose_one, loose_none, loose_here}

@@ -1,5 +1,6 @@
 -- From an address of a gap up to the lowest hole the blocks stand packed.
-use Rattle.w16_compact.proofs.Common.{ℕ, suc, zero, ◌≡◌, ◌+◌, ◌-◌, ◌<◌, ◌≤◌, ◌⊎◌, ◌∙◌, List, [], ◌∷◌, Some, is_some, refl, arith, sym, ap, subst, inl, inr, le-leb, le-ltb, lt-ltb, cases_lt, false≢true, AllByRecursion, Block, Span, IsLaid, block_end, IsMultiple, Each-map, AreHoles, lowest, IsIn, multiple_sum, Layout, IsGrained, IsOrdered, holes_of, IsCut, IsRun, Lacks, AreHoles-holes, free_lacks, lacks_free, later, gathered, packed, MayGather}
+use Rattle.w16_compact.proofs.Common.{ℕ, suc, zero, ◌≡◌, ◌+◌, ◌-◌, ◌<◌, ◌≤◌, ◌⊎◌, ◌∙◌, List, [], ◌∷◌, Some, is_some, refl, arith, sym, ap, subst, inl, inr, le-leb, le-ltb, lt-ltb, cases_lt, false≢true, AllByRecursion, Block, Span, IsLaid}
+use Rattle.w16_compact.proofs.Common.{block_end, IsMultiple, Each-map, AreHoles, lowest, IsIn, multiple_sum, Layout, IsGrained, IsOrdered, holes_of, IsCut, IsRun, Lacks, AreHoles-holes, free_lacks, lacks_free, later, gathered, packed, MayGather}
 use Rattle.w16_compact.proofs.Gathering.{cut_low}
 
 in_above : (p lo hi : ℕ) (hs : List Span) → AreHoles lo hi hs → IsIn p hs → lo ≤ p

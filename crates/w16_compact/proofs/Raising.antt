@@ -1,5 +1,8 @@
 -- A raise from its start, by a block, to its end.
-use Rattle.w16_compact.proofs.Common.{ℕ, ◌≡◌, ◌≢◌, ◌+◌, ◌-◌, ◌<◌, ◌≤◌, ◌⊎◌, Bool, true, false, IsTrue, ◌&&◌, cond, eqb, nat_le, nat_lt, max, min, List, [], ◌∷◌, map, Some, is_some, arith, refl, sym, ap, ◌∙◌, subst, inl, inr, lt-ltb, le-ltb, lt-leb, cases_lt, eq-eqb, cond-true, cond-false, false≢true, eqb_tells, AllByRecursion, Block, Span, Loose, IsLaid, block_end, is_loose, is_pinned, holds_still, loose_bytes, block_with, Each-map, Each-both, laid_each, Layout, IsOrdered, IsCut, IsRun, IsBare, slid_with, Lacks, later, lacks_free, around, with_back, with_same, with_other, each_with, All-mapped, All-unmapped, slid_below, slid_above, slid_inside, moved_to, moved_between, FitsGap, AreSlid, raised_in, raised}
+use Rattle.w16_compact.proofs.Common.{ℕ, ◌≡◌, ◌≢◌, ◌+◌, ◌-◌, ◌<◌, ◌≤◌, ◌⊎◌, Bool, true, false, IsTrue, ◌&&◌, cond, eqb, nat_le, nat_lt, max, min, List, [], ◌∷◌, map, Some, is_some, arith, refl, sym, ap, ◌∙◌, subst, inl, inr, lt-ltb, le-ltb, lt-leb, cases_lt}
+use Rattle.w16_compact.proofs.Common.{eq-eqb, cond-true, cond-false, false≢true, eqb_tells, AllByRecursion, Block, Span, Loose, IsLaid, block_end, is_loose, is_pinned, holds_still, loose_bytes, block_with, Each-map, Each-both, laid_each, Layout, IsOrdered, IsCut}
+use Rattle.w16_compact.proofs.Common.{IsRun, IsBare, slid_with, Lacks, later, lacks_free, around, with_back, with_same, with_other, each_with, All-mapped, All-unmapped, slid_below, slid_above, slid_inside, moved_to, moved_between, FitsGap, AreSlid, raised_in}
+use Rattle.w16_compact.proofs.Common.{raised}
 use Rattle.std.proofs.lemmas.Bool.{le-leb, ne_eqb}
 use Rattle.w16_compact.proofs.Cleared.{inside_is}
 use Rattle.w16_compact.proofs.Gathering.{moved_same}

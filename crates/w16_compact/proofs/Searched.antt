@@ -1,5 +1,7 @@
 -- What may be discarded, along the order of use, and how many of these are needed.
-use Rattle.w16_compact.proofs.Common.{◌≡◌, ℕ, ◌+◌, ◌<◌, ◌≤◌, inl, inr, Bool, true, false, not, ◌&&◌, nat_le, List, [], ◌∷◌, zero, suc, length, drop, Option, Some, None, refl, sym, ap, ◌∙◌, subst, arith, le-leb, length-drop, find, range_with_len, cases_lt, cond-true, cond-false, lt-leb, All-get_or, length-filter, count_by-le-length, slice_get_within, get_or_from_slice_get, Block, room, is_about, is_pinned_id, eligible, blocks_without, room_for, needed, snapshot, more_discards_law, take_past, Uses, AreUses}
+use Rattle.w16_compact.proofs.Common.{◌≡◌, ℕ, ◌+◌, ◌<◌, ◌≤◌, inl, inr, Bool, true, false, not, ◌&&◌, nat_le, List, [], ◌∷◌, zero, suc, length, drop, Option, Some, None, refl, sym, ap, ◌∙◌, subst}
+use Rattle.w16_compact.proofs.Common.{arith, le-leb, length-drop, find, range_with_len, cases_lt, cond-true, cond-false, lt-leb, All-get_or, length-filter, count_by-le-length, slice_get_within}
+use Rattle.w16_compact.proofs.Common.{get_or_from_slice_get, Block, room, is_about, is_pinned_id, eligible, blocks_without, room_for, needed, snapshot, more_discards_law, take_past, Uses, AreUses}
 use Rattle.std.specs.List.{slice_get}
 
 -- each member of an order is an id

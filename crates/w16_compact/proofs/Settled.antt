@@ -1,5 +1,6 @@
 -- A run that has slid: what each block's bytes are, and what stays.
-use Rattle.w16_compact.proofs.Common.{ℕ, ◌≡◌, ◌+◌, ◌-◌, ◌<◌, ◌≤◌, ◌⊎◌, List, [], ◌∷◌, map, take, drop, arith, refl, sym, ap, ◌∙◌, subst, inl, inr, AllByRecursion, cases_lt, drop-take, take-take, drop-drop, part, Block, Span, block_end, Each-both, IsUsed, Layout, IsBare, slid_with, AreSameBut, slid_below, slid_above, slid_inside, Lies, contents}
+use Rattle.w16_compact.proofs.Common.{ℕ, ◌≡◌, ◌+◌, ◌-◌, ◌<◌, ◌≤◌, ◌⊎◌, List, [], ◌∷◌, map, take, drop, arith, refl, sym, ap, ◌∙◌, subst, inl, inr, AllByRecursion, cases_lt, drop-take, take-take}
+use Rattle.w16_compact.proofs.Common.{drop-drop, part, Block, Span, block_end, Each-both, IsUsed, Layout, IsBare, slid_with, AreSameBut, slid_below, slid_above, slid_inside, Lies, contents}
 
 -- a part of a part
 part_of_part : (bytes : List ℕ) (at n k m : ℕ) → k + m ≤ n → part (part bytes at n) k m ≡ part bytes (at + k) m

@@ -1,5 +1,6 @@
 -- What stays for a request, and keeps its place, where a range ends later.
-use Rattle.w16_compact.proofs.Common.{◌≡◌, ℕ, ◌+◌, ◌-◌, ◌≤◌, max, Bool, true, false, cond, not, ◌&&◌, ◌||◌, ◌==◌, nat_le, List, [], ◌∷◌, length, drop, filter, Option, Some, None, is_some, refl, sym, ap, ◌∙◌, arith, le-leb, lt-leb, eqb-true, inl, inr, cases_lt, Block, Pinned, IsLaid, block_end, room, room_for, blocks_without, needed, snapshot, is_pinned, Reached, cond-true, false≢true, is_member, is_about, eligible, take_past, length-filter, count_by-le-length, more_discards_law}
+use Rattle.w16_compact.proofs.Common.{◌≡◌, ℕ, ◌+◌, ◌-◌, ◌≤◌, max, Bool, true, false, cond, not, ◌&&◌, ◌||◌, ◌==◌, nat_le, List, [], ◌∷◌, length, drop, filter, Option, Some, None, is_some, refl, sym, ap, ◌∙◌, arith, le-leb, lt-leb, eqb-true, inl, inr, cases_lt}
+use Rattle.w16_compact.proofs.Common.{Block, Pinned, IsLaid, block_end, room, room_for, blocks_without, needed, snapshot, is_pinned, Reached, cond-true, false≢true, is_member, is_about, eligible, take_past, length-filter, count_by-le-length, more_discards_law}
 use Rattle.std.proofs.lemmas.List.{drop-map}
 use Rattle.w16_model.specs.declared.RoomOptions.{RoomOptions}
 use Rattle.w16_model.specs.Discards.{prefix_for, none_discarded_if}

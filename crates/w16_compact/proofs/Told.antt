@@ -1,6 +1,7 @@
 -- What a table tells of gaps, where the bytes of one loose block more count as free.
 use Rattle.std.specs.List.{AllByRecursion as Each}
-use Rattle.w16_compact.proofs.Common.{slice_index, ◌≡◌, ◌≢◌, ℕ, ◌+◌, ◌-◌, ◌<◌, ◌≤◌, max, inl, inr, true, false, cond, List, [], ◌∷◌, length, set, refl, sym, ap, ◌∙◌, subst, arith, ne_eqb, cases_Bool, cond-false, get_or-set_same, get_or-set_other, Block, IsLaid, is_pinned, block_end, Member, Each-at, Each-map, AreNamed, all_but, laid_le, all_but_same, all_but_other, all_but_absent, Tells}
+use Rattle.w16_compact.proofs.Common.{slice_index, ◌≡◌, ◌≢◌, ℕ, ◌+◌, ◌-◌, ◌<◌, ◌≤◌, max, inl, inr, true, false, cond, List, [], ◌∷◌, length, set, refl, sym, ap, ◌∙◌, subst, arith, ne_eqb, cases_Bool, cond-false}
+use Rattle.w16_compact.proofs.Common.{get_or-set_same, get_or-set_other, Block, IsLaid, is_pinned, block_end, Member, Each-at, Each-map, AreNamed, all_but, laid_le, all_but_same, all_but_other, all_but_absent, Tells}
 use Rattle.std.proofs.Common.{eq-eqb}
 use Rattle.w16_compact.proofs.OnePass.{scan}
 

@@ -1,5 +1,8 @@
 -- A walk to the lowest gap with room.
-use Rattle.w16_compact.proofs.Common.{◌≡◌, ℕ, ◌+◌, ◌<◌, ◌≤◌, ◌^◌, ◌⊎◌, inl, inr, true, false, IsTrue, List, [], ◌∷◌, ◌++◌, take, drop, add-one, zero, suc, refl, sym, ap, ◌∙◌, subst, arith, take-append-drop, AllByRecursion, cases_Bool, cases_lt, cond-true, cond-false, Block, Hold, Pinned, Loose, IsLaid, IsGap, Misses, room, is_pinned, holds_still, loose_bytes, block_end, IsMultiple, Member, Each-at, Each-from, Each-map, Each-from_All, laid_placed, each_gap, some_gap, Layout, IsOrdered, IsGrained, laid_le, MayGather, Gap, Reached, HasRoom, IsLowest}
+use Rattle.w16_compact.proofs.Common.{◌≡◌, ℕ, ◌+◌, ◌<◌, ◌≤◌, ◌^◌, ◌⊎◌, inl, inr, true, false, IsTrue, List, [], ◌∷◌, ◌++◌, take, drop, add-one, zero, suc, refl, sym, ap, ◌∙◌, subst, arith, take-append-drop}
+use Rattle.w16_compact.proofs.Common.{AllByRecursion, cases_Bool, cases_lt, cond-true, cond-false, Block, Hold, Pinned, Loose, IsLaid, IsGap, Misses, room, is_pinned, holds_still, loose_bytes, block_end}
+use Rattle.w16_compact.proofs.Common.{IsMultiple, Member, Each-at, Each-from, Each-map, Each-from_All, laid_placed, each_gap, some_gap, Layout, IsOrdered, IsGrained, laid_le, MayGather, Gap, Reached, HasRoom}
+use Rattle.w16_compact.proofs.Common.{IsLowest}
 use Rattle.w16_compact.proofs.Loose.{loose_append, loose_none, loose_here}
 use Rattle.w16_compact.proofs.Bounded.{IsFloor, IsCeiling, between, clear_pinned}
 use Rattle.w16_compact.proofs.Skips.{passed, rest_is, each_here}

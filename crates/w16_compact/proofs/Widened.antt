@@ -1,6 +1,8 @@
 -- A walk over what may be discarded, with the table of what is left.
 use Rattle.std.specs.List.{AllByRecursion as Each}
-use Rattle.w16_compact.proofs.Common.{slice_index, MatchOption, ◌≡◌, ◌≢◌, ℕ, zero, suc, ◌+◌, ◌<◌, ◌≤◌, max, Bool, true, false, cond, not, ◌&&◌, ◌||◌, ◌==◌, filter, List, [], ◌∷◌, length, take, drop, set, Option, Some, None, refl, sym, ap, ◌∙◌, subst, arith, add-one, ne_eqb, and_parts, not-true, not_from_false, or_from, nat_tests, Block, IsLaid, room, is_pinned, eligible, blocks_without, is_member, is_about, is_pinned_id, room_for, snapshot, block_with, EachPair, Member, Each-from, Each-map, Each-filter, EachPair-from_AllPairs, pairs_filter, filter_member, Uses, AreUses, Layout, IsOrdered, AreNamed, all_but, all_but_absent, IsLaid-all_but, each_with, with_id, AreTold}
+use Rattle.w16_compact.proofs.Common.{slice_index, MatchOption, ◌≡◌, ◌≢◌, ℕ, zero, suc, ◌+◌, ◌<◌, ◌≤◌, max, Bool, true, false, cond, not, ◌&&◌, ◌||◌, ◌==◌, filter, List, [], ◌∷◌, length, take, drop, set, Option, Some, None, refl, sym, ap, ◌∙◌, subst}
+use Rattle.w16_compact.proofs.Common.{arith, add-one, ne_eqb, and_parts, not-true, not_from_false, or_from, nat_tests, Block, IsLaid, room, is_pinned, eligible, blocks_without, is_member, is_about, is_pinned_id, room_for, snapshot, block_with, EachPair}
+use Rattle.w16_compact.proofs.Common.{Member, Each-from, Each-map, Each-filter, EachPair-from_AllPairs, pairs_filter, filter_member, Uses, AreUses, Layout, IsOrdered, AreNamed, all_but, all_but_absent, IsLaid-all_but, each_with, with_id, AreTold}
 use Rattle.w16_compact.proofs.Filled.{named_filter}
 use Rattle.w16_compact.proofs.OnePass.{scan-room}
 use Rattle.w16_blocks.proofs.Remove.{none_with}

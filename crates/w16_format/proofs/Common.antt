@@ -11,13 +11,17 @@ pub use Rattle.w16_format.specs.Ne.{has_bytes, module_file, ne_format, number_of
 pub use Rattle.w16_format.specs.Samples.{HasResource, IsLibrary, IsProgram, SamplesLaw}
 unfoldable pub use Rattle.w16_format.specs.Samples.{tapp, tlib, tres}
 pub use Rattle.w16_format.specs.Tables.{entry_in, resource_in, segment_in, tables_in}
-pub use Rattle.w16_loading.proofs.Common.{AllZip, Far, IsFormat, IsItsFiles, IsModuleFile, IsOfFiles, IsSegmentData, IsSomeAnd, LoadingWorld, MatchResult, Module, ModuleFile, Resource, SegmentData, and_parts, are_sound, list_all, module_at, numbered, read_of, resource_bytes, rounded_size, segment_bytes, slice_index_or}
+pub use Rattle.w16_loading.proofs.Common.{AllZip, Far, IsFormat, IsItsFiles, IsModuleFile, IsOfFiles, IsSegmentData, IsSomeAnd, LoadingWorld, MatchResult, Module, ModuleFile, Resource}
+pub use Rattle.w16_loading.proofs.Common.{SegmentData, and_parts, are_sound, list_all, module_at, numbered, read_of, resource_bytes, rounded_size, segment_bytes, slice_index_or}
 unfoldable pub use Rattle.w16_loading.proofs.Common.{repeated}
 pub use Rattle.w16_loading.specs.declared.TheConstants.{LARGEST_OWNED}
 pub use Rattle.w16_model.proofs.Common.{All-drop, All-take, IsMultiple, and_from}
 pub use Rattle.w16_model.specs.declared.TheConstants.{GRAIN}
-pub use Rattle.w16_ne.proofs.Common.{All, AreSegments, Bool, IsData, IsModule, IsSegment, Label, List, Tables, [], ap, arith, cond, drop, false, get_or, inl, inr, is_some, length, length-take, listed_resources, map, max, min, nat_eq, nat_lt, option_map, or_64k, ordinal_in, refl, rounded, segment_table, shift_of, slice_get, subst, suc, sym, take, true, unwrap_or, word_of, zero, ℕ, ◌&&◌, ◌+◌, ◌-◌, ◌<◌, ◌∙◌, ◌∷◌, ◌≡◌, ◌≤◌}
-unfoldable pub use Rattle.w16_ne.proofs.Common.{block_at, blocks_at, bundle_in, data_at, entries_at, entries_in, fields_of, file_of, header_at, is_named, label_at, name_at, names_at, nonresident_at, place_at, records_at, references_at, resident_at, resources_at, resources_of, segment_at, segments_at, table_at, table_names, tables_at, tables_behind, text_at, texts_at, typed_at, typed_in}
+pub use Rattle.w16_ne.proofs.Common.{All, AreSegments, Bool, IsData, IsModule, IsSegment, Label, List, Tables, [], ap, arith, cond, drop, false, get_or, inl, inr, is_some, length, length-take, listed_resources, map, max, min}
+pub use Rattle.w16_ne.proofs.Common.{nat_eq, nat_lt, option_map, or_64k, ordinal_in, refl, rounded, segment_table, shift_of, slice_get, subst, suc, sym, take, true, unwrap_or, word_of, zero, ℕ, ◌&&◌, ◌+◌, ◌-◌, ◌<◌, ◌∙◌, ◌∷◌, ◌≡◌}
+pub use Rattle.w16_ne.proofs.Common.{◌≤◌}
+unfoldable pub use Rattle.w16_ne.proofs.Common.{block_at, blocks_at, bundle_in, data_at, entries_at, entries_in, fields_of, file_of, header_at, is_named, label_at, name_at, names_at, nonresident_at, place_at, records_at}
+unfoldable pub use Rattle.w16_ne.proofs.Common.{references_at, resident_at, resources_at, resources_of, segment_at, segments_at, table_at, table_names, tables_at, tables_behind, text_at, texts_at, typed_at, typed_in}
 pub use Rattle.w16_ne.proofs.ModuleFormat.{module_format}
 pub use Rattle.w16_ne.specs.Modules.{entry_at, resource_at}
 pub use Rattle.w16_ne.specs.Resources.{Entry}

@@ -1,5 +1,8 @@
 -- What loads and fetches get of an NE file.
-use Rattle.w16_format.proofs.Common.{◌≡◌, ℕ, zero, suc, ◌-◌, Bool, true, false, cond, List, [], ◌∷◌, length, map, Some, Result, Ok, Err, refl, sym, ◌∙◌, ap, subst, arith, All, Option, None, option_map, slice_get, slice_index_or, is_ok, is_some, nat_eq, ◌&&◌, list_all, slice_get-map, Segment, Label, Entry, Tables, listed_resources, resource_at, RelocFault, Held, checked, IsImage, naming, IsFar, ModuleFile, SegmentData, numbered, LoadingWorld, Module, are_sound, read_of, segment_bytes, resource_bytes, targets_in, data_in, contents_in, far_in, far_of, module_file, ne_format, IsFileOf}
+use Rattle.w16_format.proofs.Common.{◌≡◌, ℕ, zero, suc, ◌-◌, Bool, true, false, cond, List, [], ◌∷◌, length, map, Some, Result, Ok, Err, refl, sym, ◌∙◌, ap, subst, arith, All, Option, None, option_map, slice_get}
+use Rattle.w16_format.proofs.Common.{slice_index_or, is_ok, is_some, nat_eq, ◌&&◌, list_all, slice_get-map, Segment, Label, Entry, Tables, listed_resources, resource_at, RelocFault, Held, checked, IsImage, naming, IsFar}
+use Rattle.w16_format.proofs.Common.{ModuleFile, SegmentData, numbered, LoadingWorld, Module, are_sound, read_of, segment_bytes, resource_bytes, targets_in, data_in, contents_in, far_in, far_of, module_file, ne_format}
+use Rattle.w16_format.proofs.Common.{IsFileOf}
 use Rattle.w16_reloc.specs.declared.value.Far as words
 use Rattle.w16_format.proofs.Files.{accepted}
 use Rattle.w16_format.proofs.Relocated.{is_relocated, words_same}

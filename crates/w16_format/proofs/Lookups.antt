@@ -1,5 +1,6 @@
 -- Look-ups by number and by name.
-use Rattle.w16_format.proofs.Common.{◌≡◌, ℕ, zero, suc, ◌-◌, false, cond, List, [], ◌∷◌, map, Some, refl, sym, ◌∙◌, ap, arith, Option, None, option_map, unwrap_or, slice_get, slice_index_or, find, nat_eq, slice_get-map, is_named, ordinal_in, Tables, entry_at, resource_at, listed_resources, numbered, segment_in, entry_in, resource_in, tables_in}
+use Rattle.w16_format.proofs.Common.{◌≡◌, ℕ, zero, suc, ◌-◌, false, cond, List, [], ◌∷◌, map, Some, refl, sym, ◌∙◌, ap, arith, Option, None, option_map, unwrap_or, slice_get, slice_index_or}
+use Rattle.w16_format.proofs.Common.{find, nat_eq, slice_get-map, is_named, ordinal_in, Tables, entry_at, resource_at, listed_resources, numbered, segment_in, entry_in, resource_in, tables_in}
 use Rattle.w16_ne.specs.declared.entry_table.Entry as ne_entry
 use Rattle.w16_ne.specs.Names.{Entry}
 use Rattle.w16_ne.specs.Resources as ne_resources

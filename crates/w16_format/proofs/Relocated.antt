@@ -1,5 +1,6 @@
 -- What a check and a relocation give is what the format says.
-use Rattle.w16_format.proofs.Common.{◌≡◌, ℕ, ◌<◌, ◌%◌, List, [], ◌∷◌, length, map, Result, Ok, Err, refl, sym, ◌∙◌, ap, subst, arith, All, All-head, All-tail, Segment, Tables, RelocFault, Record, Held, checked, data_of, records_of, offer_of, ◌>>=◌, check_from, IsSound, IsImage, naming, image_of, IsFar, passed_is_sound, naming_is, image_is_of, targets_in, records_in, far_in, far_of, IsRelocated}
+use Rattle.w16_format.proofs.Common.{◌≡◌, ℕ, ◌<◌, ◌%◌, List, [], ◌∷◌, length, map, Result, Ok, Err, refl, sym, ◌∙◌, ap, subst, arith, All, All-head, All-tail, Segment, Tables, RelocFault, Record, Held, checked, data_of}
+use Rattle.w16_format.proofs.Common.{records_of, offer_of, ◌>>=◌, check_from, IsSound, IsImage, naming, image_of, IsFar, passed_is_sound, naming_is, image_is_of, targets_in, records_in, far_in, far_of, IsRelocated}
 use Rattle.w16_reloc.specs.declared.value.Far as words
 
 -- a check that passes holds the segment's data, and the records that passed

@@ -1,5 +1,8 @@
 -- Segments of an NE file have sizes and images that go together.
-use Rattle.w16_format.proofs.Common.{◌≡◌, ℕ, zero, suc, ◌+◌, ◌/◌, ◌<◌, ◌≤◌, ◌%◌, max, Bool, true, false, cond, List, [], ◌∷◌, length, map, drop, refl, sym, ◌∙◌, subst, arith, inl, inr, All, nat_eq, slice_get, Some, min, AllZip, All-map, All-take, All-drop, length-take, length-map-range_with_len, GRAIN, LARGEST_OWNED, IsMultiple, Segment, word_of, or_64k, rounded, IsData, IsSegment, AreSegments, Tables, checked, data_of, byte, patches, image_at, naming, IsFar, image_bytes, Far, IsSegmentData, segment_in, far_in, records_in, data_in}
+use Rattle.w16_format.proofs.Common.{◌≡◌, ℕ, zero, suc, ◌+◌, ◌/◌, ◌<◌, ◌≤◌, ◌%◌, max, Bool, true, false, cond, List, [], ◌∷◌, length, map, drop, refl, sym, ◌∙◌, subst, arith, inl, inr, All, nat_eq}
+use Rattle.w16_format.proofs.Common.{slice_get, Some, min, AllZip, All-map, All-take, All-drop, length-take, length-map-range_with_len, GRAIN, LARGEST_OWNED, IsMultiple, Segment, word_of, or_64k, rounded}
+use Rattle.w16_format.proofs.Common.{IsData, IsSegment, AreSegments, Tables, checked, data_of, byte, patches, image_at, naming, IsFar, image_bytes, Far, IsSegmentData, segment_in, far_in, records_in}
+use Rattle.w16_format.proofs.Common.{data_in}
 use Rattle.w16_format.proofs.Bytes.{AreBytes, word_small}
 
 -- Sizes.

@@ -1,5 +1,8 @@
 -- Far reads and writes of bytes that are there.
-use Rattle.w16_global.proofs.Common.{◌≡◌, ℕ, ◌+◌, ◌<◌, ◌≤◌, IsSomeAnd, List, [], length, All, Bool, true, false, if◌then◌else◌, Option, Some, None, unwrap_or, refl, sym, ap, ◌∙◌, subst, arith, length-take, length-drop, ◌&&◌, part, repeated, length-repeated, Attributes, Heap, bytes_at, object_at, after_touch, Handles, Gives, far_fault, far_at, far_slot, far_read, data_write, far_write, after_write, refuses_write, Reached, reached, access_fault, FarFault, ReadOnly, Holding, HasPart, handles_of, AreJoined}
+use Rattle.w16_global.proofs.Common.{◌≡◌, ℕ, ◌+◌, ◌<◌, ◌≤◌, IsSomeAnd, List, [], length, All, Bool, true, false, if◌then◌else◌, Option, Some, None, unwrap_or, refl, sym, ap, ◌∙◌, subst, arith}
+use Rattle.w16_global.proofs.Common.{length-take, length-drop, ◌&&◌, part, repeated, length-repeated, Attributes, Heap, bytes_at, object_at, after_touch, Handles, Gives, far_fault, far_at}
+use Rattle.w16_global.proofs.Common.{far_slot, far_read, data_write, far_write, after_write, refuses_write, Reached, reached, access_fault, FarFault, ReadOnly, Holding, HasPart, handles_of}
+use Rattle.w16_global.proofs.Common.{AreJoined}
 use Rattle.w16_model.specs.Far as access
 use Rattle.w16_selectors.specs.Descriptors as selectors
 use Rattle.w16_global.proofs.Owners as owners

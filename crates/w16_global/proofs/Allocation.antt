@@ -1,5 +1,7 @@
 -- What an allocation answers.
-use Rattle.w16_global.proofs.Common.{◌≡◌, ℕ, inr, true, ◌==◌, ◌&&◌, MatchBool, MatchOption, inl, ne_eqb, Option, Some, None, refl, sym, subst, arith, ◌<◌, ◌≤◌, ◌∙◌, Bool, false, ap, Attributes, Kind, RoomOptions, LARGEST_SIZE, GMEM_MOVEABLE, GMEM_ZEROINIT, GMEM_DDESHARE, false≢true, cases_lt, Heap, Object, IsHeap, with_ordered, with_newest, Allocates, IsNew, Settles, discarded, stays_for, discards_needed, moved_bytes, Enters, Handles, AreHandles, HasNoRun, IsFreeRun, slots_for, some_slots, unused, object_at, handle_of, GlobalAllocs, has_flag, kind_asked, alloc_options, rounded_size, unmoved, none_about}
+use Rattle.w16_global.proofs.Common.{◌≡◌, ℕ, inr, true, ◌==◌, ◌&&◌, MatchBool, MatchOption, inl, ne_eqb, Option, Some, None, refl, sym, subst, arith, ◌<◌, ◌≤◌, ◌∙◌, Bool, false, ap, Attributes, Kind, RoomOptions, LARGEST_SIZE}
+use Rattle.w16_global.proofs.Common.{GMEM_MOVEABLE, GMEM_ZEROINIT, GMEM_DDESHARE, false≢true, cases_lt, Heap, Object, IsHeap, with_ordered, with_newest, Allocates, IsNew, Settles, discarded, stays_for, discards_needed, moved_bytes}
+use Rattle.w16_global.proofs.Common.{Enters, Handles, AreHandles, HasNoRun, IsFreeRun, slots_for, some_slots, unused, object_at, handle_of, GlobalAllocs, has_flag, kind_asked, alloc_options, rounded_size, unmoved, none_about}
 use Rattle.std.specs.FinMap as finmap
 
 -- Where no run of slots is free, a new object is refused.
@@ -45,7 +47,10 @@ module _ (w : Handles) (flags slot size : ℕ) (new : Handles) (free : IsFreeRun
       inl (inr (inr (inr (some, sym (none_about w.heap is slot unused (rounded_size size) (alloc_options flags)) ∙ none))), refl, rest ∙ (λ i. record w { heap = same i; moved = 0 }))
     where
       no_prefix : (p : Option ℕ)
-          → MatchOption p ((false ≡ false) × (new.heap ≡ w.heap)) (λ k. (false ≡ true) × ((o : Object) × IsNew (has_flag flags GMEM_ZEROINIT) (rounded_size size) (kind_asked flags) 0 o × Settles w.heap (stays_for slot (alloc_options flags)) (with_ordered (discarded w.heap k (Some slot)) slot o (with_newest slot o)) new.heap))
+          → MatchOption p ((false ≡ false) × (new.heap ≡ w.heap))
+          (λ k. (false ≡ true) × ((o : Object) × IsNew (has_flag flags GMEM_ZEROINIT) (rounded_size size)
+          (kind_asked flags) 0 o × Settles w.heap (stays_for slot (alloc_options flags))
+          (with_ordered (discarded w.heap k (Some slot)) slot o (with_newest slot o)) new.heap))
           → (p ≡ None) × (new.heap ≡ w.heap)
       no_prefix None h = (refl, h.1)
       no_prefix (Some k) h = absurd (false≢true h.0)
@@ -105,4 +110,8 @@ module _ (w v : Handles) (v_is : v ≡ record w { moved = 0 }) (flags slot size 
 
     pub bytes_refused : AreHandles v → AllocatesBy v slot new.heap n kind options false → new ≡ record v { heap = new.heap } → GlobalAllocs w flags size 0 new
     bytes_refused is allocated rest = refusal_known w flags slot size new free_in kind kind_is a a_is handle handle_is n n_is options way_is some
-        (subst (λ (x : Handles). object_at x.heap slot ≡ None) v_is (unused v is slot (slots_for (rounded_size size)) (some_slots (rounded_size size)) free)) (subst (λ (x : Handles). IsHeap x.heap) v_is is.heap) (subst (λ (x : Handles). AllocatesBy x slot new.heap n kind options false) v_is allocated) (rest ∙ ap (λ (x : Handles). record x { heap = new.heap }) v_is)
+        (subst (λ (x : Handles). object_at x.heap slot ≡ None) v_is
+        (unused v is slot (slots_for (rounded_size size)) (some_slots (rounded_size size)) free))
+        (subst (λ (x : Handles). IsHeap x.heap) v_is is.heap)
+        (subst (λ (x : Handles). AllocatesBy x slot new.heap n kind options false) v_is allocated)
+        (rest ∙ ap (λ (x : Handles). record x { heap = new.heap }) v_is)

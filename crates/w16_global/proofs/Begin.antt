@@ -1,5 +1,6 @@
 -- Nothing is allocated at the start.
-use Rattle.w16_global.proofs.Common.{◌≡◌, ℕ, zero, suc, ◌+◌, ◌-◌, ◌≤◌, List, [], get_or, replicate, Option, None, refl, sym, ap, ◌∙◌, subst, arith, nat_cmp_total, nat_cmp, same_map, nat_cmp-IsAntisymmetric, get-empty, length-replicate, Attributes, FIRST_SLOT, MOST_SLOTS, GRAIN, empty_heap, AreHandles, empty_handles, empty_law, Holding, attributes_in, handles_of, kind_in, HasSize, AreJoined, Some, says, owner_in, none_owns, slots_none, Descriptor}
+use Rattle.w16_global.proofs.Common.{◌≡◌, ℕ, zero, suc, ◌+◌, ◌-◌, ◌≤◌, List, [], get_or, replicate, Option, None, refl, sym, ap, ◌∙◌, subst, arith, nat_cmp_total, nat_cmp, same_map, nat_cmp-IsAntisymmetric, get-empty, length-replicate, Attributes}
+use Rattle.w16_global.proofs.Common.{FIRST_SLOT, MOST_SLOTS, GRAIN, empty_heap, AreHandles, empty_handles, empty_law, Holding, attributes_in, handles_of, kind_in, HasSize, AreJoined, Some, says, owner_in, none_owns, slots_none, Descriptor}
 use Rattle.std.specs.FinMap as finmap
 use Rattle.w16_selectors.specs.Descriptors as selectors
 use Rattle.w16_global.proofs.Owners.{attributes_at}

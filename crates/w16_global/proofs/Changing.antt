@@ -1,5 +1,7 @@
 -- What is joined, once an object has another kind, or has given up its bytes.
-use Rattle.w16_global.proofs.Common.{◌≡◌, ◌≢◌, ℕ, ◌-◌, ◌≤◌, ◌||◌, ◌==◌, inl, inr, true, false, IfSome, OnOk, IfErr, List, length, Option, Some, None, Result, Ok, Err, option_map, unwrap_or, refl, sym, ap, ◌∙◌, subst, nat_cmp, FinMap, false≢true, cases_eq, cases_Bool, eq-eqb, is_some, Attributes, Kind, Refusal, FIRST_SLOT, Heap, Object, object_at, bytes_at, bytes_in, is_fixed, absent, after_modify, after_discard, Handles, AreHandles, slots_at, ChangesKind, modified, discard_absent, get-update_same, get-update_other, taken_other, kind_law, modify_none, modified_handles, discarded_handles, descriptor_at, unset, Descriptor, SelKind, Holding, attributes_in, handles_of, descriptor_for, kind_in, reaching, says, vacated, AreJoined}
+use Rattle.w16_global.proofs.Common.{◌≡◌, ◌≢◌, ℕ, ◌-◌, ◌≤◌, ◌||◌, ◌==◌, inl, inr, true, false, IfSome, OnOk, IfErr, List, length, Option, Some, None, Result, Ok, Err, option_map, unwrap_or, refl, sym, ap, ◌∙◌, subst, nat_cmp, FinMap, false≢true, cases_eq, cases_Bool}
+use Rattle.w16_global.proofs.Common.{eq-eqb, is_some, Attributes, Kind, Refusal, FIRST_SLOT, Heap, Object, object_at, bytes_at, bytes_in, is_fixed, absent, after_modify, after_discard, Handles, AreHandles, slots_at, ChangesKind, modified, discard_absent, get-update_same}
+use Rattle.w16_global.proofs.Common.{get-update_other, taken_other, kind_law, modify_none, modified_handles, discarded_handles, descriptor_at, unset, Descriptor, SelKind, Holding, attributes_in, handles_of, descriptor_for, kind_in, reaching, says, vacated, AreJoined}
 use Rattle.std.specs.FinMap as finmap
 use Rattle.w16_model.specs.declared.Refusal.TheVariants as refusals
 use Rattle.w16_selectors.specs.Descriptors as selectors

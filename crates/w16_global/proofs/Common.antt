@@ -3,7 +3,16 @@ pub use Rattle.std.proofs.Common.{Err, IfErr, IsErrAnd, None, map, Ok, OnOk, Opt
 pub use Rattle.std.proofs.Math.Seq.{drop-append-add, take-append-add}
 pub use Rattle.std.proofs.lemmas.List.{drop-append-le, take_more}
 pub use Rattle.std.proofs.lemmas.List.Folds.{list_any-append}
-pub use Rattle.w16_arena.proofs.Common.{All, All-drop, All-from_Each, All-put_part, All-repeated, All-take, Allocates, AreNew, ArenaState, Bool, Compacts, Each-at, Each-from, Each-from_All, Enters, FinMap, HasDiscarded, HasDiscardedFor, HasTold, Heap, IfNone, IfOk, IfSome, IsBlockOf, IsFirstItem, IsGrown, IsHeap, IsItem, IsMultiple, IsNew, IsSomeAnd, IsUsed, KeepsOthers, Layout, List, MakesRoom, MatchBool, MatchOption, Member, Misses, Object, Reallocates, Request, Settles, Steps, Table, [], absent, after_discard, after_free, after_lock, after_modify, after_newest, after_oldest, after_release, after_touch, after_unlock, ap, arith, block_end, block_member, block_with, blocks, by_its_id, bytes_at, cases_Bool, cases_eq, cases_lt, common_steps, compaction_prefix, cond, contents, counted, discarded, discards_needed, drop, drop-drop, drop-take, eligible, empty_table, entry_at, entry_of, eq-eqb, false, false≢true, first_eligible, get-update_other, get-update_same, get_or, get_or-set_other, get_or-set_same, growth_for, heap_in, holes_in, if◌then◌else◌, inl, inr, inserted_here, inserted_other, is_discardable, is_fixed, is_member, is_pinned_object, is_some, laid_placed, le-ltb, leb-false, length, length-put_part, length-repeated, length-replicate, length-set, length_range, lt-leb, lt-ltb, ltb-true, member_with, most_room, moved_bytes, nat_cmp, nat_cmp-IsAntisymmetric, nat_cmp_total, nat_le, nat_lt, ne_eqb, newest, not, object_at, object_in, oldest, option_map, others_law, part, put_part, range_apart, reallocation_prefix, refl, refused_order, removed, replicate, rules, same_map, set, slice_get, slice_range, snapshot_of, stays_for, subst, suc, sym, take, take-take, taken_here, taken_other, told_at, told_none, told_past, touched, true, true-is_member, two, unwrap_or, used_each, with_newest, with_object, with_ordered, zero, ℕ, ◌&&◌, ◌*◌, ◌++◌, ◌+◌, ◌-◌, ◌/◌, ◌<◌, ◌==◌, ◌||◌, ◌∙◌, ◌∷◌, ◌≡◌, ◌≢◌, ◌≤◌, ◌⊎◌}
+pub use Rattle.w16_arena.proofs.Common.{All, All-drop, All-from_Each, All-put_part, All-repeated, All-take, Allocates, AreNew, ArenaState, Bool, Compacts, Each-at, Each-from, Each-from_All, Enters, FinMap, HasDiscarded, HasDiscardedFor, HasTold}
+pub use Rattle.w16_arena.proofs.Common.{Heap, IfNone, IfOk, IfSome, IsBlockOf, IsFirstItem, IsGrown, IsHeap, IsItem, IsMultiple, IsNew, IsSomeAnd, IsUsed, KeepsOthers, Layout, List, MakesRoom, MatchBool, MatchOption, Member, Misses, Object, Reallocates}
+pub use Rattle.w16_arena.proofs.Common.{Request, Settles, Steps, Table, [], absent, after_discard, after_free, after_lock, after_modify, after_newest, after_oldest, after_release, after_touch, after_unlock, ap, arith, block_end, block_member}
+pub use Rattle.w16_arena.proofs.Common.{block_with, blocks, by_its_id, bytes_at, cases_Bool, cases_eq, cases_lt, common_steps, compaction_prefix, cond, contents, counted, discarded, discards_needed, drop, drop-drop, drop-take, eligible, empty_table}
+pub use Rattle.w16_arena.proofs.Common.{entry_at, entry_of, eq-eqb, false, false≢true, first_eligible, get-update_other, get-update_same, get_or, get_or-set_other, get_or-set_same, growth_for, heap_in, holes_in, if◌then◌else◌, inl, inr, inserted_here}
+pub use Rattle.w16_arena.proofs.Common.{inserted_other, is_discardable, is_fixed, is_member, is_pinned_object, is_some, laid_placed, le-ltb, leb-false, length, length-put_part, length-repeated, length-replicate, length-set, length_range, lt-leb}
+pub use Rattle.w16_arena.proofs.Common.{lt-ltb, ltb-true, member_with, most_room, moved_bytes, nat_cmp, nat_cmp-IsAntisymmetric, nat_cmp_total, nat_le, nat_lt, ne_eqb, newest, not, object_at, object_in, oldest, option_map, others_law, part, put_part}
+pub use Rattle.w16_arena.proofs.Common.{range_apart, reallocation_prefix, refl, refused_order, removed, replicate, rules, same_map, set, slice_get, slice_range, snapshot_of, stays_for, subst, suc, sym, take, take-take, taken_here, taken_other}
+pub use Rattle.w16_arena.proofs.Common.{told_at, told_none, told_past, touched, true, true-is_member, two, unwrap_or, used_each, with_newest, with_object, with_ordered, zero, ℕ, ◌&&◌, ◌*◌, ◌++◌, ◌+◌, ◌-◌, ◌/◌, ◌<◌, ◌==◌, ◌||◌, ◌∙◌, ◌∷◌, ◌≡◌, ◌≢◌}
+pub use Rattle.w16_arena.proofs.Common.{◌≤◌, ◌⊎◌}
 unfoldable pub use Rattle.w16_arena.proofs.Common.{repeated}
 pub use Rattle.w16_arena.proofs.Ahead.{cut_on, told_to_end}
 pub use Rattle.w16_arena.proofs.Fresh.{no_entry, sound}
@@ -22,7 +31,11 @@ pub use Rattle.w16_holes.proofs.Common.{AreThreaded, Free}
 pub use Rattle.w16_holes.specs.Thread.{threaded_stay}
 pub use Rattle.w16_model.proofs.Absence.{discard_absent}
 pub use Rattle.w16_model.proofs.Accesses.{Reached, near, reached}
-pub use Rattle.w16_model.proofs.Common.{Anew, AnswersDiscard, AnswersHandle, AreHandles, AreResized, Asked, ChangesKind, Empties, Gives, GlobalAllocs, GlobalCompacts, GlobalReAllocs, Handles, IsFreeRun, IsFreeSlot, IsNull, IsOwnedRun, IsSized, IsSlot, KeepsRest, Part, ReAllocsOwn, Resizes, ResizesObject, after_write, alloc_options, data_write, empty_handles, empty_heap, far_at, far_bytes, far_fault, far_read, far_slot, far_write, get-empty, handle_of, has_flag, hold_of_object, is_owned, is_past, kind_asked, kind_modified, length-drop, length-take, length-take-le, locks_at, ltb-false, min, modified, nat_tests, owner_of, owns, part_of_selector, realloc_options, refuses_write, rekeyed, rounded_size, selector_of, slot_of_handle, slot_of_selector, slots_at, slots_for, take_at, with_run}
+pub use Rattle.w16_model.proofs.Common.{Anew, AnswersDiscard, AnswersHandle, AreHandles, AreResized, Asked, ChangesKind, Empties, Gives, GlobalAllocs, GlobalCompacts, GlobalReAllocs, Handles, IsFreeRun, IsFreeSlot, IsNull}
+pub use Rattle.w16_model.proofs.Common.{IsOwnedRun, IsSized, IsSlot, KeepsRest, Part, ReAllocsOwn, Resizes, ResizesObject, after_write, alloc_options, data_write, empty_handles, empty_heap, far_at, far_bytes, far_fault, far_read}
+pub use Rattle.w16_model.proofs.Common.{far_slot, far_write, get-empty, handle_of, has_flag, hold_of_object, is_owned, is_past, kind_asked, kind_modified, length-drop, length-take, length-take-le, locks_at, ltb-false, min}
+pub use Rattle.w16_model.proofs.Common.{modified, nat_tests, owner_of, owns, part_of_selector, realloc_options, refuses_write, rekeyed, rounded_size, selector_of, slot_of_handle, slot_of_selector, slots_at, slots_for, take_at}
+pub use Rattle.w16_model.proofs.Common.{with_run}
 pub use Rattle.w16_model.proofs.Cuts.{told_all}
 pub use Rattle.w16_model.proofs.Empty.{empty_law}
 pub use Rattle.w16_model.proofs.Fewest.{global_alloc_law, global_compact_law}

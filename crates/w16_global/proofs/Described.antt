@@ -1,5 +1,8 @@
 -- What each step of the heap leaves of what selectors say.
-use Rattle.w16_global.proofs.Common.{◌≡◌, ◌≢◌, ℕ, ◌+◌, ◌-◌, ◌≤◌, ◌==◌, inl, inr, Bool, true, false, IsSomeAnd, if◌then◌else◌, not, List, length, Option, Some, None, Result, Ok, Err, option_map, is_some, unwrap_or, refl, sym, ap, ◌∙◌, subst, cases_eq, Kind, Refusal, Heap, Object, object_at, bytes_at, is_fixed, with_object, with_ordered, removed, touched, after_lock, after_unlock, put_part, after_write, length-put_part, inserted_here, inserted_other, taken_here, taken_other, get-update_same, get-update_other, unset, Descriptor, SelKind, descriptor_for, reaching, says}
+use Rattle.w16_global.proofs.Common.{◌≡◌, ◌≢◌, ℕ, ◌+◌, ◌-◌, ◌≤◌, ◌==◌, inl, inr, Bool, true, false, IsSomeAnd, if◌then◌else◌, not, List, length, Option, Some, None, Result, Ok, Err, option_map, is_some, unwrap_or}
+use Rattle.w16_global.proofs.Common.{refl, sym, ap, ◌∙◌, subst, cases_eq, Kind, Refusal, Heap, Object, object_at, bytes_at, is_fixed, with_object, with_ordered, removed, touched, after_lock, after_unlock, put_part}
+use Rattle.w16_global.proofs.Common.{after_write, length-put_part, inserted_here, inserted_other, taken_here, taken_other, get-update_same, get-update_other, unset, Descriptor, SelKind, descriptor_for, reaching}
+use Rattle.w16_global.proofs.Common.{says}
 use Rattle.std.specs.FinMap as finmap
 use Rattle.w16_model.specs.declared.Refusal.TheVariants as refusals
 

@@ -1,5 +1,7 @@
 -- Selectors that follow their objects, one object further.
-use Rattle.w16_global.proofs.Common.{◌≡◌, ◌≢◌, ℕ, ◌+◌, ◌-◌, ◌<◌, ◌≤◌, ◌⊎◌, ◌||◌, ◌==◌, inl, inr, Bool, true, false, ◌&&◌, nat_le, nat_lt, IfSome, List, [], ◌∷◌, length, get_or, take, Option, Some, None, option_map, is_some, unwrap_or, refl, sym, ap, ◌∙◌, subst, arith, false≢true, cases_eq, cases_lt, eq-eqb, ne_eqb, nat_tests, list_any-append, take_more, is_member, Block, Misses, block_end, Heap, Object, IsHeap, object_at, bytes_at, hold_of_object, IsBlockOf, some_bytes, two_placed, AreHandles, Attributes, Holding, handles_of, AreLabelled, descriptor_at, begins_in, placed, slots_in, told, vacated, in_run, kind_at, reaching}
+use Rattle.w16_global.proofs.Common.{◌≡◌, ◌≢◌, ℕ, ◌+◌, ◌-◌, ◌<◌, ◌≤◌, ◌⊎◌, ◌||◌, ◌==◌, inl, inr, Bool, true, false, ◌&&◌, nat_le, nat_lt, IfSome, List, [], ◌∷◌, length, get_or, take, Option, Some, None, option_map, is_some, unwrap_or}
+use Rattle.w16_global.proofs.Common.{refl, sym, ap, ◌∙◌, subst, arith, false≢true, cases_eq, cases_lt, eq-eqb, ne_eqb, nat_tests, list_any-append, take_more, is_member, Block, Misses, block_end, Heap, Object, IsHeap, object_at, bytes_at}
+use Rattle.w16_global.proofs.Common.{hold_of_object, IsBlockOf, some_bytes, two_placed, AreHandles, Attributes, Holding, handles_of, AreLabelled, descriptor_at, begins_in, placed, slots_in, told, vacated, in_run, kind_at, reaching}
 use Rattle.std.specs.FinMap as finmap
 use Rattle.w16_selectors.specs.Descriptors as selectors
 use Rattle.w16_global.proofs.Told.{placed_told, run_sized, told_labelled, told_more, vacated_told}

@@ -1,5 +1,6 @@
 -- The objects before anything is allocated.
-use Rattle.w16_global.proofs.Common.{◌≡◌, ℕ, ◌<◌, ◌≤◌, All, List, [], length, Option, None, option_map, refl, sym, ap, ◌∙◌, arith, nat_cmp, get-empty, length-replicate, Entry, GRAIN, empty_heap, object_in, heap_in, add_span, AreThreaded, ArenaState, empty_table, same_heap, object_here, place_here, sound, no_entry, AreParts, holding_of}
+use Rattle.w16_global.proofs.Common.{◌≡◌, ℕ, ◌<◌, ◌≤◌, All, List, [], length, Option, None, option_map, refl, sym, ap, ◌∙◌, arith, nat_cmp, get-empty, length-replicate, Entry, GRAIN}
+use Rattle.w16_global.proofs.Common.{empty_heap, object_in, heap_in, add_span, AreThreaded, ArenaState, empty_table, same_heap, object_here, place_here, sound, no_entry, AreParts, holding_of}
 use Rattle.w16_global.proofs.Written.{beside}
 
 -- all of a memory is a hole

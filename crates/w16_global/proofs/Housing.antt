@@ -1,5 +1,9 @@
 -- An object that has another run of slots: what its selectors and those of the others say.
-use Rattle.w16_global.proofs.Common.{◌≡◌, ◌≢◌, ℕ, ◌+◌, ◌-◌, ◌<◌, ◌≤◌, ◌⊎◌, ◌==◌, if◌then◌else◌, cond, inl, inr, Bool, true, false, List, get_or, map, Option, Some, None, option_map, is_some, refl, sym, ap, ◌∙◌, subst, arith, false≢true, cases_eq, cases_lt, cases_Bool, eq-eqb, ne_eqb, nat_cmp, nat_cmp_total, nat_cmp-IsAntisymmetric, same_map, FinMap, Attributes, FIRST_SLOT, Heap, Object, IsHeap, object_at, bytes_at, bytes_in, rekeyed, rehoused, with_run, unused, GetsRun, slots_at, inserted_here, inserted_other, taken_here, taken_other, IsUntaken, descriptor_at, Descriptor, SelKind, AreHoused, AreJoined, AreLabelled, HasRun, HasSize, Holding, MayHave, attributes_housed, attributes_in, handles_of, is_in_run, kind_for, kind_in, label_of, owner_in, says, slots_in}
+use Rattle.w16_global.proofs.Common.{◌≡◌, ◌≢◌, ℕ, ◌+◌, ◌-◌, ◌<◌, ◌≤◌, ◌⊎◌, ◌==◌, if◌then◌else◌, cond, inl, inr, Bool, true, false, List, get_or, map, Option, Some, None, option_map, is_some, refl, sym, ap, ◌∙◌, subst}
+use Rattle.w16_global.proofs.Common.{arith, false≢true, cases_eq, cases_lt, cases_Bool, eq-eqb, ne_eqb, nat_cmp, nat_cmp_total, nat_cmp-IsAntisymmetric, same_map, FinMap, Attributes, FIRST_SLOT, Heap, Object, IsHeap}
+use Rattle.w16_global.proofs.Common.{object_at, bytes_at, bytes_in, rekeyed, rehoused, with_run, unused, GetsRun, slots_at, inserted_here, inserted_other, taken_here, taken_other, IsUntaken, descriptor_at, Descriptor}
+use Rattle.w16_global.proofs.Common.{SelKind, AreHoused, AreJoined, AreLabelled, HasRun, HasSize, Holding, MayHave, attributes_housed, attributes_in, handles_of, is_in_run, kind_for, kind_in, label_of, owner_in, says}
+use Rattle.w16_global.proofs.Common.{slots_in}
 use Rattle.std.specs.FinMap as finmap
 use Rattle.w16_model.specs.Handles.{AreRuns, owner_of}
 use Rattle.w16_model.specs.declared.RoomOptions.{RoomOptions}

@@ -1,5 +1,7 @@
 -- The objects, their attributes and their selectors, where some have changed.
-use Rattle.w16_global.proofs.Common.{◌≡◌, ℕ, ◌-◌, ◌<◌, ◌≤◌, inl, inr, true, List, length, get_or, set, Option, Some, None, option_map, is_some, refl, sym, ap, ◌∙◌, subst, arith, nat_cmp_total, same_map, nat_cmp-IsAntisymmetric, cases_eq, get_or-set_same, get_or-set_other, Attributes, FIRST_SLOT, Heap, Handles, object_at, IsSlot, IsFreeRun, numbered, unused, inserted_here, inserted_other, taken_here, taken_other, Descriptor, SelKind, Holding, attributes_in, handles_of, described, kind_in, label_in, owner_in, says, HasSize, AreJoined}
+use Rattle.w16_global.proofs.Common.{◌≡◌, ℕ, ◌-◌, ◌<◌, ◌≤◌, inl, inr, true, List, length, get_or, set, Option, Some, None, option_map, is_some, refl, sym, ap, ◌∙◌, subst, arith, nat_cmp_total, same_map}
+use Rattle.w16_global.proofs.Common.{nat_cmp-IsAntisymmetric, cases_eq, get_or-set_same, get_or-set_other, Attributes, FIRST_SLOT, Heap, Handles, object_at, IsSlot, IsFreeRun, numbered, unused, inserted_here}
+use Rattle.w16_global.proofs.Common.{inserted_other, taken_here, taken_other, Descriptor, SelKind, Holding, attributes_in, handles_of, described, kind_in, label_in, owner_in, says, HasSize, AreJoined}
 use Rattle.std.specs.FinMap as finmap
 use Rattle.w16_selectors.specs.Descriptors as selectors
 use Rattle.w16_global.proofs.Owners.{attributes_at}

@@ -1,5 +1,9 @@
 -- What the steps that calls are made of leave joined, and what they say of the handles.
-use Rattle.w16_global.proofs.Common.{◌≡◌, ◌≢◌, ℕ, ◌+◌, ◌-◌, ◌<◌, ◌≤◌, if◌then◌else◌, nat_lt, Bool, true, false, inl, inr, IfOk, OnOk, IfErr, List, length, get_or, set, Option, Some, None, Result, Ok, Err, is_some, option_map, unwrap_or, refl, sym, ap, ◌∙◌, subst, arith, false≢true, cases_Bool, lt-ltb, le-ltb, get_or-set_same, get_or-set_other, length-set, Attributes, Kind, Refusal, FIRST_SLOT, locks_at, without_slot, Heap, Object, IsHeap, object_at, with_object, removed, touched, newest, oldest, Enters, after_lock, after_unlock, after_free, after_touch, after_newest, after_oldest, refused_order, Handles, AreHandles, IsFreeRun, IsOwnedRun, touched_heap, newest_heap, oldest_heap, ordered, other_handles, lock_ok, unlock_ok, without_object, with_absent_object, unused, owner_is, slots_at, Kept, unset, Descriptor, SelKind, descriptor_at, Holding, attributes_in, handles_of, described, given, taken, is_in_run, kind_for, kind_in, label_of, owner_in, says, AreLabelled, HasSize, AreJoined}
+use Rattle.w16_global.proofs.Common.{◌≡◌, ◌≢◌, ℕ, ◌+◌, ◌-◌, ◌<◌, ◌≤◌, if◌then◌else◌, nat_lt, Bool, true, false, inl, inr, IfOk, OnOk, IfErr, List, length, get_or, set, Option, Some, None, Result, Ok, Err, is_some, option_map}
+use Rattle.w16_global.proofs.Common.{unwrap_or, refl, sym, ap, ◌∙◌, subst, arith, false≢true, cases_Bool, lt-ltb, le-ltb, get_or-set_same, get_or-set_other, length-set, Attributes, Kind, Refusal, FIRST_SLOT, locks_at, without_slot}
+use Rattle.w16_global.proofs.Common.{Heap, Object, IsHeap, object_at, with_object, removed, touched, newest, oldest, Enters, after_lock, after_unlock, after_free, after_touch, after_newest, after_oldest, refused_order, Handles}
+use Rattle.w16_global.proofs.Common.{AreHandles, IsFreeRun, IsOwnedRun, touched_heap, newest_heap, oldest_heap, ordered, other_handles, lock_ok, unlock_ok, without_object, with_absent_object, unused, owner_is, slots_at, Kept}
+use Rattle.w16_global.proofs.Common.{unset, Descriptor, SelKind, descriptor_at, Holding, attributes_in, handles_of, described, given, taken, is_in_run, kind_for, kind_in, label_of, owner_in, says, AreLabelled, HasSize, AreJoined}
 use Rattle.std.specs.FinMap as finmap
 use Rattle.w16_model.specs.declared.Refusal.TheVariants as refusals
 use Rattle.w16_selectors.specs.Descriptors as selectors
@@ -203,7 +207,10 @@ module _ {h : Holding} {xs : List (Option Attributes)} {t : selectors.Descriptor
       → ((q : ℕ) → descriptor_at after q ≡ taken slot a.slots holds t q) → length after ≡ length t → AreJoined new ys after
   entered_joined run own kind holds holds_is after is takes many = with_run_joined handles own after many (λ q. takes q ∙ elim (cases_Bool (is_in_run slot a.slots q)) [
     | inl inside ↦ ap (λ b. if b then Some (unset holds (q - slot)) else descriptor_at t q) inside ∙ ap (λ k. Some (unset k (q - slot))) (holds_is ∙ sym own_kind)
-        ∙ sym (ap (λ p. elim p as (λ _. Option Descriptor) [ None ↦ None | Some first ↦ says new.heap (kind_in ys first) (q - first) first ]) ((owners handles own q).0 inside) ∙ ap (λ (k : Heap). says k (kind_in ys slot) (q - slot) slot) is ∙ entered_here (kind_in ys slot) (q - slot) h.heap slot kind)
+        ∙ sym (ap (λ p. elim p as (λ _. Option Descriptor)
+        [ None ↦ None | Some first ↦ says new.heap (kind_in ys first) (q - first) first ])
+        ((owners handles own q).0 inside) ∙ ap (λ (k : Heap). says k (kind_in ys slot) (q - slot) slot) is ∙
+        entered_here (kind_in ys slot) (q - slot) h.heap slot kind)
     | inr outside ↦ ap (λ b. if b then Some (unset holds (q - slot)) else descriptor_at t q) outside ∙ are.described q ∙ sym (others_described xs ys q ((owners handles own q).1 outside) (kinds handles own q) h.heap new.heap
         (λ first e k number. ap (λ (g : Heap). says g k number first) is ∙ entered_other k number h.heap slot kind first (another q first e)))
   ])

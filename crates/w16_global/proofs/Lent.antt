@@ -1,5 +1,8 @@
 -- An object's bytes, lent to a work.
-use Rattle.w16_global.proofs.Common.{◌≡◌, ℕ, ◌+◌, ◌-◌, ◌<◌, ◌≤◌, IsSomeAnd, List, ◌++◌, length, take, drop, All, Option, Some, None, option_map, refl, sym, ap, ◌∙◌, subst, arith, length-drop, slice_range, Vec, with_items, length-take-le, take_at, All-take, All-drop, drop-append-add, part, put_part, Attributes, Block, after_write, Object, object_at, bytes_at, block_with, counted, with_items-put_part, bytes_here, ends_in_memory, ArenaState, Global, handles_of, AreJoined, Lends, AreParts, HasPart, Holding, holding_of}
+use Rattle.w16_global.proofs.Common.{◌≡◌, ℕ, ◌+◌, ◌-◌, ◌<◌, ◌≤◌, IsSomeAnd, List, ◌++◌, length, take, drop, All, Option, Some, None, option_map, refl, sym, ap, ◌∙◌, subst, arith, length-drop}
+use Rattle.w16_global.proofs.Common.{slice_range, Vec, with_items, length-take-le, take_at, All-take, All-drop, drop-append-add, part, put_part, Attributes, Block, after_write, Object, object_at}
+use Rattle.w16_global.proofs.Common.{bytes_at, block_with, counted, with_items-put_part, bytes_here, ends_in_memory, ArenaState, Global, handles_of, AreJoined, Lends, AreParts, HasPart, Holding}
+use Rattle.w16_global.proofs.Common.{holding_of}
 use Rattle.w16_selectors.specs.Descriptors as selectors
 use Rattle.w16_global.proofs.Owners.{written_joined}
 use Rattle.w16_global.proofs.Written.{beside, holding_written, parts_filled}

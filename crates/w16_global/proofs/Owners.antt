@@ -1,6 +1,10 @@
 -- What the selectors say, by the objects in whose runs their slots are.
 use Rattle.std.proofs.lemmas.Bool.{eqb-true}
-use Rattle.w16_global.proofs.Common.{◌≡◌, ℕ, ◌+◌, ◌-◌, ◌<◌, ◌≤◌, ◌==◌, ◌/◌, inl, inr, ◌&&◌, Bool, true, false, if◌then◌else◌, List, length, get_or, Option, Some, None, option_map, unwrap_or, is_some, refl, sym, ap, ◌∙◌, subst, arith, eq-eqb, false≢true, Attributes, FIRST_SLOT, Heap, Handles, Object, object_at, AreHandles, IsFreeSlot, IsFreeRun, Part, slots_at, owner_of, part_of_selector, slot_of_selector, selector_of, slots_none, slots_of, IfSome, owner_is, is_owner, first_in, get-by_id, moved_handles, All, put_part, length-put_part, cases_eq, get-update_same, get-update_other, after_write, other_handles, same_updated, written_heap, written_sized, descriptor_at, descriptor_of, unset, IsUntaken, Descriptor, SelKind, Holding, Global, attributes_in, handles_of, descriptor_for, described, kind_in, label_in, label_of, owner_in, says, AreJoined}
+use Rattle.w16_global.proofs.Common.{◌≡◌, ℕ, ◌+◌, ◌-◌, ◌<◌, ◌≤◌, ◌==◌, ◌/◌, inl, inr, ◌&&◌, Bool, true, false, if◌then◌else◌, List, length, get_or, Option, Some, None, option_map, unwrap_or, is_some, refl, sym, ap, ◌∙◌, subst, arith, eq-eqb}
+use Rattle.w16_global.proofs.Common.{false≢true, Attributes, FIRST_SLOT, Heap, Handles, Object, object_at, AreHandles, IsFreeSlot, IsFreeRun, Part, slots_at, owner_of, part_of_selector, slot_of_selector, selector_of, slots_none, slots_of}
+use Rattle.w16_global.proofs.Common.{IfSome, owner_is, is_owner, first_in, get-by_id, moved_handles, All, put_part, length-put_part, cases_eq, get-update_same, get-update_other, after_write, other_handles, same_updated, written_heap}
+use Rattle.w16_global.proofs.Common.{written_sized, descriptor_at, descriptor_of, unset, IsUntaken, Descriptor, SelKind, Holding, Global, attributes_in, handles_of, descriptor_for, described, kind_in, label_in, label_of, owner_in, says}
+use Rattle.w16_global.proofs.Common.{AreJoined}
 use Rattle.std.specs.FinMap as finmap
 use Rattle.w16_model.specs.Handles.{IsRun}
 use Rattle.w16_selectors.specs.Descriptors as selectors
@@ -199,7 +203,10 @@ module _ {h : Holding} {xs : List (Option Attributes)} {t : selectors.Descriptor
   pub written_joined : (slot at : ℕ) (slice bytes : List ℕ) (o : Object) → object_at h.heap slot ≡ Some o → o.bytes ≡ Some bytes → at + length slice ≤ length bytes → All (λ b. b < 256) slice → (count : ℕ)
       → AreJoined (record h { heap = after_write h.heap slot at slice; written = count }) xs t
   written_joined slot at slice bytes o there has fits all count = joined_same (record h { heap = after_write h.heap slot at slice; written = count }) refl
-      (other_handles (handles_of h xs 0) are.handles (after_write h.heap slot at slice) (written_heap h.heap are.handles.heap slot o there bytes has at slice fits all) refl refl (same_updated h.heap.objects slot put) (written_sized (handles_of h xs 0) are.handles slot at slice o bytes there has fits))
+      (other_handles (handles_of h xs 0) are.handles (after_write h.heap slot at slice)
+      (written_heap h.heap are.handles.heap slot o there bytes has at slice fits all) refl refl
+      (same_updated h.heap.objects slot put) (written_sized (handles_of h xs 0) are.handles slot at slice o bytes
+      there has fits))
       (λ holds number first. said_same h.heap (after_write h.heap slot at slice) holds number first (elim (cases_eq first slot) [
         | inl e ↦ subst (λ q. size_in (object_at (after_write h.heap slot at slice) q) ≡ size_in (object_at h.heap q)) (sym e) here
         | inr n ↦ ap size_in (get-update_other h.heap.objects slot put first n)

@@ -1,5 +1,8 @@
 -- Objects that modules own: their sizes, and what their revivals write.
-use Rattle.w16_global.proofs.Common.{◌≡◌, ℕ, ◌/◌, ◌<◌, ◌≤◌, ◌⊎◌, ◌==◌, inl, inr, Bool, true, false, if◌then◌else◌, MatchBool, MatchOption, nat_le, IfNone, IfSome, IsSomeAnd, List, length, take, Option, Some, None, is_some, option_map, refl, sym, ap, ◌∙◌, subst, arith, false≢true, cases_eq, eq-eqb, nat_cmp, nat_cmp_total, nat_cmp-IsAntisymmetric, same_map, FinMap, Attributes, Kind, Owned, GRAIN, REACH, Handles, AreHandles, Heap, Object, IsMultiple, object_at, bytes_at, bytes_in, with_object, handle_of, slot_of_handle, revival_options, owned_at, owned_in, Allocates, Reallocates, GetsRun, LacksRun, rehoused, with_run, slots_at, slots_for, inserted_here, inserted_other, taken_other, moved_bytes, moved_handles, counted, unmoved, Global, handles_of, HasSize, AreJoined, Holding, get_or}
+use Rattle.w16_global.proofs.Common.{◌≡◌, ℕ, ◌/◌, ◌<◌, ◌≤◌, ◌⊎◌, ◌==◌, inl, inr, Bool, true, false, if◌then◌else◌, MatchBool, MatchOption, nat_le, IfNone, IfSome, IsSomeAnd, List, length, take, Option, Some, None, is_some}
+use Rattle.w16_global.proofs.Common.{option_map, refl, sym, ap, ◌∙◌, subst, arith, false≢true, cases_eq, eq-eqb, nat_cmp, nat_cmp_total, nat_cmp-IsAntisymmetric, same_map, FinMap, Attributes, Kind, Owned, GRAIN, REACH, Handles}
+use Rattle.w16_global.proofs.Common.{AreHandles, Heap, Object, IsMultiple, object_at, bytes_at, bytes_in, with_object, handle_of, slot_of_handle, revival_options, owned_at, owned_in, Allocates, Reallocates, GetsRun, LacksRun}
+use Rattle.w16_global.proofs.Common.{rehoused, with_run, slots_at, slots_for, inserted_here, inserted_other, taken_other, moved_bytes, moved_handles, counted, unmoved, Global, handles_of, HasSize, AreJoined, Holding, get_or}
 use Rattle.std.specs.FinMap as finmap
 use Rattle.w16_model.specs.declared.Kind.TheVariants as kinds
 use Rattle.w16_model.specs.Owned.{Revives}

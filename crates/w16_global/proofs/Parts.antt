@@ -1,5 +1,6 @@
 -- The objects' arena and memory, and the heap that they stand for.
-use Rattle.w16_global.proofs.Common.{◌≡◌, ℕ, ◌+◌, ◌^◌, ◌<◌, ◌≤◌, ◌⊎◌, IfSome, IfNone, List, length, Option, Some, None, Result, Ok, Err, OnOk, IfErr, option_map, refl, sym, ap, ◌∙◌, subst, arith, is_some, true, Block, Heap, Object, IsHeap, object_at, bytes_at, block_with, entry_at, heap_in, Refusal, after_release, contents, removed, ArenaState, Steps, entry_of, heap_kept, is_heap, entry_is, size_here, place_here, ends_in_memory, no_block, AreParts, Holding, holding_of}
+use Rattle.w16_global.proofs.Common.{◌≡◌, ℕ, ◌+◌, ◌^◌, ◌<◌, ◌≤◌, ◌⊎◌, IfSome, IfNone, List, length, Option, Some, None, Result, Ok, Err, OnOk, IfErr, option_map, refl, sym, ap, ◌∙◌, subst, arith, is_some, true, Block, Heap, Object, IsHeap, object_at}
+use Rattle.w16_global.proofs.Common.{bytes_at, block_with, entry_at, heap_in, Refusal, after_release, contents, removed, ArenaState, Steps, entry_of, heap_kept, is_heap, entry_is, size_here, place_here, ends_in_memory, no_block, AreParts, Holding, holding_of}
 use Rattle.std.specs.FinMap as finmap
 use Rattle.std.proofs.lemmas.Option.{IfSome_then}
 use Rattle.w16_arena.proofs.Lookups.{no_entry}

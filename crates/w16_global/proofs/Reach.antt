@@ -1,6 +1,9 @@
 -- A far access by descriptors is one by objects.
 use Rattle.std.proofs.lemmas.List.{get_or_past}
-use Rattle.w16_global.proofs.Common.{◌≡◌, ℕ, ◌+◌, ◌-◌, ◌*◌, ◌/◌, ◌<◌, ◌≤◌, inl, inr, Bool, true, false, if◌then◌else◌, not, ◌&&◌, ◌||◌, nat_lt, List, length, Option, Some, None, Result, Ok, Err, option_map, is_some, unwrap_or, refl, sym, ap, ◌∙◌, subst, arith, min, IfErr, IsErrAnd, IfSome, nat_tests, cases_lt, get_or, Attributes, FarFault, BadSelector, ReadOnly, NotPresent, Limit, REACH, bytes_at, Handles, Part, part_of_selector, is_past, slots_at, selector_of, attributes_in, selector_base, selector_limit, bytes_in, false≢true, far_fault, far_at, far_slot, Owned, owned_in, refuses_write, near, descriptor_at, descriptor_of, place_of, unset, is_code, Descriptor, SelKind, Data, Code, access_fault, Holding, handles_of, descriptor_for, kind_in, AreJoined}
+use Rattle.w16_global.proofs.Common.{◌≡◌, ℕ, ◌+◌, ◌-◌, ◌*◌, ◌/◌, ◌<◌, ◌≤◌, inl, inr, Bool, true, false, if◌then◌else◌, not, ◌&&◌, ◌||◌, nat_lt, List, length, Option, Some, None, Result, Ok, Err, option_map, is_some}
+use Rattle.w16_global.proofs.Common.{unwrap_or, refl, sym, ap, ◌∙◌, subst, arith, min, IfErr, IsErrAnd, IfSome, nat_tests, cases_lt, get_or, Attributes, FarFault, BadSelector, ReadOnly, NotPresent, Limit, REACH, bytes_at}
+use Rattle.w16_global.proofs.Common.{Handles, Part, part_of_selector, is_past, slots_at, selector_of, attributes_in, selector_base, selector_limit, bytes_in, false≢true, far_fault, far_at, far_slot, Owned, owned_in}
+use Rattle.w16_global.proofs.Common.{refuses_write, near, descriptor_at, descriptor_of, place_of, unset, is_code, Descriptor, SelKind, Data, Code, access_fault, Holding, handles_of, descriptor_for, kind_in, AreJoined}
 use Rattle.std.specs.FinMap as finmap
 use Rattle.w16_model.specs.Handles.{reached}
 use Rattle.w16_model.specs.Owned.{is_code as handles_is_code}

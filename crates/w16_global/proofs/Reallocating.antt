@@ -1,5 +1,10 @@
 -- What is joined, where an object got another size, for which others may have been discarded or have slid.
-use Rattle.w16_global.proofs.Common.{◌≡◌, ◌≢◌, ℕ, ◌+◌, ◌-◌, ◌<◌, ◌≤◌, ◌⊎◌, ◌||◌, ◌&&◌, inl, inr, Bool, true, false, cond, not, nat_le, nat_lt, IfNone, IfSome, IsSomeAnd, All, List, [], take, length, get_or, Option, Some, None, option_map, is_some, unwrap_or, refl, sym, ap, ◌∙◌, subst, arith, Vec, with_items, false≢true, cases_eq, le-leb, lt-leb, Attributes, RoomOptions, FIRST_SLOT, growth_for, Heap, Object, IsHeap, object_at, bytes_at, bytes_in, is_pinned_object, with_newest, with_ordered, Asked, IsNew, IsGrown, Reallocates, Settles, discarded, discards_needed, snapshot_of, stays_for, KeepsOthers, Handles, AreHandles, AreResized, IsResized, KeepsRest, IsCase, GetsRun, HasRun, LacksRun, MayHave, moved_bytes, number_at, one_outcome_law, rehoused, slots_for, slots_in, with_run, some_slots, is_member, others_law, asked, by_case, none_discarded, heap_law, rest_law, HasDiscardedFor, reallocation_prefix, descriptor_at, Holding, AreHoused, AreJoined, AreLabelled, attributes_housed, attributes_in, begins_in, handles_of, kind_in, owner_in, placed, says, told}
+use Rattle.w16_global.proofs.Common.{◌≡◌, ◌≢◌, ℕ, ◌+◌, ◌-◌, ◌<◌, ◌≤◌, ◌⊎◌, ◌||◌, ◌&&◌, inl, inr, Bool, true, false, cond, not, nat_le, nat_lt, IfNone, IfSome, IsSomeAnd, All, List, [], take, length, get_or, Option, Some, None, option_map}
+use Rattle.w16_global.proofs.Common.{is_some, unwrap_or, refl, sym, ap, ◌∙◌, subst, arith, Vec, with_items, false≢true, cases_eq, le-leb, lt-leb, Attributes, RoomOptions, FIRST_SLOT, growth_for, Heap, Object, IsHeap, object_at, bytes_at}
+use Rattle.w16_global.proofs.Common.{bytes_in, is_pinned_object, with_newest, with_ordered, Asked, IsNew, IsGrown, Reallocates, Settles, discarded, discards_needed, snapshot_of, stays_for, KeepsOthers, Handles, AreHandles, AreResized, IsResized}
+use Rattle.w16_global.proofs.Common.{KeepsRest, IsCase, GetsRun, HasRun, LacksRun, MayHave, moved_bytes, number_at, one_outcome_law, rehoused, slots_for, slots_in, with_run, some_slots, is_member, others_law, asked, by_case, none_discarded}
+use Rattle.w16_global.proofs.Common.{heap_law, rest_law, HasDiscardedFor, reallocation_prefix, descriptor_at, Holding, AreHoused, AreJoined, AreLabelled, attributes_housed, attributes_in, begins_in, handles_of, kind_in, owner_in, placed, says}
+use Rattle.w16_global.proofs.Common.{told}
 use Rattle.std.specs.FinMap as finmap
 use Rattle.std.proofs.lemmas.List.{with_items_is}
 use Rattle.w16_selectors.specs.Descriptors as selectors
@@ -243,5 +248,9 @@ module _ {h : Holding} {xs : List (Option Attributes)} {t : selectors.Descriptor
             let (b, kind, said) = housed_rest are slot first (slots_for n) o there (some_slots n) options gets ys ys_at (h.cap - FIRST_SLOT) refl runs_of u (known_housed u housed) q f e c in
             said ∙ sym (ap (λ k. says new.heap k (q - f) f) kind ∙ ap (λ (k : Heap). says k (kind_in xs f) (q - f) f) heap_is ∙ says_other made.heap sound slot first nobody_then f c b (kind_in xs f) (q - f)
             ∙ rest_says h.heap made.heap sound (Some slot) has.prefix keeps made.discarded has.listed from to f (λ g. let same : slot ≡ f = cc in b (sym same))
-            (ap (λ (x : Holding). is_member f x.discarded || begins_in made.heap from to f) (sym new_is) ∙ ap (λ p. is_member f new.discarded || (elim p as (λ _. Bool) [ None ↦ false | Some at ↦ nat_le from at && nat_lt at to ])) (sym (ap (λ (k : Heap). finmap.get k.places f) heap_is ∙ place_other made.heap sound slot first nobody_then f c b)) ∙ untold)
+            (ap (λ (x : Holding). is_member f x.discarded || begins_in made.heap from to f) (sym new_is) ∙ ap
+            (λ p. is_member f new.discarded || (elim p as (λ _. Bool)
+            [ None ↦ false | Some at ↦ nat_le from at && nat_lt at to ]))
+            (sym (ap (λ (k : Heap). finmap.get k.places f) heap_is ∙ place_other made.heap sound slot first
+            nobody_then f c b)) ∙ untold)
             (still f b) (kind_in xs f) (q - f))

@@ -1,5 +1,8 @@
 -- What GlobalReAlloc and GlobalDiscard answer.
-use Rattle.w16_global.proofs.Common.{◌≡◌, ℕ, ◌-◌, ◌≤◌, if◌then◌else◌, length, ◌||◌, ◌==◌, ◌&&◌, inl, inr, Bool, true, false, cond, MatchBool, MatchOption, List, Option, Some, None, Result, Ok, Err, option_map, unwrap_or, refl, sym, ap, ◌∙◌, subst, arith, ne_eqb, cases_eq, le-ltb, Kind, RoomOptions, Refusal, LARGEST_SIZE, GMEM_MOVEABLE, GMEM_MODIFY, GMEM_ZEROINIT, Heap, Object, object_at, bytes_at, is_fixed, is_discardable, absent, with_ordered, with_newest, Reallocates, moved_bytes, after_discard, Handles, handle_of, slot_of_handle, global_size, has_flag, rounded_size, owns, is_owned, realloc_options, kind_modified, modified, Anew, ResizesObject, rehoused, with_run, slots_for, IsSomeAnd, AreHandles, GetsRun, LacksRun, IsResized, ◌⊎◌, IsNull, AnswersHandle, AnswersDiscard, Empties, Resizes, ReAllocsOwn, GlobalReAllocs, GlobalDiscards, discard_absent, taken_here, taken_other, counted, none_moved, unmoved, zeroed_behind}
+use Rattle.w16_global.proofs.Common.{◌≡◌, ℕ, ◌-◌, ◌≤◌, if◌then◌else◌, length, ◌||◌, ◌==◌, ◌&&◌, inl, inr, Bool, true, false, cond, MatchBool, MatchOption, List, Option, Some, None, Result, Ok, Err, option_map, unwrap_or, refl, sym, ap, ◌∙◌, subst, arith, ne_eqb}
+use Rattle.w16_global.proofs.Common.{cases_eq, le-ltb, Kind, RoomOptions, Refusal, LARGEST_SIZE, GMEM_MOVEABLE, GMEM_MODIFY, GMEM_ZEROINIT, Heap, Object, object_at, bytes_at, is_fixed, is_discardable, absent, with_ordered, with_newest, Reallocates, moved_bytes}
+use Rattle.w16_global.proofs.Common.{after_discard, Handles, handle_of, slot_of_handle, global_size, has_flag, rounded_size, owns, is_owned, realloc_options, kind_modified, modified, Anew, ResizesObject, rehoused, with_run, slots_for, IsSomeAnd, AreHandles}
+use Rattle.w16_global.proofs.Common.{GetsRun, LacksRun, IsResized, ◌⊎◌, IsNull, AnswersHandle, AnswersDiscard, Empties, Resizes, ReAllocsOwn, GlobalReAllocs, GlobalDiscards, discard_absent, taken_here, taken_other, counted, none_moved, unmoved, zeroed_behind}
 use Rattle.w16_model.specs.declared.Kind.TheVariants as kinds
 use Rattle.w16_model.specs.declared.Refusal.TheVariants as refusals
 use Rattle.w16_model.proofs.Housed.{housed_first, keeps}
@@ -60,7 +63,10 @@ answer_some kinds.Discardable first = ne_eqb (handle_of kinds.Discardable first)
 -- the handle that an object has then
 answered : (v : Handles) → AreHandles v → (slot n : ℕ) (options : RoomOptions) (o : Object) → object_at v.heap slot ≡ Some o → (first : ℕ) → GetsRun v slot o options (slots_for n) first → (heap : Heap) → Reallocates v.heap slot n options true heap
     → unwrap_or (option_map (λ (o : Object). handle_of o.kind first) (object_at (rehoused heap slot first) first)) 0 ≡ handle_of o.kind first
-answered v is slot n options o there first gets heap r = ap (λ (p : Option Object). unwrap_or (option_map (λ (o : Object). handle_of o.kind first) p) 0) (housed_first v is slot n options o there first gets heap r) ∙ turn (object_at heap slot) (keeps v is slot n options o there first gets heap r).object
+answered v is slot n options o there first gets heap r = ap
+    (λ (p : Option Object). unwrap_or (option_map (λ (o : Object). handle_of o.kind first) p) 0)
+    (housed_first v is slot n options o there first gets heap r) ∙ turn (object_at heap slot)
+    (keeps v is slot n options o there first gets heap r).object
   where
     turn : (p : Option Object) → IsSomeAnd p (IsResized options.zero n o) → unwrap_or (option_map (λ (o : Object). handle_of o.kind first) p) 0 ≡ handle_of o.kind first
     turn None f = absurd f

@@ -1,5 +1,9 @@
 -- What is joined, where objects have slid and their selectors followed.
-use Rattle.w16_global.proofs.Common.{◌≡◌, ◌≢◌, ℕ, ◌+◌, ◌-◌, ◌<◌, ◌≤◌, ◌⊎◌, ◌||◌, inl, inr, Bool, true, false, ◌&&◌, nat_le, nat_lt, if◌then◌else◌, IfSome, IsSomeAnd, MatchBool, All, List, [], take, length, set, Option, Some, None, option_map, is_some, refl, sym, ap, ◌∙◌, subst, arith, leb-false, ltb-false, eq-eqb, ne_eqb, false≢true, cases_eq, cases_Bool, Attributes, Kind, RoomOptions, FIRST_SLOT, Heap, Object, IsHeap, blocks, object_at, bytes_at, bytes_in, with_newest, with_ordered, Allocates, AreNew, Compacts, IsNew, MakesRoom, Request, Settles, compaction_prefix, discarded, most_room, discards_needed, stays_for, moved_bytes, Discardable, eligible, is_member, KeepsOthers, All-from_Each, Each-from, true-is_member, inserted_here, others_law, HasDiscarded, first_eligible, Handles, AreHandles, IsFreeRun, IsOwnedRun, IsSized, slots_for, slots_in, some_slots, with_new_object, moved_handles, compacted_handles, descriptor_at, number_at, SelKind, Holding, attributes_in, handles_of, begins_in, kind_for, kind_in, owner_in, placed, says, taken, told, is_in_run, unset, Descriptor, HasSize, AreLabelled, AreJoined, GlobalCompacts}
+use Rattle.w16_global.proofs.Common.{◌≡◌, ◌≢◌, ℕ, ◌+◌, ◌-◌, ◌<◌, ◌≤◌, ◌⊎◌, ◌||◌, inl, inr, Bool, true, false, ◌&&◌, nat_le, nat_lt, if◌then◌else◌, IfSome, IsSomeAnd, MatchBool, All, List, [], take, length, set, Option, Some, None, option_map, is_some, refl}
+use Rattle.w16_global.proofs.Common.{sym, ap, ◌∙◌, subst, arith, leb-false, ltb-false, eq-eqb, ne_eqb, false≢true, cases_eq, cases_Bool, Attributes, Kind, RoomOptions, FIRST_SLOT, Heap, Object, IsHeap, blocks, object_at, bytes_at, bytes_in, with_newest}
+use Rattle.w16_global.proofs.Common.{with_ordered, Allocates, AreNew, Compacts, IsNew, MakesRoom, Request, Settles, compaction_prefix, discarded, most_room, discards_needed, stays_for, moved_bytes, Discardable, eligible, is_member, KeepsOthers, All-from_Each}
+use Rattle.w16_global.proofs.Common.{Each-from, true-is_member, inserted_here, others_law, HasDiscarded, first_eligible, Handles, AreHandles, IsFreeRun, IsOwnedRun, IsSized, slots_for, slots_in, some_slots, with_new_object, moved_handles, compacted_handles}
+use Rattle.w16_global.proofs.Common.{descriptor_at, number_at, SelKind, Holding, attributes_in, handles_of, begins_in, kind_for, kind_in, owner_in, placed, says, taken, told, is_in_run, unset, Descriptor, HasSize, AreLabelled, AreJoined, GlobalCompacts}
 use Rattle.std.specs.FinMap as finmap
 use Rattle.w16_selectors.specs.Descriptors as selectors
 use Rattle.w16_global.proofs.Described.{same_described}

@@ -1,5 +1,8 @@
 -- Whose a slot is, and selectors that say of their objects what they have to.
-use Rattle.w16_global.proofs.Common.{◌≡◌, ◌≢◌, ℕ, ◌+◌, ◌-◌, ◌<◌, ◌≤◌, ◌==◌, ◌||◌, if◌then◌else◌, inl, inr, Bool, true, false, List, length, IsSomeAnd, Option, Some, None, option_map, is_some, unwrap_or, refl, sym, ap, ◌∙◌, subst, arith, nat_tests, false≢true, cases_eq, cases_Bool, eq-eqb, ne_eqb, nat_cmp, FinMap, Attributes, FIRST_SLOT, Heap, Object, object_at, bytes_at, bytes_in, AreHandles, IsIn, IsSized, is_owner, no_owner, none_owns, not_gone, numbered, one_owner, owner_is, slots_at, slots_beside, slots_for, slots_left, slots_none, slots_with, was_in, descriptor_at, kind_at, kind_of, number_at, number_of, unset, Descriptor, SelKind, Holding, handles_of, attributes_in, AreLabelled, described, in_run, is_in_run, placed, kind_in, label_in, label_of, owner_in, reaching, says, slots_in, told}
+use Rattle.w16_global.proofs.Common.{◌≡◌, ◌≢◌, ℕ, ◌+◌, ◌-◌, ◌<◌, ◌≤◌, ◌==◌, ◌||◌, if◌then◌else◌, inl, inr, Bool, true, false, List, length, IsSomeAnd, Option, Some, None, option_map, is_some, unwrap_or, refl, sym, ap, ◌∙◌, subst}
+use Rattle.w16_global.proofs.Common.{arith, nat_tests, false≢true, cases_eq, cases_Bool, eq-eqb, ne_eqb, nat_cmp, FinMap, Attributes, FIRST_SLOT, Heap, Object, object_at, bytes_at, bytes_in, AreHandles, IsIn, IsSized, is_owner}
+use Rattle.w16_global.proofs.Common.{no_owner, none_owns, not_gone, numbered, one_owner, owner_is, slots_at, slots_beside, slots_for, slots_left, slots_none, slots_with, was_in, descriptor_at, kind_at, kind_of, number_at, number_of}
+use Rattle.w16_global.proofs.Common.{unset, Descriptor, SelKind, Holding, handles_of, attributes_in, AreLabelled, described, in_run, is_in_run, placed, kind_in, label_in, label_of, owner_in, reaching, says, slots_in, told}
 use Rattle.std.specs.FinMap as finmap
 use Rattle.w16_model.specs.Handles.{AreRuns, owner_of}
 use Rattle.w16_selectors.specs.Descriptors as selectors

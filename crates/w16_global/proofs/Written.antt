@@ -1,5 +1,8 @@
 -- The bytes at an address in an object, and the heap after some of them are replaced.
-use Rattle.w16_global.proofs.Common.{◌≡◌, ◌≢◌, ℕ, ◌+◌, ◌-◌, ◌<◌, ◌≤◌, inl, inr, IsSomeAnd, List, [], ◌∷◌, ◌++◌, length, get_or, slice_range, take, drop, All, Option, Some, None, option_map, unwrap_or, refl, sym, ap, ◌∙◌, subst, arith, length-drop, cases_eq, drop-take, take-take, drop-drop, drop-append-le, length-take-le, take-append-add, Block, Entry, Heap, Object, object_at, bytes_at, after_write, Table, block_with, object_in, heap_in, Member, Each-at, get-update_same, get-update_other, laid_placed, two, member_with, length_range, Span, part, put_part, block_end, length-put_part, range_apart, All-put_part, IsUsed, threaded_stay, AreSameIn-put_part, Layout, used_each, ArenaState, holes_in, AreParts, Holding, HasPart, holding_of, object_here, bytes_here, ends_in_memory, same_heap}
+use Rattle.w16_global.proofs.Common.{◌≡◌, ◌≢◌, ℕ, ◌+◌, ◌-◌, ◌<◌, ◌≤◌, inl, inr, IsSomeAnd, List, [], ◌∷◌, ◌++◌, length, get_or, slice_range, take, drop, All, Option, Some, None, option_map, unwrap_or, refl, sym, ap, ◌∙◌, subst}
+use Rattle.w16_global.proofs.Common.{arith, length-drop, cases_eq, drop-take, take-take, drop-drop, drop-append-le, length-take-le, take-append-add, Block, Entry, Heap, Object, object_at, bytes_at, after_write, Table, block_with}
+use Rattle.w16_global.proofs.Common.{object_in, heap_in, Member, Each-at, get-update_same, get-update_other, laid_placed, two, member_with, length_range, Span, part, put_part, block_end, length-put_part, range_apart, All-put_part}
+use Rattle.w16_global.proofs.Common.{IsUsed, threaded_stay, AreSameIn-put_part, Layout, used_each, ArenaState, holes_in, AreParts, Holding, HasPart, holding_of, object_here, bytes_here, ends_in_memory, same_heap}
 use Rattle.w16_arena.proofs.Parts as arena
 
 -- a part of a range is one of the whole list

@@ -1,5 +1,7 @@
 -- What `take` and `put` of holes in their own bytes write, and what they look up there.
-use Rattle.w16_holes.proofs.Common.{ℕ, suc, ◌≡◌, ◌<◌, ◌≤◌, ◌+◌, ◌-◌, ◌^◌, inl, inr, List, [], ◌∷◌, ◌++◌, length, Option, Some, None, IfSome, ◌*◌, arith, refl, sym, ap, ◌∙◌, subst, cases_lt, lt-ltb, le-ltb, none-some, same_Some, mul_assoc, Span, IsMultiple, word_in, put_word, length-put_word, word_in-put_word, Range, AreHoles, IsFree, IsUsed, IsPlace, IsPart, AreSameOutside, taken, joined, add_span, last_before, length_at, length_to, HasRoom, HasWords, IsThread, AreThreaded, no_hole, first_of, next_above, put_words, put_hole, put_link, room}
+use Rattle.w16_holes.proofs.Common.{ℕ, suc, ◌≡◌, ◌<◌, ◌≤◌, ◌+◌, ◌-◌, ◌^◌, inl, inr, List, [], ◌∷◌, ◌++◌, length, Option, Some, None, IfSome, ◌*◌, arith, refl, sym, ap, ◌∙◌, subst, cases_lt, lt-ltb, le-ltb}
+use Rattle.w16_holes.proofs.Common.{none-some, same_Some, mul_assoc, Span, IsMultiple, word_in, put_word, length-put_word, word_in-put_word, Range, AreHoles, IsFree, IsUsed, IsPlace, IsPart, AreSameOutside}
+use Rattle.w16_holes.proofs.Common.{taken, joined, add_span, last_before, length_at, length_to, HasRoom, HasWords, IsThread, AreThreaded, no_hole, first_of, next_above, put_words, put_hole, put_link, room}
 use Rattle.w16_holes.proofs.Units.{multiple_sum}
 use Rattle.w16_holes.proofs.Thread.{IsKept, kept_refl, kept_trans, kept_wider, kept_word, kept_word_in, kept_words, word_kept, thread_kept, thread_join, thread_front, thread_back, free_front, free_back, used_trans, used_kept, relink, link_kept, link_used, link_fits}
 use Rattle.w16_holes.proofs.Cuts.{IsTakenFrom, IsPutAt, HasHole, cut_taken, cut_put}

@@ -1,5 +1,6 @@
 -- What is looked up in the cells is told by the list of holes.
-use Rattle.w16_holes.proofs.Common.{ℕ, zero, suc, ◌≡◌, ◌≢◌, ◌<◌, ◌≤◌, ◌+◌, ◌*◌, ◌-◌, max, List, [], ◌∷◌, map, nat_le, option_map, Some, arith, refl, sym, ap, ◌∙◌, inl, inr, le-leb, eq-eqb, slice_index, fold, position, position_from, cases_lt, lt-ltb, le-ltb, lt-leb, leb-true, eqb_tells, position-Some, position_from-zero, AreHoles, length_at, length_to, lowest, longest, size_of, spans, IsApart, IsInside, IsBeginOf}
+use Rattle.w16_holes.proofs.Common.{ℕ, zero, suc, ◌≡◌, ◌≢◌, ◌<◌, ◌≤◌, ◌+◌, ◌*◌, ◌-◌, max, List, [], ◌∷◌, map, nat_le, option_map, Some, arith, refl, sym, ap, ◌∙◌, inl, inr, le-leb, eq-eqb, slice_index, fold, position, position_from}
+use Rattle.w16_holes.proofs.Common.{cases_lt, lt-ltb, le-ltb, lt-leb, leb-true, eqb_tells, position-Some, position_from-zero, AreHoles, length_at, length_to, lowest, longest, size_of, spans, IsApart, IsInside, IsBeginOf}
 use Rattle.w16_holes.proofs.Units.{up}
 use Rattle.w16_holes.proofs.Change.{IsApart-tail}
 

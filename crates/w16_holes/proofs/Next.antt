@@ -1,5 +1,7 @@
 -- The first hole behind a place, by the links of a thread.
-use Rattle.w16_holes.proofs.Common.{ℕ, suc, ◌≡◌, ◌<◌, ◌≤◌, ◌+◌, ◌⊎◌, inl, inr, List, [], ◌∷◌, length, Option, Some, None, unwrap_or, arith, refl, sym, ap, ◌∙◌, ◌-◌, le-leb, cases_lt, lt-ltb, le-ltb, eqb_tells, none-some, same_Some, Span, word_in, AreHoles, last_before, length_at, lowest, AreThreaded, no_hole, first_of, next_above, room}
+use Rattle.w16_holes.proofs.Common.{ℕ, suc, ◌≡◌, ◌<◌, ◌≤◌, ◌+◌, ◌⊎◌, inl, inr, List, [], ◌∷◌, length, Option, Some, None, unwrap_or, arith, refl, sym, ap, ◌∙◌, ◌-◌, le-leb, cases_lt}
+use Rattle.w16_holes.proofs.Common.{lt-ltb, le-ltb, eqb_tells, none-some, same_Some, Span, word_in, AreHoles, last_before, length_at, lowest, AreThreaded, no_hole, first_of, next_above}
+use Rattle.w16_holes.proofs.Common.{room}
 use Rattle.w16_holes.proofs.Thread.{last_cons, last_first}
 use Rattle.w16_holes.proofs.Cuts.{last_none, next_first, at_none}
 

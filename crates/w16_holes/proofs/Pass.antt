@@ -1,5 +1,7 @@
 -- The cells where a hole changed places with the used bytes behind it.
-use Rattle.w16_holes.proofs.Common.{ℕ, zero, suc, ◌≡◌, ◌<◌, ◌≤◌, ◌+◌, ◌-◌, ◌*◌, min, List, [], ◌∷◌, length, set, refl, sym, ap, ◌∙◌, subst, arith, inl, inr, cases_lt, lt-ltb, le-ltb, slice_index, get_or-set_other, get_or-set_same, length-set, set-get_or, set-set, length_at, ◌/◌, Span, Range, Free, IsFree, IsUsed, IsPart, taken, joined, slid_down, spans, AreCells}
+use Rattle.w16_holes.proofs.Common.{ℕ, zero, suc, ◌≡◌, ◌<◌, ◌≤◌, ◌+◌, ◌-◌, ◌*◌, min, List, [], ◌∷◌, length, set, refl, sym, ap, ◌∙◌, subst, arith, inl, inr, cases_lt, lt-ltb, le-ltb, slice_index}
+use Rattle.w16_holes.proofs.Common.{get_or-set_other, get_or-set_same, length-set, set-get_or, set-set, length_at, ◌/◌, Span, Range, Free, IsFree, IsUsed, IsPart, taken, joined, slid_down, spans}
+use Rattle.w16_holes.proofs.Common.{AreCells}
 use Rattle.w16_holes.proofs.Units.{above, below, whole_units}
 use Rattle.w16_holes.proofs.Look.{at_is}
 use Rattle.w16_holes.proofs.Last.{last_here}

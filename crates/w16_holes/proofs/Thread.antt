@@ -1,5 +1,6 @@
 -- A thread through bytes: what a word written elsewhere leaves of it, threads cut and appended, and the last hole linked anew.
-use Rattle.w16_holes.proofs.Common.{ℕ, suc, ◌≡◌, ◌<◌, ◌≤◌, ◌+◌, ◌^◌, ◌⊎◌, inl, inr, List, [], ◌∷◌, ◌++◌, length, Option, Some, None, unwrap_or, IfSome, arith, refl, sym, ap, ◌∙◌, subst, lt-ltb, Span, IsSameOutside, take_lower, drop_higher, part_below, part_above, word_in, put_word, length-put_word, word_in-put_word, word_in-same, IsSameOutside-put_word, AreHoles, IsFree, AreSameOutside, last_before, HasWords, IsThread, first_of, put_words, put_link, room}
+use Rattle.w16_holes.proofs.Common.{ℕ, suc, ◌≡◌, ◌<◌, ◌≤◌, ◌+◌, ◌^◌, ◌⊎◌, inl, inr, List, [], ◌∷◌, ◌++◌, length, Option, Some, None, unwrap_or, IfSome, arith, refl, sym, ap, ◌∙◌, subst, lt-ltb, Span, IsSameOutside, take_lower, drop_higher, part_below}
+use Rattle.w16_holes.proofs.Common.{part_above, word_in, put_word, length-put_word, word_in-put_word, word_in-same, IsSameOutside-put_word, AreHoles, IsFree, AreSameOutside, last_before, HasWords, IsThread, first_of, put_words, put_link, room}
 use Rattle.w16_holes.proofs.Write.{apart}
 
 -- bytes that stay outside [x, y)

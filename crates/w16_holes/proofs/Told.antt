@@ -1,5 +1,7 @@
 -- What the list of holes tells of the cells.
-use Rattle.w16_holes.proofs.Common.{ℕ, zero, suc, ◌≡◌, ◌<◌, ◌≤◌, ◌+◌, ◌*◌, ◌-◌, ◌^◌, ◌⊎◌, List, [], ◌∷◌, length, set, replicate, Option, Some, None, arith, refl, sym, ap, ◌∙◌, subst, inl, inr, slice_index, cases_lt, lt-ltb, le-ltb, get_or-set_same, get_or-set_other, length-set, length-replicate, set-get_or, IsMultiple, last_below, Range, add_span, taken, joined, IsFree, IsUsed, spans, IsApart, IsInside, LAST_END, AreCells, IsBeginOf}
+use Rattle.w16_holes.proofs.Common.{ℕ, zero, suc, ◌≡◌, ◌<◌, ◌≤◌, ◌+◌, ◌*◌, ◌-◌, ◌^◌, ◌⊎◌, List, [], ◌∷◌, length, set, replicate, Option, Some, None, arith, refl, sym, ap, ◌∙◌, subst, inl, inr, slice_index, cases_lt, lt-ltb, le-ltb}
+use Rattle.w16_holes.proofs.Common.{get_or-set_same, get_or-set_other, length-set, length-replicate, set-get_or, IsMultiple, last_below, Range, add_span, taken, joined, IsFree, IsUsed, spans, IsApart, IsInside, LAST_END, AreCells}
+use Rattle.w16_holes.proofs.Common.{IsBeginOf}
 use Rattle.w16_holes.proofs.Units.{up, above, below, at_most}
 use Rattle.w16_holes.proofs.Change.{IsApart-set, IsInside-set, taken_end, taken_inside, joined_is}
 

@@ -1,5 +1,7 @@
 -- An access that met an object without bytes: which object that is, and its handle.
-use Rattle.w16_kernel.proofs.Common.{◌≡◌, ℕ, ◌+◌, ◌*◌, ◌/◌, ◌%◌, ◌<◌, ◌≤◌, true, length, Option, Some, None, IfSome, IsSomeAnd, is_some, option_map, unwrap_or, refl, sym, ap, ◌∙◌, subst, arith, false≢true, Kind, Fixed, Moveable, Discardable, Attributes, Object, Handles, AreHandles, Part, REACH, reached, slots_at, slots_none, reach_law, bytes_at, dword_of, far_slot, handle_of, object_at, offset_in, selector_of, is_owned, global_handle, LacksBytes, IsAbsent, names_law, Bool, false, cond, List, FarAnswer, FarFault, far_fault, FarCommand, FarReplies, Read, Write, Fill, data_write, far_bytes, part, repeated, refuses_write, selector_in}
+use Rattle.w16_kernel.proofs.Common.{◌≡◌, ℕ, ◌+◌, ◌*◌, ◌/◌, ◌%◌, ◌<◌, ◌≤◌, true, length, Option, Some, None, IfSome, IsSomeAnd, is_some, option_map, unwrap_or, refl, sym, ap, ◌∙◌, subst, arith, false≢true, Kind, Fixed, Moveable, Discardable}
+use Rattle.w16_kernel.proofs.Common.{Attributes, Object, Handles, AreHandles, Part, REACH, reached, slots_at, slots_none, reach_law, bytes_at, dword_of, far_slot, handle_of, object_at, offset_in, selector_of, is_owned, global_handle}
+use Rattle.w16_kernel.proofs.Common.{LacksBytes, IsAbsent, names_law, Bool, false, cond, List, FarAnswer, FarFault, far_fault, FarCommand, FarReplies, Read, Write, Fill, data_write, far_bytes, part, repeated, refuses_write, selector_in}
 use Rattle.std.specs.FinMap as finmap
 use Rattle.w16_model.specs.declared.FarFault.TheVariants.{BadSelector, ReadOnly, NotPresent, Limit}
 use Rattle.w16_model.specs.Far as far

@@ -1,5 +1,6 @@
 -- Calls on modules and resources.
-use Rattle.w16_kernel.proofs.Common.{◌≡◌, ℕ, ◌≤◌, Bool, true, false, List, refl, sym, ◌∙◌, subst, nat_cmp, Handles, Store, StoreFails, AnyLoadsBy, GivesAnyFewest, LoadsCounted, as_any, reads_files, LoadingCommand, FamilyStep, Fetches, FinMap, OfModules, Loads, Failed, Word, Dword, LoadingWorld, Load, Modules, StoreStep, ne_format, load_command, loading_of}
+use Rattle.w16_kernel.proofs.Common.{◌≡◌, ℕ, ◌≤◌, Bool, true, false, List, refl, sym, ◌∙◌, subst, nat_cmp, Handles, Store, StoreFails, AnyLoadsBy, GivesAnyFewest, LoadsCounted, as_any, reads_files}
+use Rattle.w16_kernel.proofs.Common.{LoadingCommand, FamilyStep, Fetches, FinMap, OfModules, Loads, Failed, Word, Dword, LoadingWorld, Load, Modules, StoreStep, ne_format, load_command, loading_of}
 use Rattle.w16_loading.specs.Families as families
 use Rattle.w16_loading.specs.Load.{Answer}
 use Rattle.w16_loading.specs.Load.Answer.{Says}

@@ -1,5 +1,9 @@
 -- What becomes of an access that met a fault: what the kernel fetches is the object that the access asked for.
-use Rattle.w16_kernel.proofs.Common.{◌≡◌, ℕ, ◌-◌, ◌/◌, ◌<◌, ◌≤◌, true, false, length, List, Option, Some, None, IfNone, IsSomeAnd, is_some, slice_get, refl, sym, ap, ◌∙◌, subst, arith, length-map, slice_get_within, FarAnswer, FetchFault, FinMap, Load, IsSome, Bool, false≢true, Handles, Owned, far_slot, needs_fetch, owned_at, LoadingWorld, Module, Modules, IsSegmentOf, IsLoadingWorld, IsObjectOf, Segment, module_at, AnyFetches, FetchesCounted, Owner, owner_of, segment_among, IsFetchable, IsSourceOf, owner_in, tables_in, ne_format, nat_cmp, loaded_of, resource_owned, rounded_size, IsLoadingOver, IsSourceFor, IsAbsent, StoreFetch, LacksBytes, loading_of, owner_law, of_segment, segment_owned, global_handle, offset_in, segment_in, Tables}
+use Rattle.w16_kernel.proofs.Common.{◌≡◌, ℕ, ◌-◌, ◌/◌, ◌<◌, ◌≤◌, true, false, length, List, Option, Some, None, IfNone, IsSomeAnd, is_some, slice_get, refl, sym, ap, ◌∙◌, subst, arith, length-map, slice_get_within}
+use Rattle.w16_kernel.proofs.Common.{FarAnswer, FetchFault, FinMap, Load, IsSome, Bool, false≢true, Handles, Owned, far_slot, needs_fetch, owned_at, LoadingWorld, Module, Modules, IsSegmentOf, IsLoadingWorld}
+use Rattle.w16_kernel.proofs.Common.{IsObjectOf, Segment, module_at, AnyFetches, FetchesCounted, Owner, owner_of, segment_among, IsFetchable, IsSourceOf, owner_in, tables_in, ne_format, nat_cmp, loaded_of}
+use Rattle.w16_kernel.proofs.Common.{resource_owned, rounded_size, IsLoadingOver, IsSourceFor, IsAbsent, StoreFetch, LacksBytes, loading_of, owner_law, of_segment, segment_owned, global_handle, offset_in, segment_in}
+use Rattle.w16_kernel.proofs.Common.{Tables}
 use Rattle.std.specs.FinMap as finmap
 use Rattle.w16_loading.specs.Owner.Owner.{OfSegment, Script}
 use Rattle.w16_model.specs.declared.FarFault.TheVariants.{NotPresent}

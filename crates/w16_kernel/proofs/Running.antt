@@ -1,5 +1,7 @@
 -- Runs, one step longer.
-use Rattle.w16_kernel.proofs.Common.{World, ◌≡◌, ℕ, inl, inr, List, [], ◌∷◌, ◌++◌, map, take, IsSomeAnd, refl, sym, ap, ◌∙◌, subst, slice_get, map_push, Reply, Command, Event, Steps, Run, IsFewest, AreFewest, Call, Answer, command_of, answer_of, TakesMemory, StopsEarly, IsSame, arith, AllKeepWritten, KeepsWritten, ReadsBack, length, reads_back_law, take_all, ◌≤◌}
+use Rattle.w16_kernel.proofs.Common.{World, ◌≡◌, ℕ, inl, inr, List, [], ◌∷◌, ◌++◌, map, take, IsSomeAnd, refl, sym, ap, ◌∙◌, subst, slice_get, map_push, Reply, Command, Event, Steps, Run, IsFewest}
+use Rattle.w16_kernel.proofs.Common.{AreFewest, Call, Answer, command_of, answer_of, TakesMemory, StopsEarly, IsSame, arith, AllKeepWritten, KeepsWritten, ReadsBack, length, reads_back_law, take_all}
+use Rattle.w16_kernel.proofs.Common.{◌≤◌}
 
 -- a run, and a step after it
 pub run_more : (steps : Steps) (old : World) (events : List Event) (now : World) (command : Command) (reply : Reply) (new : World) → Run steps old events now → steps now command reply new

@@ -1,5 +1,11 @@
 -- Which local heaps a call of a program for bytes spares, told by how many discardable objects there are before and after.
-use Rattle.w16_kernel.proofs.Common.{◌≡◌, ◌≢◌, ℕ, ◌≤◌, ◌/◌, inl, inr, Bool, true, false, cond, not, ◌&&◌, ◌==◌, nat_le, if◌then◌else◌, IfSome, IsSomeAnd, List, [], ◌∷◌, length, filter, Option, Some, None, option_map, unwrap_or, is_some, refl, sym, ap, ◌∙◌, subst, arith, false≢true, cases_eq, le-leb, length-filter, count_by-le-length, nat_cmp, nat_cmp_total, nat_cmp-IsAntisymmetric, same_map, get-retain_keys, Kind, Fixed, Moveable, Discardable, FinMap, Heap, Object, Table, object_at, bytes_at, bytes_in, is_discardable, is_in_order, is_member, without, Handles, AreHandles, numbered, handle_of, slot_of_handle, kind_asked, alloc_options, realloc_options, rounded_size, CallStep, Outcome, IsUnmoved, IsLocked, IsUnlocked, IsFreed, IsNewest, IsOldest, IsEntered, IsAllocated, IsCompacted, IsModified, IsDiscarded, IsResized, IsKeptOrDiscarded, OnlyLeave, handle_in, may_change, names_law, taken_here, taken_other, outcome, answer_in, GlobalFree, GlobalCompact, GlobalReAlloc, GlobalDiscard, Calls, ReAllocs, GMEM_MOVEABLE, Reply, Word, Dword, World, Command, OfLoading, OfHandles, OfResizes, IsWorldOver, Unswept, object_slot, word_of, discardable_beside, bystanders_law, allocated, compacted, stays, filter_swapped, other_of, twice_out, without_out, IsLocalIn, has_range, left_in, OthersStay}
+use Rattle.w16_kernel.proofs.Common.{◌≡◌, ◌≢◌, ℕ, ◌≤◌, ◌/◌, inl, inr, Bool, true, false, cond, not, ◌&&◌, ◌==◌, nat_le, if◌then◌else◌, IfSome, IsSomeAnd, List, [], ◌∷◌, length, filter, Option, Some, None, option_map, unwrap_or, is_some, refl, sym}
+use Rattle.w16_kernel.proofs.Common.{ap, ◌∙◌, subst, arith, false≢true, cases_eq, le-leb, length-filter, count_by-le-length, nat_cmp, nat_cmp_total, nat_cmp-IsAntisymmetric, same_map, get-retain_keys, Kind, Fixed, Moveable, Discardable, FinMap}
+use Rattle.w16_kernel.proofs.Common.{Heap, Object, Table, object_at, bytes_at, bytes_in, is_discardable, is_in_order, is_member, without, Handles, AreHandles, numbered, handle_of, slot_of_handle, kind_asked, alloc_options, realloc_options}
+use Rattle.w16_kernel.proofs.Common.{rounded_size, CallStep, Outcome, IsUnmoved, IsLocked, IsUnlocked, IsFreed, IsNewest, IsOldest, IsEntered, IsAllocated, IsCompacted, IsModified, IsDiscarded, IsResized, IsKeptOrDiscarded, OnlyLeave, handle_in}
+use Rattle.w16_kernel.proofs.Common.{may_change, names_law, taken_here, taken_other, outcome, answer_in, GlobalFree, GlobalCompact, GlobalReAlloc, GlobalDiscard, Calls, ReAllocs, GMEM_MOVEABLE, Reply, Word, Dword, World, Command, OfLoading}
+use Rattle.w16_kernel.proofs.Common.{OfHandles, OfResizes, IsWorldOver, Unswept, object_slot, word_of, discardable_beside, bystanders_law, allocated, compacted, stays, filter_swapped, other_of, twice_out, without_out, IsLocalIn, has_range, left_in}
+use Rattle.w16_kernel.proofs.Common.{OthersStay}
 use Rattle.std.specs.FinMap as finmap
 use Rattle.std.specs.Prelude.{◌||◌}
 use Rattle.std.proofs.lemmas.Bool.{eq-eqb, eqb-true, ne_eqb}
@@ -197,7 +203,10 @@ module _ (honest : Type 0) (old : World) (is : IsWorldOver honest old) (mid : Wo
   kept false slot before heap tables stay = tt
 
   pub others_stay : (command : Command) (reply : Reply) → Unswept honest old command reply mid → OthersStay (object_slot command (word_of reply)) (discardable_beside (object_slot command 0) old.loading.handles.heap) mid.loading.handles.heap mid.heaps
-  others_stay (OfLoading (OfHandles (GlobalAlloc flags size))) (Word handle) s = by_call (Calls (GlobalAlloc flags size)) (calls.Answer.Word handle) refl (other_call (GlobalAlloc flags size) (calls.Answer.Word handle)) (ap (λ (w : World). w.heaps) s.1) s.0 (length (without 0 order)) (shorter 0 (handle / 8) order none_at_0)
+  others_stay (OfLoading (OfHandles (GlobalAlloc flags size))) (Word handle) s = by_call
+      (Calls (GlobalAlloc flags size)) (calls.Answer.Word handle) refl
+      (other_call (GlobalAlloc flags size) (calls.Answer.Word handle)) (ap (λ (w : World). w.heaps) s.1) s.0
+      (length (without 0 order)) (shorter 0 (handle / 8) order none_at_0)
   others_stay (OfLoading (OfHandles (GlobalAlloc flags size))) reply s = absurd s.0
   others_stay (OfLoading (OfHandles (GlobalFree handle))) reply s = freed handle (answer_in reply) (ap (λ (w : World). w.heaps) s.1) s.0
   others_stay (OfLoading (OfHandles (GlobalCompact size))) (Dword longest) s = by_call (Calls (GlobalCompact size)) (calls.Answer.Dword longest) refl (other_call (GlobalCompact size) (calls.Answer.Dword longest)) (ap (λ (w : World). w.heaps) s.1) s.0 (length (without 0 order)) (omega arith)

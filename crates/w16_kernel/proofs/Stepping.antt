@@ -1,5 +1,8 @@
 -- A step over the kernel's parts, and the sweep behind it, are one step of the machine.
-use Rattle.w16_kernel.proofs.Common.{◌≡◌, ℕ, ◌≤◌, Dword, Moved, Bool, true, false, refl, sym, subst, arith, false≢true, Handles, Heap, reads_files, LoadingCommand, LoadingStep, FamilyStep, Fetches, OfHandles, OfResizes, OfFar, OfModules, OfResources, Loads, Failed, Store, LoadingWorld, with_handles, reads_no_files_law, code_reads_law, World, left_in, step_may_take, Command, IsCommand, OnHandles, StoreStep, Step, after_loading, OfLoading, OfLocals, IsFewest, step_fewest, heaps_law, handles_step, world_kept, files_law, is_format, ne_format, reply_of, KernelStep, ReadsCode, Unswept, IsWorldOver, may_take_bytes, surviving_heaps, KeepsWritten, step_law}
+use Rattle.w16_kernel.proofs.Common.{◌≡◌, ℕ, ◌≤◌, Dword, Moved, Bool, true, false, refl, sym, subst, arith, false≢true, Handles, Heap, reads_files, LoadingCommand, LoadingStep, FamilyStep, Fetches, OfHandles, OfResizes, OfFar, OfModules}
+use Rattle.w16_kernel.proofs.Common.{OfResources, Loads, Failed, Store, LoadingWorld, with_handles, reads_no_files_law, code_reads_law, World, left_in, step_may_take, Command, IsCommand, OnHandles, StoreStep, Step, after_loading, OfLoading}
+use Rattle.w16_kernel.proofs.Common.{OfLocals, IsFewest, step_fewest, heaps_law, handles_step, world_kept, files_law, is_format, ne_format, reply_of, KernelStep, ReadsCode, Unswept, IsWorldOver, may_take_bytes, surviving_heaps, KeepsWritten}
+use Rattle.w16_kernel.proofs.Common.{step_law}
 use Rattle.w16_loading.specs.Replies as printed
 use Rattle.w16_loading.specs.Replies.Reply.{Bytes}
 use Rattle.w16_model.specs.Far.FarCommand.{Read}

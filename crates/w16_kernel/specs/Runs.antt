@@ -13,7 +13,9 @@ use Rattle.w16_machine.specs.LocalCalls as locals
 use Rattle.w16_machine.specs.Machine.{Command}
 use Rattle.w16_machine.specs.Machine.Command.{OfLoading, OfLocals}
 use Rattle.w16_kernel.specs.declared.call.Call.{Call}
-use Rattle.w16_kernel.specs.declared.call.Call.TheVariants.{GlobalAlloc, GlobalFree, GlobalLock, GlobalUnlock, GlobalSize, GlobalFlags, GlobalHandle, GetSelectorBase, GetSelectorLimit, GlobalCompact, GlobalReAlloc, GlobalDiscard, GlobalLRUNewest, GlobalLRUOldest, Moved, Walk, Read, Write, Fill, LocalInit, LocalAlloc, LocalReAlloc, LocalDiscard, LocalFree, LocalLock, LocalUnlock, LocalSize, LocalFlags, LocalHandle, LocalCompact, DS, Builtin, LoadModule, LoadLibrary, FreeLibrary, FreeModule, GetModuleHandle, GetModuleUsage, GetProcAddress, FindResource, LoadResource, LockResource, FreeResource, SizeofResource}
+use Rattle.w16_kernel.specs.declared.call.Call.TheVariants.{GlobalAlloc, GlobalFree, GlobalLock, GlobalUnlock, GlobalSize, GlobalFlags, GlobalHandle, GetSelectorBase, GetSelectorLimit, GlobalCompact, GlobalReAlloc, GlobalDiscard, GlobalLRUNewest}
+use Rattle.w16_kernel.specs.declared.call.Call.TheVariants.{GlobalLRUOldest, Moved, Walk, Read, Write, Fill, LocalInit, LocalAlloc, LocalReAlloc, LocalDiscard, LocalFree, LocalLock, LocalUnlock, LocalSize, LocalFlags, LocalHandle, LocalCompact}
+use Rattle.w16_kernel.specs.declared.call.Call.TheVariants.{DS, Builtin, LoadModule, LoadLibrary, FreeLibrary, FreeModule, GetModuleHandle, GetModuleUsage, GetProcAddress, FindResource, LoadResource, LockResource, FreeResource, SizeofResource}
 use Rattle.w16_kernel.specs.declared.call.Label.{Label}
 use Rattle.w16_kernel.specs.declared.call.Label.TheVariants as labels
 use Rattle.w16_kernel.specs.declared.call.Reply.{Reply}

@@ -1,5 +1,8 @@
 -- Over any store the code follows references as some files have them.
-use Rattle.w16_loader.proofs.Common.{◌≡◌, ℕ, zero, suc, ◌+◌, ◌-◌, ◌<◌, ◌≤◌, inl, inr, Bool, true, false, nat_lt, List, [], ◌∷◌, ◌++◌, length, map, take, Option, Some, None, option_map, Ok, refl, sym, ap, ◌∙◌, subst, arith, add-one, ltb-true, ltb-false, slice_get, position, AllZip, option_or, lt-ltb, length-append, length-take-le, map-append, take_all, is_named, Format, ModuleFile, Tables, Modules, handle_named, free_modules, Around, dll, There, New, Meant, Read, AnyCloses, with_files, Found, Referent, Bound, Followed, Files, around_in, found_in, meant_in, referent_of, references_of, left_from, bound_in, LeadsSomewhere, references_at, found_after, referent_after, AreGood, said_by, any_format, ClosesAny, IsFoundOf, Begins, reached_of, closed_of, LeadsAny, IsSomeClosure}
+use Rattle.w16_loader.proofs.Common.{◌≡◌, ℕ, zero, suc, ◌+◌, ◌-◌, ◌<◌, ◌≤◌, inl, inr, Bool, true, false, nat_lt, List, [], ◌∷◌, ◌++◌, length, map, take, Option, Some, None, option_map, Ok, refl, sym, ap, ◌∙◌, subst, arith}
+use Rattle.w16_loader.proofs.Common.{add-one, ltb-true, ltb-false, slice_get, position, AllZip, option_or, lt-ltb, length-append, length-take-le, map-append, take_all, is_named, Format, ModuleFile, Tables, Modules}
+use Rattle.w16_loader.proofs.Common.{handle_named, free_modules, Around, dll, There, New, Meant, Read, AnyCloses, with_files, Found, Referent, Bound, Followed, Files, around_in, found_in, meant_in, referent_of, references_of}
+use Rattle.w16_loader.proofs.Common.{left_from, bound_in, LeadsSomewhere, references_at, found_after, referent_after, AreGood, said_by, any_format, ClosesAny, IsFoundOf, Begins, reached_of, closed_of, LeadsAny, IsSomeClosure}
 use Rattle.w16_loading.specs.Closure as closing
 use Rattle.w16_loader.specs.declared.closure.Closure.{Closure}
 use Rattle.w16_loader.specs.declared.closure.Followed.TheVariants as leads

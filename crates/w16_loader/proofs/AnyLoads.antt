@@ -1,5 +1,9 @@
 -- What a load comes to over any store.
-use Rattle.w16_loader.proofs.Common.{◌≡◌, ℕ, ◌<◌, inl, inr, Bool, true, false, cond, List, [], ◌∷◌, map, fold, slice_index_or, Option, Some, None, option_map, IfOk, Result, Ok, Err, refl, sym, ap, ◌∙◌, subst, arith, AllZip, option_or, AllocError, is_member, AreHandles, Heap, IsHeap, Member, Each-at, Each-from_All, FIRST_MODULE, FetchFault, ModuleFile, IsModuleFile, Target, targets_of, Failure, Filling, InTurn, is_of_read, GivesAny, GivesAnyFewest, AnyLoadsBy, There, Given, given, LoadingWorld, Modules, handle_named, without_values, without_module, Answer, Fulfils, Says, given_found, BindFault, FileFault, LoadAnswer, AreReadAs, AreTargets, AreUnfilled, IsSmall, all_bound, fills_with, closed_in, Found, AreGood, IsAlike, IsFoundOf, IsGood, IsSomeClosure, AreUnbound, IsClosureOf, IsUnbound, LoadsAny, answer_in, failed_by, of_fault, refused_by}
+use Rattle.w16_loader.proofs.Common.{◌≡◌, ℕ, ◌<◌, inl, inr, Bool, true, false, cond, List, [], ◌∷◌, map, fold, slice_index_or, Option, Some, None, option_map, IfOk, Result, Ok, Err, refl, sym, ap, ◌∙◌, subst, arith, AllZip, option_or}
+use Rattle.w16_loader.proofs.Common.{AllocError, is_member, AreHandles, Heap, IsHeap, Member, Each-at, Each-from_All, FIRST_MODULE, FetchFault, ModuleFile, IsModuleFile, Target, targets_of, Failure, Filling, InTurn, is_of_read, GivesAny}
+use Rattle.w16_loader.proofs.Common.{GivesAnyFewest, AnyLoadsBy, There, Given, given, LoadingWorld, Modules, handle_named, without_values, without_module, Answer, Fulfils, Says, given_found, BindFault, FileFault, LoadAnswer, AreReadAs}
+use Rattle.w16_loader.proofs.Common.{AreTargets, AreUnfilled, IsSmall, all_bound, fills_with, closed_in, Found, AreGood, IsAlike, IsFoundOf, IsGood, IsSomeClosure, AreUnbound, IsClosureOf, IsUnbound, LoadsAny, answer_in, failed_by, of_fault}
+use Rattle.w16_loader.proofs.Common.{refused_by}
 use Rattle.std.specs.FinMap as finmap
 use Rattle.w16_loading.specs.AnyStore.{AnyLoads}
 use Rattle.w16_loading.specs.Closure as closing

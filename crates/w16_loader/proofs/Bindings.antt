@@ -1,5 +1,8 @@
 -- Modules that get values, one after another.
-use Rattle.w16_loader.proofs.Common.{◌≡◌, ◌≢◌, ℕ, zero, suc, ◌+◌, ◌<◌, inl, inr, Bool, true, false, ◌||◌, List, [], ◌∷◌, length, map, drop, Option, Some, None, IsSomeAnd, refl, sym, ap, ◌∙◌, subst, arith, add-one, eq-eqb, ◌==◌, IfSome, AllZip, nat_cmp, nat_cmp_total, FinMap, same_map, nat_cmp-IsAntisymmetric, cases_eq, false≢true, is_member, inserted_here, inserted_other, taken_other, Far, ModuleFile, Target, targets_of, without_values, Lookup, Module, Modules, Named, module_at, module_in, Loaded, BuiltIn, loaded_is, values_law, Files, AreSaid, AreTargets, IsForEach, IsSaid, all_bound, bound_as, values_for, with_values}
+use Rattle.w16_loader.proofs.Common.{◌≡◌, ◌≢◌, ℕ, zero, suc, ◌+◌, ◌<◌, inl, inr, Bool, true, false, ◌||◌, List, [], ◌∷◌, length, map, drop, Option, Some, None, IsSomeAnd, refl, sym, ap, ◌∙◌, subst, arith, add-one, eq-eqb, ◌==◌, IfSome}
+use Rattle.w16_loader.proofs.Common.{AllZip, nat_cmp, nat_cmp_total, FinMap, same_map, nat_cmp-IsAntisymmetric, cases_eq, false≢true, is_member, inserted_here, inserted_other, taken_other, Far, ModuleFile, Target, targets_of}
+use Rattle.w16_loader.proofs.Common.{without_values, Lookup, Module, Modules, Named, module_at, module_in, Loaded, BuiltIn, loaded_is, values_law, Files, AreSaid, AreTargets, IsForEach, IsSaid, all_bound, bound_as, values_for}
+use Rattle.w16_loader.proofs.Common.{with_values}
 use Rattle.std.specs.FinMap as finmap
 
 -- look-ups that differ in values alone

@@ -4,7 +4,8 @@ pub use Rattle.std.proofs.Math.Bool.{or_assoc}
 pub use Rattle.std.proofs.Math.Seq.{take-length}
 pub use Rattle.std.proofs.lemmas.Iterator.Adapters.{YieldsList-from_vec}
 pub use Rattle.std.proofs.lemmas.Iterator.Consumers.{YieldsList-end, YieldsList-from_enumerate, YieldsList-turn}
-pub use Rattle.std.proofs.lemmas.List.{drop-append-le, drop_more, get_or-append_right, get_or-map, get_or-replicate, get_or-set_other, get_or-set_same, get_or_append_left, get_or_default, get_or_past, length-append, length-replicate, length-set, length_push, map-append, map_more, map_push, set-get_or, take-append-le, take_all, take_at, take_more, take_more_set}
+pub use Rattle.std.proofs.lemmas.List.{drop-append-le, drop_more, get_or-append_right, get_or-map, get_or-replicate, get_or-set_other, get_or-set_same, get_or_append_left, get_or_default, get_or_past}
+pub use Rattle.std.proofs.lemmas.List.{length-append, length-replicate, length-set, length_push, map-append, map_more, map_push, set-get_or, take-append-le, take_all, take_at, take_more, take_more_set}
 pub use Rattle.std.proofs.lemmas.List.Elements.{All-from_recursion, All-push, All-replicate}
 pub use Rattle.std.proofs.lemmas.List.FromFn.{get_or-enumerate_from, length-enumerate_from}
 pub use Rattle.std.proofs.lemmas.Option.{get_or_from_slice_get, slice_get_cases, slice_get_within}
@@ -16,7 +17,8 @@ pub use Rattle.std.specs.List.{enumerate_from, prefix_len}
 pub use Rattle.std.specs.Prelude.{IsFalse, OnSome, is_none}
 pub use Rattle.std.specs.declared.alloc.AllocError.{AllocError}
 pub use Rattle.std.specs.declared.cmp.Ordering.TheVariants.{Less}
-pub use Rattle.w16_format.proofs.Common.{All-cons, All-head, All-map, All-nil, All-tail, Held, IsFileOf, IsImage, IsMultiple, IsRelocated, data_in, data_of, far_of, find, is_ok, length-take, lt-ltb, min, module_file, naming, ne_format, offer_of, passed_is_sound, records_of, segment_in, slice_get-map, tables_in, targets_in, ◌>>=◌}
+pub use Rattle.w16_format.proofs.Common.{All-cons, All-head, All-map, All-nil, All-tail, Held, IsFileOf, IsImage, IsMultiple, IsRelocated, data_in, data_of, far_of, find, is_ok, length-take}
+pub use Rattle.w16_format.proofs.Common.{lt-ltb, min, module_file, naming, ne_format, offer_of, passed_is_sound, records_of, segment_in, slice_get-map, tables_in, targets_in, ◌>>=◌}
 unfoldable pub use Rattle.w16_format.proofs.Common.{check_from, checked, tables_at, text_at}
 pub use Rattle.w16_format.proofs.Fetched.{sound_law}
 pub use Rattle.w16_format.proofs.Files.{accepted, has_room, is_format, read_back, refused, stored_law, tables_apart}
@@ -50,7 +52,18 @@ pub use Rattle.w16_loading.proofs.Absences.{none_gone, same_values}
 pub use Rattle.w16_loading.proofs.Bound.{world_without}
 pub use Rattle.w16_loading.proofs.Cascade.{gone_with, went}
 pub use Rattle.w16_loading.proofs.CodeLoads.{sound_values}
-pub use Rattle.w16_loading.proofs.Common.{All, All-from_Each, All-repeated, AllPairs-from_EachPair, AllZip, AllZip-left, Allocates, Answer, AnyCloses, AnyFetches, AnyLoadsBy, AreHandles, AreNew, AreSlots, Around, Bool, BuiltIn, Choice, Closes, Closure, Each-at, Each-from, Each-from_All, EachPair, EachPair-from_AllPairs, Failure, Far, FetchesFewest, Filling, Fills, FillsOne, FinMap, Format, Fulfils, Given, GivesAny, GivesAnyFewest, Giving, Go, Handles, Heap, IfOk, IfSome, Import, ImportName, InTurn, Internal, InternalEntry, IsChoice, IsFormat, IsFreeModule, IsFreeSlot, IsHeap, IsItsFiles, IsKeptOrDiscarded, IsModuleFile, IsNew, IsObjectOf, IsOwnedSize, IsSegmentData, IsSomeAnd, IsTrue, List, Loaded, LoadingWorld, Loads, LoadsBy, LoadsFile, LoadsNew, Lookup, MatchOption, MatchResult, Meant, Member, Module, ModuleFile, Modules, Named, New, Object, Read, Refused, Request, Resource, Says, Segment, SegmentData, Tables, Target, There, [], address_at, after_use, after_write, all_slots, and_parts, ap, append-nil, append_assoc, are_sound, arith, around, attributes_of, begun, bound, bytes_at, cases_Bool, cases_eq, cond, count_by, discarded, discards_needed, dll, drop, drop_all, eq-eqb, false, false≢true, fills, fills_from, fills_of, filter, flat_map, fold, followed, free_slots, get_or, given, given_from, handle_meant, handle_named, handle_of, heap_without, if◌then◌else◌, imported, importers_among, imports, inl, inr, inserted_here, inserted_other, is_fixed, is_idle, is_in_order, is_member, is_member-true, is_of_device, is_of_read, is_owned, is_some, left, length, length-drop, length-map, length-take-le, list_all, ltb-false, ltb-true, map, member_filter, module_at, module_in, name_of, named, nat_cmp, nat_cmp-IsAntisymmetric, nat_cmp_total, nat_lt, ne_eqb, not, numbered, object_at, option_map, option_or, outcome_of, owned_at, pairs_filter, position, position_or_len, range_with_len, read_of, refl, refusal_of, replicate, revival_options, rounded_size, same_map, segment_among, segment_bytes, segments_in, segments_of, slice_get, slice_get-get_or, slice_index, slice_index_or, slot_of_handle, subst, suc, sum_by-cons, sym, take, taken_here, taken_other, targets_of, true, true-is_member, unbound, undone, unwrap_or, usage_with, used_again, used_less, with_files, with_heap, with_modules, with_newest, with_object, with_segment, without_module, without_objects, without_values, zero, zip, ℕ, ◌%◌, ◌&&◌, ◌++◌, ◌+◌, ◌-◌, ◌/◌, ◌<◌, ◌==◌, ◌||◌, ◌∙◌, ◌∷◌, ◌≡◌, ◌≢◌, ◌≤◌, ◌⊎◌}
+pub use Rattle.w16_loading.proofs.Common.{All, All-from_Each, All-repeated, AllPairs-from_EachPair, AllZip, AllZip-left, Allocates, Answer, AnyCloses, AnyFetches, AnyLoadsBy, AreHandles, AreNew, AreSlots, Around, Bool, BuiltIn, Choice, Closes, Closure, Each-at}
+pub use Rattle.w16_loading.proofs.Common.{Each-from, Each-from_All, EachPair, EachPair-from_AllPairs, Failure, Far, FetchesFewest, Filling, Fills, FillsOne, FinMap, Format, Fulfils, Given, GivesAny, GivesAnyFewest, Giving, Go, Handles, Heap, IfOk, IfSome, Import}
+pub use Rattle.w16_loading.proofs.Common.{ImportName, InTurn, Internal, InternalEntry, IsChoice, IsFormat, IsFreeModule, IsFreeSlot, IsHeap, IsItsFiles, IsKeptOrDiscarded, IsModuleFile, IsNew, IsObjectOf, IsOwnedSize, IsSegmentData, IsSomeAnd, IsTrue, List, Loaded}
+pub use Rattle.w16_loading.proofs.Common.{LoadingWorld, Loads, LoadsBy, LoadsFile, LoadsNew, Lookup, MatchOption, MatchResult, Meant, Member, Module, ModuleFile, Modules, Named, New, Object, Read, Refused, Request, Resource, Says, Segment, SegmentData, Tables}
+pub use Rattle.w16_loading.proofs.Common.{Target, There, [], address_at, after_use, after_write, all_slots, and_parts, ap, append-nil, append_assoc, are_sound, arith, around, attributes_of, begun, bound, bytes_at, cases_Bool, cases_eq, cond, count_by, discarded}
+pub use Rattle.w16_loading.proofs.Common.{discards_needed, dll, drop, drop_all, eq-eqb, false, false≢true, fills, fills_from, fills_of, filter, flat_map, fold, followed, free_slots, get_or, given, given_from, handle_meant, handle_named, handle_of, heap_without}
+pub use Rattle.w16_loading.proofs.Common.{if◌then◌else◌, imported, importers_among, imports, inl, inr, inserted_here, inserted_other, is_fixed, is_idle, is_in_order, is_member, is_member-true, is_of_device, is_of_read, is_owned, is_some, left, length, length-drop}
+pub use Rattle.w16_loading.proofs.Common.{length-map, length-take-le, list_all, ltb-false, ltb-true, map, member_filter, module_at, module_in, name_of, named, nat_cmp, nat_cmp-IsAntisymmetric, nat_cmp_total, nat_lt, ne_eqb, not, numbered, object_at, option_map}
+pub use Rattle.w16_loading.proofs.Common.{option_or, outcome_of, owned_at, pairs_filter, position, position_or_len, range_with_len, read_of, refl, refusal_of, replicate, revival_options, rounded_size, same_map, segment_among, segment_bytes, segments_in, segments_of}
+pub use Rattle.w16_loading.proofs.Common.{slice_get, slice_get-get_or, slice_index, slice_index_or, slot_of_handle, subst, suc, sum_by-cons, sym, take, taken_here, taken_other, targets_of, true, true-is_member, unbound, undone, unwrap_or, usage_with, used_again}
+pub use Rattle.w16_loading.proofs.Common.{used_less, with_files, with_heap, with_modules, with_newest, with_object, with_segment, without_module, without_objects, without_values, zero, zip, ℕ, ◌%◌, ◌&&◌, ◌++◌, ◌+◌, ◌-◌, ◌/◌, ◌<◌, ◌==◌, ◌||◌, ◌∙◌, ◌∷◌, ◌≡◌, ◌≢◌}
+pub use Rattle.w16_loading.proofs.Common.{◌≤◌, ◌⊎◌}
 unfoldable pub use Rattle.w16_loading.proofs.Common.{file_of, is_named, repeated}
 pub use Rattle.w16_loading.proofs.Filled.{fill_law}
 pub use Rattle.w16_loading.proofs.Fillings.{filled_other}

@@ -1,5 +1,8 @@
 -- Modules go with the objects of their segments.
-use Rattle.w16_loader.proofs.Common.{◌≡◌, ℕ, suc, ◌+◌, ◌*◌, ◌-◌, ◌/◌, ◌<◌, inl, inr, Bool, true, false, cond, not, ◌||◌, ◌==◌, if◌then◌else◌, List, [], ◌∷◌, length, get_or, drop, Option, Some, None, IfSome, option_map, unwrap_or, is_some, refl, sym, ap, ◌∙◌, subst, add-one, arith, eq-eqb, ne_eqb, nat_cmp, nat_cmp_total, from_bool, FinMap, len-entries, len-remove, drop-cons, false≢true, cases_eq, Kind, Fixed, Moveable, Discardable, is_member, Object, object_at, is_in_order, Handles, AreHandles, handle_of, slot_of_handle, without_slot, Member, taken_here, taken_other, at_once, without_out, LoadingWorld, Module, Modules, Named, is_idle, module_at, module_in, with_handles, without_objects, EndsUse, Go, used_less, without_module, same_values, none_gone, world_without, there_entry, retained, in_world}
+use Rattle.w16_loader.proofs.Common.{◌≡◌, ℕ, suc, ◌+◌, ◌*◌, ◌-◌, ◌/◌, ◌<◌, inl, inr, Bool, true, false, cond, not, ◌||◌, ◌==◌, if◌then◌else◌, List, [], ◌∷◌, length, get_or, drop, Option, Some, None, IfSome, option_map, unwrap_or}
+use Rattle.w16_loader.proofs.Common.{is_some, refl, sym, ap, ◌∙◌, subst, add-one, arith, eq-eqb, ne_eqb, nat_cmp, nat_cmp_total, from_bool, FinMap, len-entries, len-remove, drop-cons, false≢true, cases_eq, Kind, Fixed, Moveable}
+use Rattle.w16_loader.proofs.Common.{Discardable, is_member, Object, object_at, is_in_order, Handles, AreHandles, handle_of, slot_of_handle, without_slot, Member, taken_here, taken_other, at_once, without_out, LoadingWorld, Module}
+use Rattle.w16_loader.proofs.Common.{Modules, Named, is_idle, module_at, module_in, with_handles, without_objects, EndsUse, Go, used_less, without_module, same_values, none_gone, world_without, there_entry, retained, in_world}
 use Rattle.std.specs.FinMap as finmap
 
 -- A slot whose object goes, by either of its handles.

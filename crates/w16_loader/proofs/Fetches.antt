@@ -1,5 +1,9 @@
 -- What a fetch of a segment comes to: over any store, over a file that says what it said at load, and in a world of its files.
-use Rattle.w16_loader.proofs.Common.{◌≡◌, ℕ, ◌-◌, ◌<◌, ◌≤◌, inl, inr, true, false, cond, List, [], length, map, All, Option, Some, None, IsSomeAnd, MatchOption, MatchResult, is_some, option_map, slice_get, slice_index_or, Result, Ok, Err, refl, sym, ap, ◌∙◌, subst, arith, ne_eqb, lit<, false≢true, length-map, slice_get-map, slice_get_cases, get_or_from_slice_get, AllZip-left, repeated, Owned, Handles, bytes_at, Revives, owned_at, is_owned, length-repeated, All-repeated, tables_at, RelocFault, Record, Held, checked, data_of, IsImage, naming, FetchFault, Store, Damaged, NoRoom, AnyFetches, FetchesFewest, AreHandles, IsOwnedSize, FetchesCounted, read_of, segment_bytes, Far, ModuleFile, SegmentData, IsModuleFile, IsSegmentData, numbered, Fills, FillsOne, is_of_device, is_of_read, IsItsFiles, IsObjectOf, LoadingWorld, Module, of_segment, data_in, target_of, targets_in, far_of, IsFileOf, IsRelocated, ne_format, module_file, segment_in, accepted, has_room, is_format, stored_law, is_relocated, words_same, file_of, Files, GivesBytes, IsFetchable, IsSoundIn, IsWritten, fault_in, image_in}
+use Rattle.w16_loader.proofs.Common.{◌≡◌, ℕ, ◌-◌, ◌<◌, ◌≤◌, inl, inr, true, false, cond, List, [], length, map, All, Option, Some, None, IsSomeAnd, MatchOption, MatchResult, is_some, option_map, slice_get, slice_index_or, Result, Ok, Err, refl, sym}
+use Rattle.w16_loader.proofs.Common.{ap, ◌∙◌, subst, arith, ne_eqb, lit<, false≢true, length-map, slice_get-map, slice_get_cases, get_or_from_slice_get, AllZip-left, repeated, Owned, Handles, bytes_at, Revives, owned_at, is_owned, length-repeated}
+use Rattle.w16_loader.proofs.Common.{All-repeated, tables_at, RelocFault, Record, Held, checked, data_of, IsImage, naming, FetchFault, Store, Damaged, NoRoom, AnyFetches, FetchesFewest, AreHandles, IsOwnedSize, FetchesCounted, read_of, segment_bytes}
+use Rattle.w16_loader.proofs.Common.{Far, ModuleFile, SegmentData, IsModuleFile, IsSegmentData, numbered, Fills, FillsOne, is_of_device, is_of_read, IsItsFiles, IsObjectOf, LoadingWorld, Module, of_segment, data_in, target_of, targets_in, far_of}
+use Rattle.w16_loader.proofs.Common.{IsFileOf, IsRelocated, ne_format, module_file, segment_in, accepted, has_room, is_format, stored_law, is_relocated, words_same, file_of, Files, GivesBytes, IsFetchable, IsSoundIn, IsWritten, fault_in, image_in}
 use Rattle.w16_ne.specs.declared.segment_table.Segment.{Segment}
 use Rattle.w16_ne.specs.Modules.{Tables}
 use Rattle.w16_reloc.specs.declared.value.Far as words

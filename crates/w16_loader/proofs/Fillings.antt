@@ -1,5 +1,8 @@
 -- What gets bytes in turn: of one segment and then of the others, and of one module and then of the others.
-use Rattle.w16_loader.proofs.Common.{◌≡◌, ◌≢◌, ℕ, zero, suc, ◌+◌, ◌<◌, ◌≤◌, Bool, true, false, cond, ◌||◌, List, [], ◌∷◌, ◌++◌, length, drop, flat_map, All, Option, Some, None, IfSome, IsSomeAnd, MatchOption, get_or, option_map, unwrap_or, slice_get, Result, Ok, Err, inl, inr, refl, sym, ap, ◌∙◌, subst, arith, add-one, AllZip, drop_all, AllZip-left, Handles, Heap, is_fixed, Member, EachPair, Each-at, Each-from, Each-from_All, All-from_Each, EachPair-from_AllPairs, AllPairs-from_EachPair, FetchFault, ModuleFile, Segment, Tables, Failure, Filling, Giving, InTurn, Module, Modules, module_at, fills_from, first_apart, one_place, place_member, apart_after, in_first, in_second, fault_in, Part, AreUnfilled, HasUnfilled, IsReadAs, IsUnfilled, failure_at, fills_in, fills_of_part, fills_with, slots_at}
+use Rattle.w16_loader.proofs.Common.{◌≡◌, ◌≢◌, ℕ, zero, suc, ◌+◌, ◌<◌, ◌≤◌, Bool, true, false, cond, ◌||◌, List, [], ◌∷◌, ◌++◌, length, drop, flat_map, All, Option, Some, None, IfSome, IsSomeAnd, MatchOption, get_or, option_map}
+use Rattle.w16_loader.proofs.Common.{unwrap_or, slice_get, Result, Ok, Err, inl, inr, refl, sym, ap, ◌∙◌, subst, arith, add-one, AllZip, drop_all, AllZip-left, Handles, Heap, is_fixed, Member, EachPair, Each-at, Each-from}
+use Rattle.w16_loader.proofs.Common.{Each-from_All, All-from_Each, EachPair-from_AllPairs, AllPairs-from_EachPair, FetchFault, ModuleFile, Segment, Tables, Failure, Filling, Giving, InTurn, Module, Modules, module_at, fills_from}
+use Rattle.w16_loader.proofs.Common.{first_apart, one_place, place_member, apart_after, in_first, in_second, fault_in, Part, AreUnfilled, HasUnfilled, IsReadAs, IsUnfilled, failure_at, fills_in, fills_of_part, fills_with, slots_at}
 use Rattle.std.specs.List.{AllByRecursion as Each}
 use Rattle.w16_loader.proofs.Files.{there}
 use Rattle.w16_loader.proofs.Giving.{some_at}

@@ -1,5 +1,8 @@
 -- What the code has reached, reference by reference.
-use Rattle.w16_loader.proofs.Common.{◌≡◌, ℕ, zero, suc, ◌+◌, ◌-◌, ◌<◌, ◌≤◌, Bool, true, false, nat_lt, List, [], ◌∷◌, ◌++◌, length, map, Some, None, option_map, Ok, Err, refl, sym, ap, ◌∙◌, subst, arith, add-one, ltb-true, ltb-false, slice_get, slice_index_or, length-map, map-append, slice_get-map, Format, Around, Closes, New, Found, Bound, Followed, FileFault, MOST_MODULES, Modules, free_modules, Files, around_in, found_in, read_in, IsFault, Leads, references_of, left_from, bound_in, pending_in, closed_in, reached, with_followed, references_at, found_after, referent_after}
+use Rattle.w16_loader.proofs.Common.{◌≡◌, ℕ, zero, suc, ◌+◌, ◌-◌, ◌<◌, ◌≤◌, Bool, true, false, nat_lt, List, [], ◌∷◌, ◌++◌, length, map, Some, None, option_map, Ok, Err, refl, sym, ap, ◌∙◌, subst, arith, add-one}
+use Rattle.w16_loader.proofs.Common.{ltb-true, ltb-false, slice_get, slice_index_or, length-map, map-append, slice_get-map, Format, Around, Closes, New, Found, Bound, Followed, FileFault, MOST_MODULES, Modules}
+use Rattle.w16_loader.proofs.Common.{free_modules, Files, around_in, found_in, read_in, IsFault, Leads, references_of, left_from, bound_in, pending_in, closed_in, reached, with_followed, references_at, found_after}
+use Rattle.w16_loader.proofs.Common.{referent_after}
 use Rattle.w16_loading.specs.Closure as closing
 use Rattle.w16_loader.specs.declared.closure.Closure.{Closure}
 use Rattle.w16_loader.specs.declared.closure.Followed.TheVariants as leads

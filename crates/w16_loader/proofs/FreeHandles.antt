@@ -1,5 +1,8 @@
 -- The lowest free handles.
-use Rattle.w16_loader.proofs.Common.{◌≡◌, ◌≢◌, ℕ, zero, suc, ◌+◌, ◌-◌, ◌<◌, ◌≤◌, Bool, true, false, not, is_some, cond, IsTrue, List, [], ◌∷◌, ◌++◌, length, get_or, take, drop, filter, Option, Some, None, All, AllPairs, refl, sym, ap, ◌∙◌, subst, arith, add-one, option_map, is_none, count_by, range_with_len, false≢true, append-nil, append_assoc, take-append-le, take_all, drop_all, length-take-le, sum_by-cons, Member, EachPair, Each-from, Each-from_All, All-from_Each, EachPair-from_AllPairs, AllPairs-from_EachPair, pairs_filter, member_filter, FIRST_MODULE, MOST_MODULES, Modules, Named, IsFreeModule, free_modules, Entry, named_of, free_handles, registered, IsTable}
+use Rattle.w16_loader.proofs.Common.{◌≡◌, ◌≢◌, ℕ, zero, suc, ◌+◌, ◌-◌, ◌<◌, ◌≤◌, Bool, true, false, not, is_some, cond, IsTrue, List, [], ◌∷◌, ◌++◌, length, get_or, take, drop, filter, Option, Some, None, All, AllPairs, refl, sym, ap, ◌∙◌, subst}
+use Rattle.w16_loader.proofs.Common.{arith, add-one, option_map, is_none, count_by, range_with_len, false≢true, append-nil, append_assoc, take-append-le, take_all, drop_all, length-take-le, sum_by-cons, Member, EachPair, Each-from, Each-from_All}
+use Rattle.w16_loader.proofs.Common.{All-from_Each, EachPair-from_AllPairs, AllPairs-from_EachPair, pairs_filter, member_filter, FIRST_MODULE, MOST_MODULES, Modules, Named, IsFreeModule, free_modules, Entry, named_of, free_handles, registered}
+use Rattle.w16_loader.proofs.Common.{IsTable}
 use Rattle.std.proofs.Common.{drop-cons}
 use Rattle.std.specs.List.{AllByRecursion as Each}
 use Rattle.std.specs.FinMap as finmap

@@ -1,5 +1,6 @@
 -- Modules bound and filled one after another are those that loading binds and fills at once.
-use Rattle.w16_loader.proofs.Common.{◌≡◌, ◌≢◌, ℕ, ◌+◌, inl, inr, List, [], ◌∷◌, ◌++◌, length, map, Option, Some, None, refl, sym, ap, ◌∙◌, arith, cases_eq, Member, EachPair, Each-at, inserted_here, inserted_other, SegmentData, Target, targets_of, Filling, Lookup, Module, Modules, Named, module_in, module_at, value_of, Loaded, Given, given_from, with_modules, fills_from, fills_of, same_values, given_handle, put_all, values_for, bound_as, all_bound, fills_with}
+use Rattle.w16_loader.proofs.Common.{◌≡◌, ◌≢◌, ℕ, ◌+◌, inl, inr, List, [], ◌∷◌, ◌++◌, length, map, Option, Some, None, refl, sym, ap, ◌∙◌, arith, cases_eq, Member, EachPair, Each-at, inserted_here, inserted_other, SegmentData, Target, targets_of}
+use Rattle.w16_loader.proofs.Common.{Filling, Lookup, Module, Modules, Named, module_in, module_at, value_of, Loaded, Given, given_from, with_modules, fills_from, fills_of, same_values, given_handle, put_all, values_for, bound_as, all_bound, fills_with}
 use Rattle.std.specs.List.{AllByRecursion as Each, flat_map}
 use Rattle.std.specs.FinMap as finmap
 use Rattle.w16_loading.specs.Closure.{Found}

@@ -1,5 +1,6 @@
 -- An object that was revived and then written has what was written; one that couldn't be revived has no room for any bytes.
-use Rattle.w16_loader.proofs.Common.{◌≡◌, ℕ, ◌<◌, true, false, IsSomeAnd, List, length, All, Option, Some, None, refl, sym, ap, ◌∙◌, subst, false≢true, Kind, Owned, with_newest, after_write, Handles, Heap, Object, object_at, bytes_at, Revives, owned_at, revival_options, Allocates, Request, IsNew, AreNew, discarded, discards_needed, inserted_here, Lends, Fills, fill_law, GivesBytes}
+use Rattle.w16_loader.proofs.Common.{◌≡◌, ℕ, ◌<◌, true, false, IsSomeAnd, List, length, All, Option, Some, None, refl, sym, ap, ◌∙◌, subst, false≢true, Kind, Owned, with_newest, after_write, Handles, Heap, Object}
+use Rattle.w16_loader.proofs.Common.{object_at, bytes_at, Revives, owned_at, revival_options, Allocates, Request, IsNew, AreNew, discarded, discards_needed, inserted_here, Lends, Fills, fill_law, GivesBytes}
 
 pub some_at : {A : Type 0} (P : A → Type 0) (p : Option A) → IsSomeAnd p P → (a : A) × (p ≡ Some a) × P a
 some_at P None h = absurd h

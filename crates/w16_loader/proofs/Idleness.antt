@@ -1,5 +1,7 @@
 -- Which module nobody uses, by what its table marks.
-use Rattle.w16_loader.proofs.Common.{◌≡◌, ℕ, suc, ◌+◌, ◌<◌, ◌≤◌, inl, inr, Bool, true, false, cond, not, ◌&&◌, ◌||◌, ◌==◌, nat_lt, List, [], ◌∷◌, length, get_or, drop, replicate, Option, Some, None, option_map, is_some, refl, sym, ap, ◌∙◌, subst, add-one, zero-add, arith, IfSome, IfNone, count_by, find, list_any, or_assoc, drop-cons, lt-ltb, get_or_past, get_or-replicate, sum_by-cons, by_id, Member, Named, imports, importers_among, is_idle, module_in, usage_with, Loaded, BuiltIn, entry_there, there_entry, Entry, named_of, listed, registered, imports_in, is_unused, is_imported, first_unused}
+use Rattle.w16_loader.proofs.Common.{◌≡◌, ℕ, suc, ◌+◌, ◌<◌, ◌≤◌, inl, inr, Bool, true, false, cond, not, ◌&&◌, ◌||◌, ◌==◌, nat_lt, List, [], ◌∷◌, length, get_or, drop, replicate, Option, Some, None, option_map, is_some, refl}
+use Rattle.w16_loader.proofs.Common.{sym, ap, ◌∙◌, subst, add-one, zero-add, arith, IfSome, IfNone, count_by, find, list_any, or_assoc, drop-cons, lt-ltb, get_or_past, get_or-replicate, sum_by-cons, by_id, Member, Named}
+use Rattle.w16_loader.proofs.Common.{imports, importers_among, is_idle, module_in, usage_with, Loaded, BuiltIn, entry_there, there_entry, Entry, named_of, listed, registered, imports_in, is_unused, is_imported, first_unused}
 use Rattle.std.specs.FinMap as finmap
 use Rattle.w16_loader.proofs.Listed.{listed_from}
 use Rattle.w16_loader.proofs.Registered.{named_at, entries_are}

@@ -1,5 +1,6 @@
 -- What the references of new modules mean, by module.
-use Rattle.w16_loader.proofs.Common.{◌≡◌, ◌≢◌, ℕ, ◌+◌, ◌<◌, ◌==◌, inl, inr, ◌⊎◌, cond, List, [], ◌∷◌, ◌++◌, length, get_or, set, map, filter, take, sym, ap, ◌∙◌, subst, eq-eqb, ne_eqb, arith, cases_eq, cases_lt, append-nil, map-append, take_more, get_or-map, get_or_past, get_or-set_same, get_or-set_other, length-set, length-map, filter-append, handle_meant, Bound, referent_of, bound_in, imports_among}
+use Rattle.w16_loader.proofs.Common.{◌≡◌, ◌≢◌, ℕ, ◌+◌, ◌<◌, ◌==◌, inl, inr, ◌⊎◌, cond, List, [], ◌∷◌, ◌++◌, length, get_or, set, map, filter, take, sym, ap, ◌∙◌, subst, eq-eqb, ne_eqb, arith, cases_eq, cases_lt, append-nil}
+use Rattle.w16_loader.proofs.Common.{map-append, take_more, get_or-map, get_or_past, get_or-set_same, get_or-set_other, length-set, length-map, filter-append, handle_meant, Bound, referent_of, bound_in, imports_among}
 use Rattle.w16_loading.specs.Closure.{Referent}
 
 module _ (hs : List ℕ) (p : ℕ) where

@@ -1,5 +1,7 @@
 -- What a load comes to, by what its file says and by what its closure is.
-use Rattle.w16_loader.proofs.Common.{◌≡◌, ℕ, ◌<◌, ◌≤◌, inl, inr, Bool, List, [], ◌∷◌, map, All, Option, Some, None, IfOk, Result, Ok, Err, ◌⊎◌, refl, sym, ap, subst, arith, AllZip, AllocError, All-from_recursion, file_of, Handles, ModuleFile, FillsOne, is_of_device, LoadingWorld, Modules, Closes, begun, Read, Answer, Loads, LoadsFile, Says, StoreFails, read_by, ne_format, Found, FileFault, LoadAnswer, Files, IsFault, around_in, found_in, reading_in, said, closed_in, IsFoundOf, IsClosureOf, LoadsCounted, LoadsClosed, IsOfFile, answer_in, in_store, refused_by}
+use Rattle.w16_loader.proofs.Common.{◌≡◌, ℕ, ◌<◌, ◌≤◌, inl, inr, Bool, List, [], ◌∷◌, map, All, Option, Some, None, IfOk, Result, Ok, Err, ◌⊎◌, refl, sym, ap, subst, arith, AllZip, AllocError, All-from_recursion}
+use Rattle.w16_loader.proofs.Common.{file_of, Handles, ModuleFile, FillsOne, is_of_device, LoadingWorld, Modules, Closes, begun, Read, Answer, Loads, LoadsFile, Says, StoreFails, read_by, ne_format, Found, FileFault}
+use Rattle.w16_loader.proofs.Common.{LoadAnswer, Files, IsFault, around_in, found_in, reading_in, said, closed_in, IsFoundOf, IsClosureOf, LoadsCounted, LoadsClosed, IsOfFile, answer_in, in_store, refused_by}
 use Rattle.std.specs.List.{AllByRecursion as Each}
 use Rattle.w16_loading.specs.Closure as closing
 use Rattle.w16_loading.proofs.CodeLoads as CodeLoads

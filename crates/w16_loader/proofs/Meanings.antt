@@ -1,5 +1,6 @@
 -- What a name means is there.
-use Rattle.w16_loader.proofs.Common.{◌≡◌, ℕ, ◌<◌, inl, inr, Bool, true, false, cond, nat_lt, List, [], ◌∷◌, length, map, Option, Some, None, option_map, Result, Ok, Err, IfOk, refl, sym, ap, ◌∙◌, arith, ltb-true, position, position_or_len, option_or, length-map, Member, is_named, entry_there, Modules, Named, name_of, handle_named, There, New, Found, FileFault, Reading, found_in, meant_in, IsNewOrMeant, IsThere}
+use Rattle.w16_loader.proofs.Common.{◌≡◌, ℕ, ◌<◌, inl, inr, Bool, true, false, cond, nat_lt, List, [], ◌∷◌, length, map, Option, Some, None, option_map, Result, Ok, Err, IfOk, refl, sym, ap, ◌∙◌, arith, ltb-true, position}
+use Rattle.w16_loader.proofs.Common.{position_or_len, option_or, length-map, Member, is_named, entry_there, Modules, Named, name_of, handle_named, There, New, Found, FileFault, Reading, found_in, meant_in, IsNewOrMeant, IsThere}
 use Rattle.std.specs.List.{find}
 use Rattle.std.specs.FinMap as finmap
 use Rattle.w16_loading.specs.Closure as closing

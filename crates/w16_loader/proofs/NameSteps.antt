@@ -1,5 +1,10 @@
 -- Steps of naming as the code takes them.
-use Rattle.w16_loader.proofs.Common.{◌≡◌, ◌≢◌, ℕ, zero, suc, inl, inr, ◌+◌, ◌<◌, ◌≤◌, ◌==◌, if◌then◌else◌, List, [], ◌∷◌, ◌++◌, length, get_or, set, map, fold, zip, take, slice_get, Some, None, false, ◌/◌, All, AllPairs, refl, sym, ap, ◌∙◌, subst, add-one, arith, AllZip, enumerate_from, length-take-le, length-map, take_all, take_more_set, length-enumerate_from, get_or-enumerate_from, slice_get-get_or, Kind, Fixed, Moveable, Discardable, Owned, HasNoSlot, with_object, TakesOwned, is_member, Handles, AreHandles, IsFreeSlot, handle_of, Member, EachPair, Each-at, Each-from_All, All-from_Each, EachPair-from_AllPairs, Global, Segment, Tables, LoadingWorld, Module, Modules, IsFreeModule, with_handles, Loaded, free_slots, segments_in, with_segment, Given, given_from, without_objects, without_module, empty_loading_world, given_handle, put_all, segment_in, tables_in, Found, found_in, in_world, IsFoundOf, Takes, GetsName, GetNames, unbound_by, All-push, IsSized, IsFit, SEGMENT_UNIT, LARGEST_SEGMENT, LARGEST_OWNED, ◌*◌, ◌%◌}
+use Rattle.w16_loader.proofs.Common.{◌≡◌, ◌≢◌, ℕ, zero, suc, inl, inr, ◌+◌, ◌<◌, ◌≤◌, ◌==◌, if◌then◌else◌, List, [], ◌∷◌, ◌++◌, length, get_or, set, map, fold, zip, take, slice_get, Some, None, false, ◌/◌, All, AllPairs, refl, sym, ap}
+use Rattle.w16_loader.proofs.Common.{◌∙◌, subst, add-one, arith, AllZip, enumerate_from, length-take-le, length-map, take_all, take_more_set, length-enumerate_from, get_or-enumerate_from, slice_get-get_or, Kind, Fixed, Moveable}
+use Rattle.w16_loader.proofs.Common.{Discardable, Owned, HasNoSlot, with_object, TakesOwned, is_member, Handles, AreHandles, IsFreeSlot, handle_of, Member, EachPair, Each-at, Each-from_All, All-from_Each, EachPair-from_AllPairs, Global}
+use Rattle.w16_loader.proofs.Common.{Segment, Tables, LoadingWorld, Module, Modules, IsFreeModule, with_handles, Loaded, free_slots, segments_in, with_segment, Given, given_from, without_objects, without_module, empty_loading_world}
+use Rattle.w16_loader.proofs.Common.{given_handle, put_all, segment_in, tables_in, Found, found_in, in_world, IsFoundOf, Takes, GetsName, GetNames, unbound_by, All-push, IsSized, IsFit, SEGMENT_UNIT, LARGEST_SEGMENT, LARGEST_OWNED}
+use Rattle.w16_loader.proofs.Common.{◌*◌, ◌%◌}
 use Rattle.std.specs.List.{AllByRecursion as Each}
 use Rattle.std.specs.FinMap as finmap
 use Rattle.w16_loading.specs.Closure as closing

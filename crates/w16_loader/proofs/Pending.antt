@@ -1,5 +1,6 @@
 -- References that are left to a load.
-use Rattle.w16_loader.proofs.Common.{◌≡◌, ℕ, zero, suc, ◌+◌, ◌<◌, ◌≤◌, List, [], ◌∷◌, ◌++◌, length, drop, Some, option_map, sym, ap, ◌∙◌, arith, slice_get, append_assoc, append-nil, length-append, length-drop, length-map, drop-append-le, drop_all, slice_get-map, slice_get_within, references_of, references_from, left_from}
+use Rattle.w16_loader.proofs.Common.{◌≡◌, ℕ, zero, suc, ◌+◌, ◌<◌, ◌≤◌, List, [], ◌∷◌, ◌++◌, length, drop, Some, option_map, sym, ap, ◌∙◌, arith, slice_get, append_assoc, append-nil}
+use Rattle.w16_loader.proofs.Common.{length-append, length-drop, length-map, drop-append-le, drop_all, slice_get-map, slice_get_within, references_of, references_from, left_from}
 use Rattle.w16_loading.specs.Closure.{Found}
 
 -- the first that is left, and the others

@@ -1,5 +1,6 @@
 -- What a load makes of a file, case by case.
-use Rattle.w16_loader.proofs.Common.{◌≡◌, ℕ, ◌<◌, ◌≤◌, true, false, List, [], length, map, Option, Some, None, Ok, refl, sym, ap, ◌∙◌, arith, nat_lt, unwrap_or, file_of, Format, ModuleFile, Around, are_sound, Refused, Read, ne_format, module_file, Modules, free_modules, tables_at, lt-ltb, le-ltb, length-map, Found, Files, around_in, found_in, reading_in, read_in, IsRead}
+use Rattle.w16_loader.proofs.Common.{◌≡◌, ℕ, ◌<◌, ◌≤◌, true, false, List, [], length, map, Option, Some, None, Ok, refl, sym, ap, ◌∙◌, arith, nat_lt, unwrap_or, file_of, Format, ModuleFile, Around, are_sound}
+use Rattle.w16_loader.proofs.Common.{Refused, Read, ne_format, module_file, Modules, free_modules, tables_at, lt-ltb, le-ltb, length-map, Found, Files, around_in, found_in, reading_in, read_in, IsRead}
 use Rattle.w16_ne.specs.Modules as ne
 use Rattle.w16_loading.specs.Closure as closing
 

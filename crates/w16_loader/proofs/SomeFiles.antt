@@ -1,5 +1,6 @@
 -- Module files as a load over any store may take them: they have the tables that it read, and the targets that it saw.
-use Rattle.w16_loader.proofs.Common.{◌≡◌, ℕ, ◌<◌, true, List, [], ◌∷◌, length, map, replicate, All, Some, refl, ap, arith, AllZip, list_all, is_some, length-replicate, All-cons, All-head, All-nil, All-tail, All-map, All-replicate, rounded_size, Segment, SegmentData, Tables, Target, Resource, ModuleFile, IsSegmentData, targets_of, IsGood, AreGood, IsAlike, IsFit, AreFit}
+use Rattle.w16_loader.proofs.Common.{◌≡◌, ℕ, ◌<◌, true, List, [], ◌∷◌, length, map, replicate, All, Some, refl, ap, arith, AllZip, list_all, is_some, length-replicate, All-cons, All-head, All-nil, All-tail}
+use Rattle.w16_loader.proofs.Common.{All-map, All-replicate, rounded_size, Segment, SegmentData, Tables, Target, Resource, ModuleFile, IsSegmentData, targets_of, IsGood, AreGood, IsAlike, IsFit, AreFit}
 use Rattle.w16_loading.specs.Closure.{Found}
 
 -- what segments hold with these targets, and bytes of 0

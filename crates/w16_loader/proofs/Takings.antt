@@ -1,5 +1,7 @@
 -- Segments that get objects in free slots, one after another.
-use Rattle.w16_loader.proofs.Common.{◌≡◌, ◌≢◌, ℕ, zero, suc, ◌+◌, ◌<◌, ◌≤◌, inl, inr, ◌⊎◌, Bool, true, false, cond, not, IsTrue, List, [], ◌∷◌, ◌++◌, length, map, fold, filter, zip, slice_get, Option, Some, None, is_some, refl, sym, ap, ◌∙◌, subst, arith, range_with_len, false≢true, cases_eq, FIRST_SLOT, HasNoSlot, is_member, Attributes, FinMap, nat_cmp, IsIn, owner_of, no_owner, none_owns, slots_beside, slots_with, unowned_beside, Handles, AreHandles, IsFreeSlot, Member, EachPair, Each-map, Each-from, All-from_Each, member_filter, true-is_member, filter_same, Segment, LoadingWorld, Modules, free_slots, attributes_of, with_segment, without_objects, zipped, taken_back_law, Takes}
+use Rattle.w16_loader.proofs.Common.{◌≡◌, ◌≢◌, ℕ, zero, suc, ◌+◌, ◌<◌, ◌≤◌, inl, inr, ◌⊎◌, Bool, true, false, cond, not, IsTrue, List, [], ◌∷◌, ◌++◌, length, map, fold, filter, zip, slice_get, Option, Some, None, is_some, refl, sym, ap, ◌∙◌, subst, arith}
+use Rattle.w16_loader.proofs.Common.{range_with_len, false≢true, cases_eq, FIRST_SLOT, HasNoSlot, is_member, Attributes, FinMap, nat_cmp, IsIn, owner_of, no_owner, none_owns, slots_beside, slots_with, unowned_beside, Handles, AreHandles, IsFreeSlot}
+use Rattle.w16_loader.proofs.Common.{Member, EachPair, Each-map, Each-from, All-from_Each, member_filter, true-is_member, filter_same, Segment, LoadingWorld, Modules, free_slots, attributes_of, with_segment, without_objects, zipped, taken_back_law, Takes}
 use Rattle.std.specs.List.{AllByRecursion as Each}
 use Rattle.std.specs.FinMap as finmap
 

@@ -1,5 +1,9 @@
 -- New modules that are released leave what was there before them.
-use Rattle.w16_loader.proofs.Common.{◌≡◌, ◌≢◌, ℕ, ◌+◌, ◌<◌, inl, inr, Bool, true, false, cond, not, ◌||◌, ◌==◌, List, [], ◌∷◌, ◌++◌, length, get_or, drop, map, fold, filter, flat_map, Option, Some, None, refl, sym, ap, ◌∙◌, subst, add-one, arith, AllZip, nat_cmp, FinMap, drop-cons, false≢true, cases_Bool, cases_eq, is_member, Heap, object_at, AreHandles, IsFreeSlot, unused_slot, Member, EachPair, Each-at, Each-from, Each-from_All, EachPair-from_AllPairs, is_member-true, true-is_member, taken_here, taken_other, LoadingWorld, Module, Modules, IsFreeModule, with_heap, Loaded, Closure, Choice, IsChoice, Given, given, given_from, all_slots, segments_of, with_segment, with_modules, heap_without, without_objects, without_module, undone, same_values, none_gone, gone_with, went, given_handle, put_here, put_all, chosen, fold_named, retained, taken_away}
+use Rattle.w16_loader.proofs.Common.{◌≡◌, ◌≢◌, ℕ, ◌+◌, ◌<◌, inl, inr, Bool, true, false, cond, not, ◌||◌, ◌==◌, List, [], ◌∷◌, ◌++◌, length, get_or, drop, map, fold, filter, flat_map, Option, Some, None, refl, sym, ap, ◌∙◌, subst, add-one}
+use Rattle.w16_loader.proofs.Common.{arith, AllZip, nat_cmp, FinMap, drop-cons, false≢true, cases_Bool, cases_eq, is_member, Heap, object_at, AreHandles, IsFreeSlot, unused_slot, Member, EachPair, Each-at, Each-from, Each-from_All}
+use Rattle.w16_loader.proofs.Common.{EachPair-from_AllPairs, is_member-true, true-is_member, taken_here, taken_other, LoadingWorld, Module, Modules, IsFreeModule, with_heap, Loaded, Closure, Choice, IsChoice, Given, given, given_from, all_slots}
+use Rattle.w16_loader.proofs.Common.{segments_of, with_segment, with_modules, heap_without, without_objects, without_module, undone, same_values, none_gone, gone_with, went, given_handle, put_here, put_all, chosen, fold_named, retained}
+use Rattle.w16_loader.proofs.Common.{taken_away}
 use Rattle.std.specs.List.{AllByRecursion as Each}
 use Rattle.std.specs.FinMap as finmap
 use Rattle.w16_loading.specs.Closure.{Found}

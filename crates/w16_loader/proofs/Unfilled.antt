@@ -1,5 +1,8 @@
 -- Objects of segments that have no bytes yet, and one of them that a load gives its bytes.
-use Rattle.w16_loader.proofs.Common.{◌≡◌, ◌≢◌, ℕ, ◌-◌, ◌/◌, ◌<◌, ◌≤◌, Bool, true, false, cond, ◌||◌, ◌==◌, List, [], ◌∷◌, length, map, All, Option, Some, None, IsSomeAnd, option_map, is_some, slice_get, Result, Ok, Err, inl, inr, refl, sym, ap, ◌∙◌, subst, arith, eq-eqb, OnOk, OnErr, false≢true, length-map, slice_get-map, get_or_from_slice_get, Kind, Fixed, Moveable, Discardable, Owned, IsKeptOrDiscarded, Handles, handle_of, Heap, Object, IsHeap, bytes_at, is_fixed, object_at, owned_at, Global, LacksBytes, tables_at, file_of, FetchFault, AnyFetches, GivesAny, ModuleFile, Segment, IsSegmentData, Filling, FillsOne, Giving, InTurn, is_of_device, is_of_read, IsItsFiles, LoadingWorld, Module, filled_other, data_in, far_of, module_file, segment_in, tables_in, read_back, tables_apart, IsSaid, Files, IsSoundIn, IsSourceOf, fault_in, image_in, in_parts, Part, IsReadAs, IsUnfilled, failure_at, fills_of_part}
+use Rattle.w16_loader.proofs.Common.{◌≡◌, ◌≢◌, ℕ, ◌-◌, ◌/◌, ◌<◌, ◌≤◌, Bool, true, false, cond, ◌||◌, ◌==◌, List, [], ◌∷◌, length, map, All, Option, Some, None, IsSomeAnd, option_map, is_some, slice_get, Result, Ok, Err, inl, inr, refl, sym, ap, ◌∙◌, subst}
+use Rattle.w16_loader.proofs.Common.{arith, eq-eqb, OnOk, OnErr, false≢true, length-map, slice_get-map, get_or_from_slice_get, Kind, Fixed, Moveable, Discardable, Owned, IsKeptOrDiscarded, Handles, handle_of, Heap, Object, IsHeap, bytes_at, is_fixed}
+use Rattle.w16_loader.proofs.Common.{object_at, owned_at, Global, LacksBytes, tables_at, file_of, FetchFault, AnyFetches, GivesAny, ModuleFile, Segment, IsSegmentData, Filling, FillsOne, Giving, InTurn, is_of_device, is_of_read, IsItsFiles, LoadingWorld}
+use Rattle.w16_loader.proofs.Common.{Module, filled_other, data_in, far_of, module_file, segment_in, tables_in, read_back, tables_apart, IsSaid, Files, IsSoundIn, IsSourceOf, fault_in, image_in, in_parts, Part, IsReadAs, IsUnfilled, failure_at, fills_of_part}
 use Rattle.std.specs.FinMap as finmap
 use Rattle.w16_ne.specs.declared.segment_table.Segment as ne
 use Rattle.w16_ne.specs.Modules as ne_modules

@@ -1,5 +1,6 @@
 -- A module in another number of uses.
-use Rattle.w16_loader.proofs.Common.{◌≡◌, ℕ, ◌+◌, ◌-◌, inl, inr, Bool, true, false, cond, if◌then◌else◌, nat_lt, Option, Some, None, refl, sym, ap, ◌∙◌, IsTrue, IsFalse, nat_cmp, nat_cmp_total, FinMap, same_map, nat_cmp-IsAntisymmetric, cases_eq, inserted_here, inserted_other, taken_other, MOST_USES, LoadingWorld, Module, Modules, Named, module_in, module_at, Loaded, BuiltIn, used_again, after_use, Says, used_less, in_world}
+use Rattle.w16_loader.proofs.Common.{◌≡◌, ℕ, ◌+◌, ◌-◌, inl, inr, Bool, true, false, cond, if◌then◌else◌, nat_lt, Option, Some, None, refl, sym, ap, ◌∙◌, IsTrue, IsFalse, nat_cmp, nat_cmp_total, FinMap, same_map, nat_cmp-IsAntisymmetric}
+use Rattle.w16_loader.proofs.Common.{cases_eq, inserted_here, inserted_other, taken_other, MOST_USES, LoadingWorld, Module, Modules, Named, module_in, module_at, Loaded, BuiltIn, used_again, after_use, Says, used_less, in_world}
 use Rattle.std.specs.FinMap as finmap
 
 -- what is put where something was taken away is as if nothing had been

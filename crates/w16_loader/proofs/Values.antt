@@ -1,5 +1,9 @@
 -- The values of relocation records, and what a file says of them.
-use Rattle.w16_loader.proofs.Common.{◌≡◌, ℕ, zero, suc, ◌+◌, ◌-◌, ◌<◌, ◌≤◌, Bool, true, List, [], ◌∷◌, ◌++◌, length, take, drop, get_or, map, Some, slice_get, slice_index, Result, Ok, Err, refl, sym, ap, ◌∙◌, subst, arith, add-one, All, MatchResult, is_ok, nat_lt, unwrap_or, list_all, and_parts, length-map, length-take, length-drop, map_push, map_more, All-nil, All-cons, file_of, NeFault, text_at, text_in, tables_at, imported_place, text_read, RelocFault, Record, ◌>>=◌, check_from, Offer, Held, checked, data_of, records_of, offer_of, has_text_at, AreRecords, passed_is_sound, are_sound, Far, ModuleFile, SegmentData, Target, targets_of, Lookup, Module, value_of, data_in, target_of, targets_in, far_of, module_file, segment_in, tables_in, sound_law, read_back, tables_apart, ValueFault, Device, OutOfMemory, Files, AreValuesOf, IsFailure, IsSaid, IsStoredAs, fault_of_name, values_for}
+use Rattle.w16_loader.proofs.Common.{◌≡◌, ℕ, zero, suc, ◌+◌, ◌-◌, ◌<◌, ◌≤◌, Bool, true, List, [], ◌∷◌, ◌++◌, length, take, drop, get_or, map, Some, slice_get, slice_index, Result, Ok, Err, refl, sym, ap, ◌∙◌, subst, arith, add-one, All, MatchResult}
+use Rattle.w16_loader.proofs.Common.{is_ok, nat_lt, unwrap_or, list_all, and_parts, length-map, length-take, length-drop, map_push, map_more, All-nil, All-cons, file_of, NeFault, text_at, text_in, tables_at, imported_place, text_read, RelocFault}
+use Rattle.w16_loader.proofs.Common.{Record, ◌>>=◌, check_from, Offer, Held, checked, data_of, records_of, offer_of, has_text_at, AreRecords, passed_is_sound, are_sound, Far, ModuleFile, SegmentData, Target, targets_of, Lookup, Module, value_of}
+use Rattle.w16_loader.proofs.Common.{data_in, target_of, targets_in, far_of, module_file, segment_in, tables_in, sound_law, read_back, tables_apart, ValueFault, Device, OutOfMemory, Files, AreValuesOf, IsFailure, IsSaid, IsStoredAs, fault_of_name}
+use Rattle.w16_loader.proofs.Common.{values_for}
 use Rattle.std.proofs.lemmas.Bool.{ltb-true}
 use Rattle.w16_store.specs.declared.store.StoreFault.TheVariants as stores
 use Rattle.w16_ne.specs.declared.fault.NeFault.TheVariants as ne_faults

@@ -1,5 +1,6 @@
 -- Code that is fetched has the bytes that it had.
-use Rattle.w16_loading.proofs.Common.{◌≡◌, ◌⊎◌, ℕ, inl, inr, List, Option, Some, IfSome, refl, sym, ap, ◌∙◌, subst, false≢true, bytes_in, FetchFault, Format, LoadingWorld, Module, Modules, IsSegmentOf, module_at, FillsOne, is_of_device, IsImage, segment_bytes, IsLoadingWorld, FetchAgainLaw, FetchFaultsLaw}
+use Rattle.w16_loading.proofs.Common.{◌≡◌, ◌⊎◌, ℕ, inl, inr, List, Option, Some, IfSome, refl, sym, ap, ◌∙◌, subst, false≢true, bytes_in, FetchFault, Format, LoadingWorld}
+use Rattle.w16_loading.proofs.Common.{Module, Modules, IsSegmentOf, module_at, FillsOne, is_of_device, IsImage, segment_bytes, IsLoadingWorld, FetchAgainLaw, FetchFaultsLaw}
 use Rattle.w16_loading.specs.declared.FetchFault.TheVariants as faults
 use Rattle.w16_loading.proofs.Fillings.{filled_object}
 

@@ -1,5 +1,11 @@
 -- Steps over files that stay are steps over any store, and their requests discard as few as they can.
-use Rattle.w16_loading.proofs.Common.{◌≡◌, ℕ, ◌<◌, ◌≤◌, inl, inr, ◌⊎◌, Bool, true, false, cond, not, List, [], ◌∷◌, Option, Some, None, MatchOption, MatchBool, MatchResult, is_some, option_map, unwrap_or, Result, Ok, Err, IfOk, refl, sym, ap, ◌∙◌, subst, arith, find, option_or, false≢true, Heap, IsHeap, bytes_at, IsFreeSlot, selector_in, offset_in, repeated, FarAnswer, FarCommand, far_slot, Member, is_named, FIRST_MODULE, FetchFault, Format, IsFormat, IsModuleFile, ModuleFile, Resource, LoadingWorld, Load, Module, Named, name_of, module_at, handle_named, with_heap, Reply, Dword, Failed, FillsOne, Failure, is_of_device, is_of_read, Closure, Reading, Referent, reading, around, after, begun, Refused, Meant, Read, There, New, given, segments_of, named, Answer, Loads, LoadsFile, LoadsNew, Fulfils, Refuses, used_again, undone, left, Go, used_less, without_module, Fetching, Fetches, Accesses, needs_fetch, far_read, far_write, gives, LoadsResource, LoadsNewResource, LocksResource, AnswersNone, is_too_long, resource_at, load_of, loaded_again, with_resource, locked, lock_outcome, slot_of_resource, LoadingCommand, ModuleCommand, ResourceCommand, Loading, FamilyStep, FarStep, LoadingStep, OfHandles, OfResizes, OfFar, OfModules, OfResources, AnyFetches, AnyLoads, AnyLoadsBy, GivesAny, far_reads_file, lock_reads_file, reads_files, FetchesFewest, GivesAnyFewest, RequestsFewestLaw, IsLoadingWorld, IsAnyStepLaw, ReadsNoFilesLaw}
+use Rattle.w16_loading.proofs.Common.{◌≡◌, ℕ, ◌<◌, ◌≤◌, inl, inr, ◌⊎◌, Bool, true, false, cond, not, List, [], ◌∷◌, Option, Some, None, MatchOption, MatchBool, MatchResult, is_some, option_map, unwrap_or, Result, Ok, Err, IfOk, refl, sym}
+use Rattle.w16_loading.proofs.Common.{ap, ◌∙◌, subst, arith, find, option_or, false≢true, Heap, IsHeap, bytes_at, IsFreeSlot, selector_in, offset_in, repeated, FarAnswer, FarCommand, far_slot, Member, is_named, FIRST_MODULE, FetchFault}
+use Rattle.w16_loading.proofs.Common.{Format, IsFormat, IsModuleFile, ModuleFile, Resource, LoadingWorld, Load, Module, Named, name_of, module_at, handle_named, with_heap, Reply, Dword, Failed, FillsOne, Failure, is_of_device, is_of_read}
+use Rattle.w16_loading.proofs.Common.{Closure, Reading, Referent, reading, around, after, begun, Refused, Meant, Read, There, New, given, segments_of, named, Answer, Loads, LoadsFile, LoadsNew, Fulfils, Refuses, used_again, undone, left}
+use Rattle.w16_loading.proofs.Common.{Go, used_less, without_module, Fetching, Fetches, Accesses, needs_fetch, far_read, far_write, gives, LoadsResource, LoadsNewResource, LocksResource, AnswersNone, is_too_long, resource_at, load_of}
+use Rattle.w16_loading.proofs.Common.{loaded_again, with_resource, locked, lock_outcome, slot_of_resource, LoadingCommand, ModuleCommand, ResourceCommand, Loading, FamilyStep, FarStep, LoadingStep, OfHandles, OfResizes, OfFar, OfModules}
+use Rattle.w16_loading.proofs.Common.{OfResources, AnyFetches, AnyLoads, AnyLoadsBy, GivesAny, far_reads_file, lock_reads_file, reads_files, FetchesFewest, GivesAnyFewest, RequestsFewestLaw, IsLoadingWorld, IsAnyStepLaw, ReadsNoFilesLaw}
 use Rattle.std.specs.FinMap as finmap
 use Rattle.w16_loading.proofs.Importers.{entry_there}
 use Rattle.w16_loading.proofs.Bound.{world_used_less, world_without}

@@ -1,5 +1,6 @@
 -- A module that others import stays, whoever takes its explicit uses away.
-use Rattle.w16_loading.proofs.Common.{◌≡◌, ℕ, ◌-◌, ◌<◌, inl, inr, true, false, cond, not, List, [], ◌∷◌, Option, Some, None, IfSome, IsSomeAnd, is_some, refl, sym, ap, ◌∙◌, subst, arith, cases_eq, inserted_here, inserted_other, Resource, numbered, LoadingWorld, Load, Module, Named, module_at, module_in, imports, importers, Loaded, Go, used_less, is_left_over, without_orphans, IsLoadingWorld, IsLoad, UsesApartLaw}
+use Rattle.w16_loading.proofs.Common.{◌≡◌, ℕ, ◌-◌, ◌<◌, inl, inr, true, false, cond, not, List, [], ◌∷◌, Option, Some, None, IfSome, IsSomeAnd, is_some, refl, sym, ap, ◌∙◌, subst, arith, cases_eq, inserted_here, inserted_other}
+use Rattle.w16_loading.proofs.Common.{Resource, numbered, LoadingWorld, Load, Module, Named, module_at, module_in, imports, importers, Loaded, Go, used_less, is_left_over, without_orphans, IsLoadingWorld, IsLoad, UsesApartLaw}
 use Rattle.std.specs.FinMap as finmap
 use Rattle.w16_loading.proofs.Given.{loaded_is}
 use Rattle.w16_loading.proofs.Absences.{all_retained, none_gone, put_same}

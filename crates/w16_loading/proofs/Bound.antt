@@ -1,5 +1,7 @@
 -- What was bound at load stays until the module goes.
-use Rattle.w16_loading.proofs.Common.{◌≡◌, ◌≢◌, ℕ, ◌+◌, ◌-◌, inl, inr, ◌⊎◌, List, [], ◌∷◌, Option, Some, None, refl, sym, ap, ◌∙◌, subst, cases_eq, is_member, Member, Each-at, Each-from_All, inserted_here, inserted_other, taken_here, taken_other, LoadingWorld, Module, Modules, Named, IsFreeModule, module_at, module_in, with_heap, Loaded, BuiltIn, Giving, FillsOne, Failure, is_of_device, Closure, Found, Given, given_from, with_modules, bound, named, Answer, Loads, Fulfils, undone, left, Fetches, without_objects, Go, Frees, used_less, without_module, BoundOnceLaw}
+use Rattle.w16_loading.proofs.Common.{◌≡◌, ◌≢◌, ℕ, ◌+◌, ◌-◌, inl, inr, ◌⊎◌, List, [], ◌∷◌, Option, Some, None, refl, sym, ap, ◌∙◌, subst, cases_eq, is_member, Member, Each-at, Each-from_All, inserted_here, inserted_other}
+use Rattle.w16_loading.proofs.Common.{taken_here, taken_other, LoadingWorld, Module, Modules, Named, IsFreeModule, module_at, module_in, with_heap, Loaded, BuiltIn, Giving, FillsOne, Failure, is_of_device, Closure}
+use Rattle.w16_loading.proofs.Common.{Found, Given, given_from, with_modules, bound, named, Answer, Loads, Fulfils, undone, left, Fetches, without_objects, Go, Frees, used_less, without_module, BoundOnceLaw}
 use Rattle.std.specs.FinMap as finmap
 use Rattle.w16_loading.proofs.Given.{given_handle, put_all}
 use Rattle.w16_loading.proofs.Stepping.{Parts, nothing_asked, family, loaded}

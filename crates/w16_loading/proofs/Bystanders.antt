@@ -1,5 +1,8 @@
 -- What each step leaves of objects that it isn't about, and of pinned ones, whatever the store answers.
-use Rattle.w16_loading.proofs.Common.{◌≡◌, ℕ, inl, inr, ◌⊎◌, true, false, List, Option, Some, None, MatchOption, IsSomeAnd, is_some, refl, sym, subst, IsAbout, Handles, Object, object_at, is_pinned_object, StandsStill, Call, CallStep, Calls, AnyFetches, AnyLoads, IsReleased, IsStepAbout, StepBystandersLaw, StepPinnedLaw, call_of, releases, step_may_move_own, AddsBuiltIn, FamilyStep, GivesBuiltIn, LoadingCommand, ModuleCommand, ModuleStep, ResourceCommand, ResourceStep, built_in, OfHandles, OfResizes, OfFar, OfModules, OfResources, Builtin, LoadModule, LoadLibrary, FreeLibrary, FreeModule, GetModuleHandle, GetModuleUsage, GetProcAddress, FindResource, LoadResource, LockResource, FreeResource, SizeofResource, IsLoadingWorld, LoadingWorld, handle_named, Reply, ResizeReplies, answer_in, ResizeCommand, ResizeStep, GlobalReAlloc, GlobalDiscard}
+use Rattle.w16_loading.proofs.Common.{◌≡◌, ℕ, inl, inr, ◌⊎◌, true, false, List, Option, Some, None, MatchOption, IsSomeAnd, is_some, refl, sym, subst, IsAbout, Handles, Object, object_at, is_pinned_object, StandsStill, Call, CallStep, Calls}
+use Rattle.w16_loading.proofs.Common.{AnyFetches, AnyLoads, IsReleased, IsStepAbout, StepBystandersLaw, StepPinnedLaw, call_of, releases, step_may_move_own, AddsBuiltIn, FamilyStep, GivesBuiltIn, LoadingCommand, ModuleCommand, ModuleStep}
+use Rattle.w16_loading.proofs.Common.{ResourceCommand, ResourceStep, built_in, OfHandles, OfResizes, OfFar, OfModules, OfResources, Builtin, LoadModule, LoadLibrary, FreeLibrary, FreeModule, GetModuleHandle, GetModuleUsage, GetProcAddress}
+use Rattle.w16_loading.proofs.Common.{FindResource, LoadResource, LockResource, FreeResource, SizeofResource, IsLoadingWorld, LoadingWorld, handle_named, Reply, ResizeReplies, answer_in, ResizeCommand, ResizeStep, GlobalReAlloc, GlobalDiscard}
 use Rattle.std.specs.FinMap as finmap
 use Rattle.w16_model.specs.Calls as calls
 use Rattle.w16_model.proofs.Bystanders as calls_proofs
@@ -93,7 +96,10 @@ module _ (old : LoadingWorld) (is : IsLoadingWorld old) (q : ℕ) (there : is_so
 
     family_stands : (command : LoadingCommand) → FamilyStep AnyFetches AnyLoads old command reply new → (step_may_move_own command ≡ true → IsStepAbout old.handles command q → ⊥) → StandsOrReleased command
     family_stands (OfHandles command) f out = let c : (answer : calls.Answer) × CallStep old.handles (Calls command) answer f.0 = answered old is command reply f.0 f.1 in inl (subst Stands (sym f.2) (calls_proofs.pinned_law old.handles f.0 (Calls command) c.0 q is.handles c.1 pinned out))
-    family_stands (OfResizes command) f out = let c : (answer : calls.Answer) × CallStep old.handles (call_of command) answer f.0 = resize_call old.handles command reply f.0 f.1 in inl (subst Stands (sym f.2) (calls_proofs.pinned_law old.handles f.0 (call_of command) c.0 q is.handles c.1 pinned out))
+    family_stands (OfResizes command) f out = let c : (answer : calls.Answer) × CallStep old.handles (call_of command)
+        answer f.0 = resize_call old.handles command reply f.0 f.1 in inl
+        (subst Stands (sym f.2) (calls_proofs.pinned_law old.handles f.0 (call_of command) c.0 q is.handles c.1 pinned
+        out))
     family_stands (OfFar command) f out = inl (access_stands old is q there new reply pinned command f)
     family_stands (OfModules command) f out = spared_stands (OfModules command) (modules command f)
     family_stands (OfResources command) f out = resource_stands command f

@@ -1,6 +1,9 @@
 -- What calls on handles, resizes among them, leave of what modules own: each object, and code with its bytes or none. So they keep what holds of
 -- every world, and code as its files say it.
-use Rattle.w16_loading.proofs.Common.{◌≡◌, ◌≢◌, ℕ, ◌+◌, ◌-◌, true, false, Option, Some, None, IsSomeAnd, is_some, option_map, unwrap_or, refl, sym, ap, ◌∙◌, subst, false≢true, Attributes, Owned, GMEM_MOVEABLE, object_at, Handles, AreHandles, slot_of_handle, owned_in, owned_at, is_owned, owns, HandleCommand, Walked, Call, CallStep, Outcome, Calls, ReAllocs, IsSame, IsUnmoved, IsLocked, IsUnlocked, IsFreed, IsNewest, IsOldest, IsEntered, IsAllocated, IsCompacted, IsModified, IsDiscarded, IsResized, handle_in, IsAbout, taken_other, handle_law, resize_law, outcome, bystander, Format, LoadingWorld, Reply, HandleReplies, ResizeReplies, answer_in, ResizeCommand, ResizeStep, GlobalReAlloc, GlobalDiscard, IsLoadingWorld, CallsKeepWorldsLaw}
+use Rattle.w16_loading.proofs.Common.{◌≡◌, ◌≢◌, ℕ, ◌+◌, ◌-◌, true, false, Option, Some, None, IsSomeAnd, is_some, option_map, unwrap_or, refl, sym, ap, ◌∙◌, subst, false≢true, Attributes, Owned, GMEM_MOVEABLE}
+use Rattle.w16_loading.proofs.Common.{object_at, Handles, AreHandles, slot_of_handle, owned_in, owned_at, is_owned, owns, HandleCommand, Walked, Call, CallStep, Outcome, Calls, ReAllocs, IsSame, IsUnmoved, IsLocked}
+use Rattle.w16_loading.proofs.Common.{IsUnlocked, IsFreed, IsNewest, IsOldest, IsEntered, IsAllocated, IsCompacted, IsModified, IsDiscarded, IsResized, handle_in, IsAbout, taken_other, handle_law, resize_law}
+use Rattle.w16_loading.proofs.Common.{outcome, bystander, Format, LoadingWorld, Reply, HandleReplies, ResizeReplies, answer_in, ResizeCommand, ResizeStep, GlobalReAlloc, GlobalDiscard, IsLoadingWorld, CallsKeepWorldsLaw}
 use Rattle.std.specs.FinMap as finmap
 use Rattle.w16_model.specs.Calls.{Answer}
 use Rattle.w16_model.specs.Calls.Answer.{Word, Dword}

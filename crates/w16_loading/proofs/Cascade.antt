@@ -1,5 +1,7 @@
 -- The order in which unused modules go doesn't matter: what is idle stays so until it goes, and two go in either order.
-use Rattle.w16_loading.proofs.Common.{◌≡◌, ◌≢◌, ℕ, inl, inr, ◌⊎◌, Bool, true, not, List, [], ◌∷◌, Option, Some, None, sym, ap, ◌∙◌, subst, false≢true, cases_eq, is_member, taken_here, taken_other, filter_swapped, LoadingWorld, Module, Named, module_in, is_idle, Loaded, without_objects, Go, without_module, OneEndLaw}
+use Rattle.w16_loading.proofs.Common.{◌≡◌, ◌≢◌, ℕ, inl, inr, ◌⊎◌, Bool, true, not, List, [], ◌∷◌, Option, Some, None, sym, ap, ◌∙◌, subst, false≢true, cases_eq, is_member}
+use Rattle.w16_loading.proofs.Common.{taken_here, taken_other, filter_swapped, LoadingWorld, Module, Named, module_in, is_idle, Loaded, without_objects, Go, without_module}
+use Rattle.w16_loading.proofs.Common.{OneEndLaw}
 use Rattle.std.specs.FinMap as finmap
 use Rattle.w16_loading.proofs.Absences.{retained_swapped, removed_swapped}
 use Rattle.w16_loading.proofs.Importers.{HasImporter, Idle, idle_parts, is_then_idle}

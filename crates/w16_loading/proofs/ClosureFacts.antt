@@ -1,5 +1,8 @@
 -- What a closure has found: modules of names that nothing had, each but the first asked for by another.
-use Rattle.w16_loading.proofs.Common.{◌≡◌, ◌≢◌, ℕ, zero, suc, ◌+◌, ◌<◌, ◌≤◌, inl, inr, Bool, true, false, nat_lt, List, [], ◌∷◌, ◌++◌, length, map, position, Option, Some, None, IfSome, Result, Ok, Err, IfOk, option_map, refl, sym, ap, ◌∙◌, subst, arith, ltb-true, ltb-false, length-append, option_or, Member, EachPair, is_named, Format, IsFormat, IsModuleFile, ModuleFile, Around, Closure, Found, Referent, reading, meant, followed, after, begun, dll, with_bound, with_found, Read, There, New, AnyCloses, IsAnyClosure, with_files}
+use Rattle.w16_loading.proofs.Common.{◌≡◌, ◌≢◌, ℕ, zero, suc, ◌+◌, ◌<◌, ◌≤◌, inl, inr, Bool, true, false, nat_lt, List, [], ◌∷◌, ◌++◌, length, map, position, Option, Some, None, IfSome, Result, Ok, Err}
+use Rattle.w16_loading.proofs.Common.{IfOk, option_map, refl, sym, ap, ◌∙◌, subst, arith, ltb-true, ltb-false, length-append, option_or, Member, EachPair, is_named, Format, IsFormat, IsModuleFile}
+use Rattle.w16_loading.proofs.Common.{ModuleFile, Around, Closure, Found, Referent, reading, meant, followed, after, begun, dll, with_bound, with_found, Read, There, New, AnyCloses, IsAnyClosure}
+use Rattle.w16_loading.proofs.Common.{with_files}
 use Rattle.std.specs.List.{AllByRecursion as Each}
 use Rattle.w16_loading.proofs.Undone.{in_first, in_second, parted}
 use Rattle.w16_loading.proofs.Given.{no_place}

@@ -1,5 +1,8 @@
 -- What a script reads of code is its file's, relocated.
-use Rattle.w16_loading.proofs.Common.{◌≡◌, ℕ, ◌+◌, ◌/◌, Bool, true, false, ◌&&◌, ◌==◌, if◌then◌else◌, List, [], Option, Some, None, IfSome, IsSomeAnd, MatchOption, MatchBool, is_some, unwrap_or, refl, sym, ap, ◌∙◌, subst, FarFault, part, object_at, bytes_at, after_touch, Handles, slot_of_selector, selector_of, selector_in, offset_in, FarAnswer, far_fault, far_slot, far_bytes, Reached, reached, FetchFault, Format, LoadingWorld, Module, IsSegmentOf, module_at, Fetches, segment_bytes, is_code, far_read, gives, is_not_present, reply_of_far, Failed, CodeIsItsFiles, IsOfFiles, CodeReadsLaw, ◌-◌, ◌*◌, option_map, arith, eq-eqb, Object, AreHandles, Part, part_of_selector, far_at, REACH}
+use Rattle.w16_loading.proofs.Common.{◌≡◌, ℕ, ◌+◌, ◌/◌, Bool, true, false, ◌&&◌, ◌==◌, if◌then◌else◌, List, [], Option, Some, None, IfSome, IsSomeAnd, MatchOption, MatchBool, is_some, unwrap_or, refl, sym, ap, ◌∙◌, subst, FarFault, part, object_at}
+use Rattle.w16_loading.proofs.Common.{bytes_at, after_touch, Handles, slot_of_selector, selector_of, selector_in, offset_in, FarAnswer, far_fault, far_slot, far_bytes, Reached, reached, FetchFault, Format, LoadingWorld, Module, IsSegmentOf, module_at}
+use Rattle.w16_loading.proofs.Common.{Fetches, segment_bytes, is_code, far_read, gives, is_not_present, reply_of_far, Failed, CodeIsItsFiles, IsOfFiles, CodeReadsLaw, ◌-◌, ◌*◌, option_map, arith, eq-eqb, Object, AreHandles, Part, part_of_selector, far_at}
+use Rattle.w16_loading.proofs.Common.{REACH}
 use Rattle.w16_loading.specs.Replies as replies
 use Rattle.w16_loading.specs.Modules.{is_owned}
 use Rattle.w16_loading.proofs.KeptCode.{code_kept, fetched_code, image_of}

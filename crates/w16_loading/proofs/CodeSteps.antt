@@ -1,5 +1,9 @@
 -- The steps of the families, but for loads, keep code as its files say it.
-use Rattle.w16_loading.proofs.Common.{◌≡◌, ◌≢◌, ℕ, ◌+◌, ◌-◌, inl, inr, ◌⊎◌, Bool, true, false, cond, not, ◌==◌, List, [], ◌∷◌, length, Option, Some, None, option_map, unwrap_or, refl, sym, ap, ◌∙◌, subst, nat_cmp, false≢true, cases_Bool, cases_eq, FarFault, BadSelector, NotPresent, Limit, put_part, is_member, Heap, object_at, bytes_at, after_touch, IsFreeSlot, global_lock, far_fault, far_slot, after_write, get-update_other, inserted_here, inserted_other, taken_here, taken_other, bytes_in, entered_heap, FetchFault, Format, Resource, Owned, LoadingWorld, Load, Module, Modules, module_at, module_in, with_heap, Loaded, BuiltIn, without_objects, Fetches, is_code, far_read, far_write, Go, Frees, used_less, without_module, without_orphans, is_left_over, Attributes, owned_in, refuses_write, attributes_for, with_resource, locked, IsLoadingWorld, IsOfFiles, unused_slot, Part, part_of_selector, is_past, far_at}
+use Rattle.w16_loading.proofs.Common.{◌≡◌, ◌≢◌, ℕ, ◌+◌, ◌-◌, inl, inr, ◌⊎◌, Bool, true, false, cond, not, ◌==◌, List, [], ◌∷◌, length, Option, Some, None, option_map, unwrap_or, refl, sym, ap, ◌∙◌, subst, nat_cmp, false≢true, cases_Bool, cases_eq, FarFault}
+use Rattle.w16_loading.proofs.Common.{BadSelector, NotPresent, Limit, put_part, is_member, Heap, object_at, bytes_at, after_touch, IsFreeSlot, global_lock, far_fault, far_slot, after_write, get-update_other, inserted_here, inserted_other, taken_here}
+use Rattle.w16_loading.proofs.Common.{taken_other, bytes_in, entered_heap, FetchFault, Format, Resource, Owned, LoadingWorld, Load, Module, Modules, module_at, module_in, with_heap, Loaded, BuiltIn, without_objects, Fetches, is_code, far_read, far_write}
+use Rattle.w16_loading.proofs.Common.{Go, Frees, used_less, without_module, without_orphans, is_left_over, Attributes, owned_in, refuses_write, attributes_for, with_resource, locked, IsLoadingWorld, IsOfFiles, unused_slot, Part, part_of_selector, is_past}
+use Rattle.w16_loading.proofs.Common.{far_at}
 use Rattle.std.specs.FinMap as finmap
 use Rattle.w16_loading.proofs.OwnedKept.{locked as owned_locked}
 use Rattle.w16_loading.proofs.Undone.{retained}

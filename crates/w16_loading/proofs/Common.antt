@@ -24,10 +24,14 @@ pub use Rattle.w16_loading.specs.File.Entry.{InSegment}
 pub use Rattle.w16_loading.specs.File.Target.{Import, ImportName, Internal, InternalEntry, System}
 pub use Rattle.w16_loading.specs.Fill.{Failure, Filling, Fills, FillsOne, Giving, InTurn, asked_of, is_of_device, is_of_read}
 pub use Rattle.w16_loading.specs.Free.{Frees, Go, is_left_over, used_less, without_module, without_orphans}
-pub use Rattle.w16_loading.specs.Law.{AnyKeepsWorldsLaw, AnyRefusedLoadLaw, BoundAlikeLaw, BoundOnceLaw, CallsKeepWorldsLaw, ClosureEndsLaw, CodeIsItsFiles, CodeLaw, CodeReadsLaw, EarlyRefusalLaw, EmptyLaw, EmptyOfFilesLaw, FetchAgainLaw, FetchFaultsLaw, FetchLaw, FetchRefusedLaw, FillLaw, FillsLaw, IsAnyStepLaw, IsItsFiles, IsLoad, IsLoadingWorld, IsModule, IsObjectOf, IsOfFiles, IsRefusal, KeepsOwner, KeepsWorldsLaw, ModulesAreItsFiles, OneClosureLaw, OneEndLaw, OnlyDiscards, OwnersLaw, ReadsNoFilesLaw, RefusedLoadLaw, SlotsLaw, TakenBackLaw, UndoneLaw, UsesApartLaw, ValuesLaw, without_values}
+pub use Rattle.w16_loading.specs.Law.{AnyKeepsWorldsLaw, AnyRefusedLoadLaw, BoundAlikeLaw, BoundOnceLaw, CallsKeepWorldsLaw, ClosureEndsLaw, CodeIsItsFiles, CodeLaw, CodeReadsLaw, EarlyRefusalLaw, EmptyLaw, EmptyOfFilesLaw}
+pub use Rattle.w16_loading.specs.Law.{FetchAgainLaw, FetchFaultsLaw, FetchLaw, FetchRefusedLaw, FillLaw, FillsLaw, IsAnyStepLaw, IsItsFiles, IsLoad, IsLoadingWorld, IsModule, IsObjectOf, IsOfFiles, IsRefusal, KeepsOwner}
+pub use Rattle.w16_loading.specs.Law.{KeepsWorldsLaw, ModulesAreItsFiles, OneClosureLaw, OneEndLaw, OnlyDiscards, OwnersLaw, ReadsNoFilesLaw, RefusedLoadLaw, SlotsLaw, TakenBackLaw, UndoneLaw, UsesApartLaw, ValuesLaw}
+pub use Rattle.w16_loading.specs.Law.{without_values}
 pub use Rattle.w16_loading.specs.Load.{Answer, Fulfils, Loads, LoadsBy, LoadsFile, LoadsNew, Refuses, after_use, left, outcome_of, refusal_of, undone, used_again}
 pub use Rattle.w16_loading.specs.Load.Answer.{Says}
-pub use Rattle.w16_loading.specs.Modules.{IsFreeModule, IsResourceOf, IsSegmentOf, Load, LoadingWorld, Lookup, Module, Modules, Named, address_at, address_by_name, address_by_ordinal, address_named, handle_named, imported, importers, importers_among, imports, is_idle, module_at, module_in, name_of, usage, usage_with, with_heap}
+pub use Rattle.w16_loading.specs.Modules.{IsFreeModule, IsResourceOf, IsSegmentOf, Load, LoadingWorld, Lookup, Module, Modules, Named, address_at, address_by_name, address_by_ordinal}
+pub use Rattle.w16_loading.specs.Modules.{address_named, handle_named, imported, importers, importers_among, imports, is_idle, module_at, module_in, name_of, usage, usage_with, with_heap}
 pub use Rattle.w16_loading.specs.Modules.Named.{BuiltIn, Loaded}
 pub use Rattle.w16_loading.specs.Naming.{AreSlots, Choice, Given, IsChoice, all_slots, attributes_of, bound, bound_in, fills, fills_from, fills_of, free_slots, given, given_from, handle_meant, imports_at, named, segments_in, segments_of, unbound, with_modules, with_segment}
 pub use Rattle.w16_loading.specs.Owner.{IsOwnerOf, Owner, OwnerLaw, number_in, owner_of, segment_among}
@@ -45,7 +49,15 @@ pub use Rattle.w16_model.proofs.Accesses.{Reached, reached}
 pub use Rattle.w16_model.proofs.Bystanders.{bystander, kept_or_discarded}
 pub use Rattle.w16_model.proofs.CallLaws.{contents}
 pub use Rattle.w16_model.proofs.CallOutcomes.{call_outcome, outcome}
-pub use Rattle.w16_model.proofs.Common.{All, Allocates, AllocatesFewest, AreHandles, AreNew, AreRuns, Asked, Bool, Call, Calls, FarAnswer, Fill, FinMap, GlobalLock, HandleCommand, Handles, Heap, IfOk, IfSome, IsAbout, IsAllocated, IsCompacted, IsCounted, IsDiscarded, IsEntered, IsFreeRun, IsFreeSlot, IsFreed, IsHeap, IsKeptOrDiscarded, IsLocked, IsModified, IsNew, IsNewest, IsOldest, IsResized, IsRun, IsSame, IsSized, IsSlot, IsSomeAnd, IsTrue, IsUnlocked, IsUnmoved, KeepsContents, KeepsOthers, List, MatchBool, MatchOption, Object, Outcome, Part, ReAllocs, Request, Resized, Settles, StandsStill, Walked, Write, [], absent, after_touch, after_write, and_parts, ap, arith, attributes_asked, blocks, bytes_at, cases_Bool, cases_eq, cond, discarded, discards_needed, drop, eligible, entries_sorted, eq-eqb, eqb-true, false, false≢true, far_at, far_bytes, far_fault, far_part, far_slot, filter, find, fold, get-empty, get-entries, get_or, global_lock, handle_in, handle_of, if◌then◌else◌, inl, inr, is_fixed, is_in_order, is_member, is_owned, is_past, is_pinned_object, is_some, length, length-take-le, locks_at, ltb-false, ltb-true, map, nat_cmp, nat_cmp_total, nat_lt, ne_eqb, not, not-true, object_at, offset_in, option_map, owns, part, part_of_selector, put_part, range_with_len, refl, refuses_write, replicate, rounded_size, selector_in, selector_of, slice_get, slot_of_handle, slot_of_selector, slots_at, slots_for, stays_for, subst, suc, sum_by-cons, sym, take, true, unwrap_or, update, with_newest, with_object, with_ordered, with_run, zero, ℕ, ◌&&◌, ◌++◌, ◌+◌, ◌*◌, ◌-◌, ◌/◌, ◌<◌, ◌==◌, ◌||◌, ◌∙◌, ◌∷◌, ◌≡◌, ◌≢◌, ◌≤◌, ◌⊎◌, realloc_options}
+pub use Rattle.w16_model.proofs.Common.{All, Allocates, AllocatesFewest, AreHandles, AreNew, AreRuns, Asked, Bool, Call, Calls, FarAnswer, Fill, FinMap, GlobalLock, HandleCommand, Handles, Heap, IfOk, IfSome, IsAbout, IsAllocated, IsCompacted}
+pub use Rattle.w16_model.proofs.Common.{IsCounted, IsDiscarded, IsEntered, IsFreeRun, IsFreeSlot, IsFreed, IsHeap, IsKeptOrDiscarded, IsLocked, IsModified, IsNew, IsNewest, IsOldest, IsResized, IsRun, IsSame, IsSized, IsSlot, IsSomeAnd}
+pub use Rattle.w16_model.proofs.Common.{IsTrue, IsUnlocked, IsUnmoved, KeepsContents, KeepsOthers, List, MatchBool, MatchOption, Object, Outcome, Part, ReAllocs, Request, Resized, Settles, StandsStill, Walked, Write, [], absent, after_touch}
+pub use Rattle.w16_model.proofs.Common.{after_write, and_parts, ap, arith, attributes_asked, blocks, bytes_at, cases_Bool, cases_eq, cond, discarded, discards_needed, drop, eligible, entries_sorted, eq-eqb, eqb-true, false, false≢true, far_at}
+pub use Rattle.w16_model.proofs.Common.{far_bytes, far_fault, far_part, far_slot, filter, find, fold, get-empty, get-entries, get_or, global_lock, handle_in, handle_of, if◌then◌else◌, inl, inr, is_fixed, is_in_order, is_member, is_owned}
+pub use Rattle.w16_model.proofs.Common.{is_past, is_pinned_object, is_some, length, length-take-le, locks_at, ltb-false, ltb-true, map, nat_cmp, nat_cmp_total, nat_lt, ne_eqb, not, not-true, object_at, offset_in, option_map, owns, part}
+pub use Rattle.w16_model.proofs.Common.{part_of_selector, put_part, range_with_len, refl, refuses_write, replicate, rounded_size, selector_in, selector_of, slice_get, slot_of_handle, slot_of_selector, slots_at, slots_for, stays_for, subst}
+pub use Rattle.w16_model.proofs.Common.{suc, sum_by-cons, sym, take, true, unwrap_or, update, with_newest, with_object, with_ordered, with_run, zero, ℕ, ◌&&◌, ◌++◌, ◌+◌, ◌*◌, ◌-◌, ◌/◌, ◌<◌, ◌==◌, ◌||◌, ◌∙◌, ◌∷◌, ◌≡◌, ◌≢◌, ◌≤◌, ◌⊎◌}
+pub use Rattle.w16_model.proofs.Common.{realloc_options}
 unfoldable pub use Rattle.w16_model.proofs.Common.{repeated}
 pub use Rattle.w16_model.proofs.Discards.{is_member-true, true-is_member}
 pub use Rattle.w16_model.proofs.Fewest.{allocation_law}

@@ -1,6 +1,8 @@
 -- Closures of small files, worked out.
 use base.Stored.Gv.{gnil}
-use Rattle.w16_loading.proofs.Common.{◌≡◌, ℕ, zero, suc, Bool, true, false, List, [], ◌∷◌, codes, Some, None, Result, Ok, Err, if◌then◌else◌, slice_index, replicate, ◌==◌, refl, Format, ModuleFile, is_named, file_of, Moveable, LoadingWorld, Module, usage_with, importers_among, Loaded, BuiltIn, Choice, Given, unbound, used_again, after_use, Says, Found, Around, Closure, reading, begun, after, There, New, Refused, Meant}
+use Rattle.w16_loading.proofs.Common.{◌≡◌, ℕ, zero, suc, Bool, true, false, List, [], ◌∷◌, codes, Some, None, Result, Ok, Err, if◌then◌else◌, slice_index, replicate, ◌==◌, refl, Format, ModuleFile, is_named, file_of, Moveable}
+use Rattle.w16_loading.proofs.Common.{LoadingWorld, Module, usage_with, importers_among, Loaded, BuiltIn, Choice, Given, unbound, used_again, after_use, Says, Found, Around, Closure, reading, begun, after, There, New, Refused}
+use Rattle.w16_loading.proofs.Common.{Meant}
 
 -- a file without segments
 abbrev plain : List ℕ → Bool → List (List ℕ) → ModuleFile

@@ -1,5 +1,7 @@
 -- Far accesses keep what holds of every world.
-use Rattle.w16_loading.proofs.Common.{◌≡◌, ◌≢◌, ℕ, ◌+◌, ◌<◌, ◌≤◌, inl, inr, ◌⊎◌, List, length, All, Option, Some, None, IfSome, IsSomeAnd, option_map, refl, sym, ◌∙◌, subst, cases_eq, Kind, put_part, Object, object_at, after_touch, Handles, far_fault, far_slot, after_write, length-put_part, Reached, reached, get-update_same, get-update_other, read_handles, write_handles, LoadingWorld, far_read, far_write, IsLoadingWorld, far_at}
+use Rattle.w16_loading.proofs.Common.{◌≡◌, ◌≢◌, ℕ, ◌+◌, ◌<◌, ◌≤◌, inl, inr, ◌⊎◌, List, length, All, Option, Some, None, IfSome, IsSomeAnd, option_map, refl, sym, ◌∙◌, subst, cases_eq, Kind, put_part, Object, object_at, after_touch}
+use Rattle.w16_loading.proofs.Common.{Handles, far_fault, far_slot, after_write, length-put_part, Reached, reached, get-update_same, get-update_other, read_handles, write_handles, LoadingWorld, far_read, far_write, IsLoadingWorld}
+use Rattle.w16_loading.proofs.Common.{far_at}
 use Rattle.w16_loading.proofs.OwnedKept.{SameOwned}
 use Rattle.w16_loading.proofs.FarCases.{read_cases, write_cases}
 use Rattle.w16_loading.proofs.KeptWorlds.{IsOwned, world_stays}
@@ -27,7 +29,10 @@ write_owned old selector offset slice q kind size h e = by_id (cases_eq q (far_s
     r : Reached old (far_slot old selector) (far_at old selector offset + length slice)
     r = reached old selector offset (length slice) e
 
-    written : IsSomeAnd (object_at old.heap (far_slot old selector)) (λ o. (o.kind ≡ kind) × IfSome o.bytes (λ b. length b ≡ size)) → IsSomeAnd (option_map (replaced (far_at old selector offset) slice) (object_at old.heap (far_slot old selector))) (λ o. (o.kind ≡ kind) × IfSome o.bytes (λ b. length b ≡ size))
+    written : IsSomeAnd (object_at old.heap (far_slot old selector))
+        (λ o. (o.kind ≡ kind) × IfSome o.bytes (λ b. length b ≡ size)) → IsSomeAnd
+        (option_map (replaced (far_at old selector offset) slice) (object_at old.heap (far_slot old selector)))
+        (λ o. (o.kind ≡ kind) × IfSome o.bytes (λ b. length b ≡ size))
     written k = subst (λ p. IsSomeAnd (option_map (replaced (far_at old selector offset) slice) p) (λ o. (o.kind ≡ kind) × IfSome o.bytes (λ b. length b ≡ size))) (sym r.there) (same.0, sized r.object.bytes r.has same.1)
       where
         same : (r.object.kind ≡ kind) × IfSome r.object.bytes (λ b. length b ≡ size)

@@ -1,5 +1,8 @@
 -- A fetch keeps what holds of every world, whatever the store answers: what it gives has the size that the world has of it.
-use Rattle.w16_loading.proofs.Common.{◌≡◌, ◌≢◌, ℕ, ◌-◌, ◌<◌, ◌≤◌, ◌==◌, inl, inr, ◌⊎◌, Bool, true, false, cond, List, [], length, Option, Some, None, IfSome, IsSomeAnd, MatchOption, MatchResult, is_some, option_map, slice_get, slice_index_or, Result, Ok, Err, refl, sym, ap, ◌∙◌, subst, arith, ne_eqb, cases_eq, AllZip-left, Kind, Owned, Heap, Object, IsHeap, object_at, rounded_size, owned_at, other_handles, file_of, FetchFault, Format, IsFormat, IsModuleFile, IsSegmentData, ModuleFile, Tables, Segment, SegmentData, Resource, Far, numbered, LoadingWorld, Module, IsSegmentOf, IsResourceOf, Fills, FillsOne, is_of_device, is_of_read, Fetches, IsImage, read_of, segment_bytes, resource_bytes, AnyFetches, IsOwnedSize, IsLoadingWorld, IsObjectOf, IsItsFiles, ModulesAreItsFiles, IsSized, bytes_at, slots_at, slots_for, owned_slots}
+use Rattle.w16_loading.proofs.Common.{◌≡◌, ◌≢◌, ℕ, ◌-◌, ◌<◌, ◌≤◌, ◌==◌, inl, inr, ◌⊎◌, Bool, true, false, cond, List, [], length, Option, Some, None, IfSome, IsSomeAnd, MatchOption, MatchResult, is_some, option_map, slice_get, slice_index_or}
+use Rattle.w16_loading.proofs.Common.{Result, Ok, Err, refl, sym, ap, ◌∙◌, subst, arith, ne_eqb, cases_eq, AllZip-left, Kind, Owned, Heap, Object, IsHeap, object_at, rounded_size, owned_at, other_handles, file_of, FetchFault, Format}
+use Rattle.w16_loading.proofs.Common.{IsFormat, IsModuleFile, IsSegmentData, ModuleFile, Tables, Segment, SegmentData, Resource, Far, numbered, LoadingWorld, Module, IsSegmentOf, IsResourceOf, Fills, FillsOne, is_of_device, is_of_read}
+use Rattle.w16_loading.proofs.Common.{Fetches, IsImage, read_of, segment_bytes, resource_bytes, AnyFetches, IsOwnedSize, IsLoadingWorld, IsObjectOf, IsItsFiles, ModulesAreItsFiles, IsSized, bytes_at, slots_at, slots_for, owned_slots}
 use Rattle.w16_loading.specs.declared.FetchFault.TheVariants as faults
 use Rattle.w16_loading.proofs.Fillings.{SameRange, one_does, one_there, one_range, one_heap, filled_object, filled_other, filled_sized}
 use Rattle.w16_loading.proofs.Readings.{read_by}

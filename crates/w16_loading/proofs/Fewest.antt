@@ -1,5 +1,6 @@
 -- The requests of loads and fetches discard as few as they can, since each is an allocation whose new bytes are given.
-use Rattle.w16_loading.proofs.Common.{◌≡◌, ℕ, Bool, true, false, List, length, Option, Some, None, refl, sym, ap, ◌∙◌, subst, false≢true, Heap, Object, IsHeap, with_newest, Request, IsNew, Allocates, discards_needed, AllocatesFewest, revival_options, allocation_law, FetchFault, NoRoom, Store, Damaged, Fills, FillsOne, asked_of, is_of_device, named, fills, GivesFewest, FetchFewestLaw, LoadFewestLaw}
+use Rattle.w16_loading.proofs.Common.{◌≡◌, ℕ, Bool, true, false, List, length, Option, Some, None, refl, sym, ap, ◌∙◌, subst, false≢true, Heap, Object, IsHeap, with_newest, Request, IsNew, Allocates, discards_needed}
+use Rattle.w16_loading.proofs.Common.{AllocatesFewest, revival_options, allocation_law, FetchFault, NoRoom, Store, Damaged, Fills, FillsOne, asked_of, is_of_device, named, fills, GivesFewest, FetchFewestLaw, LoadFewestLaw}
 use Rattle.w16_loading.proofs.Fillings.{in_turn_as, one_heap}
 use Rattle.w16_loading.proofs.Named.{named_heap}
 

@@ -1,5 +1,7 @@
 -- An allocation, and a write of all its bytes.
-use Rattle.w16_loading.proofs.Common.{◌≡◌, ℕ, inl, inr, Bool, true, false, cond, ◌<◌, IsSomeAnd, List, ◌++◌, length, All, Option, Some, None, option_map, refl, sym, ap, ◌∙◌, subst, arith, nat_cmp_total, nat_cmp, FinMap, same_map, nat_cmp-IsAntisymmetric, false≢true, cases_eq, append-nil, drop_all, Heap, Object, update, with_newest, with_ordered, Request, IsNew, AreNew, Settles, discarded, stays_for, discards_needed, put_part, after_write, revival_options, inserted_here, inserted_other, written_heap, Fills, FillLaw}
+use Rattle.w16_loading.proofs.Common.{◌≡◌, ℕ, inl, inr, Bool, true, false, cond, ◌<◌, IsSomeAnd, List, ◌++◌, length, All, Option, Some, None, option_map, refl, sym, ap, ◌∙◌, subst, arith, nat_cmp_total}
+use Rattle.w16_loading.proofs.Common.{nat_cmp, FinMap, same_map, nat_cmp-IsAntisymmetric, false≢true, cases_eq, append-nil, drop_all, Heap, Object, update, with_newest, with_ordered, Request, IsNew}
+use Rattle.w16_loading.proofs.Common.{AreNew, Settles, discarded, stays_for, discards_needed, put_part, after_write, revival_options, inserted_here, inserted_other, written_heap, Fills, FillLaw}
 use Rattle.std.specs.FinMap as finmap
 
 -- the last object put under an id counts

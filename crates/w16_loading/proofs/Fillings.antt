@@ -1,5 +1,8 @@
 -- What becomes of a heap while objects get bytes: of one, and of several, one after another.
-use Rattle.w16_loading.proofs.Common.{◌≡◌, ◌≢◌, ℕ, inl, inr, ◌⊎◌, Bool, true, false, List, [], ◌∷◌, length, fold, take, Option, Some, None, IsSomeAnd, is_some, refl, sym, ap, ◌∙◌, subst, false≢true, cases_eq, Discardable, eligible, Heap, Object, IsHeap, blocks, object_at, with_newest, with_ordered, absent, Request, Asked, Settles, discarded, discards_needed, stays_for, KeepsOthers, IsKeptOrDiscarded, revival_options, Member, Each-at, inserted_here, settled, others_law, kept_or_discarded, FetchFault, Giving, Fills, FillsOne, Filling, Failure, InTurn, asked_of, is_of_read, GivesAny, FillsLaw, IsSized, bytes_at, bytes_in, sized_is, slots_for}
+use Rattle.w16_loading.proofs.Common.{◌≡◌, ◌≢◌, ℕ, inl, inr, ◌⊎◌, Bool, true, false, List, [], ◌∷◌, length, fold, take, Option, Some, None, IsSomeAnd, is_some, refl, sym, ap, ◌∙◌, subst, false≢true, cases_eq, Discardable, eligible, Heap}
+use Rattle.w16_loading.proofs.Common.{Object, IsHeap, blocks, object_at, with_newest, with_ordered, absent, Request, Asked, Settles, discarded, discards_needed, stays_for, KeepsOthers, IsKeptOrDiscarded, revival_options, Member, Each-at}
+use Rattle.w16_loading.proofs.Common.{inserted_here, settled, others_law, kept_or_discarded, FetchFault, Giving, Fills, FillsOne, Filling, Failure, InTurn, asked_of, is_of_read, GivesAny, FillsLaw, IsSized, bytes_at, bytes_in, sized_is}
+use Rattle.w16_loading.proofs.Common.{slots_for}
 use Rattle.std.specs.List.{AllByRecursion as Each}
 use Rattle.w16_loading.specs.declared.FetchFault.TheVariants as faults
 

@@ -1,5 +1,7 @@
 -- Uses that end keep what holds of every world.
-use Rattle.w16_loading.proofs.Common.{◌≡◌, ◌≢◌, ℕ, zero, suc, ◌+◌, ◌-◌, ◌<◌, ◌≤◌, inl, inr, ◌⊎◌, Bool, true, false, not, List, [], ◌∷◌, Option, Some, None, IfSome, is_some, slice_get, refl, sym, ap, ◌∙◌, subst, arith, nat_cmp, FinMap, false≢true, cases_Bool, cases_eq, Kind, Owned, is_member, AreHandles, owned_at, Member, is_member-true, true-is_member, inserted_here, inserted_other, taken_here, taken_other, is_named, MOST_USES, LoadingWorld, Load, Module, Modules, Named, IsSegmentOf, IsResourceOf, name_of, module_at, module_in, importers, usage, usage_with, is_idle, Loaded, Go, Frees, used_less, without_module, is_left_over, without_orphans, IsLoadingWorld, IsObjectOf}
+use Rattle.w16_loading.proofs.Common.{◌≡◌, ◌≢◌, ℕ, zero, suc, ◌+◌, ◌-◌, ◌<◌, ◌≤◌, inl, inr, ◌⊎◌, Bool, true, false, not, List, [], ◌∷◌, Option, Some, None, IfSome, is_some, slice_get, refl, sym, ap, ◌∙◌, subst, arith, nat_cmp, FinMap, false≢true}
+use Rattle.w16_loading.proofs.Common.{cases_Bool, cases_eq, Kind, Owned, is_member, AreHandles, owned_at, Member, is_member-true, true-is_member, inserted_here, inserted_other, taken_here, taken_other, is_named, MOST_USES, LoadingWorld, Load, Module}
+use Rattle.w16_loading.proofs.Common.{Modules, Named, IsSegmentOf, IsResourceOf, name_of, module_at, module_in, importers, usage, usage_with, is_idle, Loaded, Go, Frees, used_less, without_module, is_left_over, without_orphans, IsLoadingWorld, IsObjectOf}
 use Rattle.std.specs.FinMap as finmap
 use Rattle.w16_loading.proofs.Given.{loaded_is}
 use Rattle.w16_loading.proofs.Bound.{world_used_less}
@@ -142,7 +144,18 @@ module _ (old : LoadingWorld) (is : IsLoadingWorld old) where
           stays_of now mine (finmap.remove now.modules handle) now.loads q kind size code (not_mine q (λ j. r.0 (one_module now l a handle n m q r.1 k (ap module_in there) j))) (l.of_segments a n q kind size code r.1 k h);
       of_loads = λ q load kind size code at h. stays_of now mine (finmap.remove now.modules handle) now.loads q kind size code (not_mine q (λ j. no_load now l handle m q load (ap module_in there) j at)) (l.of_loads q load kind size code at h);
       owners = λ q some. let left : (mine q ≡ false) × (is_some (owned_at now.handles q) ≡ true) = owner_left now mine (finmap.remove now.modules handle) now.loads q some in elim (l.owners q left.1) [
-        | inl s ↦ inl (s.0, s.1, s.2, record { loaded = ap module_in (taken_other now.modules handle s.0 (λ same. false≢true (sym left.0 ∙ true-is_member q m.slots (its q s.2 (place_member s.2.slots (s.1 - 1) q s.3.has.1) (sym s.3.loaded ∙ ap (module_at now.modules) same ∙ ap module_in there))))) ∙ s.3.loaded; has = s.3.has })
+        | inl s ↦ inl (
+          s.0,
+          s.1,
+          s.2,
+          record {
+            loaded = ap module_in
+                (taken_other now.modules handle s.0 (λ same. false≢true
+                (sym left.0 ∙ true-is_member q m.slots (its q s.2 (place_member s.2.slots (s.1 - 1) q s.3.has.1)
+                (sym s.3.loaded ∙ ap (module_at now.modules) same ∙ ap module_in there))))) ∙ s.3.loaded;
+            has = s.3.has;
+          },
+        )
         | inr load ↦ inr load
       ];
     }

@@ -1,5 +1,7 @@
 -- Lists of modules with the handles and slots that a load gives them, and what of them gets bytes.
-use Rattle.w16_loading.proofs.Common.{◌≡◌, ◌≢◌, ℕ, zero, suc, ◌+◌, ◌<◌, ◌≤◌, inl, inr, ◌⊎◌, Bool, true, false, cond, not, nat_lt, ◌||◌, List, [], ◌∷◌, ◌++◌, length, flat_map, zip, position, slice_get, slice_index_or, Option, Some, None, option_map, refl, sym, ap, ◌∙◌, subst, arith, ltb-false, position_or_len, AllZip, false≢true, cases_eq, is_fixed, Member, EachPair, Each-at, inserted_here, inserted_other, is_named, is_named-Decides, Segment, SegmentData, Far, Module, Modules, Named, module_at, module_in, Loaded, BuiltIn, Filling, Found, Given, given_from, segments_of, with_modules, fills_from, fills_of}
+use Rattle.w16_loading.proofs.Common.{◌≡◌, ◌≢◌, ℕ, zero, suc, ◌+◌, ◌<◌, ◌≤◌, inl, inr, ◌⊎◌, Bool, true, false, cond, not, nat_lt, ◌||◌, List, [], ◌∷◌, ◌++◌, length, flat_map, zip, position, slice_get, slice_index_or, Option, Some}
+use Rattle.w16_loading.proofs.Common.{None, option_map, refl, sym, ap, ◌∙◌, subst, arith, ltb-false, position_or_len, AllZip, false≢true, cases_eq, is_fixed, Member, EachPair, Each-at, inserted_here, inserted_other, is_named}
+use Rattle.w16_loading.proofs.Common.{is_named-Decides, Segment, SegmentData, Far, Module, Modules, Named, module_at, module_in, Loaded, BuiltIn, Filling, Found, Given, given_from, segments_of, with_modules, fills_from, fills_of}
 use Rattle.std.specs.List.{AllByRecursion as Each}
 use Rattle.std.specs.FinMap as finmap
 use Rattle.w16_loading.proofs.Undone.{in_first, in_second, parted}
@@ -168,7 +170,10 @@ one_named first [] hs ss apart g h m n t = absurd m
 one_named first (f ∷ fs) [] ss apart g h m n t = absurd m
 one_named first (f ∷ fs) (k ∷ hs) [] apart g h m n t = absurd m
 one_named first (f ∷ fs) (k ∷ hs) (s ∷ ss) apart g h (inl d) (inl e) t = d ∙ sym e
-one_named first (f ∷ fs) (k ∷ hs) (s ∷ ss) apart g h (inl d) (inr n) t = absurd (false≢true (sym (Each-at (λ (x : Found). is_named f.read.tables.name x.read.tables.name ≡ false) fs apart.0 h.found (given_found (first + 1) fs hs ss h n)) ∙ subst (λ (x : Given). is_named x.found.read.tables.name h.found.read.tables.name ≡ true) d t))
+one_named first (f ∷ fs) (k ∷ hs) (s ∷ ss) apart g h (inl d) (inr n) t = absurd
+    (false≢true (sym (Each-at (λ (x : Found). is_named f.read.tables.name x.read.tables.name ≡ false) fs apart.0
+    h.found (given_found (first + 1) fs hs ss h n)) ∙ subst
+    (λ (x : Given). is_named x.found.read.tables.name h.found.read.tables.name ≡ true) d t))
 one_named first (f ∷ fs) (k ∷ hs) (s ∷ ss) apart g h (inr m) (inl e) t = absurd (false≢true (sym (Each-at (λ (x : Found). is_named f.read.tables.name x.read.tables.name ≡ false) fs apart.0 g.found (given_found (first + 1) fs hs ss g m))
     ∙ subst (λ (x : Given). is_named x.found.read.tables.name g.found.read.tables.name ≡ true) e (named_back g.found.read.tables.name h.found.read.tables.name t)))
 one_named first (f ∷ fs) (k ∷ hs) (s ∷ ss) apart g h (inr m) (inr n) t = one_named (first + 1) fs hs ss apart.1 g h m n t

@@ -1,5 +1,7 @@
 -- Who imports a module: whether it is idle says whether any entry does.
-use Rattle.w16_loading.proofs.Common.{◌≡◌, ◌≢◌, ℕ, zero, suc, ◌+◌, ◌<◌, inl, Bool, true, not, ◌&&◌, ◌==◌, List, [], ◌∷◌, length, filter, count_by, IsTrue, Option, Some, None, is_some, IfSome, refl, sym, ap, ◌∙◌, subst, arith, eqb-true, eq-eqb, ne_eqb, nat_cmp, FinMap, entries_sorted, get-entries, false≢true, and_parts, not-true, length-filter, Member, member_filter, filter_member, found_member, member_found, keys_rise, LoadingWorld, Module, Modules, Named, module_at, module_in, imports, importers, usage, usage_with, is_idle, Loaded, BuiltIn, IsLoadingWorld, IsModule}
+use Rattle.w16_loading.proofs.Common.{◌≡◌, ◌≢◌, ℕ, zero, suc, ◌+◌, ◌<◌, inl, Bool, true, not, ◌&&◌, ◌==◌, List, [], ◌∷◌, length, filter, count_by, IsTrue, Option, Some, None, is_some, IfSome, refl, sym, ap, ◌∙◌, subst}
+use Rattle.w16_loading.proofs.Common.{arith, eqb-true, eq-eqb, ne_eqb, nat_cmp, FinMap, entries_sorted, get-entries, false≢true, and_parts, not-true, length-filter, Member, member_filter, filter_member, found_member}
+use Rattle.w16_loading.proofs.Common.{member_found, keys_rise, LoadingWorld, Module, Modules, Named, module_at, module_in, imports, importers, usage, usage_with, is_idle, Loaded, BuiltIn, IsLoadingWorld, IsModule}
 use Rattle.std.specs.FinMap as finmap
 
 -- an entry is one of a map's just where the map has it

@@ -1,5 +1,7 @@
 -- What keeps code as its files say it.
-use Rattle.w16_loading.proofs.Common.{◌≡◌, ℕ, ◌-◌, inl, inr, ◌⊎◌, Bool, true, List, [], length, Option, Some, None, IfSome, IsSomeAnd, option_map, slice_get, slice_index_or, Ok, Err, refl, sym, ap, ◌∙◌, subst, AllZip, cases_eq, Heap, IsHeap, bytes_at, Member, bytes_in, file_of, FetchFault, Format, ModuleFile, SegmentData, Far, numbered, LoadingWorld, Module, IsSegmentOf, module_at, Fills, FillsOne, Filling, Failure, InTurn, is_of_device, Fetches, IsImage, read_of, segment_bytes, is_code, CodeIsItsFiles, IsItsFiles, ModulesAreItsFiles, IsOfFiles}
+use Rattle.w16_loading.proofs.Common.{◌≡◌, ℕ, ◌-◌, inl, inr, ◌⊎◌, Bool, true, List, [], length, Option, Some, None, IfSome, IsSomeAnd, option_map, slice_get, slice_index_or, Ok, Err, refl, sym, ap, ◌∙◌, subst}
+use Rattle.w16_loading.proofs.Common.{AllZip, cases_eq, Heap, IsHeap, bytes_at, Member, bytes_in, file_of, FetchFault, Format, ModuleFile, SegmentData, Far, numbered, LoadingWorld, Module, IsSegmentOf, module_at}
+use Rattle.w16_loading.proofs.Common.{Fills, FillsOne, Filling, Failure, InTurn, is_of_device, Fetches, IsImage, read_of, segment_bytes, is_code, CodeIsItsFiles, IsItsFiles, ModulesAreItsFiles, IsOfFiles}
 use Rattle.w16_loading.proofs.Fillings.{filled_object, filled_other, one_does, all_do}
 use Rattle.w16_loading.proofs.KeptBytes.{KeepsBytes, kept_bytes}
 

@@ -1,5 +1,8 @@
 -- An object that is there keeps its owner, or is gone with it, whatever the store answers.
-use Rattle.w16_loading.proofs.Common.{◌≡◌, ◌≢◌, ℕ, inl, inr, ◌-◌, ◌==◌, Bool, true, false, cond, not, List, [], ◌∷◌, length, Option, Some, None, is_some, refl, sym, ap, ◌∙◌, subst, false≢true, FarFault, part, is_member, FarAnswer, far_fault, IsFreeSlot, Handles, object_at, after_touch, owned_in, owned_at, refuses_write, Member, inserted_other, AnyFetches, AnyLoads, GivesAny, Closure, far_read, far_write, Segment, Failure, Frees, Go, used_less, without_module, IsLoadingWorld, KeepsOwner, OwnersLaw, Answer, Fulfils, left, undone, LoadingWorld, Module, module_at, with_heap, Loaded, given, named, segments_of, without_objects, attributes_for, locked, unused_slot}
+use Rattle.w16_loading.proofs.Common.{◌≡◌, ◌≢◌, ℕ, inl, inr, ◌-◌, ◌==◌, Bool, true, false, cond, not, List, [], ◌∷◌, length, Option, Some, None, is_some, refl, sym, ap, ◌∙◌, subst, false≢true, FarFault, part, is_member, FarAnswer, far_fault}
+use Rattle.w16_loading.proofs.Common.{IsFreeSlot, Handles, object_at, after_touch, owned_in, owned_at, refuses_write, Member, inserted_other, AnyFetches, AnyLoads, GivesAny, Closure, far_read, far_write, Segment, Failure, Frees, Go, used_less}
+use Rattle.w16_loading.proofs.Common.{without_module, IsLoadingWorld, KeepsOwner, OwnersLaw, Answer, Fulfils, left, undone, LoadingWorld, Module, module_at, with_heap, Loaded, given, named, segments_of, without_objects, attributes_for, locked}
+use Rattle.w16_loading.proofs.Common.{unused_slot}
 use Rattle.std.specs.FinMap as finmap
 use Rattle.w16_model.specs.declared.FarFault.TheVariants as far
 use Rattle.w16_model.specs.Far as far_access

@@ -1,10 +1,15 @@
 -- A load that has come to its end keeps what holds of every world.
-use Rattle.w16_loading.proofs.Common.{◌≡◌, ◌≢◌, ℕ, zero, suc, ◌+◌, ◌-◌, ◌<◌, ◌≤◌, ◌==◌, inl, inr, ◌⊎◌, Bool, true, false, cond, List, [], ◌∷◌, length, fold, filter, map, zip, slice_get, slice_index_or, Option, Some, None, IfSome, IsSomeAnd, MatchOption, is_some, refl, sym, ap, ◌∙◌, subst, arith, eq-eqb, AllZip, nat_cmp, false≢true, cases_eq, AllZip-left, Kind, Heap, Object, IsHeap, object_at, AreHandles, owned_in, owned_at, Member, EachPair, Each-at, Each-from_All, EachPair-from_AllPairs, filter_member, true-is_member, inserted_here, other_handles, is_named, MOST_USES, IsModuleFile, IsSegmentData, Segment, LoadingWorld, Load, Module, Named, IsFreeModule, IsSegmentOf, name_of, module_at, module_in, importers, usage, usage_with, with_heap, Loaded, Filling, InTurn, Closure, Referent, around, New, attributes_of, Choice, IsChoice, Given, all_slots, given, segments_of, with_segment, bound, imports_at, handle_meant, named, fills, GivesAny, IsLoadingWorld, IsModule, IsObjectOf, slots_at, slots_for, owned_slots, unused_slot, Owned, SegmentData}
+use Rattle.w16_loading.proofs.Common.{◌≡◌, ◌≢◌, ℕ, zero, suc, ◌+◌, ◌-◌, ◌<◌, ◌≤◌, ◌==◌, inl, inr, ◌⊎◌, Bool, true, false, cond, List, [], ◌∷◌, length, fold, filter, map, zip, slice_get, slice_index_or, Option, Some, None, IfSome, IsSomeAnd}
+use Rattle.w16_loading.proofs.Common.{MatchOption, is_some, refl, sym, ap, ◌∙◌, subst, arith, eq-eqb, AllZip, nat_cmp, false≢true, cases_eq, AllZip-left, Kind, Heap, Object, IsHeap, object_at, AreHandles, owned_in, owned_at, Member, EachPair}
+use Rattle.w16_loading.proofs.Common.{Each-at, Each-from_All, EachPair-from_AllPairs, filter_member, true-is_member, inserted_here, other_handles, is_named, MOST_USES, IsModuleFile, IsSegmentData, Segment, LoadingWorld, Load, Module, Named}
+use Rattle.w16_loading.proofs.Common.{IsFreeModule, IsSegmentOf, name_of, module_at, module_in, importers, usage, usage_with, with_heap, Loaded, Filling, InTurn, Closure, Referent, around, New, attributes_of, Choice, IsChoice, Given, all_slots}
+use Rattle.w16_loading.proofs.Common.{given, segments_of, with_segment, bound, imports_at, handle_meant, named, fills, GivesAny, IsLoadingWorld, IsModule, IsObjectOf, slots_at, slots_for, owned_slots, unused_slot, Owned, SegmentData}
 use Rattle.std.specs.FinMap as finmap
 use Rattle.w16_loading.proofs.Undone.{chosen, fold_named, same_owned}
 use Rattle.w16_loading.proofs.Fillings.{SameRange, any_do, any_kept, any_there, any_range, any_sized}
 use Rattle.w16_loading.proofs.Named.{AreApart, given_slots_apart, named_handles, free_slot}
-use Rattle.w16_loading.proofs.Given.{given_found, given_slot, given_slots_differ, one_given, member_place, place_member, zip_place, index_place, one_place, given_long, given_handle, given_segment, segment_given, at_place, given_index, one_named, put_all, put_named, put_here, named_back, IsFilledBy, filled_by, zip_member, new_or_old}
+use Rattle.w16_loading.proofs.Given.{given_found, given_slot, given_slots_differ, one_given, member_place, place_member, zip_place, index_place, one_place, given_long, given_handle}
+use Rattle.w16_loading.proofs.Given.{given_segment, segment_given, at_place, given_index, one_named, put_all, put_named, put_here, named_back, IsFilledBy, filled_by, zip_member, new_or_old}
 use Rattle.w16_loading.proofs.Given.{loaded_is}
 use Rattle.w16_loading.proofs.Importers.{HasImporter, of_importer}
 use Rattle.w16_loading.proofs.KeptWorlds.{IsOwned}

@@ -1,5 +1,6 @@
 -- The world in which a load's modules have names: its handles are such, since slots were free and are different.
-use Rattle.w16_loading.proofs.Common.{◌≢◌, ℕ, ◌+◌, inl, inr, List, [], ◌∷◌, ◌++◌, fold, flat_map, zip, None, refl, sym, ◌∙◌, AreHandles, IsFreeSlot, Member, EachPair, Each-at, Each-from, Each-from_All, EachPair-from_AllPairs, inserted_other, with_absent_object, Segment, LoadingWorld, Closure, Found, attributes_of, Choice, IsChoice, all_slots, given, given_from, segments_of, with_segment, named, ◌≡◌, arith, IsHeap, object_at, entered_heap, slots_for, run_of_one, unused_slot, unowned_beside}
+use Rattle.w16_loading.proofs.Common.{◌≢◌, ℕ, ◌+◌, inl, inr, List, [], ◌∷◌, ◌++◌, fold, flat_map, zip, None, refl, sym, ◌∙◌, AreHandles, IsFreeSlot, Member, EachPair, Each-at, Each-from, Each-from_All, EachPair-from_AllPairs, inserted_other, with_absent_object}
+use Rattle.w16_loading.proofs.Common.{Segment, LoadingWorld, Closure, Found, attributes_of, Choice, IsChoice, all_slots, given, given_from, segments_of, with_segment, named, ◌≡◌, arith, IsHeap, object_at, entered_heap, slots_for, run_of_one, unused_slot, unowned_beside}
 use Rattle.std.specs.List.{AllByRecursion as Each}
 use Rattle.w16_loading.proofs.Undone.{zipped, in_first, in_second, parted, chosen}
 

@@ -1,5 +1,7 @@
 -- Calls on handles leave what a module owns: no object comes to be one's, or ceases to.
-use Rattle.w16_loading.proofs.Common.{◌≡◌, ℕ, inl, inr, false, Option, Some, None, is_some, option_map, unwrap_or, refl, sym, ap, ◌∙◌, false≢true, cases_eq, Attributes, Owned, object_at, Handles, AreHandles, slot_of_handle, owned_in, owned_at, is_owned, owns, global_lock, GlobalLock, Call, Outcome, attributes_asked, Calls, IsSame, IsUnmoved, IsLocked, IsUnlocked, IsFreed, IsNewest, IsOldest, IsEntered, IsAllocated, IsCompacted, IsModified, IsDiscarded, IsResized, call_outcome, KeepsContents, contents, inserted_here, inserted_other, taken_here, taken_other, Resized, FinMap, nat_cmp, slots_for, rounded_size, realloc_options, unused, some_slots, was_free}
+use Rattle.w16_loading.proofs.Common.{◌≡◌, ℕ, inl, inr, false, Option, Some, None, is_some, option_map, unwrap_or, refl, sym, ap, ◌∙◌, false≢true, cases_eq, Attributes, Owned, object_at, Handles, AreHandles, slot_of_handle, owned_in, owned_at}
+use Rattle.w16_loading.proofs.Common.{is_owned, owns, global_lock, GlobalLock, Call, Outcome, attributes_asked, Calls, IsSame, IsUnmoved, IsLocked, IsUnlocked, IsFreed, IsNewest, IsOldest, IsEntered, IsAllocated, IsCompacted, IsModified, IsDiscarded}
+use Rattle.w16_loading.proofs.Common.{IsResized, call_outcome, KeepsContents, contents, inserted_here, inserted_other, taken_here, taken_other, Resized, FinMap, nat_cmp, slots_for, rounded_size, realloc_options, unused, some_slots, was_free}
 use Rattle.std.specs.FinMap as finmap
 use Rattle.w16_model.specs.Calls.{Answer}
 

@@ -1,5 +1,7 @@
 -- What each segment and each resource has: an object, whose owner it is.
-use Rattle.w16_loading.proofs.Common.{◌≡◌, ℕ, ◌+◌, ◌-◌, ◌<◌, ◌==◌, inl, inr, ◌⊎◌, Bool, true, false, List, [], ◌∷◌, length, Option, Some, None, IfSome, IsSomeAnd, MatchOption, is_some, option_map, position, slice_get, get_or, refl, sym, ap, ◌∙◌, subst, arith, eqb-true, eq-eqb, slice_get-get_or, position-Some, false≢true, AllZip-left, Kind, Owned, Object, object_at, rounded_size, owned_at, Member, Segment, Resource, numbered, LoadingWorld, Load, Module, Named, IsSegmentOf, IsResourceOf, module_at, module_in, Loaded, BuiltIn, IsLoadingWorld, IsModule, IsObjectOf, IsLoad, Owner, OwnerLaw, IsOwnerOf, owner_of, number_in, segment_among, Script, OfSegment, OfResource}
+use Rattle.w16_loading.proofs.Common.{◌≡◌, ℕ, ◌+◌, ◌-◌, ◌<◌, ◌==◌, inl, inr, ◌⊎◌, Bool, true, false, List, [], ◌∷◌, length, Option, Some, None, IfSome, IsSomeAnd, MatchOption, is_some, option_map, position, slice_get, get_or, refl, sym, ap, ◌∙◌}
+use Rattle.w16_loading.proofs.Common.{subst, arith, eqb-true, eq-eqb, slice_get-get_or, position-Some, false≢true, AllZip-left, Kind, Owned, Object, object_at, rounded_size, owned_at, Member, Segment, Resource, numbered, LoadingWorld, Load, Module}
+use Rattle.w16_loading.proofs.Common.{Named, IsSegmentOf, IsResourceOf, module_at, module_in, Loaded, BuiltIn, IsLoadingWorld, IsModule, IsObjectOf, IsLoad, Owner, OwnerLaw, IsOwnerOf, owner_of, number_in, segment_among, Script, OfSegment, OfResource}
 use Rattle.std.specs.FinMap as finmap
 use Rattle.w16_loading.proofs.Given.{loaded_is}
 use Rattle.w16_loading.proofs.Importers.{entry_there, there_entry}

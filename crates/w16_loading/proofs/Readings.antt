@@ -1,5 +1,7 @@
 -- What a load reads and follows, by cases.
-use Rattle.w16_loading.proofs.Common.{◌≡◌, ℕ, zero, suc, ◌<◌, ◌==◌, Bool, true, false, cond, nat_lt, List, [], ◌∷◌, length, Option, Some, None, MatchResult, Result, Ok, Err, refl, ap, ◌∙◌, subst, arith, ltb-true, Format, ModuleFile, Around, Closure, Found, Reading, Referent, reading, meant, are_sound, followed, after, dll, with_bound, with_found, Refused, Meant, Read, New}
+use Rattle.w16_loading.proofs.Common.{◌≡◌, ℕ, zero, suc, ◌<◌, ◌==◌, Bool, true, false, cond, nat_lt, List, [], ◌∷◌, length, Option, Some, None, MatchResult, Result, Ok, Err, refl, ap, ◌∙◌, subst, arith}
+use Rattle.w16_loading.proofs.Common.{ltb-true, Format, ModuleFile, Around, Closure, Found, Reading, Referent, reading, meant, are_sound, followed, after, dll, with_bound, with_found, Refused, Meant, Read}
+use Rattle.w16_loading.proofs.Common.{New}
 
 abbrev pub read_by : Format → Option (List ℕ) → Option ModuleFile
 read_by format p = elim p [

@@ -1,5 +1,9 @@
 -- A refused load leaves all but its discards as it was.
-use Rattle.w16_loading.proofs.Common.{◌≡◌, ◌≢◌, ℕ, ◌+◌, ◌<◌, ◌≤◌, inl, inr, ◌⊎◌, Bool, true, false, List, [], ◌∷◌, fold, flat_map, slice_index_or, All, Option, Some, None, IfSome, IsSomeAnd, refl, sym, ap, ◌∙◌, subst, arith, false≢true, cases_Bool, is_member, Heap, Object, IsHeap, object_at, IsKeptOrDiscarded, Member, Each-from, Each-from_All, is_member-true, true-is_member, FIRST_MODULE, MOST_MODULES, MOST_USES, FetchFault, LoadingWorld, Module, Named, IsFreeModule, with_heap, Loaded, Giving, FillsOne, Filling, Failure, InTurn, is_of_device, heap_without, Closure, Found, Choice, IsChoice, all_slots, given, given_from, segments_of, with_segment, with_modules, bound, named, fills_of, fills, Answer, Fulfils, after_use, undone, left, outcome_of, refusal_of, Says, GivesAny, IsLoadingWorld, OnlyDiscards, IsRefusal, RefusedLoadLaw, AnyRefusedLoadLaw, EarlyRefusalLaw, unused_slot}
+use Rattle.w16_loading.proofs.Common.{◌≡◌, ◌≢◌, ℕ, ◌+◌, ◌<◌, ◌≤◌, inl, inr, ◌⊎◌, Bool, true, false, List, [], ◌∷◌, fold, flat_map, slice_index_or, All, Option, Some, None, IfSome, IsSomeAnd, refl, sym, ap, ◌∙◌, subst, arith, false≢true, cases_Bool}
+use Rattle.w16_loading.proofs.Common.{is_member, Heap, Object, IsHeap, object_at, IsKeptOrDiscarded, Member, Each-from, Each-from_All, is_member-true, true-is_member, FIRST_MODULE, MOST_MODULES, MOST_USES, FetchFault, LoadingWorld, Module, Named}
+use Rattle.w16_loading.proofs.Common.{IsFreeModule, with_heap, Loaded, Giving, FillsOne, Filling, Failure, InTurn, is_of_device, heap_without, Closure, Found, Choice, IsChoice, all_slots, given, given_from, segments_of, with_segment, with_modules}
+use Rattle.w16_loading.proofs.Common.{bound, named, fills_of, fills, Answer, Fulfils, after_use, undone, left, outcome_of, refusal_of, Says, GivesAny, IsLoadingWorld, OnlyDiscards, IsRefusal, RefusedLoadLaw, AnyRefusedLoadLaw, EarlyRefusalLaw}
+use Rattle.w16_loading.proofs.Common.{unused_slot}
 use Rattle.std.specs.List.{AllByRecursion as Each}
 use Rattle.std.specs.FinMap as finmap
 use Rattle.w16_loading.specs.declared.FetchFault.TheVariants as faults

@@ -1,5 +1,6 @@
 -- A heap from which some objects go is one.
-use Rattle.w16_loading.proofs.Common.{◌≡◌, ℕ, inl, inr, Bool, true, false, cond, not, IfSome, filter, Option, Some, None, is_some, unwrap_or, refl, sym, ap, ◌∙◌, subst, nat_cmp, false≢true, cases_Bool, Block, is_member, Heap, Object, IsHeap, IsCounted, object_at, is_in_order, member_filter, filter_member, EachPair-from_AllPairs, AllPairs-from_EachPair, pairs_filter, is_member-true, true-is_member, IsBlockOf, Stands, same_placed, same_grained, bytes_in, AreBytes, heap_without}
+use Rattle.w16_loading.proofs.Common.{◌≡◌, ℕ, inl, inr, Bool, true, false, cond, not, IfSome, filter, Option, Some, None, is_some, unwrap_or, refl, sym, ap, ◌∙◌, subst, nat_cmp, false≢true, cases_Bool, Block, is_member, Heap, Object, IsHeap, IsCounted, object_at}
+use Rattle.w16_loading.proofs.Common.{is_in_order, member_filter, filter_member, EachPair-from_AllPairs, AllPairs-from_EachPair, pairs_filter, is_member-true, true-is_member, IsBlockOf, Stands, same_placed, same_grained, bytes_in, AreBytes, heap_without}
 use Rattle.std.specs.FinMap as finmap
 use Rattle.w16_loading.proofs.Undone.{retained}
 

@@ -1,5 +1,8 @@
 -- The calls on resources keep what holds of every world.
-use Rattle.w16_loading.proofs.Common.{◌≡◌, ◌≢◌, ℕ, ◌+◌, ◌-◌, ◌<◌, ◌≤◌, inl, inr, ◌⊎◌, Bool, true, false, ◌&&◌, ◌==◌, length, Option, Some, None, IfSome, IsSomeAnd, is_some, slice_get, refl, sym, ap, ◌∙◌, subst, arith, eq-eqb, ne_eqb, nat_cmp, FinMap, false≢true, cases_eq, Kind, Object, object_at, IsFreeSlot, HandleCommand, rounded_size, global_lock, Member, inserted_here, inserted_other, taken_here, taken_other, with_absent_object, MOST_USES, Resource, numbered, Attributes, Owned, owned_in, owned_at, LoadingWorld, Load, Module, IsResourceOf, module_at, attributes_for, is_too_long, resource_at, load_of, with_resource, locked, IsLoadingWorld, IsObjectOf, IsLoad, Calls, unused_slot, run_of_one, slots_for, LARGEST_OWNED, ltb-false, nat_lt, ◌||◌}
+use Rattle.w16_loading.proofs.Common.{◌≡◌, ◌≢◌, ℕ, ◌+◌, ◌-◌, ◌<◌, ◌≤◌, inl, inr, ◌⊎◌, Bool, true, false, ◌&&◌, ◌==◌, length, Option, Some, None, IfSome, IsSomeAnd, is_some, slice_get, refl, sym, ap, ◌∙◌, subst, arith}
+use Rattle.w16_loading.proofs.Common.{eq-eqb, ne_eqb, nat_cmp, FinMap, false≢true, cases_eq, Kind, Object, object_at, IsFreeSlot, HandleCommand, rounded_size, global_lock, Member, inserted_here, inserted_other}
+use Rattle.w16_loading.proofs.Common.{taken_here, taken_other, with_absent_object, MOST_USES, Resource, numbered, Attributes, Owned, owned_in, owned_at, LoadingWorld, Load, Module, IsResourceOf, module_at, attributes_for}
+use Rattle.w16_loading.proofs.Common.{is_too_long, resource_at, load_of, with_resource, locked, IsLoadingWorld, IsObjectOf, IsLoad, Calls, unused_slot, run_of_one, slots_for, LARGEST_OWNED, ltb-false, nat_lt, ◌||◌}
 use Rattle.std.specs.FinMap as finmap
 use Rattle.w16_loading.proofs.Importers.{there_entry}
 use Rattle.w16_loading.proofs.Given.{member_place}

@@ -1,7 +1,9 @@
 -- The sample modules: TLIB, a library of two segments of code, and TAPP, an application that imports three entries of it, of which one doesn't
 -- exist. Their bindings are worked out.
 use base.Stored.Gv.{gnil}
-use Rattle.w16_loading.proofs.Common.{◌≡◌, ℕ, ◌+◌, ◌/◌, ◌%◌, ◌==◌, Bool, true, false, if◌then◌else◌, List, [], ◌∷◌, ◌++◌, replicate, codes, slice_index_or, Some, None, Ok, refl, Discardable, is_named, file_of, Far, Segment, Format, ModuleFile, InSegment, Internal, Import, ImportName, Module, Lookup, address_at, address_named, Loaded, BuiltIn, begun, after, New, bound_in}
+use Rattle.w16_loading.proofs.Common.{◌≡◌, ℕ, ◌+◌, ◌/◌, ◌%◌, ◌==◌, Bool, true, false, if◌then◌else◌, List, [], ◌∷◌, ◌++◌, replicate, codes, slice_index_or, Some, None, Ok, refl, Discardable, is_named}
+use Rattle.w16_loading.proofs.Common.{file_of, Far, Segment, Format, ModuleFile, InSegment, Internal, Import, ImportName, Module, Lookup, address_at, address_named, Loaded, BuiltIn, begun, after, New}
+use Rattle.w16_loading.proofs.Common.{bound_in}
 
 -- the bytes of a word, of a far pointer, and of the first, second and third value of a segment
 abbrev word : ℕ → List ℕ

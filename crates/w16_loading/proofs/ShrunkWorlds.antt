@@ -1,5 +1,7 @@
 -- A world without some objects: what stays of it.
-use Rattle.w16_loading.proofs.Common.{◌≡◌, ℕ, inl, inr, Bool, true, false, cond, not, length, None, IfSome, IsSomeAnd, is_some, sym, ap, ◌∙◌, subst, nat_cmp, FinMap, false≢true, cases_Bool, Kind, Object, Handles, AreHandles, owned_in, owned_at, LoadingWorld, Load, Modules, heap_without, without_objects, IsObjectOf, Option, unwrap_or, option_map, Attributes, IsRun, slots_at, sized_is, bytes_in, refl, arith, ◌+◌, ◌≤◌}
+use Rattle.w16_loading.proofs.Common.{◌≡◌, ℕ, inl, inr, Bool, true, false, cond, not, length, None, IfSome, IsSomeAnd, is_some, sym, ap, ◌∙◌, subst, nat_cmp, FinMap, false≢true, cases_Bool, Kind, Object, Handles, AreHandles}
+use Rattle.w16_loading.proofs.Common.{owned_in, owned_at, LoadingWorld, Load, Modules, heap_without, without_objects, IsObjectOf, Option, unwrap_or, option_map, Attributes, IsRun, slots_at, sized_is, bytes_in, refl, arith, ◌+◌}
+use Rattle.w16_loading.proofs.Common.{◌≤◌}
 use Rattle.std.specs.FinMap as finmap
 use Rattle.w16_loading.proofs.Undone.{retained}
 use Rattle.w16_loading.proofs.Released.{released_heap}

@@ -1,5 +1,8 @@
 -- Slots for the segments of a load are there exactly where as many are free.
-use Rattle.w16_loading.proofs.Common.{◌≡◌, ◌≢◌, ℕ, zero, suc, ◌+◌, ◌-◌, ◌<◌, ◌≤◌, inl, inr, Bool, not, IsTrue, List, [], ◌∷◌, ◌++◌, length, take, drop, flat_map, Option, Some, None, is_some, refl, sym, ap, ◌∙◌, subst, arith, length-append, AllZip, range_with_len, false≢true, cases_eq, take-append-drop, append_assoc, length-take-le, length-drop, sum_by-cons, FIRST_SLOT, Handles, IsFreeSlot, Member, EachPair, Each-at, Each-from, Each-from_All, All-from_Each, EachPair-from_AllPairs, AllPairs-from_EachPair, pairs_filter, member_filter, filter_member, Found, AreSlots, free_slots, segments_in, SlotsLaw}
+use Rattle.w16_loading.proofs.Common.{◌≡◌, ◌≢◌, ℕ, zero, suc, ◌+◌, ◌-◌, ◌<◌, ◌≤◌, inl, inr, Bool, not, IsTrue, List, [], ◌∷◌, ◌++◌, length, take, drop, flat_map, Option, Some, None, is_some, refl, sym, ap, ◌∙◌, subst, arith}
+use Rattle.w16_loading.proofs.Common.{length-append, AllZip, range_with_len, false≢true, cases_eq, take-append-drop, append_assoc, length-take-le, length-drop, sum_by-cons, FIRST_SLOT, Handles, IsFreeSlot, Member, EachPair}
+use Rattle.w16_loading.proofs.Common.{Each-at, Each-from, Each-from_All, All-from_Each, EachPair-from_AllPairs, AllPairs-from_EachPair, pairs_filter, member_filter, filter_member, Found, AreSlots, free_slots, segments_in}
+use Rattle.w16_loading.proofs.Common.{SlotsLaw}
 use Rattle.std.specs.List.{AllByRecursion as Each}
 use Rattle.w16_model.specs.Handles.{owner_of}
 use Rattle.w16_loading.proofs.Given.{first_apart}
@@ -102,6 +105,9 @@ slots_law world found = (λ le. chosen le, λ s. enough s.0 s.1)
             many = r.2;
             free = All-from_Each (IsFreeSlot world.handles) (flat_map (λ s. s) r.0) (first_each (IsFreeSlot world.handles) (flat_map (λ s. s) r.0) r.1
                 (subst (Each (IsFreeSlot world.handles)) (sym r.3) (Each-from (IsFreeSlot world.handles) (free_slots world.handles) (free_is world.handles))));
-            apart = AllPairs-from_EachPair (λ (a b : ℕ). a ≢ b) (flat_map (λ s. s) r.0) (first_apart (flat_map (λ s. s) r.0) r.1 (subst (EachPair (λ (a b : ℕ). a ≢ b)) (sym r.3) (pairs_filter (λ (a b : ℕ). a ≢ b) (λ slot. not (is_some (owner_of world.handles.attributes slot))) (range_with_len FIRST_SLOT world.handles.slots) (range_apart world.handles.slots FIRST_SLOT))));
+            apart = AllPairs-from_EachPair (λ (a b : ℕ). a ≢ b) (flat_map (λ s. s) r.0)
+                (first_apart (flat_map (λ s. s) r.0) r.1 (subst (EachPair (λ (a b : ℕ). a ≢ b)) (sym r.3)
+                (pairs_filter (λ (a b : ℕ). a ≢ b) (λ slot. not (is_some (owner_of world.handles.attributes slot)))
+                (range_with_len FIRST_SLOT world.handles.slots) (range_apart world.handles.slots FIRST_SLOT))));
           },
         )

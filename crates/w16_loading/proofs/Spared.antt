@@ -1,5 +1,6 @@
 -- What is left of an object that a step isn't about: it is kept or discarded, and stands where it stood if it is pinned.
-use Rattle.w16_loading.proofs.Common.{◌≡◌, ◌≢◌, ℕ, inl, inr, ◌⊎◌, ◌||◌, Bool, true, false, cond, not, nat_lt, List, Option, Some, None, IfSome, IsSomeAnd, is_some, refl, sym, ap, ◌∙◌, subst, nat_cmp, FinMap, false≢true, cases_eq, Heap, Object, IsHeap, object_at, bytes_at, is_fixed, is_pinned_object, with_ordered, with_newest, Settles, discarded, stays_for, IsKeptOrDiscarded, StandsStill, revival_options, bytes_in, address_law, FetchFault, LoadingWorld, Fills, is_of_read, AnyFetches, heap_without}
+use Rattle.w16_loading.proofs.Common.{◌≡◌, ◌≢◌, ℕ, inl, inr, ◌⊎◌, ◌||◌, Bool, true, false, cond, not, nat_lt, List, Option, Some, None, IfSome, IsSomeAnd, is_some, refl, sym, ap, ◌∙◌, subst, nat_cmp, FinMap, false≢true, cases_eq, Heap, Object, IsHeap, object_at, bytes_at}
+use Rattle.w16_loading.proofs.Common.{is_fixed, is_pinned_object, with_ordered, with_newest, Settles, discarded, stays_for, IsKeptOrDiscarded, StandsStill, revival_options, bytes_in, address_law, FetchFault, LoadingWorld, Fills, is_of_read, AnyFetches, heap_without}
 use Rattle.std.specs.FinMap as finmap
 use Rattle.w16_loading.proofs.Fillings.{IsLost, kept_then, settled_so, filled_other, one_does}
 use Rattle.w16_loading.proofs.Undone.{retained}

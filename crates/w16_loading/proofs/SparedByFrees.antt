@@ -1,5 +1,7 @@
 -- Modules and resources that go take the objects that they own with them, and spare every other.
-use Rattle.w16_loading.proofs.Common.{◌≡◌, ℕ, ◌+◌, ◌-◌, inl, inr, ◌⊎◌, ◌==◌, Bool, true, false, cond, not, nat_lt, List, [], ◌∷◌, Option, Some, None, is_some, slice_get, refl, sym, ap, ◌∙◌, subst, arith, eqb-true, false≢true, cases_Bool, cases_eq, locks_at, rounded_size, is_member, object_at, is_owned, is_member-true, inserted_here, inserted_other, taken_here, taken_other, Resource, Segment, LoadingWorld, Load, Module, IsResourceOf, module_at, module_in, Loaded, Frees, Go, is_left_over, used_less, without_module, IsLoadingWorld, IsObjectOf, heap_without, without_objects, free_resource, slot_of_resource}
+use Rattle.w16_loading.proofs.Common.{◌≡◌, ℕ, ◌+◌, ◌-◌, inl, inr, ◌⊎◌, ◌==◌, Bool, true, false, cond, not, nat_lt, List, [], ◌∷◌, Option, Some, None, is_some, slice_get, refl, sym, ap, ◌∙◌, subst, arith, eqb-true, false≢true}
+use Rattle.w16_loading.proofs.Common.{cases_Bool, cases_eq, locks_at, rounded_size, is_member, object_at, is_owned, is_member-true, inserted_here, inserted_other, taken_here, taken_other, Resource, Segment, LoadingWorld, Load}
+use Rattle.w16_loading.proofs.Common.{Module, IsResourceOf, module_at, module_in, Loaded, Frees, Go, is_left_over, used_less, without_module, IsLoadingWorld, IsObjectOf, heap_without, without_objects, free_resource, slot_of_resource}
 use Rattle.std.specs.FinMap as finmap
 use Rattle.w16_loading.proofs.Bound.{world_used_less, world_without}
 use Rattle.w16_loading.proofs.Given.{member_place}

@@ -1,5 +1,8 @@
 -- Loads of modules and of resources spare every object that was there.
-use Rattle.w16_loading.proofs.Common.{◌≡◌, ◌≢◌, ℕ, inl, inr, ◌⊎◌, Bool, true, false, cond, nat_lt, ◌+◌, MatchBool, MatchOption, fold, List, Option, Some, None, is_some, refl, sym, ap, ◌∙◌, subst, false≢true, cases_Bool, is_member, Heap, object_at, IsFreeSlot, handle_of, Member, is_member-true, inserted_other, FetchFault, Resource, LoadingWorld, Load, with_heap, Failure, InTurn, heap_without, Closure, Choice, IsChoice, all_slots, bound, fills, given, named, segments_of, with_segment, Answer, Fulfils, left, undone, AnyFetches, AnyLoads, GivesAny, IsLoadingWorld, Reply, Word, MOST_USES, LoadsResource, LoadsNewResource, AnswersNone, is_too_long, load_of, loaded_again, resource_at, resource_outcome, with_resource, unused_slot, IsHeap, entered_heap}
+use Rattle.w16_loading.proofs.Common.{◌≡◌, ◌≢◌, ℕ, inl, inr, ◌⊎◌, Bool, true, false, cond, nat_lt, ◌+◌, MatchBool, MatchOption, fold, List, Option, Some, None, is_some, refl, sym, ap, ◌∙◌, subst, false≢true, cases_Bool}
+use Rattle.w16_loading.proofs.Common.{is_member, Heap, object_at, IsFreeSlot, handle_of, Member, is_member-true, inserted_other, FetchFault, Resource, LoadingWorld, Load, with_heap, Failure, InTurn, heap_without}
+use Rattle.w16_loading.proofs.Common.{Closure, Choice, IsChoice, all_slots, bound, fills, given, named, segments_of, with_segment, Answer, Fulfils, left, undone, AnyFetches, AnyLoads, GivesAny, IsLoadingWorld, Reply}
+use Rattle.w16_loading.proofs.Common.{Word, MOST_USES, LoadsResource, LoadsNewResource, AnswersNone, is_too_long, load_of, loaded_again, resource_at, resource_outcome, with_resource, unused_slot, IsHeap, entered_heap}
 use Rattle.std.specs.FinMap as finmap
 use Rattle.w16_loading.specs.declared.FetchFault.TheVariants as faults
 use Rattle.w16_loading.proofs.Fillings.{any_do}

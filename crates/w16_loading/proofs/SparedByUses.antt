@@ -1,5 +1,9 @@
 -- Far accesses and locks of resources spare every object that isn't theirs, and leave theirs where it stands.
-use Rattle.w16_loading.proofs.Common.{◌≡◌, ◌≢◌, ℕ, ◌/◌, ◌==◌, Bool, true, false, cond, MatchBool, MatchOption, List, Option, Some, None, is_some, option_map, unwrap_or, refl, sym, ap, ◌∙◌, subst, arith, put_part, repeated, KeepsContents, global_lock, GlobalLock, FarAnswer, FarCommand, after_write, far_slot, Write, Fill, Handles, AreHandles, handle_of, offset_in, selector_in, slot_of_handle, Object, bytes_at, object_at, StandsStill, after_touch, Calls, bystander, contents, call_outcome, get-update_other, FetchFault, AnyFetches, pointer_in, FarStep, Accesses, far_read, far_write, gives, needs_fetch, IsLoadingWorld, LoadingWorld, Load, Reply, Dword, Failed, LocksResource, lock_outcome, locked, slot_of_resource, Part, part_of_selector, IsSomeAnd, far_at}
+use Rattle.w16_loading.proofs.Common.{◌≡◌, ◌≢◌, ℕ, ◌/◌, ◌==◌, Bool, true, false, cond, MatchBool, MatchOption, List, Option, Some, None, is_some, option_map, unwrap_or, refl, sym, ap, ◌∙◌, subst, arith, put_part}
+use Rattle.w16_loading.proofs.Common.{repeated, KeepsContents, global_lock, GlobalLock, FarAnswer, FarCommand, after_write, far_slot, Write, Fill, Handles, AreHandles, handle_of, offset_in, selector_in, slot_of_handle}
+use Rattle.w16_loading.proofs.Common.{Object, bytes_at, object_at, StandsStill, after_touch, Calls, bystander, contents, call_outcome, get-update_other, FetchFault, AnyFetches, pointer_in, FarStep, Accesses, far_read}
+use Rattle.w16_loading.proofs.Common.{far_write, gives, needs_fetch, IsLoadingWorld, LoadingWorld, Load, Reply, Dword, Failed, LocksResource, lock_outcome, locked, slot_of_resource, Part, part_of_selector, IsSomeAnd}
+use Rattle.w16_loading.proofs.Common.{far_at}
 use Rattle.std.specs.FinMap as finmap
 use Rattle.w16_model.specs.Far.FarCommand.{Read}
 use Rattle.w16_loading.specs.declared.FetchFault.TheVariants as faults

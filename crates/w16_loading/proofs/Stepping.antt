@@ -1,5 +1,10 @@
 -- What the parts of a step do to a world, the step does: fetches, loads, and changes of what is kept beside them.
-use Rattle.w16_loading.proofs.Common.{◌≡◌, ℕ, ◌+◌, ◌-◌, ◌<◌, ◌≤◌, inl, inr, ◌⊎◌, Bool, true, false, cond, ◌&&◌, ◌==◌, not, nat_lt, List, [], ◌∷◌, Option, Some, None, MatchOption, MatchBool, MatchResult, option_map, Result, Ok, Err, IfOk, refl, sym, ap, ◌∙◌, subst, arith, ltb-true, find, bytes_at, Handles, IsFreeSlot, handle_of, slot_of_handle, selector_in, offset_in, repeated, HandleCommand, locks_at, FarAnswer, FarCommand, far_slot, Member, MOST_USES, FetchFault, Format, ModuleFile, Resource, LoadingWorld, Load, Module, Named, IsFreeModule, handle_named, Loaded, BuiltIn, Giving, without_objects, Closure, Reading, reading, around, begun, after, Refused, Meant, Read, There, New, Answer, Refuses, LoadsBy, LoadsFile, LoadsNew, Fulfils, used_again, after_use, Says, Reply, HandleReplies, ResizeReplies, Word, Dword, Failed, ResizeCommand, Fetching, Accesses, needs_fetch, far_read, far_write, gives, Frees, LoadsResource, LoadsNewResource, LocksResource, AnswersNone, is_too_long, resource_at, load_of, loaded_again, with_resource, resource_outcome, locked, lock_outcome, slot_of_resource, free_resource, LoadingCommand, ModuleCommand, ResourceCommand, Loading, FamilyStep, ModuleStep, ResourceStep, FarStep, AddsBuiltIn, GivesBuiltIn, built_in, GivesAny, AnyLoads, IsAnyClosure}
+use Rattle.w16_loading.proofs.Common.{◌≡◌, ℕ, ◌+◌, ◌-◌, ◌<◌, ◌≤◌, inl, inr, ◌⊎◌, Bool, true, false, cond, ◌&&◌, ◌==◌, not, nat_lt, List, [], ◌∷◌, Option, Some, None, MatchOption, MatchBool, MatchResult, option_map, Result, Ok, Err, IfOk, refl}
+use Rattle.w16_loading.proofs.Common.{sym, ap, ◌∙◌, subst, arith, ltb-true, find, bytes_at, Handles, IsFreeSlot, handle_of, slot_of_handle, selector_in, offset_in, repeated, HandleCommand, locks_at, FarAnswer, FarCommand, far_slot, Member}
+use Rattle.w16_loading.proofs.Common.{MOST_USES, FetchFault, Format, ModuleFile, Resource, LoadingWorld, Load, Module, Named, IsFreeModule, handle_named, Loaded, BuiltIn, Giving, without_objects, Closure, Reading, reading, around, begun, after}
+use Rattle.w16_loading.proofs.Common.{Refused, Meant, Read, There, New, Answer, Refuses, LoadsBy, LoadsFile, LoadsNew, Fulfils, used_again, after_use, Says, Reply, HandleReplies, ResizeReplies, Word, Dword, Failed, ResizeCommand, Fetching, Accesses}
+use Rattle.w16_loading.proofs.Common.{needs_fetch, far_read, far_write, gives, Frees, LoadsResource, LoadsNewResource, LocksResource, AnswersNone, is_too_long, resource_at, load_of, loaded_again, with_resource, resource_outcome, locked, lock_outcome}
+use Rattle.w16_loading.proofs.Common.{slot_of_resource, free_resource, LoadingCommand, ModuleCommand, ResourceCommand, Loading, FamilyStep, ModuleStep, ResourceStep, FarStep, AddsBuiltIn, GivesBuiltIn, built_in, GivesAny, AnyLoads, IsAnyClosure}
 use Rattle.std.specs.FinMap as finmap
 use Rattle.w16_loading.specs.declared.FetchFault.TheVariants as faults
 use Rattle.w16_loading.proofs.Importers.{entry_there}

@@ -1,5 +1,7 @@
 -- Names that are taken back leave the same world.
-use Rattle.w16_loading.proofs.Common.{◌≡◌, ◌≢◌, ℕ, ◌+◌, inl, inr, ◌⊎◌, Bool, true, false, cond, not, List, [], ◌∷◌, ◌++◌, fold, filter, flat_map, zip, Option, Some, None, All, is_some, refl, sym, ap, ◌∙◌, subst, nat_cmp_total, nat_cmp, FinMap, same_map, nat_cmp-IsAntisymmetric, get-retain_keys, false≢true, cases_Bool, is_member, object_at, is_in_order, AreHandles, IsFreeSlot, owned_in, owned_at, Member, Each-from_All, Each-at, is_member-true, true-is_member, inserted_other, Segment, LoadingWorld, with_heap, Found, given, given_from, all_slots, segments_of, with_segment, attributes_of, without_objects, TakenBackLaw, UndoneLaw, unused_slot}
+use Rattle.w16_loading.proofs.Common.{◌≡◌, ◌≢◌, ℕ, ◌+◌, inl, inr, ◌⊎◌, Bool, true, false, cond, not, List, [], ◌∷◌, ◌++◌, fold, filter, flat_map, zip, Option, Some, None, All, is_some, refl, sym, ap, ◌∙◌, subst, nat_cmp_total, nat_cmp, FinMap}
+use Rattle.w16_loading.proofs.Common.{same_map, nat_cmp-IsAntisymmetric, get-retain_keys, false≢true, cases_Bool, is_member, object_at, is_in_order, AreHandles, IsFreeSlot, owned_in, owned_at, Member, Each-from_All, Each-at, is_member-true}
+use Rattle.w16_loading.proofs.Common.{true-is_member, inserted_other, Segment, LoadingWorld, with_heap, Found, given, given_from, all_slots, segments_of, with_segment, attributes_of, without_objects, TakenBackLaw, UndoneLaw, unused_slot}
 use Rattle.std.specs.FinMap as finmap
 
 -- Slots of segments are slots that were chosen.

@@ -1,5 +1,6 @@
 -- What a record is bound to depends on no values.
-use Rattle.w16_loading.proofs.Common.{◌≡◌, ℕ, inl, inr, List, [], ◌∷◌, Option, Some, None, refl, sym, ap, ◌∙◌, cases_eq, inserted_here, inserted_other, Internal, InternalEntry, Import, ImportName, System, Module, Modules, Named, address_by_ordinal, address_by_name, imported, Loaded, BuiltIn, Given, given, with_modules, unbound, bound, ValuesLaw, BoundAlikeLaw, without_values}
+use Rattle.w16_loading.proofs.Common.{◌≡◌, ℕ, inl, inr, List, [], ◌∷◌, Option, Some, None, refl, sym, ap, ◌∙◌, cases_eq, inserted_here, inserted_other, Internal, InternalEntry, Import, ImportName, System}
+use Rattle.w16_loading.proofs.Common.{Module, Modules, Named, address_by_ordinal, address_by_name, imported, Loaded, BuiltIn, Given, given, with_modules, unbound, bound, ValuesLaw, BoundAlikeLaw, without_values}
 use Rattle.std.specs.FinMap as finmap
 
 by_ordinal : (handle ordinal : ℕ) (p : Option Named) → address_by_ordinal handle p ordinal ≡ address_by_ordinal handle (without_values p) ordinal

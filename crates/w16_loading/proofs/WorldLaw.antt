@@ -1,5 +1,6 @@
 -- Each step of each family keeps what holds of every world, whatever the store answers.
-use Rattle.w16_loading.proofs.Common.{◌<◌, All, Option, Some, None, refl, sym, ap, subst, Heap, FarCommand, other_handles, All-repeated, LoadingWorld, with_heap, Failure, InTurn, Closure, around, named, fills, Answer, Fulfils, undone, left, GivesAny, AnyFetches, AnyLoads, LoadingCommand, IsLoadingCommand, IsLoadingWorld, OnlyDiscards, AnyKeepsWorldsLaw, KeepsWorldsLaw, slots_at}
+use Rattle.w16_loading.proofs.Common.{◌<◌, All, Option, Some, None, refl, sym, ap, subst, Heap, FarCommand, other_handles, All-repeated, LoadingWorld, with_heap, Failure, InTurn, Closure, around, named, fills}
+use Rattle.w16_loading.proofs.Common.{Answer, Fulfils, undone, left, GivesAny, AnyFetches, AnyLoads, LoadingCommand, IsLoadingCommand, IsLoadingWorld, OnlyDiscards, AnyKeepsWorldsLaw, KeepsWorldsLaw, slots_at}
 use Rattle.w16_loading.proofs.Fillings.{lost, kept_sized}
 use Rattle.w16_loading.proofs.RefusedLoad.{undone_discards}
 use Rattle.w16_loading.proofs.KeptWorlds.{kept_left, left_owned, world_stays, recounted}

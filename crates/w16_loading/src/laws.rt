@@ -1,7 +1,37 @@
 //! The laws of the definitions. Each function does nothing: its contract is the law.
 ghost use Rattle.w16_loading.specs.Bystanders.{StepBystandersLaw, StepPinnedLaw};
 ghost use Rattle.w16_loading.specs.Fewest.{FetchFewestLaw, LoadFewestLaw, RequestsFewestLaw};
-ghost use Rattle.w16_loading.specs.Law.{AnyKeepsWorldsLaw, AnyRefusedLoadLaw, BoundAlikeLaw, BoundOnceLaw, CallsKeepWorldsLaw, ClosureEndsLaw, CodeLaw, CodeReadsLaw, EarlyRefusalLaw, EmptyLaw, EmptyOfFilesLaw, FetchAgainLaw, FetchFaultsLaw, FetchLaw, FetchRefusedLaw, FillLaw, FillsLaw, IsAnyStepLaw, KeepsWorldsLaw, OneClosureLaw, OneEndLaw, OwnersLaw, ReadsNoFilesLaw, RefusedLoadLaw, SlotsLaw, TakenBackLaw, UndoneLaw, UsesApartLaw, ValuesLaw};
+ghost use Rattle.w16_loading.specs.Law.{
+  AnyKeepsWorldsLaw,
+  AnyRefusedLoadLaw,
+  BoundAlikeLaw,
+  BoundOnceLaw,
+  CallsKeepWorldsLaw,
+  ClosureEndsLaw,
+  CodeLaw,
+  CodeReadsLaw,
+  EarlyRefusalLaw,
+  EmptyLaw,
+  EmptyOfFilesLaw,
+  FetchAgainLaw,
+  FetchFaultsLaw,
+  FetchLaw,
+  FetchRefusedLaw,
+  FillLaw,
+  FillsLaw,
+  IsAnyStepLaw,
+  KeepsWorldsLaw,
+  OneClosureLaw,
+  OneEndLaw,
+  OwnersLaw,
+  ReadsNoFilesLaw,
+  RefusedLoadLaw,
+  SlotsLaw,
+  TakenBackLaw,
+  UndoneLaw,
+  UsesApartLaw,
+  ValuesLaw,
+};
 ghost use Rattle.w16_loading.specs.Owner.{OwnerLaw};
 
 /// A fetch takes the bytes of what it discards, and keeps all else of the other objects.

@@ -1,5 +1,6 @@
 -- An act in the object of a slot, as a call's step.
-use Rattle.w16_local.proofs.Common.{◌≡◌, ℕ, ◌<◌, ◌⊎◌, inl, inr, IsSomeAnd, List, length, Option, Some, None, option_map, refl, sym, ap, ◌∙◌, subst, nat_cmp, FinMap, put_part, after_write, Handles, Heap, Object, bytes_at, object_at, Table, heap_in, counted, Global, Lends, World, LocalHeap, Acts, IsLocalTable, object_of, put_all, ByteOp, Acted, ActedIn, DoesAct, Done, Idle, IsLent, IsLentOnce, MayAct, MayActIn, MayActOver, IsIn, with_parts}
+use Rattle.w16_local.proofs.Common.{◌≡◌, ℕ, ◌<◌, ◌⊎◌, inl, inr, IsSomeAnd, List, length, Option, Some, None, option_map, refl, sym, ap, ◌∙◌, subst, nat_cmp, FinMap, put_part, after_write, Handles, Heap, Object, bytes_at, object_at, Table}
+use Rattle.w16_local.proofs.Common.{heap_in, counted, Global, Lends, World, LocalHeap, Acts, IsLocalTable, object_of, put_all, ByteOp, Acted, ActedIn, DoesAct, Done, Idle, IsLent, IsLentOnce, MayAct, MayActIn, MayActOver, IsIn, with_parts}
 use Rattle.std.specs.FinMap as finmap
 use Rattle.w16_local.specs.Growth.{IsLentOrGrown, WritesGrown, WritesServed}
 use Rattle.w16_local.proofs.Locals.{insert_nothing}

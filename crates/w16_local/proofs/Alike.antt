@@ -1,5 +1,6 @@
 -- A heap has one table: two sound ones over one range that stand for the same heap are the same.
-use Rattle.w16_local.proofs.Common.{◌≡◌, ℕ, ◌<◌, ◌≤◌, inl, inr, List, [], ◌∷◌, length, get_or, None, option_map, refl, sym, ap, ◌∙◌, subst, arith, same_lists, Block, block_end, IsLaid, Heap, object_at, Table, IsSound, heap_in, Each-at, Member, IsBlockOf, laid_each, block_table, table_block, IsSameRange, entry_of, entry_is, AreParts}
+use Rattle.w16_local.proofs.Common.{◌≡◌, ℕ, ◌<◌, ◌≤◌, inl, inr, List, [], ◌∷◌, length, get_or, None, option_map, refl, sym, ap, ◌∙◌, subst, arith, same_lists, Block, block_end, IsLaid}
+use Rattle.w16_local.proofs.Common.{Heap, object_at, Table, IsSound, heap_in, Each-at, Member, IsBlockOf, laid_each, block_table, table_block, IsSameRange, entry_of, entry_is, AreParts}
 use Rattle.w16_local.proofs.Locals.{default_any}
 
 -- a laid list begins at its low end or above, and each other block behind its first one

@@ -1,5 +1,7 @@
 -- The beginning of a local heap.
-use Rattle.w16_local.proofs.Common.{◌≡◌, ℕ, zero, suc, Bool, true, false, cond, if◌then◌else◌, ◌==◌, ◌&&◌, nat_le, nat_lt, min, MatchOption, OnErr, Result, Ok, Err, List, [], ◌∷◌, ◌++◌, length, get_or, Option, Some, None, IsSome, option_map, is_some, refl, sym, ap, ◌∙◌, subst, nat_cmp_total, nat_cmp, FinMap, same_map, nat_cmp-IsAntisymmetric, Span, Handles, slot_of_selector, bytes_at, is_code, Table, World, Beginning, Stays, beginning, beginning_in, new_table, range_in, rounded_down, rounded_up, with_table, LocalInit, MayBegin, begin_law, AreListed, tables_of, Calls, alone, with_parts}
+use Rattle.w16_local.proofs.Common.{◌≡◌, ℕ, zero, suc, Bool, true, false, cond, if◌then◌else◌, ◌==◌, ◌&&◌, nat_le, nat_lt, min, MatchOption, OnErr, Result, Ok, Err, List, [], ◌∷◌, ◌++◌, length, get_or, Option, Some, None}
+use Rattle.w16_local.proofs.Common.{IsSome, option_map, is_some, refl, sym, ap, ◌∙◌, subst, nat_cmp_total, nat_cmp, FinMap, same_map, nat_cmp-IsAntisymmetric, Span, Handles, slot_of_selector, bytes_at, is_code, Table}
+use Rattle.w16_local.proofs.Common.{World, Beginning, Stays, beginning, beginning_in, new_table, range_in, rounded_down, rounded_up, with_table, LocalInit, MayBegin, begin_law, AreListed, tables_of, Calls, alone, with_parts}
 use Rattle.std.specs.FinMap as finmap
 use Rattle.w16_local.specs.Parts.{MayBegin as MayBeginIn}
 use Rattle.w16_local.proofs.Locals.{tables_at}

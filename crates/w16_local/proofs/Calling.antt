@@ -1,5 +1,11 @@
 -- The calls that act in a local heap.
-use Rattle.w16_local.proofs.Common.{◌≡◌, ℕ, ◌+◌, ◌*◌, ◌/◌, ◌<◌, ◌≤◌, ◌==◌, ◌&&◌, inl, inr, Bool, true, false, MatchBool, MatchOption, OnErr, IsSome, if◌then◌else◌, List, length, Option, Some, None, Result, Ok, Err, is_ok, is_some, refl, sym, ap, ◌∙◌, subst, arith, eq-eqb, ne_eqb, nat_cmp, FinMap, cases_lt, false≢true, Kind, Discardable, Fixed, Moveable, Refusal, has_flag, with_newest, with_object, Handles, Heap, Object, is_fixed, object_at, after_discard, after_free, after_modify, Allocates, IsNew, MakesRoom, most_room, discards_needed, Table, entry_at, heap_in, object_in, inserted_here, object_is, none_about, not_asked, LMEM_DISCARDABLE, LMEM_MODIFY, LMEM_MOVEABLE, World, LocalHeap, LocalObject, Acts, Becomes, IsLowestFree, Stays, current_heap, heap_of, name_at, name_of, object_named, rounded_up, AllocatesIn, AllocatesObject, CompactsIn, DiscardsObject, EntersObject, GivesUp, ModifiesObject, ResizesObject, SizesObject, local_kind, local_options, moveable_or_discardable, LocalAlloc, LocalCompact, LocalFree, LocalReAlloc, names_law, Alloc, Compact, Discard, Free, Realloc, ActedIn, DoesAct, Done, MakesObject, IsSize, IsFull, IsLowest, Calls, IsIn, IsNamed, alone, with_parts, Stepped, answer_of, outcome}
+use Rattle.w16_local.proofs.Common.{◌≡◌, ℕ, ◌+◌, ◌*◌, ◌/◌, ◌<◌, ◌≤◌, ◌==◌, ◌&&◌, inl, inr, Bool, true, false, MatchBool, MatchOption, OnErr, IsSome, if◌then◌else◌, List, length, Option, Some, None, Result, Ok, Err, is_ok, is_some}
+use Rattle.w16_local.proofs.Common.{refl, sym, ap, ◌∙◌, subst, arith, eq-eqb, ne_eqb, nat_cmp, FinMap, cases_lt, false≢true, Kind, Discardable, Fixed, Moveable, Refusal, has_flag, with_newest, with_object, Handles, Heap, Object}
+use Rattle.w16_local.proofs.Common.{is_fixed, object_at, after_discard, after_free, after_modify, Allocates, IsNew, MakesRoom, most_room, discards_needed, Table, entry_at, heap_in, object_in, inserted_here, object_is, none_about}
+use Rattle.w16_local.proofs.Common.{not_asked, LMEM_DISCARDABLE, LMEM_MODIFY, LMEM_MOVEABLE, World, LocalHeap, LocalObject, Acts, Becomes, IsLowestFree, Stays, current_heap, heap_of, name_at, name_of, object_named, rounded_up}
+use Rattle.w16_local.proofs.Common.{AllocatesIn, AllocatesObject, CompactsIn, DiscardsObject, EntersObject, GivesUp, ModifiesObject, ResizesObject, SizesObject, local_kind, local_options, moveable_or_discardable, LocalAlloc, LocalCompact}
+use Rattle.w16_local.proofs.Common.{LocalFree, LocalReAlloc, names_law, Alloc, Compact, Discard, Free, Realloc, ActedIn, DoesAct, Done, MakesObject, IsSize, IsFull, IsLowest, Calls, IsIn, IsNamed, alone, with_parts, Stepped, answer_of}
+use Rattle.w16_local.proofs.Common.{outcome}
 use Rattle.std.specs.FinMap as finmap
 use Rattle.w16_machine.specs.LocalGrowth.{longer}
 use Rattle.w16_local.specs.declared.growth.Request.{Request}
@@ -62,7 +68,10 @@ module _ {handles : Handles} {tables : FinMap nat_cmp Table} {ds name slot : ℕ
 
   pub free_refused : is_ok (after_free before id) ≡ false → Calls handles tables ds (LocalFree name) name handles tables
   free_refused e rest =
-      on_named n rest name name (with_parts rest handles tables ds) (λ o. GivesUp (with_parts rest handles tables ds) o.heap (after_free (heap_of o.heap) o.id) 0 name name (with_parts rest handles tables ds)) (gives_none (with_parts rest handles tables ds) (record { slot = slot; table = t; bytes = n.heap.bytes }) (after_free before id) 0 name e)
+      on_named n rest name name (with_parts rest handles tables ds)
+      (λ o. GivesUp (with_parts rest handles tables ds) o.heap (after_free (heap_of o.heap) o.id) 0 name name
+      (with_parts rest handles tables ds)) (gives_none (with_parts rest handles tables ds)
+      (record { slot = slot; table = t; bytes = n.heap.bytes }) (after_free before id) 0 name e)
 
   -- LocalReAlloc
   module _ (size flags : ℕ) where
@@ -114,9 +123,15 @@ module _ {handles : Handles} {tables : FinMap nat_cmp Table} {ds name slot : ℕ
             subst (λ b. MatchBool b (DiscardsObject (with_parts rest handles tables ds) name flags answer (with_parts rest next new ds) named_object) (SizesObject (with_parts rest handles tables ds) size flags answer (with_parts rest next new ds) named_object))
             (sym (eq-eqb size 0 none)) (so rest))
 
-        asked_to : (b : Bool) → has_flag flags LMEM_MOVEABLE ≡ b → ((rest : World) → MatchBool b (GivesUp (with_parts rest handles tables ds) named_object.heap (after_discard before id) name 0 answer (with_parts rest next new ds)) (Stays (with_parts rest handles tables ds) 0 answer (with_parts rest next new ds)))
+        asked_to : (b : Bool) → has_flag flags LMEM_MOVEABLE ≡ b →
+            ((rest : World) → MatchBool b (GivesUp (with_parts rest handles tables ds) named_object.heap
+            (after_discard before id) name 0 answer (with_parts rest next new ds))
+            (Stays (with_parts rest handles tables ds) 0 answer (with_parts rest next new ds)))
             → Calls handles tables ds (LocalReAlloc name size flags) answer next new
-        asked_to b m so = of_none (λ rest. subst (λ b. MatchBool b (GivesUp (with_parts rest handles tables ds) named_object.heap (after_discard before id) name 0 answer (with_parts rest next new ds)) (Stays (with_parts rest handles tables ds) 0 answer (with_parts rest next new ds))) (sym m) (so rest))
+        asked_to b m so = of_none (λ rest. subst (λ b. MatchBool b
+            (GivesUp (with_parts rest handles tables ds) named_object.heap (after_discard before id) name 0 answer
+            (with_parts rest next new ds)) (Stays (with_parts rest handles tables ds) 0 answer
+            (with_parts rest next new ds))) (sym m) (so rest))
 
     module _ (f : has_flag flags LMEM_MODIFY ≡ false) (none : size ≡ 0) where
       pub discard_calls : has_flag flags LMEM_MOVEABLE ≡ true → {answer : ℕ} {next : Handles} {new : FinMap nat_cmp Table} → ActedIn handles tables slot (DoesAct (Discard id) answer) next new → Calls handles tables ds (LocalReAlloc name size flags) name next new
@@ -249,14 +264,20 @@ module _ {handles : Handles} {tables : FinMap nat_cmp Table} {ds slot : ℕ} {t 
           enter_calls = alloc_in (4 * id + 2) handles new (λ rest. inr (
             id,
             is_lowest,
-            inl (subst (λ b. MatchBool b ((h : Heap) × EntersObject heap flags id (4 * id + 2) h × Becomes (with_parts rest handles tables ds) here h (with_parts rest handles new ds)) (Acts (with_parts rest handles tables ds) here (AllocatesObject heap flags size id (4 * id + 2)) (with_parts rest handles new ds)))
+            inl (subst (λ b. MatchBool b ((h : Heap) × EntersObject heap flags id (4 * id + 2) h × Becomes
+                (with_parts rest handles tables ds) here h (with_parts rest handles new ds))
+                (Acts (with_parts rest handles tables ds) here (AllocatesObject heap flags size id (4 * id + 2))
+                (with_parts rest handles new ds)))
                 (sym (ap (λ b. b && has_flag flags LMEM_MOVEABLE) (eq-eqb size 0 none) ∙ m))
                 (made, record { entered = record { unused = no_object id lowest.free; entered = entered ∙ ap (λ (k : Kind). with_object heap id (record { kind = k; locks = 0; bytes = None })) kind_is }; named = named }, becomes rest)),
           ))
 
 -- where DS names no heap
 pub alloc_none : (handles : Handles) (tables : FinMap nat_cmp Table) (ds flags size : ℕ) → current_heap (alone handles tables ds) ≡ None → Calls handles tables ds (LocalAlloc flags size) 0 handles tables
-alloc_none handles tables ds flags size none rest = subst (λ (c : Option LocalHeap). MatchOption c (Stays (with_parts rest handles tables ds) 0 0 (with_parts rest handles tables ds)) (AllocatesIn (with_parts rest handles tables ds) flags size 0 (with_parts rest handles tables ds))) (sym none) (refl, refl)
+alloc_none handles tables ds flags size none rest = subst
+    (λ (c : Option LocalHeap). MatchOption c (Stays (with_parts rest handles tables ds) 0 0
+    (with_parts rest handles tables ds)) (AllocatesIn (with_parts rest handles tables ds) flags size 0
+    (with_parts rest handles tables ds))) (sym none) (refl, refl)
 
 -- what a bad name leaves
 pub free_none : (handles : Handles) (tables : FinMap nat_cmp Table) (ds name : ℕ) → object_named (alone handles tables ds) name ≡ None → Calls handles tables ds (LocalFree name) name handles tables
@@ -271,9 +292,15 @@ pub compact_calls : {handles : Handles} {tables : FinMap nat_cmp Table} {ds slot
 compact_calls {handles} {tables} {ds} {slot} {t} is size {answer} {next} {new} a rest =
     subst (λ (c : Option LocalHeap). MatchOption c (Stays (with_parts rest handles tables ds) 0 answer (with_parts rest next new ds)) (CompactsIn (with_parts rest handles tables ds) size answer (with_parts rest next new ds))) (sym is.is_current)
     (elim (acting.outcome is a rest) [
-      | inl same ↦ subst (λ b. MatchBool b (Stays (with_parts rest handles tables ds) (most_room (heap_in t is.bytes)) answer (with_parts rest next new ds)) (Acts (with_parts rest handles tables ds) (record { slot = slot; table = t; bytes = is.bytes }) (MakesRoom (heap_in t is.bytes) size answer) (with_parts rest next new ds)))
+      | inl same ↦ subst (λ b. MatchBool b (Stays (with_parts rest handles tables ds) (most_room (heap_in t is.bytes))
+          answer (with_parts rest next new ds)) (Acts (with_parts rest handles tables ds)
+          (record { slot = slot; table = t; bytes = is.bytes }) (MakesRoom (heap_in t is.bytes) size answer)
+          (with_parts rest next new ds)))
           (sym (eq-eqb size 0 same.0.0)) (same.0.1, same.1)
-      | inr acts ↦ subst (λ b. MatchBool b (Stays (with_parts rest handles tables ds) (most_room (heap_in t is.bytes)) answer (with_parts rest next new ds)) (Acts (with_parts rest handles tables ds) (record { slot = slot; table = t; bytes = is.bytes }) (MakesRoom (heap_in t is.bytes) size answer) (with_parts rest next new ds)))
+      | inr acts ↦ subst (λ b. MatchBool b (Stays (with_parts rest handles tables ds) (most_room (heap_in t is.bytes))
+          answer (with_parts rest next new ds)) (Acts (with_parts rest handles tables ds)
+          (record { slot = slot; table = t; bytes = is.bytes }) (MakesRoom (heap_in t is.bytes) size answer)
+          (with_parts rest next new ds)))
           (sym (ne_eqb size 0 (λ e. absurd (let some = acts.acted.0 in omega (arith, e, some))))) (acts_as (MakesRoom (heap_in t is.bytes) size answer) acts acts.acted.1)
     ])
 

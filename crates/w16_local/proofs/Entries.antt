@@ -1,5 +1,8 @@
 -- Which objects, and so which free entries, a step of a heap leaves.
-use Rattle.w16_local.proofs.Common.{◌≡◌, ◌≢◌, ℕ, ◌+◌, ◌-◌, ◌<◌, ◌≤◌, inl, inr, Bool, true, false, cond, not, if◌then◌else◌, IfOk, IsSomeAnd, List, length, get_or, set, replicate, Option, Some, None, option_map, is_some, Result, Ok, Err, nat_lt, ◌&&◌, ◌||◌, ◌==◌, take, refl, sym, ap, ◌∙◌, subst, arith, cases_eq, cases_Bool, false≢true, get_or-set_same, get_or-set_other, length-replicate, length-set, Kind, Discardable, Refusal, absent, removed, touched, with_newest, with_object, with_ordered, eligible, is_member, Heap, Object, blocks, object_at, is_discardable, is_fixed, KeepsOthers, after_discard, after_free, after_lock, after_modify, after_unlock, Table, entry_at, heap_in, object_in, same_updated, inserted_here, inserted_other, taken_here, taken_other, object_is, IsSameRange, IsLocalTable, LocalHeapInvariant}
+use Rattle.w16_local.proofs.Common.{◌≡◌, ◌≢◌, ℕ, ◌+◌, ◌-◌, ◌<◌, ◌≤◌, inl, inr, Bool, true, false, cond, not, if◌then◌else◌, IfOk, IsSomeAnd, List, length, get_or, set, replicate, Option, Some, None, option_map, is_some, Result, Ok}
+use Rattle.w16_local.proofs.Common.{Err, nat_lt, ◌&&◌, ◌||◌, ◌==◌, take, refl, sym, ap, ◌∙◌, subst, arith, cases_eq, cases_Bool, false≢true, get_or-set_same, get_or-set_other, length-replicate, length-set, Kind, Discardable, Refusal}
+use Rattle.w16_local.proofs.Common.{absent, removed, touched, with_newest, with_object, with_ordered, eligible, is_member, Heap, Object, blocks, object_at, is_discardable, is_fixed, KeepsOthers, after_discard, after_free, after_lock}
+use Rattle.w16_local.proofs.Common.{after_modify, after_unlock, Table, entry_at, heap_in, object_in, same_updated, inserted_here, inserted_other, taken_here, taken_other, object_is, IsSameRange, IsLocalTable, LocalHeapInvariant}
 use Rattle.std.specs.FinMap as finmap
 use Rattle.w16_model.specs.declared.Refusal.TheVariants as refusals
 

@@ -1,5 +1,8 @@
 -- A local heap that grows with its segment, as a call's step.
-use Rattle.w16_local.proofs.Common.{◌≡◌, ◌≢◌, ℕ, ◌*◌, inl, inr, true, false, cond, IsSomeAnd, List, length, Option, Some, None, refl, sym, ap, ◌∙◌, subst, arith, nat_cmp, nat_cmp_total, nat_cmp-IsAntisymmetric, same_map, cases_eq, FinMap, Object, bytes_at, object_at, Handles, AreHandles, Table, heap_in, after_write, inserted_here, inserted_other, counted, Global, World, LocalHeap, left_in, ActedIn, MayAct, MayActIn, Writes, object_of, ◌==◌, ◌||◌, ◌-◌, Bool, Heap, IsSome, is_some, if◌then◌else◌, alone, with_parts}
+use Rattle.w16_local.proofs.Common.{◌≡◌, ◌≢◌, ℕ, ◌*◌, inl, inr, true, false, cond, IsSomeAnd, List, length, Option, Some, None, refl, sym, ap, ◌∙◌, subst, arith, nat_cmp, nat_cmp_total}
+use Rattle.w16_local.proofs.Common.{nat_cmp-IsAntisymmetric, same_map, cases_eq, FinMap, Object, bytes_at, object_at, Handles, AreHandles, Table, heap_in, after_write, inserted_here, inserted_other}
+use Rattle.w16_local.proofs.Common.{counted, Global, World, LocalHeap, left_in, ActedIn, MayAct, MayActIn, Writes, object_of, ◌==◌, ◌||◌, ◌-◌, Bool, Heap, IsSome, is_some, if◌then◌else◌, alone}
+use Rattle.w16_local.proofs.Common.{with_parts}
 use Rattle.std.specs.FinMap as finmap
 use Rattle.std.proofs.lemmas.Bool.{le-leb}
 use Rattle.w16_model.specs.declared.RoomOptions.{RoomOptions}
@@ -135,7 +138,10 @@ module _ {old : Global} {tables : FinMap nat_cmp Table} {slot size : ℕ} {r : R
       pub may_act : MayActIn new.handles left slot (MayEndLater r size)
       may_act = record { table = m.table; bytes = now.0; was = was_now; had = has_now; may = may_end }
 
-      module _ (result : ℕ) (next : Handles) (final : FinMap nat_cmp Table) (a : ActedIn new.handles left slot (λ table bytes after_table after. (count : ℕ) × (Later r size table bytes result after_table after × Writes (act_of r) (heap_in (record table { hi = size }) bytes) (heap_in after_table after) 0 count)) next final) where
+      module _ (result : ℕ) (next : Handles) (final : FinMap nat_cmp Table)
+          (a : ActedIn new.handles left slot (λ table bytes after_table after. (count : ℕ) ×
+          (Later r size table bytes result after_table after × Writes (act_of r)
+          (heap_in (record table { hi = size }) bytes) (heap_in after_table after) 0 count)) next final) where
         same_table : a.before ≡ m.table
         same_table = let both : ◌≡◌ {A = Option Table} (Some a.before) (Some m.table) = sym a.was ∙ was_now in cc
 

@@ -1,5 +1,8 @@
 -- The local heaps in a list by slot, and their tables.
-use Rattle.w16_local.proofs.Common.{◌≡◌, ℕ, ◌<◌, ◌≤◌, inl, inr, IsSome, List, [], ◌∷◌, ◌++◌, length, get_or, set, Option, Some, None, option_map, is_some, refl, sym, ap, ◌∙◌, subst, arith, zero, suc, nat_cmp_total, nat_cmp, FinMap, get-empty, same_map, nat_cmp-IsAntisymmetric, cases_eq, false≢true, get_or-set_same, get_or-set_other, get_or_append_left, length-append, set-set, get_or-append_seam, Table, get-by_id, inserted_here, inserted_other, taken_here, taken_other, tables_of, AreListed, IsListed}
+use Rattle.w16_local.proofs.Common.{◌≡◌, ℕ, ◌<◌, ◌≤◌, inl, inr, IsSome, List, [], ◌∷◌, ◌++◌, length, get_or, set, Option, Some, None, option_map, is_some, refl, sym, ap, ◌∙◌, subst, arith}
+use Rattle.w16_local.proofs.Common.{zero, suc, nat_cmp_total, nat_cmp, FinMap, get-empty, same_map, nat_cmp-IsAntisymmetric, cases_eq, false≢true, get_or-set_same, get_or-set_other}
+use Rattle.w16_local.proofs.Common.{get_or_append_left, length-append, set-set, get_or-append_seam, Table, get-by_id, inserted_here, inserted_other, taken_here, taken_other, tables_of, AreListed}
+use Rattle.w16_local.proofs.Common.{IsListed}
 use Rattle.std.specs.FinMap as finmap
 
 -- nothing is taken where there is none

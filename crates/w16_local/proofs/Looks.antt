@@ -1,5 +1,8 @@
 -- What a local heap's table tells of its heap: names, near pointers, sizes.
-use Rattle.w16_local.proofs.Common.{◌≡◌, ◌≢◌, ℕ, ◌+◌, ◌*◌, ◌/◌, ◌%◌, ◌<◌, ◌≤◌, ◌⊎◌, inl, inr, ◌==◌, nat_lt, lt-ltb, le-ltb, ne_eqb, eq-eqb, is_ok, Result, Ok, Err, Bool, true, false, not, cond, if◌then◌else◌, IfSome, is_some, List, length, slice_range, Option, Some, None, option_map, unwrap_or, refl, sym, ap, ◌∙◌, subst, arith, cases_lt, Block, Entry, Refusal, locks_at, absent, removed, after_discard, after_free, block_end, Heap, Object, IsHeap, object_at, bytes_at, is_fixed, is_discardable, IsMultiple, Table, block_with, entry_at, heap_in, object_in, Each-at, Each-from_All, laid_each, member_with, AreParts, is_heap, object_here, place_here, size_here, IsLocalTable, id_at, id_named, name_at, name_of, LMEM_DISCARDABLE, LMEM_DISCARDED, local_flags_of, names_law, IsOver}
+use Rattle.w16_local.proofs.Common.{◌≡◌, ◌≢◌, ℕ, ◌+◌, ◌*◌, ◌/◌, ◌%◌, ◌<◌, ◌≤◌, ◌⊎◌, inl, inr, ◌==◌, nat_lt, lt-ltb, le-ltb, ne_eqb, eq-eqb, is_ok, Result, Ok, Err, Bool, true, false, not, cond, if◌then◌else◌, IfSome}
+use Rattle.w16_local.proofs.Common.{is_some, List, length, slice_range, Option, Some, None, option_map, unwrap_or, refl, sym, ap, ◌∙◌, subst, arith, cases_lt, Block, Entry, Refusal, locks_at, absent, removed, after_discard}
+use Rattle.w16_local.proofs.Common.{after_free, block_end, Heap, Object, IsHeap, object_at, bytes_at, is_fixed, is_discardable, IsMultiple, Table, block_with, entry_at, heap_in, object_in, Each-at, Each-from_All, laid_each}
+use Rattle.w16_local.proofs.Common.{member_with, AreParts, is_heap, object_here, place_here, size_here, IsLocalTable, id_at, id_named, name_at, name_of, LMEM_DISCARDABLE, LMEM_DISCARDED, local_flags_of, names_law, IsOver}
 use Rattle.std.specs.FinMap as finmap
 use Rattle.w16_model.specs.declared.Refusal.TheVariants as refusals
 
@@ -170,7 +173,13 @@ module _ {t : Table} {bytes : List ℕ} (over : IsOver t bytes) where
       by_kind false true = refl
       by_kind false false = refl
 
-      by_entry : (e : Option Entry) → is_ok (elim (option_map (object_in t.blocks bytes id) e) as (λ _. Result Heap Refusal) [ None ↦ Err refusals.NotDiscardable | Some o ↦ cond (nat_lt 0 o.locks) (Err refusals.Locked) (cond (is_discardable o.kind) (Ok (absent (heap_in t bytes) id)) (Err refusals.NotDiscardable)) ])
+      by_entry : (e : Option Entry) → is_ok (elim (option_map (object_in t.blocks bytes id) e) as
+          (λ _. Result Heap Refusal) [
+            | None ↦ Err refusals.NotDiscardable
+            | Some o ↦ cond (nat_lt 0 o.locks)
+                (Err refusals.Locked) (cond (is_discardable o.kind) (Ok (absent (heap_in t bytes) id))
+                (Err refusals.NotDiscardable))
+          ])
           ≡ (elim e [ None ↦ false | Some e ↦ cond (nat_lt 0 e.locks) false (is_discardable e.kind) ])
       by_entry None = refl
       by_entry (Some e) = by_kind (nat_lt 0 e.locks) (is_discardable e.kind)

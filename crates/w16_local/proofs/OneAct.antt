@@ -1,5 +1,9 @@
 -- One act on one local heap over bytes.
-use Rattle.w16_local.proofs.Common.{◌≡◌, ℕ, ◌+◌, ◌*◌, ◌<◌, ◌≤◌, ◌⊎◌, ◌==◌, inl, inr, Bool, true, false, MatchBool, if◌then◌else◌, IfOk, IsSome, IsSomeAnd, OnErr, is_err, List, [], ◌∷◌, length, zero, suc, get_or, set, All, Option, Some, None, unwrap_or, is_ok, is_some, Result, Ok, Err, refl, sym, ap, ◌∙◌, subst, arith, eq-eqb, ne_eqb, cases_eq, cases_lt, false≢true, Block, Kind, RoomOptions, removed, with_newest, Heap, Object, IsHeap, IsMultiple, object_at, is_fixed, after_discard, after_free, KeepsRest, IsLongestStretch, CompactsFewest, IsMostAfter, MakesMost, Allocates, Compacts, eligible_count, IsNew, MakesRoom, Reallocates, compaction_prefix, most_room, moved_bytes, discards_needed, Table, IsSameOutside, IsSound, block_with, entry_at, heap_in, rest_law, others_law, asked, sound_heap, counted, contents, Placed, IsPlaced, IsSameRange, entry_of, heap_kept, entry_is, no_block, no_entry, AreParts, name_at, name_of, ByteOp, Alloc, Compact, Discard, Free, Realloc, Acted, Done, Idle, MayActOver, LocalHeapInvariant, IsOver}
+use Rattle.w16_local.proofs.Common.{◌≡◌, ℕ, ◌+◌, ◌*◌, ◌<◌, ◌≤◌, ◌⊎◌, ◌==◌, inl, inr, Bool, true, false, MatchBool, if◌then◌else◌, IfOk, IsSome, IsSomeAnd, OnErr, is_err, List, [], ◌∷◌, length, zero, suc, get_or, set, All, Option, Some}
+use Rattle.w16_local.proofs.Common.{None, unwrap_or, is_ok, is_some, Result, Ok, Err, refl, sym, ap, ◌∙◌, subst, arith, eq-eqb, ne_eqb, cases_eq, cases_lt, false≢true, Block, Kind, RoomOptions, removed, with_newest, Heap, Object, IsHeap}
+use Rattle.w16_local.proofs.Common.{IsMultiple, object_at, is_fixed, after_discard, after_free, KeepsRest, IsLongestStretch, CompactsFewest, IsMostAfter, MakesMost, Allocates, Compacts, eligible_count, IsNew, MakesRoom, Reallocates}
+use Rattle.w16_local.proofs.Common.{compaction_prefix, most_room, moved_bytes, discards_needed, Table, IsSameOutside, IsSound, block_with, entry_at, heap_in, rest_law, others_law, asked, sound_heap, counted, contents, Placed, IsPlaced}
+use Rattle.w16_local.proofs.Common.{IsSameRange, entry_of, heap_kept, entry_is, no_block, no_entry, AreParts, name_at, name_of, ByteOp, Alloc, Compact, Discard, Free, Realloc, Acted, Done, Idle, MayActOver, LocalHeapInvariant, IsOver}
 use Rattle.std.specs.FinMap as finmap
 use Rattle.w16_local.proofs.Alike.{same_table}
 use Rattle.w16_local.proofs.Entries.{HasOthers, HasSame, discarded, free_gone, is_local, kept_others, mapped, removed_here, removed_others, same_free, set_free}

@@ -1,5 +1,8 @@
 -- One local heap: its free entries, and steps that ask for no room.
-use Rattle.w16_local.proofs.Common.{◌≡◌, ℕ, ◌<◌, ◌≤◌, inl, inr, Bool, true, false, nat_le, if◌then◌else◌, IfErr, OnErr, OnOk, List, length, get_or, set, Option, Some, None, is_some, Result, Ok, Err, refl, sym, ap, ◌∙◌, subst, arith, position, position_or_len, cases_lt, false≢true, length-replicate, position-Some, fails_before_first, Entry, Kind, Refusal, Span, with_object, Heap, IsMultiple, Enters, Table, entry_at, heap_in, ArenaState, Steps, empty_table, sound, LOCAL_ENTRIES, IsFull, LocalHeapInvariant, IsLowest, Turns, outcome}
+use Rattle.w16_local.proofs.Common.{◌≡◌, ℕ, ◌<◌, ◌≤◌, inl, inr, Bool, true, false, nat_le, if◌then◌else◌, IfErr, OnErr, OnOk, List, length, get_or, set, Option, Some, None, is_some, Result, Ok, Err}
+use Rattle.w16_local.proofs.Common.{refl, sym, ap, ◌∙◌, subst, arith, position, position_or_len, cases_lt, false≢true, length-replicate, position-Some, fails_before_first, Entry, Kind, Refusal, Span}
+use Rattle.w16_local.proofs.Common.{with_object, Heap, IsMultiple, Enters, Table, entry_at, heap_in, ArenaState, Steps, empty_table, sound, LOCAL_ENTRIES, IsFull, LocalHeapInvariant, IsLowest, Turns}
+use Rattle.w16_local.proofs.Common.{outcome}
 use Rattle.std.proofs.lemmas.Bool.{lt-ltb}
 use Rattle.w16_arena.proofs.Fresh.{no_entry}
 use Rattle.w16_local.proofs.Entries.{HasSame, any_inside, any_memory, bit, put_here, put_others, same_free, set_free}

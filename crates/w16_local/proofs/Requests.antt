@@ -1,5 +1,6 @@
 -- What becomes of a request for room in a heap, as it is or as it ends later.
-use Rattle.w16_local.proofs.Common.{◌≡◌, All, ℕ, ◌<◌, ◌≤◌, inl, inr, false, List, length, Option, Some, None, sym, ap, refl, unwrap_or, ◌∙◌, subst, arith, false≢true, Kind, Block, Heap, Object, IsHeap, IsMultiple, IsSameOutside, IsBlockOf, Each-at, Each-from_All, blocks, bytes_at, object_at, Handles, AreHandles, Table, heap_in, IsLocalTable, name_at, object_of, ByteOp, Acted, Done, Idle, MayAct, MayActOver, Writes}
+use Rattle.w16_local.proofs.Common.{◌≡◌, All, ℕ, ◌<◌, ◌≤◌, inl, inr, false, List, length, Option, Some, None, sym, ap, refl, unwrap_or, ◌∙◌, subst, arith, false≢true, Kind, Block, Heap, Object, IsHeap, IsMultiple, IsSameOutside}
+use Rattle.w16_local.proofs.Common.{IsBlockOf, Each-at, Each-from_All, blocks, bytes_at, object_at, Handles, AreHandles, Table, heap_in, IsLocalTable, name_at, object_of, ByteOp, Acted, Done, Idle, MayAct, MayActOver, Writes}
 use Rattle.std.specs.FinMap as finmap
 use Rattle.w16_model.specs.declared.TheConstants.{GRAIN}
 use Rattle.w16_model.specs.Ends.{ending, is_answered}

@@ -1,5 +1,6 @@
 -- A request in the heap of a slot, as a call's step.
-use Rattle.w16_local.proofs.Common.{◌≡◌, ℕ, ◌⊎◌, inl, inr, IsSomeAnd, List, length, Option, Some, None, refl, sym, ◌∙◌, subst, arith, nat_cmp, FinMap, Kind, Heap, Handles, Table, bytes_at, heap_in, counted, Global, World, IsLocalTable, ActedIn, Acted, Done, Idle, IsLent, MayAct, MayActIn, MayActOver, Writes, with_parts}
+use Rattle.w16_local.proofs.Common.{◌≡◌, ℕ, ◌⊎◌, inl, inr, IsSomeAnd, List, length, Option, Some, None, refl, sym, ◌∙◌, subst, arith, nat_cmp, FinMap, Kind, Heap, Handles, Table}
+use Rattle.w16_local.proofs.Common.{bytes_at, heap_in, counted, Global, World, IsLocalTable, ActedIn, Acted, Done, Idle, IsLent, MayAct, MayActIn, MayActOver, Writes, with_parts}
 use Rattle.w16_machine.specs.LocalGrowth.{IsGrowth, IsKeptShort}
 use Rattle.w16_local.specs.declared.growth.Met.{Met}
 use Rattle.w16_local.specs.declared.growth.Met.TheVariants.{Answered, Lacks}

@@ -1,5 +1,7 @@
 -- A step of one local heap that asks for no room: in the list of heaps, and as a call's.
-use Rattle.w16_local.proofs.Common.{◌≡◌, inl, inr, lt-ltb, le-ltb, ℕ, ◌-◌, ◌≤◌, Bool, true, false, nat_lt, if◌then◌else◌, OnErr, IsSome, IsSomeAnd, List, length, get_or, set, MatchOption, Option, Some, None, option_map, unwrap_or, Result, Ok, Err, refl, sym, ap, ◌∙◌, subst, arith, nat_cmp, FinMap, Refusal, locks_at, with_object, Handles, Heap, Object, object_at, is_fixed, after_lock, after_unlock, Table, heap_in, inserted_here, cases_lt, World, LocalObject, IsLocalTable, Becomes, Stays, heap_of, object_named, Leaves, OnNamed, lock_refused, locks_left, near_pointer, LocalLock, LocalUnlock, tables_of, AreListed, Calls, IsNamed, alone, with_parts, Stepped, Turns, answer_of, outcome}
+use Rattle.w16_local.proofs.Common.{◌≡◌, inl, inr, lt-ltb, le-ltb, ℕ, ◌-◌, ◌≤◌, Bool, true, false, nat_lt, if◌then◌else◌, OnErr, IsSome, IsSomeAnd, List, length, get_or, set, MatchOption, Option, Some, None, option_map, unwrap_or, Result, Ok, Err, refl}
+use Rattle.w16_local.proofs.Common.{sym, ap, ◌∙◌, subst, arith, nat_cmp, FinMap, Refusal, locks_at, with_object, Handles, Heap, Object, object_at, is_fixed, after_lock, after_unlock, Table, heap_in, inserted_here, cases_lt, World, LocalObject, IsLocalTable}
+use Rattle.w16_local.proofs.Common.{Becomes, Stays, heap_of, object_named, Leaves, OnNamed, lock_refused, locks_left, near_pointer, LocalLock, LocalUnlock, tables_of, AreListed, Calls, IsNamed, alone, with_parts, Stepped, Turns, answer_of, outcome}
 use Rattle.std.specs.FinMap as finmap
 use Rattle.w16_model.specs.declared.Refusal.TheVariants as refusals
 use Rattle.w16_local.proofs.Choices.{is_named}

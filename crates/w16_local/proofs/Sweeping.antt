@@ -1,5 +1,6 @@
 -- Heaps that go with the bytes of their segments, listed slot by listed slot.
-use Rattle.w16_local.proofs.Common.{◌≡◌, ◌≢◌, ℕ, ◌+◌, ◌-◌, ◌*◌, ◌<◌, ◌≤◌, inl, inr, Bool, true, false, cond, nat_le, IsSomeAnd, List, length, get_or, Option, Some, None, option_map, is_some, refl, sym, ap, ◌∙◌, subst, arith, nat_cmp_total, nat_cmp, FinMap, same_map, nat_cmp-IsAntisymmetric, get-retain_keys, cases_Bool, cases_eq, false≢true, Handles, AreHandles, numbered, slot_of_selector, Heap, Object, bytes_at, object_at, Table, has_range, left_in, AreListed, IsListed, tables_of, AreSwept}
+use Rattle.w16_local.proofs.Common.{◌≡◌, ◌≢◌, ℕ, ◌+◌, ◌-◌, ◌*◌, ◌<◌, ◌≤◌, inl, inr, Bool, true, false, cond, nat_le, IsSomeAnd, List, length, get_or, Option, Some, None, option_map, is_some, refl, sym, ap, ◌∙◌, subst, arith, nat_cmp_total, nat_cmp, FinMap, same_map}
+use Rattle.w16_local.proofs.Common.{nat_cmp-IsAntisymmetric, get-retain_keys, cases_Bool, cases_eq, false≢true, Handles, AreHandles, numbered, slot_of_selector, Heap, Object, bytes_at, object_at, Table, has_range, left_in, AreListed, IsListed, tables_of, AreSwept}
 use Rattle.std.specs.FinMap as finmap
 use Rattle.w16_model.proofs.Naming.{names_law}
 use Rattle.w16_local.proofs.Locals.{tables_at}

@@ -1,5 +1,6 @@
 -- Members of ids that are each there once.
-use Rattle.w16_lru.proofs.Common.{list_any, ◌≡◌, ℕ, ◌+◌, ◌<◌, ◌≤◌, Bool, true, false, cond, not, ◌&&◌, ◌||◌, ◌==◌, nat_eq, List, [], ◌∷◌, length, refl, sym, ap, ◌∙◌, subst, arith, eqb-true, eq-eqb, false≢true, true≢false, ne_eqb, Decides-eqb, IsDistinct-from_AllPairs, length-le_from_distinct_below, is_member, without, EachPair, Each-from_All, member_without, Uses, AreUses}
+use Rattle.w16_lru.proofs.Common.{list_any, ◌≡◌, ℕ, ◌+◌, ◌<◌, ◌≤◌, Bool, true, false, cond, not, ◌&&◌, ◌||◌, ◌==◌, nat_eq, List, [], ◌∷◌, length, refl, sym, ap, ◌∙◌, subst, arith, eqb-true, eq-eqb, false≢true}
+use Rattle.w16_lru.proofs.Common.{true≢false, ne_eqb, Decides-eqb, IsDistinct-from_AllPairs, length-le_from_distinct_below, is_member, without, EachPair, Each-from_All, member_without, Uses, AreUses}
 use Rattle.std.specs.List.{AllByRecursion as Each}
 
 left_out : (b m : Bool) (x : ℕ) (xs ys : List ℕ) → (b || m) ≡ false → (m ≡ false → ys ≡ xs) → cond (not b) (x ∷ ys) ys ≡ x ∷ xs

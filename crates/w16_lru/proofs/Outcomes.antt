@@ -1,5 +1,6 @@
 -- What the methods answer and leave, from the ring that is kept.
-use Rattle.w16_lru.proofs.Common.{swap, slice_index, Vec, ◌≡◌, ◌≢◌, ℕ, suc, ◌+◌, ◌-◌, ◌<◌, ◌≤◌, Bool, true, false, ◌⊎◌, inl, inr, drop, get_or, List, [], ◌∷◌, ◌++◌, length, slice_get, Some, None, length-append, refl, sym, ap, ◌∙◌, subst, arith, with_items, get_or_read, with_items_is, length-swap, slice_get_past, is_member, without, EachPair-from_AllPairs, Each-from_All, End, Oldest, Newest, Uses, AreUses, at_end, ids_of, Leads, IsRing, uses_of}
+use Rattle.w16_lru.proofs.Common.{swap, slice_index, Vec, ◌≡◌, ◌≢◌, ℕ, suc, ◌+◌, ◌-◌, ◌<◌, ◌≤◌, Bool, true, false, ◌⊎◌, inl, inr, drop, get_or, List, [], ◌∷◌, ◌++◌, length, slice_get, Some, None, length-append, refl, sym, ap, ◌∙◌, subst}
+use Rattle.w16_lru.proofs.Common.{arith, with_items, get_or_read, with_items_is, length-swap, slice_get_past, is_member, without, EachPair-from_AllPairs, Each-from_All, End, Oldest, Newest, Uses, AreUses, at_end, ids_of, Leads, IsRing, uses_of}
 use Rattle.std.specs.List.{AllByRecursion as Each}
 use Rattle.w16_lru.proofs.Members.{without-absent, fewer, member_below, few}
 use Rattle.w16_lru.proofs.Ways.{follow-leads, length-follow, follow-next, leads-behind, leads-some, leads-no, leads-none, leads-stuck, each_at, each-drop, slice_get-behind}

@@ -1,5 +1,7 @@
 -- Rings of ids in which the links of two numbers are exchanged.
-use Rattle.w16_lru.proofs.Common.{swap, range_with_len, slice_index, ◌≡◌, ◌≢◌, ℕ, ◌+◌, ◌<◌, ◌⊎◌, Bool, true, false, cond, not, ◌&&◌, ◌||◌, ◌==◌, List, [], ◌∷◌, ◌++◌, AllPairs, refl, sym, ap, ◌∙◌, subst, arith, inl, inr, eq-eqb, true≢false, ne_eqb, cases_eq, Swapped, swapped_from_swap, length-swap, All-append, All-cons, All-nil, All-filter, length-range_with_len, get_or-range_with_len, AllPairs-filter, is_member, without, Each-from_All, member_without, newest_differ, oldest_differ, AreUses, Leads, LeadBack, IsRing}
+use Rattle.w16_lru.proofs.Common.{swap, range_with_len, slice_index, ◌≡◌, ◌≢◌, ℕ, ◌+◌, ◌<◌, ◌⊎◌, Bool, true, false, cond, not, ◌&&◌, ◌||◌, ◌==◌, List, [], ◌∷◌, ◌++◌, AllPairs, refl, sym, ap, ◌∙◌}
+use Rattle.w16_lru.proofs.Common.{subst, arith, inl, inr, eq-eqb, true≢false, ne_eqb, cases_eq, Swapped, swapped_from_swap, length-swap, All-append, All-cons, All-nil, All-filter, length-range_with_len}
+use Rattle.w16_lru.proofs.Common.{get_or-range_with_len, AllPairs-filter, is_member, without, Each-from_All, member_without, newest_differ, oldest_differ, AreUses, Leads, LeadBack, IsRing}
 use Rattle.std.specs.List.{AllByRecursion as Each}
 use Rattle.w16_lru.proofs.Members.{without-absent}
 use Rattle.w16_lru.proofs.Ways.{each_other, leads-same, leads-longer, leads-shorter, longer, shorter}

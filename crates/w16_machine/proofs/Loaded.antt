@@ -1,5 +1,6 @@
 -- A step of loading keeps what holds of every world.
-use Rattle.w16_machine.proofs.Common.{◌≡◌, ℕ, inl, inr, ◌⊎◌, Bool, true, false, cond, nat_le, length, IfSome, IsSomeAnd, List, Option, Some, None, is_some, option_map, unwrap_or, refl, sym, ap, ◌∙◌, subst, Owned, Object, bytes_at, object_at, is_code, owned_at, Table, AnyStep, LoadingCommand, IsLoadingCommand, IsLoadingWorld, Reply, owners_law, any_keeps_worlds_law, World, IsLocalIn, segment_bytes, after_loading, IsWorld}
+use Rattle.w16_machine.proofs.Common.{◌≡◌, ℕ, inl, inr, ◌⊎◌, Bool, true, false, cond, nat_le, length, IfSome, IsSomeAnd, List, Option, Some, None, is_some, option_map, unwrap_or, refl, sym, ap, ◌∙◌, subst, Owned, Object, bytes_at}
+use Rattle.w16_machine.proofs.Common.{object_at, is_code, owned_at, Table, AnyStep, LoadingCommand, IsLoadingCommand, IsLoadingWorld, Reply, owners_law, any_keeps_worlds_law, World, IsLocalIn, segment_bytes, after_loading, IsWorld}
 use Rattle.std.specs.FinMap as finmap
 use Rattle.w16_machine.proofs.LocalLeft.{heaps_after, left_is, left_over}
 

@@ -1,5 +1,8 @@
 -- Where a local heap may begin, and that it has no object then.
-use Rattle.w16_machine.proofs.Common.{◌≡◌, ℕ, zero, suc, ◌+◌, ◌*◌, ◌/◌, ◌<◌, ◌≤◌, Bool, true, false, cond, ◌&&◌, nat_le, nat_lt, min, IsTrue, IfSome, IsSomeAnd, List, [], length, get_or, replicate, Option, Some, None, option_map, is_some, refl, sym, ap, ◌∙◌, subst, arith, leb-true, ltb-true, nat_cmp, get-empty, and_parts, le-leb, lt-ltb, length-replicate, Entry, Span, Block, Heap, Object, IsMultiple, object_at, is_fixed, is_code, slot_of_selector, Table, IsSound, IsCountedBy, entry_at, hold_of_entry, is_listed, by_id, heap_in, All-from_Each, AllPairs-from_EachPair, LOCAL_GRAIN, LOCAL_ENTRIES, World, Beginning, IsLocalTable, IsLocalIn, AreNamed, segment_bytes, is_range, range_in, beginning, beginning_in, new_table, selector_or_ds, rounded_up, rounded_down, MayBegin, BeginLaw, NewHeapLaw}
+use Rattle.w16_machine.proofs.Common.{◌≡◌, ℕ, zero, suc, ◌+◌, ◌*◌, ◌/◌, ◌<◌, ◌≤◌, Bool, true, false, cond, ◌&&◌, nat_le, nat_lt, min, IsTrue, IfSome, IsSomeAnd, List, [], length, get_or, replicate, Option, Some, None, option_map}
+use Rattle.w16_machine.proofs.Common.{is_some, refl, sym, ap, ◌∙◌, subst, arith, leb-true, ltb-true, nat_cmp, get-empty, and_parts, le-leb, lt-ltb, length-replicate, Entry, Span, Block, Heap, Object, IsMultiple, object_at}
+use Rattle.w16_machine.proofs.Common.{is_fixed, is_code, slot_of_selector, Table, IsSound, IsCountedBy, entry_at, hold_of_entry, is_listed, by_id, heap_in, All-from_Each, AllPairs-from_EachPair, LOCAL_GRAIN, LOCAL_ENTRIES, World}
+use Rattle.w16_machine.proofs.Common.{Beginning, IsLocalTable, IsLocalIn, AreNamed, segment_bytes, is_range, range_in, beginning, beginning_in, new_table, selector_or_ds, rounded_up, rounded_down, MayBegin, BeginLaw, NewHeapLaw}
 use Rattle.std.specs.FinMap as finmap
 
 -- The range.
@@ -91,7 +94,13 @@ module _ (w : World) (selector start end : ℕ) (b : Beginning) where
   begins : beginning w selector start end ≡ Some b → MayBegin w selector start end b
   begins e = turn (slot_of_selector w.loading.handles (selector_or_ds w selector)) refl e
     where
-      turn : (s : Option ℕ) → slot_of_selector w.loading.handles (selector_or_ds w selector) ≡ s → ◌≡◌ {A = Option Beginning} (elim s [ None ↦ None | Some slot ↦ cond {A = Option Beginning} (is_code w.loading.handles slot) None (beginning_in w start end slot) ]) (Some b) → MayBegin w selector start end b
+      turn : (s : Option ℕ) → slot_of_selector w.loading.handles (selector_or_ds w selector) ≡ s → ◌≡◌
+          {A = Option Beginning} (elim s [
+            | None ↦ None
+            | Some slot ↦ cond {A = Option Beginning}
+                (is_code w.loading.handles slot) None (beginning_in w start end slot)
+          ]) (Some b) → MayBegin w selector start
+          end b
       turn None s e = cc
       turn (Some slot) s e = by_code (is_code w.loading.handles slot) refl e
         where

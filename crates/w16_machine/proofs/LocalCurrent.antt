@@ -1,5 +1,6 @@
 -- What a local call makes of the heap that DS names.
-use Rattle.w16_machine.proofs.Common.{◌≡◌, ℕ, inl, inr, Option, Some, None, refl, sym, ap, ◌∙◌, subst, cases_eq, Heap, Table, heap_in, inserted_other, Reply, Word, Done, World, LocalHeap, segment_bytes, heap_of, local_in, current_heap, new_table, LocalCommand, LocalStep, DS, IsHeap, AreLocalHeaps, asks_for_room, ending, Lengthens, longer, with_longer, true, local_options}
+use Rattle.w16_machine.proofs.Common.{◌≡◌, ℕ, inl, inr, Option, Some, None, refl, sym, ap, ◌∙◌, subst, cases_eq, Heap, Table, heap_in, inserted_other, Reply, Word, Done, World, LocalHeap, segment_bytes}
+use Rattle.w16_machine.proofs.Common.{heap_of, local_in, current_heap, new_table, LocalCommand, LocalStep, DS, IsHeap, AreLocalHeaps, asks_for_room, ending, Lengthens, longer, with_longer, true, local_options}
 use Rattle.std.specs.FinMap as finmap
 use Rattle.w16_machine.proofs.LocalFacts.{IsThere, current_there, there_local, heap_here, acted_there, became_there}
 use Rattle.w16_machine.proofs.LocalBegins.{begin_law}

@@ -1,5 +1,9 @@
 -- What local calls do.
-use Rattle.w16_machine.proofs.Common.{◌≡◌, ℕ, ◌+◌, ◌-◌, ◌<◌, inl, inr, true, false, cond, not, ◌||◌, ◌&&◌, ◌==◌, nat_lt, MatchBool, MatchOption, IfOk, IsSomeAnd, Bool, List, Option, Some, None, Result, Ok, Err, option_map, unwrap_or, is_some, refl, sym, ap, ◌∙◌, subst, arith, ne_eqb, false≢true, Refusal, Kind, Heap, Object, IsHeap, object_at, is_fixed, is_discardable, is_in_order, with_object, with_ordered, with_newest, newest, touched, removed, absent, after_lock, after_unlock, after_free, after_discard, after_modify, has_flag, discard_is, get-update_same, inserted_here, taken_here, bytes_in, Reply, Word, Done, LMEM_MOVEABLE, LMEM_MODIFY, World, LocalHeap, LocalObject, Becomes, Acts, Stays, heap_of, object_named, LocalCommand, Answers, LocalStep, Leaves, GivesUp, OnNamed, ModifiesObject, DiscardsObject, SizesObject, moveable_or_discardable, near_pointer, lock_refused, locks_left, LocalReAlloc, LocalDiscard, LocalFree, LocalLock, LocalUnlock, DS, Left, Ends, IsLocalNamed, LockLaw, UnlockLaw, FreeLaw, ModifyLaw, DiscardLaw, RefusedLaw, discard_is_refused, is_refused, named_by}
+use Rattle.w16_machine.proofs.Common.{◌≡◌, ℕ, ◌+◌, ◌-◌, ◌<◌, inl, inr, true, false, cond, not, ◌||◌, ◌&&◌, ◌==◌, nat_lt, MatchBool, MatchOption, IfOk, IsSomeAnd, Bool, List, Option, Some, None, Result, Ok, Err, option_map, unwrap_or, is_some, refl}
+use Rattle.w16_machine.proofs.Common.{sym, ap, ◌∙◌, subst, arith, ne_eqb, false≢true, Refusal, Kind, Heap, Object, IsHeap, object_at, is_fixed, is_discardable, is_in_order, with_object, with_ordered, with_newest, newest, touched, removed, absent}
+use Rattle.w16_machine.proofs.Common.{after_lock, after_unlock, after_free, after_discard, after_modify, has_flag, discard_is, get-update_same, inserted_here, taken_here, bytes_in, Reply, Word, Done, LMEM_MOVEABLE, LMEM_MODIFY, World, LocalHeap}
+use Rattle.w16_machine.proofs.Common.{LocalObject, Becomes, Acts, Stays, heap_of, object_named, LocalCommand, Answers, LocalStep, Leaves, GivesUp, OnNamed, ModifiesObject, DiscardsObject, SizesObject, moveable_or_discardable, near_pointer, lock_refused}
+use Rattle.w16_machine.proofs.Common.{locks_left, LocalReAlloc, LocalDiscard, LocalFree, LocalLock, LocalUnlock, DS, Left, Ends, IsLocalNamed, LockLaw, UnlockLaw, FreeLaw, ModifyLaw, DiscardLaw, RefusedLaw, discard_is_refused, is_refused, named_by}
 use Rattle.std.specs.FinMap as finmap
 use Rattle.w16_model.specs.declared.Refusal.TheVariants as refusals
 use Rattle.w16_model.proofs.Absence.{answer as discard_answer}

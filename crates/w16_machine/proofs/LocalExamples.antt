@@ -1,5 +1,6 @@
 -- Local heaps worked out by hand: where they may begin, names, flags, and the room of small heaps.
-use Rattle.w16_machine.proofs.Common.{◌≡◌, ℕ, true, false, [], ◌∷◌, Some, None, refl, Block, Hold, Pinned, Loose, Kind, Fixed, Moveable, Discardable, Snapshot, snapshot, needed, fits_in_place, prefix_for, growth_for, room, Heap, Object, range_in, rounded_up, name_of, local_kind, local_options, local_flags_of, lock_refused, is_absent_asked, moveable_or_discardable, growth_flags}
+use Rattle.w16_machine.proofs.Common.{◌≡◌, ℕ, true, false, [], ◌∷◌, Some, None, refl, Block, Hold, Pinned, Loose, Kind, Fixed, Moveable, Discardable, Snapshot, snapshot, needed, fits_in_place, prefix_for}
+use Rattle.w16_machine.proofs.Common.{growth_for, room, Heap, Object, range_in, rounded_up, name_of, local_kind, local_options, local_flags_of, lock_refused, is_absent_asked, moveable_or_discardable, growth_flags}
 use Rattle.std.specs.FinMap as finmap
 use Rattle.w16_model.specs.declared.Refusal.TheVariants as refusals
 

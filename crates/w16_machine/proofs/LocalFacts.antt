@@ -1,5 +1,7 @@
 -- What is known of the local heap that DS names, and of the worlds that a local call leaves.
-use Rattle.w16_machine.proofs.Common.{◌≡◌, ◌≢◌, ℕ, ◌<◌, ◌≤◌, Bool, true, false, cond, nat_le, leb-true, List, length, All, Option, Some, None, IfSome, IsSomeAnd, option_map, refl, sym, ap, ◌∙◌, subst, arith, put_part, Heap, Object, IsHeap, object_at, bytes_at, after_write, slot_of_selector, Table, le-leb, take_all, length-put_part, part-put_part, sound_law, get-update_same, get-update_other, bytes_in, inserted_here, World, LocalHeap, LocalObject, AreLocalHeaps, IsLocalIn, Becomes, Acts, segment_bytes, heap_of, local_of, local_in, current_heap, object_named, id_named}
+use Rattle.w16_machine.proofs.Common.{◌≡◌, ◌≢◌, ℕ, ◌<◌, ◌≤◌, Bool, true, false, cond, nat_le, leb-true, List, length, All, Option, Some, None, IfSome, IsSomeAnd, option_map, refl, sym, ap, ◌∙◌, subst, arith, put_part}
+use Rattle.w16_machine.proofs.Common.{Heap, Object, IsHeap, object_at, bytes_at, after_write, slot_of_selector, Table, le-leb, take_all, length-put_part, part-put_part, sound_law, get-update_same, get-update_other}
+use Rattle.w16_machine.proofs.Common.{bytes_in, inserted_here, World, LocalHeap, LocalObject, AreLocalHeaps, IsLocalIn, Becomes, Acts, segment_bytes, heap_of, local_of, local_in, current_heap, object_named, id_named}
 use Rattle.std.specs.FinMap as finmap
 
 -- A local heap is there: its table, and its segment's bytes, which have its range.

@@ -1,5 +1,9 @@
 -- A far access leaves each local heap but for bytes of its objects.
-use Rattle.w16_machine.proofs.Common.{◌≡◌, ℕ, Bool, true, false, ◌+◌, ◌≤◌, ◌<◌, inl, inr, cond, IsSomeAnd, List, length, slice_range, Option, Some, None, option_map, refl, sym, ap, ◌∙◌, subst, arith, nat_cmp_total, same_map, nat_cmp-IsAntisymmetric, cases_eq, le-leb, Block, Entry, FarFault, ReadOnly, refuses_write, part, put_part, repeated, block_end, Object, object_at, after_touch, Handles, selector_in, offset_in, FarCommand, FarAnswer, FarStep, far_fault, far_slot, far_at, far_bytes, data_write, after_write, Read, Write, Fill, Bytes, Fault, Table, IsTable, heap_in, object_in, block_with, entry_at, Reached, reached, Each-at, Member, get-update_same, get-update_other, bytes_in, laid_each, length-put_part, object_is, member_with, length_range, far_answer_in, World, LocalHeap, AreLocalHeaps, IsLocalIn, segment_bytes, heap_of, after_loading, HasSameObjects, FarLaw, but_bytes, HasSameSizes, size_at}
+use Rattle.w16_machine.proofs.Common.{◌≡◌, ℕ, Bool, true, false, ◌+◌, ◌≤◌, ◌<◌, inl, inr, cond, IsSomeAnd, List, length, slice_range, Option, Some, None, option_map, refl, sym, ap, ◌∙◌, subst, arith, nat_cmp_total, same_map, nat_cmp-IsAntisymmetric}
+use Rattle.w16_machine.proofs.Common.{cases_eq, le-leb, Block, Entry, FarFault, ReadOnly, refuses_write, part, put_part, repeated, block_end, Object, object_at, after_touch, Handles, selector_in, offset_in, FarCommand, FarAnswer, FarStep, far_fault}
+use Rattle.w16_machine.proofs.Common.{far_slot, far_at, far_bytes, data_write, after_write, Read, Write, Fill, Bytes, Fault, Table, IsTable, heap_in, object_in, block_with, entry_at, Reached, reached, Each-at, Member, get-update_same, get-update_other}
+use Rattle.w16_machine.proofs.Common.{bytes_in, laid_each, length-put_part, object_is, member_with, length_range, far_answer_in, World, LocalHeap, AreLocalHeaps, IsLocalIn, segment_bytes, heap_of, after_loading, HasSameObjects, FarLaw, but_bytes, HasSameSizes}
+use Rattle.w16_machine.proofs.Common.{size_at}
 use Rattle.std.specs.FinMap as finmap
 use Rattle.w16_model.specs.Far.{far_read, far_write}
 use Rattle.w16_model.specs.Far.FarAnswer.{Done}

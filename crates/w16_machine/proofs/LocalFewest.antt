@@ -1,5 +1,10 @@
 -- Local calls for room discard as few as they can, as each heap's requests do.
-use Rattle.w16_machine.proofs.Common.{◌≡◌, ◌≢◌, ℕ, ◌+◌, ◌*◌, ◌<◌, ◌≤◌, ◌⊎◌, inl, inr, Bool, true, false, cond, ◌&&◌, ◌==◌, MatchBool, MatchOption, IsSomeAnd, Option, Some, None, refl, sym, ap, ◌∙◌, subst, arith, ne_eqb, false≢true, Block, block_end, Heap, Object, IsHeap, blocks, object_at, size_of, is_fixed, MakesRoom, most_room, has_flag, AllocatesFewest, CompactsFewest, LacksRoom, LacksPlace, ReallocatesFewest, allocation_law, compaction_law, lacking, Each-at, Each-from_All, IsBlockOf, block_member, fewest_law, LMEM_MOVEABLE, LMEM_MODIFY, World, LocalHeap, AreLocalHeaps, Becomes, Acts, Stays, heap_of, local_in, current_heap, name_of, name_at, rounded_up, EntersObject, AllocatesObject, ResizesObject, AllocatesIn, CompactsIn, ModifiesObject, DiscardsObject, SizesObject, IsRefusedAlloc, IsEmptyFixed, HasNoEntry, is_absent_asked, local_kind, local_options, LocalAlloc, LocalReAlloc, Left, AllocFewest, ReallocFewest, AllocLaw, ReallocLaw, CompactLaw, is_some, RoomOptions, ending, is_answered, HasNoRoom, Grows, Lengthens, longer, with_longer, AllocatedFewest, ReallocatedFewest, LacksBytes, LacksGrowth, LocalObject, KeepsRest}
+use Rattle.w16_machine.proofs.Common.{◌≡◌, ◌≢◌, ℕ, ◌+◌, ◌*◌, ◌<◌, ◌≤◌, ◌⊎◌, inl, inr, Bool, true, false, cond, ◌&&◌, ◌==◌, MatchBool, MatchOption, IsSomeAnd, Option, Some, None, refl, sym, ap, ◌∙◌, subst, arith, ne_eqb, false≢true, Block, block_end, Heap}
+use Rattle.w16_machine.proofs.Common.{Object, IsHeap, blocks, object_at, size_of, is_fixed, MakesRoom, most_room, has_flag, AllocatesFewest, CompactsFewest, LacksRoom, LacksPlace, ReallocatesFewest, allocation_law, compaction_law, lacking, Each-at, Each-from_All}
+use Rattle.w16_machine.proofs.Common.{IsBlockOf, block_member, fewest_law, LMEM_MOVEABLE, LMEM_MODIFY, World, LocalHeap, AreLocalHeaps, Becomes, Acts, Stays, heap_of, local_in, current_heap, name_of, name_at, rounded_up, EntersObject, AllocatesObject}
+use Rattle.w16_machine.proofs.Common.{ResizesObject, AllocatesIn, CompactsIn, ModifiesObject, DiscardsObject, SizesObject, IsRefusedAlloc, IsEmptyFixed, HasNoEntry, is_absent_asked, local_kind, local_options, LocalAlloc, LocalReAlloc, Left, AllocFewest}
+use Rattle.w16_machine.proofs.Common.{ReallocFewest, AllocLaw, ReallocLaw, CompactLaw, is_some, RoomOptions, ending, is_answered, HasNoRoom, Grows, Lengthens, longer, with_longer, AllocatedFewest, ReallocatedFewest, LacksBytes, LacksGrowth, LocalObject}
+use Rattle.w16_machine.proofs.Common.{KeepsRest}
 use Rattle.std.specs.FinMap as finmap
 use Rattle.w16_model.specs.Request.{Reallocates, ReallocatesObject}
 use Rattle.w16_machine.proofs.LocalFacts.{IsThere, current_there, named_there, there_local, heap_here, acted_there, became_there}
@@ -224,7 +229,11 @@ module _ (old : World) (is : AreLocalHeaps old) (o : LocalObject) (c : current_h
 
 pub local_realloc_law : ReallocLaw
 local_realloc_law old new name size flags answer o is step named unmodified some =
-    turn (has_flag flags LMEM_MODIFY) unmodified (size == 0) (ne_eqb size 0 (λ e. absurd (omega (arith, e, some)))) (subst (λ p. MatchOption p (Stays old 0 answer new) (λ o. MatchBool (has_flag flags LMEM_MODIFY) (ModifiesObject old name flags answer new o) (MatchBool (size == 0) (DiscardsObject old name flags answer new o) (SizesObject old size flags answer new o)))) named step)
+    turn (has_flag flags LMEM_MODIFY) unmodified (size == 0) (ne_eqb size 0 (λ e. absurd (omega (arith, e, some))))
+    (subst (λ p. MatchOption p (Stays old 0 answer new)
+    (λ o. MatchBool (has_flag flags LMEM_MODIFY) (ModifiesObject old name flags answer new o)
+    (MatchBool (size == 0) (DiscardsObject old name flags answer new o) (SizesObject old size flags answer new o))))
+    named step)
   where
     c : current_heap old ≡ Some o.heap
     c = (named_there old name o named).0

@@ -1,5 +1,9 @@
 -- A heap grows no farther than it must, and doesn't only where no growth would do.
-use Rattle.w16_machine.proofs.Common.{◌≡◌, ℕ, zero, suc, ◌*◌, ◌<◌, ◌≤◌, ◌⊎◌, ◌&&◌, ◌||◌, inl, inr, Bool, true, false, cond, not, nat_le, nat_lt, MatchBool, MatchOption, IsSomeAnd, List, length, take, Handles, Option, Some, None, is_some, refl, sym, ap, ◌∙◌, subst, arith, cases_eq, cases_Bool, false≢true, lt-ltb, ltb-true, Block, block_end, RoomOptions, Heap, Object, IsHeap, IsMultiple, blocks, bytes_in, object_at, size_of, is_pinned_object, with_newest, with_object, discards_needed, none_about, fits_in_place, growth_for, Allocates, IsNew, LacksRoom, LacksPlace, ReallocatesFewest, fewest_law, lacking, resize_fewest_law, ending, is_answered, is_resized, All-from_Each, Each-from_All, World, LocalHeap, AreLocalHeaps, heap_of, IsGrowth, IsLongerSize, Lengthens, StaysShort, growth_flags, GrowsFewest, IsRefusedSize, LacksBytes, LacksGrowth, KeepsRest, longer, with_longer}
+use Rattle.w16_machine.proofs.Common.{◌≡◌, ℕ, zero, suc, ◌*◌, ◌<◌, ◌≤◌, ◌⊎◌, ◌&&◌, ◌||◌, inl, inr, Bool, true, false, cond, not, nat_le, nat_lt, MatchBool, MatchOption, IsSomeAnd, List, length, take, Handles, Option, Some, None, is_some, refl, sym}
+use Rattle.w16_machine.proofs.Common.{ap, ◌∙◌, subst, arith, cases_eq, cases_Bool, false≢true, lt-ltb, ltb-true, Block, block_end, RoomOptions, Heap, Object, IsHeap, IsMultiple, blocks, bytes_in, object_at, size_of, is_pinned_object, with_newest}
+use Rattle.w16_machine.proofs.Common.{with_object, discards_needed, none_about, fits_in_place, growth_for, Allocates, IsNew, LacksRoom, LacksPlace, ReallocatesFewest, fewest_law, lacking, resize_fewest_law, ending, is_answered, is_resized}
+use Rattle.w16_machine.proofs.Common.{All-from_Each, Each-from_All, World, LocalHeap, AreLocalHeaps, heap_of, IsGrowth, IsLongerSize, Lengthens, StaysShort, growth_flags, GrowsFewest, IsRefusedSize, LacksBytes, LacksGrowth, KeepsRest, longer}
+use Rattle.w16_machine.proofs.Common.{with_longer}
 use Rattle.std.proofs.lemmas.Bool.{cases_lt}
 use Rattle.w16_model.specs.declared.TheConstants.{GRAIN}
 use Rattle.w16_model.specs.Ends.{is_grown}

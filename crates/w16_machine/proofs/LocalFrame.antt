@@ -1,5 +1,6 @@
 -- What a local call leaves of the world.
-use Rattle.w16_machine.proofs.Common.{◌≡◌, ℕ, inl, inr, Some, IsSomeAnd, refl, sym, ap, ◌∙◌, subst, cases_eq, Heap, Object, object_at, Table, inserted_here, inserted_other, Word, Done, World, LocalHeap, Acts, heap_of, current_heap, new_table, with_local, LocalCommand, DS, is_code, MayBegin, IsRewritten, IsObjectKept, IsHeapKept, KeepsRest, FrameLaw, ◌⊎◌, Option, None, AreLocalHeaps, KeepsRestLonger, Lengthens, longer, with_longer, local_options}
+use Rattle.w16_machine.proofs.Common.{◌≡◌, ℕ, inl, inr, Some, IsSomeAnd, refl, sym, ap, ◌∙◌, subst, cases_eq, Heap, Object, object_at, Table, inserted_here, inserted_other, Word, Done, World, LocalHeap, Acts, heap_of, current_heap, new_table}
+use Rattle.w16_machine.proofs.Common.{with_local, LocalCommand, DS, is_code, MayBegin, IsRewritten, IsObjectKept, IsHeapKept, KeepsRest, FrameLaw, ◌⊎◌, Option, None, AreLocalHeaps, KeepsRestLonger, Lengthens, longer, with_longer, local_options}
 use Rattle.std.specs.FinMap as finmap
 use Rattle.w16_machine.proofs.LocalFacts.{IsThere, current_there, object_of, segment_after, segment_other}
 use Rattle.w16_machine.proofs.LocalBegins.{begin_law}

@@ -1,5 +1,6 @@
 -- Local heaps go with their segments, and don't come back.
-use Rattle.w16_machine.proofs.Common.{◌≡◌, ℕ, ◌≤◌, ◌⊎◌, inl, inr, Bool, true, false, cond, nat_le, List, [], ◌∷◌, length, Option, Some, None, IsSomeAnd, refl, sym, ap, ◌∙◌, subst, leb-true, cases_eq, le-leb, bytes_at, Table, Each-from_All, inserted_here, inserted_other, Word, Done, World, LocalHeap, current_heap, new_table, LocalCommand, DS, Event, Step, Run, OfLoading, OfLocals, IsBegun, BeginsNone, GoesLaw, NeverBackLaw, GoneLaw, ◌≢◌, Handles, left_in, longer}
+use Rattle.w16_machine.proofs.Common.{◌≡◌, ℕ, ◌≤◌, ◌⊎◌, inl, inr, Bool, true, false, cond, nat_le, List, [], ◌∷◌, length, Option, Some, None, IsSomeAnd, refl, sym, ap, ◌∙◌, subst, leb-true, cases_eq, le-leb, bytes_at, Table, Each-from_All, inserted_here}
+use Rattle.w16_machine.proofs.Common.{inserted_other, Word, Done, World, LocalHeap, current_heap, new_table, LocalCommand, DS, Event, Step, Run, OfLoading, OfLocals, IsBegun, BeginsNone, GoesLaw, NeverBackLaw, GoneLaw, ◌≢◌, Handles, left_in, longer}
 use Rattle.std.specs.List.{AllByRecursion as Each}
 use Rattle.std.specs.FinMap as finmap
 use Rattle.w16_machine.proofs.LocalFacts.{current_there}

@@ -1,5 +1,7 @@
 -- A local heap that has grown with its segment: what both are then, and the world with them.
-use Rattle.w16_machine.proofs.Common.{◌≡◌, ℕ, ◌+◌, ◌/◌, ◌≤◌, ◌==◌, inl, inr, Bool, true, false, cond, IsSomeAnd, List, [], ◌∷◌, length, take, Option, Some, None, unwrap_or, refl, sym, ap, ◌∙◌, subst, arith, cases_eq, take_all, Object, AreResized, bytes_at, object_at, ending, Handles, AreHandles, slot_of_selector, Table, IsSound, has_flag, inserted_here, inserted_other, World, LocalHeap, AreLocalHeaps, IsLocalIn, IsLocalTable, heap_of, left_in, local_in, current_heap, IsLongerSize, Lengthens, growth_flags, longer, with_longer, LAST_LOCAL_END, ◌≢◌, bytes_in}
+use Rattle.w16_machine.proofs.Common.{◌≡◌, ℕ, ◌+◌, ◌/◌, ◌≤◌, ◌==◌, inl, inr, Bool, true, false, cond, IsSomeAnd, List, [], ◌∷◌, length, take, Option, Some, None, unwrap_or, refl, sym, ap, ◌∙◌, subst, arith, cases_eq}
+use Rattle.w16_machine.proofs.Common.{take_all, Object, AreResized, bytes_at, object_at, ending, Handles, AreHandles, slot_of_selector, Table, IsSound, has_flag, inserted_here, inserted_other, World, LocalHeap}
+use Rattle.w16_machine.proofs.Common.{AreLocalHeaps, IsLocalIn, IsLocalTable, heap_of, left_in, local_in, current_heap, IsLongerSize, Lengthens, growth_flags, longer, with_longer, LAST_LOCAL_END, ◌≢◌, bytes_in}
 use Rattle.std.specs.Prelude.{drop}
 use Rattle.std.proofs.Common.{take-take}
 use Rattle.std.proofs.lemmas.List.{drop_all}

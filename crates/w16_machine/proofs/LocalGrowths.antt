@@ -1,5 +1,6 @@
 -- The growth of a local heap is a step of loading, but for the number of bytes moved and for the heap's end; so it keeps what holds of every world.
-use Rattle.w16_machine.proofs.Common.{◌≡◌, ℕ, inl, inr, false, length, Option, Some, None, IfSome, refl, sym, ap, ◌∙◌, subst, cond, le-leb, cases_eq, bytes_at, Table, inserted_here, inserted_other, is_code, AnyStep, Format, IsOfFiles, OfResizes, GlobalReAlloc, Word, world_stays, code_law, World, IsWorld, LocalHeap, RoomOptions, Step, OfLoading, after_loading, left_in, with_handles, IsLongerSize, Lengthens, growth_flags, longer, with_longer, arith}
+use Rattle.w16_machine.proofs.Common.{◌≡◌, ℕ, inl, inr, false, length, Option, Some, None, IfSome, refl, sym, ap, ◌∙◌, subst, cond, le-leb, cases_eq, bytes_at, Table, inserted_here, inserted_other, is_code, AnyStep, Format, IsOfFiles, OfResizes}
+use Rattle.w16_machine.proofs.Common.{GlobalReAlloc, Word, world_stays, code_law, World, IsWorld, LocalHeap, RoomOptions, Step, OfLoading, after_loading, left_in, with_handles, IsLongerSize, Lengthens, growth_flags, longer, with_longer, arith}
 use Rattle.std.specs.FinMap as finmap
 use Rattle.w16_machine.proofs.Loaded.{loading_world_kept}
 use Rattle.w16_machine.proofs.LocalFacts.{IsThere}

@@ -1,5 +1,6 @@
 -- Local heaps that go where a step leaves their segments without their ranges.
-use Rattle.w16_machine.proofs.Common.{◌≡◌, ℕ, ◌≤◌, Bool, true, false, cond, nat_le, IfSome, IsSomeAnd, List, length, Option, Some, None, refl, sym, ap, ◌∙◌, subst, leb-true, nat_cmp, FinMap, get-retain_keys, nat_cmp-IsAntisymmetric, Heap, bytes_at, AreHandles, Table, World, AreLocalHeaps, IsLocalIn, segment_bytes, has_range, left_in, after_loading}
+use Rattle.w16_machine.proofs.Common.{◌≡◌, ℕ, ◌≤◌, Bool, true, false, cond, nat_le, IfSome, IsSomeAnd, List, length, Option, Some, None, refl, sym, ap, ◌∙◌, subst, leb-true, nat_cmp, FinMap}
+use Rattle.w16_machine.proofs.Common.{get-retain_keys, nat_cmp-IsAntisymmetric, Heap, bytes_at, AreHandles, Table, World, AreLocalHeaps, IsLocalIn, segment_bytes, has_range, left_in, after_loading}
 use Rattle.std.specs.FinMap as finmap
 use Rattle.w16_machine.proofs.LocalNamed.{named_in}
 
@@ -25,7 +26,14 @@ left_is heap tables slot =
 
 -- a step of another family
 pub heaps_after : (old new : World) → AreLocalHeaps old → AreHandles new.loading.handles → new ≡ after_loading old new.loading → AreLocalHeaps new
-heaps_after old new is handles rest = subst AreLocalHeaps (sym rest) (record { handles = handles; heaps = λ slot. subst (λ t. IsLocalAt t (bytes_at new.loading.handles.heap slot)) (sym (left_is new.loading.handles.heap old.heaps slot)) (turn (finmap.get old.heaps slot) (segment_bytes old slot) (bytes_at new.loading.handles.heap slot) (is.heaps slot)) })
+heaps_after old new is handles rest = subst AreLocalHeaps (sym rest)
+    (record {
+      handles = handles;
+      heaps = λ slot. subst (λ t. IsLocalAt t (bytes_at new.loading.handles.heap slot))
+          (sym (left_is new.loading.handles.heap old.heaps slot))
+          (turn (finmap.get old.heaps slot) (segment_bytes old slot) (bytes_at new.loading.handles.heap slot)
+          (is.heaps slot));
+    })
   where
     inside : (t : Table) (before after : List ℕ) → IsLocalIn t before → (b : Bool) → nat_le t.hi (length after) ≡ b → IsLocalAt (cond b (Some t) None) (Some after)
     inside t before after h true e = let le : t.hi ≤ length after = leb-true t.hi (length after) e in (h.0, le, named_in t h.0.sound.table before after h.1 le h.2)

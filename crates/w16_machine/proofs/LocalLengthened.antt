@@ -1,5 +1,6 @@
 -- What the reallocation of a segment leaves of the order of use, and of attributes, where one slot is enough.
-use Rattle.w16_machine.proofs.Common.{◌≡◌, ◌≢◌, ℕ, ◌<◌, ◌≤◌, ◌==◌, inl, inr, Bool, true, false, cond, nat_lt, MatchBool, IsSomeAnd, IfSome, List, [], ◌∷◌, length, take, is_some, option_map, unwrap_or, Option, Some, None, refl, sym, ap, ◌∙◌, subst, arith, cases_eq, eq-eqb, false≢true, Discardable, Heap, Object, bytes_at, bytes_in, object_at, blocks, eligible, is_member, Handles, AreHandles, OnlyLeave, FinMap, nat_cmp, not, ◌&&◌, is_discardable, taken_other, inserted_here, inserted_other, has_flag}
+use Rattle.w16_machine.proofs.Common.{◌≡◌, ◌≢◌, ℕ, ◌<◌, ◌≤◌, ◌==◌, inl, inr, Bool, true, false, cond, nat_lt, MatchBool, IsSomeAnd, IfSome, List, [], ◌∷◌, length, take, is_some, option_map, unwrap_or, Option, Some, None, refl, sym, ap, ◌∙◌, subst, arith, cases_eq, eq-eqb}
+use Rattle.w16_machine.proofs.Common.{false≢true, Discardable, Heap, Object, bytes_at, bytes_in, object_at, blocks, eligible, is_member, Handles, AreHandles, OnlyLeave, FinMap, nat_cmp, not, ◌&&◌, is_discardable, taken_other, inserted_here, inserted_other, has_flag}
 use Rattle.std.specs.FinMap as finmap
 use Rattle.std.specs.Prelude.{◌++◌}
 use Rattle.w16_model.specs.declared.Attributes.{Attributes}

@@ -1,5 +1,7 @@
 -- What a growth leaves of the world.
-use Rattle.w16_machine.proofs.Common.{◌≡◌, ◌≢◌, ℕ, ◌<◌, ◌≤◌, ◌⊎◌, inl, inr, Bool, true, false, cond, false≢true, nat_cmp, FinMap, IfSome, Discardable, RoomOptions, LocalCommand, List, length, take, Option, Some, None, IsSomeAnd, is_some, refl, sym, ap, ◌∙◌, subst, arith, cases_eq, Object, bytes_at, object_at, bytes_in, Handles, Table, IsSameOutside, inserted_here, inserted_other, World, LocalHeap, AreLocalHeaps, current_heap, left_in, GrowthLaw, IsHeapKept, IsHeapLeft, IsLeftByGrowth, IsLengthened, IsObjectKept, IsRewritten, KeepsRestLonger, LeavesLonger, Lengthens, growth_flags, longer, with_longer, OnlyLeave, local_options, segment_bytes}
+use Rattle.w16_machine.proofs.Common.{◌≡◌, ◌≢◌, ℕ, ◌<◌, ◌≤◌, ◌⊎◌, inl, inr, Bool, true, false, cond, false≢true, nat_cmp, FinMap, IfSome, Discardable, RoomOptions, LocalCommand, List, length, take, Option, Some, None, IsSomeAnd, is_some}
+use Rattle.w16_machine.proofs.Common.{refl, sym, ap, ◌∙◌, subst, arith, cases_eq, Object, bytes_at, object_at, bytes_in, Handles, Table, IsSameOutside, inserted_here, inserted_other, World, LocalHeap, AreLocalHeaps, current_heap, left_in}
+use Rattle.w16_machine.proofs.Common.{GrowthLaw, IsHeapKept, IsHeapLeft, IsLeftByGrowth, IsLengthened, IsObjectKept, IsRewritten, KeepsRestLonger, LeavesLonger, Lengthens, growth_flags, longer, with_longer, OnlyLeave, local_options, segment_bytes}
 use Rattle.std.specs.FinMap as finmap
 use Rattle.std.proofs.Common.{take-take}
 use Rattle.w16_model.specs.declared.TheConstants.{GMEM_NODISCARD}

@@ -1,5 +1,8 @@
 -- A local call leaves modules alone, and the bytes of code.
-use Rattle.w16_machine.proofs.Common.{◌≡◌, ℕ, inl, inr, true, false, List, length, Option, Some, None, IfSome, IsSomeAnd, refl, sym, ap, ◌∙◌, subst, false≢true, Kind, Object, object_at, Handles, owned_at, Table, IsSameOutside, Format, LoadingWorld, module_at, IsLoadingWorld, IsOfFiles, Reply, KeepsBytes, same_object, KeepsCode, code_kept, as_it_was, same_source, IsOwned, world_stays, World, LocalHeap, AreLocalHeaps, current_heap, LocalCommand, LocalStep, IsRewritten, IsObjectKept, IsHeapKept, KeepsRest, IsWorld, ◌⊎◌, KeepsRestLonger, longer, with_longer, local_options}
+use Rattle.w16_machine.proofs.Common.{◌≡◌, ℕ, inl, inr, true, false, List, length, Option, Some, None, IfSome, IsSomeAnd, refl, sym, ap, ◌∙◌, subst, false≢true, Kind, Object, object_at, Handles, owned_at, Table}
+use Rattle.w16_machine.proofs.Common.{IsSameOutside, Format, LoadingWorld, module_at, IsLoadingWorld, IsOfFiles, Reply, KeepsBytes, same_object, KeepsCode, code_kept, as_it_was, same_source, IsOwned, world_stays}
+use Rattle.w16_machine.proofs.Common.{World, LocalHeap, AreLocalHeaps, current_heap, LocalCommand, LocalStep, IsRewritten, IsObjectKept, IsHeapKept, KeepsRest, IsWorld, ◌⊎◌, KeepsRestLonger, longer, with_longer}
+use Rattle.w16_machine.proofs.Common.{local_options}
 use Rattle.std.specs.FinMap as finmap
 use Rattle.w16_model.specs.Owned.{is_code as owned_code}
 use Rattle.w16_machine.proofs.LocalFacts.{IsThere, current_there}

@@ -1,5 +1,9 @@
 -- Steps of a local heap leave each fixed object its bytes.
-use Rattle.w16_machine.proofs.Common.{◌≡◌, ◌≢◌, ℕ, ◌+◌, ◌-◌, ◌≤◌, inl, inr, Bool, true, false, cond, not, ◌&&◌, ◌||◌, ◌==◌, nat_lt, IfOk, IfSome, IsSomeAnd, List, [], length, take, slice_range, Option, Some, None, Result, Ok, Err, option_map, is_some, unwrap_or, refl, sym, ap, ◌∙◌, subst, false≢true, cases_Bool, cases_eq, and_parts, Block, Entry, Kind, Fixed, Moveable, Discardable, Refusal, RoomOptions, eligible, is_member, Heap, Object, IsHeap, blocks, object_at, is_fixed, is_discardable, with_object, with_ordered, with_newest, removed, absent, touched, after_lock, after_unlock, after_free, after_discard, after_modify, Allocates, MakesRoom, AreNew, IsNew, Settles, Asked, compaction_prefix, discarded, discards_needed, stays_for, KeepsOthers, IsResized, AreResized, Table, IsTable, heap_in, object_in, block_with, entry_at, get-update_same, get-update_other, inserted_here, inserted_other, taken_here, taken_other, rest_law, others_law, asked, object_is, has_flag, LMEM_MOVEABLE, LMEM_DISCARDABLE, AreNamed, rounded_up, LocalCommand, ResizesObject, is_absent_asked, local_kind, local_options, moveable_or_discardable}
+use Rattle.w16_machine.proofs.Common.{◌≡◌, ◌≢◌, ℕ, ◌+◌, ◌-◌, ◌≤◌, inl, inr, Bool, true, false, cond, not, ◌&&◌, ◌||◌, ◌==◌, nat_lt, IfOk, IfSome, IsSomeAnd, List, [], length, take, slice_range, Option, Some, None, Result, Ok, Err, option_map, is_some}
+use Rattle.w16_machine.proofs.Common.{unwrap_or, refl, sym, ap, ◌∙◌, subst, false≢true, cases_Bool, cases_eq, and_parts, Block, Entry, Kind, Fixed, Moveable, Discardable, Refusal, RoomOptions, eligible, is_member, Heap, Object, IsHeap, blocks, object_at}
+use Rattle.w16_machine.proofs.Common.{is_fixed, is_discardable, with_object, with_ordered, with_newest, removed, absent, touched, after_lock, after_unlock, after_free, after_discard, after_modify, Allocates, MakesRoom, AreNew, IsNew, Settles, Asked}
+use Rattle.w16_machine.proofs.Common.{compaction_prefix, discarded, discards_needed, stays_for, KeepsOthers, IsResized, AreResized, Table, IsTable, heap_in, object_in, block_with, entry_at, get-update_same, get-update_other, inserted_here, inserted_other}
+use Rattle.w16_machine.proofs.Common.{taken_here, taken_other, rest_law, others_law, asked, object_is, has_flag, LMEM_MOVEABLE, LMEM_DISCARDABLE, AreNamed, rounded_up, LocalCommand, ResizesObject, is_absent_asked, local_kind, local_options, moveable_or_discardable}
 use Rattle.std.specs.FinMap as finmap
 use Rattle.w16_model.specs.declared.Refusal.TheVariants as refusals
 use Rattle.w16_model.specs.Reallocation.{KeepsRest}

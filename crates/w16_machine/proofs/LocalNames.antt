@@ -1,5 +1,7 @@
 -- One name, one object; and one object begins at a near pointer.
-use Rattle.w16_machine.proofs.Common.{◌≡◌, ℕ, ◌+◌, ◌*◌, ◌<◌, ◌≤◌, inl, inr, Bool, true, false, cond, ◌==◌, List, [], ◌∷◌, length, find, Option, Some, None, option_map, unwrap_or, is_some, IfSome, refl, sym, ap, ◌∙◌, subst, arith, eqb-true, eq-eqb, nat_cmp, FinMap, entries_sorted, get-entries, false≢true, cases_Bool, cases_eq, Block, Misses, block_end, Heap, Object, IsHeap, blocks, object_at, is_fixed, hold_of_object, Member, Each-at, Each-from_All, IsBlockOf, block_member, member_block, found_member, member_found, keys_rise, bytes_in, two_placed, same_id, LOCAL_GRAIN, name_of, name_at, is_name, id_named, id_at, NamesLaw, NamedLaw}
+use Rattle.w16_machine.proofs.Common.{◌≡◌, ℕ, ◌+◌, ◌*◌, ◌<◌, ◌≤◌, inl, inr, Bool, true, false, cond, ◌==◌, List, [], ◌∷◌, length, find, Option, Some, None, option_map, unwrap_or, is_some, IfSome, refl, sym, ap, ◌∙◌, subst, arith, eqb-true}
+use Rattle.w16_machine.proofs.Common.{eq-eqb, nat_cmp, FinMap, entries_sorted, get-entries, false≢true, cases_Bool, cases_eq, Block, Misses, block_end, Heap, Object, IsHeap, blocks, object_at, is_fixed, hold_of_object, Member, Each-at}
+use Rattle.w16_machine.proofs.Common.{Each-from_All, IsBlockOf, block_member, member_block, found_member, member_found, keys_rise, bytes_in, two_placed, same_id, LOCAL_GRAIN, name_of, name_at, is_name, id_named, id_at, NamesLaw, NamedLaw}
 use Rattle.std.specs.FinMap as finmap
 
 -- The first of a list that passes a test.

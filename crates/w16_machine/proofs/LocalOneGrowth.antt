@@ -23,7 +23,11 @@ module _ (old : Handles) (handle slot size flags : ℕ) (found : slot_of_handle 
   resizes answer new g =
       subst (λ b. MatchBool b (Empties old handle slot flags answer new) (Resizes old slot flags size answer new)) (ne_eqb size 0 (λ e. omega (arith, e, some)))
       (subst (λ b. MatchBool b (AnswersHandle old handle (modified old.heap slot (kind_modified flags)) answer new) (MatchBool (size == 0) (Empties old handle slot flags answer new) (Resizes old slot flags size answer new))) keeps
-      (subst (λ p. MatchOption p (IsNull old answer new) (λ slot. MatchBool (has_flag flags GMEM_MODIFY) (AnswersHandle old handle (modified old.heap slot (kind_modified flags)) answer new) (MatchBool (size == 0) (Empties old handle slot flags answer new) (Resizes old slot flags size answer new)))) found g))
+      (subst (λ p. MatchOption p (IsNull old answer new)
+      (λ slot. MatchBool (has_flag flags GMEM_MODIFY)
+      (AnswersHandle old handle (modified old.heap slot (kind_modified flags)) answer new)
+      (MatchBool (size == 0) (Empties old handle slot flags answer new) (Resizes old slot flags size answer new))))
+      found g))
 
   module _ (answer : ℕ) (answers : answer ≢ 0) (new null : Handles) where
     runs : (o : Object) (first : ℕ) → GetsRun old slot o (realloc_options flags) (slots_for (rounded_size size)) first → LacksRun old slot o (realloc_options flags) (slots_for (rounded_size size)) → ⊥

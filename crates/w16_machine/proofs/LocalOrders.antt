@@ -1,5 +1,8 @@
 -- What a local call leaves of the order of use.
-use Rattle.w16_machine.proofs.Common.{◌≡◌, ℕ, inl, inr, Bool, true, false, cond, nat_lt, IfOk, IsSomeAnd, Option, Some, None, Result, Ok, Err, refl, ap, subst, Kind, Refusal, RoomOptions, Heap, Object, IsHeap, object_at, is_discardable, with_ordered, with_newest, without, removed, absent, after_free, after_discard, Allocates, Asked, IsNew, Settles, compaction_prefix, discarded, discards_needed, stays_for, OnlyLeave, OthersStand, stays, same, compacted, allocated, resized, rest_law, twice_out, heap_of, rounded_up, LocalCommand, ResizesObject, local_kind, local_options, IsNamedBy, OrderLaw, ending}
+use Rattle.w16_machine.proofs.Common.{◌≡◌, ℕ, inl, inr, Bool, true, false, cond, nat_lt, IfOk, IsSomeAnd, Option, Some, None, Result, Ok, Err, refl, ap, subst, Kind, Refusal, RoomOptions, Heap, Object, IsHeap, object_at}
+use Rattle.w16_machine.proofs.Common.{is_discardable, with_ordered, with_newest, without, removed, absent, after_free, after_discard, Allocates, Asked, IsNew, Settles, compaction_prefix, discarded, discards_needed, stays_for}
+use Rattle.w16_machine.proofs.Common.{OnlyLeave, OthersStand, stays, same, compacted, allocated, resized, rest_law, twice_out, heap_of, rounded_up, LocalCommand, ResizesObject, local_kind, local_options, IsNamedBy, OrderLaw}
+use Rattle.w16_machine.proofs.Common.{ending}
 use Rattle.w16_model.specs.declared.Refusal.TheVariants as refusals
 use Rattle.w16_model.specs.Reallocation.{KeepsRest}
 use Rattle.w16_model.proofs.Reallocations.{asked as request_of}

@@ -1,5 +1,10 @@
 -- What a local call leaves of the objects that it doesn't name.
-use Rattle.w16_machine.proofs.Common.{◌≡◌, ◌≢◌, ℕ, ◌+◌, ◌-◌, inl, inr, Bool, true, false, cond, not, ◌&&◌, ◌||◌, ◌==◌, nat_lt, IfOk, IfSome, IsSomeAnd, take, Option, Some, None, Result, Ok, Err, is_some, refl, sym, ap, ◌∙◌, subst, false≢true, cases_Bool, Kind, Fixed, Moveable, Discardable, Refusal, RoomOptions, eligible, is_member, Heap, Object, IsHeap, blocks, object_at, is_fixed, is_discardable, is_pinned_object, with_object, with_ordered, with_newest, removed, absent, touched, without, after_lock, after_unlock, after_free, after_discard, after_modify, Allocates, MakesRoom, IsNew, Settles, Asked, compaction_prefix, discarded, discards_needed, stays_for, KeepsOthers, KeepsAddresses, StandsStill, MovesLittle, get-update_other, inserted_other, taken_other, touched_rest, rest_order, rest_law, others_law, address_law, moves_law, World, LocalHeap, AreLocalHeaps, heap_of, current_heap, name_at, rounded_up, LocalCommand, ResizesObject, local_kind, local_options, moveable_or_discardable, IsLocalKept, OthersLaw, PinnedLaw, asks_for_room, may_move_named, named_by, ending}
+use Rattle.w16_machine.proofs.Common.{◌≡◌, ◌≢◌, ℕ, ◌+◌, ◌-◌, inl, inr, Bool, true, false, cond, not, ◌&&◌, ◌||◌, ◌==◌, nat_lt, IfOk, IfSome, IsSomeAnd, take, Option, Some, None, Result, Ok, Err, is_some, refl, sym, ap, ◌∙◌, subst, false≢true}
+use Rattle.w16_machine.proofs.Common.{cases_Bool, Kind, Fixed, Moveable, Discardable, Refusal, RoomOptions, eligible, is_member, Heap, Object, IsHeap, blocks, object_at, is_fixed, is_discardable, is_pinned_object, with_object, with_ordered}
+use Rattle.w16_machine.proofs.Common.{with_newest, removed, absent, touched, without, after_lock, after_unlock, after_free, after_discard, after_modify, Allocates, MakesRoom, IsNew, Settles, Asked, compaction_prefix, discarded, discards_needed}
+use Rattle.w16_machine.proofs.Common.{stays_for, KeepsOthers, KeepsAddresses, StandsStill, MovesLittle, get-update_other, inserted_other, taken_other, touched_rest, rest_order, rest_law, others_law, address_law, moves_law, World, LocalHeap}
+use Rattle.w16_machine.proofs.Common.{AreLocalHeaps, heap_of, current_heap, name_at, rounded_up, LocalCommand, ResizesObject, local_kind, local_options, moveable_or_discardable, IsLocalKept, OthersLaw, PinnedLaw, asks_for_room, may_move_named}
+use Rattle.w16_machine.proofs.Common.{named_by, ending}
 use Rattle.std.specs.FinMap as finmap
 use Rattle.w16_model.specs.declared.Refusal.TheVariants as refusals
 use Rattle.w16_model.specs.Reallocation.{KeepsRest}
@@ -121,7 +126,10 @@ module _ (asks : Bool) (old : Heap) (q : ℕ) (o : Object) (there : object_at ol
   }
     where
       gone : IsSomeAnd (object_at old q) (λ o. (o.kind ≡ Discardable) × (o.locks ≡ 0) × (is_some o.bytes ≡ true) × (object_at new q ≡ Some (record o { bytes = None }))) → (o.kind ≡ Discardable) × (o.locks ≡ 0) × (object_at new q ≡ Some (record o { bytes = None }))
-      gone h = let g : (o.kind ≡ Discardable) × (o.locks ≡ 0) × (is_some o.bytes ≡ true) × (object_at new q ≡ Some (record o { bytes = None })) = subst (λ p. IsSomeAnd p (λ o. (o.kind ≡ Discardable) × (o.locks ≡ 0) × (is_some o.bytes ≡ true) × (object_at new q ≡ Some (record o { bytes = None })))) there h in (g.0, g.1, g.3)
+      gone h = let g : (o.kind ≡ Discardable) × (o.locks ≡ 0) × (is_some o.bytes ≡ true) ×
+          (object_at new q ≡ Some (record o { bytes = None })) = subst
+          (λ p. IsSomeAnd p (λ o. (o.kind ≡ Discardable) × (o.locks ≡ 0) × (is_some o.bytes ≡ true) ×
+          (object_at new q ≡ Some (record o { bytes = None })))) there h in (g.0, g.1, g.3)
 
   module _ (is : IsHeap old) (asked : asks ≡ true) where
     not_some : (id : ℕ) → q ≢ id → Some id ≢ Some q

@@ -1,6 +1,10 @@
 -- What a local call does, in five ways: nothing; a heap begins; an object of the current heap is changed where it stands; room is made there; or it
 -- grows, and then room is made.
-use Rattle.w16_machine.proofs.Common.{◌≡◌, ℕ, ◌⊎◌, inl, inr, Bool, true, false, ◌==◌, ◌&&◌, ◌||◌, not, MatchBool, MatchOption, Option, Some, None, Result, Ok, Err, refl, sym, ap, ◌∙◌, subst, arith, ne_eqb, false≢true, Refusal, Heap, MakesRoom, most_room, heap_in, Enters, after_lock, after_unlock, after_free, after_discard, after_modify, has_flag, LMEM_MOVEABLE, LMEM_MODIFY, LMEM_NOCOMPACT, World, LocalHeap, LocalObject, Beginning, Becomes, Acts, Stays, IsLowestFree, heap_of, current_heap, object_named, id_named, beginning, new_table, with_table, LocalCommand, Answers, Leaves, GivesUp, EntersObject, AllocatesObject, ResizesObject, MakesObject, Grows, OnceLonger, longer, with_longer, is_absent_asked, local_kind, local_options, rounded_up, AllocatesIn, CompactsIn, LocalInits, OnNamed, ModifiesObject, DiscardsObject, SizesObject, moveable_or_discardable, lock_refused, locks_left, near_pointer, LocalInit, LocalAlloc, LocalReAlloc, LocalDiscard, LocalFree, LocalLock, LocalUnlock, LocalSize, LocalFlags, LocalHandle, LocalCompact, DS, asks_for_room, may_grow, may_move_named, named_by, flags_in}
+use Rattle.w16_machine.proofs.Common.{◌≡◌, ℕ, ◌⊎◌, inl, inr, Bool, true, false, ◌==◌, ◌&&◌, ◌||◌, not, MatchBool, MatchOption, Option, Some, None, Result, Ok, Err, refl, sym, ap, ◌∙◌, subst, arith, ne_eqb, false≢true, Refusal, Heap, MakesRoom, most_room}
+use Rattle.w16_machine.proofs.Common.{heap_in, Enters, after_lock, after_unlock, after_free, after_discard, after_modify, has_flag, LMEM_MOVEABLE, LMEM_MODIFY, LMEM_NOCOMPACT, World, LocalHeap, LocalObject, Beginning, Becomes, Acts, Stays, IsLowestFree}
+use Rattle.w16_machine.proofs.Common.{heap_of, current_heap, object_named, id_named, beginning, new_table, with_table, LocalCommand, Answers, Leaves, GivesUp, EntersObject, AllocatesObject, ResizesObject, MakesObject, Grows, OnceLonger, longer}
+use Rattle.w16_machine.proofs.Common.{with_longer, is_absent_asked, local_kind, local_options, rounded_up, AllocatesIn, CompactsIn, LocalInits, OnNamed, ModifiesObject, DiscardsObject, SizesObject, moveable_or_discardable, lock_refused, locks_left}
+use Rattle.w16_machine.proofs.Common.{near_pointer, LocalInit, LocalAlloc, LocalReAlloc, LocalDiscard, LocalFree, LocalLock, LocalUnlock, LocalSize, LocalFlags, LocalHandle, LocalCompact, DS, asks_for_room, may_grow, may_move_named, named_by, flags_in}
 use Rattle.w16_machine.proofs.LocalFacts.{named_there}
 
 -- an object is changed where it stands
@@ -178,7 +182,10 @@ module _ (old : World) (command : LocalCommand) (answer : ℕ) (new : World) whe
       turn true t s = stayed (most_room (heap_of at)) s
       turn false t a = inr (inr (at, c, inr (inl (acts_as old at (MakesRoom (heap_of at) size answer) (IsRoomed (heap_of at) command answer) new (λ heap m. inl (asks t, inr (inl (size, m)))) a))))
 
-  reallocates : (name size flags : ℕ) → (has_flag flags LMEM_MODIFY ≡ false → (size == 0) ≡ false → (asks_for_room command ≡ true) × (may_move_named command ≡ true) × (not (has_flag flags LMEM_NOCOMPACT) ≡ true → may_grow command ≡ true) × (flags_in command ≡ Some flags)) → (o : LocalObject) → current_heap old ≡ Some o.heap → IsNamedIn (heap_of o.heap) command o.id
+  reallocates : (name size flags : ℕ) → (has_flag flags LMEM_MODIFY ≡ false → (size == 0) ≡ false →
+      (asks_for_room command ≡ true) × (may_move_named command ≡ true) ×
+      (not (has_flag flags LMEM_NOCOMPACT) ≡ true → may_grow command ≡ true) × (flags_in command ≡ Some flags)) →
+      (o : LocalObject) → current_heap old ≡ Some o.heap → IsNamedIn (heap_of o.heap) command o.id
       → MatchBool (has_flag flags LMEM_MODIFY) (ModifiesObject old name flags answer new o) (MatchBool (size == 0) (DiscardsObject old name flags answer new o) (SizesObject old size flags answer new o)) → Out
   reallocates name size flags asks o c named = modify (has_flag flags LMEM_MODIFY) refl
     where
@@ -204,7 +211,10 @@ pub outcome : (old : World) (command : LocalCommand) (answer : ℕ) (new : World
 outcome old (LocalInit selector start end) answer new step = inits old (LocalInit selector start end) answer new selector start end refl step
 outcome old (LocalAlloc flags size) answer new step = on_chosen old (LocalAlloc flags size) answer new (AllocatesIn old flags size answer new) (allocates old (LocalAlloc flags size) answer new flags size refl (λ some. ap not some) (λ some may i. not (some i) && may i)) step
 outcome old (LocalReAlloc name size flags) answer new step =
-    on_named old (LocalReAlloc name size flags) answer new name 0 _ refl (λ o c named s. reallocates old (LocalReAlloc name size flags) answer new name size flags (λ keeps some. let asks : asks_for_room (LocalReAlloc name size flags) ≡ true = ap not (ap (λ b. b || (size == 0)) keeps ∙ some) in (asks, asks, (λ may i. asks i && may i), refl)) o c named s) step
+    on_named old (LocalReAlloc name size flags) answer new name 0 _ refl
+    (λ o c named s. reallocates old (LocalReAlloc name size flags) answer new name size flags
+    (λ keeps some. let asks : asks_for_room (LocalReAlloc name size flags) ≡ true = ap not
+    (ap (λ b. b || (size == 0)) keeps ∙ some) in (asks, asks, (λ may i. asks i && may i), refl)) o c named s) step
 outcome old (LocalDiscard name) answer new step = on_named old (LocalDiscard name) answer new name 0 _ refl (λ o c named s. reallocates old (LocalDiscard name) answer new name 0 LMEM_MOVEABLE (λ keeps some. absurd (false≢true (sym some))) o c named s) step
 outcome old (LocalFree name) answer new step =
     on_named old (LocalFree name) answer new name name (λ o. GivesUp old o.heap (after_free (heap_of o.heap) o.id) 0 name answer new) refl

@@ -1,5 +1,6 @@
 -- A local allocation that is answered isn't refused.
-use Rattle.w16_machine.proofs.Common.{◌≡◌, ℕ, ◌<◌, inl, inr, Bool, true, false, ◌&&◌, ◌==◌, MatchBool, Option, Some, None, refl, sym, ap, ◌∙◌, arith, ne_eqb, false≢true, Heap, IsHeap, with_newest, IsNew, discards_needed, has_flag, none_about, asked, LMEM_MOVEABLE, World, LocalHeap, Becomes, Acts, IsLowestFree, heap_of, rounded_up, EntersObject, AllocatesObject, is_absent_asked, local_kind, local_options, OutcomeLaw}
+use Rattle.w16_machine.proofs.Common.{◌≡◌, ℕ, ◌<◌, inl, inr, Bool, true, false, ◌&&◌, ◌==◌, MatchBool, Option, Some, None, refl, sym, ap, ◌∙◌, arith, ne_eqb, false≢true, Heap, IsHeap, with_newest, IsNew, discards_needed, has_flag}
+use Rattle.w16_machine.proofs.Common.{none_about, asked, LMEM_MOVEABLE, World, LocalHeap, Becomes, Acts, IsLowestFree, heap_of, rounded_up, EntersObject, AllocatesObject, is_absent_asked, local_kind, local_options, OutcomeLaw}
 
 -- what isn't asked to be without bytes was made with some, for which there was room
 module _ (old new : World) (at : LocalHeap) (flags size id answer : ℕ) where
@@ -12,7 +13,14 @@ module _ (old new : World) (at : LocalHeap) (flags size id answer : ℕ) where
 
   roomed : IsHeap (heap_of at) → IsLowestFree (heap_of at) id → Acts old at (AllocatesObject (heap_of at) flags size id answer) new → discards_needed (heap_of at) (rounded_up size) None (local_options flags) ≡ None → ⊥
   roomed is free a none = none_some (sym none ∙ sym (none_about (heap_of at) is id free.free.1 (rounded_up size) (local_options flags))
-      ∙ (asked (heap_of at) id (record { options = local_options flags; prefix = discards_needed (heap_of at) (rounded_up size) (Some id) (local_options flags); becomes = IsNew (local_options flags).zero (rounded_up size) (local_kind flags) 0; order = with_newest id }) _ a.acted.allocated.request).1)
+      ∙ (asked (heap_of at) id (record {
+        options = local_options flags;
+        prefix = discards_needed (heap_of at)
+            (rounded_up size) (Some id) (local_options flags);
+        becomes = IsNew (local_options flags).zero (rounded_up size)
+            (local_kind flags) 0;
+        order = with_newest id;
+      }) _ a.acted.allocated.request).1)
     where
       none_some : {k : ℕ} → ◌≡◌ {A = Option ℕ} None (Some k) → ⊥
       none_some e = cc

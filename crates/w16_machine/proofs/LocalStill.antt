@@ -1,5 +1,7 @@
 -- What local calls leave still.
-use Rattle.w16_machine.proofs.Common.{◌≡◌, ℕ, inl, inr, Bool, true, false, cond, nat_lt, ◌==◌, MatchBool, MatchOption, IfOk, Option, Some, None, Result, Ok, Err, refl, sym, ap, ◌∙◌, subst, false≢true, cases_eq, Refusal, Heap, Object, object_at, removed, after_free, MakesRoom, most_room, discard_absent, taken_here, taken_other, Word, Done, World, LocalHeap, Acts, Stays, heap_of, current_heap, LocalCommand, Answers, CompactsIn, LocalSize, LocalFlags, LocalHandle, LocalCompact, DS, PlacesLaw, QueriesLaw, asks_for_room, only_tells}
+use Rattle.w16_machine.proofs.Common.{◌≡◌, ℕ, inl, inr, Bool, true, false, cond, nat_lt, ◌==◌, MatchBool, MatchOption, IfOk, Option, Some, None, Result, Ok, Err, refl, sym, ap, ◌∙◌, subst, false≢true}
+use Rattle.w16_machine.proofs.Common.{cases_eq, Refusal, Heap, Object, object_at, removed, after_free, MakesRoom, most_room, discard_absent, taken_here, taken_other, Word, Done, World, LocalHeap, Acts}
+use Rattle.w16_machine.proofs.Common.{Stays, heap_of, current_heap, LocalCommand, Answers, CompactsIn, LocalSize, LocalFlags, LocalHandle, LocalCompact, DS, PlacesLaw, QueriesLaw, asks_for_room, only_tells}
 use Rattle.std.specs.FinMap as finmap
 use Rattle.w16_model.specs.declared.Refusal.TheVariants as refusals
 use Rattle.w16_machine.proofs.LocalCurrent.{current_becomes}

@@ -1,5 +1,6 @@
 -- A discard leaves a heap.
-use Rattle.w16_model.proofs.Common.{◌≡◌, ◌≢◌, ℕ, ◌≤◌, inl, inr, Bool, true, false, cond, not, ◌&&◌, ◌==◌, nat_lt, IfOk, IfSome, Option, Some, None, Result, Ok, Err, option_map, is_some, refl, sym, ap, ◌∙◌, subst, arith, ltb-false, cases_eq, Block, Refusal, is_member, Heap, Object, IsHeap, IsCounted, object_at, is_in_order, is_discardable, absent, update, without, after_discard, DiscardHeapLaw}
+use Rattle.w16_model.proofs.Common.{◌≡◌, ◌≢◌, ℕ, ◌≤◌, inl, inr, Bool, true, false, cond, not, ◌&&◌, ◌==◌, nat_lt, IfOk, IfSome, Option, Some, None, Result, Ok, Err, option_map, is_some, refl, sym, ap, ◌∙◌, subst}
+use Rattle.w16_model.proofs.Common.{arith, ltb-false, cases_eq, Block, Refusal, is_member, Heap, Object, IsHeap, IsCounted, object_at, is_in_order, is_discardable, absent, update, without, after_discard, DiscardHeapLaw}
 use Rattle.std.specs.FinMap as finmap
 use Rattle.w16_model.specs.declared.Refusal.TheVariants as refusals
 use Rattle.w16_model.proofs.Gaps.{pairs_filter, AllPairs-from_EachPair, EachPair-from_AllPairs}

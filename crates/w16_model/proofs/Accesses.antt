@@ -1,5 +1,6 @@
 -- What a far access without a fault reaches.
-use Rattle.w16_model.proofs.Common.{◌≡◌, ℕ, ◌+◌, ◌*◌, ◌≤◌, Bool, true, false, cond, ◌||◌, if◌then◌else◌, nat_lt, List, length, Option, Some, None, unwrap_or, refl, ap, ◌∙◌, arith, ltb-true, ltb-false, FarFault, BadSelector, NotPresent, Limit, REACH, Object, object_at, bytes_at, Handles, Part, part_of_selector, far_fault, far_slot, far_at, is_past}
+use Rattle.w16_model.proofs.Common.{◌≡◌, ℕ, ◌+◌, ◌*◌, ◌≤◌, Bool, true, false, cond, ◌||◌, if◌then◌else◌, nat_lt, List, length, Option, Some, None, unwrap_or, refl, ap, ◌∙◌, arith, ltb-true}
+use Rattle.w16_model.proofs.Common.{ltb-false, FarFault, BadSelector, NotPresent, Limit, REACH, Object, object_at, bytes_at, Handles, Part, part_of_selector, far_fault, far_slot, far_at, is_past}
 use Rattle.w16_model.proofs.KeptHeaps.{bytes_in}
 
 -- a slot's object has so many bytes or more

@@ -1,5 +1,7 @@
 -- A request that discards is answered one discard at a time, and what holds of the heap after its discards holds of the heap before.
-use Rattle.w16_model.proofs.Common.{◌≡◌, ◌≢◌, ℕ, zero, suc, ◌+◌, ◌<◌, ◌≤◌, inl, inr, Bool, true, false, cond, not, ◌&&◌, ◌||◌, ◌==◌, nat_le, IsTrue, List, [], ◌∷◌, length, take, drop, filter, fold, All, AllPairs, Option, Some, None, slice_get, refl, sym, ap, ◌∙◌, subst, arith, add-one, IsPermutation, eq-eqb, ne_eqb, eqb-true, false≢true, cases_Bool, and_parts, or_cases, not-true, sum_by-IsPermutation, Block, Kind, RoomOptions, is_pinned, longest_hole, Heap, Object, IsMultiple, blocks, bytes_at, eligible, none_discarded_if, is_member, is_about, is_pinned_id, absent, without, with_ordered, with_newest, discarded, discards_needed, stays_for, Settles, Request, IsNew, Allocates, is_elsewhere, moved_bytes}
+use Rattle.w16_model.proofs.Common.{◌≡◌, ◌≢◌, ℕ, zero, suc, ◌+◌, ◌<◌, ◌≤◌, inl, inr, Bool, true, false, cond, not, ◌&&◌, ◌||◌, ◌==◌, nat_le, IsTrue, List, [], ◌∷◌, length, take, drop, filter, fold, All, AllPairs, Option, Some, None, slice_get, refl, sym, ap}
+use Rattle.w16_model.proofs.Common.{◌∙◌, subst, arith, add-one, IsPermutation, eq-eqb, ne_eqb, eqb-true, false≢true, cases_Bool, and_parts, or_cases, not-true, sum_by-IsPermutation, Block, Kind, RoomOptions, is_pinned, longest_hole, Heap, Object, IsMultiple}
+use Rattle.w16_model.proofs.Common.{blocks, bytes_at, eligible, none_discarded_if, is_member, is_about, is_pinned_id, absent, without, with_ordered, with_newest, discarded, discards_needed, stays_for, Settles, Request, IsNew, Allocates, is_elsewhere, moved_bytes}
 use Rattle.std.specs.FinMap as finmap
 use Rattle.w16_model.proofs.Gaps.{Member, EachPair, Each-at, Each-from, Each-from_All, All-from_Each, EachPair-from_AllPairs, member_filter, filter_member, pairs_filter}
 use Rattle.w16_model.proofs.Members.{permutation_from}

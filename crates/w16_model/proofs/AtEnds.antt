@@ -1,5 +1,6 @@
 -- Which requests are answered.
-use Rattle.w16_model.proofs.Common.{◌≡◌, ℕ, Bool, true, false, not, ◌&&◌, ◌||◌, nat_le, if◌then◌else◌, IsSomeAnd, MatchOption, MatchBool, List, length, take, Option, Some, None, is_some, sym, ap, ◌∙◌, Kind, RoomOptions, fits_in_place, growth_for, Heap, Object, object_at, is_pinned_object, with_object, with_newest, Request, Allocates, Reallocates, ReallocatesObject, Grows, IsNew, IsGrown, StaysOrMovesToHole, discards_needed, snapshot_of}
+use Rattle.w16_model.proofs.Common.{◌≡◌, ℕ, Bool, true, false, not, ◌&&◌, ◌||◌, nat_le, if◌then◌else◌, IsSomeAnd, MatchOption, MatchBool, List, length, take, Option, Some, None, is_some, sym, ap, ◌∙◌, Kind, RoomOptions, fits_in_place}
+use Rattle.w16_model.proofs.Common.{growth_for, Heap, Object, object_at, is_pinned_object, with_object, with_newest, Request, Allocates, Reallocates, ReallocatesObject, Grows, IsNew, IsGrown, StaysOrMovesToHole, discards_needed, snapshot_of}
 use Rattle.w16_model.specs.Ends.{is_grown, is_resized, is_answered, AnswerLaw}
 
 module _ (old new : Heap) (id n : ℕ) (options : RoomOptions) (answered : Bool) where

@@ -1,5 +1,8 @@
 -- What each call leaves of the objects that it isn't about, and of the order of use, by its outcome.
-use Rattle.w16_model.proofs.Common.{◌≡◌, ◌≢◌, ℕ, ◌+◌, ◌-◌, ◌==◌, ◌⊎◌, inl, inr, Bool, true, false, not, ◌&&◌, ◌||◌, nat_lt, IsTrue, IfSome, IsSomeAnd, take, Option, Some, None, is_some, refl, sym, ap, ◌∙◌, subst, eqb-true, and_parts, false≢true, cases_Bool, cases_eq, Kind, Fixed, Moveable, Discardable, GMEM_MOVEABLE, eligible, is_member, Heap, Object, blocks, object_at, is_fixed, is_discardable, is_pinned_object, with_newest, Handles, AreHandles, slots_for, slot_of_handle, Answer, has_flag, rounded_size, kind_asked, alloc_options, KeepsOthers, StandsStill, KeepsRest, realloc_options, Call, Outcome, Resized, attributes_asked, IsSame, IsUnmoved, IsLocked, IsUnlocked, IsFreed, IsNewest, IsOldest, IsEntered, IsAllocated, IsCompacted, IsModified, IsDiscarded, IsResized, handle_in, IsAbout, IsKeptOrDiscarded, BystandersLaw, AttributesLaw, may_change, may_move_own, PinnedStayLaw, may_move_others, StillLaw}
+use Rattle.w16_model.proofs.Common.{◌≡◌, ◌≢◌, ℕ, ◌+◌, ◌-◌, ◌==◌, ◌⊎◌, inl, inr, Bool, true, false, not, ◌&&◌, ◌||◌, nat_lt, IsTrue, IfSome, IsSomeAnd, take, Option, Some, None, is_some, refl, sym, ap, ◌∙◌, subst, eqb-true, and_parts, false≢true, cases_Bool}
+use Rattle.w16_model.proofs.Common.{cases_eq, Kind, Fixed, Moveable, Discardable, GMEM_MOVEABLE, eligible, is_member, Heap, Object, blocks, object_at, is_fixed, is_discardable, is_pinned_object, with_newest, Handles, AreHandles, slots_for, slot_of_handle}
+use Rattle.w16_model.proofs.Common.{Answer, has_flag, rounded_size, kind_asked, alloc_options, KeepsOthers, StandsStill, KeepsRest, realloc_options, Call, Outcome, Resized, attributes_asked, IsSame, IsUnmoved, IsLocked, IsUnlocked, IsFreed, IsNewest}
+use Rattle.w16_model.proofs.Common.{IsOldest, IsEntered, IsAllocated, IsCompacted, IsModified, IsDiscarded, IsResized, handle_in, IsAbout, IsKeptOrDiscarded, BystandersLaw, AttributesLaw, may_change, may_move_own, PinnedStayLaw, may_move_others, StillLaw}
 use Rattle.std.specs.FinMap as finmap
 use Rattle.w16_model.proofs.Heaps.{get-update_other}
 use Rattle.w16_model.proofs.KeptHeaps.{inserted_other, taken_other, bytes_in}
@@ -60,8 +63,15 @@ module _ (old new : Handles) (is : AreHandles old) (call : Call) (answer : Answe
   bystander (IsFreed f) there out = inl (ap (λ (h : Handles). object_at h.heap q) f.rest ∙ taken_other old.heap.objects f.slot q (λ e. out (about f.handle f.slot (ap handle_in f.asked) f.named.found e)))
   bystander (IsNewest n) there out = inl (ap (λ (h : Handles). object_at h.heap q) n.rest)
   bystander (IsOldest n) there out = inl (ap (λ (h : Handles). object_at h.heap q) n.rest)
-  bystander (IsEntered e) there out = inl (ap (λ (h : Heap). object_at h q) e.entered.entered ∙ inserted_other old.heap.objects e.slot (record { kind = kind_asked e.flags; locks = 0; bytes = None }) q (not_free e.slot (unused old is e.slot (slots_for (rounded_size e.size)) (some_slots (rounded_size e.size)) e.free) (there (ap may_change e.asked))))
-  bystander (IsAllocated a) there out = kept_or_discarded old.heap new.heap (Some a.slot) a.count q ((others_law old.heap new.heap is.heap a.count).0 a.slot (alloc_options a.flags) a.object (with_newest a.slot a.object) a.settled) (apart a.slot q (not_free a.slot (unused old is a.slot (slots_for (rounded_size a.size)) (some_slots (rounded_size a.size)) a.free) (there (ap may_change a.asked))))
+  bystander (IsEntered e) there out = inl (ap (λ (h : Heap). object_at h q) e.entered.entered ∙ inserted_other
+      old.heap.objects e.slot (record { kind = kind_asked e.flags; locks = 0; bytes = None }) q
+      (not_free e.slot (unused old is e.slot (slots_for (rounded_size e.size)) (some_slots (rounded_size e.size)) e.free)
+      (there (ap may_change e.asked))))
+  bystander (IsAllocated a) there out = kept_or_discarded old.heap new.heap (Some a.slot) a.count q
+      ((others_law old.heap new.heap is.heap a.count).0 a.slot (alloc_options a.flags) a.object
+      (with_newest a.slot a.object) a.settled) (apart a.slot q
+      (not_free a.slot (unused old is a.slot (slots_for (rounded_size a.size)) (some_slots (rounded_size a.size)) a.free)
+      (there (ap may_change a.asked))))
   bystander (IsCompacted c) there out = kept_or_discarded old.heap new.heap None c.count q ((others_law old.heap new.heap is.heap c.count).1 c.settled) (none_apart q)
   bystander (IsModified m) there out = inl (m.changes.others q (λ e. out (about m.handle m.slot (ap handle_in m.asked) m.named.found e)))
   bystander (IsDiscarded d) there out = inl (ap (λ (h : Handles). object_at h.heap q) d.rest ∙ get-update_other old.heap.objects d.slot (λ (o : Object). record o { bytes = None }) q (λ e. out (about d.handle d.slot (ap handle_in d.asked) d.named.found e)))
@@ -127,7 +137,10 @@ module _ (old new : Handles) (is : AreHandles old) (call : Call) (answer : Answe
     pinned_still (IsNewest n) out = same_place (ap (λ (h : Handles). finmap.get h.heap.places q) n.rest)
     pinned_still (IsOldest n) out = same_place (ap (λ (h : Handles). finmap.get h.heap.places q) n.rest)
     pinned_still (IsEntered e) out = same_place (ap (λ (h : Heap). finmap.get h.places q) e.entered.entered)
-    pinned_still (IsAllocated a) out = ((address_law old.heap new.heap is.heap a.count).0 a.slot (alloc_options a.flags) a.object (with_newest a.slot a.object) a.settled).pinned q (apart a.slot q (not_free a.slot (unused old is a.slot (slots_for (rounded_size a.size)) (some_slots (rounded_size a.size)) a.free) there_pinned)) pinned
+    pinned_still (IsAllocated a) out = ((address_law old.heap new.heap is.heap a.count).0 a.slot
+        (alloc_options a.flags) a.object (with_newest a.slot a.object) a.settled).pinned q
+        (apart a.slot q (not_free a.slot (unused old is a.slot (slots_for (rounded_size a.size))
+        (some_slots (rounded_size a.size)) a.free) there_pinned)) pinned
     pinned_still (IsCompacted c) out = ((address_law old.heap new.heap is.heap c.count).1 c.settled).pinned q (none_apart q) pinned
     pinned_still (IsModified m) out = same_place (ap (λ places. finmap.get places q) m.changes.places)
     pinned_still (IsDiscarded d) out = same_place (ap (λ (h : Handles). finmap.get h.heap.places q) d.rest ∙ taken_other old.heap.places d.slot q (λ e. loose d.object d.unlocked d.discardable (pinned_is d.slot d.object e d.named.there)))
@@ -170,7 +183,10 @@ module _ (old new : Handles) (is : AreHandles old) (call : Call) (answer : Answe
   still (IsNewest n) m there out = same_place (ap (λ (h : Handles). finmap.get h.heap.places q) n.rest)
   still (IsOldest n) m there out = same_place (ap (λ (h : Handles). finmap.get h.heap.places q) n.rest)
   still (IsEntered e) m there out = same_place (ap (λ (h : Heap). finmap.get h.places q) e.entered.entered)
-  still (IsAllocated a) m there out = ((address_law old.heap new.heap is.heap a.count).0 a.slot (alloc_options a.flags) a.object (with_newest a.slot a.object) a.settled).unmoved (sym (ap may_move_others a.asked) ∙ m) q (apart a.slot q (not_free a.slot (unused old is a.slot (slots_for (rounded_size a.size)) (some_slots (rounded_size a.size)) a.free) there))
+  still (IsAllocated a) m there out = ((address_law old.heap new.heap is.heap a.count).0 a.slot (alloc_options a.flags)
+      a.object (with_newest a.slot a.object) a.settled).unmoved (sym (ap may_move_others a.asked) ∙ m) q
+      (apart a.slot q (not_free a.slot (unused old is a.slot (slots_for (rounded_size a.size))
+      (some_slots (rounded_size a.size)) a.free) there))
   still (IsCompacted c) m there out = absurd (false≢true (sym m ∙ ap may_move_others c.asked))
   still (IsModified c) m there out = same_place (ap (λ places. finmap.get places q) c.changes.places)
   still (IsDiscarded d) m there out = same_place (ap (λ (h : Handles). finmap.get h.heap.places q) d.rest ∙ taken_other old.heap.places d.slot q (λ e. out (about d.handle d.slot (ap handle_in d.asked) d.named.found e)))

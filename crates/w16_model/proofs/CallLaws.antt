@@ -1,5 +1,9 @@
 -- The laws of each call on handles, by its outcome.
-use Rattle.w16_model.proofs.Common.{◌≡◌, ◌≢◌, ℕ, ◌+◌, ◌-◌, ◌/◌, ◌<◌, ◌==◌, ◌⊎◌, inl, inr, Bool, true, false, cond, not, IsTrue, IsSomeAnd, List, [], ◌∷◌, length, map, take, filter, sum_by, Option, Some, None, option_map, is_some, unwrap_or, refl, sym, ap, ◌∙◌, subst, arith, eq-eqb, ne_eqb, entries_sorted, false≢true, cases_eq, sum_by-cons, Block, Kind, Fixed, Moveable, Discardable, eligible, is_member, Heap, Object, IsHeap, blocks, object_at, bytes_at, without, hold_of_object, moved_bytes, is_elsewhere, Handles, AreHandles, slot_of_handle, handle_of, Answer, rounded_size, kind_asked, Word, Dword, KeepsRest, MovesLittle, realloc_options, Call, CallStep, ReAllocs, Calls, Outcome, Resized, counts_moved, IsSame, IsUnmoved, IsLocked, IsUnlocked, IsFreed, IsNewest, IsOldest, IsEntered, IsAllocated, IsCompacted, IsModified, IsDiscarded, IsResized, KeepsContents, may_change, ContentsLaw, SlotsLaw, IsMoved, size_at, IsSumOfMoved, MovedLaw, next_slot, slot_after}
+use Rattle.w16_model.proofs.Common.{◌≡◌, ◌≢◌, ℕ, ◌+◌, ◌-◌, ◌/◌, ◌<◌, ◌==◌, ◌⊎◌, inl, inr, Bool, true, false, cond, not, IsTrue, IsSomeAnd, List, [], ◌∷◌, length, map, take, filter, sum_by, Option, Some, None, option_map, is_some, unwrap_or, refl, sym, ap, ◌∙◌, subst}
+use Rattle.w16_model.proofs.Common.{arith, eq-eqb, ne_eqb, entries_sorted, false≢true, cases_eq, sum_by-cons, Block, Kind, Fixed, Moveable, Discardable, eligible, is_member, Heap, Object, IsHeap, blocks, object_at, bytes_at, without, hold_of_object, moved_bytes}
+use Rattle.w16_model.proofs.Common.{is_elsewhere, Handles, AreHandles, slot_of_handle, handle_of, Answer, rounded_size, kind_asked, Word, Dword, KeepsRest, MovesLittle, realloc_options, Call, CallStep, ReAllocs, Calls, Outcome, Resized, counts_moved, IsSame, IsUnmoved}
+use Rattle.w16_model.proofs.Common.{IsLocked, IsUnlocked, IsFreed, IsNewest, IsOldest, IsEntered, IsAllocated, IsCompacted, IsModified, IsDiscarded, IsResized, KeepsContents, may_change, ContentsLaw, SlotsLaw, IsMoved, size_at, IsSumOfMoved, MovedLaw, next_slot}
+use Rattle.w16_model.proofs.Common.{slot_after}
 use Rattle.std.specs.FinMap as finmap
 use Rattle.std.specs.List.{AllByRecursion as Each}
 use Rattle.w16_model.proofs.Gaps.{Member, EachPair, AllPairs-from_EachPair, member_filter, filter_member, pairs_filter}
@@ -166,8 +170,21 @@ module _ (old new : Handles) (is : AreHandles old) (call : Call) (answer : Answe
   slots (IsNewest n) = subst Kept (sym n.rest) (refl, refl, refl)
   slots (IsOldest n) = subst Kept (sym n.rest) (refl, refl, refl)
   slots (IsEntered e) = (ap (λ (h : Handles). h.slots) e.rest, ap (λ (h : Heap). h.lo) e.entered.entered, ap (λ (h : Heap). h.hi) e.entered.entered)
-  slots (IsAllocated a) = (ap (λ (h : Handles). h.slots) a.rest, ap (λ (h : Heap). h.lo) a.settled.same ∙ (absents_rest (take a.count (eligible (blocks old.heap) old.heap.order (Some a.slot))) old.heap).0, ap (λ (h : Heap). h.hi) a.settled.same ∙ (absents_rest (take a.count (eligible (blocks old.heap) old.heap.order (Some a.slot))) old.heap).1)
-  slots (IsCompacted c) = (ap (λ (h : Handles). h.slots) c.rest, ap (λ (h : Heap). h.lo) c.settled.same ∙ (absents_rest (take c.count (eligible (blocks old.heap) old.heap.order None)) old.heap).0, ap (λ (h : Heap). h.hi) c.settled.same ∙ (absents_rest (take c.count (eligible (blocks old.heap) old.heap.order None)) old.heap).1)
+  slots (IsAllocated a) = (
+    ap (λ (h : Handles). h.slots) a.rest,
+    ap (λ (h : Heap). h.lo) a.settled.same ∙
+        (absents_rest (take a.count (eligible (blocks old.heap) old.heap.order (Some a.slot))) old.heap).0,
+    ap
+        (λ (h : Heap). h.hi) a.settled.same ∙ (absents_rest
+        (take a.count (eligible (blocks old.heap) old.heap.order (Some a.slot))) old.heap).1,
+  )
+  slots (IsCompacted c) = (
+    ap (λ (h : Handles). h.slots) c.rest,
+    ap (λ (h : Heap). h.lo) c.settled.same ∙
+        (absents_rest (take c.count (eligible (blocks old.heap) old.heap.order None)) old.heap).0,
+    ap (λ (h : Heap). h.hi)
+        c.settled.same ∙ (absents_rest (take c.count (eligible (blocks old.heap) old.heap.order None)) old.heap).1,
+  )
   slots (IsModified m) = (ap (λ (h : Handles). h.slots) m.rest, m.changes.range.0, m.changes.range.1)
   slots (IsDiscarded d) = subst Kept (sym d.rest) (refl, refl, refl)
   slots (IsResized r) =

@@ -1,5 +1,9 @@
 -- What each call does to the order of use.
-use Rattle.w16_model.proofs.Common.{◌≡◌, ℕ, ◌+◌, ◌<◌, inl, inr, Bool, true, false, cond, not, ◌&&◌, ◌==◌, MatchBool, IsTrue, IsSomeAnd, List, [], ◌∷◌, ◌++◌, take, filter, Option, Some, None, Result, Ok, Err, is_some, refl, sym, ap, ◌∙◌, subst, arith, eq-eqb, ne_eqb, false≢true, and_parts, filter-append, Kind, Fixed, Moveable, Discardable, Refusal, RoomOptions, eligible, is_member, is_pinned, Heap, Object, IsHeap, blocks, object_at, bytes_at, is_fixed, is_discardable, is_in_order, without, newest, oldest, touched, with_ordered, with_newest, removed, Settles, Allocates, IsNew, discarded, stays_for, discards_needed, Enters, Handles, AreHandles, slots_for, slot_of_handle, selector_of, far_pointer, Answer, rounded_size, kind_asked, alloc_options, is_absent_asked, Word, Dword, KeepsOthers, KeepsRest, without_all, is_revived, realloc_options, Call, Outcome, Resized, IsSame, IsUnmoved, IsLocked, IsUnlocked, IsFreed, IsNewest, IsOldest, IsEntered, IsAllocated, IsCompacted, IsModified, IsDiscarded, IsResized, OnlyLeave, OthersStand, next_slot, may_order, UnorderedLaw, OthersOrderLaw, NewObjectLaw, handle_in, IsAbout, UseLaw, IsNewestOf, global_lock, handle_or_0, after_lock, refused_order}
+use Rattle.w16_model.proofs.Common.{◌≡◌, ℕ, ◌+◌, ◌<◌, inl, inr, Bool, true, false, cond, not, ◌&&◌, ◌==◌, MatchBool, IsTrue, IsSomeAnd, List, [], ◌∷◌, ◌++◌, take, filter, Option, Some, None, Result, Ok, Err, is_some, refl, sym, ap, ◌∙◌, subst, arith, eq-eqb, ne_eqb}
+use Rattle.w16_model.proofs.Common.{false≢true, and_parts, filter-append, Kind, Fixed, Moveable, Discardable, Refusal, RoomOptions, eligible, is_member, is_pinned, Heap, Object, IsHeap, blocks, object_at, bytes_at, is_fixed, is_discardable, is_in_order, without, newest}
+use Rattle.w16_model.proofs.Common.{oldest, touched, with_ordered, with_newest, removed, Settles, Allocates, IsNew, discarded, stays_for, discards_needed, Enters, Handles, AreHandles, slots_for, slot_of_handle, selector_of, far_pointer, Answer, rounded_size, kind_asked}
+use Rattle.w16_model.proofs.Common.{alloc_options, is_absent_asked, Word, Dword, KeepsOthers, KeepsRest, without_all, is_revived, realloc_options, Call, Outcome, Resized, IsSame, IsUnmoved, IsLocked, IsUnlocked, IsFreed, IsNewest, IsOldest, IsEntered, IsAllocated}
+use Rattle.w16_model.proofs.Common.{IsCompacted, IsModified, IsDiscarded, IsResized, OnlyLeave, OthersStand, next_slot, may_order, UnorderedLaw, OthersOrderLaw, NewObjectLaw, handle_in, IsAbout, UseLaw, IsNewestOf, global_lock, handle_or_0, after_lock, refused_order}
 use Rattle.w16_model.specs.declared.Refusal.TheVariants as refusals
 use Rattle.w16_model.proofs.Gaps.{Member}
 use Rattle.w16_model.proofs.Discards.{is_member-true}

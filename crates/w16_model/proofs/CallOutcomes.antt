@@ -1,5 +1,11 @@
 -- Each call on handles has one of the outcomes.
-use Rattle.w16_model.proofs.Common.{◌≡◌, ℕ, ◌+◌, ◌-◌, ◌≤◌, ◌⊎◌, inl, inr, Bool, true, false, cond, not, ◌||◌, ◌==◌, if◌then◌else◌, MatchBool, MatchOption, IsSomeAnd, IfSome, nat_lt, IfOk, List, [], ◌∷◌, filter, sum_by, Option, Some, None, Result, Ok, Err, is_some, unwrap_or, refl, sym, ap, ◌∙◌, subst, arith, eq-eqb, ltb-false, false≢true, Block, Refusal, GMEM_MOVEABLE, GMEM_MODIFY, LARGEST_SIZE, Heap, Object, blocks, object_at, is_fixed, is_discardable, with_object, with_ordered, with_newest, newest, oldest, touched, removed, IsNew, Request, Allocates, MakesRoom, Reallocates, most_room, compaction_prefix, discards_needed, moved_bytes, is_elsewhere, Enters, after_lock, after_unlock, after_free, after_modify, after_discard, refused_order, Handles, AreHandles, slots_for, slot_of_handle, selector_of, far_pointer, handle_of, owns, HandleCommand, Answer, HandleStep, GlobalAllocs, GlobalCompacts, free_own, global_free, global_lock, global_unlock, handle_or_0, locks_at, alloc_options, kind_asked, rounded_size, is_absent_asked, has_flag, Word, Dword, Walked, GlobalAlloc, GlobalFree, GlobalLock, GlobalUnlock, GlobalSize, GlobalFlags, GlobalHandle, GetSelectorBase, GetSelectorLimit, GlobalCompact, GlobalLRUNewest, GlobalLRUOldest, Moved, Walk, ChangesKind, realloc_options, kind_modified, modified, IsNull, AnswersHandle, AnswersDiscard, Empties, GetsRun, Anew, ResizesObject, Resizes, ReAllocsOwn, GlobalReAllocs, Call, IsNamed, Orders, Outcome, Resized, CallOutcomesLaw, counts_moved, Calls, ReAllocs, IsSame, IsUnmoved, IsLocked, IsUnlocked, IsFreed, IsNewest, IsOldest, IsEntered, IsAllocated, IsCompacted, IsModified, IsDiscarded, IsResized}
+use Rattle.w16_model.proofs.Common.{◌≡◌, ℕ, ◌+◌, ◌-◌, ◌≤◌, ◌⊎◌, inl, inr, Bool, true, false, cond, not, ◌||◌, ◌==◌, if◌then◌else◌, MatchBool, MatchOption, IsSomeAnd, IfSome, nat_lt, IfOk, List, [], ◌∷◌, filter, sum_by, Option, Some, None, Result, Ok, Err, is_some}
+use Rattle.w16_model.proofs.Common.{unwrap_or, refl, sym, ap, ◌∙◌, subst, arith, eq-eqb, ltb-false, false≢true, Block, Refusal, GMEM_MOVEABLE, GMEM_MODIFY, LARGEST_SIZE, Heap, Object, blocks, object_at, is_fixed, is_discardable, with_object, with_ordered, with_newest}
+use Rattle.w16_model.proofs.Common.{newest, oldest, touched, removed, IsNew, Request, Allocates, MakesRoom, Reallocates, most_room, compaction_prefix, discards_needed, moved_bytes, is_elsewhere, Enters, after_lock, after_unlock, after_free, after_modify, after_discard}
+use Rattle.w16_model.proofs.Common.{refused_order, Handles, AreHandles, slots_for, slot_of_handle, selector_of, far_pointer, handle_of, owns, HandleCommand, Answer, HandleStep, GlobalAllocs, GlobalCompacts, free_own, global_free, global_lock, global_unlock, handle_or_0}
+use Rattle.w16_model.proofs.Common.{locks_at, alloc_options, kind_asked, rounded_size, is_absent_asked, has_flag, Word, Dword, Walked, GlobalAlloc, GlobalFree, GlobalLock, GlobalUnlock, GlobalSize, GlobalFlags, GlobalHandle, GetSelectorBase, GetSelectorLimit}
+use Rattle.w16_model.proofs.Common.{GlobalCompact, GlobalLRUNewest, GlobalLRUOldest, Moved, Walk, ChangesKind, realloc_options, kind_modified, modified, IsNull, AnswersHandle, AnswersDiscard, Empties, GetsRun, Anew, ResizesObject, Resizes, ReAllocsOwn, GlobalReAllocs}
+use Rattle.w16_model.proofs.Common.{Call, IsNamed, Orders, Outcome, Resized, CallOutcomesLaw, counts_moved, Calls, ReAllocs, IsSame, IsUnmoved, IsLocked, IsUnlocked, IsFreed, IsNewest, IsOldest, IsEntered, IsAllocated, IsCompacted, IsModified, IsDiscarded, IsResized}
 use Rattle.std.specs.FinMap as finmap
 use Rattle.w16_model.specs.declared.Refusal.TheVariants as refusals
 use Rattle.w16_model.proofs.Gaps.{Member}
@@ -321,7 +327,10 @@ module _ (old : Handles) (call : Call) (reply : Answer) (new : Handles) where
         of_object a own slot o n short (inl g) = null g.1
         of_object a own slot o n short (inr g) = answers a own slot o n short g.0 g.1 g.2 g.3 g.4 g.5
 
-        resizes : (has_flag flags GMEM_MODIFY ≡ false) × ((size == 0) ≡ false) → owns old handle ≡ false → (slot : ℕ) (o : Object) → IsNamed old handle slot o → (long : Bool) → nat_lt LARGEST_SIZE size ≡ long → MatchBool long (IsNull old answer new) (IsSomeAnd (object_at old.heap slot) (ResizesObject old slot flags size answer new)) → Told
+        resizes : (has_flag flags GMEM_MODIFY ≡ false) × ((size == 0) ≡ false) → owns old handle ≡ false → (slot : ℕ)
+            (o : Object) → IsNamed old handle slot o → (long : Bool) → nat_lt LARGEST_SIZE size ≡ long → MatchBool long
+            (IsNull old answer new) (IsSomeAnd (object_at old.heap slot) (ResizesObject old slot flags size answer new))
+            → Told
         resizes a own slot o n true t g = null g
         resizes a own slot o n false t g = of_object a own slot o n t (subst (λ p. IsSomeAnd p (ResizesObject old slot flags size answer new)) n.there g)
 
@@ -329,11 +338,19 @@ module _ (old : Handles) (call : Call) (reply : Answer) (new : Handles) where
         sized m own slot o n true z g = empties own slot o n (has_flag flags GMEM_MOVEABLE) g
         sized m own slot o n false z g = resizes (m, z) own slot o n (nat_lt LARGEST_SIZE size) refl g
 
-        by_modify : owns old handle ≡ false → (slot : ℕ) (o : Object) → IsNamed old handle slot o → (m : Bool) → has_flag flags GMEM_MODIFY ≡ m → MatchBool m (AnswersHandle old handle (modified old.heap slot (kind_modified flags)) answer new) (MatchBool (size == 0) (Empties old handle slot flags answer new) (Resizes old slot flags size answer new)) → Told
+        by_modify : owns old handle ≡ false → (slot : ℕ) (o : Object) → IsNamed old handle slot o → (m : Bool) →
+            has_flag flags GMEM_MODIFY ≡ m → MatchBool m (AnswersHandle old handle
+            (modified old.heap slot (kind_modified flags)) answer new)
+            (MatchBool (size == 0) (Empties old handle slot flags answer new) (Resizes old slot flags size answer new)) →
+            Told
         by_modify own slot o n true m g = modifies own slot o n g
         by_modify own slot o n false m g = sized m own slot o n (size == 0) refl g
 
-        turn : owns old handle ≡ false → (p : Option ℕ) → slot_of_handle old handle ≡ p → MatchOption p (IsNull old answer new) (λ slot. MatchBool (has_flag flags GMEM_MODIFY) (AnswersHandle old handle (modified old.heap slot (kind_modified flags)) answer new) (MatchBool (size == 0) (Empties old handle slot flags answer new) (Resizes old slot flags size answer new))) → Told
+        turn : owns old handle ≡ false → (p : Option ℕ) → slot_of_handle old handle ≡ p → MatchOption p
+            (IsNull old answer new) (λ slot. MatchBool (has_flag flags GMEM_MODIFY)
+            (AnswersHandle old handle (modified old.heap slot (kind_modified flags)) answer new)
+            (MatchBool (size == 0) (Empties old handle slot flags answer new) (Resizes old slot flags size answer new)))
+            → Told
         turn own None is_found g = null g
         turn own (Some slot) is_found g = let n : (o : Object) × IsNamed old handle slot o = named handle slot is_found in by_modify own slot n.0 n.1 (has_flag flags GMEM_MODIFY) refl g
 

@@ -1,5 +1,8 @@
 -- The names of definitions and of lower crates that the proofs of this crate cite, passed on from one place. Declares nothing.
-pub use Rattle.std.proofs.Common.{All, AllPairs, Bool, Equal, Err, Greater, IfOk, IfSome, IsPermutation, IsSomeAnd, IsTrue, Less, List, MatchBool, MatchOption, None, Ok, Option, Result, Some, T, [], add-one, ap, append-nil, append_assoc, arith, cond, drop, drop-cons, drop_of_length-le, eq-eqb, eqb-true, false, filter, fold, get_or, if◌then◌else◌, inl, inr, is_eq, is_lt, is_some, le-leb, leb-false, leb-true, length, length-drop, length-take, lt-ltb, ltb-false, ltb-true, map, max, min, nat_le, nat_lt, ne_eqb, not, option_map, refl, replicate, rules, set, slice_get, slice_range, subst, suc, sum_by, swap, sym, take, true, unwrap_or, zero, zero-add, ℕ, ⊎_elim, ◌&&◌, ◌*◌, ◌++◌, ◌+◌, ◌-◌, ◌/◌, ◌<◌, ◌==◌, ◌||◌, ◌↔◌, ◌∙◌, ◌∷◌, ◌≡◌, ◌≢◌, ◌≤◌, ◌⊎◌}
+pub use Rattle.std.proofs.Common.{All, AllPairs, Bool, Equal, Err, Greater, IfOk, IfSome, IsPermutation, IsSomeAnd, IsTrue, Less, List, MatchBool, MatchOption, None, Ok, Option, Result, Some, T, [], add-one, ap}
+pub use Rattle.std.proofs.Common.{append-nil, append_assoc, arith, cond, drop, drop-cons, drop_of_length-le, eq-eqb, eqb-true, false, filter, fold, get_or, if◌then◌else◌, inl, inr, is_eq, is_lt, is_some, le-leb}
+pub use Rattle.std.proofs.Common.{leb-false, leb-true, length, length-drop, length-take, lt-ltb, ltb-false, ltb-true, map, max, min, nat_le, nat_lt, ne_eqb, not, option_map, refl, replicate, rules, set, slice_get}
+pub use Rattle.std.proofs.Common.{slice_range, subst, suc, sum_by, swap, sym, take, true, unwrap_or, zero, zero-add, ℕ, ⊎_elim, ◌&&◌, ◌*◌, ◌++◌, ◌+◌, ◌-◌, ◌/◌, ◌<◌, ◌==◌, ◌||◌, ◌↔◌, ◌∙◌, ◌∷◌, ◌≡◌, ◌≢◌, ◌≤◌, ◌⊎◌}
 pub use Rattle.std.proofs.lemmas.Bool.{and_from, and_left, and_parts, and_right, cases_Bool, cases_eq, cases_lt, cond-false, cond-true, eqb-false, false≢true, lt-leb, not-true, not_from_false, or_cases, or_from, or_left, or_parts, or_right}
 pub use Rattle.std.proofs.lemmas.Bool.Decides.{nat_tests}
 pub use Rattle.std.proofs.lemmas.Grind.{common_steps}
@@ -16,7 +19,8 @@ pub use Rattle.std.specs.Ordering.{eq_by_cmp, nat_cmp}
 pub use Rattle.w16_model.specs.Arrangement.{IsArrangement, IsFreeStretch, IsLongestStretch}
 pub use Rattle.w16_model.specs.Bytes.{part, put_part}
 unfoldable pub use Rattle.w16_model.specs.Bytes.{repeated}
-pub use Rattle.w16_model.specs.CallLaws.{AttributesLaw, BystandersLaw, ContentsLaw, FarEffect, FarEffectLaw, IsAbout, IsKeptOrDiscarded, IsMoved, IsNewestOf, IsSumOfMoved, IsWritten, KeepsContents, MovedLaw, NewObjectLaw, OnlyLeave, OthersOrderLaw, OthersStand, PinnedStayLaw, Reaches, ReadBackLaw, SlotsLaw, StillLaw, UnorderedLaw, UseLaw, handle_in, may_change, may_move_others, may_move_own, may_order, names, next_slot, size_at, slot_after}
+pub use Rattle.w16_model.specs.CallLaws.{AttributesLaw, BystandersLaw, ContentsLaw, FarEffect, FarEffectLaw, IsAbout, IsKeptOrDiscarded, IsMoved, IsNewestOf, IsSumOfMoved, IsWritten, KeepsContents, MovedLaw, NewObjectLaw, OnlyLeave, OthersOrderLaw}
+pub use Rattle.w16_model.specs.CallLaws.{OthersStand, PinnedStayLaw, Reaches, ReadBackLaw, SlotsLaw, StillLaw, UnorderedLaw, UseLaw, handle_in, may_change, may_move_others, may_move_own, may_order, names, next_slot, size_at, slot_after}
 pub use Rattle.w16_model.specs.Calls.{Answer, GlobalAllocs, GlobalCompacts, HandleCommand, HandleStep, HasNoSlots, IsEmptyFixed, IsRefusedAlloc, IsTooLong, alloc_options, free_own, global_free, global_lock, global_unlock, handle_or_0, has_flag, is_absent_asked, kind_asked, locks_at, rounded_size}
 pub use Rattle.w16_model.specs.Calls.Answer.{Dword, Walked, Word}
 pub use Rattle.w16_model.specs.Calls.HandleCommand.{GetSelectorBase, GetSelectorLimit, GlobalAlloc, GlobalCompact, GlobalFlags, GlobalFree, GlobalHandle, GlobalLRUNewest, GlobalLRUOldest, GlobalLock, GlobalSize, GlobalUnlock, Moved, Walk}
@@ -28,17 +32,21 @@ pub use Rattle.w16_model.specs.Far.FarAnswer.{Bytes, Done, Fault}
 pub use Rattle.w16_model.specs.Far.FarCommand.{Fill, Read, Write}
 pub use Rattle.w16_model.specs.Fewest.{AllocatesFewest, AllocationLaw, CompactionLaw, GlobalAllocLaw, GlobalCompactLaw, HasNoStretch, IsMostAfter, LacksRoom, MakesMost}
 pub use Rattle.w16_model.specs.Gap.{ArePlaced, IsClear, IsGap, IsGapOf, IsHole, IsLaid, Misses, begins_in, block_end, first_from, gaps, holds_still, hole_after, holes, is_any, is_loose, is_pinned, largest, longest_hole, loose_bytes, room, room_from, spans_from, starts}
-pub use Rattle.w16_model.specs.Handles.{AreHandles, AreRuns, Gives, Handles, IsFreeRun, IsFreeSlot, IsOwnedRun, IsRun, IsSized, IsSlot, Part, empty_handles, far_pointer, handle_of, has_slot, offset_in, owner_of, part_of_selector, reached, selector_in, selector_of, slot_of_handle, slot_of_selector, slots_at, slots_for}
+pub use Rattle.w16_model.specs.Handles.{AreHandles, AreRuns, Gives, Handles, IsFreeRun, IsFreeSlot, IsOwnedRun, IsRun, IsSized, IsSlot, Part, empty_handles, far_pointer, handle_of}
+pub use Rattle.w16_model.specs.Handles.{has_slot, offset_in, owner_of, part_of_selector, reached, selector_in, selector_of, slot_of_handle, slot_of_selector, slots_at, slots_for}
 pub use Rattle.w16_model.specs.Heap.{Heap, IsCounted, IsHeap, IsMultiple, Object, block_of, blocks, bytes_at, empty_heap, hold_of_object, is_discardable, is_fixed, is_in_order, is_pinned_object, object_at, size_of}
-pub use Rattle.w16_model.specs.Law.{AddressLaw, AreAllOf, DiscardsAreLeast, EmptyLaw, FarLaw, GapListLaw, HandleLaw, HoleAfterLaw, HoleIsLongest, KeepsOthers, LargestLaw, LeastLaw, LongerLaw, MoreDiscardsLaw, NamesLaw, NoStretch, OthersLaw, OutcomeLaw, OwnerLaw, PinnedLaw, RangeLaw, ReachLaw, RisingLaw, RoomLaw, SoundLaw, StandsStill, WalkLaw, all_pinned}
+pub use Rattle.w16_model.specs.Law.{AddressLaw, AreAllOf, DiscardsAreLeast, EmptyLaw, FarLaw, GapListLaw, HandleLaw, HoleAfterLaw, HoleIsLongest, KeepsOthers, LargestLaw, LeastLaw, LongerLaw}
+pub use Rattle.w16_model.specs.Law.{MoreDiscardsLaw, NamesLaw, NoStretch, OthersLaw, OutcomeLaw, OwnerLaw, PinnedLaw, RangeLaw, ReachLaw, RisingLaw, RoomLaw, SoundLaw, StandsStill, WalkLaw, all_pinned}
 pub use Rattle.w16_model.specs.OneObject.{Enters, after_discard, after_free, after_lock, after_modify, after_touch, after_unlock, refused_order}
 pub use Rattle.w16_model.specs.Outcomes.{Call, CallOutcomesLaw, CallStep, IsNamed, Orders, Outcome, Resized, attributes_asked, counts_moved}
 pub use Rattle.w16_model.specs.Outcomes.Call.{Calls, ReAllocs}
 pub use Rattle.w16_model.specs.Outcomes.Outcome.{IsAllocated, IsCompacted, IsDiscarded, IsEntered, IsFreed, IsLocked, IsModified, IsNewest, IsOldest, IsResized, IsSame, IsUnlocked, IsUnmoved}
 pub use Rattle.w16_model.specs.Owned.{is_owned, owns, refuses_write}
-pub use Rattle.w16_model.specs.Reallocation.{AreResized, ChangesKind, DiscardHeapLaw, FewestLaw, HeapLaw, IsArrangementWithout, IsFreeBehind, IsFreeWithout, IsLongestWithout, KeepsRest, KindHeapLaw, KindLaw, LacksPlace, LeftOutLaw, MovesLaw, MovesLittle, OneOutcomeLaw, ReallocatesFewest, RestLaw, counted_loose, is_counted, is_held, is_revived, loosened, without_all}
+pub use Rattle.w16_model.specs.Reallocation.{AreResized, ChangesKind, DiscardHeapLaw, FewestLaw, HeapLaw, IsArrangementWithout, IsFreeBehind, IsFreeWithout, IsLongestWithout, KeepsRest, KindHeapLaw, KindLaw}
+pub use Rattle.w16_model.specs.Reallocation.{LacksPlace, LeftOutLaw, MovesLaw, MovesLittle, OneOutcomeLaw, ReallocatesFewest, RestLaw, counted_loose, is_counted, is_held, is_revived, loosened, without_all}
 pub use Rattle.w16_model.specs.Request.{Allocates, AreNew, Asked, Grows, IsGrown, IsNew, MakesRoom, Reallocates, ReallocatesObject, Request, Settles, StaysOrMovesToHole, compaction_prefix, discarded, discards_needed, eligible_count, is_elsewhere, most_room, moved_bytes, snapshot_of, stays_for}
-pub use Rattle.w16_model.specs.Resizes.{Anew, AnswersDiscard, AnswersHandle, CanExtend, Empties, GetsRun, GlobalReAllocs, IsNull, LacksRun, NullLaw, OldHandleLaw, OneSlotLaw, ReAllocsOwn, ResizeFewestLaw, ResizeLaw, Resizes, ResizesObject, kind_modified, modified, realloc_options, rehoused, rekeyed, with_run}
+pub use Rattle.w16_model.specs.Resizes.{Anew, AnswersDiscard, AnswersHandle, CanExtend, Empties, GetsRun, GlobalReAllocs, IsNull, LacksRun, NullLaw, OldHandleLaw, OneSlotLaw}
+pub use Rattle.w16_model.specs.Resizes.{ReAllocsOwn, ResizeFewestLaw, ResizeLaw, Resizes, ResizesObject, kind_modified, modified, realloc_options, rehoused, rekeyed, with_run}
 pub use Rattle.w16_model.specs.Table.{IsCountedBy, IsSound, IsTable, Table, block_with, by_id, entry_at, heap_in, hold_of_entry, is_listed, object_in}
 pub use Rattle.w16_model.specs.Walk.{HasBytes, IsFirstItem, IsItem, IsWalk}
 pub use Rattle.w16_model.specs.declared.Attributes.{Attributes}

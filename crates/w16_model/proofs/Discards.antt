@@ -1,5 +1,7 @@
 -- Room as the number of discards grows, and after them.
-use Rattle.w16_model.proofs.Common.{◌≡◌, ◌≢◌, ℕ, zero, suc, ◌+◌, ◌≤◌, inl, inr, Bool, true, false, not, ◌&&◌, ◌||◌, ◌==◌, IsTrue, List, [], ◌∷◌, take, filter, fold, Option, refl, sym, ap, ◌∙◌, eqb-true, eq-eqb, IsPermutation, add-one, false≢true, cases_Bool, and_parts, and_from, or_cases, or_left, or_right, not-true, not_from_false, or_parts, or_from, Block, room, is_pinned, Heap, blocks, eligible, room_for, is_member, is_about, is_pinned_id, snapshot, MoreDiscardsLaw, subst, arith, cases_lt, absent, discarded, snapshot_of}
+use Rattle.w16_model.proofs.Common.{◌≡◌, ◌≢◌, ℕ, zero, suc, ◌+◌, ◌≤◌, inl, inr, Bool, true, false, not, ◌&&◌, ◌||◌, ◌==◌, IsTrue, List, [], ◌∷◌, take, filter, fold, Option, refl, sym, ap, ◌∙◌, eqb-true}
+use Rattle.w16_model.proofs.Common.{eq-eqb, IsPermutation, add-one, false≢true, cases_Bool, and_parts, and_from, or_cases, or_left, or_right, not-true, not_from_false, or_parts, or_from, Block, room}
+use Rattle.w16_model.proofs.Common.{is_pinned, Heap, blocks, eligible, room_for, is_member, is_about, is_pinned_id, snapshot, MoreDiscardsLaw, subst, arith, cases_lt, absent, discarded, snapshot_of}
 use Rattle.w16_model.proofs.Gaps.{Member, Each-from, member_filter, filter_member, pairs_filter}
 use Rattle.w16_model.proofs.Members.{permutation_from, room-permutation}
 use Rattle.w16_model.proofs.Heaps.{IsBlockOf, block_member, member_block, blocks_differ, block_of_absent, absent_of_block}

@@ -1,5 +1,10 @@
 -- What calls do, and when accesses are answered.
-use Rattle.w16_model.proofs.Common.{◌≡◌, ℕ, ◌+◌, ◌*◌, ◌-◌, ◌<◌, ◌≤◌, ◌==◌, ◌||◌, Bool, true, false, cond, not, nat_lt, MatchBool, MatchOption, IfSome, List, length, Option, Some, None, Result, Ok, Err, option_map, unwrap_or, is_some, refl, sym, ap, ◌∙◌, subst, arith, ne_eqb, Refusal, FarFault, ReadOnly, REACH, Kind, Moveable, Discardable, GMEM_MODIFY, GMEM_DISCARDABLE, Heap, Object, object_at, bytes_at, is_fixed, is_discardable, part, repeated, with_object, with_ordered, touched, removed, absent, after_lock, after_unlock, after_free, after_discard, after_modify, after_touch, Handles, Part, part_of_selector, selector_of, selector_in, offset_in, far_pointer, owns, refuses_write, Answer, global_lock, global_unlock, global_free, free_own, locks_at, has_flag, Word, Dword, IsNull, AnswersHandle, AnswersDiscard, Empties, Resizes, ReAllocsOwn, GlobalReAllocs, modified, kind_modified, IsNamed, ChangesKind, FarAnswer, far_fault, far_slot, far_at, far_bytes, far_read, data_write, far_write, after_write, Read, Write, Fill, Bytes, Done, Fault, LockLaw, UnlockLaw, FreeLaw, ModifyLaw, DiscardLaw, AnsweredLaw}
+use Rattle.w16_model.proofs.Common.{◌≡◌, ℕ, ◌+◌, ◌*◌, ◌-◌, ◌<◌, ◌≤◌, ◌==◌, ◌||◌, Bool, true, false, cond, not, nat_lt, MatchBool, MatchOption, IfSome, List, length, Option, Some, None, Result, Ok, Err, option_map, unwrap_or, is_some, refl, sym, ap}
+use Rattle.w16_model.proofs.Common.{◌∙◌, subst, arith, ne_eqb, Refusal, FarFault, ReadOnly, REACH, Kind, Moveable, Discardable, GMEM_MODIFY, GMEM_DISCARDABLE, Heap, Object, object_at, bytes_at, is_fixed, is_discardable, part, repeated, with_object}
+use Rattle.w16_model.proofs.Common.{with_ordered, touched, removed, absent, after_lock, after_unlock, after_free, after_discard, after_modify, after_touch, Handles, Part, part_of_selector, selector_of, selector_in, offset_in, far_pointer, owns}
+use Rattle.w16_model.proofs.Common.{refuses_write, Answer, global_lock, global_unlock, global_free, free_own, locks_at, has_flag, Word, Dword, IsNull, AnswersHandle, AnswersDiscard, Empties, Resizes, ReAllocsOwn, GlobalReAllocs, modified, kind_modified}
+use Rattle.w16_model.proofs.Common.{IsNamed, ChangesKind, FarAnswer, far_fault, far_slot, far_at, far_bytes, far_read, data_write, far_write, after_write, Read, Write, Fill, Bytes, Done, Fault, LockLaw, UnlockLaw, FreeLaw, ModifyLaw, DiscardLaw}
+use Rattle.w16_model.proofs.Common.{AnsweredLaw}
 use Rattle.std.specs.FinMap as finmap
 use Rattle.w16_model.specs.declared.Refusal.TheVariants as refusals
 use Rattle.w16_model.proofs.Heaps.{get-update_same}
@@ -91,7 +96,10 @@ free_law old new handle slot o answer n own free step =
 
 pub modify_law : ModifyLaw
 modify_law old new handle slot size flags o answer is n own modify loose step =
-    let again : AnswersHandle old handle (modified old.heap slot (kind_modified flags)) answer new = subst (λ b. MatchBool b (AnswersHandle old handle (modified old.heap slot (kind_modified flags)) answer new) (MatchBool (size == 0) (Empties old handle slot flags answer new) (Resizes old slot flags size answer new))) modify
+    let again : AnswersHandle old handle (modified old.heap slot (kind_modified flags)) answer new = subst
+    (λ b. MatchBool b (AnswersHandle old handle (modified old.heap slot (kind_modified flags)) answer new)
+    (MatchBool (size == 0) (Empties old handle slot flags answer new) (Resizes old slot flags size answer new)))
+    modify
     (reallocs old handle slot o n new size flags answer own step) in
     let law : ((is_fixed o.kind || is_fixed (kind_modified flags)) ≡ true → after_modify old.heap slot (kind_modified flags) ≡ Err refusals.Fixed)
     × ((is_fixed o.kind || is_fixed (kind_modified flags)) ≡ false → (heap : Heap) × (after_modify old.heap slot (kind_modified flags) ≡ Ok heap) × ChangesKind old.heap slot o (kind_modified flags) heap) =

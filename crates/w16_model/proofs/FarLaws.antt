@@ -1,5 +1,7 @@
 -- What a far access does: to its object's bytes, to all others, and to the order of use.
-use Rattle.w16_model.proofs.Common.{◌≡◌, ◌≢◌, ℕ, ◌+◌, ◌*◌, ◌≤◌, Bool, true, false, cond, IsSomeAnd, List, [], length, Option, Some, None, option_map, unwrap_or, refl, sym, ap, ◌∙◌, subst, arith, FarFault, BadSelector, ReadOnly, NotPresent, Limit, REACH, part, put_part, repeated, is_member, Heap, Object, object_at, bytes_at, is_in_order, newest, touched, after_touch, Handles, AreHandles, Gives, Part, part_of_selector, selector_in, offset_in, refuses_write, FarAnswer, is_past, far_fault, far_part, far_slot, far_at, far_bytes, far_read, data_write, far_write, after_write, Read, Write, Fill, Bytes, Done, Fault, IsWritten, Reaches, FarEffect, FarEffectLaw, ReadBackLaw}
+use Rattle.w16_model.proofs.Common.{◌≡◌, ◌≢◌, ℕ, ◌+◌, ◌*◌, ◌≤◌, Bool, true, false, cond, IsSomeAnd, List, [], length, Option, Some, None, option_map, unwrap_or, refl, sym, ap, ◌∙◌, subst, arith, FarFault, BadSelector, ReadOnly, NotPresent, Limit}
+use Rattle.w16_model.proofs.Common.{REACH, part, put_part, repeated, is_member, Heap, Object, object_at, bytes_at, is_in_order, newest, touched, after_touch, Handles, AreHandles, Gives, Part, part_of_selector, selector_in, offset_in, refuses_write}
+use Rattle.w16_model.proofs.Common.{FarAnswer, is_past, far_fault, far_part, far_slot, far_at, far_bytes, far_read, data_write, far_write, after_write, Read, Write, Fill, Bytes, Done, Fault, IsWritten, Reaches, FarEffect, FarEffectLaw, ReadBackLaw}
 use Rattle.w16_model.proofs.Accesses.{Reached, reached, near, reached_fault}
 use Rattle.w16_model.proofs.Heaps.{get-update_same, get-update_other}
 use Rattle.w16_model.proofs.KeptHeaps.{bytes_in}

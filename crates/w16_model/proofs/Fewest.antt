@@ -1,5 +1,8 @@
 -- Requests discard as few as they can, by the laws on what is needed and on what others keep.
-use Rattle.w16_model.proofs.Common.{◌≡◌, ℕ, ◌<◌, ◌⊎◌, inl, inr, Bool, true, false, cond, not, ◌||◌, ◌&&◌, ◌==◌, nat_le, List, take, Option, Some, None, refl, sym, ap, ◌∙◌, subst, arith, leb-false, ne_eqb, MatchBool, unwrap_or, false≢true, Block, Kind, Fixed, Moveable, Discardable, RoomOptions, longest_hole, IsLongestStretch, eligible, blocks_without, is_member, is_about, needed, room_for, none_discarded_if, Heap, IsHeap, blocks, with_newest, Request, IsNew, Allocates, MakesRoom, compaction_prefix, eligible_count, most_room, discards_needed, snapshot_of, Handles, handle_of, Enters, IsRefusedAlloc, IsEmptyFixed, IsTooLong, HasNoSlots, kind_asked, alloc_options, rounded_size, is_absent_asked, has_flag, GMEM_MOVEABLE, KeepsOthers, HasNoStretch, LacksRoom, AllocatesFewest, IsMostAfter, MakesMost, AllocationLaw, CompactionLaw, GlobalAllocLaw, GlobalCompactLaw}
+use Rattle.w16_model.proofs.Common.{◌≡◌, ℕ, ◌<◌, ◌⊎◌, inl, inr, Bool, true, false, cond, not, ◌||◌, ◌&&◌, ◌==◌, nat_le, List, take, Option, Some, None, refl, sym, ap, ◌∙◌, subst, arith, leb-false, ne_eqb, MatchBool, unwrap_or, false≢true, Block}
+use Rattle.w16_model.proofs.Common.{Kind, Fixed, Moveable, Discardable, RoomOptions, longest_hole, IsLongestStretch, eligible, blocks_without, is_member, is_about, needed, room_for, none_discarded_if, Heap, IsHeap, blocks, with_newest, Request}
+use Rattle.w16_model.proofs.Common.{IsNew, Allocates, MakesRoom, compaction_prefix, eligible_count, most_room, discards_needed, snapshot_of, Handles, handle_of, Enters, IsRefusedAlloc, IsEmptyFixed, IsTooLong, HasNoSlots, kind_asked, alloc_options}
+use Rattle.w16_model.proofs.Common.{rounded_size, is_absent_asked, has_flag, GMEM_MOVEABLE, KeepsOthers, HasNoStretch, LacksRoom, AllocatesFewest, IsMostAfter, MakesMost, AllocationLaw, CompactionLaw, GlobalAllocLaw, GlobalCompactLaw}
 use Rattle.w16_model.proofs.Least.{discards_are_least, no_stretch, placed_filter}
 use Rattle.w16_model.proofs.Longest.{room_is_longest}
 use Rattle.w16_model.proofs.Starts.{hole_is_longest}

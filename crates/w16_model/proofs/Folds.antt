@@ -1,6 +1,7 @@
 -- What the plain program's loops compute.
 use Rattle.std.specs.List.{AllByRecursion as Each}
-use Rattle.w16_model.proofs.Common.{◌≡◌, ◌↔◌, ℕ, ◌+◌, ◌<◌, ◌≤◌, min, Bool, true, false, cond, ◌&&◌, nat_le, nat_lt, IsTrue, List, [], ◌∷◌, length, drop, get_or, add-one, drop-cons, drop_of_length-le, map, filter, sum_by, All, AllPairs, refl, sym, ap, ◌∙◌, subst, arith, le-leb, lt-ltb, and_from, cond-true, cond-false, nat_tests, Block, Pinned, Misses, block_end, first_from, is_loose, begins_in, loose_bytes, ArePlaced}
+use Rattle.w16_model.proofs.Common.{◌≡◌, ◌↔◌, ℕ, ◌+◌, ◌<◌, ◌≤◌, min, Bool, true, false, cond, ◌&&◌, nat_le, nat_lt, IsTrue, List, [], ◌∷◌, length, drop, get_or, add-one, drop-cons, drop_of_length-le, map, filter, sum_by, All}
+use Rattle.w16_model.proofs.Common.{AllPairs, refl, sym, ap, ◌∙◌, subst, arith, le-leb, lt-ltb, and_from, cond-true, cond-false, nat_tests, Block, Pinned, Misses, block_end, first_from, is_loose, begins_in, loose_bytes, ArePlaced}
 use Rattle.w16_model.proofs.Gaps.{Each-map, Each-from_All, All-from_Each, EachPair-from_AllPairs, AllPairs-from_EachPair, pack}
 use Rattle.w16_model.proofs.Longest.{sum_filter}
 use Rattle.w16_model.proofs.Least.{placed_filter}

@@ -1,6 +1,7 @@
 -- Laws of gaps and room.
 use Rattle.std.specs.List.{AllByRecursion as Each}
-use Rattle.w16_model.proofs.Common.{◌≡◌, ℕ, zero, suc, ◌+◌, ◌-◌, ◌<◌, ◌≤◌, ◌⊎◌, inl, inr, max, min, Bool, true, false, cond, ◌&&◌, nat_le, IsTrue, List, [], ◌∷◌, map, filter, sum_by, All, AllPairs, refl, sym, ap, ◌∙◌, subst, arith, le-leb, leb-true, false≢true, cases_lt, All-head, All-tail, All-nil, All-cons, sum_by-cons, Block, Misses, block_end, first_from, starts, largest}
+use Rattle.w16_model.proofs.Common.{◌≡◌, ℕ, zero, suc, ◌+◌, ◌-◌, ◌<◌, ◌≤◌, ◌⊎◌, inl, inr, max, min, Bool, true, false, cond, ◌&&◌, nat_le, IsTrue, List, [], ◌∷◌, map, filter, sum_by, All, AllPairs, refl, sym}
+use Rattle.w16_model.proofs.Common.{ap, ◌∙◌, subst, arith, le-leb, leb-true, false≢true, cases_lt, All-head, All-tail, All-nil, All-cons, sum_by-cons, Block, Misses, block_end, first_from, starts, largest}
 
 -- a fact of each two elements, by recursion
 abbrev pub EachPair : {X : Type 0} → (X → X → Type 0) → List X → Type 0

@@ -1,5 +1,7 @@
 -- The cases of a reallocation, and the free bytes behind an object.
-use Rattle.w16_model.proofs.Common.{◌≡◌, ◌≢◌, ℕ, ◌+◌, ◌-◌, ◌<◌, ◌≤◌, ◌⊎◌, inl, inr, Bool, true, false, cond, not, ◌&&◌, ◌==◌, nat_le, MatchBool, MatchOption, IsTrue, IsSomeAnd, List, [], ◌∷◌, length, take, Option, Some, None, option_map, is_some, unwrap_or, refl, sym, ap, ◌∙◌, subst, arith, leb-true, leb-false, le-leb, eq-eqb, eqb-true, false≢true, cases_eq, Block, RoomOptions, Misses, is_any, block_end, first_from, hole_after, IsClear, fits_in_place, growth_for, Heap, Object, IsHeap, blocks, object_at, size_of, is_pinned_object, with_object, with_newest, Asked, Request, Allocates, IsNew, IsGrown, discards_needed, StaysOrMovesToHole, Reallocates, ReallocatesObject, Grows, snapshot_of, IsFreeBehind, OneOutcomeLaw}
+use Rattle.w16_model.proofs.Common.{◌≡◌, ◌≢◌, ℕ, ◌+◌, ◌-◌, ◌<◌, ◌≤◌, ◌⊎◌, inl, inr, Bool, true, false, cond, not, ◌&&◌, ◌==◌, nat_le, MatchBool, MatchOption, IsTrue, IsSomeAnd, List, [], ◌∷◌, length, take, Option, Some, None, option_map, is_some, unwrap_or, refl}
+use Rattle.w16_model.proofs.Common.{sym, ap, ◌∙◌, subst, arith, leb-true, leb-false, le-leb, eq-eqb, eqb-true, false≢true, cases_eq, Block, RoomOptions, Misses, is_any, block_end, first_from, hole_after, IsClear, fits_in_place, growth_for, Heap, Object, IsHeap}
+use Rattle.w16_model.proofs.Common.{blocks, object_at, size_of, is_pinned_object, with_object, with_newest, Asked, Request, Allocates, IsNew, IsGrown, discards_needed, StaysOrMovesToHole, Reallocates, ReallocatesObject, Grows, snapshot_of, IsFreeBehind, OneOutcomeLaw}
 use Rattle.std.proofs.Common.{find}
 use Rattle.std.specs.List.{AllByRecursion as Each}
 use Rattle.std.specs.FinMap as finmap

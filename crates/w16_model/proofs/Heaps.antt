@@ -1,6 +1,9 @@
 -- The blocks of a heap, by its objects.
 use Rattle.std.specs.List.{AllByRecursion as Each}
-use Rattle.w16_model.proofs.Common.{◌≡◌, ◌≢◌, ℕ, ◌<◌, inl, inr, Bool, true, false, cond, ◌&&◌, ◌==◌, nat_lt, T, List, [], ◌∷◌, length, Option, Some, None, option_map, unwrap_or, refl, sym, ap, ◌∙◌, subst, arith, Less, Equal, Greater, is_eq, is_lt, ltb-true, eqb-true, eq_by_cmp, eq_by_cmp_equiv, nat_cmp_total, filter_map, cons_option, FinMap, entries_sorted, get-entries, get-insert, get-remove, is_sorted, below_all, false≢true, cases_Bool, cases_eq, Block, Heap, Object, blocks, block_of, object_at, hold_of_object, IsPermutation, absent, update}
+use Rattle.w16_model.proofs.Common.{◌≡◌, ◌≢◌, ℕ, ◌<◌, inl, inr, Bool, true, false, cond, ◌&&◌, ◌==◌, nat_lt, T, List, [], ◌∷◌, length, Option, Some, None, option_map, unwrap_or, refl, sym, ap, ◌∙◌, subst}
+use Rattle.w16_model.proofs.Common.{arith, Less, Equal, Greater, is_eq, is_lt, ltb-true, eqb-true, eq_by_cmp, eq_by_cmp_equiv, nat_cmp_total, filter_map, cons_option, FinMap, entries_sorted, get-entries}
+use Rattle.w16_model.proofs.Common.{get-insert, get-remove, is_sorted, below_all, false≢true, cases_Bool, cases_eq, Block, Heap, Object, blocks, block_of, object_at, hold_of_object, IsPermutation, absent}
+use Rattle.w16_model.proofs.Common.{update}
 use Rattle.std.proofs.Common.{nat_cmp}
 use Rattle.std.specs.FinMap as finmap
 use Rattle.std.specs.FinMap.Entries.{find}

@@ -1,5 +1,7 @@
 -- An answered reallocation of an object to n bytes: its object has the run of slots that these need, and what is left are handles.
-use Rattle.w16_model.proofs.Common.{◌≡◌, ◌≢◌, ℕ, ◌+◌, ◌-◌, ◌<◌, ◌≤◌, inl, inr, Bool, true, false, cond, ◌==◌, if◌then◌else◌, nat_lt, IfSome, IsSomeAnd, List, [], map, take, Option, Some, None, unwrap_or, is_some, refl, sym, ap, ◌∙◌, subst, arith, eq-eqb, ne_eqb, ltb-true, ltb-false, nat_cmp, FinMap, false≢true, cases_Bool, cases_eq, Discardable, RoomOptions, Attributes, FIRST_SLOT, REACH, eligible, is_member, Heap, Object, IsHeap, blocks, object_at, bytes_at, without, Reallocates, Handles, AreHandles, IsRun, IsSized, IsFreeSlot, slots_at, slots_for, owner_of, AreResized, KeepsRest, CanExtend, GetsRun, rekeyed, rehoused, with_run}
+use Rattle.w16_model.proofs.Common.{◌≡◌, ◌≢◌, ℕ, ◌+◌, ◌-◌, ◌<◌, ◌≤◌, inl, inr, Bool, true, false, cond, ◌==◌, if◌then◌else◌, nat_lt, IfSome, IsSomeAnd, List, [], map, take, Option, Some, None, unwrap_or, is_some, refl, sym, ap, ◌∙◌}
+use Rattle.w16_model.proofs.Common.{subst, arith, eq-eqb, ne_eqb, ltb-true, ltb-false, nat_cmp, FinMap, false≢true, cases_Bool, cases_eq, Discardable, RoomOptions, Attributes, FIRST_SLOT, REACH, eligible, is_member, Heap, Object, IsHeap}
+use Rattle.w16_model.proofs.Common.{blocks, object_at, bytes_at, without, Reallocates, Handles, AreHandles, IsRun, IsSized, IsFreeSlot, slots_at, slots_for, owner_of, AreResized, KeepsRest, CanExtend, GetsRun, rekeyed, rehoused, with_run}
 use Rattle.std.specs.FinMap as finmap
 use Rattle.w16_model.specs.Reallocation.{IsResized}
 use Rattle.w16_model.specs.Owned.{owned_at, owned_in}

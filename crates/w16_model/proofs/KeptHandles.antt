@@ -1,5 +1,9 @@
 -- Handles with one thing changed are handles, and each far access leaves such.
-use Rattle.w16_model.proofs.Common.{◌≡◌, ◌≢◌, ℕ, ◌+◌, ◌-◌, ◌<◌, ◌≤◌, inl, inr, Bool, true, false, cond, not, IfOk, List, [], ◌∷◌, length, fold, take, All, Option, Some, None, option_map, is_some, refl, sym, ap, ◌∙◌, subst, nat_cmp, FinMap, false≢true, cases_eq, Block, RoomOptions, FarFault, is_pinned, eligible, Heap, Object, IsHeap, blocks, object_at, absent, with_object, with_ordered, removed, touched, update, Kind, Enters, after_lock, after_unlock, after_touch, Request, Settles, discarded, stays_for, Attributes, Handles, AreHandles, IsFreeRun, IsOwnedRun, IsSized, slots_at, slots_for, bytes_at, selector_in, offset_in, part, put_part, repeated, FarAnswer, far_fault, far_slot, far_at, far_bytes, far_read, data_write, far_write, after_write, refuses_write, ReadOnly, Read, Write, Fill, Bytes, Done, Fault, FarLaw, AreRuns}
+use Rattle.w16_model.proofs.Common.{◌≡◌, ◌≢◌, ℕ, ◌+◌, ◌-◌, ◌<◌, ◌≤◌, inl, inr, Bool, true, false, cond, not, IfOk, List, [], ◌∷◌, length, fold, take, All, Option, Some, None, option_map, is_some, refl, sym, ap, ◌∙◌, subst, nat_cmp}
+use Rattle.w16_model.proofs.Common.{FinMap, false≢true, cases_eq, Block, RoomOptions, FarFault, is_pinned, eligible, Heap, Object, IsHeap, blocks, object_at, absent, with_object, with_ordered, removed, touched, update, Kind, Enters}
+use Rattle.w16_model.proofs.Common.{after_lock, after_unlock, after_touch, Request, Settles, discarded, stays_for, Attributes, Handles, AreHandles, IsFreeRun, IsOwnedRun, IsSized, slots_at, slots_for, bytes_at, selector_in, offset_in}
+use Rattle.w16_model.proofs.Common.{part, put_part, repeated, FarAnswer, far_fault, far_slot, far_at, far_bytes, far_read, data_write, far_write, after_write, refuses_write, ReadOnly, Read, Write, Fill, Bytes, Done, Fault, FarLaw}
+use Rattle.w16_model.proofs.Common.{AreRuns}
 use Rattle.std.specs.FinMap as finmap
 use Rattle.w16_model.proofs.Parts.{All-repeated, length-put_part}
 use Rattle.w16_model.proofs.CallOutcomes.{LockOf, UnlockOf, lock_is, unlock_is, ok_map}

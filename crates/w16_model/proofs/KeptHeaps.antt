@@ -1,5 +1,7 @@
 -- Changes of a heap that leave it one: each object stays where it stands, or goes.
-use Rattle.w16_model.proofs.Common.{◌≡◌, ◌≢◌, ℕ, ◌+◌, ◌-◌, ◌*◌, ◌<◌, ◌≤◌, inl, inr, Bool, true, false, cond, not, if◌then◌else◌, ◌&&◌, ◌==◌, IfSome, List, [], ◌∷◌, ◌++◌, length, All, AllPairs, Option, Some, None, option_map, is_some, unwrap_or, refl, sym, ap, ◌∙◌, subst, arith, eq-eqb, ne_eqb, nat_cmp_total, nat_cmp, eq_by_cmp, FinMap, get-insert, get-remove, false≢true, cases_eq, eqb-false, Block, Kind, Fixed, Moveable, Discardable, Refusal, Misses, block_end, ArePlaced, is_member, Heap, Object, IsHeap, IsCounted, IsMultiple, blocks, object_at, hold_of_object, is_in_order, is_fixed, is_discardable, with_object, with_ordered, without, newest, oldest, touched, removed, after_touch, refused_order, put_part, after_write}
+use Rattle.w16_model.proofs.Common.{◌≡◌, ◌≢◌, ℕ, ◌+◌, ◌-◌, ◌*◌, ◌<◌, ◌≤◌, inl, inr, Bool, true, false, cond, not, if◌then◌else◌, ◌&&◌, ◌==◌, IfSome, List, [], ◌∷◌, ◌++◌, length, All, AllPairs, Option, Some, None, option_map, is_some, unwrap_or, refl, sym, ap, ◌∙◌}
+use Rattle.w16_model.proofs.Common.{subst, arith, eq-eqb, ne_eqb, nat_cmp_total, nat_cmp, eq_by_cmp, FinMap, get-insert, get-remove, false≢true, cases_eq, eqb-false, Block, Kind, Fixed, Moveable, Discardable, Refusal, Misses, block_end, ArePlaced, is_member, Heap}
+use Rattle.w16_model.proofs.Common.{Object, IsHeap, IsCounted, IsMultiple, blocks, object_at, hold_of_object, is_in_order, is_fixed, is_discardable, with_object, with_ordered, without, newest, oldest, touched, removed, after_touch, refused_order, put_part, after_write}
 use Rattle.std.specs.FinMap as finmap
 use Rattle.w16_model.specs.declared.Refusal.TheVariants as refusals
 use Rattle.w16_model.proofs.Parts.{length-put_part, All-put_part}

@@ -1,5 +1,8 @@
 -- What an answered reallocation leaves of the object, of the others and of the order of use.
-use Rattle.w16_model.proofs.Common.{◌≡◌, ℕ, ◌-◌, ◌<◌, ◌≤◌, inl, inr, Bool, true, false, cond, not, ◌&&◌, ◌||◌, ◌==◌, IsSomeAnd, List, [], ◌∷◌, ◌++◌, length, take, filter, fold, Option, Some, None, option_map, is_some, unwrap_or, refl, sym, ap, ◌∙◌, subst, arith, eq-eqb, ne_eqb, replicate, false≢true, cases_eq, length-append, length-take-le, take_all, take_at, drop_at, RoomOptions, repeated, eligible, is_member, growth_for, Heap, Object, IsHeap, blocks, object_at, size_of, is_in_order, is_discardable, absent, without, with_object, with_ordered, with_newest, Asked, AreNew, IsNew, IsGrown, Settles, discarded, stays_for, discards_needed, snapshot_of, KeepsOthers, AreResized, without_all, is_revived, KeepsRest, RestLaw}
+use Rattle.w16_model.proofs.Common.{◌≡◌, ℕ, ◌-◌, ◌<◌, ◌≤◌, inl, inr, Bool, true, false, cond, not, ◌&&◌, ◌||◌, ◌==◌, IsSomeAnd, List, [], ◌∷◌, ◌++◌, length, take, filter, fold, Option, Some, None, option_map, is_some, unwrap_or, refl, sym, ap, ◌∙◌, subst, arith}
+use Rattle.w16_model.proofs.Common.{eq-eqb, ne_eqb, replicate, false≢true, cases_eq, length-append, length-take-le, take_all, take_at, drop_at, RoomOptions, repeated, eligible, is_member, growth_for, Heap, Object, IsHeap, blocks, object_at, size_of, is_in_order}
+use Rattle.w16_model.proofs.Common.{is_discardable, absent, without, with_object, with_ordered, with_newest, Asked, AreNew, IsNew, IsGrown, Settles, discarded, stays_for, discards_needed, snapshot_of, KeepsOthers, AreResized, without_all, is_revived, KeepsRest}
+use Rattle.w16_model.proofs.Common.{RestLaw}
 use Rattle.std.proofs.Math.ListN.{drop_of_length-le}
 use Rattle.w16_model.specs.Reallocation.{IsResized}
 use Rattle.w16_model.proofs.Gaps.{Member, member_filter}

@@ -1,5 +1,7 @@
 -- A change of kind: what it leaves, and that it leaves a heap.
-use Rattle.w16_model.proofs.Common.{◌≡◌, ◌≢◌, ℕ, inl, inr, Bool, true, false, cond, not, ◌&&◌, ◌||◌, ◌==◌, IfOk, IfSome, List, [], ◌∷◌, ◌++◌, AllPairs, Option, Some, None, Result, Ok, Err, is_some, refl, sym, ap, ◌∙◌, subst, eq-eqb, ne_eqb, false≢true, cases_eq, filter-append, Kind, Fixed, Moveable, Discardable, Refusal, is_member, Heap, Object, IsHeap, IsCounted, object_at, is_in_order, is_fixed, is_discardable, without, newest, with_newest, with_ordered, after_modify, ChangesKind, KindLaw, KindHeapLaw}
+use Rattle.w16_model.proofs.Common.{◌≡◌, ◌≢◌, ℕ, inl, inr, Bool, true, false, cond, not, ◌&&◌, ◌||◌, ◌==◌, IfOk, IfSome, List, [], ◌∷◌, ◌++◌, AllPairs, Option, Some, None, Result, Ok, Err}
+use Rattle.w16_model.proofs.Common.{is_some, refl, sym, ap, ◌∙◌, subst, eq-eqb, ne_eqb, false≢true, cases_eq, filter-append, Kind, Fixed, Moveable, Discardable, Refusal, is_member, Heap, Object}
+use Rattle.w16_model.proofs.Common.{IsHeap, IsCounted, object_at, is_in_order, is_fixed, is_discardable, without, newest, with_newest, with_ordered, after_modify, ChangesKind, KindLaw, KindHeapLaw}
 use Rattle.std.specs.FinMap as finmap
 use Rattle.w16_model.specs.declared.Refusal.TheVariants as refusals
 use Rattle.w16_model.proofs.Gaps.{Member, pairs_filter, AllPairs-from_EachPair, EachPair-from_AllPairs}

@@ -1,6 +1,7 @@
 -- Blocks that are laid out by address.
 use Rattle.std.specs.List.{AllByRecursion as Each}
-use Rattle.w16_model.proofs.Common.{◌≡◌, ℕ, ◌<◌, ◌≤◌, inl, min, Bool, true, false, cond, if◌then◌else◌, nat_le, nat_lt, List, [], ◌∷◌, map, filter, refl, sym, ◌∙◌, subst, arith, le-leb, cond-true, cond-false, lt-leb, Span, Block, block_end, is_any, first_from, spans_from, holes, Misses, ArePlaced, IsLaid, RisingLaw}
+use Rattle.w16_model.proofs.Common.{◌≡◌, ℕ, ◌<◌, ◌≤◌, inl, min, Bool, true, false, cond, if◌then◌else◌, nat_le, nat_lt, List, [], ◌∷◌, map, filter, refl, sym, ◌∙◌, subst, arith}
+use Rattle.w16_model.proofs.Common.{le-leb, cond-true, cond-false, lt-leb, Span, Block, block_end, is_any, first_from, spans_from, holes, Misses, ArePlaced, IsLaid, RisingLaw}
 use Rattle.w16_model.proofs.Gaps.{Each-map, EachPair, All-from_Each, AllPairs-from_EachPair}
 
 -- all blocks of a laid list begin at or after its low end, and the low end is at most the high one
@@ -56,7 +57,12 @@ module _ (lo hi : ℕ) (x : Block) (xs : List Block) (laid : IsLaid lo hi (x ∷
   pub holes-cons : holes lo hi (x ∷ xs) ≡ (if nat_lt lo x.at then record { from = lo; to = x.at } ∷ holes (block_end x) hi xs else holes (block_end x) hi xs)
   holes-cons =
       let behind : spans_from is_any hi (x ∷ xs) (block_end x ∷ map block_end (filter is_any xs)) ≡ holes (block_end x) hi xs =
-      same_spans hi (x ∷ xs) xs (block_end x ∷ map block_end (filter is_any xs)) (first_behind (block_end x) (omega arith), Each-map (λ s. block_end x ≤ s) (λ s. first_from is_any hi (x ∷ xs) s ≡ first_from is_any hi xs s) (λ s l. first_behind s l) (map block_end (filter is_any xs)) (ends_after (block_end x) hi xs laid.2)) in
+      same_spans hi (x ∷ xs) xs (block_end x ∷ map block_end (filter is_any xs)) (
+        first_behind (block_end x) (omega arith),
+        Each-map (λ s. block_end x ≤ s)
+            (λ s. first_from is_any hi (x ∷ xs) s ≡ first_from is_any hi xs s) (λ s l. first_behind s l)
+            (map block_end (filter is_any xs)) (ends_after (block_end x) hi xs laid.2),
+      ) in
       λ i. let s : Span = record { from = lo; to = first_hole_end i } in cond (nat_lt s.from s.to) (s ∷ behind i) (behind i)
 
 -- by address, each before the next

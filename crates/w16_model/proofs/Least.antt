@@ -1,5 +1,6 @@
 -- Fewer discards never serve.
-use Rattle.w16_model.proofs.Common.{◌≡◌, ℕ, zero, suc, ◌+◌, ◌<◌, ◌≤◌, inl, inr, Bool, true, false, cond, not, ◌||◌, nat_le, IsTrue, List, [], ◌∷◌, length, take, filter, Option, Some, None, refl, sym, ap, ◌∙◌, subst, arith, leb-true, leb-false, find, range_with_len, cases_lt, Block, Misses, block_end, ArePlaced, room, eligible, blocks_without, room_for, needed, is_member, is_about, snapshot, NoStretch, DiscardsAreLeast, LeastLaw}
+use Rattle.w16_model.proofs.Common.{◌≡◌, ℕ, zero, suc, ◌+◌, ◌<◌, ◌≤◌, inl, inr, Bool, true, false, cond, not, ◌||◌, nat_le, IsTrue, List, [], ◌∷◌, length, take, filter, Option, Some, None, refl, sym, ap, ◌∙◌, subst, arith, leb-true}
+use Rattle.w16_model.proofs.Common.{leb-false, find, range_with_len, cases_lt, Block, Misses, block_end, ArePlaced, room, eligible, blocks_without, room_for, needed, is_member, is_about, snapshot, NoStretch, DiscardsAreLeast, LeastLaw}
 use Rattle.w16_model.proofs.Gaps.{Each-map, Each-filter, pairs_filter, Each-from_All, All-from_Each, EachPair-from_AllPairs, AllPairs-from_EachPair}
 use Rattle.w16_model.proofs.Longest.{none_longer}
 

@@ -1,5 +1,8 @@
 -- Room with an object counted as loose and left out.
-use Rattle.w16_model.proofs.Common.{◌≡◌, ℕ, ◌+◌, ◌-◌, ◌≤◌, Bool, true, false, cond, not, ◌&&◌, ◌||◌, IsTrue, List, [], ◌∷◌, take, filter, Option, refl, sym, ap, ◌∙◌, subst, inl, inr, false≢true, cases_Bool, and_parts, and_from, not-true, not_from_false, or_parts, or_from, Block, Loose, is_pinned, is_loose, begins_in, Misses, IsClear, IsGap, IsArrangement, IsFreeStretch, IsLongestStretch, eligible, is_member, is_about, blocks_without, room_for, snapshot, counted_loose, loosened, is_counted, IsArrangementWithout, IsFreeWithout, IsLongestWithout, LeftOutLaw}
+use Rattle.w16_model.proofs.Common.{◌≡◌, ℕ, ◌+◌, ◌-◌, ◌≤◌, Bool, true, false, cond, not, ◌&&◌, ◌||◌, IsTrue, List, [], ◌∷◌, take, filter, Option, refl, sym, ap, ◌∙◌, subst, inl, inr, false≢true, cases_Bool}
+use Rattle.w16_model.proofs.Common.{and_parts, and_from, not-true, not_from_false, or_parts, or_from, Block, Loose, is_pinned, is_loose, begins_in, Misses, IsClear, IsGap, IsArrangement, IsFreeStretch}
+use Rattle.w16_model.proofs.Common.{IsLongestStretch, eligible, is_member, is_about, blocks_without, room_for, snapshot, counted_loose, loosened, is_counted, IsArrangementWithout, IsFreeWithout, IsLongestWithout}
+use Rattle.w16_model.proofs.Common.{LeftOutLaw}
 use Rattle.w16_model.proofs.Gaps.{Member, EachPair, Each-at, Each-from, Each-from_All, All-from_Each, Each-of_map, EachPair-from_AllPairs, AllPairs-from_EachPair, EachPair-filter, EachPair-map, member_filter, filter_member}
 use Rattle.w16_model.proofs.Starts.{member_map}
 use Rattle.w16_model.proofs.Discards.{is_member-true, eligible_loose, from_take}

@@ -1,7 +1,8 @@
 -- Each heap has a walk: its objects with bytes and its holes, put in order.
 use Rattle.std.specs.List.{AllByRecursion as Each}
 use Rattle.std.specs.FinMap as finmap
-use Rattle.w16_model.proofs.Common.{◌≡◌, ℕ, ◌+◌, ◌-◌, ◌<◌, inl, inr, true, List, [], ◌∷◌, ◌++◌, map, length, IsSomeAnd, MatchOption, Option, Some, None, option_map, is_some, unwrap_or, refl, sym, ap, ◌∙◌, subst, arith, false≢true, cases_lt, cases_eq, Block, Span, Kind, Item, Owner, Misses, block_end, is_any, holes, IsHole, Heap, Object, IsHeap, blocks, object_at, hold_of_object, HasBytes, IsItem, IsWalk, AreAllOf, WalkLaw}
+use Rattle.w16_model.proofs.Common.{◌≡◌, ℕ, ◌+◌, ◌-◌, ◌<◌, inl, inr, true, List, [], ◌∷◌, ◌++◌, map, length, IsSomeAnd, MatchOption, Option, Some, None, option_map, is_some, unwrap_or, refl, sym, ap, ◌∙◌, subst, arith, false≢true}
+use Rattle.w16_model.proofs.Common.{cases_lt, cases_eq, Block, Span, Kind, Item, Owner, Misses, block_end, is_any, holes, IsHole, Heap, Object, IsHeap, blocks, object_at, hold_of_object, HasBytes, IsItem, IsWalk, AreAllOf, WalkLaw}
 use Rattle.w16_model.proofs.Gaps.{EachPair, Member, Each-from, Each-map, Each-of_map, Each-from_All, All-from_Each, AllPairs-from_EachPair}
 use Rattle.w16_model.proofs.Maximal.{missed, gap_same}
 use Rattle.w16_model.proofs.Starts.{member_map, contains_member, sized, gap_list_law}

@@ -1,6 +1,7 @@
 -- Room in a longer range.
 use Rattle.std.specs.List.{AllByRecursion as Each}
-use Rattle.w16_model.proofs.Common.{◌≡◌, ℕ, ◌+◌, ◌-◌, ◌≤◌, ◌<◌, min, true, false, cond, ◌&&◌, nat_le, nat_lt, List, [], ◌∷◌, refl, ap, ◌∙◌, subst, arith, zero-add, inl, inr, cases_lt, and_left, and_right, lt-leb, Block, is_pinned, is_loose, begins_in, first_from, loose_bytes, room_from, starts, LongerLaw}
+use Rattle.w16_model.proofs.Common.{◌≡◌, ℕ, ◌+◌, ◌-◌, ◌≤◌, ◌<◌, min, true, false, cond, ◌&&◌, nat_le, nat_lt, List, [], ◌∷◌, refl, ap, ◌∙◌, subst, arith, zero-add, inl}
+use Rattle.w16_model.proofs.Common.{inr, cases_lt, and_left, and_right, lt-leb, Block, is_pinned, is_loose, begins_in, first_from, loose_bytes, room_from, starts, LongerLaw}
 use Rattle.w16_model.proofs.Gaps.{Each-from}
 use Rattle.w16_model.proofs.Starts.{inside}
 use Rattle.w16_model.proofs.Longest.{sum_filter, loose_bytes-split}

@@ -1,6 +1,8 @@
 -- Room is the length of the longest free stretch of any arrangement.
 use Rattle.std.specs.List.{AllByRecursion as Each}
-use Rattle.w16_model.proofs.Common.{◌≡◌, ℕ, ◌+◌, ◌-◌, ◌<◌, ◌≤◌, ◌⊎◌, inl, inr, max, min, Bool, true, false, cond, not, ◌&&◌, nat_le, nat_lt, IsTrue, List, [], ◌∷◌, filter, sum_by, refl, sym, ap, subst, arith, leb-true, le-leb, ltb-true, lt-ltb, cases_lt, and_parts, and_from, cond-true, false≢true, nat_tests, sum_by-cons, Block, Misses, block_end, is_pinned, is_loose, begins_in, loose_bytes, room_from, room, first_from, starts, ArePlaced, IsClear, IsGap, IsArrangement, IsFreeStretch, RoomLaw, LargestLaw}
+use Rattle.w16_model.proofs.Common.{◌≡◌, ℕ, ◌+◌, ◌-◌, ◌<◌, ◌≤◌, ◌⊎◌, inl, inr, max, min, Bool, true, false, cond, not, ◌&&◌, nat_le, nat_lt, IsTrue, List, [], ◌∷◌, filter, sum_by, refl, sym}
+use Rattle.w16_model.proofs.Common.{ap, subst, arith, leb-true, le-leb, ltb-true, lt-ltb, cases_lt, and_parts, and_from, cond-true, false≢true, nat_tests, sum_by-cons, Block, Misses, block_end}
+use Rattle.w16_model.proofs.Common.{is_pinned, is_loose, begins_in, loose_bytes, room_from, room, first_from, starts, ArePlaced, IsClear, IsGap, IsArrangement, IsFreeStretch, RoomLaw, LargestLaw}
 use Rattle.w16_model.proofs.Gaps.{EachPair, Each-map, EachPair-map, Each-filter, EachPair-filter, EachPair-member, Member, Each-from, Each-from_All, All-from_Each, EachPair-from_AllPairs, AllPairs-from_EachPair, last_to, last_to-start, first_from-below, largest_reached, pack, pack_around}
 use Rattle.w16_model.proofs.Starts.{inside, sized, two, MayBegin, begins, gap_begins}
 use Rattle.w16_model.proofs.Maximal.{clear_from, missed, gap_around, gap_same}

@@ -1,6 +1,7 @@
 -- Lists with the same members, and what depends on the members alone.
 use Rattle.std.specs.List.{AllByRecursion as Each}
-use Rattle.w16_model.proofs.Common.{◌≡◌, ◌≢◌, ℕ, ◌-◌, ◌≤◌, ◌⊎◌, inl, inr, Bool, true, false, cond, ◌&&◌, IsTrue, List, [], ◌∷◌, ◌++◌, map, filter, sum_by, refl, sym, ap, ◌∙◌, subst, arith, IsPermutation, false≢true, IsPermutation-refl, IsPermutation-cons, IsPermutation-middle, IsPermutation-trans, IsPermutation-sym, sum_by-IsPermutation, All-permutation, Block, is_pinned, is_loose, block_end, begins_in, first_from, loose_bytes, largest, room_from, room, starts, sum_by-cons}
+use Rattle.w16_model.proofs.Common.{◌≡◌, ◌≢◌, ℕ, ◌-◌, ◌≤◌, ◌⊎◌, inl, inr, Bool, true, false, cond, ◌&&◌, IsTrue, List, [], ◌∷◌, ◌++◌, map, filter, sum_by, refl, sym, ap, ◌∙◌, subst, arith, IsPermutation, false≢true, IsPermutation-refl, IsPermutation-cons}
+use Rattle.w16_model.proofs.Common.{IsPermutation-middle, IsPermutation-trans, IsPermutation-sym, sum_by-IsPermutation, All-permutation, Block, is_pinned, is_loose, block_end, begins_in, first_from, loose_bytes, largest, room_from, room, starts, sum_by-cons}
 use Rattle.w16_model.proofs.Gaps.{EachPair, Member, Each-at, Each-from, Each-map, Each-of_map, Each-filter, Each-from_All, All-from_Each, first_from-below, first_from-greatest}
 use Rattle.w16_model.proofs.Longest.{sum_filter}
 

@@ -1,5 +1,6 @@
 -- The look-ups of handles and selectors.
-use Rattle.w16_model.proofs.Common.{◌≡◌, ℕ, ◌/◌, Bool, true, false, cond, ◌&&◌, ◌==◌, IsTrue, IsSomeAnd, Option, Some, None, is_some, refl, sym, ap, ◌∙◌, subst, arith, eq-eqb, eqb-true, false≢true, and_parts, Kind, Fixed, Moveable, Discardable, Object, object_at, Handles, slot_of_handle, slot_of_selector, handle_of, selector_of, NamesLaw}
+use Rattle.w16_model.proofs.Common.{◌≡◌, ℕ, ◌/◌, Bool, true, false, cond, ◌&&◌, ◌==◌, IsTrue, IsSomeAnd, Option, Some, None, is_some, refl, sym, ap, ◌∙◌, subst, arith, eq-eqb, eqb-true}
+use Rattle.w16_model.proofs.Common.{false≢true, and_parts, Kind, Fixed, Moveable, Discardable, Object, object_at, Handles, slot_of_handle, slot_of_selector, handle_of, selector_of, NamesLaw}
 
 -- a handle and a selector tell their slot
 slot_in_handle : (kind : Kind) (slot : ℕ) → handle_of kind slot / 8 ≡ slot

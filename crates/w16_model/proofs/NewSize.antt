@@ -1,5 +1,6 @@
 -- The size that an answered reallocation gives its object.
-use Rattle.w16_model.proofs.Common.{◌≡◌, ◌≢◌, ℕ, ◌<◌, ◌==◌, inl, inr, Bool, true, false, nat_lt, MatchBool, MatchOption, IsSomeAnd, refl, sym, ap, subst, arith, ne_eqb, ltb-false, GMEM_MODIFY, LARGEST_SIZE, Heap, Object, object_at, Handles, AreHandles, slots_for, owns, has_flag, rounded_size, Word, Reallocates, GetsRun, Anew, IsNull, AnswersHandle, Empties, Resizes, ResizesObject, ReAllocsOwn, modified, kind_modified, realloc_options, IsNamed, ReAllocs, Resized, HasNewSize, SizeLaw}
+use Rattle.w16_model.proofs.Common.{◌≡◌, ◌≢◌, ℕ, ◌<◌, ◌==◌, inl, inr, Bool, true, false, nat_lt, MatchBool, MatchOption, IsSomeAnd, refl, sym, ap, subst, arith, ne_eqb, ltb-false, GMEM_MODIFY, LARGEST_SIZE, Heap, Object, object_at, Handles, AreHandles, slots_for}
+use Rattle.w16_model.proofs.Common.{owns, has_flag, rounded_size, Word, Reallocates, GetsRun, Anew, IsNull, AnswersHandle, Empties, Resizes, ResizesObject, ReAllocsOwn, modified, kind_modified, realloc_options, IsNamed, ReAllocs, Resized, HasNewSize, SizeLaw}
 use Rattle.w16_model.specs.Reallocation.{IsResized as IsObjectResized}
 use Rattle.w16_model.proofs.CallLaws.{rest_of, object_first, next_is}
 
@@ -56,7 +57,11 @@ module _ (old new : Handles) (is : AreHandles old) (handle slot size flags : ℕ
   named : owns old handle ≡ false → ReAllocsOwn old handle size flags answer new → IsSizedAnew answer
   named own g =
       let of_slot : MatchBool (has_flag flags GMEM_MODIFY) (AnswersHandle old handle (modified old.heap slot (kind_modified flags)) answer new) (MatchBool (size == 0) (Empties old handle slot flags answer new) (Resizes old slot flags size answer new)) =
-      subst (λ p. MatchOption p (IsNull old answer new) (λ slot. MatchBool (has_flag flags GMEM_MODIFY) (AnswersHandle old handle (modified old.heap slot (kind_modified flags)) answer new) (MatchBool (size == 0) (Empties old handle slot flags answer new) (Resizes old slot flags size answer new)))) n.found g in
+      subst (λ p. MatchOption p (IsNull old answer new)
+      (λ slot. MatchBool (has_flag flags GMEM_MODIFY)
+      (AnswersHandle old handle (modified old.heap slot (kind_modified flags)) answer new)
+      (MatchBool (size == 0) (Empties old handle slot flags answer new) (Resizes old slot flags size answer new))))
+      n.found g in
       let of_size : MatchBool (size == 0) (Empties old handle slot flags answer new) (Resizes old slot flags size answer new) =
       subst (λ b. MatchBool b (AnswersHandle old handle (modified old.heap slot (kind_modified flags)) answer new) (MatchBool (size == 0) (Empties old handle slot flags answer new) (Resizes old slot flags size answer new))) keeps of_slot in
       resizes own (nat_lt LARGEST_SIZE size) refl (subst (λ b. MatchBool b (Empties old handle slot flags answer new) (Resizes old slot flags size answer new)) none of_size)

@@ -1,5 +1,8 @@
 -- What a step leaves of the objects that it isn't about.
-use Rattle.w16_model.proofs.Common.{◌≡◌, ◌≢◌, ℕ, ◌≤◌, inl, inr, Bool, true, false, cond, not, ◌&&◌, ◌||◌, nat_lt, IsTrue, IsSomeAnd, List, [], ◌∷◌, length, take, fold, Option, Some, None, option_map, is_some, unwrap_or, refl, sym, ap, ◌∙◌, subst, arith, eq-eqb, ltb-false, nat_cmp_total, get-insert, false≢true, cases_Bool, cases_eq, and_parts, not-true, Block, Pinned, Loose, Kind, Fixed, Moveable, Discardable, holds_still, Heap, Object, IsHeap, blocks, object_at, hold_of_object, is_fixed, is_discardable, is_pinned_object, is_in_order, eligible, is_member, is_about, is_pinned_id, absent, discarded, KeepsOthers, OthersLaw}
+use Rattle.w16_model.proofs.Common.{◌≡◌, ◌≢◌, ℕ, ◌≤◌, inl, inr, Bool, true, false, cond, not, ◌&&◌, ◌||◌, nat_lt, IsTrue, IsSomeAnd, List, [], ◌∷◌, length, take, fold, Option, Some, None, option_map, is_some, unwrap_or, refl, sym}
+use Rattle.w16_model.proofs.Common.{ap, ◌∙◌, subst, arith, eq-eqb, ltb-false, nat_cmp_total, get-insert, false≢true, cases_Bool, cases_eq, and_parts, not-true, Block, Pinned, Loose, Kind, Fixed, Moveable, Discardable, holds_still}
+use Rattle.w16_model.proofs.Common.{Heap, Object, IsHeap, blocks, object_at, hold_of_object, is_fixed, is_discardable, is_pinned_object, is_in_order, eligible, is_member, is_about, is_pinned_id, absent, discarded, KeepsOthers}
+use Rattle.w16_model.proofs.Common.{OthersLaw}
 use Rattle.std.specs.FinMap as finmap
 use Rattle.w16_model.proofs.Gaps.{Member, member_filter}
 use Rattle.w16_model.proofs.Heaps.{IsBlockOf, block_member, untied, get-update_other, get-update_same}

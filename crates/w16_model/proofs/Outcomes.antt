@@ -1,5 +1,7 @@
 -- What a request leaves where it stands, and that it isn't both refused and answered.
-use Rattle.w16_model.proofs.Common.{◌≡◌, ◌≢◌, ℕ, ◌<◌, inl, inr, Bool, true, false, cond, not, ◌&&◌, ◌||◌, ◌==◌, MatchBool, IsTrue, IfSome, IsSomeAnd, List, length, Option, Some, None, is_some, unwrap_or, refl, sym, ap, ◌∙◌, subst, arith, ne_eqb, false≢true, Block, RoomOptions, Pinned, Loose, GMEM_MOVEABLE, is_pinned, holds_still, Heap, Object, IsHeap, blocks, object_at, hold_of_object, is_pinned_object, with_newest, Settles, stays_for, Allocates, IsNew, Request, discards_needed, Enters, Handles, AreHandles, slots_for, has_flag, alloc_options, kind_asked, rounded_size, AddressLaw, StandsStill, OutcomeLaw}
+use Rattle.w16_model.proofs.Common.{◌≡◌, ◌≢◌, ℕ, ◌<◌, inl, inr, Bool, true, false, cond, not, ◌&&◌, ◌||◌, ◌==◌, MatchBool, IsTrue, IfSome, IsSomeAnd, List, length, Option, Some, None, is_some, unwrap_or, refl, sym, ap, ◌∙◌}
+use Rattle.w16_model.proofs.Common.{subst, arith, ne_eqb, false≢true, Block, RoomOptions, Pinned, Loose, GMEM_MOVEABLE, is_pinned, holds_still, Heap, Object, IsHeap, blocks, object_at, hold_of_object, is_pinned_object, with_newest}
+use Rattle.w16_model.proofs.Common.{Settles, stays_for, Allocates, IsNew, Request, discards_needed, Enters, Handles, AreHandles, slots_for, has_flag, alloc_options, kind_asked, rounded_size, AddressLaw, StandsStill, OutcomeLaw}
 use Rattle.std.specs.FinMap as finmap
 use Rattle.w16_model.proofs.Gaps.{Each-at, Each-from_All}
 use Rattle.w16_model.proofs.Heaps.{IsBlockOf, block_member}

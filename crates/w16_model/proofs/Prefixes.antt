@@ -1,5 +1,7 @@
 -- What may be discarded, and how many discards a request needs, by the blocks and the order of use.
-use Rattle.w16_model.proofs.Common.{find, range_with_len, ◌≡◌, ◌≢◌, ℕ, zero, suc, ◌+◌, ◌<◌, ◌≤◌, inl, inr, Bool, true, false, cond, not, ◌&&◌, ◌||◌, ◌==◌, nat_le, List, [], ◌∷◌, length, get_or, set, swap, take, filter, Option, Some, None, refl, sym, ap, ◌∙◌, subst, arith, add-one, IsPermutation, ne_eqb, false≢true, lt-leb, list_any-IsPermutation, IsPermutation-refl, IsPermutation-cons, IsPermutation-swap, IsPermutation-trans, IsPermutation-keeps, Block, RoomOptions, is_pinned, room, longest_hole, Heap, IsHeap, Object, blocks, object_at, is_in_order, eligible, blocks_without, room_for, needed, prefix_for, none_discarded_if, is_member, is_about, is_pinned_id, snapshot, discards_needed, snapshot_of}
+use Rattle.w16_model.proofs.Common.{find, range_with_len, ◌≡◌, ◌≢◌, ℕ, zero, suc, ◌+◌, ◌<◌, ◌≤◌, inl, inr, Bool, true, false, cond, not, ◌&&◌, ◌||◌, ◌==◌, nat_le, List, [], ◌∷◌, length, get_or, set, swap, take, filter, Option, Some, None, refl, sym, ap, ◌∙◌}
+use Rattle.w16_model.proofs.Common.{subst, arith, add-one, IsPermutation, ne_eqb, false≢true, lt-leb, list_any-IsPermutation, IsPermutation-refl, IsPermutation-cons, IsPermutation-swap, IsPermutation-trans, IsPermutation-keeps, Block, RoomOptions, is_pinned}
+use Rattle.w16_model.proofs.Common.{room, longest_hole, Heap, IsHeap, Object, blocks, object_at, is_in_order, eligible, blocks_without, room_for, needed, prefix_for, none_discarded_if, is_member, is_about, is_pinned_id, snapshot, discards_needed, snapshot_of}
 use Rattle.std.proofs.lemmas.Bool.{le-leb}
 use Rattle.w16_model.proofs.Gaps.{Member}
 use Rattle.w16_model.proofs.Heaps.{IsBlockOf, member_block}

@@ -1,5 +1,8 @@
 -- The laws of reallocation, case by case.
-use Rattle.w16_model.proofs.Common.{◌≡◌, ◌≢◌, ℕ, ◌+◌, ◌<◌, ◌≤◌, ◌⊎◌, inl, inr, Bool, true, false, cond, not, ◌&&◌, ◌||◌, nat_le, MatchOption, IsTrue, IsSomeAnd, IfSome, List, ◌++◌, length, take, All, Option, Some, None, option_map, is_some, unwrap_or, refl, sym, ap, ◌∙◌, subst, arith, nat_cmp, FinMap, false≢true, length-append, length-take-le, All-take, All-append, Block, RoomOptions, Misses, is_any, is_pinned, block_end, longest_hole, IsClear, fits_in_place, growth_for, none_discarded_if, Heap, Object, IsHeap, IsCounted, IsMultiple, blocks, object_at, size_of, is_fixed, is_pinned_object, with_object, with_ordered, with_newest, Asked, Request, AreNew, IsNew, IsGrown, Settles, Reallocates, ReallocatesObject, discarded, stays_for, discards_needed, snapshot_of, KeepsOthers, StandsStill, AllocatesFewest, LacksRoom, HasNoStretch, IsFreeBehind, is_held, ReallocatesFewest, MovesLittle, HeapLaw, FewestLaw, MovesLaw}
+use Rattle.w16_model.proofs.Common.{◌≡◌, ◌≢◌, ℕ, ◌+◌, ◌<◌, ◌≤◌, ◌⊎◌, inl, inr, Bool, true, false, cond, not, ◌&&◌, ◌||◌, nat_le, MatchOption, IsTrue, IsSomeAnd, IfSome, List, ◌++◌, length, take, All, Option, Some, None, option_map, is_some, unwrap_or, refl}
+use Rattle.w16_model.proofs.Common.{sym, ap, ◌∙◌, subst, arith, nat_cmp, FinMap, false≢true, length-append, length-take-le, All-take, All-append, Block, RoomOptions, Misses, is_any, is_pinned, block_end, longest_hole, IsClear, fits_in_place, growth_for}
+use Rattle.w16_model.proofs.Common.{none_discarded_if, Heap, Object, IsHeap, IsCounted, IsMultiple, blocks, object_at, size_of, is_fixed, is_pinned_object, with_object, with_ordered, with_newest, Asked, Request, AreNew, IsNew, IsGrown, Settles, Reallocates}
+use Rattle.w16_model.proofs.Common.{ReallocatesObject, discarded, stays_for, discards_needed, snapshot_of, KeepsOthers, StandsStill, AllocatesFewest, LacksRoom, HasNoStretch, IsFreeBehind, is_held, ReallocatesFewest, MovesLittle, HeapLaw, FewestLaw, MovesLaw}
 use Rattle.std.specs.FinMap as finmap
 use Rattle.w16_model.proofs.Gaps.{Each-at, Each-from, Each-from_All, All-from_Each}
 use Rattle.w16_model.proofs.Heaps.{IsBlockOf, block_member, member_block}
@@ -161,7 +164,10 @@ module _ (old : Heap) (is : IsHeap old) (id n : ℕ) (o : Object) (there : objec
 
       block_now : (x : Block) → IsBlockOf old x → IsBlockOf new x
       block_now x b =
-          let kept : finmap.get new.places x.id ≡ Some x.at = Each-at (λ y. IsTrue (stays_for id options y) → finmap.get new.places y.id ≡ Some y.at) (blocks old) (Each-from_All _ (blocks old) settles.kept) x (block_member old x b) (stays_other id options x (other x b) (or_right (is_pinned x) options.compact still)) in
+          let kept : finmap.get new.places x.id ≡ Some x.at = Each-at
+          (λ y. IsTrue (stays_for id options y) → finmap.get new.places y.id ≡ Some y.at) (blocks old)
+          (Each-from_All _ (blocks old) settles.kept) x (block_member old x b)
+          (stays_other id options x (other x b) (or_right (is_pinned x) options.compact still)) in
           record {
             object = b.object;
             bytes = b.bytes;

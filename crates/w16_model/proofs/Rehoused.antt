@@ -1,6 +1,7 @@
 -- An object under another slot: the heap is one still.
 use Rattle.std.specs.List.{AllByRecursion as Each}
-use Rattle.w16_model.proofs.Common.{◌≡◌, ◌≢◌, ℕ, ◌*◌, ◌<◌, ◌≤◌, inl, inr, false, cond, not, ◌||◌, ◌==◌, if◌then◌else◌, IfSome, List, [], ◌∷◌, map, All, Option, Some, None, is_some, unwrap_or, refl, sym, ap, ◌∙◌, subst, eq-eqb, ne_eqb, nat_cmp, FinMap, false≢true, cases_eq, Block, block_end, is_member, Heap, IsHeap, IsCounted, blocks, object_at, is_in_order, without, rekeyed}
+use Rattle.w16_model.proofs.Common.{◌≡◌, ◌≢◌, ℕ, ◌*◌, ◌<◌, ◌≤◌, inl, inr, false, cond, not, ◌||◌, ◌==◌, if◌then◌else◌, IfSome, List, [], ◌∷◌, map, All, Option, Some, None, is_some, unwrap_or, refl, sym, ap}
+use Rattle.w16_model.proofs.Common.{◌∙◌, subst, eq-eqb, ne_eqb, nat_cmp, FinMap, false≢true, cases_eq, Block, block_end, is_member, Heap, IsHeap, IsCounted, blocks, object_at, is_in_order, without, rekeyed}
 use Rattle.std.specs.FinMap as finmap
 use Rattle.w16_model.proofs.Gaps.{EachPair, Each-at, Each-from, Each-from_All, All-from_Each, EachPair-from_AllPairs, AllPairs-from_EachPair}
 use Rattle.w16_model.proofs.Heaps.{IsBlockOf, block_member, member_block}

@@ -1,5 +1,11 @@
 -- Each call keeps what holds of handles; GlobalReAlloc leaves the heap where it is NULL, and discards as few as it can.
-use Rattle.w16_model.proofs.Common.{◌≡◌, ◌≢◌, ℕ, ◌/◌, ◌<◌, ◌≤◌, ◌⊎◌, inl, inr, Bool, true, false, ◌||◌, ◌==◌, nat_lt, MatchBool, MatchOption, IfOk, IfSome, IsSomeAnd, List, Option, Some, None, Result, Ok, Err, is_some, option_map, unwrap_or, refl, sym, ap, ◌∙◌, subst, arith, ne_eqb, ltb-true, false≢true, cases_Bool, cases_eq, Kind, Fixed, Moveable, Discardable, Refusal, LARGEST_SIZE, REACH, GMEM_MODIFY, Heap, Object, IsHeap, object_at, bytes_at, size_of, is_fixed, absent, newest, oldest, with_newest, AreNew, Reallocates, moved_bytes, stays_for, HandleLaw, Call, Outcome, Resized, attributes_asked, Calls, ReAllocs, IsSame, IsUnmoved, IsLocked, IsUnlocked, IsFreed, IsNewest, IsOldest, IsEntered, IsAllocated, IsCompacted, IsModified, IsDiscarded, IsResized, after_modify, after_discard, Handles, AreHandles, IsSized, slots_at, slots_for, slot_of_handle, handle_of, HandleCommand, Answer, GlobalCompacts, has_flag, rounded_size, kind_asked, alloc_options, Word, Dword, GlobalCompact, is_owned, ChangesKind, LacksPlace, ReallocatesFewest, realloc_options, kind_modified, modified, IsNull, AnswersHandle, Empties, LacksRun, rehoused, Anew, ResizesObject, Resizes, ReAllocsOwn, GlobalReAllocs, ResizeLaw, NullLaw, ResizeFewestLaw, OneSlotLaw, OldHandleLaw}
+use Rattle.w16_model.proofs.Common.{◌≡◌, ◌≢◌, ℕ, ◌/◌, ◌<◌, ◌≤◌, ◌⊎◌, inl, inr, Bool, true, false, ◌||◌, ◌==◌, nat_lt, MatchBool, MatchOption, IfOk, IfSome, IsSomeAnd, List, Option, Some, None, Result, Ok, Err, is_some, option_map, unwrap_or}
+use Rattle.w16_model.proofs.Common.{refl, sym, ap, ◌∙◌, subst, arith, ne_eqb, ltb-true, false≢true, cases_Bool, cases_eq, Kind, Fixed, Moveable, Discardable, Refusal, LARGEST_SIZE, REACH, GMEM_MODIFY, Heap, Object, IsHeap, object_at}
+use Rattle.w16_model.proofs.Common.{bytes_at, size_of, is_fixed, absent, newest, oldest, with_newest, AreNew, Reallocates, moved_bytes, stays_for, HandleLaw, Call, Outcome, Resized, attributes_asked, Calls, ReAllocs, IsSame, IsUnmoved}
+use Rattle.w16_model.proofs.Common.{IsLocked, IsUnlocked, IsFreed, IsNewest, IsOldest, IsEntered, IsAllocated, IsCompacted, IsModified, IsDiscarded, IsResized, after_modify, after_discard, Handles, AreHandles, IsSized, slots_at, slots_for}
+use Rattle.w16_model.proofs.Common.{slot_of_handle, handle_of, HandleCommand, Answer, GlobalCompacts, has_flag, rounded_size, kind_asked, alloc_options, Word, Dword, GlobalCompact, is_owned, ChangesKind, LacksPlace, ReallocatesFewest}
+use Rattle.w16_model.proofs.Common.{realloc_options, kind_modified, modified, IsNull, AnswersHandle, Empties, LacksRun, rehoused, Anew, ResizesObject, Resizes, ReAllocsOwn, GlobalReAllocs, ResizeLaw, NullLaw, ResizeFewestLaw, OneSlotLaw}
+use Rattle.w16_model.proofs.Common.{OldHandleLaw}
 use Rattle.w16_model.specs.Owned.{owned_at}
 use Rattle.w16_model.specs.declared.Owned.{Owned}
 use Rattle.w16_model.specs.declared.Refusal.TheVariants as refusals
@@ -78,7 +84,10 @@ kept_by old new call answer is (IsNewest n) = subst AreHandles (sym n.rest) (ord
 kept_by old new call answer is (IsOldest n) = subst AreHandles (sym n.rest) (ordered_kept old is (oldest n.slot old.heap.order) (oldest_heap old.heap is.heap n.slot (ordered old.heap is.heap n.slot n.may)))
 kept_by old new call answer is (IsEntered e) = subst AreHandles (sym e.rest) (moved_handles _ (with_absent_object old is (attributes_asked e.flags e.size) e.slot (kind_asked e.flags) new.heap (some_slots (rounded_size e.size)) tt e.free e.entered) (moved_bytes old.heap new.heap))
 kept_by old new call answer is (IsAllocated a) = subst AreHandles (sym a.rest)
-    (moved_handles _ (with_new_object old is (attributes_asked a.flags a.size) a.slot a.count a.object (with_newest a.slot a.object) (stays_for a.slot (alloc_options a.flags)) new.heap (some_slots (rounded_size a.size)) tt a.free (new_sized (alloc_options a.flags).zero (rounded_size a.size) a.object.bytes a.is_new.new_bytes) a.settled) (moved_bytes old.heap new.heap))
+    (moved_handles _ (with_new_object old is (attributes_asked a.flags a.size) a.slot a.count a.object
+    (with_newest a.slot a.object) (stays_for a.slot (alloc_options a.flags)) new.heap
+    (some_slots (rounded_size a.size)) tt a.free (new_sized (alloc_options a.flags).zero (rounded_size a.size)
+    a.object.bytes a.is_new.new_bytes) a.settled) (moved_bytes old.heap new.heap))
 kept_by old new call answer is (IsCompacted c) = subst AreHandles (sym c.rest) (moved_handles _ (settled_handles old is c.count new.heap c.settled) (moved_bytes old.heap new.heap))
 kept_by old new call answer is (IsModified m) = subst AreHandles (sym m.rest) (moved_handles _
     (kind_handles old is m.slot (kind_modified m.flags) m.object new.heap m.named.there (subst (λ (r : Result Heap Refusal). IfOk r IsHeap) m.modified (kind_heap_law old.heap m.slot (kind_modified m.flags) is.heap)) m.changes) (moved_bytes old.heap new.heap))
@@ -148,7 +157,9 @@ module _ (old new : Handles) (is : AreHandles old) (handle size flags answer slo
     (λ none. absurd (some_handle o.kind first (sym anew.0 ∙ none))),
   )
   answered_fewest o there first false heap r null =
-      let f : ReallocatesFewest old.heap slot (rounded_size size) o (realloc_options flags) false heap = subst (λ p. IsSomeAnd p (λ o. ReallocatesFewest old.heap slot (rounded_size size) o (realloc_options flags) false heap)) there (fewest_law old.heap heap slot (rounded_size size) (realloc_options flags) false is.heap r) in (
+      let f : ReallocatesFewest old.heap slot (rounded_size size) o (realloc_options flags) false heap = subst
+      (λ p. IsSomeAnd p (λ o. ReallocatesFewest old.heap slot (rounded_size size) o (realloc_options flags) false
+      heap)) there (fewest_law old.heap heap slot (rounded_size size) (realloc_options flags) false is.heap r) in (
         (λ some. absurd (some null.0)),
         (λ _. (inr ((f.refused refl).0, (f.refused refl).1), null_heap old new answer null)),
       )
@@ -170,12 +181,23 @@ resize_fewest_law old new handle size flags answer is step slot found free same 
     sized true none g = absurd (false≢true (sym (ne_eqb size 0 (λ e. absurd (omega (arith, e, some)))) ∙ none))
     sized false none g = resizes (nat_lt LARGEST_SIZE size) refl g
 
-    modifies : (m : Bool) → has_flag flags GMEM_MODIFY ≡ m → MatchBool m (AnswersHandle old handle (modified old.heap slot (kind_modified flags)) answer new) (MatchBool (size == 0) (Empties old handle slot flags answer new) (Resizes old slot flags size answer new)) → Few old new is handle size flags answer slot
+    modifies : (m : Bool) → has_flag flags GMEM_MODIFY ≡ m → MatchBool m
+        (AnswersHandle old handle (modified old.heap slot (kind_modified flags)) answer new)
+        (MatchBool (size == 0) (Empties old handle slot flags answer new) (Resizes old slot flags size answer new)) → Few
+        old new is handle size flags answer slot
     modifies true m g = absurd (false≢true (sym same ∙ m))
     modifies false m g = sized (size == 0) refl g
 
-    turn : (p : Option ℕ) → p ≡ Some slot → MatchOption p (IsNull old answer new) (λ slot. MatchBool (has_flag flags GMEM_MODIFY) (AnswersHandle old handle (modified old.heap slot (kind_modified flags)) answer new) (MatchBool (size == 0) (Empties old handle slot flags answer new) (Resizes old slot flags size answer new))) → Few old new is handle size flags answer slot
-    turn p e g = modifies (has_flag flags GMEM_MODIFY) refl (subst (λ (p : Option ℕ). MatchOption p (IsNull old answer new) (λ slot. MatchBool (has_flag flags GMEM_MODIFY) (AnswersHandle old handle (modified old.heap slot (kind_modified flags)) answer new) (MatchBool (size == 0) (Empties old handle slot flags answer new) (Resizes old slot flags size answer new)))) e g)
+    turn : (p : Option ℕ) → p ≡ Some slot → MatchOption p (IsNull old answer new)
+        (λ slot. MatchBool (has_flag flags GMEM_MODIFY) (AnswersHandle old handle
+        (modified old.heap slot (kind_modified flags)) answer new)
+        (MatchBool (size == 0) (Empties old handle slot flags answer new) (Resizes old slot flags size answer new))) →
+        Few old new is handle size flags answer slot
+    turn p e g = modifies (has_flag flags GMEM_MODIFY) refl
+        (subst (λ (p : Option ℕ). MatchOption p (IsNull old answer new)
+        (λ slot. MatchBool (has_flag flags GMEM_MODIFY) (AnswersHandle old handle
+        (modified old.heap slot (kind_modified flags)) answer new)
+        (MatchBool (size == 0) (Empties old handle slot flags answer new) (Resizes old slot flags size answer new)))) e g)
 
 -- Handles that stay, and those that go.
 module _ (old new : Handles) (is : AreHandles old) (call : Call) (reply : Answer) (r : Resized old call reply new) where

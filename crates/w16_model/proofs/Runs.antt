@@ -1,5 +1,8 @@
 -- Runs of slots: whose a slot is, and what changes of attributes leave of runs.
-use Rattle.w16_model.proofs.Common.{◌≡◌, ◌≢◌, ℕ, ◌+◌, ◌-◌, ◌*◌, ◌/◌, ◌<◌, ◌≤◌, inl, inr, min, Bool, true, false, cond, if◌then◌else◌, ◌&&◌, ◌==◌, nat_le, nat_lt, IsTrue, IfSome, List, [], ◌∷◌, length, find, Option, Some, None, option_map, unwrap_or, is_some, refl, sym, ap, ◌∙◌, subst, arith, eqb-true, leb-true, ltb-true, le-leb, lt-ltb, FinMap, nat_cmp, entries_sorted, get-entries, false≢true, cases_Bool, cases_eq, and_parts, Block, Attributes, FIRST_SLOT, REACH, Heap, Object, IsHeap, blocks, bytes_at, object_at, hold_of_object, block_end, Handles, AreHandles, AreRuns, IsOwnedRun, IsRun, Part, IsSlot, IsFreeSlot, IsFreeRun, slots_at, has_slot, owner_of, slots_for, selector_of, reached, OwnerLaw, ReachLaw}
+use Rattle.w16_model.proofs.Common.{◌≡◌, ◌≢◌, ℕ, ◌+◌, ◌-◌, ◌*◌, ◌/◌, ◌<◌, ◌≤◌, inl, inr, min, Bool, true, false, cond, if◌then◌else◌, ◌&&◌, ◌==◌, nat_le, nat_lt, IsTrue, IfSome, List, [], ◌∷◌, length, find, Option, Some, None, option_map, unwrap_or, is_some}
+use Rattle.w16_model.proofs.Common.{refl, sym, ap, ◌∙◌, subst, arith, eqb-true, leb-true, ltb-true, le-leb, lt-ltb, FinMap, nat_cmp, entries_sorted, get-entries, false≢true, cases_Bool, cases_eq, and_parts, Block, Attributes, FIRST_SLOT, REACH, Heap, Object}
+use Rattle.w16_model.proofs.Common.{IsHeap, blocks, bytes_at, object_at, hold_of_object, block_end, Handles, AreHandles, AreRuns, IsOwnedRun, IsRun, Part, IsSlot, IsFreeSlot, IsFreeRun, slots_at, has_slot, owner_of, slots_for, selector_of, reached, OwnerLaw}
+use Rattle.w16_model.proofs.Common.{ReachLaw}
 use Rattle.std.specs.FinMap as finmap
 use Rattle.w16_model.specs.Owned.{owned_in, owned_at}
 use Rattle.w16_model.specs.declared.Owned.{Owned}

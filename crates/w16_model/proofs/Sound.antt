@@ -1,6 +1,7 @@
 -- The heap of a sound table is one.
 use Rattle.std.specs.List.{AllByRecursion as Each}
-use Rattle.w16_model.proofs.Common.{◌≡◌, ◌≢◌, ℕ, ◌+◌, ◌*◌, ◌<◌, ◌≤◌, ◌⊎◌, inl, inr, ⊎_elim, IfSome, IsSomeAnd, List, length, Option, Some, None, option_map, is_some, slice_range, refl, sym, ap, ◌∙◌, subst, ◌-◌, All, drop, All-take, All-drop, Block, Entry, Misses, block_end, Object, IsHeap, IsCounted, blocks, is_in_order, SoundLaw, Table, IsSound, IsCountedBy, heap_in, object_in, block_with, entry_at, hold_of_entry, is_listed}
+use Rattle.w16_model.proofs.Common.{◌≡◌, ◌≢◌, ℕ, ◌+◌, ◌*◌, ◌<◌, ◌≤◌, ◌⊎◌, inl, inr, ⊎_elim, IfSome, IsSomeAnd, List, length, Option, Some, None, option_map, is_some, slice_range, refl, sym, ap, ◌∙◌, subst, ◌-◌, All, drop, All-take}
+use Rattle.w16_model.proofs.Common.{All-drop, Block, Entry, Misses, block_end, Object, IsHeap, IsCounted, blocks, is_in_order, SoundLaw, Table, IsSound, IsCountedBy, heap_in, object_in, block_with, entry_at, hold_of_entry, is_listed}
 use Rattle.w16_model.proofs.Gaps.{Each-at, Each-from, Each-from_All, All-from_Each, EachPair-from_AllPairs, each_two, Member}
 use Rattle.w16_model.proofs.Heaps.{IsBlockOf, member_block}
 use Rattle.w16_model.proofs.Places.{placed_from}

@@ -1,6 +1,7 @@
 -- The places where a maximal interval may begin, and those where one does.
 use Rattle.std.specs.List.{AllByRecursion as Each}
-use Rattle.w16_model.proofs.Common.{◌≡◌, ℕ, ◌+◌, ◌-◌, ◌<◌, ◌≤◌, ◌↔◌, ◌⊎◌, inl, inr, ⊎_elim, Bool, true, false, cond, ◌&&◌, nat_le, nat_lt, IsTrue, List, [], ◌∷◌, map, filter, max, refl, sym, ap, ◌∙◌, subst, arith, ltb-true, lt-ltb, Contains, cases_lt, suc, Block, Span, Misses, block_end, first_from, starts, spans_from, longest_hole, hole_after, is_any, is_pinned, ArePlaced, IsGapOf, IsHole, AreAllOf, GapListLaw, HoleIsLongest, HoleAfterLaw}
+use Rattle.w16_model.proofs.Common.{◌≡◌, ℕ, ◌+◌, ◌-◌, ◌<◌, ◌≤◌, ◌↔◌, ◌⊎◌, inl, inr, ⊎_elim, Bool, true, false, cond, ◌&&◌, nat_le, nat_lt, IsTrue, List, [], ◌∷◌, map, filter, max, refl, sym, ap, ◌∙◌, subst, arith, ltb-true, lt-ltb, Contains}
+use Rattle.w16_model.proofs.Common.{cases_lt, suc, Block, Span, Misses, block_end, first_from, starts, spans_from, longest_hole, hole_after, is_any, is_pinned, ArePlaced, IsGapOf, IsHole, AreAllOf, GapListLaw, HoleIsLongest, HoleAfterLaw}
 use Rattle.w16_model.proofs.Gaps.{Each-of_map, Each-filter, Each-map, Each-at, Each-from, Each-from_All, All-from_Each, EachPair-from_AllPairs, Member, each_two, filter_member, last_to, last_to-above, last_to-start, first_from-below, largest_reached}
 use Rattle.w16_model.proofs.Maximal.{gap_around, gap_from}
 

@@ -1,5 +1,7 @@
 -- The heap of a table has the table's blocks.
-use Rattle.w16_model.proofs.Common.{◌≡◌, ℕ, zero, suc, get_or, ◌+◌, ◌≤◌, ◌<◌, true, false, cond, ◌==◌, IsSomeAnd, List, [], ◌∷◌, map, length, slice_range, Option, Some, None, option_map, unwrap_or, refl, sym, ap, ◌∙◌, subst, arith, inl, inr, eqb-true, eq-eqb, ne_eqb, length-take, length-drop, nat_cmp, eq_by_cmp, nat_cmp_total, get-from_entries, false≢true, Block, block_end, Object, object_at, Table, IsTable, heap_in, object_in, block_with, entry_at, hold_of_entry, by_id, Entry, ◌≢◌, blocks, longest_hole}
+use Rattle.w16_model.proofs.Common.{◌≡◌, ℕ, zero, suc, get_or, ◌+◌, ◌≤◌, ◌<◌, true, false, cond, ◌==◌, IsSomeAnd, List, [], ◌∷◌, map, length, slice_range, Option, Some, None, option_map, unwrap_or}
+use Rattle.w16_model.proofs.Common.{refl, sym, ap, ◌∙◌, subst, arith, inl, inr, eqb-true, eq-eqb, ne_eqb, length-take, length-drop, nat_cmp, eq_by_cmp, nat_cmp_total, get-from_entries, false≢true}
+use Rattle.w16_model.proofs.Common.{Block, block_end, Object, object_at, Table, IsTable, heap_in, object_in, block_with, entry_at, hold_of_entry, by_id, Entry, ◌≢◌, blocks, longest_hole}
 use Rattle.std.specs.FinMap as finmap
 use Rattle.std.specs.FinMap.Entries.{find as find_key}
 use Rattle.w16_model.proofs.Gaps.{EachPair, Member, Each-at, Each-from_All, EachPair-from_AllPairs}

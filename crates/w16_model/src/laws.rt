@@ -1,5 +1,31 @@
 //! The laws of the definitions. Each function does nothing: its contract is the law.
-ghost use Rattle.w16_model.specs.Law.{AreFigures, AreFlags, AddressLaw, OutcomeLaw, GapListLaw, RisingLaw, LongestHoleLaw, HoleAfterLaw, PinnedLaw, LargestLaw, RoomLaw, LongerLaw, LeastLaw, MoreDiscardsLaw, DiscardedLaw, OthersLaw, WalkLaw, SoundLaw, RangeLaw, NamesLaw, OwnerLaw, ReachLaw, EmptyLaw, HandleLaw, FarLaw};
+ghost use Rattle.w16_model.specs.Law.{
+  AreFigures,
+  AreFlags,
+  AddressLaw,
+  OutcomeLaw,
+  GapListLaw,
+  RisingLaw,
+  LongestHoleLaw,
+  HoleAfterLaw,
+  PinnedLaw,
+  LargestLaw,
+  RoomLaw,
+  LongerLaw,
+  LeastLaw,
+  MoreDiscardsLaw,
+  DiscardedLaw,
+  OthersLaw,
+  WalkLaw,
+  SoundLaw,
+  RangeLaw,
+  NamesLaw,
+  OwnerLaw,
+  ReachLaw,
+  EmptyLaw,
+  HandleLaw,
+  FarLaw,
+};
 ghost use Rattle.w16_model.specs.Fewest.{AllocationLaw, CompactionLaw, GlobalAllocLaw, GlobalCompactLaw};
 ghost use Rattle.w16_model.specs.Reallocation.{HeapLaw, KindHeapLaw, DiscardHeapLaw, RestLaw, FewestLaw, MovesLaw, OneOutcomeLaw, KindLaw, LeftOutLaw};
 ghost use Rattle.w16_model.specs.CallLaws.{ContentsLaw, SlotsLaw, MovedLaw, BystandersLaw, AttributesLaw, PinnedStayLaw, StillLaw, UseLaw, NewObjectLaw, UnorderedLaw, OthersOrderLaw, FarEffectLaw, ReadBackLaw};

@@ -1,5 +1,6 @@
 -- The names of definitions and of lower crates that the proofs of this crate cite, passed on from one place. Declares nothing.
-pub use Rattle.std.proofs.Common.{All, Bool, Err, List, None, Ok, Option, Result, Some, [], add-one, ap, append_assoc, arith, bit_and, cond, drop, eqb, false, get_or, inl, inr, is_some, length, length-append, length-drop, ltb, map, max, min, not, option_map, refl, rules, slice_get, subst, suc, sym, take, take_all, true, unwrap_or, vec_len, zero, zero-add, ℕ, ◌&&◌, ◌*◌, ◌++◌, ◌+◌, ◌-◌, ◌<◌, ◌==◌, ◌^◌, ◌||◌, ◌∙◌, ◌∷◌, ◌≡◌, ◌≢◌, ◌≤◌, ◌⊎◌}
+pub use Rattle.std.proofs.Common.{All, Bool, Err, List, None, Ok, Option, Result, Some, [], add-one, ap, append_assoc, arith, bit_and, cond, drop, eqb, false, get_or, inl, inr, is_some, length, length-append, length-drop, ltb, map, max}
+pub use Rattle.std.proofs.Common.{min, not, option_map, refl, rules, slice_get, subst, suc, sym, take, take_all, true, unwrap_or, vec_len, zero, zero-add, ℕ, ◌&&◌, ◌*◌, ◌++◌, ◌+◌, ◌-◌, ◌<◌, ◌==◌, ◌^◌, ◌||◌, ◌∙◌, ◌∷◌, ◌≡◌, ◌≢◌, ◌≤◌, ◌⊎◌}
 pub use Rattle.std.proofs.Math.ListN.{drop_of_length-le}
 pub use Rattle.std.proofs.Math.Seq.{drop-cons}
 pub use Rattle.std.proofs.lemmas.Bool.Decides.{nat_tests, same_from_decides}

@@ -4,7 +4,8 @@ use Rattle.std.specs.Option.{option_or}
 use Rattle.std.specs.List.{position_from}
 use Rattle.std.proofs.lemmas.Iterator.Adapters.{position_from-zero}
 use Rattle.std.proofs.lemmas.Bool.{and_right}
-use Rattle.w16_ne.proofs.Common.{◌≡◌, ◌<◌, ◌≤◌, ◌-◌, ℕ, suc, ◌+◌, ◌&&◌, Bool, true, false, cond, List, [], ◌∷◌, ◌++◌, length, map, take, drop, get_or, Option, Some, None, option_map, refl, sym, ap, ◌∙◌, arith, add-one, length-drop, drop-cons, drop-drop, Row, Group, Label, entry_in, label_in, grouped, total, listed_resources}
+use Rattle.w16_ne.proofs.Common.{◌≡◌, ◌<◌, ◌≤◌, ◌-◌, ℕ, suc, ◌+◌, ◌&&◌, Bool, true, false, cond, List, [], ◌∷◌, ◌++◌, length, map, take, drop, get_or, Option, Some, None, option_map}
+use Rattle.w16_ne.proofs.Common.{refl, sym, ap, ◌∙◌, arith, add-one, length-drop, drop-cons, drop-drop, Row, Group, Label, entry_in, label_in, grouped, total, listed_resources}
 use Rattle.w16_ne.specs.Resources.{Entry, is_label}
 use Rattle.w16_ne.proofs.Places.{cut, total_is}
 

@@ -1,5 +1,9 @@
 -- A front of a file is read as the file is, or ends too early.
-use Rattle.w16_ne.proofs.Common.{◌≡◌, ℕ, zero, suc, ◌-◌, ◌+◌, ◌*◌, ◌^◌, ◌≤◌, ◌⊎◌, inl, inr, Bool, true, false, cond, ltb, List, [], ◌∷◌, ◌++◌, length, length-append, length-drop, take, drop, Option, Some, None, Ok, Err, refl, ap, ◌∙◌, arith, slice_index, ◌==◌, nat_lt, not, bit_and, take-append-le, drop-append-le, nat_tests, NeFault, Block, Reading, ◌>>=◌, bytes_or, reaches, word_of, each, place_at, header_at, fields_of, segment_count, segment_table, shift_of, resident_names, reference_count, reference_table, imported_names, entry_table, entry_length, nonresident_length, nonresident_names, resource_table, records_at, data_at, segment_at, entries_at, segments_at, size, name_at, names_from, names_at, resident_at, nonresident_at, text_at, texts_at, references_at, table_at, Typed, block_at, blocks_from, blocks_at, label_at, resource_at, resources_of, typed_at, all_typed, is_placed, are_placed, are_all_placed, resource_count, typed_in, resources_at, tables_behind, tables_at, IsOfEnd, FrontLaw}
+use Rattle.w16_ne.proofs.Common.{◌≡◌, ℕ, zero, suc, ◌-◌, ◌+◌, ◌*◌, ◌^◌, ◌≤◌, ◌⊎◌, inl, inr, Bool, true, false, cond, ltb, List, [], ◌∷◌, ◌++◌, length, length-append, length-drop, take, drop, Option, Some, None, Ok, Err, refl}
+use Rattle.w16_ne.proofs.Common.{ap, ◌∙◌, arith, slice_index, ◌==◌, nat_lt, not, bit_and, take-append-le, drop-append-le, nat_tests, NeFault, Block, Reading, ◌>>=◌, bytes_or, reaches, word_of, each, place_at, header_at, fields_of}
+use Rattle.w16_ne.proofs.Common.{segment_count, segment_table, shift_of, resident_names, reference_count, reference_table, imported_names, entry_table, entry_length, nonresident_length, nonresident_names, resource_table}
+use Rattle.w16_ne.proofs.Common.{records_at, data_at, segment_at, entries_at, segments_at, size, name_at, names_from, names_at, resident_at, nonresident_at, text_at, texts_at, references_at, table_at, Typed, block_at, blocks_from}
+use Rattle.w16_ne.proofs.Common.{blocks_at, label_at, resource_at, resources_of, typed_at, all_typed, is_placed, are_placed, are_all_placed, resource_count, typed_in, resources_at, tables_behind, tables_at, IsOfEnd, FrontLaw}
 use Rattle.w16_ne.specs.declared.fault.NeFault.TheVariants as faults
 use Rattle.w16_ne.specs.Names as names
 use Rattle.w16_ne.specs.Resources as resources

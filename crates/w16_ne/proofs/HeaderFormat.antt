@@ -1,5 +1,6 @@
 -- A header is read exactly where it is.
-use Rattle.w16_ne.proofs.Common.{◌≡◌, ℕ, ◌+◌, ◌≤◌, ◌<◌, ◌⊎◌, inl, inr, Bool, true, false, not, ◌&&◌, ◌||◌, ltb, eqb, List, length, take, drop, Some, Ok, refl, sym, subst, ◌∙◌, arith, bit_and, nat_tests, word_of, dword_of, place_at, header_at, fields_of, flags_of, segment_count, shift_of, target_of, IsOldHeader, IsHeader, IsAccepted}
+use Rattle.w16_ne.proofs.Common.{◌≡◌, ℕ, ◌+◌, ◌≤◌, ◌<◌, ◌⊎◌, inl, inr, Bool, true, false, not, ◌&&◌, ◌||◌, ltb, eqb, List, length, take, drop, Some, Ok, refl, sym, subst, ◌∙◌, arith}
+use Rattle.w16_ne.proofs.Common.{bit_and, nat_tests, word_of, dword_of, place_at, header_at, fields_of, flags_of, segment_count, shift_of, target_of, IsOldHeader, IsHeader, IsAccepted}
 use Rattle.w16_ne.specs.declared.fault.NeFault.TheVariants as faults
 use Rattle.w16_ne.proofs.Until.{reads_ok}
 use Rattle.w16_ne.proofs.NamesFormat.{cut_word}

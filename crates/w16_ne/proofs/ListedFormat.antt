@@ -1,5 +1,6 @@
 -- Names of a table that has a length are read exactly where they are.
-use Rattle.w16_ne.proofs.Common.{◌≡◌, ℕ, zero, suc, ◌+◌, ◌≤◌, ◌<◌, ◌⊎◌, inl, inr, Bool, true, false, cond, List, [], ◌∷◌, length, length-drop, take, drop, Ok, Err, refl, sym, subst, arith, slice_index, nat_lt, nat_le, length-take, nat_tests, Reading, ◌>>=◌, Entry, size, names_in, table_names, IsName, AreListed}
+use Rattle.w16_ne.proofs.Common.{◌≡◌, ℕ, zero, suc, ◌+◌, ◌≤◌, ◌<◌, ◌⊎◌, inl, inr, Bool, true, false, cond, List, [], ◌∷◌, length, length-drop, take, drop, Ok, Err, refl}
+use Rattle.w16_ne.proofs.Common.{sym, subst, arith, slice_index, nat_lt, nat_le, length-take, nat_tests, Reading, ◌>>=◌, Entry, size, names_in, table_names, IsName, AreListed}
 use Rattle.w16_ne.specs.declared.fault.NeFault.TheVariants as faults
 use Rattle.w16_ne.proofs.Bounds.{ends_by_place, ends_by_byte, goes_further, is_inside}
 use Rattle.w16_ne.proofs.Listed.{is_end, here}

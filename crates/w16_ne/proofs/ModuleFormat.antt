@@ -1,5 +1,7 @@
 -- A module is read exactly where it is, and a file has one.
-use Rattle.w16_ne.proofs.Common.{◌≡◌, ℕ, ◌+◌, ◌<◌, ◌⊎◌, inl, inr, Bool, true, false, cond, ltb, eqb, List, [], length, take, drop, Option, Some, Ok, Err, refl, sym, ap, subst, ◌∙◌, arith, nat_tests, NeFault, Reading, ◌>>=◌, bytes_or, place_at, header_at, fields_of, entry_table, entry_length, segment_count, nonresident_length, nonresident_names, resident_names, segments_at, Entry, names_at, resident_at, table_names, nonresident_at, references_at, entries_in, table_at, resources_at, Tables, tables_of, tables_behind, tables_at, AreNames, AreListed, IsEntryTable, IsPart, IsModule, ModuleFormatLaw, OneModuleLaw}
+use Rattle.w16_ne.proofs.Common.{◌≡◌, ℕ, ◌+◌, ◌<◌, ◌⊎◌, inl, inr, Bool, true, false, cond, ltb, eqb, List, [], length, take, drop, Option, Some, Ok, Err, refl, sym, ap, subst, ◌∙◌, arith, nat_tests, NeFault, Reading, ◌>>=◌}
+use Rattle.w16_ne.proofs.Common.{bytes_or, place_at, header_at, fields_of, entry_table, entry_length, segment_count, nonresident_length, nonresident_names, resident_names, segments_at, Entry, names_at, resident_at, table_names}
+use Rattle.w16_ne.proofs.Common.{nonresident_at, references_at, entries_in, table_at, resources_at, Tables, tables_of, tables_behind, tables_at, AreNames, AreListed, IsEntryTable, IsPart, IsModule, ModuleFormatLaw, OneModuleLaw}
 use Rattle.w16_ne.specs.declared.fault.NeFault.TheVariants as faults
 use Rattle.w16_ne.specs.declared.entry_table.Entry as entries
 use Rattle.w16_ne.proofs.Until.{reads_ok}

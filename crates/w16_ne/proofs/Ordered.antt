@@ -1,5 +1,8 @@
 -- Names in order, and how one is found among them.
-use Rattle.w16_ne.proofs.Common.{◌≡◌, ℕ, zero, suc, ◌+◌, ◌<◌, ◌≤◌, Bool, true, false, cond, ltb, ◌||◌, List, [], ◌∷◌, ◌++◌, length, map, get_or, Option, Some, None, refl, sym, ap, ◌∙◌, arith, option_map, unwrap_or, nat_eq, IsStrictWeakOrder, slice_cmp, Called, ComparesAs, AllByRecursion, find, list_any, range_with_len, IsSortedBy, IsPartitionedBy, IsPartitionPoint, nat_cmp, is_lt, ordering_then, Ordering, Less, Equal, Greater, to_ascii_uppercase, bytes_eq, str_to_ascii_uppercase, nat_tests, same_from_decides, nat_cmp_total, nat_list_cmp_total, then_total, on_total, tied_itself, ranked, length-map, always_returns_same, ranks_by, sorted_far, bytes_eq-Decides, is_named, is_named-Decides, Entry, upper, IsUpper, text_of, compared, comes_before, IsOrder, ordinal_in}
+use Rattle.w16_ne.proofs.Common.{◌≡◌, ℕ, zero, suc, ◌+◌, ◌<◌, ◌≤◌, Bool, true, false, cond, ltb, ◌||◌, List, [], ◌∷◌, ◌++◌, length, map, get_or, Option, Some, None, refl, sym, ap, ◌∙◌, arith, option_map, unwrap_or}
+use Rattle.w16_ne.proofs.Common.{nat_eq, IsStrictWeakOrder, slice_cmp, Called, ComparesAs, AllByRecursion, find, list_any, range_with_len, IsSortedBy, IsPartitionedBy, IsPartitionPoint, nat_cmp, is_lt, ordering_then}
+use Rattle.w16_ne.proofs.Common.{Ordering, Less, Equal, Greater, to_ascii_uppercase, bytes_eq, str_to_ascii_uppercase, nat_tests, same_from_decides, nat_cmp_total, nat_list_cmp_total, then_total, on_total, tied_itself}
+use Rattle.w16_ne.proofs.Common.{ranked, length-map, always_returns_same, ranks_by, sorted_far, bytes_eq-Decides, is_named, is_named-Decides, Entry, upper, IsUpper, text_of, compared, comes_before, IsOrder, ordinal_in}
 use denote.Param.Members.{Mut}
 use denote.Ref.{Bor}
 

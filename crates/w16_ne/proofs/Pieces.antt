@@ -1,5 +1,6 @@
 -- A piece of a file has the same bytes and entries.
-use Rattle.w16_ne.proofs.Common.{◌≡◌, ℕ, ◌+◌, ◌-◌, ◌<◌, ◌≤◌, min, Bool, true, false, cond, ltb, eqb, List, length, take, drop, length-drop, Option, Some, None, Result, Ok, Err, refl, sym, ap, subst, ◌∙◌, arith, slice_index, nat_tests, length-take, take-take, take_min, drop-take, drop-drop, NeFault, Reading, ◌>>=◌, Gives, Refuses, Tells, Refused, IsFailure, bytes_or, front_at, length_at, word_of, name_at, piece_at}
+use Rattle.w16_ne.proofs.Common.{◌≡◌, ℕ, ◌+◌, ◌-◌, ◌<◌, ◌≤◌, min, Bool, true, false, cond, ltb, eqb, List, length, take, drop, length-drop, Option, Some, None, Result, Ok, Err, refl, sym, ap, subst, ◌∙◌, arith, slice_index}
+use Rattle.w16_ne.proofs.Common.{nat_tests, length-take, take-take, take_min, drop-take, drop-drop, NeFault, Reading, ◌>>=◌, Gives, Refuses, Tells, Refused, IsFailure, bytes_or, front_at, length_at, word_of, name_at, piece_at}
 use Rattle.w16_store.specs.declared.store.StoreFault.TheVariants as stores
 use Rattle.w16_ne.specs.declared.fault.NeFault.TheVariants as faults
 use Rattle.w16_ne.proofs.NamesFormat.{byte_here}

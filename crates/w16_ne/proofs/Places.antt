@@ -1,5 +1,7 @@
 -- Rows of blocks: how many they are, their places, and the one of a place.
-use Rattle.w16_ne.proofs.Common.{◌≡◌, ℕ, zero, suc, ◌-◌, ◌+◌, ◌≤◌, ◌<◌, true, false, cond, ltb, List, [], ◌∷◌, ◌++◌, length, map, take, drop, get_or, Option, Some, None, Ok, Err, All, slice_get, refl, sym, ap, subst, ◌∙◌, arith, length-drop, length-append, nat_lt, AllByRecursion, nat_tests, length-map, length-take, map-append, take-append-drop, take-append-le, drop-append-le, append-nil, append_cancel_left, All-append, All-push, sum_by-cons, take_all, add-one, drop-cons, NeFault, Row, Group, Rows, Reading, ◌>>=◌, Label, Typed, filled, resource_count, is_placed, are_placed, are_all_placed, HasLabel, label_in, entry_in, grouped, total, kind_at, AreRows, AreAdded, listed_resources}
+use Rattle.w16_ne.proofs.Common.{◌≡◌, ℕ, zero, suc, ◌-◌, ◌+◌, ◌≤◌, ◌<◌, true, false, cond, ltb, List, [], ◌∷◌, ◌++◌, length, map, take, drop, get_or, Option, Some, None, Ok, Err, All, slice_get, refl, sym, ap, subst, ◌∙◌, arith, length-drop, length-append}
+use Rattle.w16_ne.proofs.Common.{nat_lt, AllByRecursion, nat_tests, length-map, length-take, map-append, take-append-drop, take-append-le, drop-append-le, append-nil, append_cancel_left, All-append, All-push, sum_by-cons, take_all, add-one, drop-cons}
+use Rattle.w16_ne.proofs.Common.{NeFault, Row, Group, Rows, Reading, ◌>>=◌, Label, Typed, filled, resource_count, is_placed, are_placed, are_all_placed, HasLabel, label_in, entry_in, grouped, total, kind_at, AreRows, AreAdded, listed_resources}
 use Rattle.w16_ne.specs.Resources.{Entry}
 use Rattle.w16_ne.specs.Rows.{AreEntries}
 

@@ -1,5 +1,6 @@
 -- References are read exactly where they are.
-use Rattle.w16_ne.proofs.Common.{◌≡◌, ℕ, zero, suc, ◌+◌, ◌*◌, ◌≤◌, ◌<◌, Bool, true, false, ◌||◌, cond, ltb, eqb, List, [], ◌∷◌, length, length-drop, take, drop, Some, Ok, Err, refl, sym, ap, subst, ◌∙◌, arith, ◌==◌, slice_index, list_any, length-take, nat_tests, NeFault, Reading, ◌>>=◌, bytes_or, word_of, each, reference_count, reference_table, imported_names, text_at, texts_at, references_at, IsText, AreReferences, IsReferenceTable}
+use Rattle.w16_ne.proofs.Common.{◌≡◌, ℕ, zero, suc, ◌+◌, ◌*◌, ◌≤◌, ◌<◌, Bool, true, false, ◌||◌, cond, ltb, eqb, List, [], ◌∷◌, length, length-drop, take, drop, Some, Ok, Err, refl, sym, ap, subst, ◌∙◌, arith, ◌==◌, slice_index, list_any}
+use Rattle.w16_ne.proofs.Common.{length-take, nat_tests, NeFault, Reading, ◌>>=◌, bytes_or, word_of, each, reference_count, reference_table, imported_names, text_at, texts_at, references_at, IsText, AreReferences, IsReferenceTable}
 use Rattle.w16_ne.specs.declared.fault.NeFault.TheVariants as faults
 use Rattle.w16_ne.proofs.Until.{reads_ok}
 use Rattle.w16_ne.proofs.NamesFormat.{byte_here, cut_word}

@@ -1,5 +1,8 @@
 -- Resources are read exactly where they are.
-use Rattle.w16_ne.proofs.Common.{◌≡◌, ◌≢◌, ℕ, zero, suc, ◌+◌, ◌-◌, ◌*◌, ◌^◌, ◌≤◌, ◌<◌, ◌⊎◌, inl, inr, Bool, true, false, cond, ltb, eqb, List, [], ◌∷◌, length, take, drop, Option, Some, None, Ok, Err, slice_get, map, ◌++◌, refl, sym, ap, subst, ◌∙◌, arith, nat_tests, listed_resources, Block, Reading, ◌>>=◌, bytes_or, reaches, word_of, each, resource_table, resident_names, text_at, Label, Number, Text, Typed, block_at, blocks_from, blocks_at, label_at, resource_at, resources_of, typed_at, all_typed, is_placed, are_placed, are_all_placed, resource_count, filled, typed_in, resources_at, IsLabel, IsResource, AreResources, IsBlock, AreBlocks, IsResourceTable, HasResources}
+use Rattle.w16_ne.proofs.Common.{◌≡◌, ◌≢◌, ℕ, zero, suc, ◌+◌, ◌-◌, ◌*◌, ◌^◌, ◌≤◌, ◌<◌, ◌⊎◌, inl, inr, Bool, true, false, cond, ltb, eqb, List, [], ◌∷◌, length, take, drop, Option, Some, None, Ok, Err, slice_get, map, ◌++◌, refl, sym, ap, subst}
+use Rattle.w16_ne.proofs.Common.{◌∙◌, arith, nat_tests, listed_resources, Block, Reading, ◌>>=◌, bytes_or, reaches, word_of, each, resource_table, resident_names, text_at, Label, Number, Text, Typed, block_at, blocks_from, blocks_at, label_at}
+use Rattle.w16_ne.proofs.Common.{resource_at, resources_of, typed_at, all_typed, is_placed, are_placed, are_all_placed, resource_count, filled, typed_in, resources_at, IsLabel, IsResource, AreResources, IsBlock, AreBlocks, IsResourceTable}
+use Rattle.w16_ne.proofs.Common.{HasResources}
 use Rattle.w16_ne.specs.declared.fault.NeFault.TheVariants as faults
 use Rattle.w16_ne.specs.Resources.{Entry}
 use Rattle.w16_ne.specs.Modules.{resource_at as resource_in}

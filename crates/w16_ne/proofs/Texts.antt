@@ -1,5 +1,6 @@
 -- Names at places among texts.
-use Rattle.w16_ne.proofs.Common.{◌≡◌, ℕ, zero, suc, ◌+◌, ◌<◌, ◌≤◌, List, [], ◌∷◌, ◌++◌, length, map, take, drop, get_or, Some, refl, ap, ◌∙◌, arith, take_all, length-append, length-drop, All, slice_get, AllByRecursion, take-append-le, drop-append-le, map_push, recursion_from_All, Place, Entry, at_place}
+use Rattle.w16_ne.proofs.Common.{◌≡◌, ℕ, zero, suc, ◌+◌, ◌<◌, ◌≤◌, List, [], ◌∷◌, ◌++◌, length, map, take, drop, get_or, Some, refl, ap, ◌∙◌, arith, take_all, length-append}
+use Rattle.w16_ne.proofs.Common.{length-drop, All, slice_get, AllByRecursion, take-append-le, drop-append-le, map_push, recursion_from_All, Place, Entry, at_place}
 
 abbrev pub IsInside : List ℕ → Place → Type 0
 IsInside texts p = p.start + p.len ≤ length texts

@@ -1,5 +1,6 @@
 -- Reading names until there is none, as a loop does.
-use Rattle.w16_ne.proofs.Common.{◌≡◌, ℕ, zero, suc, ◌-◌, ◌+◌, ◌≤◌, ◌<◌, List, Option, Some, None, [], ◌∷◌, ◌++◌, Result, Ok, Err, refl, sym, ap, ◌∙◌, arith, append-nil, length-take, NeFault, Found, Reading, ◌>>=◌, Gives, Refuses, Refused, length_at, word_of, Entry, found_in, size, name_at, names_at, names_from, nat_tests, ltb, eqb, Bool, true, false, cond, length, length-drop, take, drop, get_or}
+use Rattle.w16_ne.proofs.Common.{◌≡◌, ℕ, zero, suc, ◌-◌, ◌+◌, ◌≤◌, ◌<◌, List, Option, Some, None, [], ◌∷◌, ◌++◌, Result, Ok, Err, refl, sym, ap, ◌∙◌, arith, append-nil, length-take, NeFault, Found, Reading, ◌>>=◌}
+use Rattle.w16_ne.proofs.Common.{Gives, Refuses, Refused, length_at, word_of, Entry, found_in, size, name_at, names_at, names_from, nat_tests, ltb, eqb, Bool, true, false, cond, length, length-drop, take, drop, get_or}
 use Rattle.w16_store.specs.declared.store.StoreFault.TheVariants as stores
 use Rattle.w16_ne.specs.declared.fault.NeFault.TheVariants as faults
 use Rattle.w16_ne.proofs.Each.{with_front, regroup}

@@ -1,5 +1,6 @@
 -- A part that is slid down, piece by piece.
-use Rattle.w16_region.proofs.Common.{ℕ, ◌≡◌, ◌+◌, ◌-◌, ◌<◌, ◌≤◌, List, ◌++◌, length, take, drop, arith, sym, ◌∙◌, ap, length-append, append_assoc, take-add, length-take-le, take_at, drop-drop, drop-take, take-take, take-append-drop, part, put_part, length-part, length-put_part, drop-put_part, take-put_part, part_below, drop_at}
+use Rattle.w16_region.proofs.Common.{ℕ, ◌≡◌, ◌+◌, ◌-◌, ◌<◌, ◌≤◌, List, ◌++◌, length, take, drop, arith, sym, ◌∙◌, ap, length-append, append_assoc, take-add, length-take-le, take_at}
+use Rattle.w16_region.proofs.Common.{drop-drop, drop-take, take-take, take-append-drop, part, put_part, length-part, length-put_part, drop-put_part, take-put_part, part_below, drop_at}
 use borrow.Rule.Slice.PartMut.{put_mid}
 
 -- two pieces, one behind the other

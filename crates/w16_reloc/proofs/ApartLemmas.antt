@@ -1,5 +1,6 @@
 -- Sites that lie apart, and the same said of one after another.
-use Rattle.w16_reloc.proofs.Common.{◌≡◌, ℕ, ◌+◌, ◌<◌, ◌≤◌, List, [], ◌∷◌, ◌++◌, length, Bool, true, false, cond, refl, arith, All, count_by, ◌||◌, list_any, AllByRecursion, All-head, All-tail, All-nil, All-cons, sum_by-cons, Part, LowByte, Selector, Pointer, Offset, Record, Stored, Added, System, Site, covers, meets, AreApart, AreSound, Names, AreNamed, of_width, width_of, all_sites, value_width, chain_width}
+use Rattle.w16_reloc.proofs.Common.{◌≡◌, ℕ, ◌+◌, ◌<◌, ◌≤◌, List, [], ◌∷◌, ◌++◌, length, Bool, true, false, cond, refl, arith, All, count_by, ◌||◌, list_any, AllByRecursion, All-head, All-tail, All-nil, All-cons, sum_by-cons}
+use Rattle.w16_reloc.proofs.Common.{Part, LowByte, Selector, Pointer, Offset, Record, Stored, Added, System, Site, covers, meets, AreApart, AreSound, Names, AreNamed, of_width, width_of, all_sites, value_width, chain_width}
 use Rattle.w16_reloc.proofs.SiteLemmas.{none_meets}
 use Rattle.w16_reloc.proofs.WalkLemmas.{site_apart, chain_wide}
 

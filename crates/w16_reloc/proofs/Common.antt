@@ -5,7 +5,10 @@ pub use Rattle.std.proofs.lemmas.List.{drop_more}
 pub use Rattle.std.proofs.lemmas.List.Elements.{All-cons, All-head, All-more, All-nil, All-tail}
 pub use Rattle.std.proofs.lemmas.List.FromFn.{fill_by_all, get_or-map-range_with_len, length-map-range_with_len}
 pub use Rattle.std.specs.Prelude.{OnOk, count_by}
-pub use Rattle.w16_ne.proofs.Common.{All, AllByRecursion, Bool, List, Reading, Tables, [], ap, append-nil, append_assoc, arith, bit_and, bytes_of, bytes_or, common_steps, cond, drop, drop_of_length-le, each, err_from_is_err_and, false, get_or, get_or-drop, get_or_past, inl, inr, length, list_any, max, nat_eq, nat_le, nat_lt, nat_tests, not, reaches, refl, rounded, rules, segment_count, segment_table, shift_of, slice_get, subst, suc, sum_by-cons, sym, tables_of, take, take_all, true, vec_len, word_of, zero, ℕ, ◌&&◌, ◌*◌, ◌++◌, ◌+◌, ◌-◌, ◌<◌, ◌||◌, ◌∙◌, ◌∷◌, ◌≡◌, ◌≢◌, ◌≤◌, ◌⊎◌}
+pub use Rattle.w16_ne.proofs.Common.{All, AllByRecursion, Bool, List, Reading, Tables, [], ap, append-nil, append_assoc, arith, bit_and, bytes_of, bytes_or, common_steps, cond, drop, drop_of_length-le, each}
+pub use Rattle.w16_ne.proofs.Common.{err_from_is_err_and, false, get_or, get_or-drop, get_or_past, inl, inr, length, list_any, max, nat_eq, nat_le, nat_lt, nat_tests, not, reaches, refl, rounded, rules, segment_count}
+pub use Rattle.w16_ne.proofs.Common.{segment_table, shift_of, slice_get, subst, suc, sum_by-cons, sym, tables_of, take, take_all, true, vec_len, word_of, zero, ℕ, ◌&&◌, ◌*◌, ◌++◌, ◌+◌, ◌-◌, ◌<◌, ◌||◌, ◌∙◌, ◌∷◌, ◌≡◌}
+pub use Rattle.w16_ne.proofs.Common.{◌≢◌, ◌≤◌, ◌⊎◌}
 unfoldable pub use Rattle.w16_ne.proofs.Common.{data_at, entries_at, fields_of, file_of, header_at, nonresident_at, place_at, records_at, references_at, resident_at, resources_at, segment_at, segments_at, table_at, tables_at, tables_behind}
 pub use Rattle.w16_ne.specs.declared.fault.NeFault.{NeFault}
 pub use Rattle.w16_ne.specs.declared.segment_table.Segment.{Segment}

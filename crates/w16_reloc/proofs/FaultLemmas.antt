@@ -1,5 +1,8 @@
 -- A check that fails has found the first fault.
-use Rattle.w16_reloc.proofs.Common.{◌≡◌, ◌≢◌, ℕ, suc, zero, ◌+◌, ◌*◌, ◌<◌, ◌≤◌, ◌⊎◌, inl, inr, List, [], ◌∷◌, ◌++◌, length, Bool, true, false, cond, Option, Some, None, Result, Ok, Err, refl, ap, arith, max, nat_lt, nat_eq, ◌||◌, list_any, word_of, RelocFault, BadRecord, SiteOutside, Overlap, Store, Record, Stored, Added, System, Site, covers, meets, AreSound, Offer, IsRecord, record_at, is_named, AreNamed, AreRecords, of_width, width_of, chain_width, value_width, all_sites, LeadsTo, NamesNext, IsAtFault, IsFirstFault, ◌>>=◌, site_at, chain_at, sites_at, formed, check_from, joined}
+use Rattle.w16_reloc.proofs.Common.{◌≡◌, ◌≢◌, ℕ, suc, zero, ◌+◌, ◌*◌, ◌<◌, ◌≤◌, ◌⊎◌, inl, inr, List, [], ◌∷◌, ◌++◌, length, Bool, true, false, cond, Option, Some, None, Result, Ok, Err, refl, ap, arith, max, nat_lt}
+use Rattle.w16_reloc.proofs.Common.{nat_eq, ◌||◌, list_any, word_of, RelocFault, BadRecord, SiteOutside, Overlap, Store, Record, Stored, Added, System, Site, covers, meets, AreSound, Offer, IsRecord, record_at, is_named}
+use Rattle.w16_reloc.proofs.Common.{AreNamed, AreRecords, of_width, width_of, chain_width, value_width, all_sites, LeadsTo, NamesNext, IsAtFault, IsFirstFault, ◌>>=◌, site_at, chain_at, sites_at, formed, check_from}
+use Rattle.w16_reloc.proofs.Common.{joined}
 use Rattle.w16_reloc.proofs.SiteLemmas.{meets_covers, meets_inside}
 use Rattle.w16_reloc.proofs.WalkLemmas.{chain_wide}
 use Rattle.w16_reloc.proofs.Count.{no_more_sites}

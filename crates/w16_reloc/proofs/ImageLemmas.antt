@@ -1,5 +1,7 @@
 -- The values written one after another are the image, offset by offset.
-use Rattle.w16_reloc.proofs.Common.{◌≡◌, ℕ, ◌+◌, ◌<◌, ◌≤◌, List, [], ◌∷◌, ◌++◌, length, Bool, true, false, refl, sym, ◌∙◌, arith, get_or, drop, drop_more, nat_lt, nat_le, ◌&&◌, ◌||◌, list_any, Part, Record, Stored, Added, System, Far, Site, covers, meets, AreSound, Names, AreNamed, IsSound, of_width, width_of, all_sites, chain_width, value_width, Patch, byte, stored_at, added_at, patches_of, patches, image_at, IsImage, value_of, moved, found_at, over, over_each, joined, IsReady, IsWritten, IsOpen}
+use Rattle.w16_reloc.proofs.Common.{◌≡◌, ℕ, ◌+◌, ◌<◌, ◌≤◌, List, [], ◌∷◌, ◌++◌, length, Bool, true, false, refl, sym, ◌∙◌, arith, get_or, drop, drop_more, nat_lt, nat_le, ◌&&◌, ◌||◌, list_any, Part, Record, Stored, Added, System, Far, Site, covers, meets, AreSound}
+use Rattle.w16_reloc.proofs.Common.{Names, AreNamed, IsSound, of_width, width_of, all_sites, chain_width, value_width, Patch, byte, stored_at, added_at, patches_of, patches, image_at, IsImage, value_of, moved, found_at, over, over_each, joined, IsReady, IsWritten}
+use Rattle.w16_reloc.proofs.Common.{IsOpen}
 use Rattle.w16_reloc.proofs.SiteLemmas.{any_meets}
 use Rattle.w16_reloc.proofs.WalkLemmas.{over_each_same, chain_narrow, value_narrow}
 use Rattle.w16_reloc.proofs.ApartLemmas.{sound_steps}

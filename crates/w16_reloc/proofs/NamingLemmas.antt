@@ -1,5 +1,8 @@
 -- The functions name what a sound segment names, and give its image.
-use Rattle.w16_reloc.proofs.Common.{◌≡◌, ◌≢◌, ℕ, zero, suc, ◌+◌, ◌-◌, ◌<◌, ◌≤◌, ◌%◌, ◌/◌, List, [], ◌∷◌, ◌++◌, length, Bool, true, false, cond, refl, sym, ◌∙◌, ap, subst, arith, get_or, nat_lt, nat_le, nat_eq, ◌&&◌, All, get_or_past, All-head, All-tail, All-nil, All-cons, fill_by_all, get_or-map-range_with_len, length-map-range_with_len, word_of, Part, LowByte, Selector, Pointer, Offset, Record, Stored, Added, System, Far, Site, AreSound, IsChain, Names, AreNamed, IsSound, of_width, width_of, all_sites, chain_width, Patch, byte, patches, patches_of, stored_at, added_at, image_at, IsImage, value_of, moved, found_at, word_bytes, chain_from, offsets_of, naming, image_of, joined, IsFar}
+use Rattle.w16_reloc.proofs.Common.{◌≡◌, ◌≢◌, ℕ, zero, suc, ◌+◌, ◌-◌, ◌<◌, ◌≤◌, ◌%◌, ◌/◌, List, [], ◌∷◌, ◌++◌, length, Bool, true, false, cond, refl, sym, ◌∙◌, ap, subst, arith, get_or, nat_lt, nat_le, nat_eq, ◌&&◌, All, get_or_past, All-head, All-tail}
+use Rattle.w16_reloc.proofs.Common.{All-nil, All-cons, fill_by_all, get_or-map-range_with_len, length-map-range_with_len, word_of, Part, LowByte, Selector, Pointer, Offset, Record, Stored, Added, System, Far, Site, AreSound, IsChain, Names, AreNamed}
+use Rattle.w16_reloc.proofs.Common.{IsSound, of_width, width_of, all_sites, chain_width, Patch, byte, patches, patches_of, stored_at, added_at, image_at, IsImage, value_of, moved, found_at, word_bytes, chain_from, offsets_of, naming, image_of, joined}
+use Rattle.w16_reloc.proofs.Common.{IsFar}
 use Rattle.w16_reloc.proofs.Count.{no_more_sites}
 use Rattle.w16_reloc.proofs.WalkLemmas.{chain_wide}
 use Rattle.w16_reloc.proofs.ApartLemmas.{sound_steps}

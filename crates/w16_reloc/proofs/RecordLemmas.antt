@@ -1,5 +1,6 @@
 -- One record's values, written.
-use Rattle.w16_reloc.proofs.Common.{◌≡◌, ℕ, ◌+◌, ◌≤◌, List, length, false, refl, ◌∙◌, ap, arith, list_any, Part, LowByte, Selector, Pointer, Offset, Fixup, Stored, Added, System, Far, Site, meets, of_width, chain_width, value_width, byte, stored_at, value_of, found_at, moved, over, over_each, joined, IsFileOutside, IsWalked, IsReady, IsWritten}
+use Rattle.w16_reloc.proofs.Common.{◌≡◌, ℕ, ◌+◌, ◌≤◌, List, length, false, refl, ◌∙◌, ap, arith, list_any, Part, LowByte, Selector, Pointer, Offset, Fixup, Stored, Added, System, Far, Site}
+use Rattle.w16_reloc.proofs.Common.{meets, of_width, chain_width, value_width, byte, stored_at, value_of, found_at, moved, over, over_each, joined, IsFileOutside, IsWalked, IsReady, IsWritten}
 use Rattle.w16_reloc.proofs.WalkLemmas.{byte_kept, word_kept, outside_kept, value_narrow, chain_wide, walk_done}
 use Rattle.w16_reloc.proofs.Count.{no_more_sites}
 

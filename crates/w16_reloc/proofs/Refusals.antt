@@ -1,5 +1,6 @@
 -- Faults, told further.
-use Rattle.w16_reloc.proofs.Common.{◌≡◌, ℕ, suc, ◌-◌, ◌+◌, ◌*◌, ◌≤◌, ◌<◌, List, [], ◌∷◌, ◌++◌, Result, Ok, Err, refl, sym, ap, ◌∙◌, append_assoc, arith, append-nil, RelocFault, Record, Site, OnOk, Segment, Tables, Offer, record_at, ◌>>=◌, IsOfRecords, sites_at, formed, check_from, Held, Refuses, Answers, data_of, records_of, offer_of, checked}
+use Rattle.w16_reloc.proofs.Common.{◌≡◌, ℕ, suc, ◌-◌, ◌+◌, ◌*◌, ◌≤◌, ◌<◌, List, [], ◌∷◌, ◌++◌, Result, Ok, Err, refl, sym, ap, ◌∙◌, append_assoc, arith, append-nil, RelocFault, Record, Site}
+use Rattle.w16_reloc.proofs.Common.{OnOk, Segment, Tables, Offer, record_at, ◌>>=◌, IsOfRecords, sites_at, formed, check_from, Held, Refuses, Answers, data_of, records_of, offer_of, checked}
 use Rattle.w16_store.specs.declared.store.StoreFault.TheVariants as stores
 use Rattle.w16_reloc.specs.declared.fault.RelocFault.TheVariants as faults
 

@@ -1,5 +1,7 @@
 -- A check passes exactly where a segment is sound.
-use Rattle.w16_reloc.proofs.Common.{◌≡◌, ◌≢◌, ℕ, suc, zero, ◌+◌, ◌*◌, ◌<◌, ◌≤◌, List, [], ◌∷◌, ◌++◌, length, Bool, true, false, cond, Option, Some, None, Result, Ok, Err, refl, ap, arith, nat_lt, nat_eq, list_any, word_of, RelocFault, BadRecord, SiteOutside, Overlap, Record, Stored, Added, System, Site, meets, AreSound, Offer, record_at, is_named, IsChain, Names, AreNamed, of_width, width_of, chain_width, value_width, all_sites, AreRecords, IsSoundSegment, ◌>>=◌, site_at, chain_at, sites_at, formed, check_from, joined}
+use Rattle.w16_reloc.proofs.Common.{◌≡◌, ◌≢◌, ℕ, suc, zero, ◌+◌, ◌*◌, ◌<◌, ◌≤◌, List, [], ◌∷◌, ◌++◌, length, Bool, true, false, cond, Option, Some, None, Result, Ok, Err, refl, ap, arith, nat_lt}
+use Rattle.w16_reloc.proofs.Common.{nat_eq, list_any, word_of, RelocFault, BadRecord, SiteOutside, Overlap, Record, Stored, Added, System, Site, meets, AreSound, Offer, record_at, is_named, IsChain}
+use Rattle.w16_reloc.proofs.Common.{Names, AreNamed, of_width, width_of, chain_width, value_width, all_sites, AreRecords, IsSoundSegment, ◌>>=◌, site_at, chain_at, sites_at, formed, check_from, joined}
 use Rattle.w16_reloc.proofs.ChainLemmas.{fits}
 use Rattle.w16_reloc.proofs.WalkLemmas.{chain_wide}
 use Rattle.w16_reloc.proofs.Count.{no_more_sites}

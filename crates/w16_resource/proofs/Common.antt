@@ -13,7 +13,13 @@ pub use Rattle.w16_format.specs.Tables.{label_in}
 pub use Rattle.w16_global.proofs.Common.{counted}
 pub use Rattle.w16_global.specs.Joined.{Global}
 pub use Rattle.w16_global.specs.Owned.{LacksBytes}
-pub use Rattle.w16_loader.proofs.Common.{AnyFetches, AreHandles, Bool, Discardable, FetchFault, Fills, FillsOne, FinMap, Fixed, GRAIN, GivesBytes, Handles, HasNoSlot, Held, IfNone, IfSome, IsFreeSlot, IsObjectOf, IsSomeAnd, IsWritten, Kind, LARGEST_OWNED, Less, List, LoadingWorld, MatchOption, Module, Modules, Moveable, None, Object, Ok, Option, Result, Revives, Some, TakesOwned, [], ap, arith, by_id, by_order, cases_eq, cases_lt, cond, drop, entries-insert, eq-eqb, err_from_is_err_and, false, false≢true, filter, find, get-by_id, get_or, get_or-set_other, get_or-set_same, get_or_default, get_or_past, given, inl, inr, inserted_here, inserted_other, is_in_order, is_of_device, is_some, le-ltb, left, len-empty, len-entries, length, length-drop, length-map, length-take, lt-ltb, ltb-false, map, module_at, named, nat_cmp, nat_cmp_is, nat_cmp_total, nat_lt, ne_eqb, none_gone, not, numbered, object_at, option_map, owned_at, position, prefix_len, put, refl, refused, retained, rounded_size, rules, said, same_values, set, slice_get, slice_get-map, slice_index_or, subst, suc, sym, tables_in, take, taken_here, taken_other, true, unwrap_or, with_object, without_objects, without_out, without_slot, zero, ℕ, ◌%◌, ◌&&◌, ◌+◌, ◌-◌, ◌/◌, ◌<◌, ◌==◌, ◌||◌, ◌∙◌, ◌∷◌, ◌≡◌, ◌≤◌, ◌⊎◌}
+pub use Rattle.w16_loader.proofs.Common.{AnyFetches, AreHandles, Bool, Discardable, FetchFault, Fills, FillsOne, FinMap, Fixed, GRAIN, GivesBytes, Handles, HasNoSlot, Held, IfNone, IfSome, IsFreeSlot, IsObjectOf, IsSomeAnd, IsWritten, Kind}
+pub use Rattle.w16_loader.proofs.Common.{LARGEST_OWNED, Less, List, LoadingWorld, MatchOption, Module, Modules, Moveable, None, Object, Ok, Option, Result, Revives, Some, TakesOwned, [], ap, arith, by_id, by_order, cases_eq, cases_lt, cond, drop}
+pub use Rattle.w16_loader.proofs.Common.{entries-insert, eq-eqb, err_from_is_err_and, false, false≢true, filter, find, get-by_id, get_or, get_or-set_other, get_or-set_same, get_or_default, get_or_past, given, inl, inr, inserted_here, inserted_other}
+pub use Rattle.w16_loader.proofs.Common.{is_in_order, is_of_device, is_some, le-ltb, left, len-empty, len-entries, length, length-drop, length-map, length-take, lt-ltb, ltb-false, map, module_at, named, nat_cmp, nat_cmp_is, nat_cmp_total, nat_lt}
+pub use Rattle.w16_loader.proofs.Common.{ne_eqb, none_gone, not, numbered, object_at, option_map, owned_at, position, prefix_len, put, refl, refused, retained, rounded_size, rules, said, same_values, set, slice_get, slice_get-map, slice_index_or}
+pub use Rattle.w16_loader.proofs.Common.{subst, suc, sym, tables_in, take, taken_here, taken_other, true, unwrap_or, with_object, without_objects, without_out, without_slot, zero, ℕ, ◌%◌, ◌&&◌, ◌+◌, ◌-◌, ◌/◌, ◌<◌, ◌==◌, ◌||◌, ◌∙◌, ◌∷◌, ◌≡◌, ◌≤◌}
+pub use Rattle.w16_loader.proofs.Common.{◌⊎◌}
 unfoldable pub use Rattle.w16_loader.proofs.Common.{file_of}
 pub use Rattle.w16_loader.proofs.Fetches.{fewest_so, refused_any, unread_any}
 pub use Rattle.w16_loader.proofs.Giving.{none_filled}

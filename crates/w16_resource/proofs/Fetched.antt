@@ -1,5 +1,8 @@
 -- A resource is read from the file of its module: where it is there, and what a fetch of it is in a world of its files.
-use Rattle.w16_resource.proofs.Common.{Bool, Entry, FetchFault, Fetches, FetchesFrom, Handles, IfSome, IsFileOf, IsLoad, IsLoadingWorld, IsObjectOf, IsOfFiles, IsSomeAnd, IsSourceAt, IsSourceOf, List, LoadingWorld, Module, None, Option, Resource, Some, [], after, ap, arith, bytes_in, cond, false, inr, is_long, is_too_long, label_in, length-map, listed_resources, map, nat_eq, nat_lt, ne_format, not, numbered, option_map, owned_at, position, prefix_len, refl, resource_at, resource_given, resource_in, rounded_size, slice_get, slice_get-map, stored_law, subst, suc, sym, tables_in, unwrap_or, with_handles, zero, ℕ, ◌&&◌, ◌+◌, ◌-◌, ◌∙◌, ◌∷◌, ◌≡◌}
+use Rattle.w16_resource.proofs.Common.{Bool, Entry, FetchFault, Fetches, FetchesFrom, Handles, IfSome, IsFileOf, IsLoad, IsLoadingWorld, IsObjectOf, IsOfFiles, IsSomeAnd, IsSourceAt, IsSourceOf, List, LoadingWorld, Module, None, Option}
+use Rattle.w16_resource.proofs.Common.{Resource, Some, [], after, ap, arith, bytes_in, cond, false, inr, is_long, is_too_long, label_in, length-map, listed_resources, map, nat_eq, nat_lt, ne_format, not, numbered, option_map, owned_at, position}
+use Rattle.w16_resource.proofs.Common.{prefix_len, refl, resource_at, resource_given, resource_in, rounded_size, slice_get, slice_get-map, stored_law, subst, suc, sym, tables_in, unwrap_or, with_handles, zero, ℕ, ◌&&◌, ◌+◌, ◌-◌, ◌∙◌, ◌∷◌}
+use Rattle.w16_resource.proofs.Common.{◌≡◌}
 use Rattle.std.specs.FinMap as finmap
 use Rattle.w16_loading.specs.File as file
 use Rattle.w16_ne.specs.Modules as ne

@@ -1,5 +1,8 @@
 -- How the object of a resource gets the bytes of a file.
-use Rattle.w16_resource.proofs.Common.{All-drop, All-nil, All-take, Bool, Entry, FetchFault, FetchesFrom, Fills, FillsOne, GRAIN, GivesBytes, Handles, Held, IsSomeAnd, IsSourceOf, IsWritten, LARGEST_OWNED, List, NoRoom, None, Ok, Option, Owned, Refuses, RelocFault, Result, Revives, Some, Store, [], absent, after, ap, arith, bytes_at, bytes_in, drop, eqb-true, false, false≢true, fault_of, get_or, get_or-map-range_with_len, get_or_default, given, is_long, is_of_device, length, length-drop, length-take, ltb-false, nat_eq, nat_lt, none_filled, padded, padded_bytes, padded_length, refl, refused, rounded_size, same_lists, subst, suc, sym, take, true, zero, ℕ, ◌<◌, ◌==◌, ◌||◌, ◌∙◌, ◌≡◌, ◌≤◌}
+use Rattle.w16_resource.proofs.Common.{All-drop, All-nil, All-take, Bool, Entry, FetchFault, FetchesFrom, Fills, FillsOne, GRAIN, GivesBytes, Handles, Held, IsSomeAnd, IsSourceOf, IsWritten, LARGEST_OWNED, List, NoRoom, None, Ok, Option, Owned, Refuses}
+use Rattle.w16_resource.proofs.Common.{RelocFault, Result, Revives, Some, Store, [], absent, after, ap, arith, bytes_at, bytes_in, drop, eqb-true, false, false≢true, fault_of, get_or, get_or-map-range_with_len, get_or_default, given, is_long, is_of_device}
+use Rattle.w16_resource.proofs.Common.{length, length-drop, length-take, ltb-false, nat_eq, nat_lt, none_filled, padded, padded_bytes, padded_length, refl, refused, rounded_size, same_lists, subst, suc, sym, take, true, zero, ℕ, ◌<◌, ◌==◌, ◌||◌, ◌∙◌, ◌≡◌}
+use Rattle.w16_resource.proofs.Common.{◌≤◌}
 use Rattle.w16_reloc.specs.Sound.{IsSound}
 use Rattle.w16_reloc.specs.declared.fault.RelocFault.TheVariants as relocs
 use Rattle.w16_store.specs.declared.store.StoreFault.TheVariants as stores

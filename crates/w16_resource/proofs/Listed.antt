@@ -1,5 +1,7 @@
 -- The finite map of a list of loads by slot.
-use Rattle.w16_resource.proofs.Common.{FinMap, Less, List, Load, None, Option, Some, [], ap, arith, by_id, by_order, cases_eq, drop, entries-insert, get-by_id, get_or, get_or-set_other, get_or-set_same, get_or_past, inl, inr, inserted_here, inserted_other, len-empty, len-entries, length, listed, load_in, loads_in, nat_cmp, nat_cmp_is, nat_cmp_total, option_map, put, refl, same_values, set, sym, taken_here, taken_other, ℕ, ◌+◌, ◌<◌, ◌∙◌, ◌∷◌, ◌≡◌, ◌≤◌}
+use Rattle.w16_resource.proofs.Common.{FinMap, Less, List, Load, None, Option, Some, [], ap, arith, by_id, by_order, cases_eq, drop, entries-insert, get-by_id, get_or, get_or-set_other, get_or-set_same, get_or_past, inl, inr, inserted_here}
+use Rattle.w16_resource.proofs.Common.{inserted_other, len-empty, len-entries, length, listed, load_in, loads_in, nat_cmp, nat_cmp_is, nat_cmp_total, option_map, put, refl, same_values, set, sym, taken_here, taken_other, ℕ, ◌+◌, ◌<◌, ◌∙◌, ◌∷◌, ◌≡◌}
+use Rattle.w16_resource.proofs.Common.{◌≤◌}
 use Rattle.std.specs.FinMap as finmap
 use Rattle.w16_loading.specs.Modules as loading
 

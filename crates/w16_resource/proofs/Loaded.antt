@@ -1,5 +1,8 @@
 -- What a load of a resource comes to, in a world over any store, and in one of its files.
-use Rattle.w16_resource.proofs.Common.{AnswersNone, AnyFetches, Entry, Failed, FetchFault, Fetches, FetchesFrom, Fetching, FinMap, Handles, HasNoSlot, IsFileOf, IsFreeSlot, IsMadeOr, IsOfFiles, IsSourceAt, List, LoadingWorld, LoadsNewResource, LoadsResource, MakesNew, MakesOne, MatchBool, MatchOption, Modules, None, Option, Reply, Resource, Some, Word, ap, false, file_of, handle_of, inl, inr, inserted_here, is_long, is_too_long, load_of, loaded_again, loading_of, nat_cmp, ne_format, refl, resource_at, resource_outcome, rounded_size, subst, sym, true, with_handles, with_new, with_resource, ℕ, ◌<◌, ◌∙◌, ◌≡◌, ◌⊎◌}
+use Rattle.w16_resource.proofs.Common.{AnswersNone, AnyFetches, Entry, Failed, FetchFault, Fetches, FetchesFrom, Fetching, FinMap, Handles, HasNoSlot, IsFileOf, IsFreeSlot, IsMadeOr, IsOfFiles, IsSourceAt, List, LoadingWorld}
+use Rattle.w16_resource.proofs.Common.{LoadsNewResource, LoadsResource, MakesNew, MakesOne, MatchBool, MatchOption, Modules, None, Option, Reply, Resource, Some, Word, ap, false, file_of, handle_of, inl, inr, inserted_here, is_long}
+use Rattle.w16_resource.proofs.Common.{is_too_long, load_of, loaded_again, loading_of, nat_cmp, ne_format, refl, resource_at, resource_outcome, rounded_size, subst, sym, true, with_handles, with_new, with_resource, ℕ, ◌<◌, ◌∙◌, ◌≡◌}
+use Rattle.w16_resource.proofs.Common.{◌⊎◌}
 use Rattle.std.specs.FinMap as finmap
 use Rattle.w16_loading.specs.declared.FetchFault.TheVariants as faults
 use Rattle.w16_loading.specs.Modules as loading

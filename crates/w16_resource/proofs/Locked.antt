@@ -1,5 +1,6 @@
 -- What a lock of a resource comes to.
-use Rattle.w16_resource.proofs.Common.{Dword, FetchFault, Fetching, Gives, Handles, List, LoadingWorld, LocksResource, MatchOption, None, Option, Reply, Some, ap, bytes_at, false, global_lock, is_some, lock_outcome, lock_reads_file, locked, not, option_map, reply_of_call, slot_of_resource, subst, sym, true, unwrap_or, with_handles, ℕ, ◌∙◌, ◌≡◌}
+use Rattle.w16_resource.proofs.Common.{Dword, FetchFault, Fetching, Gives, Handles, List, LoadingWorld, LocksResource, MatchOption, None, Option, Reply, Some, ap, bytes_at, false, global_lock}
+use Rattle.w16_resource.proofs.Common.{is_some, lock_outcome, lock_reads_file, locked, not, option_map, reply_of_call, slot_of_resource, subst, sym, true, unwrap_or, with_handles, ℕ, ◌∙◌, ◌≡◌}
 use Rattle.w16_model.specs.Calls as calls
 use Rattle.w16_loading.specs.Modules as loading
 

@@ -1,5 +1,6 @@
 -- A new object for a resource, which a fetch gives its bytes, or which goes again.
-use Rattle.w16_resource.proofs.Common.{AnyFetches, AreHandles, Entry, FetchFault, FetchesFrom, FinMap, Handles, IsMadeOr, IsSourceOf, Kind, LacksBytes, List, LoadingWorld, MakesOne, Option, Owned, Reply, Resource, Some, TakesOwned, Word, after, false, file_of, handle_of, left, nat_cmp, outcome, rounded_size, subst, sym, with_handles, with_new, without_slot, unused_slot, ℕ, ◌/◌, ◌∙◌, ◌≡◌}
+use Rattle.w16_resource.proofs.Common.{AnyFetches, AreHandles, Entry, FetchFault, FetchesFrom, FinMap, Handles, IsMadeOr, IsSourceOf, Kind, LacksBytes, List, LoadingWorld, MakesOne, Option, Owned, Reply, Resource}
+use Rattle.w16_resource.proofs.Common.{Some, TakesOwned, Word, after, false, file_of, handle_of, left, nat_cmp, outcome, rounded_size, subst, sym, with_handles, with_new, without_slot, unused_slot, ℕ, ◌/◌, ◌∙◌, ◌≡◌}
 use Rattle.std.specs.FinMap as finmap
 use Rattle.w16_loading.specs.Modules as loading
 use Rattle.w16_resource.proofs.Taken.{here, named, taken, lacks_new, taken_back}

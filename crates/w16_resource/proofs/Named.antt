@@ -1,5 +1,6 @@
 -- A resource that a handle names: its slot, and whether it has bytes.
-use Rattle.w16_resource.proofs.Common.{Bool, Handles, IfNone, IfSome, IsLoad, IsLoadingWorld, IsObjectOf, IsSomeAnd, LacksBytes, List, LoadingWorld, None, Object, Option, Resource, Some, ap, bytes_at, cond, false, false≢true, handle_of, is_owned, is_some, length, names_law, object_at, option_map, refl, resource_at, resource_load, rounded_size, selector_of, slot_of_handle, slot_of_resource, slot_of_selector, subst, sym, true, ℕ, ◌/◌, ◌==◌, ◌∙◌, ◌≡◌}
+use Rattle.w16_resource.proofs.Common.{Bool, Handles, IfNone, IfSome, IsLoad, IsLoadingWorld, IsObjectOf, IsSomeAnd, LacksBytes, List, LoadingWorld, None, Object, Option, Resource, Some, ap, bytes_at, cond, false, false≢true, handle_of, is_owned}
+use Rattle.w16_resource.proofs.Common.{is_some, length, names_law, object_at, option_map, refl, resource_at, resource_load, rounded_size, selector_of, slot_of_handle, slot_of_resource, slot_of_selector, subst, sym, true, ℕ, ◌/◌, ◌==◌, ◌∙◌, ◌≡◌}
 use Rattle.std.specs.FinMap as finmap
 use Rattle.w16_global.specs.declared.lend.Segment.{Segment}
 use Rattle.w16_loading.specs.Modules as loading

@@ -1,5 +1,7 @@
 -- Calls on resources as steps.
-use Rattle.w16_resource.proofs.Common.{AnyFetches, AnyStep, Dword, Entry, Failed, FetchFault, Fetches, FetchesCounted, Fetching, FinMap, Gives, Handles, IsOfFiles, IsSourceAt, List, LoadResource, LoadingCommand, LoadingStep, LoadingWorld, LoadsResource, LockResource, LocksResource, MakesNew, Modules, None, OfResources, Option, Reply, Resource, Some, Word, ap, arith, bytes_at, false, global_lock, is_long, left, load_of, loaded_again, loading_of, lock_outcome, nat_cmp, ne_format, refl, reply_of_call, resource_at, resource_in, slot_of_resource, subst, sym, true, ℕ, ◌/◌, ◌∙◌, ◌≡◌, ◌≤◌}
+use Rattle.w16_resource.proofs.Common.{AnyFetches, AnyStep, Dword, Entry, Failed, FetchFault, Fetches, FetchesCounted, Fetching, FinMap, Gives, Handles, IsOfFiles, IsSourceAt, List, LoadResource, LoadingCommand, LoadingStep}
+use Rattle.w16_resource.proofs.Common.{LoadingWorld, LoadsResource, LockResource, LocksResource, MakesNew, Modules, None, OfResources, Option, Reply, Resource, Some, Word, ap, arith, bytes_at, false, global_lock, is_long}
+use Rattle.w16_resource.proofs.Common.{left, load_of, loaded_again, loading_of, lock_outcome, nat_cmp, ne_format, refl, reply_of_call, resource_at, resource_in, slot_of_resource, subst, sym, true, ℕ, ◌/◌, ◌∙◌, ◌≡◌, ◌≤◌}
 use Rattle.w16_model.specs.Calls as calls
 use Rattle.w16_loading.specs.declared.FetchFault.TheVariants as faults
 use Rattle.w16_loading.specs.Modules as loading

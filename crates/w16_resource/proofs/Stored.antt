@@ -1,5 +1,6 @@
 -- Fetches of resources that are loaded, in a world over a store.
-use Rattle.w16_resource.proofs.Common.{AnyFetches, Entry, FetchFault, FetchesCounted, FetchesFrom, Handles, IfSome, IsLoadingOver, IsLoadingWorld, IsSome, IsSomeAnd, IsSourceAt, IsSourceOf, List, LoadingWorld, None, Option, Result, Some, StoreFetch, ap, counted, false≢true, fault_in, file_of, in_world, ne_format, refl, resource_at, subst, sym, with_handles, ℕ, ◌∙◌, ◌≡◌, ◌≤◌}
+use Rattle.w16_resource.proofs.Common.{AnyFetches, Entry, FetchFault, FetchesCounted, FetchesFrom, Handles, IfSome, IsLoadingOver, IsLoadingWorld, IsSome, IsSomeAnd, IsSourceAt, IsSourceOf, List, LoadingWorld}
+use Rattle.w16_resource.proofs.Common.{None, Option, Result, Some, StoreFetch, ap, counted, false≢true, fault_in, file_of, in_world, ne_format, refl, resource_at, subst, sym, with_handles, ℕ, ◌∙◌, ◌≡◌, ◌≤◌}
 use Rattle.std.specs.FinMap as finmap
 use Rattle.w16_loading.specs.Modules as loading
 use Rattle.w16_resource.proofs.Fetched.{there, sized, short, file_there, source_in, fetches}

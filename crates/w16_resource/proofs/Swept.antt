@@ -1,5 +1,6 @@
 -- The resources of modules that are gone go slot by slot, or all at once.
-use Rattle.w16_resource.proofs.Common.{Bool, FinMap, List, LoadingWorld, Modules, None, Option, Some, [], all_retained, ap, arith, cases_eq, cases_lt, cond, eq-eqb, false, filter, inl, inr, is_left_over, is_some, module_at, nat_cmp, ne_eqb, none_gone, not, option_map, refl, retained, same_values, subst, sym, taken_here, taken_other, true, with_handles, without_load, without_orphan, without_orphans, without_slot, ℕ, ◌+◌, ◌<◌, ◌==◌, ◌||◌, ◌∙◌, ◌∷◌, ◌≡◌, ◌≤◌}
+use Rattle.w16_resource.proofs.Common.{Bool, FinMap, List, LoadingWorld, Modules, None, Option, Some, [], all_retained, ap, arith, cases_eq, cases_lt, cond, eq-eqb, false, filter, inl, inr, is_left_over, is_some, module_at, nat_cmp, ne_eqb, none_gone}
+use Rattle.w16_resource.proofs.Common.{not, option_map, refl, retained, same_values, subst, sym, taken_here, taken_other, true, with_handles, without_load, without_orphan, without_orphans, without_slot, ℕ, ◌+◌, ◌<◌, ◌==◌, ◌||◌, ◌∙◌, ◌∷◌, ◌≡◌, ◌≤◌}
 use Rattle.std.specs.FinMap as finmap
 use Rattle.w16_loading.specs.Modules as loading
 use Rattle.w16_resource.proofs.Taken.{one_gone, slot_gone}

@@ -1,5 +1,8 @@
 -- A new object for a resource, and an object that goes.
-use Rattle.w16_resource.proofs.Common.{AreHandles, Discardable, FinMap, Fixed, Handles, IsSomeAnd, Kind, LacksBytes, List, LoadingWorld, Moveable, None, Object, Option, Owned, Resource, Some, TakesOwned, ap, arith, attributes_for, bytes_at, cases_eq, eq-eqb, false, false≢true, handle_of, inl, inr, inserted_here, inserted_other, is_in_order, is_owned, is_some, names_law, nat_cmp, ne_eqb, not, object_at, owned_at, owned_in, refl, rounded_size, same_values, subst, sym, taken_here, taken_other, value_gone, value_left, with_handles, with_new, with_object, without, without_objects, without_out, without_slot, ℕ, ◌/◌, ◌==◌, ◌∙◌, ◌≡◌}
+use Rattle.w16_resource.proofs.Common.{AreHandles, Discardable, FinMap, Fixed, Handles, IsSomeAnd, Kind, LacksBytes, List, LoadingWorld, Moveable, None, Object, Option, Owned, Resource, Some, TakesOwned, ap, arith, attributes_for, bytes_at}
+use Rattle.w16_resource.proofs.Common.{cases_eq, eq-eqb, false, false≢true, handle_of, inl, inr, inserted_here, inserted_other, is_in_order, is_owned, is_some, names_law, nat_cmp, ne_eqb, not, object_at, owned_at, owned_in, refl}
+use Rattle.w16_resource.proofs.Common.{rounded_size, same_values, subst, sym, taken_here, taken_other, value_gone, value_left, with_handles, with_new, with_object, without, without_objects, without_out, without_slot, ℕ, ◌/◌, ◌==◌, ◌∙◌}
+use Rattle.w16_resource.proofs.Common.{◌≡◌}
 use Rattle.std.specs.FinMap as finmap
 
 slot_of_name : (kind : Kind) (slot handle : ℕ) → handle ≡ handle_of kind slot → handle / 8 ≡ slot

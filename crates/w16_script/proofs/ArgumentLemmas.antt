@@ -1,5 +1,6 @@
 -- Lemmas on the arguments of commands.
-use Rattle.w16_script.proofs.Common.{◌≡◌, ◌≢◌, ℕ, ◌*◌, ◌^◌, ◌<◌, ◌≤◌, List, [], ◌∷◌, length, get_or, refl, ap, sym, subst, ◌∙◌, arith, Ok, Option, Some, None, IfNone, Command, Name, Parameter, Label, IsLiteral, IsNumber, Argument, IsLabel, IsArgument, AreArguments, Makes, parameters_of, command_with, decode_of, decode_of-ok}
+use Rattle.w16_script.proofs.Common.{◌≡◌, ◌≢◌, ℕ, ◌*◌, ◌^◌, ◌<◌, ◌≤◌, List, [], ◌∷◌, length, get_or, refl, ap, sym, subst, ◌∙◌, arith, Ok, Option, Some, None, IfNone, Command, Name}
+use Rattle.w16_script.proofs.Common.{Parameter, Label, IsLiteral, IsNumber, Argument, IsLabel, IsArgument, AreArguments, Makes, parameters_of, command_with, decode_of, decode_of-ok}
 use Rattle.w16_script.specs.declared.arguments.Parameter.TheVariants as p
 
 -- a word of another length has no so many bytes

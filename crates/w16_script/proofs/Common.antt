@@ -1,5 +1,6 @@
 -- The names of definitions and of lower crates that the proofs of this crate cite, passed on from one place. Declares nothing.
-pub use Rattle.std.proofs.Common.{Bool, Err, List, None, Ok, OnErr, Option, Result, Some, [], add-one, ap, append-nil, append_assoc, arith, codes, cond, drop, false, get_or, inl, inr, length, length-append, length-drop, length-take, map, mul-le-mul_left, pow-suc, refl, rules, subst, suc, sym, take, take-append-drop, true, zero, ℕ, ◌%◌, ◌*◌, ◌++◌, ◌+◌, ◌-◌, ◌/◌, ◌<◌, ◌^◌, ◌∙◌, ◌∷◌, ◌≡◌, ◌≢◌, ◌≤◌, ◌⊎◌}
+pub use Rattle.std.proofs.Common.{Bool, Err, List, None, Ok, OnErr, Option, Result, Some, [], add-one, ap, append-nil, append_assoc, arith, codes, cond, drop, false, get_or, inl, inr, length, length-append, length-drop}
+pub use Rattle.std.proofs.Common.{length-take, map, mul-le-mul_left, pow-suc, refl, rules, subst, suc, sym, take, take-append-drop, true, zero, ℕ, ◌%◌, ◌*◌, ◌++◌, ◌+◌, ◌-◌, ◌/◌, ◌<◌, ◌^◌, ◌∙◌, ◌∷◌, ◌≡◌, ◌≢◌, ◌≤◌, ◌⊎◌}
 pub use Rattle.std.proofs.KnownBytes.{Appends-kept, Appends-nil, Appends-trans, Consumes-nil, Consumes-trans, Keeps-refl}
 pub use Rattle.std.proofs.Math.Nat.{one-le-pow}
 pub use Rattle.std.proofs.Math.Seq.{drop-cons, take-add}

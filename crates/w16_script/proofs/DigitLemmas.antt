@@ -1,5 +1,6 @@
 -- Lemmas on digits.
-use Rattle.w16_script.proofs.Common.{◌≡◌, ℕ, zero, suc, ◌+◌, ◌*◌, ◌%◌, ◌<◌, ◌≤◌, ◌⊎◌, List, Bool, true, false, Option, Some, None, Ok, Err, length, take, drop, refl, sym, ap, ◌∙◌, subst, arith, inl, inr, ◌==◌, ◌&&◌, if◌then◌else◌, nat_lt, bit_or, slice_index, MatchOption, cases_lt, nat_tests, decode_of, decode_pairs, hex_digit_value, pair_value, FromHexError, InvalidHexCharacter, decode_of-even, prepend, decode_err, decode_done, VALUES}
+use Rattle.w16_script.proofs.Common.{◌≡◌, ℕ, zero, suc, ◌+◌, ◌*◌, ◌%◌, ◌<◌, ◌≤◌, ◌⊎◌, List, Bool, true, false, Option, Some, None, Ok, Err, length, take, drop, refl, sym, ap, ◌∙◌, subst, arith, inl, inr, ◌==◌, ◌&&◌, if◌then◌else◌, nat_lt}
+use Rattle.w16_script.proofs.Common.{bit_or, slice_index, MatchOption, cases_lt, nat_tests, decode_of, decode_pairs, hex_digit_value, pair_value, FromHexError, InvalidHexCharacter, decode_of-even, prepend, decode_err, decode_done, VALUES}
 use Rattle.w16_script.proofs.OneNumberLemmas.{both}
 
 -- what a table has for a digit, and for what is none

@@ -1,5 +1,6 @@
 -- A number has only one reading.
-use Rattle.w16_script.proofs.Common.{◌≡◌, ◌≢◌, ℕ, ◌+◌, ◌^◌, ◌<◌, ◌⊎◌, inl, inr, Bool, true, false, List, [], ◌∷◌, ◌++◌, length, get_or, drop, subst, sym, ap, ◌∙◌, refl, arith, IsTrue, codes, slice_index, ◌&&◌, list_all, place_value, is_digit, IsDigits, IsDecimal, IsHexadecimal, IsLiteral, IsSum, IsForm, IsOfRegister, IsNumber}
+use Rattle.w16_script.proofs.Common.{◌≡◌, ◌≢◌, ℕ, ◌+◌, ◌^◌, ◌<◌, ◌⊎◌, inl, inr, Bool, true, false, List, [], ◌∷◌, ◌++◌, length, get_or, drop, subst, sym, ap, ◌∙◌, refl, arith, IsTrue}
+use Rattle.w16_script.proofs.Common.{codes, slice_index, ◌&&◌, list_all, place_value, is_digit, IsDigits, IsDecimal, IsHexadecimal, IsLiteral, IsSum, IsForm, IsOfRegister, IsNumber}
 use Rattle.w16_script.proofs.RegisterLemmas.{clash, BeginsWith-start, BeginsWith-same, BeginsWith-from}
 
 -- both tests hold

@@ -1,5 +1,6 @@
 -- A line has only one reading.
-use Rattle.w16_script.proofs.Common.{◌≡◌, ℕ, List, [], ◌∷◌, Option, Some, None, subst, sym, ap, ◌∙◌, refl, arith, get_or, decimal, decimal_injective, codes, if◌then◌else◌, ◌==◌, bytes_eq, decode_of-same, Name, Parameter, Command, Label, words_of, IsLiteral, Argument, IsLabel, IsArgument, AreArguments, GoesTo, Makes, Spells, Said, Reads, text_of, parameters_of, command_with, is_silent, all_names}
+use Rattle.w16_script.proofs.Common.{◌≡◌, ℕ, List, [], ◌∷◌, Option, Some, None, subst, sym, ap, ◌∙◌, refl, arith, get_or, decimal, decimal_injective, codes, if◌then◌else◌, ◌==◌, bytes_eq, decode_of-same, Name, Parameter}
+use Rattle.w16_script.proofs.Common.{Command, Label, words_of, IsLiteral, Argument, IsLabel, IsArgument, AreArguments, GoesTo, Makes, Spells, Said, Reads, text_of, parameters_of, command_with, is_silent, all_names}
 use Rattle.w16_script.specs.declared.name.Name.TheVariants as name
 use Rattle.w16_script.specs.declared.arguments.Parameter.TheVariants as p
 use Rattle.w16_script.proofs.RegisterLemmas.{clash}

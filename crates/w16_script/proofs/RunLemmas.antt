@@ -1,5 +1,6 @@
 -- Lemmas on runs and on what they print.
-use Rattle.w16_script.proofs.Common.{World, ◌≡◌, ℕ, List, [], ◌∷◌, ◌++◌, Option, refl, sym, ap, ◌∙◌, append-nil, append_assoc, subst, Keeps, Appends-nil, Appends-trans, Appends-kept, Event, Steps, Run, AllKeepWritten, AreFewest, reads_back_law, stored_all, State, Said, Reads, target_of, Prints, PrintsLine, RunsLines}
+use Rattle.w16_script.proofs.Common.{World, ◌≡◌, ℕ, List, [], ◌∷◌, ◌++◌, Option, refl, sym, ap, ◌∙◌, append-nil, append_assoc, subst, Keeps, Appends-nil, Appends-trans, Appends-kept}
+use Rattle.w16_script.proofs.Common.{Event, Steps, Run, AllKeepWritten, AreFewest, reads_back_law, stored_all, State, Said, Reads, target_of, Prints, PrintsLine, RunsLines}
 
 -- one run goes on with another
 Run-append : (steps : Steps) (old mid new : World) (events more : List Event) → Run steps old events mid → Run steps mid more new → Run steps old (events ++ more) new

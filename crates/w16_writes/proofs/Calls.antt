@@ -1,5 +1,7 @@
 -- Calls on handles: each object's bytes before and after agree, wherever it went.
-use Rattle.w16_model.proofs.Common.{◌≡◌, ◌≢◌, ℕ, ◌⊎◌, inl, inr, true, false, Bool, IsSomeAnd, List, [], option_map, absent, may_change, Option, Some, None, is_some, unwrap_or, refl, sym, ap, ◌∙◌, subst, cases_eq, Heap, Object, object_at, bytes_at, with_newest, Handles, AreHandles, Answer, rounded_size, kind_asked, alloc_options, KeepsRest, realloc_options, Call, CallStep, Outcome, Resized, next_slot, IsSame, IsUnmoved, IsLocked, IsUnlocked, IsFreed, IsNewest, IsOldest, IsEntered, IsAllocated, IsCompacted, IsModified, IsDiscarded, IsResized, IsKeptOrDiscarded}
+use Rattle.w16_model.proofs.Common.{◌≡◌, ◌≢◌, ℕ, ◌⊎◌, inl, inr, true, false, Bool, IsSomeAnd, List, [], option_map, absent, may_change, Option, Some, None, is_some, unwrap_or, refl, sym, ap, ◌∙◌, subst, cases_eq}
+use Rattle.w16_model.proofs.Common.{Heap, Object, object_at, bytes_at, with_newest, Handles, AreHandles, Answer, rounded_size, kind_asked, alloc_options, KeepsRest, realloc_options, Call, CallStep, Outcome, Resized}
+use Rattle.w16_model.proofs.Common.{next_slot, IsSame, IsUnmoved, IsLocked, IsUnlocked, IsFreed, IsNewest, IsOldest, IsEntered, IsAllocated, IsCompacted, IsModified, IsDiscarded, IsResized, IsKeptOrDiscarded}
 use Rattle.w16_model.specs.declared.Kind.TheVariants.{Discardable}
 use Rattle.w16_model.specs.Reallocation.{AreResized, IsResized as IsObjectResized}
 use Rattle.w16_model.proofs.Bystanders.{kept_or_discarded}

@@ -1,6 +1,10 @@
 -- Local calls: each object of the current heap has bytes before and after that agree; and a local object's bytes are its segment's, from its near
 -- pointer on.
-use Rattle.w16_machine.proofs.Common.{◌≡◌, ℕ, ◌+◌, ◌-◌, ◌≤◌, inl, inr, Bool, true, false, cond, not, ◌&&◌, ◌||◌, ◌==◌, nat_lt, IfOk, IsSomeAnd, List, length, Option, Some, None, Result, Ok, Err, is_some, option_map, refl, sym, ap, ◌∙◌, subst, cases_eq, false≢true, Kind, Refusal, Heap, Object, IsHeap, bytes_at, object_at, bytes_in, is_fixed, is_discardable, with_object, with_ordered, with_newest, removed, touched, after_lock, after_unlock, after_free, after_modify, Allocates, MakesRoom, IsNew, Asked, compaction_prefix, discards_needed, inserted_here, inserted_other, taken_here, taken_other, rest_law, others_law, asked, discard_absent, Block, Entry, Table, IsTable, heap_in, entry_at, block_with, object_in, object_is, slice_range, World, LocalHeap, AreLocalHeaps, heap_of, current_heap, local_in, rounded_up, LocalCommand, LocalStep, ResizesObject, Reply, local_kind, local_options, moveable_or_discardable, ending}
+use Rattle.w16_machine.proofs.Common.{◌≡◌, ℕ, ◌+◌, ◌-◌, ◌≤◌, inl, inr, Bool, true, false, cond, not, ◌&&◌, ◌||◌, ◌==◌, nat_lt, IfOk, IsSomeAnd, List, length, Option, Some, None, Result, Ok, Err, is_some, option_map, refl, sym, ap, ◌∙◌, subst, cases_eq}
+use Rattle.w16_machine.proofs.Common.{false≢true, Kind, Refusal, Heap, Object, IsHeap, bytes_at, object_at, bytes_in, is_fixed, is_discardable, with_object, with_ordered, with_newest, removed, touched, after_lock, after_unlock, after_free, after_modify}
+use Rattle.w16_machine.proofs.Common.{Allocates, MakesRoom, IsNew, Asked, compaction_prefix, discards_needed, inserted_here, inserted_other, taken_here, taken_other, rest_law, others_law, asked, discard_absent, Block, Entry, Table, IsTable, heap_in, entry_at}
+use Rattle.w16_machine.proofs.Common.{block_with, object_in, object_is, slice_range, World, LocalHeap, AreLocalHeaps, heap_of, current_heap, local_in, rounded_up, LocalCommand, LocalStep, ResizesObject, Reply, local_kind, local_options, moveable_or_discardable}
+use Rattle.w16_machine.proofs.Common.{ending}
 use Rattle.std.specs.FinMap as finmap
 use Rattle.std.specs.List.{slice_get}
 use Rattle.w16_model.specs.declared.Refusal.TheVariants as refusals

@@ -1,5 +1,9 @@
 -- Steps of loading: what they leave of the bytes of global objects, and what far accesses put there and read.
-use Rattle.w16_loading.proofs.Common.{◌≡◌, ◌≢◌, ℕ, ◌+◌, ◌*◌, ◌⊎◌, inl, inr, Bool, true, false, MatchBool, MatchOption, IsSomeAnd, List, length, Option, Some, None, is_some, refl, sym, ap, ◌∙◌, subst, arith, drop, ◌<◌, cases_eq, part, repeated, Heap, Object, object_at, bytes_at, bytes_in, Handles, AreHandles, selector_in, offset_in, FarAnswer, FarCommand, Write, Fill, far_slot, AnyFetches, FarStep, Accesses, far_read, far_write, gives, needs_fetch, reply_of_far, is_of_read, IsLoadingWorld, LoadingWorld, LoadingCommand, OfHandles, OfResizes, OfFar, OfModules, OfResources, FindResource, LoadResource, LockResource, FreeResource, SizeofResource, Reply, Failed, Dword, Load, LocksResource, lock_outcome, locked, slot_of_resource, global_lock, GlobalLock, Calls, CallStep, ResizeCommand, ResizeReplies, ResizeStep, GlobalReAlloc, GlobalDiscard, HandleCommand, answer_in, call_of, call_outcome, contents, IsStepAbout}
+use Rattle.w16_loading.proofs.Common.{◌≡◌, ◌≢◌, ℕ, ◌+◌, ◌*◌, ◌⊎◌, inl, inr, Bool, true, false, MatchBool, MatchOption, IsSomeAnd, List, length, Option, Some, None, is_some, refl, sym, ap, ◌∙◌, subst, arith, drop, ◌<◌, cases_eq, part, repeated, Heap, Object}
+use Rattle.w16_loading.proofs.Common.{object_at, bytes_at, bytes_in, Handles, AreHandles, selector_in, offset_in, FarAnswer, FarCommand, Write, Fill, far_slot, AnyFetches, FarStep, Accesses, far_read, far_write, gives, needs_fetch, reply_of_far, is_of_read}
+use Rattle.w16_loading.proofs.Common.{IsLoadingWorld, LoadingWorld, LoadingCommand, OfHandles, OfResizes, OfFar, OfModules, OfResources, FindResource, LoadResource, LockResource, FreeResource, SizeofResource, Reply, Failed, Dword, Load, LocksResource}
+use Rattle.w16_loading.proofs.Common.{lock_outcome, locked, slot_of_resource, global_lock, GlobalLock, Calls, CallStep, ResizeCommand, ResizeReplies, ResizeStep, GlobalReAlloc, GlobalDiscard, HandleCommand, answer_in, call_of, call_outcome, contents}
+use Rattle.w16_loading.proofs.Common.{IsStepAbout}
 use Rattle.std.specs.Prelude.{min}
 use Rattle.std.specs.List.{slice_get}
 use Rattle.std.proofs.lemmas.Option.{slice_get_within}
@@ -207,7 +211,9 @@ module _ (old mid new : Handles) (pointer count : ℕ) (bytes : List ℕ) (agree
       sym (agree slot i p (ap is_some now)) ∙ now
     where
       shorter : (before : List ℕ) → bytes ≡ part before (REACH * r.number + offset_in pointer) count → h.index < count
-      shorter before e = let n : h.index < length bytes = slice_get_within bytes h.index byte h.has in let m : length bytes ≡ min count (length (drop (REACH * r.number + offset_in pointer) before)) = ap length e ∙ length-take count (drop (REACH * r.number + offset_in pointer) before) in omega (arith, n, m)
+      shorter before e = let n : h.index < length bytes = slice_get_within bytes h.index byte h.has in let m : length
+          bytes ≡ min count (length (drop (REACH * r.number + offset_in pointer) before)) = ap length e ∙ length-take
+          count (drop (REACH * r.number + offset_in pointer) before) in omega (arith, n, m)
 
 far_keeps_by : (old : LoadingWorld) (command : FarCommand) (reply : Reply) (new : LoadingWorld) → Made old command reply new → KeepsSegments old.handles new.handles (OfFar command) reply
 far_keeps_by old command reply new m = turn m.made

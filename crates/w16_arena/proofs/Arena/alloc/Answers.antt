@@ -8,7 +8,9 @@ returns-in-Some-clause-allocated g c =
 
 pub returns-in-Some-clause-discarded : goal.returns-in-Some-clause-discarded
 returns-in-Some-clause-discarded g c =
-    discards_none c.args.self.now c.in-Some.ensures.sound (g.S.Space.bytes c.args.space.now) c.requires.memory.inside c.args.id c.args.size c.args.kind c.args.options c.requires.absent c.requires.some c.requires.rounded c.in-Some.ensures.enough (ap (λ (s : ArenaState). s.discarded) c.forget_discards.ensures)
+    discards_none c.args.self.now c.in-Some.ensures.sound (g.S.Space.bytes c.args.space.now) c.requires.memory.inside
+    c.args.id c.args.size c.args.kind c.args.options c.requires.absent c.requires.some c.requires.rounded
+    c.in-Some.ensures.enough (ap (λ (s : ArenaState). s.discarded) c.forget_discards.ensures)
 
 pub returns-then-not-may_discard-clause-refused : goal.returns-then-not-may_discard-clause-refused
 returns-then-not-may_discard-clause-refused g c = (c.in_default.ensures.refused.1, c.in_default.ensures.refused.2)

@@ -37,7 +37,9 @@ returns g c =
     let new = heap_in c.grow_now.new.self.table (g.S.Space.bytes c.grow_now.new.space) in
     let stood = subst (λ h. IsSomeAnd (object_at h b.id) (λ o. Stands h b.id c.args.size (IsGrown c.args.options.zero c.args.size o) (λ _ order. order) c.args.options c.in-Some-grow_now.placed new)) (heap_kept m (g.S.Space.bytes c.discard_first.new.space) mid.table bytes.contents) p.stands in
     record {
-      resized = grows_then c.args.self.now found.sound m c.requires.memory.inside b c.requires.known c.args.size c.requires.more c.requires.rounded c.args.options c.requires.free c.requires.may found.value c.in-Some.k c.in-Some.is mid discards c.in-Some-grow_now.placed new stood c.reveal_bytes.ensures p.discarded;
+      resized = grows_then c.args.self.now found.sound m c.requires.memory.inside b c.requires.known c.args.size
+          c.requires.more c.requires.rounded c.args.options c.requires.free c.requires.may found.value c.in-Some.k
+          c.in-Some.is mid discards c.in-Some-grow_now.placed new stood c.reveal_bytes.ensures p.discarded;
       refused = tt;
       rest = rest_after discards.range bytes.rest p.rest;
       written = p.written ∙ ap (λ (w : ℕ). counted (counted w c.in-Some-grow_now.placed.moved) (if c.args.options.zero then c.args.size - b.size else 0)) bytes.count;

@@ -91,7 +91,11 @@ returns-clause-rest g c =
     let enough = c.if-block-free_after.false in
     let fits = fits_more l b known c.bounds.ensures.ordered c.args.size c.requires.more (omega arith) (known_in c.self.invariant c.self.view_is (λ t. IsMultiple t.grain c.args.size) c.requires.rounded) in let from = fits.inside.0 in let end = fits.inside.2 in let more = c.requires.more in
     rw c.forget_discards.ensures (told c.self.invariant c.self.view_is (λ t. KeepsRest g.H.Holes.are_in g.S.Space.bytes g.S.Space.lenders t c.args.space.now (table_of c.self.inside.entries.items c.resize.new.blocks c.self.inside.order.ids) c.clear_if.new.space)
-    (rest_resized c.self.invariant b known c.args.size c.resize.ensures.value c.resize.ensures.ordered (leaves_cleared b.at (b.at + c.args.size) g.met.H.Holes.stay c.resize.ensures.bytes.rest (rest_wider c.clear_if.ensures.rest (omega arith) (omega arith)) c.clear_if.ensures.lenders (omega arith) (omega arith) (used_placed (but_for b.id l) c.resize.new.blocks (record b { size = c.args.size }) c.resize.ensures.value c.resize.ensures.ordered))))
+    (rest_resized c.self.invariant b known c.args.size c.resize.ensures.value c.resize.ensures.ordered
+    (leaves_cleared b.at (b.at + c.args.size) g.met.H.Holes.stay c.resize.ensures.bytes.rest
+    (rest_wider c.clear_if.ensures.rest (omega arith) (omega arith)) c.clear_if.ensures.lenders (omega arith)
+    (omega arith) (used_placed (but_for b.id l) c.resize.new.blocks (record b { size = c.args.size })
+    c.resize.ensures.value c.resize.ensures.ordered))))
 
 pub returns-clause-written : goal.returns-clause-written
 returns-clause-written g c =

@@ -26,9 +26,15 @@ invariant_of-self-2 g c =
 pub returns-clause-stands : goal.returns-clause-stands
 returns-clause-stands g c =
     let m = g.S.Space.bytes c.args.space.now in let b : Block = c.args.block in let n = c.args.size in let e = c.in_ok-placed.ensures in let p = c.in_ok-placed.placed in
-    told c.self.invariant c.self.view_is (λ t. IsSomeAnd (object_at (heap_in t m) b.id) (λ o. Stands (heap_in t m) b.id n (IsGrown c.args.options.zero n o) (λ _ order. order) c.args.options p (heap_of c.self.inside.entries.items c.grow_block.new.blocks c.self.inside.order.ids (g.S.Space.bytes c.clear_if.new.space))))
+    told c.self.invariant c.self.view_is (λ t. IsSomeAnd (object_at (heap_in t m) b.id)
+    (λ o. Stands (heap_in t m) b.id n (IsGrown c.args.options.zero n o) (λ _ order. order) c.args.options p
+    (heap_of c.self.inside.entries.items c.grow_block.new.blocks c.self.inside.order.ids
+    (g.S.Space.bytes c.clear_if.new.space))))
     (of_object (table_of c.self.inside.entries.items c.self.inside.blocks c.self.inside.order.ids) c.self.invariant.sound m (inside g c) b (known g c)
-    (λ o. Stands (heap_of c.self.inside.entries.items c.self.inside.blocks c.self.inside.order.ids m) b.id n (IsGrown c.args.options.zero n o) (λ _ order. order) c.args.options p (heap_of c.self.inside.entries.items c.grow_block.new.blocks c.self.inside.order.ids (g.S.Space.bytes c.clear_if.new.space)))
+    (λ o. Stands (heap_of c.self.inside.entries.items c.self.inside.blocks c.self.inside.order.ids m) b.id n
+    (IsGrown c.args.options.zero n o) (λ _ order. order) c.args.options p
+    (heap_of c.self.inside.entries.items c.grow_block.new.blocks c.self.inside.order.ids
+    (g.S.Space.bytes c.clear_if.new.space)))
     (stands_grown c.self.invariant b (known g c) c.bounds.ensures.ordered m (inside g c) n c.requires.more (rounded g c) c.args.options p e.grown.value e.grown.laid e.grown.slid e.grown.free e.grown.bytes c.reveal_bytes.ensures c.clear_if.ensures.bytes (λ off. (e.still off).0) e.grown.moved))
 
 pub returns-clause-hole : goal.returns-clause-hole
@@ -40,7 +46,12 @@ returns-clause-hole g c =
 pub returns-clause-rest : goal.returns-clause-rest
 returns-clause-rest g c =
     let m = g.S.Space.bytes c.args.space.now in let b : Block = c.args.block in let n = c.args.size in let e = c.in_ok-placed.ensures in let p = c.in_ok-placed.placed in
-    told c.self.invariant c.self.view_is (λ t. KeepsRest g.H.Holes.are_in g.S.Space.bytes g.S.Space.lenders t c.args.space.now (table_of c.self.inside.entries.items c.grow_block.new.blocks c.self.inside.order.ids) c.clear_if.new.space) (rest_grown c.self.invariant b (known g c) c.bounds.ensures.ordered m (inside g c) n c.requires.more (rounded g c) c.args.options p e.grown.value e.grown.laid e.grown.slid e.grown.free e.grown.bytes c.reveal_bytes.ensures c.clear_if.ensures.bytes g.met.H.Holes.stay e.rest c.clear_if.ensures.rest c.clear_if.ensures.lenders)
+    told c.self.invariant c.self.view_is (λ t. KeepsRest g.H.Holes.are_in g.S.Space.bytes g.S.Space.lenders t
+    c.args.space.now (table_of c.self.inside.entries.items c.grow_block.new.blocks c.self.inside.order.ids)
+    c.clear_if.new.space) (rest_grown c.self.invariant b (known g c) c.bounds.ensures.ordered m (inside g c) n
+    c.requires.more (rounded g c) c.args.options p e.grown.value e.grown.laid e.grown.slid e.grown.free e.grown.bytes
+    c.reveal_bytes.ensures c.clear_if.ensures.bytes g.met.H.Holes.stay e.rest c.clear_if.ensures.rest
+    c.clear_if.ensures.lenders)
 
 pub returns-clause-written : goal.returns-clause-written
 returns-clause-written g c =

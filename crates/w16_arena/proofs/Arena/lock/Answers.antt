@@ -13,10 +13,15 @@ pub returns-then-is_fixed-clause-err : goal.returns-then-is_fixed-clause-err
 returns-then-is_fixed-clause-err g c = lock_fixed c.args.self.now c.entry.ensures.sound c.args.id c.in-Some.entry (sym c.entry.ensures.value ∙ c.in-Some.is) (ap is_some (sym c.block.ensures.value) ∙ c.if-is_none.ensures) (sym c.is_fixed.ensures ∙ c.if-is_fixed.true)
 
 pub returns-then-entry-clause-err : goal.returns-then-entry-clause-err
-returns-then-entry-clause-err g c = lock_full c.args.self.now c.entry.ensures.sound c.args.id c.in-Some.entry (sym c.entry.ensures.value ∙ c.in-Some.is) (ap is_some (sym c.block.ensures.value) ∙ c.if-is_none.ensures) (sym c.is_fixed.ensures ∙ c.if-is_fixed.false) (eq-eqb c.in-Some.entry.locks 255 c.if-entry.true)
+returns-then-entry-clause-err g c = lock_full c.args.self.now c.entry.ensures.sound c.args.id c.in-Some.entry
+    (sym c.entry.ensures.value ∙ c.in-Some.is) (ap is_some (sym c.block.ensures.value) ∙ c.if-is_none.ensures)
+    (sym c.is_fixed.ensures ∙ c.if-is_fixed.false) (eq-eqb c.in-Some.entry.locks 255 c.if-entry.true)
 
 pub returns-clause-ok : goal.returns-clause-ok
-returns-clause-ok g c = lock_ok c.args.self.now c.entry.ensures.sound c.args.id c.in-Some.entry (sym c.entry.ensures.value ∙ c.in-Some.is) (ap is_some (sym c.block.ensures.value) ∙ c.if-is_none.ensures) (c.in-Some.entry.locks + 1) refl (sym c.is_fixed.ensures ∙ c.if-is_fixed.false) (ne_eqb c.in-Some.entry.locks 255 c.if-entry.false) c.set_locks.ensures.steps c.touch.ensures.steps
+returns-clause-ok g c = lock_ok c.args.self.now c.entry.ensures.sound c.args.id c.in-Some.entry
+    (sym c.entry.ensures.value ∙ c.in-Some.is) (ap is_some (sym c.block.ensures.value) ∙ c.if-is_none.ensures)
+    (c.in-Some.entry.locks + 1) refl (sym c.is_fixed.ensures ∙ c.if-is_fixed.false)
+    (ne_eqb c.in-Some.entry.locks 255 c.if-entry.false) c.set_locks.ensures.steps c.touch.ensures.steps
 
 pub returns-then-is_none-clause-ok : goal.returns-then-is_none-clause-ok
 returns-then-is_none-clause-ok g c = tt

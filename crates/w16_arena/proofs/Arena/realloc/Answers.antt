@@ -18,7 +18,10 @@ alloc-requires-clause-absent g c = sym c.in_default-block.ensures.value
 
 pub returns-in_default-block-clause-reallocated : goal.returns-in_default-block-clause-reallocated
 returns-in_default-block-clause-reallocated g c =
-    revived c.args.self.now.table c.in-Some.ensures.sound (g.S.Space.bytes c.args.space.now) c.requires.memory.inside c.args.id c.in-Some.entry (sym c.in-Some.ensures.value) (sym c.in_default-block.ensures.value) c.args.size c.args.options (is_ok c.alloc.result) (heap_in c.alloc.new.self.table (g.S.Space.bytes c.alloc.new.space)) c.alloc.ensures.allocated
+    revived c.args.self.now.table c.in-Some.ensures.sound (g.S.Space.bytes c.args.space.now) c.requires.memory.inside
+    c.args.id c.in-Some.entry (sym c.in-Some.ensures.value) (sym c.in_default-block.ensures.value) c.args.size
+    c.args.options (is_ok c.alloc.result) (heap_in c.alloc.new.self.table (g.S.Space.bytes c.alloc.new.space))
+    c.alloc.ensures.allocated
 
 pub returns-in_default-block-clause-fewest : goal.returns-in_default-block-clause-fewest
 returns-in_default-block-clause-fewest g c =
@@ -27,7 +30,10 @@ returns-in_default-block-clause-fewest g c =
 
 pub returns-in_default-block-clause-discarded : goal.returns-in_default-block-clause-discarded
 returns-in_default-block-clause-discarded g c =
-    revived_listed c.args.self.now.table c.in-Some.ensures.sound (g.S.Space.bytes c.args.space.now) c.requires.memory.inside c.args.id c.in-Some.entry (sym c.in-Some.ensures.value) (sym c.in_default-block.ensures.value) c.args.size c.args.options c.alloc.new.self.discarded c.alloc.result c.alloc.ensures.discarded
+    revived_listed c.args.self.now.table c.in-Some.ensures.sound (g.S.Space.bytes c.args.space.now)
+    c.requires.memory.inside c.args.id c.in-Some.entry (sym c.in-Some.ensures.value)
+    (sym c.in_default-block.ensures.value) c.args.size c.args.options c.alloc.new.self.discarded c.alloc.result
+    c.alloc.ensures.discarded
 
 pub returns-in_default-block-clause-written : goal.returns-in_default-block-clause-written
 returns-in_default-block-clause-written g c =
@@ -74,8 +80,14 @@ pub grow_in_place-requires-clause-held : goal.grow_in_place-requires-clause-held
 grow_in_place-requires-clause-held g c =
     held_by c.args.self.now.table c.in-Some.ensures.sound c.args.id c.in-Some.entry c.in-Some.ensures.value c.in-Some-block.block c.in-Some-block.ensures.value c.args.options true (sym c.if-is_held.true ∙ c.is_held.ensures)
 
-grow_in_place_is : (g : Given.Over) (c : goal.After-grow_in_place g) → IsTold (heap_in c.args.self.now.table (g.S.Space.bytes c.args.space.now)) (heap_in c.grow_in_place.new.self.table (g.S.Space.bytes c.grow_in_place.new.space)) c.args.id c.args.size c.args.options c.grow_in_place.new.self.discarded c.grow_in_place.result ((c.grow_in_place.new.self ≡ c.args.self.now) × (c.grow_in_place.new.space ≡ c.args.space.now))
-grow_in_place_is g c = told_ok g.S.Space.bytes c.args.space.now c.grow_in_place.new.space c.args.self.now c.grow_in_place.new.self c.args.id c.args.size c.in-Some-block.block c.args.options c.in-Some-block.ensures.value c.grow_in_place.result c.grow_in_place.ensures.resized c.grow_in_place.ensures.refused
+grow_in_place_is : (g : Given.Over) (c : goal.After-grow_in_place g) → IsTold
+    (heap_in c.args.self.now.table (g.S.Space.bytes c.args.space.now))
+    (heap_in c.grow_in_place.new.self.table (g.S.Space.bytes c.grow_in_place.new.space)) c.args.id c.args.size
+    c.args.options c.grow_in_place.new.self.discarded c.grow_in_place.result
+    ((c.grow_in_place.new.self ≡ c.args.self.now) × (c.grow_in_place.new.space ≡ c.args.space.now))
+grow_in_place_is g c = told_ok g.S.Space.bytes c.args.space.now c.grow_in_place.new.space c.args.self.now
+    c.grow_in_place.new.self c.args.id c.args.size c.in-Some-block.block c.args.options c.in-Some-block.ensures.value
+    c.grow_in_place.result c.grow_in_place.ensures.resized c.grow_in_place.ensures.refused
 
 pub returns-then-is_held-clause-reallocated : goal.returns-then-is_held-clause-reallocated
 returns-then-is_held-clause-reallocated g c = (grow_in_place_is g c).reallocated
@@ -83,7 +95,10 @@ returns-then-is_held-clause-reallocated g c = (grow_in_place_is g c).reallocated
 pub returns-then-is_held-clause-fewest : goal.returns-then-is_held-clause-fewest
 returns-then-is_held-clause-fewest g c =
     let m = g.S.Space.bytes c.args.space.now in let t : Table = c.args.self.now.table in
-    fewest_law (heap_in t m) (heap_in c.grow_in_place.new.self.table (g.S.Space.bytes c.grow_in_place.new.space)) c.args.id c.args.size c.args.options (is_ok c.grow_in_place.result) (sound_heap t c.in-Some.ensures.sound m c.requires.memory.inside c.reveal_bytes.ensures) (grow_in_place_is g c).reallocated
+    fewest_law (heap_in t m) (heap_in c.grow_in_place.new.self.table (g.S.Space.bytes c.grow_in_place.new.space))
+    c.args.id c.args.size c.args.options (is_ok c.grow_in_place.result)
+    (sound_heap t c.in-Some.ensures.sound m c.requires.memory.inside c.reveal_bytes.ensures)
+    (grow_in_place_is g c).reallocated
 
 pub returns-then-is_held-clause-placed : goal.returns-then-is_held-clause-placed
 returns-then-is_held-clause-placed g c = (grow_in_place_is g c).placed
@@ -98,7 +113,12 @@ pub returns-then-is_held-clause-written : goal.returns-then-is_held-clause-writt
 returns-then-is_held-clause-written g c =
     let m = g.S.Space.bytes c.args.space.now in let t : Table = c.args.self.now.table in let n = c.args.size in let b = c.in-Some-block.block in
     let s = size_told t c.in-Some.ensures.sound m c.requires.memory.inside c.args.id b c.in-Some-block.ensures.value in
-    size_written c.grow_in_place.result (g.S.Space.written c.args.space.now) (g.S.Space.written c.grow_in_place.new.space) c.args.options.zero n b.size (unwrap_or (option_map (length {A = ℕ}) (bytes_at (heap_in t m) c.args.id)) 0) (sym s) (still_written c.grow_in_place.result (g.S.Space.written c.args.space.now) (g.S.Space.written c.grow_in_place.new.space) (if c.args.options.zero then n - b.size else 0) c.grow_in_place.ensures.moved c.grow_in_place.ensures.written)
+    size_written c.grow_in_place.result (g.S.Space.written c.args.space.now)
+    (g.S.Space.written c.grow_in_place.new.space) c.args.options.zero n b.size
+    (unwrap_or (option_map (length {A = ℕ}) (bytes_at (heap_in t m) c.args.id)) 0) (sym s)
+    (still_written c.grow_in_place.result (g.S.Space.written c.args.space.now)
+    (g.S.Space.written c.grow_in_place.new.space) (if c.args.options.zero then n - b.size else 0)
+    c.grow_in_place.ensures.moved c.grow_in_place.ensures.written)
 
 -- One that may move.
 
@@ -109,7 +129,11 @@ pub grow-requires-clause-free : goal.grow-requires-clause-free
 grow-requires-clause-free g c =
     held_by c.args.self.now.table c.in-Some.ensures.sound c.args.id c.in-Some.entry c.in-Some.ensures.value c.in-Some-block.block c.in-Some-block.ensures.value c.args.options false (sym c.if-is_held.false ∙ c.is_held.ensures)
 
-grow_is : (g : Given.Over) (c : goal.After-grow g) → IsTold (heap_in c.args.self.now.table (g.S.Space.bytes c.args.space.now)) (heap_in c.grow.new.self.table (g.S.Space.bytes c.grow.new.space)) c.args.id c.args.size c.args.options c.grow.new.self.discarded c.grow.result ((c.grow.new.self ≡ c.args.self.now) × (c.grow.new.space ≡ c.args.space.now))
+grow_is : (g : Given.Over) (c : goal.After-grow g) → IsTold
+    (heap_in c.args.self.now.table (g.S.Space.bytes c.args.space.now))
+    (heap_in c.grow.new.self.table (g.S.Space.bytes c.grow.new.space)) c.args.id c.args.size c.args.options
+    c.grow.new.self.discarded c.grow.result ((c.grow.new.self ≡ c.args.self.now) ×
+    (c.grow.new.space ≡ c.args.space.now))
 grow_is g c = told_ok g.S.Space.bytes c.args.space.now c.grow.new.space c.args.self.now c.grow.new.self c.args.id c.args.size c.in-Some-block.block c.args.options c.in-Some-block.ensures.value c.grow.result c.grow.ensures.resized c.grow.ensures.refused
 
 pub returns-else-is_held-clause-reallocated : goal.returns-else-is_held-clause-reallocated

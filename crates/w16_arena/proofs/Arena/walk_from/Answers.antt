@@ -35,7 +35,10 @@ module _ (g : _) (c : goal.After-item_of g) where
   first = subst (λ p. IfBlock p (IsFirstBlock c.self.inside.blocks c.args.from)) c.in-Block.is c.in_ok-hole.ensures.block
 
   part : IsPartAt (table_of c.self.inside.entries.items c.self.inside.blocks c.self.inside.order.ids) (slice_get c.self.inside.blocks.blocks (rank c.args.from c.self.inside.blocks.blocks)) (Some c.item_of.result)
-  part = part_told (table_of c.self.inside.entries.items c.self.inside.blocks c.self.inside.order.ids) c.in-Block.block c.item_of.result _ first.block (known c.self.invariant c.self.view_is (λ t. IsSomeAnd (entry_at t c.in-Block.block.id) (λ e. c.item_of.result ≡ item_of c.in-Block.block e)) c.item_of.ensures.value)
+  part = part_told (table_of c.self.inside.entries.items c.self.inside.blocks c.self.inside.order.ids) c.in-Block.block
+      c.item_of.result _ first.block (known c.self.invariant c.self.view_is
+      (λ t. IsSomeAnd (entry_at t c.in-Block.block.id) (λ e. c.item_of.result ≡ item_of c.in-Block.block e))
+      c.item_of.ensures.value)
 
 pub returns-in-Block-clause-found : goal.returns-in-Block-clause-found
 returns-in-Block-clause-found g c =

@@ -36,7 +36,10 @@ loop-id-preserved-then-is_eligible g c =
       ends = on.1;
       from = (suc now.invariant.from.0, rest_after c.args.order.now.ids now.invariant.from.0 c.in-Some.id later (now.invariant.from.1 ∙ c.in-Some.ensures.steps));
       room = c.push_reserved.ensures.capacity ∙ now.invariant.room;
-      listed = listed_more c.args.blocks.now.blocks c.args.order.now.ids c.args.h c.args.k now.listed.items c.in-Some.id later _ c.in-Some.ensures.steps now.invariant.listed (sym c.is_eligible.ensures ∙ c.if-is_eligible.true) (omega arith) c.push_reserved.new.self.items c.push_reserved.ensures.items;
+      listed = listed_more c.args.blocks.now.blocks c.args.order.now.ids c.args.h c.args.k now.listed.items
+          c.in-Some.id later _ c.in-Some.ensures.steps now.invariant.listed
+          (sym c.is_eligible.ensures ∙ c.if-is_eligible.true) (omega arith) c.push_reserved.new.self.items
+          c.push_reserved.ensures.items;
     }
 
 pub loop-id-preserved : goal.loop-id-preserved

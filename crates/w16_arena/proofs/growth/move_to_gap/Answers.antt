@@ -42,4 +42,7 @@ returns-clause-grown g c =
     let moved = e.moved in let same = c.from.ensures in let own = cond-false (at == b.at) 0 b.size (ne_eqb at b.at f.elsewhere) in omega (arith, others, moved, own, same))
 
 pub returns-clause-written : goal.returns-clause-written
-returns-clause-written g c = c.move_to.ensures.written ∙ ap (λ (w : ℕ). counted w c.args.block.size) c.gather-gathered.ensures.written ∙ counted_both (g.S.Space.written c.args.space.now) c.gather-gathered.result c.args.block.size ∙ ap (λ (m : ℕ). counted (g.S.Space.written c.args.space.now) (c.gather-gathered.result + m)) (sym c.from.ensures)
+returns-clause-written g c = c.move_to.ensures.written ∙ ap (λ (w : ℕ). counted w c.args.block.size)
+    c.gather-gathered.ensures.written ∙ counted_both (g.S.Space.written c.args.space.now) c.gather-gathered.result
+    c.args.block.size ∙ ap (λ (m : ℕ). counted (g.S.Space.written c.args.space.now) (c.gather-gathered.result + m))
+    (sym c.from.ensures)

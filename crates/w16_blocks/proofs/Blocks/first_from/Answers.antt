@@ -40,7 +40,10 @@ loop-unit-preserved g c =
     let cell = get_or_read s.begins.items c.loop-unit.unit c.index.result.now (omega arith) c.index.ensures 0 in
     let none : slice_index s.begins.items c.loop-unit.unit ≡ 0 = let zero_is = c.if-begin-gt0.false in omega arith in
     let place : s.lo + c.loop-unit.unit * s.grain ≡ s.lo + s.grain * c.loop-unit.unit = omega arith in
-    let hole : c.at-hole.result ≡ length_at (s.lo + s.grain * c.loop-unit.unit) (holes s.lo s.hi (blocks_in s.slots.items s.begins.items)) = c.at-hole.ensures ∙ ap (length_at (s.lo + c.loop-unit.unit * s.grain)) c.self.invariant.0.between ∙ ap (λ (a : ℕ). length_at a (holes s.lo s.hi (blocks_in s.slots.items s.begins.items))) place in
+    let hole : c.at-hole.result ≡ length_at (s.lo + s.grain * c.loop-unit.unit)
+    (holes s.lo s.hi (blocks_in s.slots.items s.begins.items)) = c.at-hole.ensures ∙ ap
+    (length_at (s.lo + c.loop-unit.unit * s.grain)) c.self.invariant.0.between ∙ ap
+    (λ (a : ℕ). length_at a (holes s.lo s.hi (blocks_in s.slots.items s.begins.items))) place in
     let clear = clear_in s.slots.len s.lo s.hi s.grain s.slots.items s.begins.items c.self.invariant.0.tables c.loop-unit.unit c.at-hole.result none hole in
     c.loop-unit.invariant ∙ ap (λ (bs : List Block). slice_get bs 0) (pass s.slots.items s.begins.items c.loop-unit.unit c.max.result (λ k from to. clear k from (let step = c.max.ensures in let whole = c.units_in.ensures in omega arith)))
 

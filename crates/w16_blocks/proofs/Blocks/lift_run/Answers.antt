@@ -14,14 +14,20 @@ take-requires-clause-free g c = free_entered c.self.invariant.0 c.self.view_is c
 pub put-requires-clause-kept : goal.put-requires-clause-kept
 put-requires-clause-kept g c =
     g.met.H.Holes.stay _ _ _ c.take.ensures.kept
-    (same_free c.self.invariant.0 c.self.view_is c.requires.run c.requires.some (way_up c.args.self.now c.args.run c.requires.run c.requires.some c.args.to c.min-apart.result c.requires.up.0 c.requires.up.1 c.requires.bare c.requires.grained c.min-apart.ensures) c.take.ensures.range c.take.ensures.holes
+    (same_free c.self.invariant.0 c.self.view_is c.requires.run c.requires.some
+    (way_up c.args.self.now c.args.run c.requires.run c.requires.some c.args.to c.min-apart.result c.requires.up.0
+    c.requires.up.1 c.requires.bare c.requires.grained c.min-apart.ensures) c.take.ensures.range c.take.ensures.holes
     (let long = c.take.ensures.bytes.long in let inside = c.requires.memory.inside in omega arith) c.slide.ensures.bytes)
 
 pub put-requires-clause-part : goal.put-requires-clause-part
-put-requires-clause-part g c = part_left c.self.invariant.0 c.self.view_is c.requires.run c.requires.some (way_up c.args.self.now c.args.run c.requires.run c.requires.some c.args.to c.min-apart.result c.requires.up.0 c.requires.up.1 c.requires.bare c.requires.grained c.min-apart.ensures) c.take.ensures.range c.take.ensures.holes
+put-requires-clause-part g c = part_left c.self.invariant.0 c.self.view_is c.requires.run c.requires.some
+    (way_up c.args.self.now c.args.run c.requires.run c.requires.some c.args.to c.min-apart.result c.requires.up.0
+    c.requires.up.1 c.requires.bare c.requires.grained c.min-apart.ensures) c.take.ensures.range c.take.ensures.holes
 
 pub put-requires-clause-used : goal.put-requires-clause-used
-put-requires-clause-used g c = used_left c.self.invariant.0 c.self.view_is c.requires.run c.requires.some (way_up c.args.self.now c.args.run c.requires.run c.requires.some c.args.to c.min-apart.result c.requires.up.0 c.requires.up.1 c.requires.bare c.requires.grained c.min-apart.ensures) c.take.ensures.range c.take.ensures.holes
+put-requires-clause-used g c = used_left c.self.invariant.0 c.self.view_is c.requires.run c.requires.some
+    (way_up c.args.self.now c.args.run c.requires.run c.requires.some c.args.to c.min-apart.result c.requires.up.0
+    c.requires.up.1 c.requires.bare c.requires.grained c.min-apart.ensures) c.take.ensures.range c.take.ensures.holes
 
 pub put-requires-clause-inside : goal.put-requires-clause-inside
 put-requires-clause-inside g c = part_inside (put-requires-clause-part g c) c.take.ensures.range c.self.invariant.0.ranged c.self.view_is c.requires.memory.inside c.take.ensures.bytes.long c.slide.ensures.length
@@ -35,17 +41,30 @@ module _ (g : Given.Over) (c : goal.After-self-3-1 g) where
   cells = (with_items c.self.inside.begins c.retag_run_up.new.begins).items
 
   tables : AreTables c.self.inside.slots.len c.self.inside.lo c.self.inside.hi c.self.inside.grain slots cells
-  tables = tables_back c.self.inside.slots c.self.inside.begins c.deref_mut.result.now c.retag_run_up.new.slots c.deref_mut-2.result.now c.retag_run_up.new.begins c.deref_mut.ensures.value c.deref_mut-2.ensures.value c.retag_run_up.ensures.slots c.retag_run_up.ensures.begins c.retag_run_up.ensures.tables
+  tables = tables_back c.self.inside.slots c.self.inside.begins c.deref_mut.result.now c.retag_run_up.new.slots
+      c.deref_mut-2.result.now c.retag_run_up.new.begins c.deref_mut.ensures.value c.deref_mut-2.ensures.value
+      c.retag_run_up.ensures.slots c.retag_run_up.ensures.begins c.retag_run_up.ensures.tables
 
   blocks : blocks_in slots cells ≡ map (slid_with c.args.run c.args.to) (blocks_in c.self.inside.slots.items c.self.inside.begins.items)
-  blocks = blocks_back c.self.inside.slots c.self.inside.begins c.deref_mut.result.now c.retag_run_up.new.slots c.deref_mut-2.result.now c.retag_run_up.new.begins c.deref_mut.ensures.value c.deref_mut-2.ensures.value c.retag_run_up.ensures.slots c.retag_run_up.ensures.begins (slid_with c.args.run c.args.to) c.retag_run_up.ensures.blocks
+  blocks = blocks_back c.self.inside.slots c.self.inside.begins c.deref_mut.result.now c.retag_run_up.new.slots
+      c.deref_mut-2.result.now c.retag_run_up.new.begins c.deref_mut.ensures.value c.deref_mut-2.ensures.value
+      c.retag_run_up.ensures.slots c.retag_run_up.ensures.begins (slid_with c.args.run c.args.to)
+      c.retag_run_up.ensures.blocks
 
 pub invariant_of-self : goal.invariant_of-self
-invariant_of-self g c = (BlocksInvariant-run c.self.invariant.0 c.self.view_is c.requires.run c.requires.some (way_up c.args.self.now c.args.run c.requires.run c.requires.some c.args.to c.min-apart.result c.requires.up.0 c.requires.up.1 c.requires.bare c.requires.grained c.min-apart.ensures) c.take.ensures.range c.take.ensures.holes c.put.ensures.range c.put.ensures.holes (tables g c) (blocks g c), c.self.invariant.1)
+invariant_of-self g c = (
+  BlocksInvariant-run c.self.invariant.0 c.self.view_is c.requires.run c.requires.some
+      (way_up c.args.self.now c.args.run c.requires.run c.requires.some c.args.to c.min-apart.result c.requires.up.0
+      c.requires.up.1 c.requires.bare c.requires.grained c.min-apart.ensures) c.take.ensures.range c.take.ensures.holes
+      c.put.ensures.range c.put.ensures.holes (tables g c) (blocks g c),
+  c.self.invariant.1,
+)
 
 pub returns-clause-contents : goal.returns-clause-contents
 returns-clause-contents g c =
-    come_too c.self.invariant.0 c.self.view_is c.requires.run c.requires.some (way_up c.args.self.now c.args.run c.requires.run c.requires.some c.args.to c.min-apart.result c.requires.up.0 c.requires.up.1 c.requires.bare c.requires.grained c.min-apart.ensures) c.take.ensures.range c.take.ensures.holes
+    come_too c.self.invariant.0 c.self.view_is c.requires.run c.requires.some
+    (way_up c.args.self.now c.args.run c.requires.run c.requires.some c.args.to c.min-apart.result c.requires.up.0
+    c.requires.up.1 c.requires.bare c.requires.grained c.min-apart.ensures) c.take.ensures.range c.take.ensures.holes
     c.put.ensures.range c.put.ensures.holes (tables g c) (blocks g c) c.requires.memory.inside c.take.ensures.bytes c.slide.ensures.bytes c.put.ensures.bytes
 
 pub returns-clause-value : goal.returns-clause-value
@@ -64,7 +83,10 @@ returns-clause-rest g c = record {
   kept = subst (λ (hs : List Span). g.H.Holes.are_in hs (g.S.Space.bytes c.put.new.space)) (invariant_of-self g c).0.between c.put.ensures.kept;
   bytes =
       subst (λ (hs : List Span). AreSameBut c.args.to (c.args.run.to - c.args.run.from) (holes_of c.args.self.now) hs (g.S.Space.bytes c.args.space.now) (g.S.Space.bytes c.put.new.space)) (invariant_of-self g c).0.between
-      (others_same c.self.invariant.0 c.self.view_is c.requires.run c.requires.some (way_up c.args.self.now c.args.run c.requires.run c.requires.some c.args.to c.min-apart.result c.requires.up.0 c.requires.up.1 c.requires.bare c.requires.grained c.min-apart.ensures) c.take.ensures.range c.take.ensures.holes
+      (others_same c.self.invariant.0 c.self.view_is c.requires.run c.requires.some
+      (way_up c.args.self.now c.args.run c.requires.run c.requires.some c.args.to c.min-apart.result c.requires.up.0
+      c.requires.up.1 c.requires.bare c.requires.grained c.min-apart.ensures) c.take.ensures.range
+      c.take.ensures.holes
       c.put.ensures.range c.put.ensures.holes (tables g c) (blocks g c) c.requires.memory.inside c.take.ensures.bytes c.slide.ensures.bytes c.put.ensures.bytes);
   loans = c.put.ensures.lenders ∙ c.slide.ensures.lenders ∙ c.take.ensures.lenders;
 }

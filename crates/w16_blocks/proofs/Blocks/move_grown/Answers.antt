@@ -25,7 +25,10 @@ slide-requires-clause-source g c = let long = c.take.ensures.bytes.long in let i
 pub put-requires-clause-kept : goal.put-requires-clause-kept
 put-requires-clause-kept g c =
     g.met.H.Holes.stay _ _ _ c.take.ensures.kept
-    (same_free c.self.invariant.0 c.self.inside.slots.ok.0 c.self.view_is c.args.block c.requires.known c.requires.more c.requires.fits c.requires.apart c.take.ensures.range c.take.ensures.holes (let long = c.take.ensures.bytes.long in let inside = c.requires.memory.inside in omega arith) c.slide.ensures.bytes)
+    (same_free c.self.invariant.0 c.self.inside.slots.ok.0 c.self.view_is c.args.block c.requires.known c.requires.more
+    c.requires.fits c.requires.apart c.take.ensures.range c.take.ensures.holes
+    (let long = c.take.ensures.bytes.long in let inside = c.requires.memory.inside in omega arith)
+    c.slide.ensures.bytes)
 
 pub put-requires-clause-part : goal.put-requires-clause-part
 put-requires-clause-part g c = part_old c.self.invariant.0 c.self.inside.slots.ok.0 c.self.view_is c.args.block c.requires.known c.requires.more c.requires.fits c.requires.apart c.take.ensures.range c.take.ensures.holes

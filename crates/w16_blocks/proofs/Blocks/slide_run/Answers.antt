@@ -1,4 +1,5 @@
-use Rattle.w16_blocks.proofs.Common.{ℕ, List, length, map, min, refl, ◌≡◌, ◌≢◌, ◌∙◌, ◌+◌, ◌-◌, ◌<◌, ◌≤◌, ap, arith, sym, subst, with_items, AllByRecursion, Block, Span, IsMultiple, IsFree, IsOrdered, IsPart, Range, Layout, range_of, holes_of, blocks_in, AreTables, layout_in, IsBare, IsRun, joined, taken, slid_with, AreSameBut}
+use Rattle.w16_blocks.proofs.Common.{ℕ, List, length, map, min, refl, ◌≡◌, ◌≢◌, ◌∙◌, ◌+◌, ◌-◌, ◌<◌, ◌≤◌, ap, arith, sym, subst, with_items, AllByRecursion, Block, Span, IsMultiple}
+use Rattle.w16_blocks.proofs.Common.{IsFree, IsOrdered, IsPart, Range, Layout, range_of, holes_of, blocks_in, AreTables, layout_in, IsBare, IsRun, joined, taken, slid_with, AreSameBut}
 use Rattle.w16_blocks.specs.Runs.{EndsAt}
 use Rattle.w16_blocks.proofs.RunHoles.{IsWay, way_down, bare_free, run_part}
 use Rattle.w16_blocks.proofs.RunKept.{used_run, BlocksInvariant-run, tables_back, blocks_back, lent_layout}
@@ -37,10 +38,15 @@ module _ (g : Given.Over) (c : After-retag_run-end g) where
   cells = (with_items c.self.inside.begins c.retag_run-end.new.begins).items
 
   tables : AreTables c.self.inside.slots.len c.self.inside.lo c.self.inside.hi c.self.inside.grain slots cells
-  tables = tables_back c.self.inside.slots c.self.inside.begins c.deref_mut.result.now c.retag_run-end.new.slots c.deref_mut-2.result.now c.retag_run-end.new.begins c.deref_mut.ensures.value c.deref_mut-2.ensures.value c.retag_run-end.ensures.slots c.retag_run-end.ensures.begins c.retag_run-end.ensures.tables
+  tables = tables_back c.self.inside.slots c.self.inside.begins c.deref_mut.result.now c.retag_run-end.new.slots
+      c.deref_mut-2.result.now c.retag_run-end.new.begins c.deref_mut.ensures.value c.deref_mut-2.ensures.value
+      c.retag_run-end.ensures.slots c.retag_run-end.ensures.begins c.retag_run-end.ensures.tables
 
   blocks : blocks_in slots cells ≡ map (slid_with run c.args.to) (blocks_in c.self.inside.slots.items c.self.inside.begins.items)
-  blocks = blocks_back c.self.inside.slots c.self.inside.begins c.deref_mut.result.now c.retag_run-end.new.slots c.deref_mut-2.result.now c.retag_run-end.new.begins c.deref_mut.ensures.value c.deref_mut-2.ensures.value c.retag_run-end.ensures.slots c.retag_run-end.ensures.begins (slid_with run c.args.to) c.retag_run-end.ensures.blocks
+  blocks = blocks_back c.self.inside.slots c.self.inside.begins c.deref_mut.result.now c.retag_run-end.new.slots
+      c.deref_mut-2.result.now c.retag_run-end.new.begins c.deref_mut.ensures.value c.deref_mut-2.ensures.value
+      c.retag_run-end.ensures.slots c.retag_run-end.ensures.begins (slid_with run c.args.to)
+      c.retag_run-end.ensures.blocks
 
 pub slide_down-requires-clause-new : goal.slide_down-requires-clause-new
 slide_down-requires-clause-new g c =

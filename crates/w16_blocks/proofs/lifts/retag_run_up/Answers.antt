@@ -29,26 +29,79 @@ unreachable-requires c =
 pub overflow_sub-at : goal.overflow_sub-at
 overflow_sub-at c =
     let inv = c.loop-at.invariant in
-    begins_in (layout_in (length c.args.slots.now) c.args.bounds.from c.args.bounds.to c.args.grain c.args.slots.now c.args.begins.now) c.requires.tables.ordered c.requires.tables.ids c.args.run c.requires.run c.args.to c.requires.up.0 c.requires.up.1 c.requires.bare c.loop-at.at c.loop-at-test.true inv.end inv.cut
-    (layout_in (length c.loop-at.slots) c.args.bounds.from c.args.bounds.to c.args.grain c.loop-at.slots c.loop-at.begins) (ordered_now inv.tables inv.slots) (λ i. record { cap = inv.slots i; lo = c.args.bounds.from; hi = c.args.bounds.to; grain = c.args.grain; blocks = inv.list i }) c.in-Some.block c.in-Some.ensures
+    begins_in (layout_in (length c.args.slots.now) c.args.bounds.from c.args.bounds.to c.args.grain c.args.slots.now
+    c.args.begins.now) c.requires.tables.ordered c.requires.tables.ids c.args.run c.requires.run c.args.to
+    c.requires.up.0 c.requires.up.1 c.requires.bare c.loop-at.at c.loop-at-test.true inv.end inv.cut
+    (layout_in (length c.loop-at.slots) c.args.bounds.from c.args.bounds.to c.args.grain c.loop-at.slots
+    c.loop-at.begins) (ordered_now inv.tables inv.slots)
+    (λ i. record {
+      cap = inv.slots i;
+      lo = c.args.bounds.from;
+      hi = c.args.bounds.to;
+      grain = c.args.grain;
+      blocks =
+          inv.list i;
+    }) c.in-Some.block c.in-Some.ensures
 
 pub retag-requires-clause-fits : goal.retag-requires-clause-fits
 retag-requires-clause-fits c =
     let inv = c.loop-at.invariant in
-    fits_next (layout_in (length c.args.slots.now) c.args.bounds.from c.args.bounds.to c.args.grain c.args.slots.now c.args.begins.now) c.requires.tables.ordered c.requires.tables.ids c.args.run c.requires.run c.args.to c.requires.up.0 c.requires.up.1 c.requires.bare c.loop-at.at c.loop-at-test.true inv.end inv.cut
-    (layout_in (length c.loop-at.slots) c.args.bounds.from c.args.bounds.to c.args.grain c.loop-at.slots c.loop-at.begins) (ordered_now inv.tables inv.slots) (λ i. record { cap = inv.slots i; lo = c.args.bounds.from; hi = c.args.bounds.to; grain = c.args.grain; blocks = inv.list i }) c.in-Some.block c.in-Some.ensures c.requires.grained
+    fits_next (layout_in (length c.args.slots.now) c.args.bounds.from c.args.bounds.to c.args.grain c.args.slots.now
+    c.args.begins.now) c.requires.tables.ordered c.requires.tables.ids c.args.run c.requires.run c.args.to
+    c.requires.up.0 c.requires.up.1 c.requires.bare c.loop-at.at c.loop-at-test.true inv.end inv.cut
+    (layout_in (length c.loop-at.slots) c.args.bounds.from c.args.bounds.to c.args.grain c.loop-at.slots
+    c.loop-at.begins) (ordered_now inv.tables inv.slots)
+    (λ i. record {
+      cap = inv.slots i;
+      lo = c.args.bounds.from;
+      hi = c.args.bounds.to;
+      grain = c.args.grain;
+      blocks =
+          inv.list i;
+    }) c.in-Some.block c.in-Some.ensures c.requires.grained
 
 pub loop-at-preserved : goal.loop-at-preserved
 loop-at-preserved c =
     let inv = c.loop-at.invariant in
     record {
       tables = subst (λ (n : ℕ). AreTables n c.args.bounds.from c.args.bounds.to c.args.grain c.retag.new.slots c.retag.new.begins) inv.slots c.retag.ensures.tables;
-      list = c.retag.ensures.blocks ∙ list_next (layout_in (length c.args.slots.now) c.args.bounds.from c.args.bounds.to c.args.grain c.args.slots.now c.args.begins.now) c.requires.tables.ordered c.requires.tables.ids c.args.run c.requires.run c.args.to c.requires.up.0 c.requires.up.1 c.requires.bare c.loop-at.at c.loop-at-test.true inv.end inv.cut
-          (layout_in (length c.loop-at.slots) c.args.bounds.from c.args.bounds.to c.args.grain c.loop-at.slots c.loop-at.begins) (ordered_now inv.tables inv.slots) (λ i. record { cap = inv.slots i; lo = c.args.bounds.from; hi = c.args.bounds.to; grain = c.args.grain; blocks = inv.list i }) c.in-Some.block c.in-Some.ensures;
-      cut = cut_next (layout_in (length c.args.slots.now) c.args.bounds.from c.args.bounds.to c.args.grain c.args.slots.now c.args.begins.now) c.requires.tables.ordered c.requires.tables.ids c.args.run c.requires.run c.args.to c.requires.up.0 c.requires.up.1 c.requires.bare c.loop-at.at c.loop-at-test.true inv.end inv.cut
-          (layout_in (length c.loop-at.slots) c.args.bounds.from c.args.bounds.to c.args.grain c.loop-at.slots c.loop-at.begins) (ordered_now inv.tables inv.slots) (λ i. record { cap = inv.slots i; lo = c.args.bounds.from; hi = c.args.bounds.to; grain = c.args.grain; blocks = inv.list i }) c.in-Some.block c.in-Some.ensures;
-      from = begins_in (layout_in (length c.args.slots.now) c.args.bounds.from c.args.bounds.to c.args.grain c.args.slots.now c.args.begins.now) c.requires.tables.ordered c.requires.tables.ids c.args.run c.requires.run c.args.to c.requires.up.0 c.requires.up.1 c.requires.bare c.loop-at.at c.loop-at-test.true inv.end inv.cut
-          (layout_in (length c.loop-at.slots) c.args.bounds.from c.args.bounds.to c.args.grain c.loop-at.slots c.loop-at.begins) (ordered_now inv.tables inv.slots) (λ i. record { cap = inv.slots i; lo = c.args.bounds.from; hi = c.args.bounds.to; grain = c.args.grain; blocks = inv.list i }) c.in-Some.block c.in-Some.ensures;
+      list = c.retag.ensures.blocks ∙ list_next (layout_in (length c.args.slots.now) c.args.bounds.from
+          c.args.bounds.to c.args.grain c.args.slots.now c.args.begins.now) c.requires.tables.ordered
+          c.requires.tables.ids c.args.run c.requires.run c.args.to c.requires.up.0 c.requires.up.1 c.requires.bare
+          c.loop-at.at c.loop-at-test.true inv.end inv.cut
+          (layout_in (length c.loop-at.slots) c.args.bounds.from c.args.bounds.to c.args.grain c.loop-at.slots
+          c.loop-at.begins) (ordered_now inv.tables inv.slots)
+          (λ i. record {
+            cap = inv.slots i;
+            lo = c.args.bounds.from;
+            hi = c.args.bounds.to;
+            grain = c.args.grain;
+            blocks = inv.list i;
+          }) c.in-Some.block c.in-Some.ensures;
+      cut = cut_next (layout_in (length c.args.slots.now) c.args.bounds.from c.args.bounds.to c.args.grain
+          c.args.slots.now c.args.begins.now) c.requires.tables.ordered c.requires.tables.ids c.args.run c.requires.run
+          c.args.to c.requires.up.0 c.requires.up.1 c.requires.bare c.loop-at.at c.loop-at-test.true inv.end inv.cut
+          (layout_in (length c.loop-at.slots) c.args.bounds.from c.args.bounds.to c.args.grain c.loop-at.slots
+          c.loop-at.begins) (ordered_now inv.tables inv.slots)
+          (λ i. record {
+            cap = inv.slots i;
+            lo = c.args.bounds.from;
+            hi = c.args.bounds.to;
+            grain = c.args.grain;
+            blocks = inv.list i;
+          }) c.in-Some.block c.in-Some.ensures;
+      from = begins_in (layout_in (length c.args.slots.now) c.args.bounds.from c.args.bounds.to c.args.grain
+          c.args.slots.now c.args.begins.now) c.requires.tables.ordered c.requires.tables.ids c.args.run c.requires.run
+          c.args.to c.requires.up.0 c.requires.up.1 c.requires.bare c.loop-at.at c.loop-at-test.true inv.end inv.cut
+          (layout_in (length c.loop-at.slots) c.args.bounds.from c.args.bounds.to c.args.grain c.loop-at.slots
+          c.loop-at.begins) (ordered_now inv.tables inv.slots)
+          (λ i. record {
+            cap = inv.slots i;
+            lo = c.args.bounds.from;
+            hi = c.args.bounds.to;
+            grain = c.args.grain;
+            blocks = inv.list i;
+          }) c.in-Some.block c.in-Some.ensures;
       end = let below = c.in-Some.ensures.below in let end = inv.end in omega arith;
       slots = c.retag.ensures.slots ∙ inv.slots;
       begins = c.retag.ensures.begins ∙ inv.begins;

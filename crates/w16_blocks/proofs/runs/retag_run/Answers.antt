@@ -1,4 +1,5 @@
-use Rattle.w16_blocks.proofs.Common.{multiple_less, ℕ, List, Some, length, map, arith, refl, sym, subst, inl, inr, ◌∙◌, ◌+◌, ◌-◌, ◌<◌, ◌≤◌, ◌^◌, ◌≡◌, ◌≢◌, AllByRecursion, Block, Span, IsMultiple, block_with, multiple_sum, Layout, IsOrdered, FitsFor, replaced, blocks_in, layout_in, AreTables, slid_with}
+use Rattle.w16_blocks.proofs.Common.{multiple_less, ℕ, List, Some, length, map, arith, refl, sym, subst, inl, inr, ◌∙◌, ◌+◌, ◌-◌, ◌<◌, ◌≤◌, ◌^◌, ◌≡◌, ◌≢◌, AllByRecursion}
+use Rattle.w16_blocks.proofs.Common.{Block, Span, IsMultiple, block_with, multiple_sum, Layout, IsOrdered, FitsFor, replaced, blocks_in, layout_in, AreTables, slid_with}
 use Rattle.w16_blocks.proofs.Step.{lies}
 use Rattle.w16_blocks.proofs.Sliding.{IsReady, slid_none, ready_start, ends_inside, fits_there, ready_then, slid_then, run_more}
 use Rattle.w16_blocks.proofs.Unslid.{unslid, none_unslid}

@@ -1,4 +1,5 @@
-use Rattle.w16_compact.proofs.Common.{ℕ, ◌≡◌, ◌+◌, ◌<◌, ◌≤◌, ◌∙◌, List, Option, Some, IfSome, IsSome, refl, sym, ap, subst, Block, Loose, IsClear, IsHole, is_any, block_end, loose_bytes, block_with, Layout, IsOrdered, holes_of, replaced, contents, moved_between, AreSlid, MayGather, with_loose, opened, end_in, spare_in, length, IsSameRest, LeavesFree}
+use Rattle.w16_compact.proofs.Common.{ℕ, ◌≡◌, ◌+◌, ◌<◌, ◌≤◌, ◌∙◌, List, Option, Some, IfSome, IsSome, refl, sym, ap, subst, Block, Loose, IsClear, IsHole, is_any, block_end, loose_bytes, block_with}
+use Rattle.w16_compact.proofs.Common.{Layout, IsOrdered, holes_of, replaced, contents, moved_between, AreSlid, MayGather, with_loose, opened, end_in, spare_in, length, IsSameRest, LeavesFree}
 use Rattle.w16_compact.proofs.Opened.{of_known, if_known}
 use Rattle.w16_compact.proofs.Loosened.{held, with_hold, clear_held, contents_held, hole_held, hole_unheld, holes_held, loosened_back, moved_from, moved_to, own_held, set_held}
 use Rattle.w16_compact.proofs.opening.open.Given as Given

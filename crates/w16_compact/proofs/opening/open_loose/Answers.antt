@@ -73,7 +73,10 @@ returns-clause-moved g c =
     let l = c.args.blocks.now in
     let down = c.gather-down.ensures.moved in let up = c.raise.ensures.moved in
     let both = moved_opened c.args.blocks.now c.find.ensures.ordered c.args.low c.args.high c.requires.gap c.in-Some.block (known g c) (at g c).0 (at g c).1 in
-    let first = ap (moved_between l.blocks) (mid g c) in let second : moved_between c.gather-down.new.blocks.blocks c.raise.new.blocks.blocks ≡ moved_between (gathered c.args.low (block_end c.in-Some.block) l.blocks) (opened c.args.low (block_end c.in-Some.block) c.args.high l.blocks) = λ i. moved_between (mid g c i) (list g c i) in
+    let first = ap (moved_between l.blocks) (mid g c) in let second : moved_between c.gather-down.new.blocks.blocks
+    c.raise.new.blocks.blocks ≡ moved_between (gathered c.args.low (block_end c.in-Some.block) l.blocks)
+    (opened c.args.low (block_end c.in-Some.block) c.args.high l.blocks) = λ i. moved_between (mid g c i)
+    (list g c i) in
     let all = ap (moved_between l.blocks) (list g c) in
     omega (arith, down, up, both, first, second, all)
 

@@ -1,4 +1,5 @@
-use Rattle.w16_compact.proofs.Common.{ℕ, ◌≡◌, ◌≢◌, Some, inl, inr, ◌-◌, ◌<◌, ◌≤◌, ◌⊎◌, ◌∙◌, arith, refl, sym, ap, subst, cases_lt, AllByRecursion, Block, block_end, IsMultiple, block_with, multiple_sum, Layout, IsOrdered, IsRun, BeginsAt, each_with, lies, multiple_less, grained_known, moved_between, AreSlid, raised}
+use Rattle.w16_compact.proofs.Common.{ℕ, ◌≡◌, ◌≢◌, Some, inl, inr, ◌-◌, ◌<◌, ◌≤◌, ◌⊎◌, ◌∙◌, arith, refl, sym, ap, subst, cases_lt, AllByRecursion, Block, block_end, IsMultiple}
+use Rattle.w16_compact.proofs.Common.{block_with, multiple_sum, Layout, IsOrdered, IsRun, BeginsAt, each_with, lies, multiple_less, grained_known, moved_between, AreSlid, raised}
 use Rattle.w16_compact.proofs.Gathering.{cut_low, cut_high, at_most}
 use Rattle.w16_compact.proofs.Raising.{loose_empty, raised_none, raised_all, moved_start, slid_raised, cut_low_now, cut_end_now, end_below, room_then, bare_then, place_then, list_then, cut_then, moved_then}
 use Rattle.w16_compact.proofs.Rests.{leaves_more, rest_same}
@@ -69,7 +70,10 @@ pub overflow_sub-to-in-Some : goal.overflow_sub-to-in-Some
 overflow_sub-to-in-Some g c =
     let l = c.args.blocks.now in let inv = c.loop-block.invariant in let is = c.in-Some.ensures.value in
     (room_then l.blocks l.lo l.hi c.args.low c.args.high c.loop-block.from c.loop-block.to c.reveal_order.ensures.laid c.requires.gap.loose inv.high inv.place inv.room inv.cut c.loop-block.blocks inv.ordered inv.list
-    c.in-Some.block is.0.known is.0.below is.0.last (record { from = c.run_begin.result; to = block_end c.in-Some.block }) c.run_begin.ensures.run (run_some c.loop-block.blocks c.in-Some.block inv.ordered is.0.known c.args.low c.run_begin.result is.1 c.run_begin.ensures.run c.run_begin.ensures.first) c.run_begin.ensures.low refl).0
+    c.in-Some.block is.0.known is.0.below is.0.last (record
+    { from = c.run_begin.result; to = block_end c.in-Some.block }) c.run_begin.ensures.run
+    (run_some c.loop-block.blocks c.in-Some.block inv.ordered is.0.known c.args.low c.run_begin.result is.1
+    c.run_begin.ensures.run c.run_begin.ensures.first) c.run_begin.ensures.low refl).0
 
 pub lift-requires-clause-some : goal.lift-requires-clause-some
 lift-requires-clause-some g c =
@@ -80,7 +84,10 @@ pub lift-requires-clause-bare : goal.lift-requires-clause-bare
 lift-requires-clause-bare g c =
     let l = c.args.blocks.now in let inv = c.loop-block.invariant in let is = c.in-Some.ensures.value in
     bare_then l.blocks l.lo l.hi c.args.low c.args.high c.loop-block.from c.loop-block.to c.reveal_order.ensures.laid c.requires.gap.loose inv.high inv.place inv.room inv.cut c.loop-block.blocks inv.ordered inv.list
-    c.in-Some.block is.0.known is.0.below is.0.last (record { from = c.run_begin.result; to = block_end c.in-Some.block }) c.run_begin.ensures.run (run_some c.loop-block.blocks c.in-Some.block inv.ordered is.0.known c.args.low c.run_begin.result is.1 c.run_begin.ensures.run c.run_begin.ensures.first) c.run_begin.ensures.low refl
+    c.in-Some.block is.0.known is.0.below is.0.last (record
+    { from = c.run_begin.result; to = block_end c.in-Some.block }) c.run_begin.ensures.run
+    (run_some c.loop-block.blocks c.in-Some.block inv.ordered is.0.known c.args.low c.run_begin.result is.1
+    c.run_begin.ensures.run c.run_begin.ensures.first) c.run_begin.ensures.low refl
 
 pub lift-requires-clause-grained : goal.lift-requires-clause-grained
 lift-requires-clause-grained g c =
@@ -93,7 +100,10 @@ pub lift-requires-clause-up : goal.lift-requires-clause-up
 lift-requires-clause-up g c =
     let l = c.args.blocks.now in let inv = c.loop-block.invariant in let is = c.in-Some.ensures.value in
     let room = room_then l.blocks l.lo l.hi c.args.low c.args.high c.loop-block.from c.loop-block.to c.reveal_order.ensures.laid c.requires.gap.loose inv.high inv.place inv.room inv.cut c.loop-block.blocks inv.ordered inv.list
-    c.in-Some.block is.0.known is.0.below is.0.last (record { from = c.run_begin.result; to = block_end c.in-Some.block }) c.run_begin.ensures.run (run_some c.loop-block.blocks c.in-Some.block inv.ordered is.0.known c.args.low c.run_begin.result is.1 c.run_begin.ensures.run c.run_begin.ensures.first) c.run_begin.ensures.low refl in
+    c.in-Some.block is.0.known is.0.below is.0.last (record
+    { from = c.run_begin.result; to = block_end c.in-Some.block }) c.run_begin.ensures.run
+    (run_some c.loop-block.blocks c.in-Some.block inv.ordered is.0.known c.args.low c.run_begin.result is.1
+    c.run_begin.ensures.run c.run_begin.ensures.first) c.run_begin.ensures.low refl in
     let top = c.requires.gap.inside.2 in let hi = inv.bounds.2 in let end = room.2 in let high = room.3 in (room.1, omega arith)
 
 pub loop-block-smaller : goal.loop-block-smaller
@@ -101,7 +111,10 @@ loop-block-smaller g c =
     let l = c.args.blocks.now in let inv = c.loop-block.invariant in let is = c.in-Some.ensures.value in
     let some = run_some c.loop-block.blocks c.in-Some.block inv.ordered is.0.known c.args.low c.run_begin.result is.1 c.run_begin.ensures.run c.run_begin.ensures.first in
     let end = end_below l.blocks l.lo l.hi c.args.low c.args.high c.loop-block.from c.loop-block.to c.reveal_order.ensures.laid c.requires.gap.loose inv.high inv.place inv.room inv.cut c.loop-block.blocks inv.ordered inv.list
-    c.in-Some.block is.0.known is.0.below is.0.last (record { from = c.run_begin.result; to = block_end c.in-Some.block }) c.run_begin.ensures.run (run_some c.loop-block.blocks c.in-Some.block inv.ordered is.0.known c.args.low c.run_begin.result is.1 c.run_begin.ensures.run c.run_begin.ensures.first) c.run_begin.ensures.low refl in omega arith
+    c.in-Some.block is.0.known is.0.below is.0.last (record
+    { from = c.run_begin.result; to = block_end c.in-Some.block }) c.run_begin.ensures.run
+    (run_some c.loop-block.blocks c.in-Some.block inv.ordered is.0.known c.args.low c.run_begin.result is.1
+    c.run_begin.ensures.run c.run_begin.ensures.first) c.run_begin.ensures.low refl in omega arith
 
 pub loop-block-preserved : goal.loop-block-preserved
 loop-block-preserved g c =
@@ -109,12 +122,21 @@ loop-block-preserved g c =
     let run = c.run_begin.ensures.run in
     let new = c.lift.ensures.blocks in
     let list = ap (λ (m : Layout). m.blocks) new ∙ list_then l.blocks l.lo l.hi c.args.low c.args.high c.loop-block.from c.loop-block.to c.reveal_order.ensures.laid c.requires.gap.loose inv.high inv.place inv.room inv.cut c.loop-block.blocks inv.ordered inv.list
-    c.in-Some.block is.0.known is.0.below is.0.last (record { from = c.run_begin.result; to = block_end c.in-Some.block }) c.run_begin.ensures.run (run_some c.loop-block.blocks c.in-Some.block inv.ordered is.0.known c.args.low c.run_begin.result is.1 c.run_begin.ensures.run c.run_begin.ensures.first) c.run_begin.ensures.low refl in
+    c.in-Some.block is.0.known is.0.below is.0.last (record
+    { from = c.run_begin.result; to = block_end c.in-Some.block }) c.run_begin.ensures.run
+    (run_some c.loop-block.blocks c.in-Some.block inv.ordered is.0.known c.args.low c.run_begin.result is.1
+    c.run_begin.ensures.run c.run_begin.ensures.first) c.run_begin.ensures.low refl in
     let room = room_then l.blocks l.lo l.hi c.args.low c.args.high c.loop-block.from c.loop-block.to c.reveal_order.ensures.laid c.requires.gap.loose inv.high inv.place inv.room inv.cut c.loop-block.blocks inv.ordered inv.list
-    c.in-Some.block is.0.known is.0.below is.0.last (record { from = c.run_begin.result; to = block_end c.in-Some.block }) c.run_begin.ensures.run (run_some c.loop-block.blocks c.in-Some.block inv.ordered is.0.known c.args.low c.run_begin.result is.1 c.run_begin.ensures.run c.run_begin.ensures.first) c.run_begin.ensures.low refl in
+    c.in-Some.block is.0.known is.0.below is.0.last (record
+    { from = c.run_begin.result; to = block_end c.in-Some.block }) c.run_begin.ensures.run
+    (run_some c.loop-block.blocks c.in-Some.block inv.ordered is.0.known c.args.low c.run_begin.result is.1
+    c.run_begin.ensures.run c.run_begin.ensures.first) c.run_begin.ensures.low refl in
     let r = c.from-moved.ensures ∙ c.lift.ensures.moved in
     let step = moved_then l.blocks l.lo l.hi c.args.low c.args.high c.loop-block.from c.loop-block.to c.reveal_order.ensures.laid c.requires.gap.loose inv.high inv.place inv.room inv.cut c.loop-block.blocks inv.ordered inv.list
-    c.in-Some.block is.0.known is.0.below is.0.last (record { from = c.run_begin.result; to = block_end c.in-Some.block }) c.run_begin.ensures.run (run_some c.loop-block.blocks c.in-Some.block inv.ordered is.0.known c.args.low c.run_begin.result is.1 c.run_begin.ensures.run c.run_begin.ensures.first) c.run_begin.ensures.low refl c.from-moved.result r in
+    c.in-Some.block is.0.known is.0.below is.0.last (record
+    { from = c.run_begin.result; to = block_end c.in-Some.block }) c.run_begin.ensures.run
+    (run_some c.loop-block.blocks c.in-Some.block inv.ordered is.0.known c.args.low c.run_begin.result is.1
+    c.run_begin.ensures.run c.run_begin.ensures.first) c.run_begin.ensures.low refl c.from-moved.result r in
     let few = at_most c.from-moved.result c.run_begin.result (c.loop-block.to - (block_end c.in-Some.block - c.run_begin.result)) (block_end c.in-Some.block - c.run_begin.result) r in
     let grain = inv.bounds.3 in let size = room.0 in
     record {
@@ -123,11 +145,21 @@ loop-block-preserved g c =
       list = list;
       low = c.run_begin.ensures.low;
       high = let end = end_below l.blocks l.lo l.hi c.args.low c.args.high c.loop-block.from c.loop-block.to c.reveal_order.ensures.laid c.requires.gap.loose inv.high inv.place inv.room inv.cut c.loop-block.blocks inv.ordered inv.list
-          c.in-Some.block is.0.known is.0.below is.0.last (record { from = c.run_begin.result; to = block_end c.in-Some.block }) c.run_begin.ensures.run (run_some c.loop-block.blocks c.in-Some.block inv.ordered is.0.known c.args.low c.run_begin.result is.1 c.run_begin.ensures.run c.run_begin.ensures.first) c.run_begin.ensures.low refl in let two = inv.high in let order = run.inside.1 in omega arith;
+          c.in-Some.block is.0.known is.0.below is.0.last
+          (record { from = c.run_begin.result; to = block_end c.in-Some.block }) c.run_begin.ensures.run
+          (run_some c.loop-block.blocks c.in-Some.block inv.ordered is.0.known c.args.low c.run_begin.result is.1
+          c.run_begin.ensures.run c.run_begin.ensures.first) c.run_begin.ensures.low refl in let two = inv.high in
+          let order = run.inside.1 in omega arith;
       cut = cut_then l.blocks l.lo l.hi c.args.low c.args.high c.loop-block.from c.loop-block.to c.reveal_order.ensures.laid c.requires.gap.loose inv.high inv.place inv.room inv.cut c.loop-block.blocks inv.ordered inv.list
-          c.in-Some.block is.0.known is.0.below is.0.last (record { from = c.run_begin.result; to = block_end c.in-Some.block }) c.run_begin.ensures.run (run_some c.loop-block.blocks c.in-Some.block inv.ordered is.0.known c.args.low c.run_begin.result is.1 c.run_begin.ensures.run c.run_begin.ensures.first) c.run_begin.ensures.low refl;
+          c.in-Some.block is.0.known is.0.below is.0.last
+          (record { from = c.run_begin.result; to = block_end c.in-Some.block }) c.run_begin.ensures.run
+          (run_some c.loop-block.blocks c.in-Some.block inv.ordered is.0.known c.args.low c.run_begin.result is.1
+          c.run_begin.ensures.run c.run_begin.ensures.first) c.run_begin.ensures.low refl;
       place = place_then l.blocks l.lo l.hi c.args.low c.args.high c.loop-block.from c.loop-block.to c.reveal_order.ensures.laid c.requires.gap.loose inv.high inv.place inv.room inv.cut c.loop-block.blocks inv.ordered inv.list
-          c.in-Some.block is.0.known is.0.below is.0.last (record { from = c.run_begin.result; to = block_end c.in-Some.block }) c.run_begin.ensures.run (run_some c.loop-block.blocks c.in-Some.block inv.ordered is.0.known c.args.low c.run_begin.result is.1 c.run_begin.ensures.run c.run_begin.ensures.first) c.run_begin.ensures.low refl;
+          c.in-Some.block is.0.known is.0.below is.0.last
+          (record { from = c.run_begin.result; to = block_end c.in-Some.block }) c.run_begin.ensures.run
+          (run_some c.loop-block.blocks c.in-Some.block inv.ordered is.0.known c.args.low c.run_begin.result is.1
+          c.run_begin.ensures.run c.run_begin.ensures.first) c.run_begin.ensures.low refl;
       room = room.1;
       grained = multiple_less l.grain c.loop-block.to (block_end c.in-Some.block - c.run_begin.result) inv.grained
           (subst (λ (n : ℕ). IsMultiple n (block_end c.in-Some.block - c.run_begin.result)) grain (multiple_less c.loop-block.blocks.grain (block_end c.in-Some.block) c.run_begin.result run.grained.1 run.grained.0));

@@ -18,12 +18,18 @@ objects-preserved g c =
 
 pub place_run-requires-clause-known : goal.place_run-requires-clause-known
 place_run-requires-clause-known g c = λ number below.
-    (run_known c.args.objects.now c.args.attributes.now c.requires.handles c.objects.selectors (told_labelled c.args.objects.now c.args.attributes.now c.requires.handles (begins_in c.args.objects.now.heap c.args.slid.from c.objects.from) c.args.selectors.now c.objects.selectors c.requires.labelled c.objects.invariant.so_far)
+    (run_known c.args.objects.now c.args.attributes.now c.requires.handles c.objects.selectors
+    (told_labelled c.args.objects.now c.args.attributes.now c.requires.handles
+    (begins_in c.args.objects.now.heap c.args.slid.from c.objects.from) c.args.selectors.now c.objects.selectors
+    c.requires.labelled c.objects.invariant.so_far)
     c.in-Some.block.id number (subst (λ n. number < n) (sym (run_sized c.args.objects.now c.args.attributes.now c.requires.handles c.in-Some.block.id c.in-Some.block.size c.in-Some.ensures.there.1)) below)).0
 
 pub place_run-requires-clause-numbered : goal.place_run-requires-clause-numbered
 place_run-requires-clause-numbered g c = λ number below.
-    (run_known c.args.objects.now c.args.attributes.now c.requires.handles c.objects.selectors (told_labelled c.args.objects.now c.args.attributes.now c.requires.handles (begins_in c.args.objects.now.heap c.args.slid.from c.objects.from) c.args.selectors.now c.objects.selectors c.requires.labelled c.objects.invariant.so_far)
+    (run_known c.args.objects.now c.args.attributes.now c.requires.handles c.objects.selectors
+    (told_labelled c.args.objects.now c.args.attributes.now c.requires.handles
+    (begins_in c.args.objects.now.heap c.args.slid.from c.objects.from) c.args.selectors.now c.objects.selectors
+    c.requires.labelled c.objects.invariant.so_far)
     c.in-Some.block.id number (subst (λ n. number < n) (sym (run_sized c.args.objects.now c.args.attributes.now c.requires.handles c.in-Some.block.id c.in-Some.block.size c.in-Some.ensures.there.1)) below)).1
 
 pub place_run-requires-clause-enough : goal.place_run-requires-clause-enough

@@ -1,5 +1,6 @@
 -- A load that is done, and one that is undone.
-use Rattle.w16_loader.proofs.Common.{◌≡◌, ◌<◌, inl, inr, [], IfOk, OnErr, fold, length, slice_index_or, refl, sym, ap, ◌∙◌, subst, arith, Global, FillsOne, is_of_device, without_module, Fulfils, Says, StoreFails, LoadingWorld, with_handles, closed_in, AreUnbound, LoadsAny, LoadsClosed, answer_in, failed_by, IsUnbound, in_world}
+use Rattle.w16_loader.proofs.Common.{◌≡◌, ◌<◌, inl, inr, [], IfOk, OnErr, fold, length, slice_index_or, refl, sym, ap, ◌∙◌, subst, arith, Global, FillsOne, is_of_device, without_module}
+use Rattle.w16_loader.proofs.Common.{Fulfils, Says, StoreFails, LoadingWorld, with_handles, closed_in, AreUnbound, LoadsAny, LoadsClosed, answer_in, failed_by, IsUnbound, in_world}
 use Rattle.std.specs.FinMap as finmap
 use Rattle.w16_loader.proofs.Closed.{err_by, first_of, some_handles}
 use Rattle.w16_loader.proofs.Loads.{is_closure}

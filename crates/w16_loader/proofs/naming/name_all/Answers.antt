@@ -1,5 +1,7 @@
 -- A module more has its name, or those before it lose theirs.
-use Rattle.w16_loader.proofs.Common.{◌≡◌, ◌+◌, ◌<◌, if◌then◌else◌, Bool, true, false, [], ◌∷◌, ◌++◌, Some, length, get_or, map, fold, take, slice_get, refl, sym, ap, ◌∙◌, subst, arith, rules, from_bool, enumerate_from, YieldsList-from_vec, YieldsList-from_enumerate, YieldsList-turn, YieldsList-end, length_push, length-set, length-take-le, get_or-map, length-enumerate_from, IsFreeModule, with_handles, without_module, found_in, in_world, GetNames, unbound_by}
+use Rattle.w16_loader.proofs.Common.{◌≡◌, ◌+◌, ◌<◌, if◌then◌else◌, Bool, true, false, [], ◌∷◌, ◌++◌, Some, length, get_or, map, fold, take, slice_get, refl, sym, ap, ◌∙◌, subst, arith, rules, from_bool, enumerate_from, YieldsList-from_vec}
+use Rattle.w16_loader.proofs.Common.{YieldsList-from_enumerate, YieldsList-turn, YieldsList-end, length_push, length-set, length-take-le, get_or-map, length-enumerate_from, IsFreeModule, with_handles, without_module, found_in, in_world, GetNames}
+use Rattle.w16_loader.proofs.Common.{unbound_by}
 use Rattle.w16_loader.proofs.Imports.{pushed_other}
 use Rattle.w16_loader.proofs.NameSteps.{some_world, same_global, at_turn, facing, as_found, next_named, next_free, all_are_named, all_go_back, too_few_slots}
 use Rattle.w16_loader.proofs.naming.name_all.Goals as goal

@@ -9,7 +9,9 @@ invariant_of-self g c = listed_reached c.self.inside.heaps.items c.reach.new.hea
 
 pub invariant_of-self-2 : goal.invariant_of-self-2
 invariant_of-self-2 g c =
-    listed_put c.reach.new.heaps.items c.self.inside.live.items c.list_slot.new.live.items c.args.begun.slot c.in_ok-held.held (listed_reached c.self.inside.heaps.items c.reach.new.heaps.items c.reach.ensures.same c.self.inside.live.items c.self.invariant) c.list_slot.ensures.kept c.in_ok-list_slot.ensures.listed
+    listed_put c.reach.new.heaps.items c.self.inside.live.items c.list_slot.new.live.items c.args.begun.slot
+    c.in_ok-held.held (listed_reached c.self.inside.heaps.items c.reach.new.heaps.items c.reach.ensures.same
+    c.self.inside.live.items c.self.invariant) c.list_slot.ensures.kept c.in_ok-list_slot.ensures.listed
 
 pub index_mut-requires : goal.index_mut-requires
 index_mut-requires g c = let long = c.in_ok-reach.ensures.long in omega (arith, long, c.reach.new.heaps.ok.0)

@@ -29,7 +29,10 @@ returns-then-size-eq0-clause-step g c =
     let is = c.in-Some.ensures.some in
     let lowest = holds_in (λ (t : Table). IsLowest t c.in-Some-free_entry.id) is.kept c.in-Some-free_entry.ensures.found in
     enter_calls is c.args.flags c.args.size c.in-Some-free_entry.id lowest c.if-size-eq0.true (sym c.has_flag.ensures ∙ c.if-not-has_flag.false) c.step.result c.step.new.self
-    (subst (λ (k : Kind). Stepped c.args.self.now c.in-Some.field-0.slot (λ a b. ◌≡◌ {A = Result Heap Refusal} (Ok (with_object a c.in-Some-free_entry.id (record { kind = k; locks = 0; bytes = None }))) (outcome c.step.result b)) c.step.new.self) c.moveable_or_discardable.ensures c.step.ensures.stepped)
+    (subst (λ (k : Kind). Stepped c.args.self.now c.in-Some.field-0.slot
+    (λ a b. ◌≡◌ {A = Result Heap Refusal} (Ok (with_object a c.in-Some-free_entry.id
+    (record { kind = k; locks = 0; bytes = None }))) (outcome c.step.result b)) c.step.new.self)
+    c.moveable_or_discardable.ensures c.step.ensures.stepped)
 
 pub serve-requires : goal.serve-requires
 serve-requires g c =
@@ -42,7 +45,10 @@ pub returns-clause-step : goal.returns-clause-step
 returns-clause-step g c =
     let is = c.in-Some.ensures.some in
     let lowest = holds_in (λ (t : Table). IsLowest t c.in-Some-free_entry.id) is.kept c.in-Some-free_entry.ensures.found in
-    alloc_calls is c.args.flags c.args.size c.in-Some-free_entry.id lowest (let some = c.if-size-eq0.false in omega (arith, some)) (subst (λ (r : Request). InSlot c.args.global.now.handles c.args.self.now c.in-Some.field-0.slot c.serve.new.global.handles c.serve.new.self (λ old at left. Served r old at c.serve.result left))
+    alloc_calls is c.args.flags c.args.size c.in-Some-free_entry.id lowest
+    (let some = c.if-size-eq0.false in omega (arith, some))
+    (subst (λ (r : Request). InSlot c.args.global.now.handles c.args.self.now c.in-Some.field-0.slot
+    c.serve.new.global.handles c.serve.new.self (λ old at left. Served r old at c.serve.result left))
     (λ i. record { id = c.in-Some-free_entry.id; size = c.rounded_up.ensures i; kind = Some (c.local_kind.ensures i); options = c.local_options.ensures i }) c.serve.ensures.served)
 
 pub returns-in_default-clause-fewest : goal.returns-in_default-clause-fewest

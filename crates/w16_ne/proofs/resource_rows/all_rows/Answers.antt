@@ -1,4 +1,6 @@
-use Rattle.w16_ne.proofs.Common.{◌≡◌, ℕ, suc, ◌+◌, ◌<◌, ◌≤◌, ◌∙◌, List, Option, [], ◌∷◌, ◌++◌, Ok, Err, length, drop, get_or, refl, sym, ap, add-one, arith, drop-cons, drop_of_length-le, err_from_is_err_and, append-nil, nat_lt, filter-append, file_of, NeFault, Block, Reading, Typed, typed_at, all_typed, filled}
+use Rattle.w16_ne.proofs.Common.{◌≡◌, ℕ, suc, ◌+◌, ◌<◌, ◌≤◌, ◌∙◌, List, Option, [], ◌∷◌, ◌++◌, Ok, Err, length, drop, get_or, refl, sym, ap, add-one, arith, drop-cons}
+use Rattle.w16_ne.proofs.Common.{drop_of_length-le, err_from_is_err_and, append-nil, nat_lt, filter-append, file_of, NeFault, Block, Reading, Typed, typed_at, all_typed}
+use Rattle.w16_ne.proofs.Common.{filled}
 use Rattle.w16_ne.proofs.Each.{with_front, regroup}
 use Rattle.w16_ne.proofs.Until.{fails_on}
 use Rattle.w16_ne.proofs.resource_rows.all_rows.Goals as goal

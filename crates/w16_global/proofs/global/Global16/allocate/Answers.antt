@@ -15,13 +15,22 @@ pub take_run-requires-clause-few : goal.take_run-requires-clause-few
 take_run-requires-clause-few g c = (c.requires.sized.0, omega (arith, c.self.invariant.selectors_many, c.self.invariant.some, c.self.invariant.handles.few))
 
 pub follow-requires-clause-handles : goal.follow-requires-clause-handles
-follow-requires-clause-handles g c = subst (λ xs. AreHandles (handles_of c.alloc.new.self xs 0)) (sym c.deref.ensures.value) (allocated_handles c.self.invariant c.alloc.new.self c.in-Some.ensures.cap c.args.slot c.args.attributes (handles_shown c.self.view_is) c.requires.free c.requires.run c.requires.sized c.args.size c.args.kind c.args.options c.in-Some.ensures.allocated c.in-Some.ensures.discarded c.requires.enough)
+follow-requires-clause-handles g c = subst (λ xs. AreHandles (handles_of c.alloc.new.self xs 0))
+    (sym c.deref.ensures.value) (allocated_handles c.self.invariant c.alloc.new.self c.in-Some.ensures.cap c.args.slot
+    c.args.attributes (handles_shown c.self.view_is) c.requires.free c.requires.run c.requires.sized c.args.size
+    c.args.kind c.args.options c.in-Some.ensures.allocated c.in-Some.ensures.discarded c.requires.enough)
 
 pub follow-requires-clause-labelled : goal.follow-requires-clause-labelled
-follow-requires-clause-labelled g c = subst (λ xs. AreLabelled xs c.take_run.new.selectors) (sym c.deref.ensures.value) (allocated_labelled c.self.invariant c.alloc.new.self c.in-Some.ensures.cap c.args.slot c.args.attributes (handles_shown c.self.view_is) c.requires.free c.requires.run c.requires.sized c.args.size c.args.kind c.args.options c.in-Some.ensures.allocated c.in-Some.ensures.discarded c.requires.enough c.kind_for.result c.kind_for.ensures c.take_run.new.selectors c.take_run.ensures.taken)
+follow-requires-clause-labelled g c = subst (λ xs. AreLabelled xs c.take_run.new.selectors) (sym c.deref.ensures.value)
+    (allocated_labelled c.self.invariant c.alloc.new.self c.in-Some.ensures.cap c.args.slot c.args.attributes
+    (handles_shown c.self.view_is) c.requires.free c.requires.run c.requires.sized c.args.size c.args.kind
+    c.args.options c.in-Some.ensures.allocated c.in-Some.ensures.discarded c.requires.enough c.kind_for.result
+    c.kind_for.ensures c.take_run.new.selectors c.take_run.ensures.taken)
 
 pub follow-requires-clause-gone : goal.follow-requires-clause-gone
-follow-requires-clause-gone g c = allocated_gone c.self.invariant c.alloc.new.self c.in-Some.ensures.cap c.args.slot c.args.attributes (handles_shown c.self.view_is) c.requires.free c.requires.run c.requires.sized c.args.size c.args.kind c.args.options c.in-Some.ensures.allocated c.in-Some.ensures.discarded c.requires.enough
+follow-requires-clause-gone g c = allocated_gone c.self.invariant c.alloc.new.self c.in-Some.ensures.cap c.args.slot
+    c.args.attributes (handles_shown c.self.view_is) c.requires.free c.requires.run c.requires.sized c.args.size
+    c.args.kind c.args.options c.in-Some.ensures.allocated c.in-Some.ensures.discarded c.requires.enough
 
 pub follow-requires-clause-many : goal.follow-requires-clause-many
 follow-requires-clause-many g c =
@@ -32,22 +41,48 @@ follow-requires-clause-many g c =
     )
 
 pub place_run-requires-clause-known : goal.place_run-requires-clause-known
-place_run-requires-clause-known g c = λ number below. (allocated_run c.self.invariant c.alloc.new.self c.in-Some.ensures.cap c.args.slot c.args.attributes (handles_shown c.self.view_is) c.requires.free c.requires.run c.requires.sized c.args.size c.args.kind c.args.options c.in-Some.ensures.allocated c.in-Some.ensures.discarded c.requires.enough c.kind_for.result c.kind_for.ensures c.in-Some.placed.slid.from c.in-Some.placed.slid.to c.take_run.new.selectors c.follow.new.selectors c.take_run.ensures.taken
-    (subst (λ xs. (q : ℕ) → descriptor_at c.follow.new.selectors q ≡ told c.alloc.new.self.heap xs (λ f. is_member f c.alloc.new.self.discarded || begins_in c.alloc.new.self.heap c.in-Some.placed.slid.from c.in-Some.placed.slid.to f) c.take_run.new.selectors q) c.deref.ensures.value c.follow.ensures.told) number below).0
+place_run-requires-clause-known g c = λ number below. (allocated_run c.self.invariant c.alloc.new.self
+    c.in-Some.ensures.cap c.args.slot c.args.attributes (handles_shown c.self.view_is) c.requires.free c.requires.run
+    c.requires.sized c.args.size c.args.kind c.args.options c.in-Some.ensures.allocated c.in-Some.ensures.discarded
+    c.requires.enough c.kind_for.result c.kind_for.ensures c.in-Some.placed.slid.from c.in-Some.placed.slid.to
+    c.take_run.new.selectors c.follow.new.selectors c.take_run.ensures.taken
+    (subst (λ xs. (q : ℕ) → descriptor_at c.follow.new.selectors q ≡ told c.alloc.new.self.heap xs
+    (λ f. is_member f c.alloc.new.self.discarded || begins_in c.alloc.new.self.heap c.in-Some.placed.slid.from
+    c.in-Some.placed.slid.to f) c.take_run.new.selectors q) c.deref.ensures.value c.follow.ensures.told) number
+    below).0
 
 pub place_run-requires-clause-numbered : goal.place_run-requires-clause-numbered
-place_run-requires-clause-numbered g c = λ number below. (allocated_run c.self.invariant c.alloc.new.self c.in-Some.ensures.cap c.args.slot c.args.attributes (handles_shown c.self.view_is) c.requires.free c.requires.run c.requires.sized c.args.size c.args.kind c.args.options c.in-Some.ensures.allocated c.in-Some.ensures.discarded c.requires.enough c.kind_for.result c.kind_for.ensures c.in-Some.placed.slid.from c.in-Some.placed.slid.to c.take_run.new.selectors c.follow.new.selectors c.take_run.ensures.taken
-    (subst (λ xs. (q : ℕ) → descriptor_at c.follow.new.selectors q ≡ told c.alloc.new.self.heap xs (λ f. is_member f c.alloc.new.self.discarded || begins_in c.alloc.new.self.heap c.in-Some.placed.slid.from c.in-Some.placed.slid.to f) c.take_run.new.selectors q) c.deref.ensures.value c.follow.ensures.told) number below).1
+place_run-requires-clause-numbered g c = λ number below.
+    (allocated_run c.self.invariant c.alloc.new.self c.in-Some.ensures.cap c.args.slot c.args.attributes
+    (handles_shown c.self.view_is) c.requires.free c.requires.run c.requires.sized c.args.size c.args.kind
+    c.args.options c.in-Some.ensures.allocated c.in-Some.ensures.discarded c.requires.enough c.kind_for.result
+    c.kind_for.ensures c.in-Some.placed.slid.from c.in-Some.placed.slid.to c.take_run.new.selectors
+    c.follow.new.selectors c.take_run.ensures.taken
+    (subst (λ xs. (q : ℕ) → descriptor_at c.follow.new.selectors q ≡ told c.alloc.new.self.heap xs
+    (λ f. is_member f c.alloc.new.self.discarded || begins_in c.alloc.new.self.heap c.in-Some.placed.slid.from
+    c.in-Some.placed.slid.to f) c.take_run.new.selectors q) c.deref.ensures.value c.follow.ensures.told) number
+    below).1
 
 pub place_run-requires-clause-enough : goal.place_run-requires-clause-enough
-place_run-requires-clause-enough g c = ap (λ xs. slots_in xs c.args.slot) c.deref-2.ensures.value ∙ allocated_slots c.self.invariant c.alloc.new.self c.in-Some.ensures.cap c.args.slot c.args.attributes (handles_shown c.self.view_is) c.requires.free c.requires.run c.requires.sized c.args.size c.args.kind c.args.options c.in-Some.ensures.allocated c.in-Some.ensures.discarded c.requires.enough
+place_run-requires-clause-enough g c = ap (λ xs. slots_in xs c.args.slot) c.deref-2.ensures.value ∙ allocated_slots
+    c.self.invariant c.alloc.new.self c.in-Some.ensures.cap c.args.slot c.args.attributes
+    (handles_shown c.self.view_is) c.requires.free c.requires.run c.requires.sized c.args.size c.args.kind
+    c.args.options c.in-Some.ensures.allocated c.in-Some.ensures.discarded c.requires.enough
 
 pub place_run-requires-clause-few : goal.place_run-requires-clause-few
 place_run-requires-clause-few g c = omega (arith, c.follow.ensures.many, c.take_run.ensures.many, c.self.invariant.selectors_many, c.self.invariant.some, c.self.invariant.handles.few)
 
 pub invariant_of-self-2 : goal.invariant_of-self-2
-invariant_of-self-2 g c = allocated_joined c.self.invariant c.alloc.new.self c.in-Some.ensures.cap c.args.slot c.args.attributes (handles_shown c.self.view_is) c.requires.free c.requires.run c.requires.sized c.args.size c.args.kind c.args.options c.in-Some.ensures.allocated c.in-Some.ensures.discarded c.requires.enough c.kind_for.result c.kind_for.ensures c.in-Some.placed.at c.in-Some.placed.slid.from c.in-Some.placed.slid.to c.in-Some.ensures.placed c.in-Some.ensures.still c.take_run.new.selectors c.follow.new.selectors c.place_run.new.selectors
-    c.take_run.ensures.taken (subst (λ xs. (q : ℕ) → descriptor_at c.follow.new.selectors q ≡ told c.alloc.new.self.heap xs (λ f. is_member f c.alloc.new.self.discarded || begins_in c.alloc.new.self.heap c.in-Some.placed.slid.from c.in-Some.placed.slid.to f) c.take_run.new.selectors q) c.deref.ensures.value c.follow.ensures.told)
+invariant_of-self-2 g c = allocated_joined c.self.invariant c.alloc.new.self c.in-Some.ensures.cap c.args.slot
+    c.args.attributes (handles_shown c.self.view_is) c.requires.free c.requires.run c.requires.sized c.args.size
+    c.args.kind c.args.options c.in-Some.ensures.allocated c.in-Some.ensures.discarded c.requires.enough
+    c.kind_for.result c.kind_for.ensures c.in-Some.placed.at c.in-Some.placed.slid.from c.in-Some.placed.slid.to
+    c.in-Some.ensures.placed c.in-Some.ensures.still c.take_run.new.selectors c.follow.new.selectors
+    c.place_run.new.selectors
+    c.take_run.ensures.taken (subst (λ xs. (q : ℕ) → descriptor_at c.follow.new.selectors q ≡ told
+    c.alloc.new.self.heap xs (λ f. is_member f c.alloc.new.self.discarded || begins_in c.alloc.new.self.heap
+    c.in-Some.placed.slid.from c.in-Some.placed.slid.to f) c.take_run.new.selectors q) c.deref.ensures.value
+    c.follow.ensures.told)
     c.place_run.ensures.placed (c.place_run.ensures.many ∙ c.follow.ensures.many ∙ c.take_run.ensures.many)
 
 pub returns-clause-rest : goal.returns-clause-rest

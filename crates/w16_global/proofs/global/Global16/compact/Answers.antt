@@ -23,7 +23,10 @@ pub invariant_of-self : goal.invariant_of-self
 invariant_of-self g c =
     let s = c.compact-compacted.ensures in
     compacted_joined c.self.invariant c.compact-compacted.new.self s.cap c.args.size c.compact-compacted.result.room s.compacted s.discarded s.none c.compact-compacted.result.slid.from c.compact-compacted.result.slid.to c.follow.new.selectors s.still
-    (subst (λ xs. (q : ℕ) → descriptor_at c.follow.new.selectors q ≡ told c.compact-compacted.new.self.heap xs (λ f. is_member f c.compact-compacted.new.self.discarded || begins_in c.compact-compacted.new.self.heap c.compact-compacted.result.slid.from c.compact-compacted.result.slid.to f) c.self.inside.selectors q) c.deref.ensures.value c.follow.ensures.told) c.follow.ensures.many
+    (subst (λ xs. (q : ℕ) → descriptor_at c.follow.new.selectors q ≡ told c.compact-compacted.new.self.heap xs
+    (λ f. is_member f c.compact-compacted.new.self.discarded || begins_in c.compact-compacted.new.self.heap
+    c.compact-compacted.result.slid.from c.compact-compacted.result.slid.to f) c.self.inside.selectors q)
+    c.deref.ensures.value c.follow.ensures.told) c.follow.ensures.many
 
 pub returns-clause-step : goal.returns-clause-step
 returns-clause-step g c =

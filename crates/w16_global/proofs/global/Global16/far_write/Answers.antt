@@ -8,8 +8,13 @@ write-requires g c = has_part c.self.invariant (handles_shown c.self.view_is) tr
 
 pub invariant_of-self : goal.invariant_of-self
 invariant_of-self g c =
-    written_joined c.self.invariant (handles_shown c.self.view_is) true c.args.selector c.args.offset (length c.args.bytes.now) c.in_ok-reached.reached.slot c.in_ok-reached.reached.at c.in_ok-reached.ensures.ok c.args.bytes.now refl c.write.new.self c.write.ensures (All-bytes c.args.bytes.now c.type_inv.bytes)
+    written_joined c.self.invariant (handles_shown c.self.view_is) true c.args.selector c.args.offset
+    (length c.args.bytes.now) c.in_ok-reached.reached.slot c.in_ok-reached.reached.at c.in_ok-reached.ensures.ok
+    c.args.bytes.now refl c.write.new.self c.write.ensures (All-bytes c.args.bytes.now c.type_inv.bytes)
 
 pub returns-clause-ok : goal.returns-clause-ok
 returns-clause-ok g c =
-    write_known c.self.invariant (handles_shown c.self.view_is) true c.args.selector c.args.offset (length c.args.bytes.now) c.in_ok-reached.reached.slot c.in_ok-reached.reached.at c.in_ok-reached.ensures.ok c.args.bytes.now refl c.write.new.self c.write.ensures refl c.touch.new.self.handles (handles_shown c.touch.ensures)
+    write_known c.self.invariant (handles_shown c.self.view_is) true c.args.selector c.args.offset
+    (length c.args.bytes.now) c.in_ok-reached.reached.slot c.in_ok-reached.reached.at c.in_ok-reached.ensures.ok
+    c.args.bytes.now refl c.write.new.self c.write.ensures refl c.touch.new.self.handles
+    (handles_shown c.touch.ensures)

@@ -9,11 +9,15 @@ number_at-number-requires g c =
 
 pub overflow_sub-result : goal.overflow_sub-result
 overflow_sub-result g c =
-    (known c.self.invariant (handles_shown c.self.view_is) c.args.selector c.args.write c.args.offset c.args.n c.count_of.result c.count_of.ensures c.in_ok-resolve.field-0 (sym c.in_ok-resolve.was ∙ c.resolve.ensures.value) c.slot_of-slot.result c.number_at-number.result c.slot_of-slot.ensures.value c.number_at-number.ensures).1
+    (known c.self.invariant (handles_shown c.self.view_is) c.args.selector c.args.write c.args.offset c.args.n
+    c.count_of.result c.count_of.ensures c.in_ok-resolve.field-0 (sym c.in_ok-resolve.was ∙ c.resolve.ensures.value)
+    c.slot_of-slot.result c.number_at-number.result c.slot_of-slot.ensures.value c.number_at-number.ensures).1
 
 pub returns : goal.returns
 returns g c =
-    let k = known c.self.invariant (handles_shown c.self.view_is) c.args.selector c.args.write c.args.offset c.args.n c.count_of.result c.count_of.ensures c.in_ok-resolve.field-0 (sym c.in_ok-resolve.was ∙ c.resolve.ensures.value) c.slot_of-slot.result c.number_at-number.result c.slot_of-slot.ensures.value c.number_at-number.ensures in
+    let k = known c.self.invariant (handles_shown c.self.view_is) c.args.selector c.args.write c.args.offset c.args.n
+    c.count_of.result c.count_of.ensures c.in_ok-resolve.field-0 (sym c.in_ok-resolve.was ∙ c.resolve.ensures.value)
+    c.slot_of-slot.result c.number_at-number.result c.slot_of-slot.ensures.value c.number_at-number.ensures in
     record { ok = (k.2, k.3, k.4); few = k.5; err = tt }
 
 pub returns-in_err-resolve-clause-err : goal.returns-in_err-resolve-clause-err

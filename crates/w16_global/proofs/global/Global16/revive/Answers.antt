@@ -27,12 +27,18 @@ reallocate-revived-requires-clause-run g c = subst (λ p. IfSome p (λ (owned : 
 
 pub returns-clause-revived : goal.returns-clause-revived
 returns-clause-revived g c = λ answered. subst (λ slot. Revives c.args.self.now.handles slot true (handles_of c.self-2.inside.objects c.self-2.inside.attributes.items c.self.inside.moved)) (sym (found_is c.args.self.now.handles c.args.handle c.in-Some.slot c.in-Some.ensures))
-    (subst (Revives c.args.self.now.handles c.in-Some.slot true) (λ i. record (sym (handles_shown c.self-2.view_is) i) { moved = (sym (handles_shown c.self.view_is) i).moved }) (revived c.args.self.now.handles (known_handles c.self.invariant (handles_shown c.self.view_is)) c.in-Some.slot c.in-Some-owned_at.owned (sym c.in-Some-owned_at.ensures)
+    (subst (Revives c.args.self.now.handles c.in-Some.slot true)
+    (λ i. record (sym (handles_shown c.self-2.view_is) i) { moved = (sym (handles_shown c.self.view_is) i).moved })
+    (revived c.args.self.now.handles (known_handles c.self.invariant (handles_shown c.self.view_is)) c.in-Some.slot
+    c.in-Some-owned_at.owned (sym c.in-Some-owned_at.ensures)
     (absent_in c.self.inside.objects c.self.inside.attributes.items (handles_shown c.self.view_is) c.in-Some.slot c.size.result c.size.ensures c.if-is_some.ensures)
     (own_size c.self.invariant (handles_shown c.self.view_is) _ c.in-Some-owned_at.owned c.in-Some-owned_at.ensures).2 c.reallocate-revived.new.self.handles c.reallocate-revived.result c.reallocate-revived.ensures.gets c.reallocate-revived.ensures.resized (sym c.is_some-2.ensures ∙ answered)))
 
 pub returns-clause-lacks : goal.returns-clause-lacks
-returns-clause-lacks g c = λ refused lacks. subst (λ slot. Revives c.args.self.now.handles slot false c.args.self.now.handles) (sym (found_is c.args.self.now.handles c.args.handle c.in-Some.slot c.in-Some.ensures)) (not_revived c.args.self.now.handles (known_handles c.self.invariant (handles_shown c.self.view_is)) c.in-Some.slot c.in-Some-owned_at.owned (sym c.in-Some-owned_at.ensures)
+returns-clause-lacks g c = λ refused lacks. subst (λ slot. Revives c.args.self.now.handles slot false
+    c.args.self.now.handles) (sym (found_is c.args.self.now.handles c.args.handle c.in-Some.slot c.in-Some.ensures))
+    (not_revived c.args.self.now.handles (known_handles c.self.invariant (handles_shown c.self.view_is)) c.in-Some.slot
+    c.in-Some-owned_at.owned (sym c.in-Some-owned_at.ensures)
     (absent_in c.self.inside.objects c.self.inside.attributes.items (handles_shown c.self.view_is) c.in-Some.slot c.size.result c.size.ensures c.if-is_some.ensures)
     c.reallocate-revived.result c.reallocate-revived.ensures.lacks (sym c.is_some-2.ensures ∙ refused))
 
@@ -44,5 +50,8 @@ returns-clause-refused g c = λ refused.
 pub returns-clause-written : goal.returns-clause-written
 returns-clause-written g c = ap (λ (g : Global). g.written) c.self-2.view_is ∙ revived_written c.args.self.now.handles (known_handles c.self.invariant (handles_shown c.self.view_is)) c.in-Some.slot c.in-Some-owned_at.owned (sym c.in-Some-owned_at.ensures)
     (absent_in c.self.inside.objects c.self.inside.attributes.items (handles_shown c.self.view_is) c.in-Some.slot c.size.result c.size.ensures c.if-is_some.ensures)
-    (own_size c.self.invariant (handles_shown c.self.view_is) _ c.in-Some-owned_at.owned c.in-Some-owned_at.ensures).2 c.args.self.now.written c.reallocate-revived.new.self c.reallocate-revived.result c.reallocate-revived.ensures.gets c.reallocate-revived.ensures.resized c.reallocate-revived.ensures.written c.reallocate-revived.ensures.refused
+    (own_size c.self.invariant (handles_shown c.self.view_is) _ c.in-Some-owned_at.owned c.in-Some-owned_at.ensures).2
+    c.args.self.now.written c.reallocate-revived.new.self c.reallocate-revived.result
+    c.reallocate-revived.ensures.gets c.reallocate-revived.ensures.resized c.reallocate-revived.ensures.written
+    c.reallocate-revived.ensures.refused
     ∙ ap (λ (g : Global). counted c.args.self.now.written (moved_bytes c.args.self.now.handles.heap g.handles.heap)) (sym c.self-2.view_is)

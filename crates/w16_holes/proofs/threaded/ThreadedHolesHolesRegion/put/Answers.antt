@@ -68,7 +68,12 @@ returns-clause-kept g c =
     let part : IsPart f.range c.args.place c.args.n = subst (λ (g : Free). IsPart g.range c.args.place c.args.n) (sym c.self.view_is) c.requires.part in
     let thread : AreThreaded f.holes c.args.space.now.bytes.items = subst (λ (g : Free). AreThreaded g.holes c.args.space.now.bytes.items) (sym c.self.view_is) c.requires.kept in
     let used : IsUsed c.args.place (c.args.place + c.args.n) f.holes = subst (λ (g : Free). IsUsed c.args.place (c.args.place + c.args.n) g.holes) (sym c.self.view_is) c.requires.used in
-    let written = put_all f.range f.holes c.args.space.now.bytes.items c.args.place c.args.n c.self.invariant part c.below-below.ensures.ordered thread used c.requires.inside c.next_above-next.result c.at.result c.length_below.result c.link.new.space.bytes.items c.set_words.new.space.bytes.items c.next_above-next.ensures c.at.ensures c.length_below.ensures (c.link.ensures.bytes ∙ ap (λ (o : Option ℕ). put_link c.args.space.now.bytes.items o (c.args.place - c.length_below.result)) c.below-below.ensures.value) c.set_words.ensures.bytes in
+    let written = put_all f.range f.holes c.args.space.now.bytes.items c.args.place c.args.n c.self.invariant part
+    c.below-below.ensures.ordered thread used c.requires.inside c.next_above-next.result c.at.result
+    c.length_below.result c.link.new.space.bytes.items c.set_words.new.space.bytes.items c.next_above-next.ensures
+    c.at.ensures c.length_below.ensures (c.link.ensures.bytes ∙ ap
+    (λ (o : Option ℕ). put_link c.args.space.now.bytes.items o (c.args.place - c.length_below.result))
+    c.below-below.ensures.value) c.set_words.ensures.bytes in
     subst (λ (hs : List Span). AreThreaded hs c.set_words.new.space.bytes.items) (sym c.put_back.ensures.holes) written.0
 
 pub returns-clause-bytes : goal.returns-clause-bytes
@@ -77,5 +82,10 @@ returns-clause-bytes g c =
     let part : IsPart f.range c.args.place c.args.n = subst (λ (g : Free). IsPart g.range c.args.place c.args.n) (sym c.self.view_is) c.requires.part in
     let thread : AreThreaded f.holes c.args.space.now.bytes.items = subst (λ (g : Free). AreThreaded g.holes c.args.space.now.bytes.items) (sym c.self.view_is) c.requires.kept in
     let used : IsUsed c.args.place (c.args.place + c.args.n) f.holes = subst (λ (g : Free). IsUsed c.args.place (c.args.place + c.args.n) g.holes) (sym c.self.view_is) c.requires.used in
-    let written = put_all f.range f.holes c.args.space.now.bytes.items c.args.place c.args.n c.self.invariant part c.below-below.ensures.ordered thread used c.requires.inside c.next_above-next.result c.at.result c.length_below.result c.link.new.space.bytes.items c.set_words.new.space.bytes.items c.next_above-next.ensures c.at.ensures c.length_below.ensures (c.link.ensures.bytes ∙ ap (λ (o : Option ℕ). put_link c.args.space.now.bytes.items o (c.args.place - c.length_below.result)) c.below-below.ensures.value) c.set_words.ensures.bytes in
+    let written = put_all f.range f.holes c.args.space.now.bytes.items c.args.place c.args.n c.self.invariant part
+    c.below-below.ensures.ordered thread used c.requires.inside c.next_above-next.result c.at.result
+    c.length_below.result c.link.new.space.bytes.items c.set_words.new.space.bytes.items c.next_above-next.ensures
+    c.at.ensures c.length_below.ensures (c.link.ensures.bytes ∙ ap
+    (λ (o : Option ℕ). put_link c.args.space.now.bytes.items o (c.args.place - c.length_below.result))
+    c.below-below.ensures.value) c.set_words.ensures.bytes in
     subst (λ (hs : List Span). AreSameOutside hs c.args.space.now.bytes.items c.set_words.new.space.bytes.items) (sym c.put_back.ensures.holes) written.1

@@ -14,7 +14,10 @@ pub put-requires-clause-kept : goal.put-requires-clause-kept
 put-requires-clause-kept g c =
     let r = c.requires in
     threaded_stay c.take.new.self.holes c.take.new.space.bytes.items c.slide.new.self.bytes.items c.take.ensures.kept
-    (rw c.take.ensures.holes (same_mid c.args.self.now.range c.args.self.now.holes (rw (← c.self.view_is) c.reveal_order.ensures.ordered) c.args.from c.args.to c.args.size r.down r.new r.old r.free r.used c.min-apart.result c.min-apart.ensures (length c.args.space.now.bytes.items) r.inside c.take.ensures.bytes.long c.slide.ensures.bytes))
+    (rw c.take.ensures.holes (same_mid c.args.self.now.range c.args.self.now.holes
+    (rw (← c.self.view_is) c.reveal_order.ensures.ordered) c.args.from c.args.to c.args.size r.down r.new r.old
+    r.free r.used c.min-apart.result c.min-apart.ensures (length c.args.space.now.bytes.items) r.inside
+    c.take.ensures.bytes.long c.slide.ensures.bytes))
 
 pub put-requires-clause-part : goal.put-requires-clause-part
 put-requires-clause-part g c = let r = c.requires in rw c.take.ensures.range (part_put c.args.self.now.range c.args.self.now.holes (rw (← c.self.view_is) c.reveal_order.ensures.ordered) c.args.from c.args.to c.args.size r.down r.new r.old r.free r.used c.min-apart.result c.min-apart.ensures)
@@ -29,12 +32,18 @@ once_put g c = c.put.ensures.holes ∙ ap (joined (c.args.from + c.args.size - c
 pub returns-clause-contents : goal.returns-clause-contents
 returns-clause-contents g c =
     let r = c.requires in
-    come_too c.args.self.now.range c.args.self.now.holes (rw (← c.self.view_is) c.reveal_order.ensures.ordered) c.args.from c.args.to c.args.size r.down r.new r.old r.free r.used c.min-apart.result c.min-apart.ensures (length c.args.space.now.bytes.items) r.inside c.take.ensures.bytes.long c.slide.ensures.bytes refl c.take.ensures.bytes
+    come_too c.args.self.now.range c.args.self.now.holes (rw (← c.self.view_is) c.reveal_order.ensures.ordered)
+    c.args.from c.args.to c.args.size r.down r.new r.old r.free r.used c.min-apart.result c.min-apart.ensures
+    (length c.args.space.now.bytes.items) r.inside c.take.ensures.bytes.long c.slide.ensures.bytes refl
+    c.take.ensures.bytes
     (subst (λ (hs : List Span). AreSameOutside hs c.slide.new.self.bytes.items c.put.new.space.bytes.items) (once_put g c) c.put.ensures.bytes)
 
 pub returns-clause-bytes : goal.returns-clause-bytes
 returns-clause-bytes g c =
     let r = c.requires in
     subst (λ (hs : List Span). AreSameBut c.args.to c.args.size c.args.self.now.holes hs c.args.space.now.bytes.items c.put.new.space.bytes.items) (sym (once_put g c))
-    (others_same c.args.self.now.range c.args.self.now.holes (rw (← c.self.view_is) c.reveal_order.ensures.ordered) c.args.from c.args.to c.args.size r.down r.new r.old r.free r.used c.min-apart.result c.min-apart.ensures (length c.args.space.now.bytes.items) r.inside c.take.ensures.bytes.long c.slide.ensures.bytes refl c.take.ensures.bytes
+    (others_same c.args.self.now.range c.args.self.now.holes (rw (← c.self.view_is) c.reveal_order.ensures.ordered)
+    c.args.from c.args.to c.args.size r.down r.new r.old r.free r.used c.min-apart.result c.min-apart.ensures
+    (length c.args.space.now.bytes.items) r.inside c.take.ensures.bytes.long c.slide.ensures.bytes refl
+    c.take.ensures.bytes
     (subst (λ (hs : List Span). AreSameOutside hs c.slide.new.self.bytes.items c.put.new.space.bytes.items) (once_put g c) c.put.ensures.bytes))

@@ -54,7 +54,9 @@ link-requires g c =
     let thread : AreThreaded f.holes c.args.space.now.bytes.items = subst (λ (g : Free). AreThreaded g.holes c.args.space.now.bytes.items) (sym c.self.view_is) c.requires.kept in
     let free : IsFree c.args.place (c.args.place + c.args.n) f.holes = subst (λ (g : Free). IsFree c.args.place (c.args.place + c.args.n) g.holes) (sym c.self.view_is) c.requires.free in
     subst (λ (o : Option ℕ). IfSome o (λ (x : ℕ). x + 8 ≤ length c.set_hole-behind.new.space.bytes.items)) (sym c.below-below.ensures.value)
-    (subst (λ (m : ℕ). IfSome (last_before c.args.place f.holes) (λ (x : ℕ). x + 8 ≤ m)) (sym c.set_hole-behind.ensures.length) (take_link f.range f.holes c.args.space.now.bytes.items c.args.place c.args.n c.self.invariant part c.below-below.ensures.ordered thread free c.in-Some.begin c.in-Some.ensures))
+    (subst (λ (m : ℕ). IfSome (last_before c.args.place f.holes) (λ (x : ℕ). x + 8 ≤ m))
+    (sym c.set_hole-behind.ensures.length) (take_link f.range f.holes c.args.space.now.bytes.items c.args.place
+    c.args.n c.self.invariant part c.below-below.ensures.ordered thread free c.in-Some.begin c.in-Some.ensures))
 
 pub overflow_sub-place : goal.overflow_sub-place
 overflow_sub-place g c =
@@ -80,7 +82,13 @@ returns-in-Some-clause-kept g c =
     let part : IsPart f.range c.args.place c.args.n = subst (λ (g : Free). IsPart g.range c.args.place c.args.n) (sym c.self.view_is) c.requires.part in
     let thread : AreThreaded f.holes c.args.space.now.bytes.items = subst (λ (g : Free). AreThreaded g.holes c.args.space.now.bytes.items) (sym c.self.view_is) c.requires.kept in
     let free : IsFree c.args.place (c.args.place + c.args.n) f.holes = subst (λ (g : Free). IsFree c.args.place (c.args.place + c.args.n) g.holes) (sym c.self.view_is) c.requires.free in
-    let written = take_written f.range f.holes c.args.space.now.bytes.items c.args.place c.args.n c.self.invariant part c.below-below.ensures.ordered thread free c.in-Some.begin c.in-Some.ensures c.word_at.result c.word_at-next.result c.set_hole-behind.result c.set_hole-behind.new.space.bytes.items c.link.new.space.bytes.items c.set_word.new.self.bytes.items c.word_at.ensures c.word_at-next.ensures c.set_hole-behind.ensures.bytes c.set_hole-behind.ensures.first (c.link.ensures.bytes ∙ ap (λ (o : Option ℕ). put_link c.set_hole-behind.new.space.bytes.items o c.set_hole-behind.result) c.below-below.ensures.value) c.set_word.ensures.bytes in
+    let written = take_written f.range f.holes c.args.space.now.bytes.items c.args.place c.args.n c.self.invariant part
+    c.below-below.ensures.ordered thread free c.in-Some.begin c.in-Some.ensures c.word_at.result
+    c.word_at-next.result c.set_hole-behind.result c.set_hole-behind.new.space.bytes.items
+    c.link.new.space.bytes.items c.set_word.new.self.bytes.items c.word_at.ensures c.word_at-next.ensures
+    c.set_hole-behind.ensures.bytes c.set_hole-behind.ensures.first
+    (c.link.ensures.bytes ∙ ap (λ (o : Option ℕ). put_link c.set_hole-behind.new.space.bytes.items o
+    c.set_hole-behind.result) c.below-below.ensures.value) c.set_word.ensures.bytes in
     subst (λ (hs : List Span). AreThreaded hs c.set_word.new.self.bytes.items) (sym c.take_out.ensures.holes) written.0
 
 pub returns-in-Some-clause-bytes : goal.returns-in-Some-clause-bytes
@@ -89,7 +97,13 @@ returns-in-Some-clause-bytes g c =
     let part : IsPart f.range c.args.place c.args.n = subst (λ (g : Free). IsPart g.range c.args.place c.args.n) (sym c.self.view_is) c.requires.part in
     let thread : AreThreaded f.holes c.args.space.now.bytes.items = subst (λ (g : Free). AreThreaded g.holes c.args.space.now.bytes.items) (sym c.self.view_is) c.requires.kept in
     let free : IsFree c.args.place (c.args.place + c.args.n) f.holes = subst (λ (g : Free). IsFree c.args.place (c.args.place + c.args.n) g.holes) (sym c.self.view_is) c.requires.free in
-    let written = take_written f.range f.holes c.args.space.now.bytes.items c.args.place c.args.n c.self.invariant part c.below-below.ensures.ordered thread free c.in-Some.begin c.in-Some.ensures c.word_at.result c.word_at-next.result c.set_hole-behind.result c.set_hole-behind.new.space.bytes.items c.link.new.space.bytes.items c.set_word.new.self.bytes.items c.word_at.ensures c.word_at-next.ensures c.set_hole-behind.ensures.bytes c.set_hole-behind.ensures.first (c.link.ensures.bytes ∙ ap (λ (o : Option ℕ). put_link c.set_hole-behind.new.space.bytes.items o c.set_hole-behind.result) c.below-below.ensures.value) c.set_word.ensures.bytes in
+    let written = take_written f.range f.holes c.args.space.now.bytes.items c.args.place c.args.n c.self.invariant part
+    c.below-below.ensures.ordered thread free c.in-Some.begin c.in-Some.ensures c.word_at.result
+    c.word_at-next.result c.set_hole-behind.result c.set_hole-behind.new.space.bytes.items
+    c.link.new.space.bytes.items c.set_word.new.self.bytes.items c.word_at.ensures c.word_at-next.ensures
+    c.set_hole-behind.ensures.bytes c.set_hole-behind.ensures.first
+    (c.link.ensures.bytes ∙ ap (λ (o : Option ℕ). put_link c.set_hole-behind.new.space.bytes.items o
+    c.set_hole-behind.result) c.below-below.ensures.value) c.set_word.ensures.bytes in
     subst (λ (g : Free). AreSameOutside g.holes c.args.space.now.bytes.items c.set_word.new.self.bytes.items) c.self.view_is written.1
 
 pub returns-in_default-clause-holes : goal.returns-in_default-clause-holes

@@ -11,7 +11,10 @@ returns-in-Err-clause-err g c = λ honest.
     let first = reached (g.S.Store.files c.args.store.now) c.args.place 0 c.args.self.now in
     let back : c.loop-done.done + 1 - 1 ≡ c.loop-done.done = omega arith in
     refused_through ne_format c.args.registry.now (g.S.Store.files c.args.store.now) (g.S.Store.files c.loop-done.store) c.loop-done.invariant.files first (λ fs. reached fs c.args.place (c.loop-done.done + 1 - 1) c.loop-done.self)
-    (subst (λ n. Leads ne_format (around_in c.args.registry.now (g.S.Store.files c.args.store.now)) (reached (g.S.Store.files c.args.store.now) c.args.place 0 c.args.self.now) (reached (g.S.Store.files c.args.store.now) c.args.place n c.loop-done.self)) (sym back) (c.loop-done.invariant.leads honest))
+    (subst (λ n. Leads ne_format (around_in c.args.registry.now (g.S.Store.files c.args.store.now))
+    (reached (g.S.Store.files c.args.store.now) c.args.place 0 c.args.self.now)
+    (reached (g.S.Store.files c.args.store.now) c.args.place n c.loop-done.self)) (sym back)
+    (c.loop-done.invariant.leads honest))
     _ _ _ c.loop-done.invariant.failures c.in-Err.fault (c.in-Err.ensures.err honest)
 
 pub loop-done-preserved : goal.loop-done-preserved
@@ -29,7 +32,10 @@ loop-done-preserved g c = record {
       let back : c.loop-done.done + 1 - 1 ≡ c.loop-done.done = omega arith in
       leads_through ne_format c.args.registry.now (g.S.Store.files c.args.store.now) (g.S.Store.files c.loop-done.store) c.loop-done.invariant.files (reached (g.S.Store.files c.args.store.now) c.args.place 0 c.args.self.now)
       (λ fs. reached fs c.args.place (c.loop-done.done + 1 - 1) c.loop-done.self) (λ fs. reached fs c.args.place (c.loop-done.done + 1) c.follow_reference.new.self)
-      (subst (λ n. Leads ne_format (around_in c.args.registry.now (g.S.Store.files c.args.store.now)) (reached (g.S.Store.files c.args.store.now) c.args.place 0 c.args.self.now) (reached (g.S.Store.files c.args.store.now) c.args.place n c.loop-done.self)) (sym back) (c.loop-done.invariant.leads honest))
+      (subst (λ n. Leads ne_format (around_in c.args.registry.now (g.S.Store.files c.args.store.now))
+      (reached (g.S.Store.files c.args.store.now) c.args.place 0 c.args.self.now)
+      (reached (g.S.Store.files c.args.store.now) c.args.place n c.loop-done.self)) (sym back)
+      (c.loop-done.invariant.leads honest))
       (c.in-Ok.ensures.ok honest);
 }
 

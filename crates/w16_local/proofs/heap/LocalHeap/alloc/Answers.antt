@@ -6,7 +6,16 @@ use Rattle.w16_local.proofs.heap.LocalHeap.alloc.Goals as goal
 pub alloc-placed-requires : goal.alloc-placed-requires
 alloc-placed-requires g c =
     let may = may_shown c.self.view_is (g.S.Space.bytes c.args.space.now) (Alloc c.args.id c.args.size c.args.kind c.args.options) c.requires in
-    record { id = known c.self.invariant (g.S.Space.bytes c.args.space.now) may.0 c.args.id may.1.0.0; absent = absent c.self.invariant (g.S.Space.bytes c.args.space.now) may.0 c.args.id may.1.0.1; some = may.1.1.0; rounded = grained c.self.invariant (g.S.Space.bytes c.args.space.now) may.0 c.args.size may.1.1.1; memory = record { kept = tt; inside = may.0 } }
+    record {
+      id = known c.self.invariant (g.S.Space.bytes c.args.space.now) may.0 c.args.id may.1.0.0;
+      absent = absent
+          c.self.invariant (g.S.Space.bytes c.args.space.now) may.0 c.args.id may.1.0.1;
+      some = may.1.1.0;
+      rounded =
+          grained c.self.invariant (g.S.Space.bytes c.args.space.now) may.0 c.args.size may.1.1.1;
+      memory = record
+          { kept = tt; inside = may.0 };
+    }
 
 pub name_at-requires : goal.name_at-requires
 name_at-requires g c = is_local c.self.invariant c.alloc-placed.ensures.rest.range

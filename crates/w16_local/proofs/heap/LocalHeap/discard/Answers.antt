@@ -18,7 +18,9 @@ invariant_of-self g c =
 pub returns-clause-acted : goal.returns-clause-acted
 returns-clause-acted g c =
     let may = may_shown c.self.view_is (g.S.Space.bytes c.args.space.now) (Discard c.args.id) c.requires in
-    discard_done c.self.view_is (g.S.Space.bytes c.args.space.now) c.discard.new.self.table (g.S.Space.bytes c.discard.new.space) c.in-Ok.ensures.ok.range c.discard.ensures.bytes.rest.bytes.outside c.discard.ensures.bytes.contents c.args.id (c.in-Ok.ensures.ok.heaps (g.S.Space.bytes c.args.space.now) may.0)
+    discard_done c.self.view_is (g.S.Space.bytes c.args.space.now) c.discard.new.self.table
+    (g.S.Space.bytes c.discard.new.space) c.in-Ok.ensures.ok.range c.discard.ensures.bytes.rest.bytes.outside
+    c.discard.ensures.bytes.contents c.args.id (c.in-Ok.ensures.ok.heaps (g.S.Space.bytes c.args.space.now) may.0)
 
 pub returns-clause-written : goal.returns-clause-written
 returns-clause-written g c = c.discard.ensures.bytes.count

@@ -97,7 +97,12 @@ lend_pair_spec 𝓤 𝓛 𝓜 𝓡 wired =
     await ! tt $ pick ! (λ p. split ! $ split ! $ move ! (2 ∷ []) $ pick ! (λ us. split ! $ drop ! $ split ! $ move ! (1 ∷ []) $ heard ! _ (λ are'.
     -- [follows; the token; the pair; the other token; follows]
     move ! (2 ∷ []) $ peeks ! (Tuple (Both κ)) (Is (Tuple (Both κ))) (shows 𝓛 (Tuple (Both κ))) p (w ∷ []) (λ fit.
-    lands_as ! refl refl ((recorded_lawful (Struct (shape (tuple_type (Both κ)))) (tuple_type (Both κ)).D (tuple_type (Both κ)).to (tuple_type (Both κ)).to_one 𝓛 (Struct-Lawful 𝓛 (shape (tuple_type (Both κ))) (shr_slice_Lawful 𝓛 (named 0) κ u8, (mut_slice_Lawful 𝓛 (named 0) κ u8, tt)))).typed p (w ∷ []) fit).0 $
+    lands_as ! refl refl ((recorded_lawful (Struct (shape (tuple_type (Both κ)))) (tuple_type (Both κ)).D
+    (tuple_type (Both κ)).to (tuple_type (Both κ)).to_one 𝓛
+    (Struct-Lawful 𝓛 (shape (tuple_type (Both κ))) (
+      shr_slice_Lawful 𝓛 (named 0) κ u8,
+      (mut_slice_Lawful 𝓛 (named 0) κ u8, tt),
+    ))).typed p (w ∷ []) fit).0 $
     move ! (4 ∷ 1 ∷ []) $ use2 𝓛 (‵ (follows (MutSlice (named 1) κ' u8) (Array u8 0) x.ghost_name p.1.ghost_name (λ ws. last (put r.now ws)))) (follows_then 𝓛 (MutSlice (named 1) κ' u8) (Array u8 0) (Array u8 0) last (put r.now) x.ghost_name r.ghost_name p.1.ghost_name) $
     rewrite ! 0 (λ (zs : List ℕ). ‵ (follows (MutSlice (named 1) κ' u8) (Array u8 0) x.ghost_name p.1.ghost_name (λ ws. last (put zs ws)))) is refl $
     -- [follows; the pair; the token; the other token]
