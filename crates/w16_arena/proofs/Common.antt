@@ -43,11 +43,11 @@ pub use Rattle.w16_blocks.specs.Stay.{HasRange, Leaves}
 pub use Rattle.w16_compact.proofs.Searched.{below_cap, first_here, passed_here}
 pub use Rattle.w16_compact.proofs.Skips.{ids_below, rest_after}
 pub use Rattle.w16_compact.specs.declared.gaps.Gap.{Gap}
-pub use Rattle.w16_lru.proofs.Common.{Decides-eqb, IsDistinct-from_AllPairs, at_end, member_without, newest_differ}
+pub use Rattle.w16_lru.proofs.Common.{Decides-eqb, IsDistinct-from_AllPairs, at_end, member_gone, member_without, newest_differ, without_absent}
 pub use Rattle.w16_lru.proofs.Walks.{all_left}
 pub use Rattle.w16_lru.specs.declared.End.{End}
 pub use Rattle.w16_lru.specs.declared.End.TheVariants.{Newest, Oldest}
-pub use Rattle.w16_model.proofs.Answered.{allocates_after, discarded_all, discarded_next, discarded_none, eligible_rest, moved_after, settles_after, settles_before}
+pub use Rattle.w16_model.proofs.Answered.{allocates_after, discarded_all, moved_after, settles_after, settles_before}
 pub use Rattle.w16_model.proofs.Common.{All, All-drop, All-take, AllPairs, Allocates, AreNew, ArePlaced, Bool, Contains, Enters, FinMap, Grows, Heap, IfOk, IfSome, IsArrangement, IsClear, IsCountedBy, IsFirstItem, IsGap, IsGrown, IsHeap, IsHole}
 pub use Rattle.w16_model.proofs.Common.{IsItem, IsLaid, IsMultiple, IsNew, IsPermutation, IsSomeAnd, IsSound, IsTrue, KeepsOthers, List, MakesRoom, MatchBool, MatchOption, Misses, Object, Reallocates, ReallocatesObject, Request, Settles, StaysOrMovesToHole}
 pub use Rattle.w16_model.proofs.Common.{Table, [], absent, after_discard, after_free, after_lock, after_modify, after_touch, after_unlock, and_parts, ap, append_assoc, arith, begins_in, block_end, block_of, block_with, blocks, blocks_without, by_id}

@@ -1,8 +1,8 @@
 -- A new object joins the order of use: a discardable one is the newest, and another isn't in it.
-use Rattle.w16_arena.proofs.Common.{◌≡◌, ℕ, Bool, true, false, ◌&&◌, if◌then◌else◌, List, get_or, Option, Some, None, refl, ap, ◌∙◌, Entry, Kind, is_discardable, is_member, newest, without, with_newest, block_with, is_listed, Layout, Newest}
+use Rattle.w16_arena.proofs.Common.{without_absent, ◌≡◌, ℕ, Bool, true, false, ◌&&◌, if◌then◌else◌, List, get_or, Option, Some, None, refl, ap, ◌∙◌, Entry, Kind, is_discardable, is_member, newest, without, with_newest, block_with, is_listed, Layout, Newest}
 use Rattle.w16_arena.proofs.Parts.{AreParts}
 use Rattle.w16_arena.proofs.Changed.{ReordersOne}
-use Rattle.w16_arena.proofs.Reordered.{end_reorders, same_reorders, without_none}
+use Rattle.w16_arena.proofs.Reordered.{end_reorders, same_reorders}
 
 module _ {entries : List (Option Entry)} {layout : Layout} {order memory : List ℕ} (parts : AreParts entries layout order memory) (id : ℕ) (kind : Kind) (absent : block_with layout.blocks id ≡ None) where
   not_yet : is_member id order ≡ false
@@ -28,4 +28,4 @@ module _ {entries : List (Option Entry)} {layout : Layout} {order memory : List 
     where
       from : (b : Bool) → (if (b && true) then newest id order else without id order) ≡ (if b then newest id order else order)
       from true = refl
-      from false = without_none id order not_yet
+      from false = without_absent id order not_yet

@@ -1,14 +1,8 @@
 -- An object that got bytes while it was left out of the heap: of the whole heap the same holds.
-use Rattle.w16_arena.proofs.Common.{◌≡◌, ◌≢◌, ℕ, ◌+◌, ◌<◌, ◌≤◌, ◌⊎◌, not, ◌==◌, IsTrue, IfSome, Option, Some, None, unwrap_or, sym, ap, ◌∙◌, eq-eqb, inl, inr, nat_cmp, nat_cmp_total, FinMap, same_map, nat_cmp-IsAntisymmetric, cases_eq, false≢true, and_parts}
-use Rattle.w16_arena.proofs.Common.{Block, RoomOptions, Heap, Object, blocks, removed, stays_for, moved_bytes, Each-at, Each-from, Each-from_All, All-from_Each, IsBlockOf, block_member, member_block, inserted_here, inserted_other, taken_other, Stands, Placed}
+use Rattle.w16_arena.proofs.Common.{◌≡◌, ◌≢◌, ℕ, ◌+◌, ◌<◌, ◌≤◌, ◌⊎◌, not, ◌==◌, IsTrue, IfSome, Option, Some, None, unwrap_or, sym, ap, ◌∙◌, eq-eqb, false≢true, and_parts}
+use Rattle.w16_arena.proofs.Common.{Block, RoomOptions, Heap, Object, blocks, removed, stays_for, moved_bytes, Each-at, Each-from, Each-from_All, All-from_Each, IsBlockOf, block_member, member_block, taken_other, Stands, Placed}
 use Rattle.std.specs.FinMap as finmap
-
--- what is put where something was taken away is as if nothing had been
-put_where_taken : {X : Type 0} (m : FinMap nat_cmp X) (id : ℕ) (x : X) → finmap.insert (finmap.remove m id) id x ≡ finmap.insert m id x
-put_where_taken m id x = same_map nat_cmp_total nat_cmp-IsAntisymmetric (finmap.insert (finmap.remove m id) id x) (finmap.insert m id x) (λ q. elim (cases_eq q id) [
-  | inl e ↦ inserted_here (finmap.remove m id) id x q e ∙ sym (inserted_here m id x q e)
-  | inr d ↦ inserted_other (finmap.remove m id) id x q d ∙ taken_other m id q d ∙ sym (inserted_other m id x q d)
-])
+use Rattle.w16_model.proofs.Maps.{put_where_taken}
 
 module _ (heap : Heap) (id : ℕ) where
   -- the other blocks are left

@@ -1,15 +1,11 @@
 -- The order of use with one id taken out, or put at an end.
-use Rattle.w16_arena.proofs.Common.{◌≡◌, ◌≢◌, ℕ, Bool, true, false, not, ◌&&◌, ◌||◌, ◌==◌, List, [], ◌∷◌, AllPairs, refl, sym, ap, ◌∙◌, eq-eqb, ne_eqb, false≢true, not-true, or_parts, is_member, without}
-use Rattle.w16_arena.proofs.Common.{oldest, End, Oldest, Newest, at_end, Each-from, EachPair-from_AllPairs, AllPairs-from_EachPair, member_filter, pairs_filter, member_without, member_newest, newest_differ}
+use Rattle.w16_arena.proofs.Common.{◌≡◌, ◌≢◌, ℕ, Bool, true, false, not, ◌&&◌, ◌||◌, ◌==◌, List, ◌∷◌, AllPairs, refl, sym, ap, ◌∙◌, eq-eqb, ne_eqb, false≢true, not-true, is_member, without}
+use Rattle.w16_arena.proofs.Common.{oldest, End, Oldest, Newest, at_end, Each-from, EachPair-from_AllPairs, AllPairs-from_EachPair, member_filter, pairs_filter, member_gone, member_without, member_newest, newest_differ}
 use Rattle.w16_arena.proofs.Changed.{ReordersOne}
 
 and_true : (b : Bool) → (b && not false) ≡ b
 and_true true = refl
 and_true false = refl
-
-and_false : (b : Bool) → (b && not true) ≡ false
-and_false true = refl
-and_false false = refl
 
 or_false : (b : Bool) → (b || false) ≡ b
 or_false true = refl
@@ -25,9 +21,6 @@ member_other id q order d = member_without q id order ∙ ap (λ t. is_member q 
 
 without_once : (id : ℕ) (order : List ℕ) → AllPairs (λ a b. a ≡ b → ⊥) order → AllPairs (λ a b. a ≡ b → ⊥) (without id order)
 without_once id order once = AllPairs-from_EachPair (λ a b. a ≡ b → ⊥) (without id order) (pairs_filter (λ a b. a ≡ b → ⊥) (λ q. not (q == id)) order (EachPair-from_AllPairs (λ a b. a ≡ b → ⊥) order once))
-
-pub member_gone : (id : ℕ) (order : List ℕ) → is_member id (without id order) ≡ false
-member_gone id order = member_without id id order ∙ ap (λ t. is_member id order && not t) (eq-eqb id id refl) ∙ and_false (is_member id order)
 
 -- taken out
 pub without_reorders : (id : ℕ) (order : List ℕ) → AllPairs (λ a b. a ≡ b → ⊥) order → ReordersOne id false order (without id order)
@@ -53,8 +46,3 @@ end_reorders Oldest id order once = record {
 -- left as it is
 pub same_reorders : (id : ℕ) (order : List ℕ) (listed : Bool) → is_member id order ≡ listed → AllPairs (λ a b. a ≡ b → ⊥) order → ReordersOne id listed order order
 same_reorders id order listed here once = record { here = here; there = λ q d. refl; once = once }
-
--- what isn't in it isn't taken out
-pub without_none : (id : ℕ) (order : List ℕ) → is_member id order ≡ false → without id order ≡ order
-without_none id [] out = refl
-without_none id (x ∷ xs) out = let parts : ((x == id) ≡ false) × (is_member id xs ≡ false) = or_parts (x == id) (is_member id xs) out in rw parts.0 (ap (λ ys. x ∷ ys) (without_none id xs parts.1))

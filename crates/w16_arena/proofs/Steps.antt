@@ -1,5 +1,5 @@
 -- The steps that ask for no room: what each leaves kept, and the heap after it, in every memory.
-use Rattle.w16_arena.proofs.Common.{◌≡◌, ℕ, zero, suc, ◌+◌, ◌<◌, ◌≤◌, ◌==◌, Bool, true, false, cond, ◌&&◌, IfSome, IfNone, IsSomeAnd, AllPairs, replicate, List, [], ◌∷◌, length, get_or, set, slice_range, Option, Some, None, option_map, is_some, refl, sym}
+use Rattle.w16_arena.proofs.Common.{without_absent, ◌≡◌, ℕ, zero, suc, ◌+◌, ◌<◌, ◌≤◌, ◌==◌, Bool, true, false, cond, ◌&&◌, IfSome, IfNone, IsSomeAnd, AllPairs, replicate, List, [], ◌∷◌, length, get_or, set, slice_range, Option, Some, None, option_map, is_some, refl, sym}
 use Rattle.w16_arena.proofs.Common.{ap, ◌∙◌, subst, inl, inr, arith, cases_eq, length-replicate, Block, Entry, Hold, Kind, is_member, Heap, Object, object_at, is_discardable, removed, absent, with_object, touched, newest, without, Enters, IsSound}
 use Rattle.w16_arena.proofs.Common.{IsCountedBy, block_with, hold_of_entry, object_in, is_listed, get-update_same, get-update_other, taken_here, taken_other, Layout, IsOrdered, replaced, member_with, Uses, ArenaState, Steps, table_of, heap_of, ArenaInvariant}
 use Rattle.std.specs.FinMap as finmap
@@ -8,7 +8,7 @@ use Rattle.w16_arena.proofs.Parts.{AreParts}
 use Rattle.w16_arena.proofs.With.{with-replaced, with-without}
 use Rattle.w16_arena.proofs.Lookups.{IsArranged, ordered_arranged, sound_arranged, object_here, place_here, no_block, in_list, same_heap}
 use Rattle.w16_arena.proofs.Changed.{GoTogether, ChangesOne, ReordersOne, changes_none, changed_parts, object_at_id, object_at_other, place_at_id, place_at_other}
-use Rattle.w16_arena.proofs.Reordered.{without_reorders, same_reorders, without_none}
+use Rattle.w16_arena.proofs.Reordered.{without_reorders, same_reorders}
 use Rattle.w16_arena.proofs.Singles.{removed_parts, removed_heap, put_parts, put_heap}
 
 -- to set what is there changes nothing
@@ -100,7 +100,7 @@ module _ {entries : List (Option Entry)} {layout : Layout} {uses : Uses} {gap_ro
     heap_same memory high =
         let parts = beside memory high in
         let heap : Heap = heap_of entries layout uses.ids memory in
-        same_heap heap (removed heap id) refl refl refl (sym (without_none id uses.ids not_listed))
+        same_heap heap (removed heap id) refl refl refl (sym (without_absent id uses.ids not_listed))
         (λ q. elim (cases_eq q id) [
           | inl e ↦ ap (object_at heap) e ∙ object_here parts id ∙ ap (option_map (object_in layout.blocks memory id)) none ∙ sym (taken_here heap.objects id q e)
           | inr d ↦ sym (taken_other heap.objects id q d)

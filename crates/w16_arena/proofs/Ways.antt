@@ -66,9 +66,3 @@ clear_bytes {l} n at free = record {
 module _ (old : Layout) (id : ℕ) (b : Block) (here : block_with old.blocks id ≡ Some b) where
   pub same_id : b.id ≡ id
   same_id = with_id id b old.blocks here
-
-  pub known_own : block_with old.blocks b.id ≡ Some b
-  known_own = ap (block_with old.blocks) same_id ∙ here
-
-  of_block : (P : Block → Type 0) → P b → ForSome (block_with old.blocks id) P
-  of_block P p x e = let same : ◌≡◌ {A = Option Block} (Some b) (Some x) = sym here ∙ e in let is : b ≡ x = cc in subst P is p

@@ -27,7 +27,7 @@ pub use Rattle.w16_model.proofs.Common.{false≢true, filter, first_from, get_or
 pub use Rattle.w16_model.proofs.Common.{part, put_part, refl, replicate, rules, set, slice_get, subst, suc, sum_by, sum_by-cons, sym, take, take_all, true, zero, ℕ, ◌*◌, ◌+◌, ◌-◌, ◌/◌, ◌<◌, ◌==◌, ◌||◌, ◌∙◌, ◌∷◌, ◌≡◌, ◌≢◌, ◌≤◌}
 pub use Rattle.w16_model.proofs.Common.{◌⊎◌}
 pub use Rattle.w16_model.proofs.Gaps.{All-from_Each, Each-at, Each-both, Each-from_All, Each-map, Member}
-pub use Rattle.w16_model.proofs.Laid.{first_behind, first_hole_end, holes-cons, laid_each, laid_placed}
+pub use Rattle.w16_model.proofs.Laid.{first_behind, first_hole_end, holes-cons, laid_each, laid_le, laid_placed}
 pub use Rattle.w16_model.proofs.Parts.{part-put_part}
 pub use Rattle.w16_model.proofs.Starts.{gap_list_law}
 pub use Rattle.w16_model.proofs.Walks.{member_contained}

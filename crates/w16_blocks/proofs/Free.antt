@@ -1,5 +1,5 @@
 -- Which bytes are free between laid blocks: those that none has. They tell the list of holes.
-use Rattle.w16_blocks.proofs.Common.{ℕ, suc, ◌≡◌, ◌<◌, ◌≤◌, ◌⊎◌, max, List, [], ◌∷◌, arith, sym, subst, inl, inr, cases_lt, lt-ltb, le-ltb, AllByRecursion, Block, Span, IsLaid, block_end, holes, Each-map, holes-cons, laid_each, AreHoles, IsFree, IsUsed, IsIn, low, same_holes}
+use Rattle.w16_blocks.proofs.Common.{ℕ, suc, ◌≡◌, ◌<◌, ◌≤◌, ◌⊎◌, max, List, [], ◌∷◌, arith, sym, subst, inl, inr, cases_lt, lt-ltb, le-ltb, AllByRecursion, Block, Span, IsLaid, block_end, holes, Each-map, holes-cons, laid_each, laid_le, AreHoles, IsFree, IsUsed, IsIn, low, same_holes}
 
 -- a byte that a block does not have
 abbrev pub Lacks : ℕ → Block → Type 0
@@ -7,10 +7,6 @@ Lacks p c = (p < c.at) ⊎ (block_end c ≤ p)
 
 pub later : (p lo hi : ℕ) (bs : List Block) → p < lo → IsLaid lo hi bs → AllByRecursion (Lacks p) bs
 later p lo hi bs lt laid = Each-map (λ y. (lo ≤ y.at) × (0 < y.size) × (block_end y ≤ hi)) (Lacks p) (λ y is. let from = is.0 in inl (omega arith)) bs (laid_each lo hi bs laid)
-
-pub laid_le : (lo hi : ℕ) (bs : List Block) → IsLaid lo hi bs → lo ≤ hi
-laid_le lo hi [] laid = laid
-laid_le lo hi (b ∷ bs) laid = let from = laid.0 in let rest = laid_le (block_end b) hi bs laid.2 in omega arith
 
 pub AreHoles-holes : (least lo hi : ℕ) (bs : List Block) → least ≤ lo → IsLaid lo hi bs → AreHoles least hi (holes lo hi bs)
 AreHoles-holes least lo hi [] le laid = elim (cases_lt lo hi) [

@@ -1,10 +1,9 @@
 -- A range that ends later: its new part joins the holes.
-use Rattle.w16_blocks.proofs.Common.{◌≡◌, ℕ, ◌+◌, ◌-◌, ◌/◌, ◌<◌, ◌≤◌, min, max, Bool, true, false, nat_lt, List, [], ◌∷◌, ◌++◌, length, replicate, slice_index, zero, suc, ◌*◌, refl, sym, ap, ◌∙◌}
+use Rattle.w16_blocks.proofs.Common.{laid_le, ◌≡◌, ℕ, ◌+◌, ◌-◌, ◌/◌, ◌<◌, ◌≤◌, min, max, Bool, true, false, nat_lt, List, [], ◌∷◌, ◌++◌, length, replicate, slice_index, zero, suc, ◌*◌, refl, sym, ap, ◌∙◌}
 use Rattle.w16_blocks.proofs.Common.{subst, arith, inl, inr, lt-ltb, le-ltb, cases_lt, IsMultiple, whole_units, below, up, length-append, length-replicate, Block, Span, IsLaid, block_end, holes}
 use Rattle.w16_blocks.proofs.Common.{holes-cons, add_span, joined, Range, IsPart, IsUsed, Layout, IsOrdered, sum_by, pins_in, range_of, layout_in, slot_of, blocks_in, AreReserved, BlocksInvariant}
 use Rattle.w16_blocks.proofs.Common.{LAST_END}
 use Rattle.std.proofs.Common.{cond}
-use Rattle.w16_blocks.proofs.Free.{laid_le}
 use Rattle.w16_blocks.proofs.Outside.{used_high}
 use Rattle.w16_blocks.proofs.Tables.{blocks_in-none, get_or-replicate_same}
 

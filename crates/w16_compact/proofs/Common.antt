@@ -11,7 +11,7 @@ pub use Rattle.w16_blocks.proofs.Common.{All-from_Each, AllByRecursion, AreHoles
 pub use Rattle.w16_blocks.proofs.Common.{IsRun, IsSome, IsUsed, Layout, Member, all_but, counted, drop-put_part, eqb, eqb_tells, from_address, get_or-set_other, get_or-set_same, holes_of, laid_each}
 pub use Rattle.w16_blocks.proofs.Common.{laid_placed, le-ltb, length-map, length-put_part, list_any, lt-ltb, multiple_less, multiple_sum, placed, rank, replaced, slice_index, slid_with, take-put_part}
 pub use Rattle.w16_blocks.proofs.Common.{◌^◌}
-pub use Rattle.w16_blocks.proofs.Free.{AreHoles-holes, Lacks, free_lacks, lacks_free, laid_le, later}
+pub use Rattle.w16_blocks.proofs.Free.{AreHoles-holes, Lacks, free_lacks, lacks_free, later}
 pub use Rattle.std.proofs.lemmas.Bool.{eqb-true}
 pub use Rattle.w16_blocks.proofs.Later.{laid_later}
 pub use Rattle.w16_blocks.proofs.Lifting.{around}

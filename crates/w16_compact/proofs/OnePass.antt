@@ -1,7 +1,7 @@
 -- Room by one pass over the blocks by address.
 use Rattle.w16_compact.proofs.Common.{◌≡◌, ℕ, ◌+◌, ◌-◌, ◌<◌, ◌≤◌, max, min, Bool, true, false, cond, not, ◌&&◌, nat_le, nat_lt, IsTrue, List, [], ◌∷◌, map, filter, sum_by, refl, ap, ◌∙◌, arith, None}
 use Rattle.w16_compact.proofs.Common.{zero-add, le-leb, and_left, lt-leb, le-ltb, and_right, cond-true, cond-false, and_from, ord_max, nat_cmp, nat_tests, sum_by-cons, Block, Each-map, Each-of_map}
-use Rattle.w16_compact.proofs.Common.{Each-filter, sum_filter, blocks_without, room_for, snapshot, is_pinned, is_loose, block_end, begins_in, first_from, loose_bytes, largest, room_from, room, IsLaid}
+use Rattle.w16_compact.proofs.Common.{Each-filter, sum_filter, laid_le, blocks_without, room_for, snapshot, is_pinned, is_loose, block_end, begins_in, first_from, loose_bytes, largest, room_from, room, IsLaid}
 use Rattle.w16_compact.proofs.Common.{sum_fits}
 use Rattle.std.proofs.Common.{lt-ltb}
 use Rattle.std.specs.List.{AllByRecursion as Each}
@@ -13,11 +13,6 @@ scan hi best start used (x ∷ xs) = cond (is_pinned x) (scan hi (max best (x.at
 
 abbrev pub ends : List Block → List ℕ
 ends xs = map block_end (filter is_pinned xs)
-
--- all blocks of a laid list begin at or after its low end, and the low end is at most the high one
-laid_le : (lo hi : ℕ) (xs : List Block) → IsLaid lo hi xs → lo ≤ hi
-laid_le lo hi [] h = h
-laid_le lo hi (x ∷ xs) h = omega (arith, h, laid_le (x.at + x.size) hi xs h.2)
 
 first_after : (lo hi : ℕ) (xs : List Block) (a m : ℕ) → IsLaid lo hi xs → m ≤ lo → m ≤ first_from is_pinned hi xs a
 first_after lo hi [] a m h k = omega arith

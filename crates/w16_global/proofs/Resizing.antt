@@ -41,19 +41,6 @@ empties_ok v still handle slot flags new moveable done rest =
     subst (λ m. MatchBool m (AnswersDiscard v handle handle new (after_discard v.heap slot)) (IsNull v handle new)) (sym moveable)
     (subst (AnswersDiscard v handle handle new) (sym done) (refl, rest ∙ (λ i. record v { heap = new.heap; moved = (still ∙ sym (discard_unmoved v.heap new.heap slot done)) i })))
 
--- no object's handle is NULL
-not_null : (w : Handles) (handle slot : ℕ) → slot_of_handle w handle ≡ Some slot → (handle == 0) ≡ false
-not_null w handle slot found = ne_eqb handle 0 (λ e. turn (object_at w.heap 0) (subst (λ n. slot_of_handle w n ≡ Some slot) e found))
-  where
-    by_kind : (kind : Kind) → (if 0 == handle_of kind 0 then Some 0 else None) ≡ Some slot → ⊥
-    by_kind kinds.Fixed e = cc
-    by_kind kinds.Moveable e = cc
-    by_kind kinds.Discardable e = cc
-
-    turn : (p : Option Object) → (elim p as (λ _. Option ℕ) [ Some o ↦ if 0 == handle_of o.kind 0 then Some 0 else None | None ↦ None ]) ≡ Some slot → ⊥
-    turn None e = cc
-    turn (Some o) e = by_kind o.kind e
-
 -- nor is one that is answered, where the object has a run
 answer_some : (kind : Kind) (first : ℕ) → (handle_of kind first == 0) ≡ false
 answer_some kinds.Fixed first = ne_eqb (handle_of kinds.Fixed first) 0 (λ e. omega (arith, e))

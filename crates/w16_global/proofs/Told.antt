@@ -212,14 +212,6 @@ module _ (h : Holding) (xs : List (Option Attributes)) (is : AreHandles (handles
         | inr untold ↦ told_at which t q first e false untold ∙ rest q first e untold ∙ sym (ap by_owner e)
       ]
 
-  -- and those that say it are labelled
-  pub described_labelled : (t : selectors.DescriptorTable) → ((q : ℕ) → descriptor_at t q ≡ described h.heap xs q) → AreLabelled xs t
-  described_labelled t are q = ap label_of (are q) ∙ turn (owner_in xs q) refl
-    where
-      turn : (p : Option ℕ) → owner_in xs q ≡ p → label_of (elim p as (λ _. Option Descriptor) [ None ↦ None | Some first ↦ says h.heap (kind_in xs first) (q - first) first ]) ≡ option_map (λ first. (kind_in xs first, q - first)) p
-      turn None e = refl
-      turn (Some first) e = says_label h.heap (kind_in xs first) (q - first) first (owner_there q first e)
-
   -- So they do behind a step that tells some others, and then the object that the step is about.
   pub finished : (which : ℕ → Bool) (t u v : selectors.DescriptorTable) (own at n : ℕ) → AreLabelled xs t → ((q : ℕ) → descriptor_at u q ≡ told h.heap xs which t q)
       → option_map (length {A = ℕ}) (bytes_at h.heap own) ≡ Some n → finmap.get h.heap.places own ≡ Some at → ((q : ℕ) → descriptor_at v q ≡ placed own at n u q)

@@ -1,9 +1,10 @@
 -- Modules that get values, one after another.
-use Rattle.w16_loader.proofs.Common.{◌≡◌, ◌≢◌, ℕ, zero, suc, ◌+◌, ◌<◌, inl, inr, Bool, true, false, ◌||◌, List, [], ◌∷◌, length, map, drop, Option, Some, None, IsSomeAnd, refl, sym, ap, ◌∙◌, subst, arith, add-one, eq-eqb, ◌==◌, IfSome}
-use Rattle.w16_loader.proofs.Common.{AllZip, nat_cmp, nat_cmp_total, FinMap, same_map, nat_cmp-IsAntisymmetric, cases_eq, false≢true, is_member, inserted_here, inserted_other, taken_other, Far, ModuleFile, Target, targets_of}
+use Rattle.w16_loader.proofs.Common.{[], ◌≡◌, ◌≢◌, ℕ, zero, suc, ◌+◌, ◌<◌, inl, inr, Bool, true, false, ◌||◌, List, ◌∷◌, length, map, drop, Option, Some, None, IsSomeAnd, refl, sym, ap, ◌∙◌, subst, arith, add-one, eq-eqb, ◌==◌, IfSome}
+use Rattle.w16_loader.proofs.Common.{AllZip, cases_eq, false≢true, is_member, inserted_here, inserted_other, Far, ModuleFile, Target, targets_of}
 use Rattle.w16_loader.proofs.Common.{without_values, Lookup, Module, Modules, Named, module_at, module_in, Loaded, BuiltIn, loaded_is, values_law, Files, AreSaid, AreTargets, IsForEach, IsSaid, all_bound, bound_as, values_for}
 use Rattle.w16_loader.proofs.Common.{with_values}
 use Rattle.std.specs.FinMap as finmap
+use Rattle.w16_model.proofs.Maps.{put_where_taken}
 
 -- look-ups that differ in values alone
 abbrev pub AreAlike : Lookup → Lookup → Type 0
@@ -37,13 +38,6 @@ module _ (modules : Modules) (handle : ℕ) where
 
     pub bound_alike : (f g : Lookup) → AreAlike f g → bound_as f modules handle targets ≡ bound_as g modules handle targets
     bound_alike f g same = ap (put_in (module_at modules handle)) (λ i m. values_alike f g m targets same i)
-
--- what is put where something was taken away is as if nothing had been
-put_where_taken : {X : Type 0} (m : FinMap nat_cmp X) (id : ℕ) (x : X) → finmap.insert (finmap.remove m id) id x ≡ finmap.insert m id x
-put_where_taken m id x = same_map nat_cmp_total nat_cmp-IsAntisymmetric (finmap.insert (finmap.remove m id) id x) (finmap.insert m id x) (λ q. elim (cases_eq q id) [
-  | inl e ↦ inserted_here (finmap.remove m id) id x q e ∙ sym (inserted_here m id x q e)
-  | inr d ↦ inserted_other (finmap.remove m id) id x q d ∙ taken_other m id q d ∙ sym (inserted_other m id x q d)
-])
 
 -- A module that was taken out, lent to be given values, and put back.
 module _ (old between new : Modules) (handle : ℕ) (values : List (List Far)) where

@@ -35,14 +35,6 @@ means_new modules files found name place none is =
 
 -- Files.
 
-pub no_file : (file : Option (List ℕ)) (before after : ℕ) (e : StoreFault) → IsHonestFault before after e (length_of file)
-    → IsFault (λ number. said file ≡ Err number) before after (fault_of (faults.Store e))
-no_file file before after stores.Device h = h
-no_file None before after stores.Missing h = refl
-no_file (Some bytes) before after stores.Missing h = cc
-no_file None before after stores.Short h = cc
-no_file (Some bytes) before after stores.Short h = cc
-
 pub is_read : (file : Option (List ℕ)) (n : ℕ) (t : ne.Tables) → length_of file ≡ Ok n → HasBytes file → tables_at file ≡ Ok t → IsRead file t
 is_read None n t there all e = cc
 is_read (Some bytes) n t there all e = (e, accepted bytes t all e)

@@ -1,21 +1,8 @@
 -- A module in another number of uses.
-use Rattle.w16_loader.proofs.Common.{◌≡◌, ℕ, ◌+◌, ◌-◌, inl, inr, Bool, true, false, cond, if◌then◌else◌, nat_lt, Option, Some, None, refl, sym, ap, ◌∙◌, IsTrue, IsFalse, nat_cmp, nat_cmp_total, FinMap, same_map, nat_cmp-IsAntisymmetric}
-use Rattle.w16_loader.proofs.Common.{cases_eq, inserted_here, inserted_other, taken_other, MOST_USES, LoadingWorld, Module, Modules, Named, module_in, module_at, Loaded, BuiltIn, used_again, after_use, Says, used_less, in_world}
+use Rattle.w16_loader.proofs.Common.{◌≡◌, ℕ, ◌+◌, ◌-◌, Bool, true, false, cond, if◌then◌else◌, nat_lt, Option, Some, None, refl, sym, ap, ◌∙◌, IsTrue, IsFalse}
+use Rattle.w16_loader.proofs.Common.{MOST_USES, LoadingWorld, Module, Modules, Named, module_in, module_at, Loaded, BuiltIn, used_again, after_use, Says, used_less, in_world}
 use Rattle.std.specs.FinMap as finmap
-
--- what is put where something was taken away is as if nothing had been
-put_where_taken : {X : Type 0} (m : FinMap nat_cmp X) (id : ℕ) (x : X) → finmap.insert (finmap.remove m id) id x ≡ finmap.insert m id x
-put_where_taken m id x = same_map nat_cmp_total nat_cmp-IsAntisymmetric (finmap.insert (finmap.remove m id) id x) (finmap.insert m id x) (λ q. elim (cases_eq q id) [
-  | inl e ↦ inserted_here (finmap.remove m id) id x q e ∙ sym (inserted_here m id x q e)
-  | inr d ↦ inserted_other (finmap.remove m id) id x q d ∙ taken_other m id q d ∙ sym (inserted_other m id x q d)
-])
-
--- nothing changes where the same is put
-put_again : {X : Type 0} (m : FinMap nat_cmp X) (id : ℕ) (x : X) → finmap.get m id ≡ Some x → finmap.insert m id x ≡ m
-put_again m id x there = same_map nat_cmp_total nat_cmp-IsAntisymmetric (finmap.insert m id x) m (λ q. elim (cases_eq q id) [
-  | inl e ↦ inserted_here m id x q e ∙ sym there ∙ ap (finmap.get m) (sym e)
-  | inr d ↦ inserted_other m id x q d
-])
+use Rattle.w16_model.proofs.Maps.{put_same, put_where_taken}
 
 loaded_in : (named : Option Named) (m : Module) → module_in named ≡ Some m → named ≡ Some (Loaded m)
 loaded_in None m e = cc
@@ -41,7 +28,7 @@ module _ (rest : LoadingWorld) (old between new : Modules) (handle : ℕ) (m len
           ∙ ap (λ modules. (Says handle, in_world rest modules)) (sym (put_in ∙ ap (λ x. finmap.insert old handle (Loaded x)) (more refl ∙ ap (λ (x : Module). record x { uses = x.uses + 1 }) same)))
       from false is more full =
           ap (λ b. cond b (Says handle, after_use (in_world rest old) handle m) (Says 0, in_world rest old)) (sym is)
-          ∙ ap (λ modules. (Says 0, in_world rest modules)) (sym (put_in ∙ ap (λ x. finmap.insert old handle (Loaded x)) (full refl ∙ same) ∙ put_again old handle (Loaded m) was))
+          ∙ ap (λ modules. (Says 0, in_world rest modules)) (sym (put_in ∙ ap (λ x. finmap.insert old handle (Loaded x)) (full refl ∙ same) ∙ put_same old handle (Loaded m) was))
 
   pub less_of_module : other ≡ record lent { uses = lent.uses - 1 } → in_world rest new ≡ used_less (in_world rest old) handle
   less_of_module less = rw (put_in, less, same, sym there, used_less) refl

@@ -1,18 +1,11 @@
 -- Maps and worlds without what goes.
-use Rattle.w16_loading.proofs.Common.{◌≡◌, ℕ, inl, inr, Bool, true, false, cond, not, Option, Some, None, refl, sym, ap, ◌∙◌, nat_cmp_total, nat_cmp, FinMap, same_map, nat_cmp-IsAntisymmetric, cases_eq, inserted_here, inserted_other, taken_here, taken_other, LoadingWorld, without_objects}
+use Rattle.w16_loading.proofs.Common.{◌≡◌, ℕ, inl, inr, Bool, true, false, cond, not, Option, None, refl, sym, ap, ◌∙◌, nat_cmp_total, nat_cmp, FinMap, same_map, nat_cmp-IsAntisymmetric, cases_eq, taken_here, taken_other, LoadingWorld, without_objects}
 use Rattle.std.specs.FinMap as finmap
 use Rattle.w16_loading.proofs.Undone.{retained, kept_all}
 
 -- two maps with the same values are one
 pub same_values : {X : Type 0} (m n : FinMap nat_cmp X) → ((q : ℕ) → finmap.get m q ≡ finmap.get n q) → m ≡ n
 same_values m n same = same_map nat_cmp_total nat_cmp-IsAntisymmetric m n same
-
--- a value put where it is already
-pub put_same : {X : Type 0} (m : FinMap nat_cmp X) (k : ℕ) (x : X) → finmap.get m k ≡ Some x → finmap.insert m k x ≡ m
-put_same m k x there = same_values (finmap.insert m k x) m (λ q. elim (cases_eq q k) [
-  | inl e ↦ inserted_here m k x q e ∙ sym (ap (finmap.get m) e ∙ there)
-  | inr d ↦ inserted_other m k x q d
-])
 
 -- where nothing goes all stay
 pub all_retained : {X : Type 0} (m : FinMap nat_cmp X) (gone : ℕ → Bool) → ((q : ℕ) → gone q ≡ false) → finmap.retain_keys m (λ q. not (gone q)) ≡ m

@@ -1,11 +1,12 @@
 -- A module that others import stays, whoever takes its explicit uses away.
-use Rattle.w16_loading.proofs.Common.{◌≡◌, ℕ, ◌-◌, ◌<◌, inl, inr, true, false, cond, not, List, [], ◌∷◌, Option, Some, None, IfSome, IsSomeAnd, is_some, refl, sym, ap, ◌∙◌, subst, arith, cases_eq, inserted_here, inserted_other}
+use Rattle.w16_loading.proofs.Common.{[], ◌≡◌, ℕ, ◌-◌, ◌<◌, inl, inr, true, false, cond, not, List, ◌∷◌, Option, Some, None, IfSome, IsSomeAnd, is_some, refl, sym, ap, ◌∙◌, subst, arith, cases_eq, inserted_here, inserted_other}
 use Rattle.w16_loading.proofs.Common.{Resource, numbered, LoadingWorld, Load, Module, Named, module_at, module_in, imports, importers, Loaded, Go, used_less, is_left_over, without_orphans, IsLoadingWorld, IsLoad, UsesApartLaw}
 use Rattle.std.specs.FinMap as finmap
 use Rattle.w16_loading.proofs.Given.{loaded_is}
-use Rattle.w16_loading.proofs.Absences.{all_retained, none_gone, put_same}
+use Rattle.w16_loading.proofs.Absences.{all_retained, none_gone}
 use Rattle.w16_loading.proofs.Importers.{HasImporter, Idle, importer_of, idle_parts, none_idle}
 use Rattle.w16_loading.proofs.Bound.{world_used_less}
+use Rattle.w16_model.proofs.Maps.{put_same}
 
 module _ (old : LoadingWorld) (is : IsLoadingWorld old) (handle : ℕ) (m : Module) (loaded : finmap.get old.modules handle ≡ Some (Loaded m)) where
   abbrev less : LoadingWorld

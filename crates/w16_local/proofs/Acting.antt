@@ -3,7 +3,7 @@ use Rattle.w16_local.proofs.Common.{◌≡◌, ℕ, ◌<◌, ◌⊎◌, inl, inr
 use Rattle.w16_local.proofs.Common.{heap_in, counted, Global, Lends, World, LocalHeap, Acts, IsLocalTable, object_of, put_all, ByteOp, Acted, ActedIn, DoesAct, Done, Idle, IsLent, IsLentOnce, MayAct, MayActIn, MayActOver, IsIn, with_parts}
 use Rattle.std.specs.FinMap as finmap
 use Rattle.w16_local.specs.Growth.{IsLentOrGrown, WritesGrown, WritesServed}
-use Rattle.w16_local.proofs.Locals.{insert_nothing}
+use Rattle.w16_model.proofs.Maps.{put_same}
 
 -- bytes that are written over themselves
 same_write : (heap : Heap) (slot : ℕ) (bytes : List ℕ) → bytes_at heap slot ≡ Some bytes → after_write heap slot 0 bytes ≡ heap
@@ -19,7 +19,7 @@ same_write heap slot bytes had = λ i. record heap { objects = objects i }
     same = λ i. record o.0 { bytes = (ap (option_map (λ bs. put_part bs 0 bytes)) o.2 ∙ ap Some (put_all bytes bytes refl) ∙ sym o.2) i }
 
     objects : (after_write heap slot 0 bytes).objects ≡ heap.objects
-    objects = ap (λ p. elim p as (λ _. FinMap nat_cmp Object) [ Some o ↦ finmap.insert heap.objects slot (over o) | None ↦ heap.objects ]) o.1 ∙ ap (finmap.insert heap.objects slot) same ∙ insert_nothing heap.objects slot o.0 o.1
+    objects = ap (λ p. elim p as (λ _. FinMap nat_cmp Object) [ Some o ↦ finmap.insert heap.objects slot (over o) | None ↦ heap.objects ]) o.1 ∙ ap (finmap.insert heap.objects slot) same ∙ put_same heap.objects slot o.0 o.1
 
 -- what may be done to the bytes of a slot's object
 pub may_lent : {handles : Handles} {tables : FinMap nat_cmp Table} {slot : ℕ} {so : Table → List ℕ → Type 0} (may : MayActIn handles tables slot so) (t : Table) → finmap.get tables slot ≡ Some t → IsSomeAnd (bytes_at handles.heap slot) (so t)
@@ -38,7 +38,7 @@ acted_in t s was is_local lent next next_is new new_is = record { before = t; by
 pub acted_same : {handles next : Handles} {tables new : FinMap nat_cmp Table} {slot : ℕ} {does : Table → List ℕ → Table → List ℕ → Type 0} (a : ActedIn handles tables slot does next new) → a.table ≡ a.before → a.after ≡ a.bytes → (new ≡ tables) × (next ≡ handles)
 acted_same {handles} {next} {tables} {new} {slot} a table bytes =
     let heap_same : after_write handles.heap slot 0 a.after ≡ handles.heap = ap (after_write handles.heap slot 0) bytes ∙ same_write handles.heap slot a.bytes a.had in
-    (a.rest.0 ∙ ap (finmap.insert tables slot) table ∙ insert_nothing tables slot a.before a.was, a.rest.1 ∙ (λ i. record handles { heap = heap_same i }))
+    (a.rest.0 ∙ ap (finmap.insert tables slot) table ∙ put_same tables slot a.before a.was, a.rest.1 ∙ (λ i. record handles { heap = heap_same i }))
 
 -- what may be done in the heap that DS names
 pub may_in : {handles : Handles} {tables : FinMap nat_cmp Table} {ds slot : ℕ} {t : Table} (is : IsIn handles tables ds slot t) (act : ByteOp) → MayAct act (heap_in t is.bytes) → MayActIn handles tables slot (MayActOver act)

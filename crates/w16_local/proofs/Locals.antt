@@ -1,5 +1,5 @@
 -- The local heaps in a list by slot, and their tables.
-use Rattle.w16_local.proofs.Common.{◌≡◌, ℕ, ◌<◌, ◌≤◌, inl, inr, IsSome, List, [], ◌∷◌, ◌++◌, length, get_or, set, Option, Some, None, option_map, is_some, refl, sym, ap, ◌∙◌, subst, arith}
+use Rattle.w16_local.proofs.Common.{[], ◌≡◌, ℕ, ◌<◌, ◌≤◌, inl, inr, IsSome, List, ◌∷◌, ◌++◌, length, get_or, set, Option, Some, None, option_map, is_some, refl, sym, ap, ◌∙◌, subst, arith}
 use Rattle.w16_local.proofs.Common.{zero, suc, nat_cmp_total, nat_cmp, FinMap, get-empty, same_map, nat_cmp-IsAntisymmetric, cases_eq, false≢true, get_or-set_same, get_or-set_other}
 use Rattle.w16_local.proofs.Common.{get_or_append_left, length-append, set-set, get_or-append_seam, Table, get-by_id, inserted_here, inserted_other, taken_here, taken_other, tables_of, AreListed}
 use Rattle.w16_local.proofs.Common.{IsListed}
@@ -10,13 +10,6 @@ pub remove_nothing : (m : FinMap nat_cmp Table) (k : ℕ) → finmap.get m k ≡
 remove_nothing m k none = same_map nat_cmp_total nat_cmp-IsAntisymmetric (finmap.remove m k) m (λ q. elim (cases_eq q k) [
   | inl e ↦ taken_here m k q e ∙ sym none ∙ ap (finmap.get m) (sym e)
   | inr d ↦ taken_other m k q d
-])
-
--- nothing changes where the same is put
-pub insert_nothing : {X : Type 0} (m : FinMap nat_cmp X) (k : ℕ) (x : X) → finmap.get m k ≡ Some x → finmap.insert m k x ≡ m
-insert_nothing m k x there = same_map nat_cmp_total nat_cmp-IsAntisymmetric (finmap.insert m k x) m (λ q. elim (cases_eq q k) [
-  | inl e ↦ inserted_here m k x q e ∙ sym there ∙ ap (finmap.get m) (sym e)
-  | inr d ↦ inserted_other m k x q d
 ])
 
 module _ {X : Type 0} where

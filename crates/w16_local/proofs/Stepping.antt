@@ -5,7 +5,8 @@ use Rattle.w16_local.proofs.Common.{Becomes, Stays, heap_of, object_named, Leave
 use Rattle.std.specs.FinMap as finmap
 use Rattle.w16_model.specs.declared.Refusal.TheVariants as refusals
 use Rattle.w16_local.proofs.Choices.{is_named}
-use Rattle.w16_local.proofs.Locals.{default_any, here, in_range, insert_nothing, listed_replaced, tables_replaced}
+use Rattle.w16_local.proofs.Locals.{default_any, here, in_range, listed_replaced, tables_replaced}
+use Rattle.w16_model.proofs.Maps.{put_same}
 
 -- A heap is taken out of the list, takes a step, and is put back.
 module _ {X : Type 0} (table : X → Table) (xs : List (Option X)) {tables : FinMap nat_cmp Table} (shown : tables_of xs table ≡ tables) (slot : ℕ) (known : IsSome (finmap.get tables slot))
@@ -30,7 +31,7 @@ module _ {X : Type 0} (table : X → Table) (xs : List (Option X)) {tables : Fin
   -- where the heap is as it was, so are the tables
   pub same_tables : {Y : Type 0} (r : Result Y Refusal) → OnErr r (table s ≡ table h) → OnErr r (tables_of (set (set xs slot gone) slot (Some s)) table ≡ tables)
   same_tables (Ok done) e = tt
-  same_tables (Err refusal) e = tables_stepped ∙ ap (finmap.insert tables slot) e ∙ insert_nothing tables slot (table h) (here table xs shown slot known d h value)
+  same_tables (Err refusal) e = tables_stepped ∙ ap (finmap.insert tables slot) e ∙ put_same tables slot (table h) (here table xs shown slot known d h value)
 
 -- what holds of a slot's table
 pub holds_in : (P : Table → Type 0) {m : Option Table} {t : Table} → m ≡ Some t → IsSomeAnd m P → P t

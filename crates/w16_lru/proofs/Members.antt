@@ -1,16 +1,7 @@
 -- Members of ids that are each there once.
-use Rattle.w16_lru.proofs.Common.{list_any, ◌≡◌, ℕ, ◌+◌, ◌<◌, ◌≤◌, Bool, true, false, cond, not, ◌&&◌, ◌||◌, ◌==◌, nat_eq, List, [], ◌∷◌, length, refl, sym, ap, ◌∙◌, subst, arith, eqb-true, eq-eqb, false≢true}
-use Rattle.w16_lru.proofs.Common.{true≢false, ne_eqb, Decides-eqb, IsDistinct-from_AllPairs, length-le_from_distinct_below, is_member, without, EachPair, Each-from_All, member_without, Uses, AreUses}
+use Rattle.w16_lru.proofs.Common.{[], without_absent, list_any, ◌≡◌, ℕ, ◌+◌, ◌<◌, ◌≤◌, Bool, true, false, cond, not, ◌&&◌, ◌||◌, ◌==◌, nat_eq, List, ◌∷◌, length, refl, sym, ap, ◌∙◌, subst, arith, eqb-true, false≢true}
+use Rattle.w16_lru.proofs.Common.{ne_eqb, Decides-eqb, IsDistinct-from_AllPairs, length-le_from_distinct_below, is_member, without, EachPair, Each-from_All, Uses, AreUses}
 use Rattle.std.specs.List.{AllByRecursion as Each}
-
-left_out : (b m : Bool) (x : ℕ) (xs ys : List ℕ) → (b || m) ≡ false → (m ≡ false → ys ≡ xs) → cond (not b) (x ∷ ys) ys ≡ x ∷ xs
-left_out true m x xs ys h f = absurd (true≢false h)
-left_out false m x xs ys h f = ap (λ (l : List ℕ). x ∷ l) (f h)
-
--- what is no member need not be taken out
-pub without-absent : (id : ℕ) (ids : List ℕ) → is_member id ids ≡ false → without id ids ≡ ids
-without-absent id [] h = refl
-without-absent id (x ∷ ids) h = left_out (x == id) (is_member id ids) x ids (without id ids) h (without-absent id ids)
 
 no_member : (id : ℕ) (ids : List ℕ) → Each (λ x. id ≡ x → ⊥) ids → is_member id ids ≡ false
 no_member id [] h = refl
@@ -23,15 +14,6 @@ member_test : (id : ℕ) (ids : List ℕ) → list_any (nat_eq id) ids ≡ is_me
 member_test id [] = refl
 member_test id (x ∷ ids) = rw (same_test x id) (ap (λ b. (id == x) || b) (member_test id ids))
 
--- what is taken out is no member
-pub taken_out : (id : ℕ) (ids : List ℕ) → is_member id (without id ids) ≡ false
-taken_out id ids = member_without id id ids ∙ none (is_member id ids) (id == id) (eq-eqb id id refl)
-  where
-    none : (m t : Bool) → t ≡ true → (m && not t) ≡ false
-    none true true e = refl
-    none false true e = refl
-    none m false e = absurd (false≢true e)
-
 -- one fewer without a member
 pub fewer : (x : ℕ) (ids : List ℕ) → EachPair (λ a b. a ≡ b → ⊥) ids → is_member x ids ≡ true → length (without x ids) + 1 ≡ length ids
 fewer x [] apart there = absurd (false≢true there)
@@ -40,7 +22,7 @@ fewer x (y ∷ ids) apart there = turn (y == x) refl (fewer x ids apart.1)
     turn : (t : Bool) → (y == x) ≡ t → (is_member x ids ≡ true → length (without x ids) + 1 ≡ length ids) → length (cond {A = List ℕ} (not t) (y ∷ without x ids) (without x ids)) + 1 ≡ length (y ∷ ids)
     turn true e rest =
         let none : is_member x ids ≡ false = subst (λ q. is_member q ids ≡ false) (eqb-true y x e) (no_member y ids apart.0) in
-        let same = ap (length {A = ℕ}) (without-absent x ids none) in omega arith
+        let same = ap (length {A = ℕ}) (without_absent x ids none) in omega arith
     turn false e rest = let less = rest (sym (ap (λ t. t || is_member x ids) e) ∙ there) in omega arith
 
 pub member_below : (x n : ℕ) (ids : List ℕ) → Each (λ q. q < n) ids → is_member x ids ≡ true → x < n

@@ -1,8 +1,8 @@
 -- What the methods answer and leave, from the ring that is kept.
 use Rattle.w16_lru.proofs.Common.{swap, slice_index, Vec, ◌≡◌, ◌≢◌, ℕ, suc, ◌+◌, ◌-◌, ◌<◌, ◌≤◌, Bool, true, false, ◌⊎◌, inl, inr, drop, get_or, List, [], ◌∷◌, ◌++◌, length, slice_get, Some, None, length-append, refl, sym, ap, ◌∙◌, subst}
-use Rattle.w16_lru.proofs.Common.{arith, with_items, get_or_read, with_items_is, length-swap, slice_get_past, is_member, without, EachPair-from_AllPairs, Each-from_All, End, Oldest, Newest, Uses, AreUses, at_end, ids_of, Leads, IsRing, uses_of}
+use Rattle.w16_lru.proofs.Common.{arith, with_items, get_or_read, with_items_is, length-swap, slice_get_past, is_member, without, without_absent, EachPair-from_AllPairs, Each-from_All, End, Oldest, Newest, Uses, AreUses, at_end, ids_of, Leads, IsRing, uses_of}
 use Rattle.std.specs.List.{AllByRecursion as Each}
-use Rattle.w16_lru.proofs.Members.{without-absent, fewer, member_below, few}
+use Rattle.w16_lru.proofs.Members.{fewer, member_below, few}
 use Rattle.w16_lru.proofs.Ways.{follow-leads, length-follow, follow-next, leads-behind, leads-some, leads-no, leads-none, leads-stuck, each_at, each-drop, slice_get-behind}
 use Rattle.w16_lru.proofs.Rings.{ring-out, ring-oldest, ring-newest}
 use Rattle.std.proofs.Common.{length-set, set}
@@ -137,10 +137,10 @@ module _ (cap members : ℕ) (after before : List ℕ) (now : Uses) (ring : IsRi
       turn false e = refl
 
   pub as_many : (id : ℕ) → is_member id now.ids ≡ false → members ≡ length (without id now.ids)
-  as_many id none = sym (ap length (without-absent id now.ids none) ∙ count)
+  as_many id none = sym (ap length (without_absent id now.ids none) ∙ count)
 
   pub same_without : (id : ℕ) → is_member id now.ids ≡ false → now ≡ with_ids now (without id now.ids)
-  same_without id none = ap (with_ids now) (sym (without-absent id now.ids none))
+  same_without id none = ap (with_ids now) (sym (without_absent id now.ids none))
 
   ring_now : IsRing cap after before now.ids
   ring_now = subst (IsRing cap after before) ids_are ring

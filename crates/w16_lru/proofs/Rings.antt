@@ -1,9 +1,8 @@
 -- Rings of ids in which the links of two numbers are exchanged.
 use Rattle.w16_lru.proofs.Common.{swap, range_with_len, slice_index, ◌≡◌, ◌≢◌, ℕ, ◌+◌, ◌<◌, ◌⊎◌, Bool, true, false, cond, not, ◌&&◌, ◌||◌, ◌==◌, List, [], ◌∷◌, ◌++◌, AllPairs, refl, sym, ap, ◌∙◌}
 use Rattle.w16_lru.proofs.Common.{subst, arith, inl, inr, eq-eqb, true≢false, ne_eqb, cases_eq, Swapped, swapped_from_swap, length-swap, All-append, All-cons, All-nil, All-filter, length-range_with_len}
-use Rattle.w16_lru.proofs.Common.{get_or-range_with_len, AllPairs-filter, is_member, without, Each-from_All, member_without, newest_differ, oldest_differ, AreUses, Leads, LeadBack, IsRing}
+use Rattle.w16_lru.proofs.Common.{get_or-range_with_len, AllPairs-filter, is_member, without, without_absent, Each-from_All, member_without, newest_differ, oldest_differ, AreUses, Leads, LeadBack, IsRing}
 use Rattle.std.specs.List.{AllByRecursion as Each}
-use Rattle.w16_lru.proofs.Members.{without-absent}
 use Rattle.w16_lru.proofs.Ways.{each_other, leads-same, leads-longer, leads-shorter, longer, shorter}
 
 -- two ways of linking that lead back, once where two numbers lead is exchanged
@@ -122,7 +121,7 @@ module _ (cap : ℕ) (after before ids : List ℕ) (ring : IsRing cap after befo
     alone_x = ring.alone x x_in none
 
     taken : without x ids ≡ ids
-    taken = without-absent x ids none
+    taken = without_absent x ids none
 
     -- what is alone, and isn't the front, stays so
     stay : (p ≡ cap) ⊎ (slice_index after p ≡ cap) → (q : ℕ) → q < cap → q ≢ x → slice_index after q ≡ q → slice_index forward q ≡ q

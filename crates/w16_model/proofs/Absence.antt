@@ -6,7 +6,8 @@ use Rattle.w16_model.specs.declared.Refusal.TheVariants as refusals
 use Rattle.w16_model.proofs.Gaps.{pairs_filter, AllPairs-from_EachPair, EachPair-from_AllPairs}
 use Rattle.w16_model.proofs.Heaps.{IsBlockOf, block_of_absent, get-update_same, get-update_other}
 use Rattle.w16_model.proofs.KeptHeaps.{Stands, same_placed, same_grained, taken_here, taken_other, bytes_in, AreBytes}
-use Rattle.w16_model.proofs.KindChanges.{out_of, other_of}
+use Rattle.w16_model.proofs.KindChanges.{other_of}
+use Rattle.w16_model.proofs.Orders.{member_gone}
 
 -- An object that is there and isn't locked becomes absent.
 module _ (old : Heap) (is : IsHeap old) (id : ℕ) (o : Object) (there : object_at old id ≡ Some o) (unlocked : o.locks ≡ 0) where
@@ -45,7 +46,7 @@ module _ (old : Heap) (is : IsHeap old) (id : ℕ) (o : Object) (there : object_
       | inr d ↦ subst (λ p. AreBytes (bytes_in p)) (sym (kept q d)) (is.are_bytes q)
     ];
     in_order = λ q. elim (cases_eq q id) [
-      | inl e ↦ ap (λ k. is_member k (without id old.order)) e ∙ out_of id old.order ∙ sym (no_bytes (is_discardable o.kind)) ∙ ap is_in_order (sym (gone q e))
+      | inl e ↦ ap (λ k. is_member k (without id old.order)) e ∙ member_gone id old.order ∙ sym (no_bytes (is_discardable o.kind)) ∙ ap is_in_order (sym (gone q e))
       | inr d ↦ other_of q id old.order d ∙ is.in_order q ∙ ap is_in_order (sym (kept q d))
     ];
     no_repeats = AllPairs-from_EachPair (λ a b. a ≡ b → ⊥) (without id old.order) (pairs_filter (λ a b. a ≡ b → ⊥) (λ q. not (q == id)) old.order (EachPair-from_AllPairs (λ a b. a ≡ b → ⊥) old.order is.no_repeats));

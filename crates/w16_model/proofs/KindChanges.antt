@@ -1,12 +1,11 @@
 -- A change of kind: what it leaves, and that it leaves a heap.
-use Rattle.w16_model.proofs.Common.{◌≡◌, ◌≢◌, ℕ, inl, inr, Bool, true, false, cond, not, ◌&&◌, ◌||◌, ◌==◌, IfOk, IfSome, List, [], ◌∷◌, ◌++◌, AllPairs, Option, Some, None, Result, Ok, Err}
+use Rattle.w16_model.proofs.Common.{[], ◌≡◌, ◌≢◌, ℕ, inl, inr, Bool, true, false, cond, not, ◌&&◌, ◌||◌, ◌==◌, IfOk, IfSome, List, ◌∷◌, ◌++◌, AllPairs, Option, Some, None, Result, Ok, Err}
 use Rattle.w16_model.proofs.Common.{is_some, refl, sym, ap, ◌∙◌, subst, eq-eqb, ne_eqb, false≢true, cases_eq, filter-append, Kind, Fixed, Moveable, Discardable, Refusal, is_member, Heap, Object}
 use Rattle.w16_model.proofs.Common.{IsHeap, IsCounted, object_at, is_in_order, is_fixed, is_discardable, without, newest, with_newest, with_ordered, after_modify, ChangesKind, KindLaw, KindHeapLaw}
 use Rattle.std.specs.FinMap as finmap
 use Rattle.w16_model.specs.declared.Refusal.TheVariants as refusals
 use Rattle.w16_model.proofs.Gaps.{Member, pairs_filter, AllPairs-from_EachPair, EachPair-from_AllPairs}
-use Rattle.w16_model.proofs.Discards.{true-is_member}
-use Rattle.w16_model.proofs.Orders.{member_without, member_newest, newest_differ}
+use Rattle.w16_model.proofs.Orders.{member_gone, member_without, without_absent, member_newest, newest_differ}
 use Rattle.w16_model.proofs.KeptHeaps.{inserted_here, inserted_other, bytes_in, AreBytes}
 use Rattle.w16_model.proofs.Replaced.{replaced_heap, lies_there}
 
@@ -18,21 +17,9 @@ without_none id [] out = refl
 without_none id (q ∷ ids) out =
     (λ i. cond {A = List ℕ} (not (ne_eqb q id (λ e. out (inl (sym e))) i)) (q ∷ without id ids) (without id ids)) ∙ ap (λ (l : List ℕ). q ∷ l) (without_none id ids (λ m. out (inr m)))
 
--- by the test
-pub without_out : (id : ℕ) (ids : List ℕ) → is_member id ids ≡ false → without id ids ≡ ids
-without_out id ids f = without_none id ids (λ m. false≢true (sym f ∙ true-is_member id ids m))
-
--- the id isn't in it
-pub out_of : (id : ℕ) (ids : List ℕ) → is_member id (without id ids) ≡ false
-out_of id ids = member_without id id ids ∙ ap (λ b. is_member id ids && not b) (eq-eqb id id refl) ∙ none (is_member id ids)
-  where
-    none : (b : Bool) → (b && false) ≡ false
-    none true = refl
-    none false = refl
-
 -- nor twice
 pub twice_out : (id : ℕ) (ids : List ℕ) → without id (without id ids) ≡ without id ids
-twice_out id ids = without_out id (without id ids) (out_of id ids)
+twice_out id ids = without_absent id (without id ids) (member_gone id ids)
 
 -- and others are in it as before
 pub other_of : (q id : ℕ) (ids : List ℕ) → q ≢ id → is_member q (without id ids) ≡ is_member q ids
@@ -50,7 +37,7 @@ module _ (id : ℕ) (order : List ℕ) where
   -- it is the same where the object is as it was
   kept_order : (was has : Bool) → is_member id order ≡ (was && has) → ordered was was has ≡ order
   kept_order true has t = refl
-  kept_order false has t = without_out id order t
+  kept_order false has t = without_absent id order t
 
   -- the others stand as before
   pub rest_order : (was now has : Bool) → without id (ordered was now has) ≡ without id order
@@ -71,14 +58,14 @@ module _ (id : ℕ) (order : List ℕ) where
   -- it is in the order where it belongs there
   member_here : (was now has : Bool) → is_member id order ≡ (was && has) → is_member id (ordered was now has) ≡ (now && has)
   member_here true true has t = t
-  member_here true false has t = out_of id order
+  member_here true false has t = member_gone id order
   member_here false true true t = member_newest id id order ∙ ap (λ b. (is_member id order && not (id == id)) || b) (eq-eqb id id refl) ∙ some (is_member id order && not (id == id))
     where
       some : (b : Bool) → (b || true) ≡ true
       some true = refl
       some false = refl
-  member_here false true false t = out_of id order
-  member_here false false has t = out_of id order
+  member_here false true false t = member_gone id order
+  member_here false false has t = member_gone id order
 
   -- and the others where they were
   member_other : (q : ℕ) → q ≢ id → (was now has : Bool) → is_member q (ordered was now has) ≡ is_member q order

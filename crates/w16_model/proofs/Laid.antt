@@ -5,7 +5,7 @@ use Rattle.w16_model.proofs.Common.{le-leb, cond-true, cond-false, lt-leb, Span,
 use Rattle.w16_model.proofs.Gaps.{Each-map, EachPair, All-from_Each, AllPairs-from_EachPair}
 
 -- all blocks of a laid list begin at or after its low end, and the low end is at most the high one
-laid_le : (lo hi : ℕ) (xs : List Block) → IsLaid lo hi xs → lo ≤ hi
+pub laid_le : (lo hi : ℕ) (xs : List Block) → IsLaid lo hi xs → lo ≤ hi
 laid_le lo hi [] h = h
 laid_le lo hi (x ∷ xs) h = omega (arith, h, laid_le (block_end x) hi xs h.2)
 

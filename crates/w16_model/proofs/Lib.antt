@@ -20,6 +20,7 @@ pub mod Sound
 pub mod Ranges
 pub mod Naming
 pub mod KeptHeaps
+pub mod Maps
 pub mod Runs
 pub mod Accesses
 pub mod CallOutcomes

@@ -1,5 +1,5 @@
 -- The order of use with an object taken out and put at its end.
-use Rattle.w16_model.proofs.Common.{◌≡◌, ℕ, Bool, true, false, cond, not, ◌&&◌, ◌||◌, ◌==◌, List, [], ◌∷◌, ◌++◌, refl, sym, ap, ◌∙◌, AllPairs, inl, inr, eqb-true, eq-eqb, ne_eqb, false≢true, cases_eq, not-true, all_pairs_push, is_member, without}
+use Rattle.w16_model.proofs.Common.{◌≡◌, ℕ, Bool, true, false, cond, not, ◌&&◌, ◌||◌, ◌==◌, List, [], ◌∷◌, ◌++◌, refl, sym, ap, ◌∙◌, AllPairs, inl, inr, eqb-true, eq-eqb, ne_eqb, false≢true, cases_eq, not-true, or_parts, all_pairs_push, is_member, without}
 use Rattle.w16_model.proofs.Gaps.{Each-from, All-from_Each, EachPair-from_AllPairs, AllPairs-from_EachPair, member_filter, pairs_filter}
 
 member_end : (q id : ℕ) (ids : List ℕ) → is_member q (ids ++ id ∷ []) ≡ (is_member q ids || (id == q))
@@ -35,6 +35,19 @@ member_without q id (x ∷ ids) =
     member_choice q x (without id ids) (not (x == id))
     ∙ truth (x == id) (x == q) (is_member q (without id ids)) (is_member q ids) (q == id) (member_without q id ids)
     (λ e f. eq-eqb q id (sym (eqb-true x q f) ∙ eqb-true x id e)) (λ e f. eq-eqb x id (eqb-true x q e ∙ eqb-true q id f))
+
+-- an id that isn't in the order need not be taken out
+pub without_absent : (id : ℕ) (ids : List ℕ) → is_member id ids ≡ false → without id ids ≡ ids
+without_absent id [] out = refl
+without_absent id (x ∷ xs) out = let parts : ((x == id) ≡ false) × (is_member id xs ≡ false) = or_parts (x == id) (is_member id xs) out in rw parts.0 (ap (λ ys. x ∷ ys) (without_absent id xs parts.1))
+
+-- what is taken out isn't in it
+pub member_gone : (id : ℕ) (ids : List ℕ) → is_member id (without id ids) ≡ false
+member_gone id ids = member_without id id ids ∙ ap (λ b. is_member id ids && not b) (eq-eqb id id refl) ∙ none (is_member id ids)
+  where
+    none : (b : Bool) → (b && false) ≡ false
+    none true = refl
+    none false = refl
 
 -- at the end of the order, and only there
 pub member_newest : (q id : ℕ) (ids : List ℕ) → is_member q (without id ids ++ id ∷ []) ≡ ((is_member q ids && not (q == id)) || (id == q))

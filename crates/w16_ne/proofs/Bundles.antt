@@ -59,13 +59,6 @@ is_done table segments front count i at total lt end so_far =
     let one : with_front front (bundles_from table segments (count - i) at (length front)) ≡ Ok front = rw (k, end) (ap (λ ys. Ok ys) (append-nil front)) in
     sym so_far ∙ one
 
-pub is_over : (table : List ℕ) (segments : ℕ) (front : List (Option Entry)) (count i at : ℕ) (total : Reading (List (Option Entry))) → count ≤ i
-    → with_front front (bundles_from table segments (count - i) at (length front)) ≡ total → total ≡ Ok front
-is_over table segments front count i at total le so_far =
-    let k : count - i ≡ 0 = omega arith in
-    let one : with_front front (bundles_from table segments (count - i) at (length front)) ≡ Ok front = rw k (ap (λ ys. Ok ys) (append-nil front)) in
-    sym so_far ∙ one
-
 pub bundle-length : (table : List ℕ) (segments indicator count at : ℕ) (xs : List (Option Entry)) → bundle_in table segments indicator count at ≡ Ok xs → length xs ≡ count
 unfolding bundle_in
 bundle-length table segments indicator count at xs h = each-length _ count 0 xs h

@@ -30,10 +30,3 @@ is_done table front count i at total lt end so_far =
     let k : count - i ≡ suc (count - (i + 1)) = omega arith in
     let one : with_front front (names_in table (count - i) at) ≡ Ok front = rw (k, end) (ap (λ ys. Ok ys) (append-nil front)) in
     sym so_far ∙ one
-
-pub is_over : (table : List ℕ) (front : List Entry) (count i at : ℕ) (total : Reading (List Entry)) → count ≤ i
-    → with_front front (names_in table (count - i) at) ≡ total → total ≡ Ok front
-is_over table front count i at total le so_far =
-    let k : count - i ≡ 0 = omega arith in
-    let one : with_front front (names_in table (count - i) at) ≡ Ok front = rw k (ap (λ ys. Ok ys) (append-nil front)) in
-    sym so_far ∙ one

@@ -54,13 +54,6 @@ is_done file front count i at total lt h so_far =
     let one : with_front front (names_from file (count - i) at) ≡ Ok front = rw (k, h) (ap (λ ys. Ok ys) (append-nil front)) in
     sym so_far ∙ one
 
-pub is_over : (file : Option (List ℕ)) (front : List Entry) (count i at : ℕ) (total : Reading (List Entry)) → count ≤ i
-    → with_front front (names_from file (count - i) at) ≡ total → total ≡ Err faults.Truncated
-is_over file front count i at total le so_far =
-    let k : count - i ≡ 0 = omega arith in
-    let one : with_front front (names_from file (count - i) at) ≡ Err faults.Truncated = rw k refl in
-    sym so_far ∙ one
-
 -- a fault ends the reading, now or later
 
 pub err_now : (file : Option (List ℕ)) (count i at : ℕ) (e : NeFault) → i < count → name_at file at ≡ Err e → names_from file (count - i) at ≡ Err e

@@ -7,9 +7,6 @@ use Rattle.w16_resource.proofs.Taken.{slot_gone}
 
 module _ (old : LoadingWorld) (handle : ℕ) where
   module _ (x : ℕ × loading.Load) (e : slot_of_resource old handle ≡ Some x) where
-    pub one_fewer : 1 < x.1.loads → (0, record old { loads = finmap.insert old.loads x.0 (record x.1 { loads = x.1.loads - 1 }) }) ≡ free_resource old handle
-    one_fewer lt = sym (ap (freed_by old) e ∙ ap (λ b. cond {A = ℕ × LoadingWorld} b (0, with_count old x.0 x.1 (x.1.loads - 1)) (cond {A = ℕ × LoadingWorld} (nat_lt 0 (locks_at old.handles.heap x.0)) (1, old) (0, without_load old x.0))) (lt-ltb 1 x.1.loads lt))
-
     module _ (le : x.1.loads ≤ 1) where
       last : free_resource old handle ≡ cond {A = ℕ × LoadingWorld} (nat_lt 0 (locks_at old.handles.heap x.0)) (1, old) (0, without_load old x.0)
       last = ap (freed_by old) e ∙ ap (λ b. cond {A = ℕ × LoadingWorld} b (0, with_count old x.0 x.1 (x.1.loads - 1)) (cond {A = ℕ × LoadingWorld} (nat_lt 0 (locks_at old.handles.heap x.0)) (1, old) (0, without_load old x.0))) (le-ltb 1 x.1.loads le)

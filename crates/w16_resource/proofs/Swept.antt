@@ -86,12 +86,7 @@ all_swept world out = λ i. record (none_gone (is_left_over world) world out i) 
 
 -- One slot.
 module _ (world : LoadingWorld) (slot : ℕ) where
-  pub no_load : finmap.get world.loads slot ≡ None → world ≡ without_orphan world slot
-  no_load none = sym (ap (λ p. cond (by_load world.modules p) (without_load world slot) world) none)
-
-  pub its_module : (load : loading.Load) → finmap.get world.loads slot ≡ Some load → is_some (module_at world.modules load.handle) ≡ true → world ≡ without_orphan world slot
-  its_module load there some = sym (ap (λ p. cond (by_load world.modules p) (without_load world slot) world) there ∙ ap (λ b. cond (not b) (without_load world slot) world) some)
-
+  -- its resource goes where its module isn't there
   pub no_module : (load : loading.Load) → finmap.get world.loads slot ≡ Some load → is_some (module_at world.modules load.handle) ≡ false
       → record (with_handles world (without_slot world.handles slot)) { loads = finmap.remove world.loads slot } ≡ without_orphan world slot
   no_module load there none = ap (λ (w : LoadingWorld). record w { loads = finmap.remove world.loads slot }) (slot_gone world slot)

@@ -1,5 +1,4 @@
-use Rattle.w16_lru.proofs.Common.{◌≡◌, ◌∙◌, ap, sym, arith, subst, false, ℕ, ◌<◌, get_or, swap, slice_index, with_items, is_member, Uses}
-use Rattle.w16_lru.proofs.Members.{taken_out}
+use Rattle.w16_lru.proofs.Common.{◌≡◌, ◌∙◌, ap, sym, arith, subst, false, ℕ, ◌<◌, get_or, swap, slice_index, with_items, is_member, member_gone, Uses}
 use Rattle.w16_lru.proofs.Outcomes.{IsFront, fits, joined_kept, joined_value, put_back, exchanged_after, exchanged_before}
 use Rattle.w16_lru.proofs.Order.to_end.Given as given
 use Rattle.w16_lru.proofs.Order.to_end.Goals as goal
@@ -13,7 +12,7 @@ overflow_add-self g c =
 
 module _ (g : given.Over) (c : goal.After-self-3-1 g) where
   none : is_member c.args.id c.remove.new.self.ids ≡ false
-  none = ap (λ (u : Uses). is_member c.args.id u.ids) c.remove.ensures.value ∙ taken_out c.args.id c.args.self.now.ids
+  none = ap (λ (u : Uses). is_member c.args.id u.ids) c.remove.ensures.value ∙ member_gone c.args.id c.args.self.now.ids
 
   small : c.args.id < c.self.inside.cap
   small = let lt = c.requires in let e = ap (λ (u : Uses). u.cap) (c.self.view_is ∙ c.remove.ensures.value) in omega arith
