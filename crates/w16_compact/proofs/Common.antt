@@ -8,7 +8,7 @@ pub use Rattle.std.proofs.lemmas.Option.{get_or_from_slice_get, slice_get_within
 pub use Rattle.std.specs.Borrow.{GName}
 pub use Rattle.std.specs.Ordering.{ord_max}
 pub use Rattle.w16_blocks.proofs.Common.{All-from_Each, AllByRecursion, AreHoles, AreNamed, AreSameBut, Each-at, Each-both, Each-from_All, Each-map, IsApart, IsBare, IsCut, IsGrained, IsIn, IsOrdered}
-pub use Rattle.w16_blocks.proofs.Common.{IsRun, IsSome, IsUsed, Layout, Member, all_but, counted, drop-put_part, eqb, eqb_tells, from_address, get_or-set_other, get_or-set_same, holes_of, laid_each}
+pub use Rattle.w16_blocks.proofs.Common.{IsRun, IsSome, IsUsed, Layout, Member, all_but, counted, drop-put_part, eqb, eqb_tells, from_address, get_or-set_other, get_or-set_same, holes_of, laid_each, laid_le}
 pub use Rattle.w16_blocks.proofs.Common.{laid_placed, le-ltb, length-map, length-put_part, list_any, lt-ltb, multiple_less, multiple_sum, placed, rank, replaced, slice_index, slid_with, take-put_part}
 pub use Rattle.w16_blocks.proofs.Common.{◌^◌}
 pub use Rattle.w16_blocks.proofs.Free.{AreHoles-holes, Lacks, free_lacks, lacks_free, later}

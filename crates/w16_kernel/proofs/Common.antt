@@ -76,4 +76,5 @@ pub use Rattle.w16_model.specs.declared.Attributes.{Attributes}
 pub use Rattle.w16_model.proofs.Bystanders.{bystanders_law}
 pub use Rattle.w16_model.proofs.CallOrders.{allocated, compacted, stays}
 pub use Rattle.w16_model.proofs.Prefixes.{filter_swapped}
-pub use Rattle.w16_model.proofs.KindChanges.{other_of, twice_out, without_out}
+pub use Rattle.w16_model.proofs.KindChanges.{other_of, twice_out}
+pub use Rattle.w16_model.proofs.Orders.{without_absent}

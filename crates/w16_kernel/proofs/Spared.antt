@@ -4,7 +4,7 @@ use Rattle.w16_kernel.proofs.Common.{ap, ◌∙◌, subst, arith, false≢true, 
 use Rattle.w16_kernel.proofs.Common.{Heap, Object, Table, object_at, bytes_at, bytes_in, is_discardable, is_in_order, is_member, without, Handles, AreHandles, numbered, handle_of, slot_of_handle, kind_asked, alloc_options, realloc_options}
 use Rattle.w16_kernel.proofs.Common.{rounded_size, CallStep, Outcome, IsUnmoved, IsLocked, IsUnlocked, IsFreed, IsNewest, IsOldest, IsEntered, IsAllocated, IsCompacted, IsModified, IsDiscarded, IsResized, IsKeptOrDiscarded, OnlyLeave, handle_in}
 use Rattle.w16_kernel.proofs.Common.{may_change, names_law, taken_here, taken_other, outcome, answer_in, GlobalFree, GlobalCompact, GlobalReAlloc, GlobalDiscard, Calls, ReAllocs, GMEM_MOVEABLE, Reply, Word, Dword, World, Command, OfLoading}
-use Rattle.w16_kernel.proofs.Common.{OfHandles, OfResizes, IsWorldOver, Unswept, object_slot, word_of, discardable_beside, bystanders_law, allocated, compacted, stays, filter_swapped, other_of, twice_out, without_out, IsLocalIn, has_range, left_in}
+use Rattle.w16_kernel.proofs.Common.{OfHandles, OfResizes, IsWorldOver, Unswept, object_slot, word_of, discardable_beside, bystanders_law, allocated, compacted, stays, filter_swapped, other_of, twice_out, without_absent, IsLocalIn, has_range, left_in}
 use Rattle.w16_kernel.proofs.Common.{OthersStay}
 use Rattle.std.specs.FinMap as finmap
 use Rattle.std.specs.Prelude.{◌||◌}
@@ -130,7 +130,7 @@ module _ (old new : Handles) (is : AreHandles old) (are : AreHandles new) (call 
 
 -- an order that lacks an id is no longer without another
 pub shorter : (id slot : ℕ) (l : List ℕ) → is_member id l ≡ false → length (without slot l) ≤ length (without id l)
-shorter id slot l none = let same = ap (length {A = ℕ}) (without_out id l none) in let few = length-filter (λ q. not (q == slot)) l in let fewer = count_by-le-length (λ q. not (q == slot)) l in omega (arith, same, few, fewer)
+shorter id slot l none = let same = ap (length {A = ℕ}) (without_absent id l none) in let few = length-filter (λ q. not (q == slot)) l in let fewer = count_by-le-length (λ q. not (q == slot)) l in omega (arith, same, few, fewer)
 
 -- Where all other heaps have their ranges, a sweep of one slot is one of all.
 module _ (heap : Heap) (tables : FinMap nat_cmp Table) (slot : ℕ) (others : (q : ℕ) → q ≢ slot → IfSome (finmap.get tables q) (λ _. has_range heap tables q ≡ true)) where

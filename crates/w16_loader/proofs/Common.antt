@@ -86,7 +86,7 @@ pub use Rattle.w16_loading.specs.declared.TheConstants.{FIRST_MODULE, LARGEST_OW
 pub use Rattle.w16_model.proofs.Common.{by_id}
 pub use Rattle.w16_model.proofs.Gaps.{Each-map}
 pub use Rattle.w16_model.proofs.KeptRest.{at_once}
-pub use Rattle.w16_model.proofs.KindChanges.{without_out}
+pub use Rattle.w16_model.proofs.Orders.{without_absent}
 pub use Rattle.w16_model.proofs.Prefixes.{filter_same}
 pub use Rattle.w16_model.proofs.Runs.{IsIn, no_owner, none_owns, slots_beside, slots_with, unowned_beside, unused_slot}
 pub use Rattle.w16_model.specs.Handles.{owner_of}

@@ -1,7 +1,7 @@
 -- Modules go with the objects of their segments.
 use Rattle.w16_loader.proofs.Common.{◌≡◌, ℕ, suc, ◌+◌, ◌*◌, ◌-◌, ◌/◌, ◌<◌, inl, inr, Bool, true, false, cond, not, ◌||◌, ◌==◌, if◌then◌else◌, List, [], ◌∷◌, length, get_or, drop, Option, Some, None, IfSome, option_map, unwrap_or}
 use Rattle.w16_loader.proofs.Common.{is_some, refl, sym, ap, ◌∙◌, subst, add-one, arith, eq-eqb, ne_eqb, nat_cmp, nat_cmp_total, from_bool, FinMap, len-entries, len-remove, drop-cons, false≢true, cases_eq, Kind, Fixed, Moveable}
-use Rattle.w16_loader.proofs.Common.{Discardable, is_member, Object, object_at, is_in_order, Handles, AreHandles, handle_of, slot_of_handle, without_slot, Member, taken_here, taken_other, at_once, without_out, LoadingWorld, Module}
+use Rattle.w16_loader.proofs.Common.{Discardable, is_member, Object, object_at, is_in_order, Handles, AreHandles, handle_of, slot_of_handle, without_slot, Member, taken_here, taken_other, at_once, without_absent, LoadingWorld, Module}
 use Rattle.w16_loader.proofs.Common.{Modules, Named, is_idle, module_at, module_in, with_handles, without_objects, EndsUse, Go, used_less, without_module, same_values, none_gone, world_without, there_entry, retained, in_world}
 use Rattle.std.specs.FinMap as finmap
 
@@ -37,7 +37,7 @@ nothing_goes h is slot none = λ i. record h {
   heap = record h.heap {
     objects = removed_none h.heap.objects slot none i;
     places = removed_none h.heap.places slot (none_of (finmap.get h.heap.places slot) (is.heap.at_bytes slot ∙ ap (λ p. is_some (elim p [ Some o ↦ o.bytes | None ↦ None ])) none)) i;
-    order = without_out slot h.heap.order (is.heap.in_order slot ∙ ap is_in_order none) i;
+    order = without_absent slot h.heap.order (is.heap.in_order slot ∙ ap is_in_order none) i;
   };
   attributes = removed_none h.attributes slot (none_of (finmap.get h.attributes slot) (is.attributed slot ∙ ap is_some none)) i;
 }

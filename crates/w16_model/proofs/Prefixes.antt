@@ -18,6 +18,18 @@ module _ {X : Type 0} where
       let rest : filter p xs ≡ filter q xs = filter_same p q xs (λ y m. h y (inr m)) in
       λ i. cond {A = List X} (h x (inl refl) i) (x ∷ rest i) (rest i)
 
+  -- the order of two filters doesn't matter
+  pub filter_swapped : (p q : X → Bool) (xs : List X) → filter p (filter q xs) ≡ filter q (filter p xs)
+  filter_swapped p q [] = refl
+  filter_swapped p q (x ∷ xs) = turn (p x) (q x) refl refl (filter_swapped p q xs)
+    where
+      turn : (b c : Bool) → p x ≡ b → q x ≡ c → filter p (filter q xs) ≡ filter q (filter p xs)
+          → filter p (cond {A = List X} c (x ∷ filter q xs) (filter q xs)) ≡ filter q (cond {A = List X} b (x ∷ filter p xs) (filter p xs))
+      turn true true e f rest = (λ i. cond {A = List X} (e i) (x ∷ filter p (filter q xs)) (filter p (filter q xs))) ∙ ap (λ (ys : List X). x ∷ ys) rest ∙ (λ i. cond {A = List X} (sym f i) (x ∷ filter q (filter p xs)) (filter q (filter p xs)))
+      turn true false e f rest = rest ∙ (λ i. cond {A = List X} (sym f i) (x ∷ filter q (filter p xs)) (filter q (filter p xs)))
+      turn false true e f rest = (λ i. cond {A = List X} (e i) (x ∷ filter p (filter q xs)) (filter p (filter q xs))) ∙ rest
+      turn false false e f rest = rest
+
   -- a filter keeps the same members of a list in another order
   module _ (p : X → Bool) where
     abbrev Kept : List X → List X → Type 0

@@ -18,7 +18,7 @@ pub use Rattle.w16_loader.proofs.Common.{LARGEST_OWNED, Less, List, LoadingWorld
 pub use Rattle.w16_loader.proofs.Common.{entries-insert, eq-eqb, err_from_is_err_and, false, false≢true, filter, find, get-by_id, get_or, get_or-set_other, get_or-set_same, get_or_default, get_or_past, given, inl, inr, inserted_here, inserted_other}
 pub use Rattle.w16_loader.proofs.Common.{is_in_order, is_of_device, is_some, le-ltb, left, len-empty, len-entries, length, length-drop, length-map, length-take, lt-ltb, ltb-false, map, module_at, named, nat_cmp, nat_cmp_is, nat_cmp_total, nat_lt}
 pub use Rattle.w16_loader.proofs.Common.{ne_eqb, none_gone, not, numbered, object_at, option_map, owned_at, position, prefix_len, put, refl, refused, retained, rounded_size, rules, said, same_values, set, slice_get, slice_get-map, slice_index_or}
-pub use Rattle.w16_loader.proofs.Common.{subst, suc, sym, tables_in, take, taken_here, taken_other, true, unwrap_or, with_object, without_objects, without_out, without_slot, zero, ℕ, ◌%◌, ◌&&◌, ◌+◌, ◌-◌, ◌/◌, ◌<◌, ◌==◌, ◌||◌, ◌∙◌, ◌∷◌, ◌≡◌, ◌≤◌}
+pub use Rattle.w16_loader.proofs.Common.{subst, suc, sym, tables_in, take, taken_here, taken_other, true, unwrap_or, with_object, without_objects, without_absent, without_slot, zero, ℕ, ◌%◌, ◌&&◌, ◌+◌, ◌-◌, ◌/◌, ◌<◌, ◌==◌, ◌||◌, ◌∙◌, ◌∷◌, ◌≡◌, ◌≤◌}
 pub use Rattle.w16_loader.proofs.Common.{◌⊎◌}
 unfoldable pub use Rattle.w16_loader.proofs.Common.{file_of}
 pub use Rattle.w16_loader.proofs.Fetches.{fewest_so, refused_any, unread_any}

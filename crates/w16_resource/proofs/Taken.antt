@@ -1,7 +1,7 @@
 -- A new object for a resource, and an object that goes.
 use Rattle.w16_resource.proofs.Common.{AreHandles, Discardable, FinMap, Fixed, Handles, IsSomeAnd, Kind, LacksBytes, List, LoadingWorld, Moveable, None, Object, Option, Owned, Resource, Some, TakesOwned, ap, arith, attributes_for, bytes_at}
 use Rattle.w16_resource.proofs.Common.{cases_eq, eq-eqb, false, false≢true, handle_of, inl, inr, inserted_here, inserted_other, is_in_order, is_owned, is_some, names_law, nat_cmp, ne_eqb, not, object_at, owned_at, owned_in, refl}
-use Rattle.w16_resource.proofs.Common.{rounded_size, same_values, subst, sym, taken_here, taken_other, value_gone, value_left, with_handles, with_new, with_object, without, without_objects, without_out, without_slot, ℕ, ◌/◌, ◌==◌, ◌∙◌}
+use Rattle.w16_resource.proofs.Common.{rounded_size, same_values, subst, sym, taken_here, taken_other, value_gone, value_left, with_handles, with_new, with_object, without, without_objects, without_absent, without_slot, ℕ, ◌/◌, ◌==◌, ◌∙◌}
 use Rattle.w16_resource.proofs.Common.{◌≡◌}
 use Rattle.std.specs.FinMap as finmap
 
@@ -63,7 +63,7 @@ module _ (old : Handles) (slot : ℕ) (r : Resource) where
     heap = record old.heap {
       objects = back old.heap.objects entered none i;
       places = unset old.heap.places (none_of (finmap.get old.heap.places slot) (is.heap.at_bytes slot ∙ ap (λ p. is_some (elim p as (λ _. Option (List ℕ)) [ Some o ↦ o.bytes | None ↦ None ])) none)) i;
-      order = without_out slot old.heap.order (is.heap.in_order slot ∙ ap is_in_order none) i;
+      order = without_absent slot old.heap.order (is.heap.in_order slot ∙ ap is_in_order none) i;
     };
     attributes = back old.attributes (attributes_for r) (none_of (finmap.get old.attributes slot) (is.attributed slot ∙ ap is_some none)) i;
   }
