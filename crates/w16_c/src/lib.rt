@@ -6,6 +6,7 @@ mod far;
 mod files;
 mod global;
 mod held;
+pub mod laws;
 mod life;
 mod local;
 mod modules;

@@ -5,6 +5,7 @@ mod call;
 mod far;
 mod growing;
 mod kernel;
+pub mod laws;
 mod library;
 mod load;
 mod machine;

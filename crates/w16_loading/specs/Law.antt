@@ -15,7 +15,7 @@ use Rattle.w16_model.specs.Calls.{HandleCommand, rounded_size}
 use Rattle.w16_model.specs.Far.{after_write}
 use Rattle.w16_model.specs.declared.Kind.{Kind}
 use Rattle.w16_model.specs.Law.{KeepsOthers}
-use Rattle.w16_loading.specs.declared.TheConstants.{FIRST_MODULE, MOST_MODULES, MOST_USES}
+use Rattle.w16_loading.specs.declared.TheConstants.{FIRST_MODULE, LARGEST_OWNED, MOST_MODULES, MOST_USES}
 use Rattle.w16_loading.specs.declared.FetchFault.{FetchFault}
 use Rattle.w16_loading.specs.declared.FetchFault.TheVariants as faults
 use Rattle.w16_store.specs.Names.{is_named}
@@ -35,6 +35,13 @@ use Rattle.w16_loading.specs.Free.{Go, Frees, used_less}
 use Rattle.w16_loading.specs.Resource.{is_too_long, resource_at}
 use Rattle.w16_loading.specs.AnyStore.{AnyStep, AnyLoads, reads_files}
 use Rattle.w16_loading.specs.Families.{LoadingCommand, IsLoadingCommand, HandleStep, FarStep, LoadingStep}
+
+-- the figures of the profile, each as it is told to users
+pub record AreFigures : Type 0 where
+  pub first_module : FIRST_MODULE ≡ 33
+  pub most_modules : MOST_MODULES ≡ 200
+  pub most_uses : MOST_USES ≡ 65000
+  pub largest_owned : LARGEST_OWNED ≡ 65536
 
 -- Worlds.
 

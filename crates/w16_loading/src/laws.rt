@@ -4,6 +4,7 @@ ghost use Rattle.w16_loading.specs.Fewest.{FetchFewestLaw, LoadFewestLaw, Reques
 ghost use Rattle.w16_loading.specs.Law.{
   AnyKeepsWorldsLaw,
   AnyRefusedLoadLaw,
+  AreFigures,
   BoundAlikeLaw,
   BoundOnceLaw,
   CallsKeepWorldsLaw,
@@ -33,6 +34,12 @@ ghost use Rattle.w16_loading.specs.Law.{
   ValuesLaw,
 };
 ghost use Rattle.w16_loading.specs.Owner.{OwnerLaw};
+
+/// The figures of the profile are these numbers. Definitions and code share the constants, so only this law would see a
+/// wrong one.
+pub fn figures_of_modules()
+    ensures { AreFigures }
+{}
 
 /// A fetch takes the bytes of what it discards, and keeps all else of the other objects.
 pub fn fetches_keep_others()
@@ -114,7 +121,8 @@ pub fn refused_loads_leave_discards()
     ensures { RefusedLoadLaw }
 {}
 
-/// Code that has bytes has those that its file gives it, relocated, after each step of each family, whatever was moved, discarded or fetched.
+/// Code that has bytes has those that its file gives it, relocated, after each step of each family, whatever was moved,
+/// discarded or fetched.
 pub fn code_reads_as_its_file()
     ensures { CodeLaw }
 {}
@@ -169,7 +177,8 @@ pub fn requests_of_steps_discard_fewest()
     ensures { RequestsFewestLaw }
 {}
 
-/// Whatever the store answers, an object that is there keeps its owner or has none any more: none comes to be a module's, or code.
+/// Whatever the store answers, an object that is there keeps its owner or has none any more: none comes to be a
+/// module's, or code.
 pub fn objects_keep_their_owners()
     ensures { OwnersLaw }
 {}
@@ -199,8 +208,10 @@ pub fn loads_bind_by_names_alone()
     ensures { BoundAlikeLaw }
 {}
 
-/// Whatever the store answers, an object that a step isn't about stays as it is; or it is discardable and not locked, and loses its bytes
-/// alone; or it is gone with its module or resource. A fixed or locked one keeps its address through every step but its own reallocation and
+/// Whatever the store answers, an object that a step isn't about stays as it is; or it is discardable and not locked,
+/// and loses its bytes
+/// alone; or it is gone with its module or resource. A fixed or locked one keeps its address through every step but its
+/// own reallocation and
 /// freeing.
 pub fn steps_keep_bystanders()
     ensures bystanders { StepBystandersLaw }

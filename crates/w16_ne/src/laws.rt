@@ -1,5 +1,18 @@
 //! The laws of the format's definitions. Each function does nothing: its contract is the law.
 ghost use Rattle.w16_ne.specs.Law.{NamesLaw, NamesFormatLaw, SegmentsFormatLaw, EntriesFormatLaw, ModuleFormatLaw, OneModuleLaw, PartsLaw, FrontLaw};
+ghost use Rattle.std.specs.Prelude.{◌≡◌};
+ghost use Rattle.w16_ne.specs.declared.name_piece.TheConstants.{PIECE};
+ghost use Rattle.w16_ne.specs.declared.segment_table.TheConstants.{LARGEST_SEGMENT, SEGMENT_UNIT};
+ghost use Rattle.w16_ne.specs.declared.text_window.TheConstants.{TEXTS};
+
+/// The figures by which files are read are these numbers. Definitions and code share the constants, so only this law
+/// would see a wrong one.
+pub fn figures_of_files()
+    ensures largest { LARGEST_SEGMENT ≡ 65536 }
+    ensures unit { SEGMENT_UNIT ≡ 32 }
+    ensures texts { TEXTS ≡ 65791 }
+    ensures piece { PIECE ≡ 1024 }
+{}
 
 /// A module keeps each name once, upper-cased, and finds the ordinals that the tables give.
 pub fn names_are_found_as_the_tables_have_them()
@@ -36,7 +49,8 @@ pub fn parts_have_the_first_fault()
     ensures { PartsLaw }
 {}
 
-/// A front of an accepted file has the same tables, or ends too early: it is `NotMz`, `NotNe`, `Truncated` or `BadTable`, and nothing else.
+/// A front of an accepted file has the same tables, or ends too early: it is `NotMz`, `NotNe`, `Truncated` or
+/// `BadTable`, and nothing else.
 pub fn fronts_are_accepted_or_too_short()
     ensures { FrontLaw }
 {}
