@@ -15,7 +15,7 @@ use Rattle.w16_model.proofs.KeptHeaps.{bytes_in, inserted_other, taken_other}
 use Rattle.w16_model.proofs.KeptHandles.{put_bytes}
 use Rattle.w16_model.proofs.Housed.{given, keeps, run_is, was_free, housed, housed_first, housed_old, housed_other, housed_range, place_first, place_other, order_there}
 use Rattle.w16_model.proofs.KeptRest.{absents_rest}
-use Rattle.w16_model.proofs.Naming.{names_law}
+use Rattle.w16_model.proofs.Naming.{names_law, slot_in_handle}
 use Rattle.w16_model.proofs.Reallocations.{moves_law}
 use Rattle.w16_model.proofs.Fewest.{some_handle}
 use Rattle.w16_model.proofs.ResizedHandles.{found_some}
@@ -127,17 +127,12 @@ followed old new (ReAllocs handle size flags) (Word answer) is step = elim (real
   ]
 ]
   where
-    slot_named : (k : Kind) (slot : ℕ) → handle_of k slot / 8 ≡ slot
-    slot_named Fixed slot = omega arith
-    slot_named Moveable slot = omega arith
-    slot_named Discardable slot = omega arith
-
     slot_is : (handles : Handles) (handle slot : ℕ) → slot_of_handle handles handle ≡ Some slot → slot ≡ handle / 8
     slot_is handles handle slot found = turn (object_at handles.heap slot) ((names_law handles handle slot).0.0 found)
       where
         turn : (p : Option Object) → IsSomeAnd p (λ o. handle ≡ handle_of o.kind slot) → slot ≡ handle / 8
         turn None h = absurd h
-        turn (Some o) h = sym (ap (λ n. n / 8) h ∙ slot_named o.kind slot)
+        turn (Some o) h = sym (ap (λ n. n / 8) h ∙ slot_in_handle o.kind slot)
 
     stays : (q : ℕ) → ((s : ℕ) → slot_of_handle new answer ≡ Some s → slot_of_handle old handle ≡ Some q → s ≡ q) → next_slot old (ReAllocs handle size flags) (Word answer) new q ≡ q
     stays q same = by_old (slot_of_handle old handle) refl

@@ -12,26 +12,12 @@ use Rattle.w16_model.proofs.KeptHandles.{settled}
 use Rattle.w16_model.proofs.KindChanges.{twice_out, rest_order}
 use Rattle.w16_model.proofs.KeptRest.{absents_order, all_stay, at_once, no_more}
 use Rattle.w16_model.proofs.Others.{others_law}
+use Rattle.w16_model.proofs.Prefixes.{filter_swapped}
 use Rattle.w16_model.proofs.Runs.{some_slots, unused}
 use Rattle.w16_model.proofs.CallOutcomes.{outcome}
 use Rattle.w16_model.proofs.CallLaws.{rest_of, no_bytes, order_is, next_own, followed}
 
 -- The order without some.
-
--- the filters in either order
-filter_swap : (p q : ℕ → Bool) (l : List ℕ) → filter p (filter q l) ≡ filter q (filter p l)
-filter_swap p q [] = refl
-filter_swap p q (x ∷ l) = swap (filter_swap p q l) (p x) (q x) refl refl
-  where
-    keep : (f : ℕ → Bool) (a : Bool) (m : List ℕ) → f x ≡ a → filter f (x ∷ m) ≡ cond {A = List ℕ} a (x ∷ filter f m) (filter f m)
-    keep f a m e = ap (λ b. cond {A = List ℕ} b (x ∷ filter f m) (filter f m)) e
-
-    swap : filter p (filter q l) ≡ filter q (filter p l) → (a b : Bool) → p x ≡ a → q x ≡ b
-        → filter p (cond {A = List ℕ} b (x ∷ filter q l) (filter q l)) ≡ filter q (cond {A = List ℕ} a (x ∷ filter p l) (filter p l))
-    swap rest true true e f = keep p true (filter q l) e ∙ ap (λ (m : List ℕ). x ∷ m) rest ∙ sym (keep q true (filter p l) f)
-    swap rest true false e f = rest ∙ sym (keep q false (filter p l) f)
-    swap rest false true e f = keep p false (filter q l) e ∙ rest
-    swap rest false false e f = rest
 
 -- without an object, the order with it at an end is as it was
 newest_rest : (id : ℕ) (l : List ℕ) → without id (newest id l) ≡ without id l
@@ -97,7 +83,7 @@ module _ (old new : Heap) where
 
   -- without an object, and without what has left, or the other way round
   either_way : (id : ℕ) (ids : List ℕ) → without id (without_all ids old.order) ≡ without_all ids (without id old.order)
-  either_way id ids = filter_swap (λ q. not (q == id)) (λ q. not (is_member q ids)) old.order
+  either_way id ids = filter_swapped (λ q. not (q == id)) (λ q. not (is_member q ids)) old.order
 
   pub allocated : IsHeap old → (id k : ℕ) (options : RoomOptions) (o : Object) → Settles old (stays_for id options) (with_ordered (discarded old k (Some id)) id o (with_newest id o)) new → OnlyLeave new (without id old.order) (without id new.order)
   allocated is id k options o s = discards (Some id) k ((others_law old new is k).0 id options o (with_newest id o) s) (without id old.order) (without id new.order)
@@ -136,18 +122,26 @@ module _ (old new : Handles) (is : AreHandles old) (call : Call) (answer : Answe
   abbrev Others : Type 0
   Others = OthersStand (IsAbout old call) (next_slot old call answer new) old.heap new.heap
 
-  -- the others of an object that gets another size, and with it another slot
-  pub resized_leaves : (r : Resized old call answer new) → OnlyLeave new.heap (without r.slot old.heap.order) (without r.first new.heap.order)
-  resized_leaves r =
-      let k : KeepsRest old.heap r.slot (rounded_size r.size) r.object (realloc_options r.flags) r.heap = rest_of old new is call answer r in record {
-        gone = take k.count (eligible (blocks old.heap) old.heap.order (Some r.slot));
-        without_bytes = λ q t. no_bytes old new is call answer r q (was_there _ (object_at old.heap q) (k.others.discarded q t)) (gone_bytes old.heap r.heap (Some r.slot) k.count k.others q t);
-        order_is = order_is old new is call answer r ∙ rest_resized old.heap r.heap r.slot (rounded_size r.size) r.object (realloc_options r.flags) k;
-      }
+  -- what is discarded for an object that gets another size
+  abbrev pub gone_for : Resized old call answer new → List ℕ
+  gone_for r = take (rest_of old new is call answer r).count (eligible (blocks old.heap) old.heap.order (Some r.slot))
+
+  pub gone_bare : (r : Resized old call answer new) (q : ℕ) → is_member q (gone_for r) ≡ true → bytes_at new.heap q ≡ None
+  gone_bare r q t =
+      let k : KeepsRest old.heap r.slot (rounded_size r.size) r.object (realloc_options r.flags) r.heap = rest_of old new is call answer r in
+      no_bytes old new is call answer r q (was_there _ (object_at old.heap q) (k.others.discarded q t)) (gone_bytes old.heap r.heap (Some r.slot) k.count k.others q t)
     where
       was_there : (P : Object → Type 0) (p : Option Object) → IsSomeAnd p P → is_some p ≡ true
       was_there P None h = absurd h
       was_there P (Some o) h = refl
+
+  -- the others of an object that gets another size, and with it another slot
+  pub resized_leaves : (r : Resized old call answer new) → OnlyLeave new.heap (without r.slot old.heap.order) (without r.first new.heap.order)
+  resized_leaves r = record {
+    gone = gone_for r;
+    without_bytes = gone_bare r;
+    order_is = order_is old new is call answer r ∙ rest_resized old.heap r.heap r.slot (rounded_size r.size) r.object (realloc_options r.flags) (rest_of old new is call answer r);
+  }
 
   others_resized : Resized old call answer new → Others
   others_resized r = inr (r.slot, inl (about r.handle r.slot (ap handle_in r.asked) r.named.found), subst (λ s. OnlyLeave new.heap (without r.slot old.heap.order) (without s new.heap.order)) (sym (next_own old new is call answer r)) (resized_leaves r))

@@ -48,6 +48,7 @@ pub mod ResizedHandles
 pub mod CallLaws
 pub mod FarLaws
 pub mod CallOrders
+pub mod NewHandles
 pub mod Bystanders
 pub mod NewSize
 pub mod Effects

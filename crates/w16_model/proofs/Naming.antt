@@ -3,7 +3,7 @@ use Rattle.w16_model.proofs.Common.{◌≡◌, ℕ, ◌/◌, Bool, true, false, 
 use Rattle.w16_model.proofs.Common.{false≢true, and_parts, Kind, Fixed, Moveable, Discardable, Object, object_at, Handles, slot_of_handle, slot_of_selector, handle_of, selector_of, NamesLaw}
 
 -- a handle and a selector tell their slot
-slot_in_handle : (kind : Kind) (slot : ℕ) → handle_of kind slot / 8 ≡ slot
+pub slot_in_handle : (kind : Kind) (slot : ℕ) → handle_of kind slot / 8 ≡ slot
 slot_in_handle Fixed slot = omega arith
 slot_in_handle Moveable slot = omega arith
 slot_in_handle Discardable slot = omega arith

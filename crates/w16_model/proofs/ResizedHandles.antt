@@ -10,7 +10,7 @@ use Rattle.w16_model.specs.Owned.{owned_at}
 use Rattle.w16_model.specs.declared.Owned.{Owned}
 use Rattle.w16_model.specs.declared.Refusal.TheVariants as refusals
 use Rattle.w16_model.proofs.Fewest.{some_handle}
-use Rattle.w16_model.proofs.Naming.{names_law}
+use Rattle.w16_model.proofs.Naming.{names_law, slot_in_handle}
 use Rattle.w16_model.proofs.Runs.{some_slots}
 use Rattle.w16_model.proofs.Housed.{stays, housed_old, anew_handles}
 use Rattle.w16_model.proofs.KeptHandles.{sized_is, absent_sized, moved_handles, other_handles, same_updated, with_new_object, with_absent_object, without_object, settled_handles, locked_kept, unlocked_kept, ordered_kept}
@@ -205,7 +205,7 @@ module _ (old new : Handles) (is : AreHandles old) (call : Call) (reply : Answer
   handle_is = subst (λ p. IsSomeAnd p (λ o. r.handle ≡ handle_of o.kind r.slot)) r.named.there ((names_law old r.handle r.slot).0.0 r.named.found)
 
   -- a new handle is of another slot
-  moves : (answer handle : ℕ) → reply ≡ Word answer → r.handle ≡ handle → answer ≢ handle → r.slot ≢ r.first
+  pub moves : (answer handle : ℕ) → reply ≡ Word answer → r.handle ≡ handle → answer ≢ handle → r.slot ≢ r.first
   moves answer handle says names d e = let both : answer ≡ handle_of r.object.kind r.first = (let g : ◌≡◌ {A = Answer} (Word answer) (Word (handle_of r.object.kind r.first)) = sym says ∙ r.answered in cc) in
       d (both ∙ ap (handle_of r.object.kind) (sym e) ∙ sym handle_is ∙ names)
 
@@ -213,7 +213,7 @@ module _ (old new : Handles) (is : AreHandles old) (call : Call) (reply : Answer
   gone d = ap (λ (h : Handles). object_at h.heap r.slot) r.rest ∙ housed_old old is r.slot (rounded_size r.size) (realloc_options r.flags) r.object r.named.there r.first r.gets r.heap r.resized d
 
 -- a reallocation that answers is of its handle, or gives another size
-answered : (old new : Handles) (handle size flags answer : ℕ) → AreHandles old → GlobalReAllocs old handle size flags answer new → answer ≢ 0 → (answer ≡ handle) ⊎ Resized old (ReAllocs handle size flags) (Word answer) new
+pub answered : (old new : Handles) (handle size flags answer : ℕ) → AreHandles old → GlobalReAllocs old handle size flags answer new → answer ≢ 0 → (answer ≡ handle) ⊎ Resized old (ReAllocs handle size flags) (Word answer) new
 answered old new handle size flags answer is step some = elim (reallocates old (ReAllocs handle size flags) (Word answer) new is handle size flags answer refl refl step).1 [
   | inl none ↦ absurd (some none)
   | inr told ↦ told
@@ -241,11 +241,6 @@ old_handle_law old new handle size flags answer is step some d = elim (answered 
   | inr r ↦ is_bad r (slot_of_handle new handle) refl
 ]
   where
-    slot_named : (k : Kind) (slot : ℕ) → handle_of k slot / 8 ≡ slot
-    slot_named Fixed slot = omega arith
-    slot_named Moveable slot = omega arith
-    slot_named Discardable slot = omega arith
-
     is_bad : Resized old (ReAllocs handle size flags) (Word answer) new → (p : Option ℕ) → slot_of_handle new handle ≡ p → slot_of_handle new handle ≡ None
     is_bad r None e = e
     is_bad r (Some q) e = absurd (there (object_at new.heap q) refl ((names_law new handle q).0.0 e))
@@ -256,5 +251,5 @@ old_handle_law old new handle size flags answer is step some d = elim (answered 
         there : (p : Option Object) → object_at new.heap q ≡ p → IsSomeAnd p (λ o. handle ≡ handle_of o.kind q) → ⊥
         there None at h = h
         there (Some o) at h =
-            let same : q ≡ r.slot = sym (slot_named o.kind q) ∙ ap (λ n. n / 8) (sym h ∙ sym named ∙ handle_is old new is (ReAllocs handle size flags) (Word answer) r) ∙ slot_named r.object.kind r.slot in
+            let same : q ≡ r.slot = sym (slot_in_handle o.kind q) ∙ ap (λ n. n / 8) (sym h ∙ sym named ∙ handle_is old new is (ReAllocs handle size flags) (Word answer) r) ∙ slot_in_handle r.object.kind r.slot in
             let none : ◌≡◌ {A = Option Object} (Some o) None = sym at ∙ ap (object_at new.heap) same ∙ gone old new is (ReAllocs handle size flags) (Word answer) r (moves old new is (ReAllocs handle size flags) (Word answer) r answer handle refl named d) in cc

@@ -1,5 +1,5 @@
 -- GlobalReAlloc and GlobalDiscard on handles: the cases in their order, and what each answers and leaves.
-use Rattle.std.specs.Prelude.{◌≡◌, ◌≢◌, ℕ, ◌+◌, ◌-◌, ◌<◌, ◌≤◌, ◌⊎◌, Bool, true, false, not, ◌&&◌, ◌||◌, ◌==◌, if◌then◌else◌, nat_lt, map, MatchBool, MatchOption, IsSomeAnd, Some, None, Result, Ok, Err}
+use Rattle.std.specs.Prelude.{◌≡◌, ◌≢◌, ℕ, ◌+◌, ◌-◌, ◌/◌, ◌<◌, ◌≤◌, ◌⊎◌, Bool, true, false, not, ◌&&◌, ◌||◌, ◌==◌, if◌then◌else◌, nat_lt, map, MatchBool, MatchOption, IsSomeAnd, List, Some, None, Result, Ok, Err}
 use Rattle.std.specs.Ordering.{nat_cmp}
 use Rattle.std.specs.FinMap as finmap
 use Rattle.std.specs.FinMap.{FinMap}
@@ -9,13 +9,14 @@ use Rattle.w16_model.specs.declared.Kind.TheVariants.{Moveable, Discardable}
 use Rattle.w16_model.specs.declared.Refusal.{Refusal}
 use Rattle.w16_model.specs.declared.RoomOptions.{RoomOptions}
 use Rattle.w16_model.specs.declared.TheConstants.{REACH, LARGEST_SIZE, GMEM_MOVEABLE, GMEM_MODIFY, GMEM_DISCARDABLE}
-use Rattle.w16_model.specs.Heap.{Heap, Object, object_at, size_of, is_fixed}
+use Rattle.w16_model.specs.Heap.{Heap, Object, object_at, bytes_at, size_of, is_fixed}
 use Rattle.w16_model.specs.Request.{Reallocates, moved_bytes}
 use Rattle.w16_model.specs.OneObject.{after_modify, after_discard}
 use Rattle.w16_model.specs.Handles.{Handles, AreHandles, IsFreeRun, HasNoRun, slots_at, slots_for, handle_of, slot_of_handle}
 use Rattle.w16_model.specs.Owned.{owns, is_owned}
-use Rattle.w16_model.specs.Reallocation.{LacksPlace, ReallocatesFewest}
-use Rattle.w16_model.specs.Calls.{has_flag, rounded_size, alloc_options}
+use Rattle.w16_model.specs.Discards.{is_member}
+use Rattle.w16_model.specs.Reallocation.{LacksPlace, ReallocatesFewest, without_all}
+use Rattle.w16_model.specs.Calls.{has_flag, is_shared, rounded_size, alloc_options}
 
 -- as an allocation's flags; with GMEM_MOVEABLE the object itself may be moved too, fixed or locked
 abbrev pub realloc_options : ℕ → RoomOptions
@@ -156,3 +157,20 @@ OneSlotLaw = (old new : Handles) (handle size flags answer : ℕ) → AreHandles
 -- the old handle is bad once there is another
 abbrev pub OldHandleLaw : Type 0
 OldHandleLaw = (old new : Handles) (handle size flags answer : ℕ) → AreHandles old → GlobalReAllocs old handle size flags answer new → answer ≢ 0 → answer ≢ handle → slot_of_handle new handle ≡ None
+
+-- an object keeps its handle where its own slots and those directly after them are enough
+abbrev pub ExtendedLaw : Type 0
+ExtendedLaw = (old new : Handles) (handle size flags answer slot : ℕ) → AreHandles old → GlobalReAllocs old handle size flags answer new → slot_of_handle old handle ≡ Some slot
+    → CanExtend old slot (slots_for (rounded_size size)) → answer ≢ 0 → answer ≡ handle
+
+-- at another handle it is shared with other tasks as it was
+abbrev pub SharedLaw : Type 0
+SharedLaw = (old new : Handles) (handle size flags answer slot : ℕ) → AreHandles old → GlobalReAllocs old handle size flags answer new → slot_of_handle old handle ≡ Some slot
+    → answer ≢ 0 → answer ≢ handle → is_shared new (answer / 8) ≡ is_shared old slot
+
+-- and one in the order of use keeps its place there: the order has its new slot where the old one stood, and has lost what was discarded
+abbrev pub PlaceLaw : Type 0
+PlaceLaw = (old new : Handles) (handle size flags answer slot : ℕ) → AreHandles old → GlobalReAllocs old handle size flags answer new → slot_of_handle old handle ≡ Some slot
+    → answer ≢ 0 → answer ≢ handle → is_member slot old.heap.order ≡ true
+    → (gone : List ℕ) × ((q : ℕ) → is_member q gone ≡ true → bytes_at new.heap q ≡ None)
+    × (new.heap.order ≡ map (λ q. if q == slot then answer / 8 else q) (without_all gone old.heap.order))

@@ -31,7 +31,7 @@ ghost use Rattle.w16_model.specs.Reallocation.{HeapLaw, KindHeapLaw, DiscardHeap
 ghost use Rattle.w16_model.specs.CallLaws.{ContentsLaw, SlotsLaw, MovedLaw, BystandersLaw, AttributesLaw, PinnedStayLaw, StillLaw, UseLaw, NewObjectLaw, UnorderedLaw, OthersOrderLaw, FarEffectLaw, ReadBackLaw};
 ghost use Rattle.w16_model.specs.Effects.{LockLaw, UnlockLaw, FreeLaw, ModifyLaw, DiscardLaw, SizeLaw, AnsweredLaw};
 ghost use Rattle.w16_model.specs.Outcomes.{CallOutcomesLaw};
-ghost use Rattle.w16_model.specs.Resizes.{ResizeLaw, NullLaw, ResizeFewestLaw, OneSlotLaw, OldHandleLaw};
+ghost use Rattle.w16_model.specs.Resizes.{ResizeLaw, NullLaw, ResizeFewestLaw, OneSlotLaw, OldHandleLaw, ExtendedLaw, SharedLaw, PlaceLaw};
 
 /// The figures of the profile and the flags of the manual are these numbers. Definitions and code share the constants, so only this law
 /// would see a wrong one.
@@ -170,6 +170,9 @@ pub fn reallocations_keep_handles()
     ensures fewest { ResizeFewestLaw }
     ensures one { OneSlotLaw }
     ensures old { OldHandleLaw }
+    ensures extended { ExtendedLaw }
+    ensures shared { SharedLaw }
+    ensures place { PlaceLaw }
 {}
 
 /// Each heap has a walk, and no other.

@@ -1,3 +1,4 @@
+use Rattle.w16_model.proofs.NewHandles.{extended_law, shared_law, place_law}
 use Rattle.w16_model.proofs.ResizedHandles.{resize_law, null_law, resize_fewest_law, one_slot_law, old_handle_law}
 use Rattle.w16_model.proofs.laws.reallocations_keep_handles.Goals as goal
 
@@ -15,3 +16,12 @@ returns-clause-one c = one_slot_law
 
 pub returns-clause-old : goal.returns-clause-old
 returns-clause-old c = old_handle_law
+
+pub returns-clause-extended : goal.returns-clause-extended
+returns-clause-extended c = extended_law
+
+pub returns-clause-shared : goal.returns-clause-shared
+returns-clause-shared c = shared_law
+
+pub returns-clause-place : goal.returns-clause-place
+returns-clause-place c = place_law
