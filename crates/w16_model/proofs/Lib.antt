@@ -49,6 +49,7 @@ pub mod CallLaws
 pub mod FarLaws
 pub mod CallOrders
 pub mod NewHandles
+pub mod Selectors
 pub mod Bystanders
 pub mod NewSize
 pub mod Effects

@@ -1,5 +1,5 @@
 -- The laws that show the definitions to be the right ones. Each is the contract of a function of the module `laws`.
-use Rattle.std.specs.Prelude.{◌≡◌, ◌≢◌, ℕ, ◌+◌, ◌-◌, ◌*◌, ◌<◌, ◌≤◌, ◌↔◌, Bool, true, false, IfSome, IsSomeAnd, List, take, map, length, All, AllPairs, Contains, Option, Some, None, is_some}
+use Rattle.std.specs.Prelude.{◌≡◌, ◌≢◌, ℕ, ◌+◌, ◌-◌, ◌*◌, ◌<◌, ◌≤◌, ◌↔◌, min, Bool, true, false, IfSome, IsSomeAnd, List, take, map, length, All, AllPairs, Contains, Option, Some, None, is_some}
 use Rattle.w16_model.specs.declared.Block.{Block}
 use Rattle.w16_model.specs.declared.Span.{Span}
 use Rattle.w16_model.specs.declared.Kind.{Kind}
@@ -17,8 +17,10 @@ use Rattle.w16_model.specs.Changes.{with_ordered}
 use Rattle.w16_model.specs.Request.{Settles, discarded, stays_for, snapshot_of}
 use Rattle.w16_model.specs.Table.{Table, IsTable, IsSound, heap_in, IsSameOutside}
 use Rattle.w16_model.specs.Walk.{IsWalk}
-use Rattle.w16_model.specs.Handles.{Handles, AreHandles, empty_handles, slots_at, owner_of, reached, slot_of_handle, part_of_selector, slot_of_selector, handle_of, selector_of}
+use Rattle.w16_model.specs.Handles.{Handles, AreHandles, dword_of, empty_handles, slots_at, owner_of, reached, slot_of_handle, part_of_selector, slot_of_selector, handle_of, selector_of}
 use Rattle.w16_model.specs.Calls.{HandleCommand, Answer, HandleStep, IsRefusedAlloc, AnswersAlloc}
+use Rattle.w16_model.specs.Calls.HandleCommand.{GetSelectorBase, GetSelectorLimit, GlobalHandle}
+use Rattle.w16_model.specs.Calls.Answer.{Dword}
 use Rattle.w16_model.specs.Far.{FarCommand, FarAnswer, IsFarCommand, FarStep}
 
 -- The figures.
@@ -193,6 +195,15 @@ abbrev pub ReachLaw : Type 0
 ReachLaw = (handles : Handles) (selector : ℕ) → AreHandles handles
     → IfSome (part_of_selector handles selector) (λ p. (selector ≡ selector_of (p.slot + p.number)) × (p.number < slots_at handles.attributes p.slot)
     × IfSome (bytes_at handles.heap p.slot) (λ bytes. (0 < reached (length bytes) p) × (REACH * p.number + reached (length bytes) p ≤ length bytes)))
+
+-- Each selector of an object, the first and the later ones, says whose it is, where it begins, and how far it reaches: the k-th begins k times
+-- 65,536 bytes after the object does.
+abbrev pub SelectorsLaw : Type 0
+SelectorsLaw = (old new : Handles) (slot k answer : ℕ) (o : Object) → AreHandles old → object_at old.heap slot ≡ Some o → k < slots_at old.attributes slot
+    → (HandleStep old (GlobalHandle (selector_of (slot + k))) (Dword answer) new → answer ≡ dword_of (selector_of (slot + k)) (handle_of o.kind slot))
+    × ((at : ℕ) → finmap.get old.heap.places slot ≡ Some at → HandleStep old (GetSelectorBase (selector_of (slot + k))) (Dword answer) new → answer ≡ at + 65536 * k)
+    × ((bytes : List ℕ) → o.bytes ≡ Some bytes → HandleStep old (GetSelectorLimit (selector_of (slot + k))) (Dword answer) new → answer ≡ min 65536 (length bytes - 65536 * k) - 1)
+    × (o.bytes ≡ None → HandleStep old (GetSelectorLimit (selector_of (slot + k))) (Dword answer) new → answer ≡ 0)
 
 -- the handles of a heap in which nothing is allocated are such
 abbrev pub EmptyLaw : Type 0

@@ -22,6 +22,7 @@ ghost use Rattle.w16_model.specs.Law.{
   NamesLaw,
   OwnerLaw,
   ReachLaw,
+  SelectorsLaw,
   EmptyLaw,
   HandleLaw,
   FarLaw,
@@ -195,10 +196,12 @@ pub fn names_are_exact()
     ensures { NamesLaw }
 {}
 
-/// Each slot is in one object's run at most, and each selector reaches bytes of its object, and none past the end.
+/// Each slot is in one object's run at most, and each selector reaches bytes of its object, and none past the end. What a later selector of an
+/// object says is by its number.
 pub fn runs_are_apart()
     ensures owner { OwnerLaw }
     ensures reach { ReachLaw }
+    ensures selectors { SelectorsLaw }
 {}
 
 /// The handles of a heap in which nothing is allocated are such, and each call and each far access keeps what holds of handles: no two

@@ -1,4 +1,5 @@
 use Rattle.w16_model.proofs.Runs.{owner_law, reach_law}
+use Rattle.w16_model.proofs.Selectors.{selectors_law}
 use Rattle.w16_model.proofs.laws.runs_are_apart.Goals as goal
 
 pub returns-clause-owner : goal.returns-clause-owner
@@ -6,3 +7,6 @@ returns-clause-owner c = owner_law
 
 pub returns-clause-reach : goal.returns-clause-reach
 returns-clause-reach c = reach_law
+
+pub returns-clause-selectors : goal.returns-clause-selectors
+returns-clause-selectors c = selectors_law
