@@ -1,5 +1,5 @@
 -- A module that others import stays, whoever takes its explicit uses away.
-use Rattle.w16_loading.proofs.Common.{[], ◌≡◌, ℕ, ◌-◌, ◌<◌, inl, inr, true, false, cond, not, List, ◌∷◌, Option, Some, None, IfSome, IsSomeAnd, is_some, refl, sym, ap, ◌∙◌, subst, arith, cases_eq, inserted_here, inserted_other}
+use Rattle.w16_loading.proofs.Common.{[], ◌≡◌, ℕ, ◌-◌, ◌<◌, ◌⊎◌, inl, inr, true, false, cond, not, List, ◌∷◌, Option, Some, None, IfSome, IsSomeAnd, is_some, refl, sym, ap, ◌∙◌, subst, arith, cases_eq, inserted_here, inserted_other}
 use Rattle.w16_loading.proofs.Common.{Resource, numbered, LoadingWorld, Load, Module, Named, module_at, module_in, imports, importers, Loaded, Go, used_less, is_left_over, without_orphans, IsLoadingWorld, IsLoad, UsesApartLaw}
 use Rattle.std.specs.FinMap as finmap
 use Rattle.w16_loading.proofs.Given.{loaded_is}
@@ -38,9 +38,9 @@ module _ (old : LoadingWorld) (is : IsLoadingWorld old) (handle : ℕ) (m : Modu
       same n e t = let f : n ≡ Loaded m = cc in subst (λ (x : Named). imports x k ≡ true) f t
 
   -- so none is idle
-  still_used : 0 < importers old.modules handle → (k : ℕ) → Idle less.modules k → ⊥
-  still_used imported k h = elim (cases_eq k handle) [
-    | inl e ↦ h.alone (imported_still k (subst (HasImporter old.modules) (sym e) (importer_of old.modules handle imported)))
+  still_used : (0 < importers old.modules handle) ⊎ (1 < m.uses) → (k : ℕ) → Idle less.modules k → ⊥
+  still_used used k h = elim (cases_eq k handle) [
+    | inl e ↦ by_use used h e
     | inr d ↦ none_idle old is k (record {
       idle = h.idle;
       loaded = sym (inserted_other old.modules handle (Loaded (record m { uses = m.uses - 1 })) k d) ∙ h.loaded;
@@ -48,10 +48,18 @@ module _ (old : LoadingWorld) (is : IsLoadingWorld old) (handle : ℕ) (m : Modu
       alone = λ i. h.alone (imported_still k i);
     })
   ]
+    where
+      by_use : (0 < importers old.modules handle) ⊎ (1 < m.uses) → Idle less.modules k → k ≡ handle → ⊥
+      by_use (inl imported) h e = h.alone (imported_still k (subst (HasImporter old.modules) (sym e) (importer_of old.modules handle imported)))
+      by_use (inr more) h e =
+          let same : ◌≡◌ {A = Option Named} (Some (Loaded h.idle)) (Some (Loaded (record m { uses = m.uses - 1 }))) = sym h.loaded ∙ inserted_here old.modules handle (Loaded (record m { uses = m.uses - 1 })) k e in
+          let left : h.idle ≡ record m { uses = m.uses - 1 } = cc in
+          let uses : h.idle.uses ≡ m.uses - 1 = ap (λ (x : Module). x.uses) left in
+          omega (arith, h.unused, uses, more)
 
-  none_goes : 0 < importers old.modules handle → (gone : List ℕ) (left : LoadingWorld) → Go less gone left → left ≡ less
-  none_goes imported [] left go = go.1
-  none_goes imported (k ∷ gone) left go = absurd (still_used imported k (idle_parts less.modules k go.0))
+  none_goes : (0 < importers old.modules handle) ⊎ (1 < m.uses) → (gone : List ℕ) (left : LoadingWorld) → Go less gone left → left ≡ less
+  none_goes used [] left go = go.1
+  none_goes used (k ∷ gone) left go = absurd (still_used used k (idle_parts less.modules k go.0))
 
   -- modules that were there are there
   there_still : (a : ℕ) → is_some (module_at old.modules a) ≡ true → is_some (module_at less.modules a) ≡ true
@@ -83,14 +91,23 @@ module _ (old : LoadingWorld) (is : IsLoadingWorld old) (handle : ℕ) (m : Modu
       one_less = omega (arith, e)
 
 pub uses_apart_law : UsesApartLaw
-uses_apart_law old new handle answer m is at imported f = record {
-  answered = f.ended.answered ∙ ap (λ b. cond b 1 0) (ap (λ (w : LoadingWorld). finmap.contains_key w.modules handle) left ∙ ap is_some (inserted_here old.modules handle (Loaded (record m { uses = m.uses - 1 })) handle refl));
-  less = f.after ∙ ap without_orphans left ∙ same_without old is handle m loaded ∙ sym (is_less old is handle m loaded);
-  unused = λ e. f.after ∙ ap without_orphans left ∙ same_without old is handle m loaded ∙ unused_same old is handle m loaded e;
+uses_apart_law old new handle answer m is at used f = record {
+  answered = f.ended.answered ∙ ap (λ b. cond b 1 0) (ap (λ (w : LoadingWorld). finmap.contains_key w.modules handle) left ∙ ap is_some here);
+  less = ap (λ (w : LoadingWorld). module_at w.modules handle) all ∙ ap module_in here;
+  others = λ other d. ap (λ (w : LoadingWorld). finmap.get w.modules other) all ∙ inserted_other old.modules handle (Loaded (record m { uses = m.uses - 1 })) other d;
+  handles = ap (λ (w : LoadingWorld). w.handles) all;
+  loads = ap (λ (w : LoadingWorld). w.loads) all;
+  unused = λ e. all ∙ unused_same old is handle m loaded e;
 }
   where
     loaded : finmap.get old.modules handle ≡ Some (Loaded m)
     loaded = loaded_is (finmap.get old.modules handle) m at
 
+    here : finmap.get (finmap.insert old.modules handle (Loaded (record m { uses = m.uses - 1 }))) handle ≡ Some (Loaded (record m { uses = m.uses - 1 }))
+    here = inserted_here old.modules handle (Loaded (record m { uses = m.uses - 1 })) handle refl
+
     left : f.left ≡ less old is handle m loaded
-    left = none_goes old is handle m loaded imported f.ended.gone f.left (subst (λ (w : LoadingWorld). Go w f.ended.gone f.left) (is_less old is handle m loaded) f.ended.went)
+    left = none_goes old is handle m loaded used f.ended.gone f.left (subst (λ (w : LoadingWorld). Go w f.ended.gone f.left) (is_less old is handle m loaded) f.ended.went)
+
+    all : new ≡ less old is handle m loaded
+    all = f.after ∙ ap without_orphans left ∙ same_without old is handle m loaded

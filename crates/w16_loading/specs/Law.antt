@@ -1,5 +1,5 @@
 -- What holds of every world with modules, and the laws that show the definitions right.
-use Rattle.std.specs.Prelude.{◌≡◌, ◌≢◌, ℕ, ◌+◌, ◌<◌, ◌≤◌, ◌⊎◌, Bool, true, false, List, length, All, if◌then◌else◌, Option, Some, None, is_some, IfSome, IsSomeAnd, Result, fold, ◌↔◌, []}
+use Rattle.std.specs.Prelude.{◌≡◌, ◌≢◌, ℕ, ◌+◌, ◌-◌, ◌<◌, ◌≤◌, ◌⊎◌, Bool, true, false, List, length, All, if◌then◌else◌, Option, Some, None, is_some, IfSome, IsSomeAnd, Result, fold, ◌↔◌, []}
 use Rattle.std.specs.List.{AllZip, AllByRecursion}
 use Rattle.std.specs.FinMap as finmap
 use Rattle.w16_model.specs.Bytes.{part}
@@ -31,7 +31,7 @@ use Rattle.w16_loading.specs.Load.{Answer, Loads, undone}
 use Rattle.w16_loading.specs.Load.Answer.{Says, StoreFails}
 use Rattle.w16_loading.specs.Replies.{Reply}
 use Rattle.w16_loading.specs.Fetch.{Fetches, read_of, segment_bytes, is_code}
-use Rattle.w16_loading.specs.Free.{Go, Frees, used_less}
+use Rattle.w16_loading.specs.Free.{Go, Frees}
 use Rattle.w16_loading.specs.Resource.{is_too_long, resource_at}
 use Rattle.w16_loading.specs.AnyStore.{AnyStep, AnyLoads, reads_files}
 use Rattle.w16_loading.specs.Families.{LoadingCommand, IsLoadingCommand, HandleStep, FarStep, LoadingStep}
@@ -262,16 +262,19 @@ abbrev pub FetchFaultsLaw : Type 0
 FetchFaultsLaw = (format : Format) (old new : LoadingWorld) (slot : ℕ) (fault : FetchFault) → Fetches format old slot (Some fault) new
     → (fault ≡ faults.Store) ⊎ (fault ≡ faults.NoRoom)
 
--- Explicit uses and importers are counted apart. Whoever takes uses of a module away that others import, it stays, and all else with it; and
--- where it has no explicit use, nothing at all changes.
-pub record StaysImported (old : LoadingWorld) (handle answer : ℕ) (m : Module) (new : LoadingWorld) : Type 0 where
+-- Explicit uses and importers are counted apart. A module that others import, or that has another explicit use, loses one use at most, and all
+-- else stays; where it has no explicit use, nothing at all changes.
+pub record LosesUse (old : LoadingWorld) (handle answer : ℕ) (m : Module) (new : LoadingWorld) : Type 0 where
   pub answered : answer ≡ 1
-  pub less : new ≡ used_less old handle
+  pub less : module_at new.modules handle ≡ Some (record m { uses = m.uses - 1 })
+  pub others : (other : ℕ) → other ≢ handle → finmap.get new.modules other ≡ finmap.get old.modules other
+  pub handles : new.handles ≡ old.handles
+  pub loads : new.loads ≡ old.loads
   pub unused : m.uses ≡ 0 → new ≡ old
 
 abbrev pub UsesApartLaw : Type 0
 UsesApartLaw = (old new : LoadingWorld) (handle answer : ℕ) (m : Module) → IsLoadingWorld old → module_at old.modules handle ≡ Some m
-    → 0 < importers old.modules handle → Frees old handle answer new → StaysImported old handle answer m new
+    → (0 < importers old.modules handle) ⊎ (1 < m.uses) → Frees old handle answer new → LosesUse old handle answer m new
 
 -- the order in which unused modules go doesn't matter
 abbrev pub OneEndLaw : Type 0

@@ -101,7 +101,7 @@ pub fn fetches_discard_fewest()
     ensures { FetchFewestLaw }
 {}
 
-/// Taking explicit uses away never lets a module go that others import.
+/// Taking an explicit use away never lets a module go that others import, or that has another use, and changes nothing else.
 pub fn uses_and_importers_are_apart()
     ensures { UsesApartLaw }
 {}
