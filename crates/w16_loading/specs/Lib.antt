@@ -17,3 +17,4 @@ pub mod Owner
 pub mod Bystanders
 pub mod Codes
 pub mod Fewest
+pub mod Effects

@@ -1,4 +1,5 @@
 //! The laws of the definitions. Each function does nothing: its contract is the law.
+ghost use Rattle.w16_loading.specs.Effects.{BuiltInLaw, FindLaw, FreeLaw, NamedLaw, SizeofLaw};
 ghost use Rattle.w16_loading.specs.Bystanders.{StepBystandersLaw, StepPinnedLaw};
 ghost use Rattle.w16_loading.specs.Fewest.{FetchFewestLaw, LoadFewestLaw, RequestsFewestLaw};
 ghost use Rattle.w16_loading.specs.Law.{
@@ -104,6 +105,15 @@ pub fn fetches_discard_fewest()
 /// Taking an explicit use away never lets a module go that others import, or that has another use, and changes nothing else.
 pub fn uses_and_importers_are_apart()
     ensures { UsesApartLaw }
+{}
+
+/// What calls of modules and resources are for: look-ups answer what has the name, and FreeResource takes one load.
+pub fn calls_of_modules_do_what_they_are_for()
+    ensures named { NamedLaw }
+    ensures built_in { BuiltInLaw }
+    ensures find { FindLaw }
+    ensures size { SizeofLaw }
+    ensures free { FreeLaw }
 {}
 
 /// Which unused module goes first doesn't matter.

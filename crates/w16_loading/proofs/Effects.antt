@@ -1,0 +1,162 @@
+-- What calls of modules and resources are for, proved from their steps.
+use Rattle.w16_loading.proofs.Common.{◌≡◌, ◌≢◌, ℕ, ◌+◌, ◌-◌, ◌<◌, ◌≤◌, ◌&&◌, ◌==◌, inl, inr, Bool, true, false, cond, if◌then◌else◌, nat_lt, List, [], ◌∷◌, find, length, position, Option, Some, None, is_some, option_map, unwrap_or, slice_get, refl, sym, ap, ◌∙◌, subst, arith}
+use Rattle.w16_loading.proofs.Common.{IfSome, get_or, false≢true, and_parts, eq-eqb, ne_eqb, IsTrue, MatchOption, object_at, Handles, slot_of_handle, locks_at, Member, inserted_here, taken_here, is_named, is_named-Decides, slice_get-get_or, position-Some}
+use Rattle.w16_loading.proofs.Common.{Format, Resource, Load, LoadingWorld, Module, Modules, Named, module_at, name_of, handle_named, BuiltIn, Loaded, Reply, Word, Dword, LoadingStep, IsLoadingWorld, without_objects}
+use Rattle.w16_loading.proofs.Common.{OfModules, OfResources, AddsBuiltIn, GivesBuiltIn, built_in, free_resource, slot_of_resource, numbered}
+use Rattle.std.proofs.Common.{le-ltb, lt-ltb}
+use Rattle.std.specs.FinMap as finmap
+use Rattle.w16_loading.specs.File.{Label, is_label}
+use Rattle.w16_model.specs.declared.Kind.TheVariants.{Fixed}
+use Rattle.w16_loading.specs.Effects.{BuiltInLaw, FindLaw, FreeLaw, NamedLaw, SizeofLaw}
+use Rattle.w16_loading.proofs.Given.{no_place, place_member}
+use Rattle.w16_loading.proofs.Importers.{entry_there}
+use Rattle.w16_loading.proofs.ModuleWorlds.{not_named}
+use Rattle.w16_loading.proofs.ShrunkWorlds.{value_gone}
+
+-- Names.
+
+-- what is found is a member that passes
+found_passes : {X : Type 0} (p : X → Bool) (xs : List X) (x : X) → find p xs ≡ Some x → Member x xs × (p x ≡ true)
+found_passes p [] x e = cc
+found_passes p (y ∷ ys) x e = turn (p y) refl e (found_passes p ys x)
+  where
+    turn : (b : Bool) → p y ≡ b → cond b (Some y) (find p ys) ≡ Some x → (find p ys ≡ Some x → Member x ys × (p x ≡ true)) → Member x (y ∷ ys) × (p x ≡ true)
+    turn true t e rest = let same : y ≡ x = cc in (inl (sym same), ap p (sym same) ∙ t)
+    turn false t e rest = let h = rest e in (inr h.0, h.1)
+
+-- a handle that a name leads to names something of this name
+named_there : (modules : Modules) (name : List ℕ) (handle : ℕ) → handle_named modules name ≡ Some handle → (n : Named) × (finmap.get modules handle ≡ Some n) × (is_named (name_of n) name ≡ true)
+named_there modules name handle e = turn (find (λ (x : ℕ × Named). is_named (name_of x.1) name) (finmap.entries modules)) refl e
+  where
+    turn : (p : Option (ℕ × Named)) → find (λ (x : ℕ × Named). is_named (name_of x.1) name) (finmap.entries modules) ≡ p → option_map (λ (x : ℕ × Named). x.0) p ≡ Some handle
+        → (n : Named) × (finmap.get modules handle ≡ Some n) × (is_named (name_of n) name ≡ true)
+    turn None f e = cc
+    turn (Some x) f e =
+        let same : x.0 ≡ handle = cc in
+        let h = found_passes (λ (x : ℕ × Named). is_named (name_of x.1) name) (finmap.entries modules) x f in
+        (x.1, ap (finmap.get modules) (sym same) ∙ entry_there modules x.0 x.1 h.0, h.1)
+
+-- 0 names nothing
+never_0 : (world : LoadingWorld) → IsLoadingWorld world → (n : Named) → finmap.get world.modules 0 ≡ Some n → ⊥
+never_0 world is n there = turn (finmap.get world.modules 0) there (is.numbers 0)
+  where
+    turn : (p : Option Named) → p ≡ Some n → IfSome p (λ _. (33 ≤ 0) × (0 < 33 + 200)) → ⊥
+    turn None e h = cc
+    turn (Some m) e h = omega (arith, h.0)
+
+pub named_law : NamedLaw
+named_law format old new name answer is step = turn (handle_named old.modules name) refl step.step.0
+  where
+    turn : (p : Option ℕ) → handle_named old.modules name ≡ p → ◌≡◌ {A = Reply} (Word answer) (Word (unwrap_or p 0))
+        → (answer ≢ 0 → (n : Named) × (finmap.get old.modules answer ≡ Some n) × (is_named (name_of n) name ≡ true))
+        × (answer ≡ 0 → (handle : ℕ) (n : Named) → finmap.get old.modules handle ≡ Some n → is_named (name_of n) name ≡ false)
+    turn None e says = let none : answer ≡ 0 = cc in ((λ some. absurd (some none)), λ _ handle n there. not_named old.modules name e handle n there)
+    turn (Some handle) e says =
+        let same : answer ≡ handle = cc in
+        let h = named_there old.modules name handle e in (
+          λ some. (h.0, ap (finmap.get old.modules) same ∙ h.1, h.2),
+          λ none. absurd (never_0 old is h.0 (ap (finmap.get old.modules) (sym none ∙ same) ∙ h.1)),
+        )
+
+pub built_in_law : BuiltInLaw
+built_in_law format old new name answer step some =
+    let says : step.step.0 ≡ answer = (let e = step.step.1 in cc) in
+    subst (λ (a : ℕ). (own : List ℕ) × (finmap.get new.modules a ≡ Some (BuiltIn own)) × (is_named own name ≡ true)) says
+    (turn step.step.0 (λ none. some (sym says ∙ none)) (handle_named old.modules name) refl step.step.2)
+  where
+    is_own : is_named name name ≡ true
+    is_own = (is_named-Decides name name).1 refl
+
+    there : (a : ℕ) → a ≢ 0 → (handle : ℕ) (n : Named) → finmap.get old.modules handle ≡ Some n → is_named (name_of n) name ≡ true → (p : Option Named) → finmap.get old.modules handle ≡ p → a ≡ built_in p handle → new.modules ≡ old.modules
+        → (own : List ℕ) × (finmap.get new.modules a ≡ Some (BuiltIn own)) × (is_named own name ≡ true)
+    there a some handle n at named None e says same = absurd (some says)
+    there a some handle n at named (Some (Loaded m)) e says same = absurd (some says)
+    there a some handle n at named (Some (BuiltIn own)) e says same =
+        let is : n ≡ BuiltIn own = (let f = sym at ∙ e in cc) in
+        (own, ap (λ (ms : Modules). finmap.get ms a) same ∙ ap (finmap.get old.modules) says ∙ e, subst (λ (m : Named). is_named (name_of m) name ≡ true) is named)
+
+    turn : (a : ℕ) → a ≢ 0 → (p : Option ℕ) → handle_named old.modules name ≡ p
+        → MatchOption p (AddsBuiltIn old name a (record new { failures = old.failures })) (λ handle. (a ≡ built_in (finmap.get old.modules handle) handle) × (record new { failures = old.failures } ≡ old))
+        → (own : List ℕ) × (finmap.get new.modules a ≡ Some (BuiltIn own)) × (is_named own name ≡ true)
+    turn a some None e (inl full) = absurd (some full.1)
+    turn a some None e (inr added) = (name, ap (λ (w : LoadingWorld). finmap.get w.modules a) added.1 ∙ inserted_here old.modules a (BuiltIn name) a refl, is_own)
+    turn a some (Some handle) e gives =
+        let h = named_there old.modules name handle e in
+        there a some handle h.0 h.1 h.2 (finmap.get old.modules handle) refl gives.0 (ap (λ (w : LoadingWorld). w.modules) gives.1)
+
+-- Resources.
+
+pub find_law : FindLaw
+find_law format old new handle answer name kind m there step = turn (position fits m.tables.resources) refl
+    (step.step.0 ∙ ap (λ p. Word (elim p as (λ _. ℕ) [ None ↦ 0 | Some n ↦ unwrap_or (option_map (λ i. i + 1) (position (λ r. is_label r.label name && is_label r.kind_of kind) n.tables.resources)) 0 ])) there)
+  where
+    fits : Resource → Bool
+    fits r = is_label r.label name && is_label r.kind_of kind
+
+    any : Resource
+    any = record { kind_of = kind; label = name; length_in = 0; kind = Fixed }
+
+    turn : (p : Option ℕ) → position fits m.tables.resources ≡ p → ◌≡◌ {A = Reply} (Word answer) (Word (unwrap_or (option_map (λ i. i + 1) p) 0))
+        → (answer ≢ 0 → (r : Resource) × (slice_get m.tables.resources (answer - 1) ≡ Some r) × (is_label r.label name ≡ true) × (is_label r.kind_of kind ≡ true))
+        × (answer ≡ 0 → (i : ℕ) (r : Resource) → slice_get m.tables.resources i ≡ Some r → (is_label r.label name && is_label r.kind_of kind) ≡ false)
+    turn None e says = let none : answer ≡ 0 = cc in ((λ some. absurd (some none)), λ _ i r at. no_place fits m.tables.resources e r (place_member m.tables.resources i r at))
+    turn (Some i) e says =
+        let is : answer ≡ i + 1 = cc in
+        let h = position-Some fits m.tables.resources i any e in
+        let parts : IsTrue (is_label (get_or m.tables.resources i any).label name) × IsTrue (is_label (get_or m.tables.resources i any).kind_of kind) = and_parts _ _ h.1 in
+        let less : answer - 1 ≡ i = omega (arith, is) in (
+          λ _. (get_or m.tables.resources i any, ap (slice_get m.tables.resources) less ∙ slice_get-get_or m.tables.resources i any h.0, parts.0, parts.1),
+          λ none. absurd (omega (arith, is, none)),
+        )
+
+pub sizeof_law : SizeofLaw
+sizeof_law format old new handle place answer m r there some at step =
+    let numbered_is : numbered m.tables.resources place ≡ Some r = ap (λ b. cond {A = Option Resource} b None (slice_get m.tables.resources (place - 1))) (ne_eqb place 0 (λ e. absurd (omega (arith, e, some)))) ∙ at in
+    let says : answer ≡ unwrap_or (option_map {T = Resource} {U = ℕ} (λ r. r.length_in) (elim (module_at old.modules handle) [ None ↦ None | Some n ↦ numbered n.tables.resources place ])) 0 = (let e = step.step.0 in cc) in
+    says ∙ ap (λ p. unwrap_or (option_map {T = Resource} {U = ℕ} (λ r. r.length_in) (elim p as (λ _. Option Resource) [ None ↦ None | Some n ↦ numbered n.tables.resources place ])) 0) there
+    ∙ ap (λ p. unwrap_or (option_map {T = Resource} {U = ℕ} (λ r. r.length_in) p) 0) numbered_is
+
+module _ (old : LoadingWorld) (handle slot : ℕ) (load : Load) (found : slot_of_handle old.handles handle ≡ Some slot) (there : finmap.get old.loads slot ≡ Some load) where
+  abbrev one_less : LoadingWorld
+  one_less = record old { loads = finmap.insert old.loads slot (record load { loads = load.loads - 1 }) }
+
+  abbrev gone : LoadingWorld
+  gone = let left = without_objects (λ q. q == slot) old in record left { loads = finmap.remove left.loads slot }
+
+  freed : free_resource old handle ≡ (if nat_lt 1 load.loads then (0, one_less) else (if nat_lt 0 (locks_at old.handles.heap slot) then (1, old) else (0, gone)))
+  freed = ap (λ p. elim p as (λ _. ℕ × LoadingWorld) [
+    | None ↦ (1, old)
+    | Some x ↦ if nat_lt 1 x.1.loads then (0, record old { loads = finmap.insert old.loads x.0 (record x.1 { loads = x.1.loads - 1 }) })
+        else (if nat_lt 0 (locks_at old.handles.heap x.0) then (1, old) else (0, (let left = without_objects (λ q. q == x.0) old in record left { loads = finmap.remove left.loads x.0 })))
+  ]) (ap (λ p. elim p as (λ _. Option (ℕ × Load)) [ None ↦ None | Some s ↦ option_map {T = Load} {U = ℕ × Load} (λ l. (s, l)) (finmap.get old.loads s) ]) found ∙ ap (option_map {T = Load} {U = ℕ × Load} (λ l. (slot, l))) there)
+
+pub free_law : FreeLaw
+free_law format old new handle slot answer load found there step = (
+  λ more.
+      let is = freed old handle slot load found there ∙ ap (λ b. cond {A = ℕ × LoadingWorld} b (0, one_less old handle slot load found there) (if nat_lt 0 (locks_at old.handles.heap slot) then (1, old) else (0, gone old handle slot load found there))) (lt-ltb 1 load.loads more) in
+      let all = step.step.1 ∙ ap (λ p. p.1) is in (
+        says ∙ ap (λ p. p.0) is,
+        ap (λ (w : LoadingWorld). w.handles) all,
+        ap (λ (w : LoadingWorld). w.modules) all,
+        ap (λ (w : LoadingWorld). finmap.get w.loads slot) all ∙ inserted_here old.loads slot (record load { loads = load.loads - 1 }) slot refl,
+      ),
+  λ last locked.
+      let is = last_is last ∙ ap (λ b. cond {A = ℕ × LoadingWorld} b (1, old) (0, gone old handle slot load found there)) (lt-ltb 0 (locks_at old.handles.heap slot) locked) in
+      let all = step.step.1 ∙ ap (λ p. p.1) is in
+      (says ∙ ap (λ p. p.0) is, ap (λ (w : LoadingWorld). w.handles) all, ap (λ (w : LoadingWorld). w.modules) all, ap (λ (w : LoadingWorld). w.loads) all),
+  λ last loose.
+      let is = last_is last ∙ ap (λ b. cond {A = ℕ × LoadingWorld} b (1, old) (0, gone old handle slot load found there)) (le-ltb 0 (locks_at old.handles.heap slot) (omega (arith, loose))) in
+      let all = step.step.1 ∙ ap (λ p. p.1) is in (
+        says ∙ ap (λ p. p.0) is,
+        ap (λ (w : LoadingWorld). object_at w.handles.heap slot) all ∙ value_gone old.handles.heap.objects (λ q. q == slot) slot (eq-eqb slot slot refl),
+        ap (λ (w : LoadingWorld). finmap.get w.loads slot) all ∙ taken_here old.loads slot slot refl,
+        ap (λ (w : LoadingWorld). w.modules) all,
+      ),
+)
+  where
+    says : answer ≡ (free_resource old handle).0
+    says = let e = step.step.0 in cc
+
+    last_is : load.loads ≤ 1 → free_resource old handle ≡ (if nat_lt 0 (locks_at old.handles.heap slot) then (1, old) else (0, gone old handle slot load found there))
+    last_is le = freed old handle slot load found there
+        ∙ ap (λ b. cond {A = ℕ × LoadingWorld} b (0, one_less old handle slot load found there) (if nat_lt 0 (locks_at old.handles.heap slot) then (1, old) else (0, gone old handle slot load found there))) (le-ltb 1 load.loads le)

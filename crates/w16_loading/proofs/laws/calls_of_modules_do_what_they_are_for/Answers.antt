@@ -1,0 +1,17 @@
+use Rattle.w16_loading.proofs.Effects.{built_in_law, find_law, free_law, named_law, sizeof_law}
+use Rattle.w16_loading.proofs.laws.calls_of_modules_do_what_they_are_for.Goals as goal
+
+pub returns-clause-named : goal.returns-clause-named
+returns-clause-named c = named_law
+
+pub returns-clause-built_in : goal.returns-clause-built_in
+returns-clause-built_in c = built_in_law
+
+pub returns-clause-find : goal.returns-clause-find
+returns-clause-find c = find_law
+
+pub returns-clause-size : goal.returns-clause-size
+returns-clause-size c = sizeof_law
+
+pub returns-clause-free : goal.returns-clause-free
+returns-clause-free c = free_law
