@@ -6,8 +6,8 @@ usage: check-commands.py [--where]
 - Each example of docs/COMMANDS.md, written `LINE -> REPLY` with a link to its row, stands in that row of crates/w16rows/data, and so does each
   block of the form ```row. The file is one that the program w16rows plays in the gate.
 - docs/COMMANDS.md has a row of a table for each command that the language knows, and for no other.
-- The blocks of README.md that begin with <!-- FILE --> are the file's text, those with <!-- FILE, its first lines --> are the lines that it
-  begins with, and those with <!-- code of FILE --> are a part of it.
+- A block of README.md after <!-- FILE --> is the file's text, one after <!-- FILE, its first lines --> is what it begins with, and one after
+  <!-- code of FILE --> is a part of it, which may leave out lines of imports.
 
 With --where it prints the row of each example too. It ends with 1 where something differs, and says what.
 """
@@ -132,6 +132,11 @@ def check_names(text):
     return len(known)
 
 
+def is_code_of(has, block):
+    """Whether a block is a part of a file, from which lines of imports may be missing."""
+    return stands_in([line for line in has if not line.startswith("use ") or line in block], block)
+
+
 def check_readme():
     """Checks the blocks of README.md that are files, and answers how many there are."""
     found = 0
@@ -146,7 +151,7 @@ def check_readme():
             continue
         has = path.read_text().splitlines()
         if named[1]:
-            same = stands_in(has, lines)
+            same = is_code_of(has, lines)
         elif named[3]:
             same = has[:len(lines)] == lines
         else:
