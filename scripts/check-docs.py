@@ -1,0 +1,147 @@
+#!/usr/bin/env python3
+"""Checks README.md and the pages of docs/ against the tree.
+
+usage: check-docs.py [PAGE...]
+
+- A name in backticks is one that the tree has: a word of a source, a file or a folder. Lines of scripts, commands of a shell and numbers aren't names.
+- A link leads to a file, and to a heading of it where it names one.
+- No page has an absolute path of a machine.
+- Words that this repository says otherwise don't stand in its pages ("after" for "behind", "that many" for "so many" and so on).
+
+It ends with 1 where something is wrong, and says what. With PAGE only these pages are checked.
+"""
+import re
+import subprocess
+import sys
+from pathlib import Path
+
+TOP = Path(__file__).resolve().parent.parent
+SOURCES = (".rt", ".antt", ".h", ".c", ".py", ".sh", ".edit", "")
+# What stands in backticks and is no name of the tree: words of the language and of the toolchain, flags of tools, and what is printed.
+OTHERS = set(
+    """rt ok end free fixed moveable discardable bytes fault ptr u8 u16 u32 u64 i32 usize bool str None Some Ok Err true false NE MZ LF CR FFFF
+    clap jq gcc valgrind memmove memset memcpy malloc serde_json thiserror arrayvec bitflags byteorder hex memchr indexmap slab std
+    main lo hi h k n N DIR FILE NAME SCRIPT""".split()
+)
+WORDS = {
+    r"\bbehind\b": "after",
+    r"\bso many\b": "that many, or n",
+    r"\bas many as so\b": "that many",
+    r"\btells?\b": "says, says which, shows",
+    r"\btold\b": "said, stated, known",
+    r"\bbut for\b": "except",
+    r"\bwhom\b": "a plainer word",
+    r"\banew\b": "again",
+}
+# These are written apart, and may use the words above.
+WORDS_NOT_CHECKED = {"CONTRIBUTING.md"}
+
+faults = []
+
+
+def fault(page, number, text):
+    faults.append(f"{page.name}:{number}: {text}")
+
+
+def tracked():
+    listed = subprocess.run(["git", "ls-files"], cwd=TOP, check=True, capture_output=True, text=True).stdout
+    return listed.splitlines()
+
+
+def words_of_sources(files):
+    """Each word of the sources, and of the names of files and folders."""
+    words = set()
+    for name in files:
+        path = TOP / name
+        words.update(re.findall(r"\w+", name))
+        words.update(re.split(r"[/.]", name))
+        if name.startswith("docs/") or name == "README.md" or path.suffix not in SOURCES or not path.is_file():
+            continue
+        text = path.read_text(errors="replace")
+        words.update(re.findall(r"\w+", text))
+        words.update(re.findall(r"[\w-]+", text))
+    return words
+
+
+def is_path(name, files, folders):
+    """Whether a file or folder has this path, from the top or from a folder on."""
+    name = name.rstrip("/")
+    return any(it == name or it.endswith("/" + name) or Path(it).with_suffix("").as_posix().endswith("/" + name) for it in files) or any(
+        it == name or it.endswith("/" + name) for it in folders
+    )
+
+
+def check_name(page, number, name, words, files, folders):
+    """Checks what stands in backticks, if it is a name."""
+    name = name.removeprefix("./")
+    # What a build makes isn't in the tree.
+    if name in OTHERS or "out/" in name or not re.fullmatch(r"[\w./:<>*-]*[A-Za-z_][\w./:<>*-]*", name):
+        return
+    if re.fullmatch(r"(0x)?[0-9a-fA-F]+|r[0-9N]+(\.lo|\.hi)?|-{1,2}[\w-]+", name) or name.endswith("..") or "N" == name:
+        return
+    if "*" in name or "<" in name or name in files:
+        return
+    if "/" in name or re.search(r"\.(rt|antt|txt|py|sh|md|h|c|out|edit)$", name):
+        if not is_path(name, files, folders):
+            fault(page, number, f"there is no `{name}`")
+        return
+    for part in re.split(r"::|\.", name):
+        if part and part not in words:
+            fault(page, number, f"no source has `{name}`")
+            return
+
+
+def anchor_of(heading):
+    """The anchor of a heading, as it is rendered."""
+    return re.sub(r"[^\w\- ]", "", heading.replace("`", "").strip().lower()).replace(" ", "-")
+
+
+def check_link(page, number, target):
+    """Checks that a link leads somewhere."""
+    if re.match(r"https?:", target):
+        return
+    file, _, anchor = target.partition("#")
+    path = (page.parent / file).resolve() if file else page
+    if not path.exists():
+        fault(page, number, f"the link {target} leads nowhere")
+    elif anchor and anchor not in [anchor_of(it) for it in re.findall(r"^#+ (.*)$", path.read_text(), re.M)]:
+        fault(page, number, f"no heading is #{anchor}")
+
+
+def check_page(page, words, files, folders):
+    fenced = False
+    for number, line in enumerate(page.read_text().splitlines(), 1):
+        if line.startswith("```"):
+            fenced = not fenced
+            continue
+        for found in re.findall(r"(?<![\w.])/(?:home|root|tmp|work|opt|usr|mnt)/\S*", line):
+            fault(page, number, f"an absolute path: {found}")
+        if fenced:
+            continue
+        for target in re.findall(r"\]\(([^)\s]+)(?: \"[^\"]*\")?\)", line):
+            check_link(page, number, target)
+        for name in re.findall(r"`([^`]+)`", line):
+            check_name(page, number, name, words, files, folders)
+        if page.name not in WORDS_NOT_CHECKED:
+            plain = re.sub(r"`[^`]*`|\"[^\"]*\"", "", line)
+            for word, better in WORDS.items():
+                for found in re.findall(word, plain, re.I):
+                    fault(page, number, f"'{found}': rather {better}")
+
+
+def main():
+    pages = [Path(it).resolve() for it in sys.argv[1:]] or [TOP / "README.md", *sorted((TOP / "docs").glob("*.md"))]
+    files = tracked()
+    folders = {parent.as_posix() for it in files for parent in Path(it).parents}
+    words = words_of_sources(files)
+    for page in pages:
+        check_page(page, words, files, folders)
+    for it in faults:
+        print(f"check-docs: {it}")
+    count = sum(len(page.read_text().split()) for page in pages)
+    print(f"check-docs: {len(pages)} pages, {count} words, {len(faults)} faults")
+    return 1 if faults else 0
+
+
+if __name__ == "__main__":
+    sys.exit(main())
