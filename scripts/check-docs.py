@@ -5,6 +5,7 @@ usage: check-docs.py [PAGE...]
 
 - A name in backticks is one that the tree has: a word of a source, a file or a folder. Lines of scripts, commands of a shell and numbers aren't names.
 - A link leads to a file, and to a heading of it where it names one.
+- A block after <!-- code of FILE --> has paragraphs of that file, in its order; lines of imports may be missing.
 - No page has an absolute path of a machine.
 - Words that this repository says otherwise don't stand in its pages ("after" for "behind", "that many" for "so many" and so on).
 
@@ -75,11 +76,11 @@ def check_name(page, number, name, words, files, folders):
     """Checks what stands in backticks, if it is a name."""
     name = name.removeprefix("./")
     # What a build makes isn't in the tree.
-    if name in OTHERS or "out/" in name or not re.fullmatch(r"[\w./:<>*-]*[A-Za-z_][\w./:<>*-]*", name):
+    if name in OTHERS or re.search(r"\bout(/|$)", name) or not re.fullmatch(r"[\w./:<>*-]*[A-Za-z_][\w./:<>*-]*", name):
         return
     if re.fullmatch(r"(0x)?[0-9a-fA-F]+|r[0-9N]+(\.lo|\.hi)?|-{1,2}[\w-]+", name) or name.endswith("..") or "N" == name:
         return
-    if "*" in name or "<" in name or name in files:
+    if "*" in name or "<" in name or "NAME" in name or name in files:
         return
     if "/" in name or re.search(r"\.(rt|antt|txt|py|sh|md|h|c|out|edit)$", name):
         if not is_path(name, files, folders):
@@ -96,6 +97,15 @@ def anchor_of(heading):
     return re.sub(r"[^\w\- ]", "", heading.replace("`", "").strip().lower()).replace(" ", "-")
 
 
+def anchors_in(text):
+    """The anchors of a page: of equal ones the second has a -1 and so on."""
+    anchors, counts = set(), {}
+    for it in map(anchor_of, re.findall(r"^#+ (.*)$", text, re.M)):
+        anchors.add(f"{it}-{counts[it]}" if it in counts else it)
+        counts[it] = counts.get(it, 0) + 1
+    return anchors
+
+
 def check_link(page, number, target):
     """Checks that a link leads somewhere."""
     if re.match(r"https?:", target):
@@ -104,17 +114,43 @@ def check_link(page, number, target):
     path = (page.parent / file).resolve() if file else page
     if not path.exists():
         fault(page, number, f"the link {target} leads nowhere")
-    elif anchor and anchor not in [anchor_of(it) for it in re.findall(r"^#+ (.*)$", path.read_text(), re.M)]:
+    elif anchor and anchor not in anchors_in(path.read_text()):
         fault(page, number, f"no heading is #{anchor}")
 
 
+def stands_at(lines, paragraph, start):
+    """Where a paragraph ends among the lines, from a line on, or none."""
+    count = len(paragraph)
+    return next((at + count for at in range(start, len(lines) - count + 1) if lines[at:at + count] == paragraph), None)
+
+
+def check_code(page, number, file, block):
+    """Checks that a block has paragraphs of a file, in its order."""
+    path = TOP / file
+    if not path.is_file():
+        return fault(page, number, f"there is no {file}")
+    lines = [line for line in path.read_text().splitlines() if not line.startswith("use ") or line in block]
+    at = 0
+    for paragraph in "\n".join(block).split("\n\n"):
+        at = stands_at(lines, paragraph.splitlines(), at)
+        if at is None:
+            return fault(page, number, f"{file} hasn't, or not at this place: {paragraph.splitlines()[0]}")
+
+
 def check_page(page, words, files, folders):
-    fenced = False
+    fenced, before, block = False, "", []
     for number, line in enumerate(page.read_text().splitlines(), 1):
         if line.startswith("```"):
-            fenced = not fenced
+            named = re.fullmatch(r"<!-- code of (\S+) -->", before)
+            if fenced and named:
+                check_code(page, number, named[1], block)
+            fenced, block = not fenced, []
             continue
-        for found in re.findall(r"(?<![\w.])/(?:home|root|tmp|work|opt|usr|mnt)/\S*", line):
+        if fenced:
+            block.append(line)
+        else:
+            before = line
+        for found in re.findall(r"(?<![\w.])/(?:home|root|tmp|work|opt|mnt)/\S*", line):
             fault(page, number, f"an absolute path: {found}")
         if fenced:
             continue
