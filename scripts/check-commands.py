@@ -5,7 +5,7 @@ usage: check-commands.py [--where]
 
 - Each example of docs/COMMANDS.md, written `LINE -> REPLY` with a link to its row, stands in that row of crates/w16rows/data, and so does each
   block of the form ```row. The file is one that the program w16rows plays in the gate.
-- docs/COMMANDS.md has a row of a table for each command that the language knows, and for no other.
+- docs/COMMANDS.md has a row of a table for each command that the language knows, with as many arguments, and for no other.
 - A block of README.md after <!-- FILE --> is the file's text, one after <!-- FILE, its first lines --> is what it begins with, and one after
   <!-- code of FILE --> is a part of it, which may leave out lines of imports.
 
@@ -126,6 +126,10 @@ def check_names(text):
     for name in known:
         if told.count(name) != 1:
             fault(f"COMMANDS.md: {name} has {told.count(name)} rows of a table")
+    rows = dict(re.findall(r"^\| `([A-Z]\w*)((?: [A-Z]+)*)` \|", text, re.M))
+    for name, parameters in re.findall(r"^row_of name\.(\w+) = .*?\)(.*)$", grammar, re.M):
+        if name in rows and len(rows[name].split()) != len(re.findall(r"\bp\.[A-Z]", parameters)):
+            fault(f"COMMANDS.md: {name} takes another number of arguments")
     for name in told:
         if name not in known:
             fault(f"COMMANDS.md: {name} is no command of Grammar.antt")

@@ -1,5 +1,5 @@
 #!/bin/sh
-# Runs each example and compares what it prints with the file that is kept beside it.
+# Runs each example and compares what it prints with the file that is kept beside it, and so each run that README.md shows.
 # usage: check-examples.sh W16HEAP [W16NE]    paths of the built programs; without the second the examples of w16ne are left out
 # It ends with 1 where something differs, and shows the difference.
 
@@ -13,13 +13,14 @@ trap 'rm -rf "$room"' EXIT
 passed=0
 failed=0
 
-# Compares what a command prints with the file NAME.out.
-check() {
-    out=$1.out
-    shift
+# Compares what a command prints with a file, and its status with a number.
+compare() {
+    out=$1
+    wanted=$2
+    shift 2
     "$@" > "$room/printed" 2> "$room/said"
     status=$?
-    if [ "$status" -eq 0 ] && [ ! -s "$room/said" ] && diff "$out" "$room/printed"; then
+    if [ "$status" -eq "$wanted" ] && [ ! -s "$room/said" ] && diff "$out" "$room/printed"; then
         passed=$((passed + 1))
     else
         failed=$((failed + 1))
@@ -28,8 +29,33 @@ check() {
     fi
 }
 
+# Compares what a command prints with the file NAME.out.
+check() {
+    name=$1
+    shift
+    compare "$name.out" 0 "$@"
+}
+
+# The run of README.md whose command begins with a dollar sign.
+check_readme() {
+    ln -s "$heap" "$room/w16heap"
+    sed -n 's/^    \$ //p' ../README.md > "$room/readme.sh"
+    sed -n '/^    \$ /,/^$/p' ../README.md | sed '1d; /^$/d; s/^    //' > "$room/readme.out"
+    [ -s "$room/readme.sh" ] || echo "check-examples: README.md shows no run"
+    compare "$room/readme.out" 0 sh -c "cd '$room' && . ./readme.sh"
+}
+
+# The fault that README.md says of a file whose segments end too early.
+check_fault() {
+    mkdir "$room/cut"
+    head -c 180 "$room/modules/TAPP.EXE" > "$room/cut/TAPP.EXE"
+    grep -o 'TAPP.EXE: not accepted: [a-z: ]*' ../README.md > "$room/fault.out"
+    compare "$room/fault.out" 4 "$ne" "$room/cut/TAPP.EXE"
+}
+
 ./make-modules.py "$room/modules" || exit 2
 
+check_readme
 check compaction "$heap" --memory 512 compaction.txt
 check tour "$heap" tour.txt
 check local "$heap" local.txt
@@ -40,6 +66,7 @@ check refused "$heap" --memory 128 --dir "$room/modules" refused.txt
 check dialogue ./dialogue.py "$heap"
 if [ -n "$ne" ]; then
     check tapp "$ne" "$room/modules/TAPP.EXE"
+    check_fault
     check imports ./imports.sh "$ne" "$room/modules/TAPP.EXE" "$room/modules/TLIB.DLL"
 fi
 
