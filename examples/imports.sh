@@ -1,5 +1,6 @@
 #!/bin/sh
 # Prints what module files import, a line for each import: the file, the module, and the entry by its name or as # and its ordinal.
+# A file that isn't accepted has none.
 # usage: imports.sh PROGRAM FILE...    where PROGRAM is w16ne
 program=$1
 shift
@@ -10,6 +11,6 @@ else
 import json, sys
 for line in sys.stdin:
     file = json.loads(line)
-    for it in (file["module"] or {}).get("imports", []):
+    for it in (file.get("module") or {}).get("imports", []):
         print(file["file"], it["module"], it.get("name") or "#%d" % it["ordinal"])'
 fi

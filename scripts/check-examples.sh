@@ -67,7 +67,7 @@ check dialogue ./dialogue.py "$heap"
 if [ -n "$ne" ]; then
     check tapp "$ne" "$room/modules/TAPP.EXE"
     check_fault
-    check imports ./imports.sh "$ne" "$room/modules/TAPP.EXE" "$room/modules/TLIB.DLL"
+    check imports ./imports.sh "$ne" "$room/modules/TAPP.EXE" "$room/modules/TLIB.DLL" "$room/cut/TAPP.EXE"
 fi
 
 echo "check-examples: $passed passed, $failed failed"
