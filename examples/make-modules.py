@@ -1,5 +1,6 @@
 #!/usr/bin/env python3
-"""Writes the module files of examples/modules.txt into a folder: TLIB.DLL, a library, TAPP.EXE, an application that imports from it, and TRES.DLL, a library of a resource.
+"""Writes the module files of the examples into a folder: TLIB.DLL, a library, TAPP.EXE, an application that imports from it, TRES.DLL, a library of a
+resource, and TDATA.DLL, a library with two fixed segments.
 
 usage: make-modules.py FOLDER
 """
@@ -7,10 +8,10 @@ import struct
 import sys
 from pathlib import Path
 
-OLD, HEAD = 64, 64  # bytes of the old header, and of the header that stands behind it
+OLD, HEAD = 64, 64  # bytes of the old header, and of the header after it
 SHIFT = 4  # segments and resources begin at whole units of 16 bytes
 LIBRARY = 0x8000  # of a module
-MOVEABLE, PURE, PRELOAD, RECORDS, DISCARDABLE = 0x0010, 0x0020, 0x0040, 0x0100, 0x1000  # of a segment or a resource; RECORDS: it has relocation records
+DATA, MOVEABLE, PURE, PRELOAD, RECORDS, DISCARDABLE = 0x0001, 0x0010, 0x0020, 0x0040, 0x0100, 0x1000  # of a segment or a resource; RECORDS: it has relocation records
 NUMBER = 0x8000  # a type or an id of a resource that is no text
 OFFSET, POINTER = 5, 3  # what a record writes: an offset, or a far pointer
 INTERNAL, BY_ORDINAL, BY_NAME, ADDED = 0, 1, 2, 4  # what it leads to, and whether its value is added
@@ -42,15 +43,15 @@ def module(flags, segments, names, references, imported, entries, moveable, desc
     imported_at = references_at + 2 * len(references)
     entries_at = imported_at + len(imported)
     start = OLD + entries_at + len(entries)
-    table, listed, behind = b"", b"", description
+    table, listed, data = b"", b"", description
     for kind, code, records in segments:
-        behind += bytes(-(start + len(behind)) % (1 << SHIFT))
-        table += words((start + len(behind)) >> SHIFT, len(code), kind, len(code))
-        behind += code + (words(len(records)) + b"".join(records) if records else b"")
+        data += bytes(-(start + len(data)) % (1 << SHIFT))
+        table += words((start + len(data)) >> SHIFT, len(code), kind, len(code))
+        data += code + (words(len(records)) + b"".join(records) if records else b"")
     for kind, number, flag, content in resources:
-        behind += bytes(-(start + len(behind)) % (1 << SHIFT))
-        listed += words(NUMBER | kind, 1, 0, 0, (start + len(behind)) >> SHIFT, len(content) >> SHIFT, flag, NUMBER | number, 0, 0)
-        behind += content
+        data += bytes(-(start + len(data)) % (1 << SHIFT))
+        listed += words(NUMBER | kind, 1, 0, 0, (start + len(data)) >> SHIFT, len(content) >> SHIFT, flag, NUMBER | number, 0, 0)
+        data += content
     listed = words(SHIFT) + listed + words(0) if resources else b""
     old = b"MZ" + bytes(58) + struct.pack("<L", OLD)
     head = b"NE" + bytes([5, 10]) + words(entries_at, len(entries), 0, 0, flags) + bytes(14)
@@ -58,7 +59,7 @@ def module(flags, segments, names, references, imported, entries, moveable, desc
     head += words(HEAD, resources_at, names_at, references_at, imported_at)
     head += struct.pack("<L", start if description else 0) + words(moveable, SHIFT, 0)
     head += bytes([2]) + bytes(7) + words(0x030A)  # for Windows, 3.10
-    return old + head + table + listed + names + words(*references) + imported + entries + behind
+    return old + head + table + listed + names + words(*references) + imported + entries + data
 
 
 def library():
@@ -88,6 +89,11 @@ def resources():
     return module(LIBRARY, [], names(b"TRES"), [], b"", b"\0", 0, b"", [resource])
 
 
+def fixed_data():
+    """Two fixed segments of 64 bytes, and nothing else."""
+    return module(LIBRARY, [(DATA, bytes(64), []), (DATA, bytes(64), [])], names(b"TDATA"), [], b"", b"\0", 0, b"")
+
+
 def main():
     if len(sys.argv) != 2:
         sys.exit(__doc__.strip())
@@ -96,6 +102,7 @@ def main():
     (folder / "TLIB.DLL").write_bytes(library())
     (folder / "TAPP.EXE").write_bytes(application())
     (folder / "TRES.DLL").write_bytes(resources())
+    (folder / "TDATA.DLL").write_bytes(fixed_data())
 
 
 if __name__ == "__main__":
