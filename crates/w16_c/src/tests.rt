@@ -1,3 +1,4 @@
+//! Tests of the functions that C calls: each call on its happy path, and each refusal that C can see.
 use super::*;
 use std::alloc::Global;
 

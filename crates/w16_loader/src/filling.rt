@@ -133,7 +133,7 @@ fn fill_module<S: Store, A: Allocator + Copy>(
 /// Gives the objects of the fixed and of the preload segments of some modules their bytes, by module and by number. They are objects without
 /// bytes, which have their names already. The first that gets none ends it: those before it keep what they got.
 ///
-/// Each gets its bytes as by a fetch, which see for what is moved and discarded, and for the faults.
+/// Each gets its bytes as by a fetch: [`fetch`](crate::fetch) says what is moved and discarded, and when each fault comes.
 pub(crate) fn fill_modules<S: Store, A: Allocator + Copy>(
     registry: &Registry<A>,
     global: &mut Global16<A>,
