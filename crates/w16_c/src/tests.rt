@@ -1,4 +1,4 @@
-//! Tests of the functions that C calls: each call on its happy path, and each refusal that C can see.
+//! Tests of the functions that C calls.
 use super::*;
 use std::alloc::Global;
 
