@@ -3,13 +3,13 @@
  * A machine is held by a struct w16 that is the caller's. It begins as W16_NONE, gets a machine by w16_new, and gives it back by w16_free. Nothing
  * is global, so a program may have many.
  *
- * Every function but w16_free answers a status. What a call answers beside it goes out through the last pointer, where the status is W16_DONE; else
- * what that pointer points to stays as it was. Each call is the command of the same name of a script (README.md), which says in full what it does.
+ * Every function except w16_free answers a status. What a call answers beside it goes out through the last pointer, where the status is W16_DONE; else
+ * what that pointer points to stays as it was. Each call is the command of the same name of a script; docs/COMMANDS.md says in full what it does.
  *
  * What the caller has to keep:
  * - A struct w16 is changed by these functions alone, and is not copied: a copy would be freed twice.
  * - One call at a time for each machine.
- * - Each pointer is valid, and so is each buffer for so many bytes as are given with it; none overlaps another one or the struct w16.
+ * - Each pointer is valid, and so is each buffer for the number of bytes that is given with it; none overlaps another one or the struct w16.
  * - The program has rattle_alloc, rattle_realloc and rattle_dealloc, by which the library takes memory of it (examples/c/heap.c has them over malloc).
  *   It does so in w16_new, w16_add_file, w16_local_init, w16_builtin, w16_load_module and w16_load_library alone.
  */
@@ -37,11 +37,11 @@ enum {
     W16_DONE = 0,              /* the call was made */
     W16_NO_MACHINE = 1,        /* the struct holds no machine: nothing was done */
     W16_NO_MEMORY = 2,         /* the program has no memory for it: nothing was done */
-    W16_BAD_SIZE = 3,          /* a machine of these sizes, or so many bytes, can't be: nothing was done */
+    W16_BAD_SIZE = 3,          /* no machine has these sizes, or no call takes that many bytes: nothing was done */
     W16_FAULT_SELECTOR = 4,    /* no object has the far pointer's selector */
     W16_FAULT_READ_ONLY = 5,   /* the object's bytes are code, which can't be written */
     W16_FAULT_NOT_PRESENT = 6, /* the object has no bytes */
-    W16_FAULT_LIMIT = 7,       /* the access goes past the object's end */
+    W16_FAULT_LIMIT = 7,       /* the access goes past the last byte that the selector reaches */
     W16_END = 8,               /* no part of the heap begins at the address or above it */
     W16_FAULT_ROOM = 9,        /* there is no room for the bytes of a module's object */
     W16_FAULT_STORE = 10,      /* a module's file can't be read */
@@ -50,8 +50,8 @@ enum {
     W16_NONE_MISSING = 13      /* no file is known to be missing */
 };
 
-/* A new machine of so many bytes of memory, a multiple of 32 from 32 to 16,777,216, and so many selectors, from 1 to 8,160. It replaces one that is
- * held, which is freed. W16_BAD_SIZE, W16_NO_MEMORY: the struct stays as it was. */
+/* A new machine of this many bytes of memory, a multiple of 32 from 32 to 16,777,216, and this many selectors, from 1 to 8,160. It replaces one that
+ * is held, which is freed. W16_BAD_SIZE, W16_NO_MEMORY: the struct stays as it was. */
 uint8_t w16_new(w16 *machine, uint32_t memory, uint32_t selectors);
 
 /* Frees the machine, if one is held: freeing twice does no harm. */
@@ -85,26 +85,26 @@ uint8_t w16_global_handle(w16 *machine, uint16_t selector, uint32_t *both);
 
 /* Selectors and far memory. A fault leaves all as it was. */
 
-/* The address of the selector's object in the machine's memory, or 0. */
+/* The address in the machine's memory of the first byte that the selector reaches, or 0. */
 uint8_t w16_get_selector_base(w16 *machine, uint16_t selector, uint32_t *base);
-/* The offset of its last byte, or 0. */
+/* The offset of the last byte that it reaches, or 0. */
 uint8_t w16_get_selector_limit(w16 *machine, uint16_t selector, uint32_t *limit);
-/* So many bytes from a far pointer on; W16_BAD_SIZE for more than 1,024. */
+/* Reads count bytes from a far pointer on; W16_BAD_SIZE for more than 1,024. */
 uint8_t w16_read(w16 *machine, uint32_t pointer, uint8_t *into, size_t count);
-/* So many bytes to a far pointer. */
+/* Writes count bytes from a far pointer on. */
 uint8_t w16_write(w16 *machine, uint32_t pointer, const uint8_t *bytes, size_t count);
-/* So many times the same byte to a far pointer; W16_BAD_SIZE for more than 65,536. */
+/* Writes the same byte count times from a far pointer on; W16_BAD_SIZE for more than 65,536. */
 uint8_t w16_fill(w16 *machine, uint32_t pointer, uint32_t count, uint8_t byte);
 
-/* Module files. They are kept in memory, and named by so many bytes of text, in any case of the letters of ASCII. */
+/* Module files. They are kept in memory. A file's name is length bytes of text; letters of ASCII may differ in case. */
 
 /* Adds a file, whose name and bytes are copied. W16_EXISTS: a file has that name, and stays as it is, since a module may be loaded from it. */
 uint8_t w16_add_file(w16 *machine, const char *name, size_t length, const uint8_t *bytes, size_t count);
-/* The name of the file that a load missed: ask behind one that answered 2 or 20, add the file, and load again. It is the last name, of at most
+/* The name of the file that a load missed: ask after one that answered 2 or 20, add the file, and load again. It is the last name, of at most
  * W16_MOST_NAME bytes, by which no file was found; W16_NONE_MISSING where a file was found or added since. W16_BAD_SIZE: the buffer is shorter. */
 uint8_t w16_missing_file(w16 *machine, char *name, size_t room, size_t *length);
 
-/* The longest name that w16_missing_file tells, in bytes; no zero ends it. */
+/* The longest name that w16_missing_file gives, in bytes; no zero ends it. */
 #define W16_MOST_NAME 259
 
 /* Modules. Far accesses and calls on resources fetch bytes from their files, and may meet W16_FAULT_ROOM, _STORE and _DAMAGED. */
@@ -154,7 +154,7 @@ typedef struct w16_part {
     uint8_t locks;   /* the lock count */
 } w16_part;
 
-/* The first part that begins at an address or above it; W16_END behind the last. A whole walk goes from 0 to each part's end:
+/* The first part that begins at an address or above it; W16_END after the last. A whole walk goes from 0 to each part's end:
  *     for (at = 0; w16_walk_from(&machine, at, &part) == W16_DONE; at = part.at + part.size) */
 uint8_t w16_walk_from(w16 *machine, uint32_t from, w16_part *part);
 /* How many bytes the last w16_global_alloc, _realloc, _discard or _compact moved. Where it isn't 0, selectors have other bases. */
