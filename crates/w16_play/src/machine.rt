@@ -2,6 +2,7 @@
 ghost use Rattle.std.specs.Prelude.{ℕ};
 
 use std::alloc::{AllocError, Allocator, Global};
+use std::io::{Read, Write};
 use std::marker::Model;
 use w16_kernel::Kernel;
 use w16_model::{GRAIN, MOST_SLOTS};
@@ -9,10 +10,19 @@ use w16_script::{Ended, RunFault, run};
 use w16_store::Store;
 
 /// A machine. To a proof it has no value, and its methods have no clauses, so no test carries what a run says of it.
-#[derive(Drop)]
 pub struct Machine<S: Store + Drop, A: Allocator + Copy = Global> {
     alloc: A,
     kernel: Kernel<S, A>,
+}
+
+impl<S: Store + Drop, A: Allocator + Copy> Drop for Machine<S, A> {
+    /// Written out, so that how all that a kernel has is dropped is proved here, and in no crate that drops a machine.
+    fn drop(self) {
+        let Self {
+            alloc: _,
+            kernel: _,
+        } = self;
+    }
 }
 
 impl<S: Store + Drop, A: Allocator + Copy> Model for Machine<S, A> {
@@ -29,9 +39,18 @@ impl<S: Store + Drop, A: Allocator + Copy> Machine<S, A> {
         Ok(Machine { alloc, kernel })
     }
 
-    /// Plays a script, whose replies are put behind the output, and answers how it ended. Registers begin anew with each.
+    /// Plays a script that a reader gives, whose replies a writer takes, and answers how it ended. Registers begin anew with each.
+    pub fn run<R: Read, W: Write>(
+        &mut self,
+        reader: &mut R,
+        writer: &mut W,
+    ) -> Result<Ended, RunFault> {
+        run(self.alloc, reader, writer, &mut self.kernel)
+    }
+
+    /// Plays a script whose replies are put after the output, and answers how it ended.
     pub fn play(&mut self, script: &[u8], output: &mut Vec<u8>) -> Result<Ended, RunFault> {
         let mut reader = script;
-        run(self.alloc, &mut reader, output, &mut self.kernel)
+        self.run(&mut reader, output)
     }
 }
