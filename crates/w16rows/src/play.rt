@@ -23,6 +23,18 @@ fn play_row(rt: &(impl Print + AllocGlobal), file: &str, row: &Row<'_>) -> io::R
     Ok(is_played_right(rt, file, row)? && (!row.has_refusals || is_refused_right(rt, file, row)?))
 }
 
+/// Plays a row, and counts its replies.
+fn play_counted(
+    rt: &(impl Print + AllocGlobal),
+    file: &str,
+    row: &Row<'_>,
+    tally: &mut Tally,
+) -> io::Result<()> {
+    tally.replies = tally.replies.saturating_add(row.replies);
+    tally.is_right = play_row(rt, file, row)? && tally.is_right;
+    Ok(())
+}
+
 /// Plays the row of a text, and counts it. One that can't be read is told.
 fn play_next(
     rt: &(impl Print + AllocGlobal),
@@ -32,16 +44,12 @@ fn play_next(
 ) -> io::Result<()> {
     tally.rows = tally.rows.saturating_add(1);
     match row_of(rt.alloc(), text) {
-        Ok(row) => {
-            tally.replies = tally.replies.saturating_add(row.replies);
-            tally.is_right = play_row(rt, file, &row)? && tally.is_right;
-        }
+        Ok(row) => play_counted(rt, file, &row, tally),
         Err(fault) => {
-            println!(rt; "{file}: row {}: {fault}", tally.rows)?;
             tally.is_right = false;
+            println!(rt; "{file}: row {}: {fault}", tally.rows)
         }
     }
-    Ok(())
 }
 
 /// Whether lines say nothing: they are empty, or comments.
@@ -71,14 +79,17 @@ fn play_text(rt: &(impl Print + AllocGlobal), file: &str, text: &str) -> io::Res
     Ok(tally)
 }
 
-/// Plays the rows of a file, and tells what goes otherwise, and how many they are. Whether all go right.
+/// Plays the rows of a file's text, and tells what goes otherwise, and how many they are. Whether all go right.
+fn play_whole(rt: &(impl Print + AllocGlobal), path: &str, text: &str) -> io::Result<bool> {
+    let tally = play_text(rt, path, text)?;
+    println!(rt; "{path}: {} rows, {} replies", tally.rows, tally.replies)?;
+    Ok(tally.is_right)
+}
+
+/// The same of a file, which may not be there.
 pub fn play_file(rt: &(impl Files + Print + AllocGlobal), path: &str) -> io::Result<bool> {
     match fs::read_to_string(rt, path) {
-        Ok(text) => {
-            let tally = play_text(rt, path, &text)?;
-            println!(rt; "{path}: {} rows, {} replies", tally.rows, tally.replies)?;
-            Ok(tally.is_right)
-        }
+        Ok(text) => play_whole(rt, path, &text),
         Err(error) => {
             println!(rt; "{path}: {error}")?;
             Ok(false)

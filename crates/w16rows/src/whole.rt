@@ -10,7 +10,7 @@ use w16_play::machine::Machine;
 use w16_script::{Ended, RunFault};
 use w16_store::MemStore;
 
-/// Plays lines on a machine, whose replies are put behind the output, and answers how the run ended.
+/// Plays lines on a machine, whose replies are put after the output, and answers how the run ended.
 fn play(
     machine: &mut Machine<MemStore>,
     alloc: Global,
@@ -54,18 +54,42 @@ fn is_answered(
     Ok(is_right)
 }
 
+/// Tells what was printed after the last reply, where anything was. Whether nothing was.
+fn is_at_end(
+    rt: &impl Print,
+    file: &str,
+    name: &str,
+    printed: &mut Split<'_, char>,
+) -> io::Result<bool> {
+    let more = printed.next().unwrap_or("");
+    if more.is_empty() {
+        return Ok(true);
+    }
+    println!(rt; "{file}: {name}: after the last reply: printed '{more}'")?;
+    Ok(false)
+}
+
 /// Compares what was printed of a row with its replies, line by line, and tells what differs. Whether nothing does.
 fn are_answered(rt: &impl Print, file: &str, row: &Row<'_>, printed: &str) -> io::Result<bool> {
-    let name = row.name;
     let mut printed = printed.split('\n');
     let mut is_right = true;
     for line in row.lines.split('\n') {
-        is_right = is_answered(rt, file, name, line, &mut printed)? && is_right;
+        is_right = is_answered(rt, file, row.name, line, &mut printed)? && is_right;
     }
-    match printed.next() {
-        None | Some("") => Ok(is_right),
-        Some(more) => {
-            println!(rt; "{file}: {name}: behind the last reply: printed '{more}'")?;
+    Ok(is_at_end(rt, file, row.name, &mut printed)? && is_right)
+}
+
+/// Tells whether a run ended otherwise than after the last line of its row. Whether it didn't.
+fn is_ended(
+    rt: &impl Print,
+    file: &str,
+    row: &Row<'_>,
+    ended: Result<Ended, RunFault>,
+) -> io::Result<bool> {
+    match ended {
+        Ok(ended) if is_whole(ended, &row.lines) => Ok(true),
+        _ => {
+            println!(rt; "{file}: {}: the run ended otherwise: {ended:?}", row.name)?;
             Ok(false)
         }
     }
@@ -80,11 +104,5 @@ pub fn is_played_right(
     let mut output = Vec::new(rt.alloc());
     let ended = play_anew(rt.alloc(), row, &mut output)?;
     let is_right = are_answered(rt, file, row, from_utf8(&output).unwrap_or(""))?;
-    match ended {
-        Ok(ended) if is_whole(ended, &row.lines) => Ok(is_right),
-        _ => {
-            println!(rt; "{file}: {}: the run ended otherwise: {ended:?}", row.name)?;
-            Ok(false)
-        }
-    }
+    Ok(is_ended(rt, file, row, ended)? && is_right)
 }
