@@ -226,19 +226,19 @@ fn turning(alloc: Global, others: &str) -> Result<Hostile, AllocError> {
     Ok(Hostile::Turning(Turning::new(first, second)))
 }
 
-/// The first of the changes where files that take others' places aren't answered as the table says, or not all is as before once those come back,
-/// with its first wrong text and line.
-fn first_wrong_change<'a>(
+/// Where files that take others' places aren't answered as a table says, or not all is as before once those come back: the first of the changes,
+/// its first wrong text, and the first wrong line of that.
+fn first_wrong_change(
     alloc: Global,
-    changes: &[(&'a str, &str)],
+    changes: &[(&str, &str)],
     before: &str,
     back: &str,
-) -> Result<Option<(&'a str, (usize, usize))>, AllocError> {
-    for (others, lines) in changes {
+) -> Result<Option<(usize, usize, usize)>, AllocError> {
+    for (change, (others, lines)) in changes.iter().enumerate() {
         let texts = [before, "LoadLibrary TURN -> 0002", *lines, back];
         let wrong = turning(alloc, others)?.first_wrong(alloc, &texts)?;
-        if let Some(wrong) = wrong {
-            return Ok(Some((*others, wrong)));
+        if let Some((text, line)) = wrong {
+            return Ok(Some((change, text, line)));
         }
     }
     Ok(None)
