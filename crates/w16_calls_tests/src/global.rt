@@ -1,4 +1,4 @@
-//! What the global heap tells beside its calls.
+//! What the global heap answers beside its calls.
 
 use std::alloc::{AllocError, Global};
 use std::test::Fail;

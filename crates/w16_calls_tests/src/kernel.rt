@@ -1,4 +1,4 @@
-//! What a kernel tells beside its calls.
+//! What a kernel answers beside its calls.
 
 use std::alloc::{AllocError, Global};
 use std::test::Fail;

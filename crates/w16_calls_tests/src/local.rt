@@ -1,4 +1,4 @@
-//! What local heaps tell beside their calls.
+//! What local heaps answer beside their calls.
 
 use std::alloc::{AllocError, Global};
 use std::test::Fail;

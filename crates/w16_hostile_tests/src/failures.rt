@@ -279,7 +279,7 @@ fn first_wrong_over(
     Hostile::failing(store_of(alloc, files)?, 0).first_wrong(alloc, &[lines])
 }
 
-/// Whether lines go right where so many bytes of a file are there.
+/// Whether lines go right where that many bytes of a file are there.
 fn is_right_cut(
     alloc: Global,
     file: &str,
@@ -316,7 +316,7 @@ fn no_front_of_a_file_is_loaded(rt: HostRuntime) -> Result<(), Fail> {
     Ok(())
 }
 
-/// Whether a resource of sixteen bytes is filled up with zeros where so many of them are there.
+/// Whether a resource of sixteen bytes is filled up with zeros where that many of them are there.
 fn is_filled_up(alloc: Global, count: usize) -> Result<bool, AllocError> {
     let whole = "48656c6c6f2c207265736f7572636521";
     let front = whole.get(..count.saturating_mul(2)).unwrap_or(whole);

@@ -224,7 +224,7 @@ impl Script {
         Ok(true)
     }
 
-    /// The same on a new machine of so many bytes.
+    /// The same on a new machine of that many bytes.
     fn are_right_anew(
         &mut self,
         alloc: Global,

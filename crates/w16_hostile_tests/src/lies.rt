@@ -81,12 +81,12 @@ fn is_new_after(
     Ok(Some(played && wrong.is_none()))
 }
 
-/// A machine over the samples that is told so many lies after so many questions.
+/// A machine over the samples that is told that many lies after that many questions.
 fn lying(alloc: Global, lie: Lie, before: u32, lies: u32) -> Result<HostileMachine, AllocError> {
     Hostile::Lying(Lying::new(store_of(alloc, ALL)?, lie, before, lies)).machine(alloc)
 }
 
-/// Whether all is as on a new machine after a row of which so many lies were told after so many questions; none where none was told.
+/// Whether all is as on a new machine after a row of which that many lies were told after that many questions; none where none was told.
 fn is_new(
     alloc: Global,
     lines: &str,
@@ -98,7 +98,7 @@ fn is_new(
     is_new_after(&mut machine, alloc, lines)
 }
 
-/// How many questions a row has, after each of which so many lies change nothing for good; none where they do.
+/// How many questions a row has, after each of which that many lies change nothing for good; none where they do.
 fn questions(alloc: Global, lines: &str, lie: Lie, lies: u32) -> Result<Option<u32>, AllocError> {
     for before in 0..1000u32 {
         match is_new(alloc, lines, lie, before, lies)? {
@@ -148,7 +148,7 @@ fn put_refusal(
     Ok(is_ended && was_lied_to(machine, alloc)?)
 }
 
-/// The same on a machine that is told zeros once, after so many answers.
+/// The same on a machine that is told zeros once, after that many answers.
 fn put_refusal_after(
     alloc: Global,
     before: u32,

@@ -32,7 +32,7 @@ impl<S: Store + Drop, A: Allocator + Copy> Model for Machine<S, A> {
 }
 
 impl<S: Store + Drop, A: Allocator + Copy> Machine<S, A> {
-    /// A machine of so many bytes and selectors over a store.
+    /// A machine of that many bytes and selectors over a store.
     pub fn new(alloc: A, memory: u32, selectors: u32, store: S) -> Result<Self, AllocError> {
         let memory = memory - memory % GRAIN;
         let kernel = Kernel::new(alloc, memory, selectors.min(MOST_SLOTS), store)?;

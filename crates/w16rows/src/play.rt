@@ -15,7 +15,7 @@ struct Tally {
     is_right: bool,
 }
 
-/// Plays a row in each way that it is to be played in, or reads it, and tells what goes otherwise. Whether nothing does.
+/// Plays a row in each way that it is to be played in, or reads it, and prints what goes otherwise. Whether nothing does.
 fn play_row(rt: &(impl Print + AllocGlobal), file: &str, row: &Row<'_>) -> io::Result<bool> {
     if row.is_reading {
         return is_read_right(rt, file, row);
@@ -35,7 +35,7 @@ fn play_counted(
     Ok(())
 }
 
-/// Plays the row of a text, and counts it. One that can't be read is told.
+/// Plays the row of a text, and counts it. For one that can't be read it prints why.
 fn play_next(
     rt: &(impl Print + AllocGlobal),
     file: &str,
@@ -79,7 +79,7 @@ fn play_text(rt: &(impl Print + AllocGlobal), file: &str, text: &str) -> io::Res
     Ok(tally)
 }
 
-/// Plays the rows of a file's text, and tells what goes otherwise, and how many they are. Whether all go right.
+/// Plays the rows of a file's text, and prints what goes otherwise, and how many they are. Whether all go right.
 fn play_whole(rt: &(impl Print + AllocGlobal), path: &str, text: &str) -> io::Result<bool> {
     let tally = play_text(rt, path, text)?;
     println!(rt; "{path}: {} rows, {} replies", tally.rows, tally.replies)?;

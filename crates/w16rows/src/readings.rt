@@ -5,7 +5,7 @@ use std::io;
 use w16_play::lines::split;
 use w16_play::readings::reading;
 
-/// Compares what a line is read as with what is wanted, and tells what differs. Whether nothing does.
+/// Compares what a line is read as with what is wanted, and prints what differs. Whether nothing does.
 fn is_wanted(rt: &impl Print, file: &str, name: &str, line: &str, found: &str) -> io::Result<bool> {
     let (text, wanted) = split(line);
     if wanted == Some(found) {
@@ -15,7 +15,7 @@ fn is_wanted(rt: &impl Print, file: &str, name: &str, line: &str, found: &str) -
     Ok(false)
 }
 
-/// Reads a line, and tells what is read otherwise. Whether nothing is.
+/// Reads a line, and prints what is read otherwise. Whether nothing is.
 fn is_line_read_right(
     rt: &(impl Print + AllocGlobal),
     file: &str,
@@ -26,7 +26,7 @@ fn is_line_read_right(
     is_wanted(rt, file, name, line, &found)
 }
 
-/// Reads the lines of a row, and tells what is read otherwise. Whether nothing is.
+/// Reads the lines of a row, and prints what is read otherwise. Whether nothing is.
 pub fn is_read_right(
     rt: &(impl Print + AllocGlobal),
     file: &str,

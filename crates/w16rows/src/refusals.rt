@@ -215,7 +215,7 @@ fn growths_of(line: &str) -> u64 {
     }
 }
 
-/// Whether a row may have so many growths: one to read its script, and those of its lines; more where it loads files.
+/// Whether a row may have that many growths: one to read its script, and those of its lines; more where it loads files.
 fn may_have(row: &Row<'_>, growths: u64) -> bool {
     let mut reckoned = 1u64;
     for line in row.lines.split('\n') {
@@ -224,7 +224,7 @@ fn may_have(row: &Row<'_>, growths: u64) -> bool {
     growths == reckoned || growths > reckoned && may_load(&row.lines)
 }
 
-/// Refuses each growth of a row in turn, and tells where it then ends otherwise than it should, or has another number of growths. Whether neither is
+/// Refuses each growth of a row in turn, and prints where it then ends otherwise than it should, or has another number of growths. Whether neither is
 /// so.
 pub fn is_refused_right(
     rt: &(impl Print + AllocGlobal),
@@ -236,7 +236,7 @@ pub fn is_refused_right(
     is_told_right(rt, file, row, growths)
 }
 
-/// Tells what is wrong of the growths of a row, or of the first whose refusal goes wrong. Whether nothing is.
+/// Prints what is wrong of the growths of a row, or of the first whose refusal goes wrong. Whether nothing is.
 fn is_told_right(
     rt: &impl Print,
     file: &str,

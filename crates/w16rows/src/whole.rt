@@ -32,7 +32,7 @@ fn play_anew(
     play(&mut machine, alloc, &row.lines, output)
 }
 
-/// Compares what was printed next with the reply to a line, part by part, and tells what differs. Whether nothing does.
+/// Compares what was printed next with the reply to a line, part by part, and prints what differs. Whether nothing does.
 fn is_answered(
     rt: &impl Print,
     file: &str,
@@ -54,7 +54,7 @@ fn is_answered(
     Ok(is_right)
 }
 
-/// Tells what was printed after the last reply, where anything was. Whether nothing was.
+/// Prints what came after the last reply, where anything was. Whether nothing was.
 fn is_at_end(
     rt: &impl Print,
     file: &str,
@@ -69,7 +69,7 @@ fn is_at_end(
     Ok(false)
 }
 
-/// Compares what was printed of a row with its replies, line by line, and tells what differs. Whether nothing does.
+/// Compares what was printed of a row with its replies, line by line, and prints what differs. Whether nothing does.
 fn are_answered(rt: &impl Print, file: &str, row: &Row<'_>, printed: &str) -> io::Result<bool> {
     let mut printed = printed.split('\n');
     let mut is_right = true;
@@ -79,7 +79,7 @@ fn are_answered(rt: &impl Print, file: &str, row: &Row<'_>, printed: &str) -> io
     Ok(is_at_end(rt, file, row.name, &mut printed)? && is_right)
 }
 
-/// Tells whether a run ended otherwise than after the last line of its row. Whether it didn't.
+/// Prints how a run ended, where it wasn't after the last line of its row. Whether it was.
 fn is_ended(
     rt: &impl Print,
     file: &str,
@@ -95,7 +95,7 @@ fn is_ended(
     }
 }
 
-/// Plays a row, and tells what differs from its replies, and whether the run ended before its last line. Whether all is as it should be.
+/// Plays a row, and prints what differs from its replies, and whether the run ended before its last line. Whether all is as it should be.
 pub fn is_played_right(
     rt: &(impl Print + AllocGlobal),
     file: &str,

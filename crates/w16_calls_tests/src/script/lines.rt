@@ -18,7 +18,7 @@ fn reads_lines_that_are_no_text(rt: HostRuntime) -> Result<(), Fail> {
     Ok(())
 }
 
-/// How many bytes are written by a line that writes so many digits.
+/// How many bytes are written by a line that writes that many digits.
 fn written(digits: usize) -> Option<usize> {
     let mut line: ArrayVec<u8, 2100> = ArrayVec::new();
     let _ = line.try_extend_from_slice(b"Write 0 ");
@@ -61,7 +61,7 @@ fn text_length(call: &Call<'_>) -> Option<usize> {
     }
 }
 
-/// How long the text is that a line of so many letters after a command has.
+/// How long the text is that a line of that many letters after a command has.
 fn length_after(command: &[u8], letters: usize) -> Option<usize> {
     let mut line: ArrayVec<u8, 600> = ArrayVec::new();
     let _ = line.try_extend_from_slice(command);

@@ -24,7 +24,7 @@ pub struct Dialogue {
     pub notes: &'static [Part<'static>],
 }
 
-/// A host that doesn't talk, with how a run over it ends on a machine of so many bytes.
+/// A host that doesn't talk, with how a run over it ends on a machine of that many bytes.
 pub struct Script {
     pub name: &'static str,
     pub text: &'static [Part<'static>],
@@ -55,7 +55,7 @@ fn play_through_a_buffer(
     Some(machine.run(&mut reader, &mut writer))
 }
 
-/// How a run ended on a new machine of so many bytes. There is none where the machine had no memory.
+/// How a run ended on a new machine of that many bytes. There is none where the machine had no memory.
 fn outcome(alloc: Global, memory: u32, host: &Host<'_>) -> Option<Result<Ended, RunFault>> {
     let mut machine = Machine::new(alloc, memory, 16, MemStore::new(alloc)).ok()?;
     Some(play(&mut machine, host))
@@ -129,7 +129,7 @@ fn holds_dialogues(rt: HostRuntime) {
     }
 }
 
-/// Whether the run of a text has so many lines and replies, each of which says that its line is bad.
+/// Whether the run of a text has that many lines and replies, each of which says that its line is bad.
 fn is_counted(alloc: Global, text: &'static [Part<'static>], ended: Ended, at_once: usize) -> bool {
     let host = Host::new(Plan {
         text,
@@ -173,7 +173,7 @@ pub struct Written {
     pub written: &'static [u8],
 }
 
-/// Whether a writer that takes so many bytes, and so many at once, gets just these of what a script writes, and fails if that isn't all.
+/// Whether a writer that takes that many bytes, and that many at once, gets just these of what a script writes, and fails if that isn't all.
 fn stops_after(alloc: Global, script: &Written, room: usize, room_at_once: usize) -> bool {
     let host = Host::new(Plan {
         text: script.text,
@@ -191,7 +191,7 @@ fn stops_after(alloc: Global, script: &Written, room: usize, room_at_once: usize
         && host.has_noted(&[(1, &script.written[..count])])
 }
 
-/// How many bytes are taken at once where a writer that takes so many gets others, or fails otherwise.
+/// How many bytes are taken at once where a writer that takes that many gets others, or fails otherwise.
 fn first_wrong_by(alloc: Global, script: &Written, room: usize) -> Option<usize> {
     for at_once in [1, 3, 5, 64, 96] {
         if !stops_after(alloc, script, room, at_once) {
@@ -219,7 +219,7 @@ fn stops_at_each_byte_that_is_not_taken(rt: HostRuntime) {
     }
 }
 
-/// How often a text is read, by so many bytes at once, until it is too long and nothing was written.
+/// How often a text is read, by that many bytes at once, until it is too long and nothing was written.
 fn reads_until_too_long(
     alloc: Global,
     text: &'static [Part<'static>],
@@ -237,7 +237,7 @@ fn reads_until_too_long(
 }
 
 #[test]
-fn reads_nothing_behind_the_piece_that_passes_a_limit(rt: HostRuntime) {
+fn reads_nothing_after_the_piece_that_passes_a_limit(rt: HostRuntime) {
     for (text, at_once, reads) in ENDLESS {
         let found = reads_until_too_long(rt.alloc(), text, *at_once);
         assert!(rt; found == Some(*reads), "{reads} by {at_once}");
