@@ -1,6 +1,7 @@
 //! A machine over module files, which plays scripts.
 ghost use Rattle.std.specs.Prelude.{ℕ};
 
+use crate::held::HeldKernel;
 use std::alloc::{AllocError, Allocator, Global};
 use std::io::{Read, Write};
 use std::marker::Model;
@@ -10,19 +11,10 @@ use w16_script::{Ended, RunFault, run};
 use w16_store::Store;
 
 /// A machine. To a proof it has no value, and its methods have no clauses, so no test carries what a run says of it.
+#[derive(Drop)]
 pub struct Machine<S: Store + Drop, A: Allocator + Copy = Global> {
     alloc: A,
-    kernel: Kernel<S, A>,
-}
-
-impl<S: Store + Drop, A: Allocator + Copy> Drop for Machine<S, A> {
-    /// Written out, so that how all that a kernel has is dropped is proved here, and in no crate that drops a machine.
-    fn drop(self) {
-        let Self {
-            alloc: _,
-            kernel: _,
-        } = self;
-    }
+    held: HeldKernel<S, A>,
 }
 
 impl<S: Store + Drop, A: Allocator + Copy> Model for Machine<S, A> {
@@ -36,7 +28,8 @@ impl<S: Store + Drop, A: Allocator + Copy> Machine<S, A> {
     pub fn new(alloc: A, memory: u32, selectors: u32, store: S) -> Result<Self, AllocError> {
         let memory = memory - memory % GRAIN;
         let kernel = Kernel::new(alloc, memory, selectors.min(MOST_SLOTS), store)?;
-        Ok(Machine { alloc, kernel })
+        let held = HeldKernel { kernel };
+        Ok(Machine { alloc, held })
     }
 
     /// Plays a script that a reader gives, whose replies a writer takes, and answers how it ended. Registers begin anew with each.
@@ -45,7 +38,7 @@ impl<S: Store + Drop, A: Allocator + Copy> Machine<S, A> {
         reader: &mut R,
         writer: &mut W,
     ) -> Result<Ended, RunFault> {
-        run(self.alloc, reader, writer, &mut self.kernel)
+        run(self.alloc, reader, writer, &mut self.held.kernel)
     }
 
     /// Plays a script whose replies are put after the output, and answers how it ended.
