@@ -8,6 +8,7 @@ use w16_kernel::{Answer, Call, Kernel, Label, Reply};
 use w16_loading::FetchFault;
 use w16_model::FarFault;
 use w16_play::files::store_of;
+use w16_play::held::HeldKernel;
 use w16_play::texts::ALL;
 use w16_store::MemStore;
 
@@ -68,8 +69,9 @@ fn keep_all(answers: &[Answer], replies: &[Reply<'_>]) -> bool {
 
 /// The answers to the calls of a life on a new machine.
 fn life_answers(alloc: Global) -> Result<Vec<Answer>, AllocError> {
-    let mut kernel = Kernel::new(alloc, 4096, 16, MemStore::new(alloc))?;
-    kernel.run_calls(&life())
+    let kernel = Kernel::new(alloc, 4096, 16, MemStore::new(alloc))?;
+    let mut held = HeldKernel { kernel };
+    held.kernel.run_calls(&life())
 }
 
 #[test]
@@ -126,8 +128,9 @@ fn is_library_life(answers: &[Answer]) -> bool {
 
 /// The answers to it on a new machine over the sample files.
 fn library_life_answers(alloc: Global) -> Result<Vec<Answer>, AllocError> {
-    let mut kernel = Kernel::new(alloc, 32, 16, store_of(alloc, ALL)?)?;
-    kernel.run_calls(&library_life())
+    let kernel = Kernel::new(alloc, 32, 16, store_of(alloc, ALL)?)?;
+    let mut held = HeldKernel { kernel };
+    held.kernel.run_calls(&library_life())
 }
 
 #[test]

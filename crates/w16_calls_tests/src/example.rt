@@ -2,6 +2,7 @@
 use std::alloc::{AllocError, Global};
 use std::test::Fail;
 use w16_kernel::{Call, Kernel, MOST_READ, Reply};
+use w16_play::held::HeldKernel;
 use w16_store::MemStore;
 
 /// A new machine of 64 KiB of memory, for 16 objects at most, over a store with one file.
@@ -23,8 +24,9 @@ fn load(kernel: &mut Kernel<MemStore>) -> Result<Option<u16>, AllocError> {
 
 /// Loads a file in a new machine.
 fn load_anew(alloc: Global, file: &[u8]) -> Result<Option<u16>, AllocError> {
-    let mut kernel = machine(alloc, file)?;
-    load(&mut kernel)
+    let kernel = machine(alloc, file)?;
+    let mut held = HeldKernel { kernel };
+    load(&mut held.kernel)
 }
 
 #[test]

@@ -1,11 +1,11 @@
-//! The last entry of a local heap and the last selector, and what is refused behind them.
+//! The last entry of a local heap and the last selector, and what is refused after them.
 
 use std::alloc::{AllocError, Global};
 use std::test::Fail;
 use w16_play::machine::Machine;
 use w16_store::MemStore;
 
-/// A text, so many times.
+/// A text, that many times.
 fn append_times(text: &mut Vec<u8>, part: &[u8], times: u32) -> Result<(), AllocError> {
     for _ in 0..times {
         text.extend_from_slice(part)?;
@@ -13,7 +13,7 @@ fn append_times(text: &mut Vec<u8>, part: &[u8], times: u32) -> Result<(), Alloc
     Ok(())
 }
 
-/// The text of parts one after another, each so many times.
+/// The text of parts one after another, each that many times.
 fn joined(alloc: Global, parts: &[(&[u8], u32)]) -> Result<Vec<u8>, AllocError> {
     let mut text = Vec::new(alloc);
     for (part, times) in parts {

@@ -1,10 +1,11 @@
-//! What the global heap tells beside its calls.
+//! What the global heap answers beside its calls.
 
 use std::alloc::{AllocError, Global};
 use std::test::Fail;
 use w16_global::Global16;
+use w16_play::held::HeldGlobal;
 
-/// How many bytes were written: nothing yet, behind an object of zeros, and behind its growth to another place.
+/// How many bytes were written: nothing yet, after an object of zeros, and after its growth to another place.
 fn counts(global: &mut Global16) -> [u64; 3] {
     let begun = global.written();
     let _ = global.global_alloc(0x42, 32);
@@ -16,8 +17,9 @@ fn counts(global: &mut Global16) -> [u64; 3] {
 
 /// The same of a new heap.
 fn counts_of_a_new_heap(alloc: Global) -> Result<[u64; 3], AllocError> {
-    let mut global = Global16::new(alloc, 128, 16)?;
-    Ok(counts(&mut global))
+    let heap = Global16::new(alloc, 128, 16)?;
+    let mut held = HeldGlobal { heap };
+    Ok(counts(&mut held.heap))
 }
 
 #[test]
@@ -35,8 +37,9 @@ fn is_brought_back(global: &mut Global16) -> bool {
 
 /// The same in a new heap.
 fn is_brought_back_in_a_new_heap(alloc: Global) -> Result<bool, AllocError> {
-    let mut global = Global16::new(alloc, 128, 16)?;
-    Ok(is_brought_back(&mut global))
+    let heap = Global16::new(alloc, 128, 16)?;
+    let mut held = HeldGlobal { heap };
+    Ok(is_brought_back(&mut held.heap))
 }
 
 #[test]

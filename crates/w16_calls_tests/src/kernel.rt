@@ -1,9 +1,10 @@
-//! What a kernel tells beside its calls.
+//! What a kernel answers beside its calls.
 
-use std::alloc::AllocError;
+use std::alloc::{AllocError, Global};
 use std::test::Fail;
 use w16_kernel::{Kernel, SizeFault, check_sizes};
 use w16_model::Item;
+use w16_play::held::HeldKernel;
 use w16_store::MemStore;
 
 /// Sizes of memory, numbers of selectors, and what is said of them.
@@ -34,12 +35,24 @@ const ALL: Option<Item> = Some(Item {
     owner: None,
 });
 
+/// The first part and the second of a kernel, by number and by address.
+fn parts(kernel: &Kernel<MemStore>) -> [[Option<Item>; 2]; 2] {
+    [
+        [kernel.walk_at(0), kernel.walk_at(1)],
+        [kernel.walk_from(0), kernel.walk_from(1)],
+    ]
+}
+
+/// The same of a new kernel of 96 bytes.
+fn parts_of_a_new_kernel(alloc: Global) -> Result<[[Option<Item>; 2]; 2], AllocError> {
+    let kernel = Kernel::new(alloc, 96, 16, MemStore::new(alloc))?;
+    let held = HeldKernel { kernel };
+    Ok(parts(&held.kernel))
+}
+
 #[test]
-fn parts_are_told_by_number_and_by_address(rt: HostRuntime) -> Result<(), AllocError> {
-    let kernel = Kernel::new(rt.alloc(), 96, 16, MemStore::new(rt.alloc()))?;
-    let by_number = [kernel.walk_at(0), kernel.walk_at(1)];
-    let by_address = [kernel.walk_from(0), kernel.walk_from(1)];
-    assert!(rt; by_number == [ALL, None], "{by_number:?}");
-    assert!(rt; by_address == [ALL, None], "{by_address:?}");
+fn parts_are_told_by_number_and_by_address(rt: HostRuntime) -> Result<(), Fail> {
+    let parts = parts_of_a_new_kernel(rt.alloc())?;
+    assert!(rt; parts == [[ALL, None]; 2], "{parts:?}");
     Ok(())
 }

@@ -9,7 +9,7 @@ macro_rules! options {
     };
 }
 
-/// Command lines, and what is read of them. The sizes where none is asked for are those that the help tells.
+/// Command lines, and what is read of them. The sizes where none is asked for are those that the help says.
 const READ: &[(&[&str], Options<'static>)] = &[
     (&["w16heap"], options!(1_048_576, 1024, ".", None)),
     (

@@ -6,6 +6,7 @@ use w16_fuse::{Fuse, growths};
 use w16_global::Global16;
 use w16_kernel::Kernel;
 use w16_local::LocalHeaps;
+use w16_play::held::{HeldGlobal, HeldKernel, HeldLocals};
 use w16_store::MemStore;
 
 /// What is made, with 16 selectors.
@@ -24,17 +25,32 @@ static MACHINES: &[(Machine, u64)] = &[
     (Machine::Kernel, 22),
 ];
 
+/// Makes a global heap, and it goes.
+fn make_global_heap(fuse: &Fuse<Global>) -> Result<(), AllocError> {
+    let heap = Global16::new(fuse, 4096, 16)?;
+    let _held = HeldGlobal { heap };
+    Ok(())
+}
+
+/// Makes local heaps, and they go.
+fn make_local_heaps(fuse: &Fuse<Global>) -> Result<(), AllocError> {
+    let heaps = LocalHeaps::new(fuse, 16)?;
+    let _held = HeldLocals { heaps };
+    Ok(())
+}
+
 /// Makes a kernel, and it goes.
 fn make_kernel(fuse: &Fuse<Global>, alloc: Global) -> Result<(), AllocError> {
-    let _kernel = Kernel::new(fuse, 4096, 16, MemStore::new(alloc))?;
+    let kernel = Kernel::new(fuse, 4096, 16, MemStore::new(alloc))?;
+    let _held = HeldKernel { kernel };
     Ok(())
 }
 
 /// Whether it is made. It goes at once.
 fn is_made(fuse: &Fuse<Global>, alloc: Global, machine: Machine) -> bool {
     match machine {
-        Machine::GlobalHeap => Global16::new(fuse, 4096, 16).is_ok(),
-        Machine::LocalHeaps => LocalHeaps::new(fuse, 16).is_ok(),
+        Machine::GlobalHeap => make_global_heap(fuse).is_ok(),
+        Machine::LocalHeaps => make_local_heaps(fuse).is_ok(),
         Machine::Kernel => make_kernel(fuse, alloc).is_ok(),
     }
 }

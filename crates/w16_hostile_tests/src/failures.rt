@@ -1,11 +1,10 @@
 //! Devices that fail, and files that change.
 
-use crate::stores::{Hostile, HostileMachine, Turning};
-use std::alloc::{AllocError, AllocGlobal, Global};
-use std::process::Abort;
+use crate::stores::{Hostile, Turning};
+use std::alloc::{AllocError, Global};
 use std::test::Fail;
 use w16_play::files::store_of;
-use w16_play::lines::{first_wrong, first_wrong_of, split};
+use w16_play::lines::split;
 use w16_play::texts::{ALL, FIRST_LOAD, IMPORTS, RESOURCE, SWEPT};
 
 /// A library is loaded, and its code discarded.
@@ -17,56 +16,37 @@ Read 0x01070000 16 -> bytes 9a04000f019a04000f01b81400cb9090
 Read 0x010f0004 1 -> bytes cb
 GlobalCompact 0xffffffff -> 00001000";
 
-/// Behind it the device fails once.
+/// After it the device fails once.
 const FAILING: &str = "\
 Read 0x01070000 16 -> fault store
 Walk -> 00000000 00001000 free / end
 Read 0x01070000 16 -> bytes 9a04000f019a04000f01b81400cb9090";
 
-/// A machine over the samples, of which a read fails.
-fn failing(alloc: Global, read: u32) -> Result<HostileMachine, AllocError> {
-    Hostile::failing(store_of(alloc, ALL)?, read).machine(alloc)
-}
-
-/// The first wrong line behind the discard; none where a read before it fails.
-fn first_wrong_fetch(
-    machine: &mut HostileMachine,
+/// The first text that goes wrong on a machine of which a read fails, with its first wrong line; none where all go right.
+fn first_wrong_failing(
     alloc: Global,
-) -> Result<Option<usize>, AllocError> {
-    if first_wrong(machine, alloc, DISCARDED)? > 0 {
-        return Ok(None);
-    }
-    Ok(Some(first_wrong(machine, alloc, FAILING)?))
+    texts: &[&str],
+    read: u32,
+) -> Result<Option<(usize, usize)>, AllocError> {
+    Hostile::failing(store_of(alloc, ALL)?, read).first_wrong(alloc, texts)
 }
 
-/// The first wrong line behind the discard, on a machine of which a read fails; none where that read comes before the discard.
-fn first_wrong_fetch_failing(alloc: Global, read: u32) -> Result<Option<usize>, AllocError> {
-    let mut machine = failing(alloc, read)?;
-    first_wrong_fetch(&mut machine, alloc)
-}
-
-/// The first wrong line behind the discard where the first read behind it fails.
-fn first_wrong_behind(alloc: Global) -> Result<Option<usize>, AllocError> {
+/// The same of the discard and what follows, where the first read after the discard fails.
+fn first_wrong_after_discard(alloc: Global) -> Result<Option<(usize, usize)>, AllocError> {
     for read in 1..1000u32 {
-        let wrong = first_wrong_fetch_failing(alloc, read)?;
-        if wrong.is_some() {
+        let wrong = first_wrong_failing(alloc, &[DISCARDED, FAILING], read)?;
+        if !matches!(wrong, Some((0, _))) {
             return Ok(wrong);
         }
     }
-    Ok(None)
+    Ok(Some((0, 0)))
 }
 
 #[test]
 fn a_fetch_fails_with_its_device(rt: HostRuntime) -> Result<(), Fail> {
-    let wrong = first_wrong_behind(rt.alloc())?;
-    assert!(rt; wrong == Some(0), "{wrong:?}");
+    let wrong = first_wrong_after_discard(rt.alloc())?;
+    assert!(rt; wrong.is_none(), "{wrong:?}");
     Ok(())
-}
-
-/// The first wrong line on a machine of which a read fails.
-fn first_wrong_failing(alloc: Global, lines: &str, read: u32) -> Result<usize, AllocError> {
-    let mut machine = failing(alloc, read)?;
-    first_wrong(&mut machine, alloc, lines)
 }
 
 /// A register keeps its number where a load fails, and gets the handle of the next.
@@ -81,42 +61,58 @@ GetModuleUsage r1 -> 0001";
 
 #[test]
 fn registers_keep_their_numbers(rt: HostRuntime) -> Result<(), Fail> {
-    let wrong = first_wrong_failing(rt.alloc(), KEPT, 1)?;
-    assert!(rt; wrong == 0, "line {wrong} of the output");
+    let wrong = first_wrong_failing(rt.alloc(), &[KEPT], 1)?;
+    assert!(rt; wrong.is_none(), "{wrong:?}");
     Ok(())
 }
 
-/// The lines, but that one of a number, from 1 on, is answered `fault store`, and is asked for again.
-fn failing_at(alloc: Global, lines: &str, number: usize) -> Result<String, AllocError> {
-    let mut text = String::new(alloc);
-    for (at, line) in lines.split('\n').enumerate() {
-        if at.saturating_add(1) == number {
-            text.push_str(split(line).0)?;
-            text.push_str(" -> fault store\n")?;
-        }
-        text.push_str(line)?;
-        text.push_str("\n")?;
+/// Puts a line after others; one that fails stands there as it fails, and then once more.
+fn put(text: &mut String, line: &str, fails: bool) -> Result<(), AllocError> {
+    if fails {
+        text.push_str(split(line).0)?;
+        text.push_str(" -> fault store\n")?;
     }
-    Ok(text)
+    text.push_str(line)?;
+    text.push_str("\n")
 }
 
-/// The first wrong line where a read fails and the line that it fails is asked for again; none where no line fails.
-fn first_wrong_again(alloc: Global, lines: &str, read: u32) -> Result<Option<usize>, AllocError> {
-    let number = first_wrong_failing(alloc, lines, read)?;
-    if number == 0 {
-        return Ok(None);
+/// Puts the lines after others, of which that one of a number, from 1 on, fails.
+fn put_all(text: &mut String, lines: &str, number: usize) -> Result<(), AllocError> {
+    for (at, line) in lines.split('\n').enumerate() {
+        put(text, line, at.saturating_add(1) == number)?;
     }
-    let text = failing_at(alloc, lines, number)?;
-    let wrong = first_wrong_failing(alloc, text.trim_end(), read)?;
-    Ok(Some(wrong))
+    Ok(())
+}
+
+/// The first wrong line where a read fails, and that one of a number, from 1 on, is answered `fault store` and asked for again.
+fn first_wrong_again(
+    alloc: Global,
+    lines: &str,
+    number: usize,
+    read: u32,
+) -> Result<Option<(usize, usize)>, AllocError> {
+    let mut text = String::new(alloc);
+    put_all(&mut text, lines, number)?;
+    first_wrong_failing(alloc, &[text.trim_end()], read)
+}
+
+/// Whether the line that a read fails, and it alone, goes wrong; none where no line does.
+fn is_one_failed(alloc: Global, lines: &str, read: u32) -> Result<Option<bool>, AllocError> {
+    match first_wrong_failing(alloc, &[lines], read)? {
+        Some((_, number)) => {
+            let wrong = first_wrong_again(alloc, lines, number, read)?;
+            Ok(Some(wrong.is_none()))
+        }
+        None => Ok(None),
+    }
 }
 
 /// How many reads these lines have, of which each makes one line fail, and it alone; none where one makes more.
 fn reads_of(alloc: Global, lines: &str) -> Result<Option<u32>, AllocError> {
     for read in 1..1000u32 {
-        match first_wrong_again(alloc, lines, read)? {
-            Some(0) => {}
-            Some(_) => return Ok(None),
+        match is_one_failed(alloc, lines, read)? {
+            Some(true) => {}
+            Some(false) => return Ok(None),
             None => return Ok(Some(read - 1)),
         }
     }
@@ -223,36 +219,47 @@ LoadResource 0x21 1 -> 0106
 LockResource 0x106 -> 01070000
 Read 0x01070000 5 -> bytes 48656c6c6f";
 
-/// The first wrong text, and its first wrong line, where the samples turn into other files.
-fn first_wrong_where_changed(
-    alloc: Global,
-    others: &str,
-    texts: &[&str],
-) -> Result<Option<(usize, usize)>, AllocError> {
-    let store = Turning::new(store_of(alloc, ALL)?, store_of(alloc, others)?);
-    let mut machine = Hostile::Turning(store).machine(alloc)?;
-    first_wrong_of(&mut machine, alloc, texts)
+/// The samples, which turn into other files.
+fn turning(alloc: Global, others: &str) -> Result<Hostile, AllocError> {
+    let first = store_of(alloc, ALL)?;
+    let second = store_of(alloc, others)?;
+    Ok(Hostile::Turning(Turning::new(first, second)))
 }
 
-/// Whether files that take others' places are answered as a table says, and all is as before once those come back.
-fn expect_changes(
-    rt: &(impl Abort + AllocGlobal),
+/// Where files that take others' places aren't answered as a table says, or not all is as before once those come back: the first of the changes,
+/// its first wrong text, and the first wrong line of that.
+fn first_wrong_change(
+    alloc: Global,
     changes: &[(&str, &str)],
     before: &str,
     back: &str,
-) -> Result<(), AllocError> {
-    for (others, lines) in changes {
+) -> Result<Option<(usize, usize, usize)>, AllocError> {
+    for (change, (others, lines)) in changes.iter().enumerate() {
         let texts = [before, "LoadLibrary TURN -> 0002", *lines, back];
-        let wrong = first_wrong_where_changed(rt.alloc(), others, &texts)?;
-        assert!(rt; wrong.is_none(), "{others}: {wrong:?}");
+        let wrong = turning(alloc, others)?.first_wrong(alloc, &texts)?;
+        if let Some((text, line)) = wrong {
+            return Ok(Some((change, text, line)));
+        }
     }
+    Ok(None)
+}
+
+#[test]
+fn files_change_after_a_discard(rt: HostRuntime) -> Result<(), Fail> {
+    let wrong = first_wrong_change(rt.alloc(), CHANGES, DISCARDED, BACK)?;
+    assert!(rt; wrong.is_none(), "{wrong:?}");
     Ok(())
 }
 
 #[test]
-fn files_change_behind_a_discard(rt: HostRuntime) -> Result<(), Fail> {
-    expect_changes(&rt, CHANGES, DISCARDED, BACK)?;
-    expect_changes(&rt, RESOURCE_CHANGES, RESOURCE_DISCARDED, RESOURCE_BACK)?;
+fn a_resource_changes_after_a_discard(rt: HostRuntime) -> Result<(), Fail> {
+    let wrong = first_wrong_change(
+        rt.alloc(),
+        RESOURCE_CHANGES,
+        RESOURCE_DISCARDED,
+        RESOURCE_BACK,
+    )?;
+    assert!(rt; wrong.is_none(), "{wrong:?}");
     Ok(())
 }
 
@@ -264,42 +271,59 @@ static CUT: &[(&str, usize, &str, &str)] = &[
 ];
 
 /// The first wrong line over files.
-fn first_wrong_over(alloc: Global, files: &str, lines: &str) -> Result<usize, AllocError> {
-    let mut machine = Hostile::failing(store_of(alloc, files)?, 0).machine(alloc)?;
-    first_wrong(&mut machine, alloc, lines)
+fn first_wrong_over(
+    alloc: Global,
+    files: &str,
+    lines: &str,
+) -> Result<Option<(usize, usize)>, AllocError> {
+    Hostile::failing(store_of(alloc, files)?, 0).first_wrong(alloc, &[lines])
 }
 
-/// The first wrong line where so many bytes of a file are there.
-fn first_wrong_cut(
+/// Whether lines go right where that many bytes of a file are there.
+fn is_right_cut(
     alloc: Global,
     file: &str,
     len: usize,
     other: &str,
-    line: &str,
-) -> Result<usize, AllocError> {
+    lines: &str,
+) -> Result<bool, AllocError> {
     let files = format!(in alloc; "{file} len={len}, {other}")?;
-    first_wrong_over(alloc, &files, line)
+    Ok(first_wrong_over(alloc, &files, lines)?.is_none())
+}
+
+/// How many bytes of a file, fewer than those that load, aren't refused; none where all are.
+fn first_loaded(
+    alloc: Global,
+    file: &str,
+    whole: usize,
+    other: &str,
+    line: &str,
+) -> Result<Option<usize>, AllocError> {
+    for len in 0..whole {
+        if !is_right_cut(alloc, file, len, other, line)? {
+            return Ok(Some(len));
+        }
+    }
+    Ok(None)
 }
 
 #[test]
 fn no_front_of_a_file_is_loaded(rt: HostRuntime) -> Result<(), Fail> {
     for (file, whole, other, line) in CUT {
-        for len in 0..*whole {
-            let wrong = first_wrong_cut(rt.alloc(), file, len, other, line)?;
-            assert!(rt; wrong == 0, "{len} bytes of {file}");
-        }
+        let loaded = first_loaded(rt.alloc(), file, *whole, other, line)?;
+        assert!(rt; loaded.is_none(), "{loaded:?} bytes of {file}");
     }
     Ok(())
 }
 
-/// The first wrong line where so many bytes of a resource's sixteen are there.
-fn first_wrong_of_front(alloc: Global, count: usize) -> Result<usize, AllocError> {
+/// Whether a resource of sixteen bytes is filled up with zeros where that many of them are there.
+fn is_filled_up(alloc: Global, count: usize) -> Result<bool, AllocError> {
     let whole = "48656c6c6f2c207265736f7572636521";
     let front = whole.get(..count.saturating_mul(2)).unwrap_or(whole);
     let lines = format!(in alloc;
         "LoadLibrary TRES.DLL -> 0021\nLoadResource 0x21 1 -> 0106\nRead 0x01070000 32 -> bytes {front:0<64}"
     )?;
-    first_wrong_cut(
+    is_right_cut(
         alloc,
         "TRES.DLL",
         count.saturating_add(176),
@@ -311,8 +335,8 @@ fn first_wrong_of_front(alloc: Global, count: usize) -> Result<usize, AllocError
 #[test]
 fn a_front_of_a_resource_is_filled_up(rt: HostRuntime) -> Result<(), Fail> {
     for count in 1..17usize {
-        let wrong = first_wrong_of_front(rt.alloc(), count)?;
-        assert!(rt; wrong == 0, "{count} bytes: line {wrong}");
+        let is_right = is_filled_up(rt.alloc(), count)?;
+        assert!(rt; is_right, "{count} bytes");
     }
     Ok(())
 }

@@ -68,20 +68,30 @@ impl Numbers {
         ""
     }
 
-    /// Puts an argument behind a line: of texts each time, where it has no numbers, else one time in four.
+    /// A number of a kind, which has some.
+    fn number_of(&mut self, kind: &Kind) -> u32 {
+        let (_, _, first, step, count, slack) = *kind;
+        let more = self.spread().checked_rem(slack).unwrap_or(0);
+        first
+            .wrapping_add(step.wrapping_mul(self.below(count)))
+            .wrapping_add(more)
+    }
+
+    /// Puts an argument after a line: of texts each time, where it has no numbers, else one time in four.
     fn put(&mut self, alloc: Global, text: &mut String, kind: &Kind) -> Result<(), AllocError> {
-        let (_, texts, first, step, count, slack) = *kind;
+        let (_, texts, _, _, count, _) = *kind;
         text.push_str(" ")?;
         if count == 0 || (self.below(4) == 0 && !texts.is_empty()) {
             return text.push_str(self.part_of(texts, ' '));
         }
-        let more = self.spread().checked_rem(slack).unwrap_or(0);
-        let number = first
-            .wrapping_add(step.wrapping_mul(self.below(count)))
-            .wrapping_add(more);
-        let digits = format!(in alloc; "{number}")?;
-        text.push_str(&digits)
+        put_number(alloc, text, self.number_of(kind))
     }
+}
+
+/// Puts a number after a text.
+fn put_number(alloc: Global, text: &mut String, number: u32) -> Result<(), AllocError> {
+    let digits = format!(in alloc; "{number}")?;
+    text.push_str(&digits)
 }
 
 /// A kind of argument: its name, texts that it may be, and of numbers the first, the step from one to the next, how many there are, and how much
@@ -136,105 +146,109 @@ fn kind_of(name: &str) -> &'static Kind {
     &("", "0", 0, 0, 0, 1)
 }
 
-/// Puts a line behind others, and the form of its reply: of eight one is silent, one is bad, and two store their reply.
-fn put_line(
-    alloc: Global,
-    text: &mut String,
-    forms: &mut String,
-    numbers: &mut Numbers,
-) -> Result<(), AllocError> {
-    let command = numbers.part_of(COMMANDS, '\n');
-    let (form, rest) = command.split_once(" ").unwrap_or(("", ""));
-    let (names, kinds) = rest.split_once(" ").unwrap_or((rest, ""));
-    let place = numbers.below(8) as usize % 8;
-    text.push_str(["; ", "x", "r0 = ", "r1 = ", "", "", "", ""][place])?;
-    forms.push_str(["", "x", form, form, form, form, form, form][place])?;
-    text.push_str(numbers.part_of(names, '|'))?;
-    for kind in kinds.split_ascii_whitespace() {
-        numbers.put(alloc, text, kind_of(kind))?;
-    }
-    text.push_str("\n")
+/// A script, with the forms of its replies.
+#[derive(Drop)]
+struct Script {
+    text: String,
+    forms: String,
 }
 
-/// Whether a script ends as it should on a machine, behind all its lines, with a reply of each form.
-fn is_right(
-    machine: &mut HostileMachine,
-    alloc: Global,
-    memory: u32,
-    text: &str,
-    forms: &str,
-) -> Result<bool, AllocError> {
-    let mut output = Vec::new(alloc);
-    let ended = machine.play(text.as_bytes(), &mut output);
-    let is_whole = match ended {
-        Ok(ended) => ended.replies as usize == forms.len(),
-        Err(_) => false,
-    };
-    Ok(is_whole && are_replies(from_utf8(&output).unwrap_or(""), forms, memory))
-}
-
-/// Puts up to 24 lines, and a walk behind them.
-fn put_lines(
-    alloc: Global,
-    text: &mut String,
-    forms: &mut String,
-    numbers: &mut Numbers,
-) -> Result<(), AllocError> {
-    for _ in 0..numbers.below(25) {
-        put_line(alloc, text, forms, numbers)?;
-    }
-    forms.push_str("l")?;
-    text.push_str("Walk\n")
-}
-
-/// A script, where it goes wrong on a machine.
-fn wrong_one(
-    machine: &mut HostileMachine,
-    alloc: Global,
-    memory: u32,
-    numbers: &mut Numbers,
-) -> Result<Option<String>, AllocError> {
-    let (mut text, mut forms) = (String::new(alloc), String::new(alloc));
-    put_lines(alloc, &mut text, &mut forms, numbers)?;
-    let right = is_right(machine, alloc, memory, &text, &forms)?;
-    Ok(if right { None } else { Some(text) })
-}
-
-/// The first script that goes wrong on a machine, which plays 250; none where all go right.
-fn first_wrong_on(
-    machine: &mut HostileMachine,
-    alloc: Global,
-    memory: u32,
-    numbers: &mut Numbers,
-) -> Result<Option<String>, AllocError> {
-    for _ in 0..250u32 {
-        let wrong = wrong_one(machine, alloc, memory, numbers)?;
-        if wrong.is_some() {
-            return Ok(wrong);
+impl Script {
+    /// Puts the arguments of a line after it, of these kinds.
+    fn put_arguments(
+        &mut self,
+        alloc: Global,
+        numbers: &mut Numbers,
+        kinds: &str,
+    ) -> Result<(), AllocError> {
+        for kind in kinds.split_ascii_whitespace() {
+            numbers.put(alloc, &mut self.text, kind_of(kind))?;
         }
+        self.text.push_str("\n")
     }
-    Ok(None)
-}
 
-/// The first script that goes wrong on a new machine of so many bytes; none where all go right.
-fn first_wrong(
-    alloc: Global,
-    memory: u32,
-    numbers: &mut Numbers,
-) -> Result<Option<String>, AllocError> {
-    let store = Hostile::failing(store_of(alloc, ALL)?, 0);
-    let mut machine = Machine::new(alloc, memory, 16, store)?;
-    first_wrong_on(&mut machine, alloc, memory, numbers)
+    /// Puts what stands before a line's name, and the form of its reply: of eight one is silent, one is bad, and two store their reply.
+    fn put_front(&mut self, numbers: &mut Numbers, form: &str) -> Result<(), AllocError> {
+        let place = numbers.below(8) as usize % 8;
+        self.text
+            .push_str(["; ", "x", "r0 = ", "r1 = ", "", "", "", ""][place])?;
+        self.forms
+            .push_str(["", "x", form, form, form, form, form, form][place])
+    }
+
+    /// Puts a line after others.
+    fn put_line(&mut self, alloc: Global, numbers: &mut Numbers) -> Result<(), AllocError> {
+        let command = numbers.part_of(COMMANDS, '\n');
+        let (form, rest) = command.split_once(" ").unwrap_or(("", ""));
+        let (names, kinds) = rest.split_once(" ").unwrap_or((rest, ""));
+        self.put_front(numbers, form)?;
+        self.text.push_str(numbers.part_of(names, '|'))?;
+        self.put_arguments(alloc, numbers, kinds)
+    }
+
+    /// Puts up to 24 lines in place of those that it has, and a walk after them.
+    fn put_lines(&mut self, alloc: Global, numbers: &mut Numbers) -> Result<(), AllocError> {
+        self.text.clear();
+        self.forms.clear();
+        for _ in 0..numbers.below(25) {
+            self.put_line(alloc, numbers)?;
+        }
+        self.forms.push_str("l")?;
+        self.text.push_str("Walk\n")
+    }
+
+    /// Whether it ends as it should on a machine, after all its lines, with a reply of each form.
+    fn is_right(&self, machine: &mut HostileMachine, alloc: Global, memory: u32) -> bool {
+        let mut output = Vec::new(alloc);
+        let is_whole = match machine.play(self.text.as_bytes(), &mut output) {
+            Ok(ended) => ended.replies as usize == self.forms.len(),
+            Err(_) => false,
+        };
+        is_whole && are_replies(from_utf8(&output).unwrap_or(""), &self.forms, memory)
+    }
+
+    /// Becomes one new script after another, up to 250, until one goes wrong on a machine. Whether all go right.
+    fn are_right(
+        &mut self,
+        machine: &mut HostileMachine,
+        alloc: Global,
+        memory: u32,
+        numbers: &mut Numbers,
+    ) -> Result<bool, AllocError> {
+        for _ in 0..250u32 {
+            self.put_lines(alloc, numbers)?;
+            if !self.is_right(machine, alloc, memory) {
+                return Ok(false);
+            }
+        }
+        Ok(true)
+    }
+
+    /// The same on a new machine of that many bytes.
+    fn are_right_anew(
+        &mut self,
+        alloc: Global,
+        memory: u32,
+        numbers: &mut Numbers,
+    ) -> Result<bool, AllocError> {
+        let store = Hostile::failing(store_of(alloc, ALL)?, 0);
+        let mut machine = Machine::new(alloc, memory, 16, store)?;
+        self.are_right(&mut machine, alloc, memory, numbers)
+    }
 }
 
 /// 10,000 scripts, 250 on a machine.
 #[test]
 fn generated_scripts_end_right(rt: HostRuntime) -> Result<(), Fail> {
     let mut numbers = Numbers(2_463_534_242);
+    let mut script = Script {
+        text: String::new(rt.alloc()),
+        forms: String::new(rt.alloc()),
+    };
     for number in 0..40usize {
         let memory = [256, 512, 4096, 262_144][number % 4];
-        let wrong = first_wrong(rt.alloc(), memory, &mut numbers)?;
-        assert!(rt; wrong.is_none(), "on machine {number}: {wrong:?}");
+        let are_right = script.are_right_anew(rt.alloc(), memory, &mut numbers)?;
+        assert!(rt; are_right, "on machine {number}: {}", script.text);
     }
     Ok(())
 }

@@ -30,7 +30,7 @@ fn has_form(line: &str, form: char) -> bool {
     }
 }
 
-/// Where the part ends that a line of a walk tells, if it begins at an address and has whole 32 bytes, and whether it is a hole.
+/// Where the part ends that a line of a walk says, if it begins at an address and has whole 32 bytes, and whether it is a hole.
 fn part_at(line: &str, at: u32) -> Option<(u32, bool)> {
     let (start, rest) = line.split_once(" ")?;
     let (size, owner) = rest.split_once(" ")?;

@@ -4,7 +4,7 @@ use crate::stores::{Hostile, HostileMachine, Lie, Lying};
 use std::alloc::{AllocError, Global};
 use std::test::Fail;
 use w16_play::files::store_of;
-use w16_play::lines::{first_wrong, script_of};
+use w16_play::lines::{first_wrong, first_wrong_of, script_of};
 use w16_play::texts::{ALL, IMPORTS, RESOURCE};
 use w16_store::StoreFault;
 
@@ -24,36 +24,69 @@ const UNTOLD: &str = "LoadLibrary HONEST -> fault store";
 const FREES: &str = "\
 FreeLibrary 0x21\nFreeLibrary 0x21\nFreeLibrary 0x22\nFreeLibrary 0x22\nFreeLibrary 0x22\nFreeLibrary 0x23\nFreeLibrary 0x23\nFreeLibrary 0x21";
 
+/// Plays lines, and puts what they print after the output. Whether the run ends.
+fn plays(
+    machine: &mut HostileMachine,
+    alloc: Global,
+    lines: &str,
+    output: &mut Vec<u8>,
+) -> Result<bool, AllocError> {
+    let script = script_of(alloc, lines)?;
+    Ok(machine.play(&script, output).is_ok())
+}
+
+/// Plays lines, and forgets what they print. Whether the run ends.
+fn ends(machine: &mut HostileMachine, alloc: Global, lines: &str) -> Result<bool, AllocError> {
+    let mut output = Vec::new(alloc);
+    plays(machine, alloc, lines, &mut output)
+}
+
+/// Plays the load that a row begins with: whether the run ends, and whether the load isn't refused.
+fn loads(
+    machine: &mut HostileMachine,
+    alloc: Global,
+    line: &str,
+) -> Result<(bool, bool), AllocError> {
+    let mut output = Vec::new(alloc);
+    let is_ended = plays(machine, alloc, line, &mut output)?;
+    Ok((is_ended, output.as_slice() == b"0021\n".as_slice()))
+}
+
 /// Plays the lines of a row, and frees what they loaded, which is nothing where the first line is refused. Whether each run ends.
 fn is_played(machine: &mut HostileMachine, alloc: Global, lines: &str) -> Result<bool, AllocError> {
     let (load, rest) = lines.split_once("\n").unwrap_or((lines, ""));
-    let mut output = Vec::new(alloc);
-    let script = script_of(alloc, load)?;
-    let is_ended = machine.play(&script, &mut output).is_ok();
-    if output.as_slice() != b"0021\n".as_slice() {
+    let (is_ended, is_loaded) = loads(machine, alloc, load)?;
+    if !is_loaded {
         return Ok(is_ended);
     }
-    let rest = format!(in alloc; "{rest}\n{FREES}")?;
-    let script = script_of(alloc, &rest)?;
-    Ok(is_ended && machine.play(&script, &mut output).is_ok())
+    Ok(is_ended && ends(machine, alloc, rest)? && ends(machine, alloc, FREES)?)
 }
 
-/// Whether all is as on a new machine behind a row; none where no lie was told.
-fn is_new_behind(
+/// Whether a machine was told a lie. From here on it is told none.
+fn was_lied_to(machine: &mut HostileMachine, alloc: Global) -> Result<bool, AllocError> {
+    Ok(first_wrong(machine, alloc, UNTOLD)? != 0)
+}
+
+/// Whether all is as on a new machine after a row; none where no lie was told.
+fn is_new_after(
     machine: &mut HostileMachine,
     alloc: Global,
     lines: &str,
 ) -> Result<Option<bool>, AllocError> {
     let played = is_played(machine, alloc, lines)?;
-    if first_wrong(machine, alloc, UNTOLD)? == 0 {
+    if !was_lied_to(machine, alloc)? {
         return Ok(None);
     }
-    let told = first_wrong(machine, alloc, TOLD)?;
-    let again = first_wrong(machine, alloc, lines)?;
-    Ok(Some(played && told == 0 && again == 0))
+    let wrong = first_wrong_of(machine, alloc, &[TOLD, lines])?;
+    Ok(Some(played && wrong.is_none()))
 }
 
-/// Whether all is as on a new machine behind a row of which so many lies were told behind so many questions; none where none was told.
+/// A machine over the samples that is told that many lies after that many questions.
+fn lying(alloc: Global, lie: Lie, before: u32, lies: u32) -> Result<HostileMachine, AllocError> {
+    Hostile::Lying(Lying::new(store_of(alloc, ALL)?, lie, before, lies)).machine(alloc)
+}
+
+/// Whether all is as on a new machine after a row of which that many lies were told after that many questions; none where none was told.
 fn is_new(
     alloc: Global,
     lines: &str,
@@ -61,12 +94,11 @@ fn is_new(
     before: u32,
     lies: u32,
 ) -> Result<Option<bool>, AllocError> {
-    let store = Lying::new(store_of(alloc, ALL)?, lie, before, lies);
-    let mut machine = Hostile::Lying(store).machine(alloc)?;
-    is_new_behind(&mut machine, alloc, lines)
+    let mut machine = lying(alloc, lie, before, lies)?;
+    is_new_after(&mut machine, alloc, lines)
 }
 
-/// How many questions a row has, behind each of which so many lies change nothing for good; none where they do.
+/// How many questions a row has, after each of which that many lies change nothing for good; none where they do.
 fn questions(alloc: Global, lines: &str, lie: Lie, lies: u32) -> Result<Option<u32>, AllocError> {
     for before in 0..1000u32 {
         match is_new(alloc, lines, lie, before, lies)? {
@@ -92,30 +124,48 @@ fn lies_are_undone(rt: HostRuntime) -> Result<(), Fail> {
     Ok(())
 }
 
-/// Plays a load, and puts its reply behind others, where it is refused otherwise than the last one. Whether a lie was told.
+/// Plays a load, and puts its reply after others, where it is refused otherwise than the last one. Whether the run ends.
+fn put_reply(
+    machine: &mut HostileMachine,
+    alloc: Global,
+    refusals: &mut Vec<u8>,
+) -> Result<bool, AllocError> {
+    let mut reply = Vec::new(alloc);
+    let is_ended = plays(machine, alloc, "LoadModule TAPP.EXE", &mut reply)?;
+    if reply.as_slice() != b"0021\n".as_slice() && !refusals.ends_with(&reply) {
+        refusals.extend_from_slice(&reply)?;
+    }
+    Ok(is_ended)
+}
+
+/// The same. Whether the run ends, and a lie was told.
 fn put_refusal(
     machine: &mut HostileMachine,
     alloc: Global,
     refusals: &mut Vec<u8>,
 ) -> Result<bool, AllocError> {
-    let script = script_of(alloc, "LoadModule TAPP.EXE")?;
-    let mut reply = Vec::new(alloc);
-    let is_played = machine.play(&script, &mut reply).is_ok();
-    if reply.as_slice() != b"0021\n".as_slice() && !refusals.ends_with(&reply) {
-        refusals.extend_from_slice(&reply)?;
-    }
-    Ok(is_played && first_wrong(machine, alloc, UNTOLD)? != 0)
+    let is_ended = put_reply(machine, alloc, refusals)?;
+    Ok(is_ended && was_lied_to(machine, alloc)?)
 }
 
-/// The same on a machine that is told zeros once, behind so many answers.
-fn put_refusal_behind(
+/// The same on a machine that is told zeros once, after that many answers.
+fn put_refusal_after(
     alloc: Global,
     before: u32,
     refusals: &mut Vec<u8>,
 ) -> Result<bool, AllocError> {
-    let store = Lying::new(store_of(alloc, ALL)?, (Ok(()), 0, 0), before, 1);
-    let mut machine = Hostile::Lying(store).machine(alloc)?;
+    let mut machine = lying(alloc, (Ok(()), 0, 0), before, 1)?;
     put_refusal(&mut machine, alloc, refusals)
+}
+
+/// The same after each answer in turn, until no zeros are told.
+fn put_refusals(alloc: Global, refusals: &mut Vec<u8>) -> Result<(), AllocError> {
+    for before in 0..1000u32 {
+        if !put_refusal_after(alloc, before, refusals)? {
+            break;
+        }
+    }
+    Ok(())
 }
 
 /// A load reads the application's tables and then the library's, then finds values for both, and then their bytes: a lie about the first is a fault
@@ -123,11 +173,7 @@ fn put_refusal_behind(
 #[test]
 fn lies_in_the_midst_of_a_load(rt: HostRuntime) -> Result<(), Fail> {
     let mut refusals = Vec::new(rt.alloc());
-    for before in 0..1000u32 {
-        if !put_refusal_behind(rt.alloc(), before, &mut refusals)? {
-            break;
-        }
-    }
+    put_refusals(rt.alloc(), &mut refusals)?;
     let wanted = b"000b\n0000\n000b\n0014\n0000\n0014\n000b\n0014\n000b\n0014\n".as_slice();
     assert!(rt; refusals.as_slice() == wanted, "{refusals:?}");
     Ok(())

@@ -7,9 +7,8 @@ pub use endless::Endless;
 pub use lying::{Lie, Lying};
 use std::alloc::{AllocError, Global};
 pub use turning::Turning;
-use w16_play::files::store_of;
+use w16_play::lines::first_wrong_of;
 use w16_play::machine::Machine;
-use w16_play::texts::ALL;
 use w16_store::{FuseStore, MemStore, Store, StoreFault};
 
 /// A store that does some harm.
@@ -33,6 +32,17 @@ impl Hostile {
     /// The machine of most of these tests: 4,096 bytes and 16 selectors.
     pub fn machine(self, alloc: Global) -> Result<HostileMachine, AllocError> {
         Machine::new(alloc, 4096, 16, self)
+    }
+
+    /// Plays texts on that machine one after another, and answers the place of the first that goes wrong, with its first wrong line; none where
+    /// all go right.
+    pub fn first_wrong(
+        self,
+        alloc: Global,
+        texts: &[&str],
+    ) -> Result<Option<(usize, usize)>, AllocError> {
+        let mut machine = self.machine(alloc)?;
+        first_wrong_of(&mut machine, alloc, texts)
     }
 }
 

@@ -73,7 +73,7 @@ fn text_of(name: &str) -> &'static str {
     ""
 }
 
-/// Puts bytes, which are hexadecimal, behind others.
+/// Puts bytes, which are hexadecimal, after others.
 fn put_bytes(bytes: &mut Vec<u8>, digits: &str) -> Result<(), AllocError> {
     for digits in digits.as_bytes().chunks(32) {
         let mut room = [0u8; 16];
@@ -86,7 +86,7 @@ fn put_bytes(bytes: &mut Vec<u8>, digits: &str) -> Result<(), AllocError> {
     Ok(())
 }
 
-/// The bytes of a sample: an old header, which names the place behind it, and the lines.
+/// The bytes of a sample: an old header, which names the place after it, and the lines.
 fn bytes_of(alloc: Global, name: &str) -> Result<Vec<u8>, AllocError> {
     let mut bytes = vec![in alloc; 0u8; 64]?;
     bytes[0] = b'M';
@@ -108,7 +108,7 @@ fn decimal(digits: &str) -> usize {
     u32::from_str_radix(digits, 10).unwrap_or(u32::MAX) as usize
 }
 
-/// Puts words, which dots divide, behind others, and zeros up to so many.
+/// Puts words, which dots divide, after others, and zeros up to that many.
 fn put_words(bytes: &mut Vec<u8>, text: &str, count: usize) -> Result<(), AllocError> {
     let mut words = text.split('.');
     for _ in 0..count {

@@ -3,6 +3,7 @@
 #![tactic(auto)]
 
 pub mod files;
+pub mod held;
 pub mod lines;
 pub mod machine;
 pub mod readings;

@@ -1,6 +1,6 @@
 //! Lines of scripts with their replies, played and compared.
 //!
-//! Behind a line stand an arrow and its reply, where it has one. Strokes divide the lines of a walk.
+//! After a line stand an arrow and its reply, where it has one. Strokes divide the lines of a walk.
 
 use crate::machine::Machine;
 use std::alloc::{AllocError, Allocator, Global};
@@ -15,20 +15,10 @@ pub fn split(line: &str) -> (&str, Option<&str>) {
     }
 }
 
-/// Puts a text and the end of its line behind others.
+/// Puts a text and the end of its line after others.
 fn put(text: &mut Vec<u8>, line: &str) -> Result<(), AllocError> {
     text.extend_from_slice(line.as_bytes())?;
     text.push(b'\n')?;
-    Ok(())
-}
-
-/// Puts the reply of a line behind others, as it is printed.
-pub fn put_reply(text: &mut Vec<u8>, line: &str) -> Result<(), AllocError> {
-    if let (_, Some(reply)) = split(line) {
-        for part in reply.split(" / ") {
-            put(text, part)?;
-        }
-    }
     Ok(())
 }
 
@@ -41,16 +31,7 @@ pub fn script_of(alloc: Global, lines: &str) -> Result<Vec<u8>, AllocError> {
     Ok(text)
 }
 
-/// What is printed of it.
-pub fn output_of(alloc: Global, lines: &str) -> Result<Vec<u8>, AllocError> {
-    let mut text = Vec::new(alloc);
-    for line in lines.split('\n') {
-        put_reply(&mut text, line)?;
-    }
-    Ok(text)
-}
-
-/// Whether a run ended behind all lines, with a reply to each that has one.
+/// Whether a run ended after all lines, with a reply to each that has one.
 pub fn is_whole(ended: Ended, lines: &str) -> bool {
     let (mut count, mut replies) = (0u32, 0u32);
     for line in lines.split('\n') {
@@ -60,43 +41,61 @@ pub fn is_whole(ended: Ended, lines: &str) -> bool {
     ended.lines == count && ended.replies == replies
 }
 
-/// The number, from 1 on, of the first line that is printed otherwise than it should be; 0 where none is.
-fn first_difference(printed: &[u8], wanted: &[u8]) -> usize {
-    let mut number = 1usize;
-    for (at, byte) in wanted.iter().enumerate() {
-        if printed.get(at) != Some(byte) {
-            return number;
-        }
-        if *byte == b'\n' {
-            number = number.saturating_add(1);
+/// What was printed after the reply to a line; none where that isn't there whole.
+pub fn after_reply<'a>(printed: &'a [u8], line: &str) -> Option<&'a [u8]> {
+    let mut rest = printed;
+    if let (_, Some(reply)) = split(line) {
+        for part in reply.split(" / ") {
+            rest = rest
+                .strip_prefix(part.as_bytes())?
+                .strip_prefix(b"\n".as_slice())?;
         }
     }
-    if printed.len() == wanted.len() {
-        0
+    Some(rest)
+}
+
+/// The number, from 1 on, of the first line whose reply is printed otherwise than it should be, or of the last one where more is printed; 0 where
+/// just the replies are.
+pub fn first_difference(printed: &[u8], lines: &str) -> usize {
+    let (mut rest, mut number) = (printed, 0usize);
+    for line in lines.split('\n') {
+        number = number.saturating_add(1);
+        match after_reply(rest, line) {
+            Some(after) => rest = after,
+            None => return number,
+        }
+    }
+    if rest.is_empty() { 0 } else { number }
+}
+
+/// Plays the script of lines on a machine: the first wrong line of it, as `first_wrong` answers it.
+fn first_wrong_of_script<S: Store + Drop, A: Allocator + Copy>(
+    machine: &mut Machine<S, A>,
+    alloc: Global,
+    lines: &str,
+    script: &[u8],
+) -> usize {
+    let mut output = Vec::new(alloc);
+    let is_whole = match machine.play(script, &mut output) {
+        Ok(ended) => is_whole(ended, lines),
+        Err(_) => false,
+    };
+    let wrong = first_difference(&output, lines);
+    if wrong == 0 && !is_whole {
+        usize::MAX
     } else {
-        number
+        wrong
     }
 }
 
-/// Plays lines on a machine, and answers the number of the first line that is printed otherwise; 0 where none is, and the run was whole.
+/// Plays lines on a machine, and answers the number of the first whose reply is another; 0 where none is, and the run was whole.
 pub fn first_wrong<S: Store + Drop, A: Allocator + Copy>(
     machine: &mut Machine<S, A>,
     alloc: Global,
     lines: &str,
 ) -> Result<usize, AllocError> {
     let script = script_of(alloc, lines)?;
-    let wanted = output_of(alloc, lines)?;
-    let mut output = Vec::new(alloc);
-    let is_whole = match machine.play(&script, &mut output) {
-        Ok(ended) => is_whole(ended, lines),
-        Err(_) => false,
-    };
-    let wrong = first_difference(&output, &wanted);
-    Ok(if wrong == 0 && !is_whole {
-        usize::MAX
-    } else {
-        wrong
-    })
+    Ok(first_wrong_of_script(machine, alloc, lines, &script))
 }
 
 /// Plays texts one after another, and answers the place of the first that goes wrong, with its first wrong line; none where all go right.

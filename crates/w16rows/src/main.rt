@@ -1,4 +1,4 @@
-//! `w16rows`: plays files of rows, which are scripts with the replies that their lines must have, and tells what goes otherwise.
+//! `w16rows`: plays files of rows, which are scripts with the replies that their lines must have, and prints what goes otherwise.
 //!
 //! The command line names the files. Each has a line of standard output with how many rows it has, and how many replies, and before that a line for
 //! each reply that differs, and for whatever else is wrong. Then the exit status is 1.

@@ -15,7 +15,7 @@ struct Tally {
     is_right: bool,
 }
 
-/// Plays a row in each way that it is to be played in, or reads it, and tells what goes otherwise. Whether nothing does.
+/// Plays a row in each way that it is to be played in, or reads it, and prints what goes otherwise. Whether nothing does.
 fn play_row(rt: &(impl Print + AllocGlobal), file: &str, row: &Row<'_>) -> io::Result<bool> {
     if row.is_reading {
         return is_read_right(rt, file, row);
@@ -23,7 +23,19 @@ fn play_row(rt: &(impl Print + AllocGlobal), file: &str, row: &Row<'_>) -> io::R
     Ok(is_played_right(rt, file, row)? && (!row.has_refusals || is_refused_right(rt, file, row)?))
 }
 
-/// Plays the row of a text, and counts it. One that can't be read is told.
+/// Plays a row, and counts its replies.
+fn play_counted(
+    rt: &(impl Print + AllocGlobal),
+    file: &str,
+    row: &Row<'_>,
+    tally: &mut Tally,
+) -> io::Result<()> {
+    tally.replies = tally.replies.saturating_add(row.replies);
+    tally.is_right = play_row(rt, file, row)? && tally.is_right;
+    Ok(())
+}
+
+/// Plays the row of a text, and counts it. For one that can't be read it prints why.
 fn play_next(
     rt: &(impl Print + AllocGlobal),
     file: &str,
@@ -32,16 +44,12 @@ fn play_next(
 ) -> io::Result<()> {
     tally.rows = tally.rows.saturating_add(1);
     match row_of(rt.alloc(), text) {
-        Ok(row) => {
-            tally.replies = tally.replies.saturating_add(row.replies);
-            tally.is_right = play_row(rt, file, &row)? && tally.is_right;
-        }
+        Ok(row) => play_counted(rt, file, &row, tally),
         Err(fault) => {
-            println!(rt; "{file}: row {}: {fault}", tally.rows)?;
             tally.is_right = false;
+            println!(rt; "{file}: row {}: {fault}", tally.rows)
         }
     }
-    Ok(())
 }
 
 /// Whether lines say nothing: they are empty, or comments.
@@ -71,14 +79,17 @@ fn play_text(rt: &(impl Print + AllocGlobal), file: &str, text: &str) -> io::Res
     Ok(tally)
 }
 
-/// Plays the rows of a file, and tells what goes otherwise, and how many they are. Whether all go right.
+/// Plays the rows of a file's text, and prints what goes otherwise, and how many they are. Whether all go right.
+fn play_whole(rt: &(impl Print + AllocGlobal), path: &str, text: &str) -> io::Result<bool> {
+    let tally = play_text(rt, path, text)?;
+    println!(rt; "{path}: {} rows, {} replies", tally.rows, tally.replies)?;
+    Ok(tally.is_right)
+}
+
+/// The same of a file, which may not be there.
 pub fn play_file(rt: &(impl Files + Print + AllocGlobal), path: &str) -> io::Result<bool> {
     match fs::read_to_string(rt, path) {
-        Ok(text) => {
-            let tally = play_text(rt, path, &text)?;
-            println!(rt; "{path}: {} rows, {} replies", tally.rows, tally.replies)?;
-            Ok(tally.is_right)
-        }
+        Ok(text) => play_whole(rt, path, &text),
         Err(error) => {
             println!(rt; "{path}: {error}")?;
             Ok(false)

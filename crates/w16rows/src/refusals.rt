@@ -1,4 +1,4 @@
-//! A row of which each growth is refused in turn: the run ends by want of memory behind whole replies, and the call that was refused has changed
+//! A row of which each growth is refused in turn: the run ends by want of memory after whole replies, and the call that was refused has changed
 //! nothing.
 
 use crate::rows::Row;
@@ -6,7 +6,7 @@ use std::alloc::{AllocError, Global};
 use std::io;
 use w16_fuse::Fuse;
 use w16_play::files::store_of;
-use w16_play::lines::{first_wrong, is_whole, output_of, put_reply, script_of, split};
+use w16_play::lines::{after_reply, first_difference, first_wrong, is_whole, script_of, split};
 use w16_play::machine::Machine;
 use w16_script::RunFault;
 use w16_store::MemStore;
@@ -49,23 +49,19 @@ fn first_answered(lines: &str) -> &str {
     ""
 }
 
-/// The lines behind those whose whole replies were printed, if such are there.
-fn lines_behind<'a>(
-    alloc: Global,
-    lines: &'a str,
-    printed: &[u8],
-) -> Result<Option<&'a str>, AllocError> {
-    let mut text = Vec::new(alloc);
+/// The lines after those whose replies were printed; none where something else was.
+fn lines_after<'a>(lines: &'a str, printed: &[u8]) -> Option<&'a str> {
     let mut rest = lines;
+    let mut left = printed;
     for _ in 0..lines.len() {
-        if text.as_slice() == printed {
-            return Ok(Some(rest));
+        if left.is_empty() {
+            return Some(rest);
         }
-        let (line, behind) = rest.split_once("\n").unwrap_or((rest, ""));
-        put_reply(&mut text, line)?;
-        rest = behind;
+        let (line, after) = rest.split_once("\n").unwrap_or((rest, ""));
+        left = after_reply(left, line)?;
+        rest = after;
     }
-    Ok(None)
+    None
 }
 
 /// A new machine over the files of a row.
@@ -78,34 +74,47 @@ fn machine_of<'a>(
     Machine::new(fuse, row.memory, row.selectors, store)
 }
 
-/// The walk of a machine, as it is printed.
-fn walk_of(machine: &mut Refusing<'_>, alloc: Global) -> Result<Vec<u8>, AllocError> {
-    let mut output = Vec::new(alloc);
-    let _ = machine.play(b"Walk\n", &mut output);
-    Ok(output)
-}
-
-/// The walk of a machine behind some lines.
-fn walk_behind(
+/// Whether the walk of a machine is printed so after some lines.
+fn has_walk_after(
     machine: &mut Refusing<'_>,
     alloc: Global,
     lines: &str,
-) -> Result<Vec<u8>, AllocError> {
+    walk: &[u8],
+) -> Result<bool, AllocError> {
     let script = script_of(alloc, lines)?;
     let mut output = Vec::new(alloc);
     let _ = machine.play(&script, &mut output);
-    walk_of(machine, alloc)
+    output.clear();
+    let _ = machine.play(b"Walk\n", &mut output);
+    Ok(output.as_slice() == walk)
 }
 
-/// The walk of a new machine behind the front of a row.
-fn walk_of_front(alloc: Global, row: &Row<'_>, front: &str) -> Result<Vec<u8>, AllocError> {
+/// Whether the walk of a new machine is printed so after the front of a row.
+fn is_walk_of_front(
+    alloc: Global,
+    row: &Row<'_>,
+    front: &str,
+    walk: &[u8],
+) -> Result<bool, AllocError> {
     let fuse = Fuse::new(alloc);
     let mut machine = machine_of(&fuse, alloc, row)?;
-    walk_behind(&mut machine, alloc, front)
+    has_walk_after(&mut machine, alloc, front, walk)
+}
+
+/// Whether the walk of a machine is that of a new one after the front of a row.
+fn is_as_after_front(
+    machine: &mut Refusing<'_>,
+    alloc: Global,
+    row: &Row<'_>,
+    front: &str,
+) -> Result<bool, AllocError> {
+    let mut walk = Vec::new(alloc);
+    let _ = machine.play(b"Walk\n", &mut walk);
+    is_walk_of_front(alloc, row, front, &walk)
 }
 
 /// Whether a run that had no memory printed whole replies up to a line that may take some, or none where it couldn't read its script, and the walk
-/// is as before that line. The line and those behind it are answered as they should be when they are asked for again; lines with registers aren't,
+/// is as before that line. The line and those after it are answered as they should be when they are asked for again; lines with registers aren't,
 /// since these begin anew.
 fn is_undone(
     machine: &mut Refusing<'_>,
@@ -114,19 +123,37 @@ fn is_undone(
     printed: &[u8],
 ) -> Result<bool, AllocError> {
     let lines = row.lines.as_str();
-    let Some(rest) = lines_behind(alloc, lines, printed)? else {
+    let Some(rest) = lines_after(lines, printed) else {
         return Ok(false);
     };
     let front = lines.strip_suffix(rest).unwrap_or("").trim_end();
-    let walk = walk_of(machine, alloc)?;
     let may_end = printed.is_empty() || takes_memory(first_answered(rest));
-    if !may_end || walk.as_slice() != walk_of_front(alloc, row, front)?.as_slice() {
+    if !may_end || !is_as_after_front(machine, alloc, row, front)? {
         return Ok(false);
     }
     Ok(lines.starts_with("r") || first_wrong(machine, alloc, rest)? == 0)
 }
 
-/// Whether a run of a row ends as it should where a growth of it may be refused: by `Memory` where one was.
+/// Whether a run of a row's script ends as it should where a growth of it may be refused: by `Memory` where one was.
+fn script_ends_right(
+    fuse: &Fuse<Global>,
+    machine: &mut Refusing<'_>,
+    alloc: Global,
+    row: &Row<'_>,
+    script: &[u8],
+) -> Result<bool, AllocError> {
+    let mut output = Vec::new(alloc);
+    let ended = machine.play(script, &mut output);
+    if fuse.is_armed() {
+        return Ok(match ended {
+            Ok(ended) => is_whole(ended, &row.lines) && first_difference(&output, &row.lines) == 0,
+            Err(_) => false,
+        });
+    }
+    Ok(ended == Err(RunFault::Memory) && is_undone(machine, alloc, row, &output)?)
+}
+
+/// The same of a row's lines.
 fn ends_right(
     fuse: &Fuse<Global>,
     machine: &mut Refusing<'_>,
@@ -134,17 +161,7 @@ fn ends_right(
     row: &Row<'_>,
 ) -> Result<bool, AllocError> {
     let script = script_of(alloc, &row.lines)?;
-    let mut output = Vec::new(alloc);
-    let ended = machine.play(&script, &mut output);
-    if fuse.is_armed() {
-        let wanted = output_of(alloc, &row.lines)?;
-        let is_ended = match ended {
-            Ok(ended) => is_whole(ended, &row.lines),
-            Err(_) => false,
-        };
-        return Ok(is_ended && output.as_slice() == wanted.as_slice());
-    }
-    Ok(ended == Err(RunFault::Memory) && is_undone(machine, alloc, row, &output)?)
+    script_ends_right(fuse, machine, alloc, row, &script)
 }
 
 /// Whether a row ends as it should where this growth of its run is refused.
@@ -161,10 +178,13 @@ fn row_ends_right(
 }
 
 /// How many growths a row has, or the first of them whose refusal goes wrong.
-fn growths(alloc: Global, row: &Row<'_>) -> Result<Result<u64, u64>, AllocError> {
-    let fuse = Fuse::new(alloc);
+fn growths(
+    fuse: &Fuse<Global>,
+    alloc: Global,
+    row: &Row<'_>,
+) -> Result<Result<u64, u64>, AllocError> {
     for growth in 1..MANY {
-        if !row_ends_right(&fuse, alloc, row, growth)? {
+        if !row_ends_right(fuse, alloc, row, growth)? {
             return Ok(Err(growth));
         }
         if fuse.is_armed() {
@@ -195,7 +215,7 @@ fn growths_of(line: &str) -> u64 {
     }
 }
 
-/// Whether a row may have so many growths: one to read its script, and those of its lines; more where it loads files.
+/// Whether a row may have that many growths: one to read its script, and those of its lines; more where it loads files.
 fn may_have(row: &Row<'_>, growths: u64) -> bool {
     let mut reckoned = 1u64;
     for line in row.lines.split('\n') {
@@ -204,15 +224,27 @@ fn may_have(row: &Row<'_>, growths: u64) -> bool {
     growths == reckoned || growths > reckoned && may_load(&row.lines)
 }
 
-/// Refuses each growth of a row in turn, and tells where it then ends otherwise than it should, or has another number of growths. Whether neither is
+/// Refuses each growth of a row in turn, and prints where it then ends otherwise than it should, or has another number of growths. Whether neither is
 /// so.
 pub fn is_refused_right(
     rt: &(impl Print + AllocGlobal),
     file: &str,
     row: &Row<'_>,
 ) -> io::Result<bool> {
+    let fuse = Fuse::new(rt.alloc());
+    let growths = growths(&fuse, rt.alloc(), row)?;
+    is_told_right(rt, file, row, growths)
+}
+
+/// Prints what is wrong of the growths of a row, or of the first whose refusal goes wrong. Whether nothing is.
+fn is_told_right(
+    rt: &impl Print,
+    file: &str,
+    row: &Row<'_>,
+    growths: Result<u64, u64>,
+) -> io::Result<bool> {
     let name = row.name;
-    match growths(rt.alloc(), row)? {
+    match growths {
         Ok(growths) if may_have(row, growths) => return Ok(true),
         Ok(growths) => println!(rt; "{file}: {name}: {growths} growths")?,
         Err(growth) => println!(rt; "{file}: {name}: ends otherwise without growth {growth}")?,

@@ -22,7 +22,7 @@
 //! | `memory` | how many bytes the global heap has | 4,096 |
 //! | `selectors` | how many objects there may be | 16 |
 //! | `files` | the module files, as `files` of `w16_play` makes them | none |
-//! | `kind` | `reading`: the lines are read, and behind the arrow stands what each is read as, by `reading` of `w16_play` | the lines are played |
+//! | `kind` | `reading`: the lines are read, and after the arrow stands what each is read as, by `reading` of `w16_play` | the lines are played |
 //! | `refusals` | `none`: the row is just played | it is played again with each growth of the run's memory refused in turn |
 use std::alloc::{AllocError, Global};
 use thiserror::Error;
@@ -32,7 +32,7 @@ use w16_play::lines::split;
 /// Why a text is no row.
 #[derive(Debug, Clone, Copy, PartialEq, Eq, Drop, Error)]
 pub enum RowFault {
-    #[error("its name has no bracket behind it, alone on a line")]
+    #[error("its name has no bracket after it, alone on a line")]
     Name,
     #[error("there is no such setting")]
     Setting,
@@ -93,7 +93,7 @@ impl<'a> Row<'a> {
         }
     }
 
-    /// Puts a line behind the others, so many times.
+    /// Puts a line after the others, that many times.
     fn put(&mut self, count: u32, line: &str) -> Result<(), AllocError> {
         for _ in 0..count {
             if !self.lines.is_empty() {
@@ -107,7 +107,7 @@ impl<'a> Row<'a> {
         Ok(())
     }
 
-    /// Takes what stands behind a colon: what is set, or a line that comes so many times.
+    /// Takes what stands after a colon: what is set, or a line that comes that many times.
     fn set(&mut self, key: &str, value: &'a str) -> Result<(), RowFault> {
         match key {
             "memory" => self.memory = number(value)?,
@@ -152,7 +152,7 @@ impl<'a> Row<'a> {
     }
 }
 
-/// The row of a text, which begins behind the bracket before its name.
+/// The row of a text, which begins after the bracket before its name.
 pub fn row_of(alloc: Global, text: &str) -> Result<Row<'_>, RowFault> {
     let Some((name, lines)) = text.split_once("]\n") else {
         return Err(RowFault::Name);

@@ -5,23 +5,23 @@ use arrayvec::ArrayVec;
 use std::cell::RefCell;
 use std::io::{Error, ErrorKind, Read, Result, Write};
 
-/// A text so many times.
+/// A text that many times.
 pub type Part<'a> = (u64, &'a [u8]);
 
 /// What a host gives, what it takes, and where it fails.
 #[derive(Clone, Copy)]
 pub struct Plan<'a> {
-    /// What is read, at most so many bytes at once. No part is empty.
+    /// What is read, at most that many bytes at once. No part is empty.
     pub text: &'a [Part<'a>],
     pub at_once: usize,
     /// Whether a read fails where the text ends.
     pub breaks: bool,
     /// Whether every second read is interrupted, the first of them too.
     pub interrupts: bool,
-    /// So many bytes are taken, at most so many at once, and then a write fails.
+    /// That many bytes are taken, at most that many at once, and then a write fails.
     pub room: usize,
     pub room_at_once: usize,
-    /// So many flushes are taken, and then one meets this.
+    /// That many flushes are taken, and then one meets this.
     pub flushes: u32,
     pub trouble: ErrorKind,
     /// Whether a read gives bytes of one part at most, and each read and each flush is noted.
@@ -50,7 +50,7 @@ struct State<'a> {
     part: usize,
     times: u64,
     at: usize,
-    /// Whether the end was told. Behind it a read fails.
+    /// Whether the end was told. After it a read fails.
     ended: bool,
     reads: u32,
     notes: ArrayVec<u8, 4096>,
@@ -161,11 +161,11 @@ fn is_made_of(text: &[u8], parts: &[Part<'_>]) -> bool {
     let mut rest = text;
     for (times, part) in parts {
         for _ in 0..*times {
-            let (front, behind) = rest.split_at(part.len().min(rest.len()));
+            let (front, after) = rest.split_at(part.len().min(rest.len()));
             if front != *part {
                 return false;
             }
-            rest = behind;
+            rest = after;
         }
     }
     rest.is_empty()

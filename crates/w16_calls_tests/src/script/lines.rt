@@ -18,7 +18,7 @@ fn reads_lines_that_are_no_text(rt: HostRuntime) -> Result<(), Fail> {
     Ok(())
 }
 
-/// How many bytes are written by a line that writes so many digits.
+/// How many bytes are written by a line that writes that many digits.
 fn written(digits: usize) -> Option<usize> {
     let mut line: ArrayVec<u8, 2100> = ArrayVec::new();
     let _ = line.try_extend_from_slice(b"Write 0 ");
@@ -61,8 +61,8 @@ fn text_length(call: &Call<'_>) -> Option<usize> {
     }
 }
 
-/// How long the text is that a line of so many letters behind a command has.
-fn length_behind(command: &[u8], letters: usize) -> Option<usize> {
+/// How long the text is that a line of that many letters after a command has.
+fn length_after(command: &[u8], letters: usize) -> Option<usize> {
     let mut line: ArrayVec<u8, 600> = ArrayVec::new();
     let _ = line.try_extend_from_slice(command);
     let _ = line.try_extend_from_slice([b'a'; 520].split_at(letters.min(520)).0);
@@ -72,14 +72,20 @@ fn length_behind(command: &[u8], letters: usize) -> Option<usize> {
     }
 }
 
+/// How many letters a command has after it whose text is read otherwise.
+fn first_wrong(command: &[u8]) -> Option<usize> {
+    for (letters, length) in LETTERS {
+        if length_after(command, *letters) != *length {
+            return Some(*letters);
+        }
+    }
+    None
+}
+
 #[test]
 fn reads_texts(rt: HostRuntime) {
     for command in WITH_TEXT {
-        for (letters, length) in LETTERS {
-            assert!(rt;
-                length_behind(command, *letters) == *length,
-                "{letters} letters"
-            );
-        }
+        let wrong = first_wrong(command);
+        assert!(rt; wrong.is_none(), "{wrong:?} letters");
     }
 }

@@ -4,7 +4,7 @@ use w16_store::{MemStore, Store, StoreFault};
 /// What is answered in place of what is so, and of each byte and each length the bits that are kept, and then those that are changed.
 pub type Lie = (Result<(), StoreFault>, u64, u64);
 
-/// Files of which so many lies are told behind so many questions. Where a file HONEST is asked for there are no more, and it is missing if one
+/// Files of which that many lies are told after that many questions. Where a file HONEST is asked for there are no more, and it is missing if one
 /// was told, else it can't be read.
 #[derive(Drop)]
 pub struct Lying {

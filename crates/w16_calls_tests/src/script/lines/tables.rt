@@ -29,7 +29,7 @@ pub static BYTES: &[(usize, Option<usize>)] = &[
     (2050, None),
 ];
 
-/// How many letters stand behind a command, and how many a text of them has.
+/// How many letters stand after a command, and how many a text of them has.
 pub static LETTERS: &[(usize, Option<usize>)] = &[
     (0, None),
     (1, Some(1)),

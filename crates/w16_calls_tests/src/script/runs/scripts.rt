@@ -5,7 +5,7 @@ use crate::script::host::Part;
 use std::io::ErrorKind;
 use w16_script::{Ended, RunFault};
 
-/// The end of a script of so many lines, with so many replies.
+/// The end of a script of that many lines, with that many replies.
 macro_rules! ended {
     ($lines:expr, $replies:expr) => {
         Ok(Ended { lines: $lines, replies: $replies })
@@ -144,7 +144,7 @@ pub static DIALOGUES: &[Dialogue] = &[
         ..TALK
     },
     Dialogue {
-        name: "reads to the end and not behind it",
+        name: "reads to the end and not past it",
         text: &[(1, b"Frob\nFrob")],
         ended: ended!(2, 2),
         notes: &[(1, b"flush\nread\nerror syntax\nflush\nread\nerror syntax\n")],
@@ -267,7 +267,7 @@ static SCRIPTS: &[Script] = &[
         ..SCRIPT
     },
     Script {
-        name: "fails to read behind a line",
+        name: "fails to read after a line",
         text: &[
             (1, b"GlobalAlloc 0x42 100\nGlobalLock 0x106\n"),
             (1, b"Write 0x01070000 4e45\n"),
