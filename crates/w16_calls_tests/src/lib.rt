@@ -1,4 +1,5 @@
-//! Tests of the calls, from the global heap's to whole scripts, through their public faces. They stand in a crate of their own, so that what they test is proved once.
+//! Tests of the calls, from the global heap's to the kernel's, and of the command line, through their public faces. They stand in a crate of their own,
+//! so that what they test is proved once.
 #![tactic(auto)]
 
 #[cfg(test)]
@@ -19,5 +20,3 @@ mod local;
 mod options;
 #[cfg(test)]
 mod refusals;
-#[cfg(test)]
-mod script;

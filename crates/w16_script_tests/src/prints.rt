@@ -1,6 +1,6 @@
 //! What replies are printed as.
 
-use crate::script::host::{Host, PLAN, Part, Plan};
+use crate::host::{Host, PLAN, Part, Plan};
 use w16_kernel::Reply::{self, *};
 use w16_loading::FetchFault;
 use w16_model::FarFault;

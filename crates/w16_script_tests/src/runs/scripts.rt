@@ -1,7 +1,7 @@
 //! Hosts, with how runs over them end.
 
 use super::{Dialogue, Script, Written};
-use crate::script::host::Part;
+use crate::host::Part;
 use std::io::ErrorKind;
 use w16_script::{Ended, RunFault};
 

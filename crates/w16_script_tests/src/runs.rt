@@ -2,7 +2,7 @@
 
 mod scripts;
 
-use crate::script::host::{Host, PLAN, Part, Plan};
+use crate::host::{Host, PLAN, Part, Plan};
 use scripts::{COUNTED, DIALOGUES, ENDLESS, WRITTEN, scripts};
 use std::alloc::Global;
 use std::io::{BufWriter, ErrorKind};
