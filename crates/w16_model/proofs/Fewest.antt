@@ -1,10 +1,11 @@
 -- Requests discard as few as they can, by the laws on what is needed and on what others keep.
-use Rattle.w16_model.proofs.Common.{◌≡◌, ℕ, ◌<◌, ◌⊎◌, inl, inr, Bool, true, false, cond, not, ◌||◌, ◌&&◌, ◌==◌, nat_le, List, take, Option, Some, None, refl, sym, ap, ◌∙◌, subst, arith, leb-false, ne_eqb, MatchBool, unwrap_or, false≢true, Block}
+use Rattle.w16_model.proofs.Common.{◌≡◌, ℕ, ◌<◌, ◌≤◌, ◌⊎◌, inl, inr, Bool, true, false, cond, not, ◌||◌, ◌&&◌, ◌==◌, nat_le, List, take, Option, Some, None, refl, sym, ap, ◌∙◌, subst, arith, leb-false, ne_eqb, MatchBool, unwrap_or, false≢true, Block}
 use Rattle.w16_model.proofs.Common.{Kind, Fixed, Moveable, Discardable, RoomOptions, longest_hole, IsLongestStretch, eligible, blocks_without, is_member, is_about, needed, room_for, none_discarded_if, Heap, IsHeap, blocks, with_newest, Request}
 use Rattle.w16_model.proofs.Common.{IsNew, Allocates, MakesRoom, compaction_prefix, eligible_count, most_room, discards_needed, snapshot_of, Handles, handle_of, Enters, IsRefusedAlloc, IsEmptyFixed, IsTooLong, HasNoSlots, kind_asked, alloc_options}
 use Rattle.w16_model.proofs.Common.{rounded_size, is_absent_asked, has_flag, GMEM_MOVEABLE, KeepsOthers, HasNoStretch, LacksRoom, AllocatesFewest, IsMostAfter, MakesMost, AllocationLaw, CompactionLaw, GlobalAllocLaw, GlobalCompactLaw}
 use Rattle.w16_model.proofs.Least.{discards_are_least, no_stretch, placed_filter}
 use Rattle.w16_model.proofs.Longest.{room_is_longest}
+use Rattle.w16_model.proofs.Prefixes.{needed_enough}
 use Rattle.w16_model.proofs.Starts.{hole_is_longest}
 use Rattle.w16_model.proofs.Others.{others_law}
 
@@ -90,6 +91,10 @@ compaction_law old new n answer is step = turn (n == 0) step
     fewer None e j lt = (discards_are_least old.lo old.hi (blocks old) old.order is.placed n None).none j e
     fewer (Some k) e j lt = (discards_are_least old.lo old.hi (blocks old) old.order is.placed n None).fewer k j e lt
 
+    enough : (p : Option ℕ) → needed (snapshot_of old) n None ≡ p → answer ≡ room_for (snapshot_of old) (unwrap_or p (eligible_count old)) None → (n ≤ answer) ⊎ (unwrap_or p (eligible_count old) ≡ eligible_count old)
+    enough None e promised = inr refl
+    enough (Some k) e promised = let fits = needed_enough old.lo old.hi (blocks old) old.order n None k e in inl (omega (arith, fits, promised))
+
     turn : (b : Bool) → MatchBool b ((answer ≡ most_room old) × (new ≡ old)) (MakesRoom old n answer new) → MatchBool b (IsMostAfter old (eligible_count old) answer × (new ≡ old)) (MakesMost old n answer new)
     turn true same = (most_after old is (eligible_count old) answer same.0, same.1)
     turn false made = record {
@@ -99,6 +104,8 @@ compaction_law old new n answer is step = turn (n == 0) step
         fewer = fewer (needed (snapshot_of old) n None) refl;
       };
       most = most_after old is (compaction_prefix old n) answer made.promised;
+      enough = enough (needed (snapshot_of old) n None) refl made.promised;
+      free = λ some. let (a, b, hole, long) = (hole_is_longest new.lo new.hi (blocks new) made.settled.sound.placed).one_as_long (omega (arith, some, made.longest)) in (a, b, hole, long ∙ sym made.longest);
     }
 
 pub global_compact_law : GlobalCompactLaw

@@ -1,5 +1,5 @@
 -- Fewest discards, which no allocator promises: what it means is told by arrangements alone, every way in which the loose blocks may slide.
-use Rattle.std.specs.Prelude.{◌≡◌, ◌≢◌, ℕ, ◌-◌, ◌<◌, ◌⊎◌, Bool, true, false, ◌==◌, MatchBool, take, Option, Some, None}
+use Rattle.std.specs.Prelude.{◌≡◌, ◌≢◌, ℕ, ◌-◌, ◌<◌, ◌≤◌, ◌⊎◌, Bool, true, false, ◌==◌, MatchBool, take, Option, Some, None}
 use Rattle.w16_model.specs.declared.Kind.{Kind}
 use Rattle.w16_model.specs.declared.RoomOptions.{RoomOptions}
 use Rattle.w16_model.specs.Gap.{IsHole}
@@ -39,10 +39,12 @@ abbrev pub IsMostAfter : Heap → ℕ → ℕ → Type 0
 IsMostAfter heap k n = IsLongestStretch heap.lo heap.hi (blocks_without (blocks heap) (take k (eligible (blocks heap) heap.order None)) None) n
 
 -- A compaction for n bytes discards as few as it can, or all that may be where no number is enough, and answers the most that sliding then
--- makes free in a row.
+-- makes free in a row: a hole that is there now.
 pub record MakesMost (old : Heap) (n answer : ℕ) (new : Heap) : Type 0 where
   pub discards : DiscardsFewest old None n new
   pub most : IsMostAfter old discards.count answer
+  pub enough : (n ≤ answer) ⊎ (discards.count ≡ eligible_count old)
+  pub free : 0 < answer → (a : ℕ) × (b : ℕ) × IsHole new.lo new.hi (blocks new) a b × (b - a ≡ answer)
 
 -- for 0 bytes it discards nothing, and answers the most that could be made free
 abbrev pub CompactsFewest : Heap → ℕ → ℕ → Heap → Type 0
