@@ -1,17 +1,19 @@
 -- What calls of modules and resources are for: by their replies, and by what the worlds before and after have.
-use Rattle.std.specs.Prelude.{◌≡◌, ◌≢◌, ℕ, ◌+◌, ◌-◌, ◌<◌, ◌≤◌, ◌⊎◌, ◌&&◌, true, false, if◌then◌else◌, List, length, Some, None, IfSome, IsSomeAnd, slice_get}
+use Rattle.std.specs.Prelude.{◌≡◌, ◌≢◌, ℕ, ◌+◌, ◌-◌, ◌<◌, ◌≤◌, ◌⊎◌, ◌&&◌, true, false, if◌then◌else◌, is_some, List, length, Option, Some, None, IfSome, IsSomeAnd, slice_get}
 use Rattle.std.specs.FinMap as finmap
-use Rattle.w16_model.specs.Heap.{object_at, is_fixed}
+use Rattle.w16_model.specs.declared.Kind.TheVariants.{Fixed, Discardable}
+use Rattle.w16_model.specs.Heap.{object_at, bytes_at, is_fixed}
 use Rattle.w16_model.specs.Handles.{IsFreeSlot, slot_of_handle, selector_of, far_pointer}
 use Rattle.w16_model.specs.Calls.{locks_at, rounded_size}
 use Rattle.w16_store.specs.Names.{is_named}
-use Rattle.w16_loading.specs.File.{Format, Label, Resource, is_label}
+use Rattle.w16_loading.specs.declared.TheConstants.{FIRST_MODULE}
+use Rattle.w16_loading.specs.File.{Format, Label, Resource, Segment, is_label}
 use Rattle.w16_loading.specs.Modules.{Load, LoadingWorld, Module, Named, module_at, name_of}
-use Rattle.w16_loading.specs.Modules.Named.{BuiltIn}
+use Rattle.w16_loading.specs.Modules.Named.{BuiltIn, Loaded}
 use Rattle.w16_loading.specs.Replies.Reply.{Dword, Word}
-use Rattle.w16_loading.specs.Families.{LoadingStep}
+use Rattle.w16_loading.specs.Families.{LoadingStep, ModuleCommand}
 use Rattle.w16_loading.specs.Families.LoadingCommand.{OfModules, OfResources}
-use Rattle.w16_loading.specs.Families.ModuleCommand.{Builtin, GetModuleHandle}
+use Rattle.w16_loading.specs.Families.ModuleCommand.{Builtin, GetModuleHandle, LoadLibrary, LoadModule}
 use Rattle.w16_loading.specs.Families.ResourceCommand.{FindResource, FreeResource, LoadResource, LockResource, SizeofResource}
 use Rattle.w16_loading.specs.AnyStore.{AnyStep}
 use Rattle.w16_loading.specs.Law.{IsLoadingWorld}
@@ -79,3 +81,18 @@ LockResourceLaw = (old new : LoadingWorld) (handle answer : ℕ) → IsLoadingWo
     → (new.modules ≡ old.modules) × (new.loads ≡ old.loads) × (answer ≡ 0 → new.handles ≡ old.handles)
     × (answer ≢ 0 → (slot : ℕ) × (load : Load) × (slot_of_handle old.handles handle ≡ Some slot) × (finmap.get old.loads slot ≡ Some load)
     × (answer ≡ far_pointer (selector_of slot) 0) × IsLockedOnce old slot new)
+
+-- what a load's answer names: a new module with one explicit use, or one that was there with one use more, or a built-in
+abbrev pub IsUsedOnce : Option Named → Option Named → Type 0
+IsUsedOnce None now = (m : Module) × (now ≡ Some (Loaded m)) × (m.uses ≡ 1)
+IsUsedOnce (Some (Loaded m)) now = now ≡ Some (Loaded (record m { uses = m.uses + 1 }))
+IsUsedOnce (Some (BuiltIn name)) now = now ≡ Some (BuiltIn name)
+
+-- LoadModule and LoadLibrary, over any store, answered with a handle: it is in use; and of each new module each segment has bytes that is fixed, or
+-- preload and not discardable. A discardable one may have lost them to the next.
+abbrev pub LoadLaw : Type 0
+LoadLaw = (old new : LoadingWorld) (command : ModuleCommand) (file : List ℕ) (answer : ℕ) → IsLoadingWorld old → (command ≡ LoadModule file) ⊎ (command ≡ LoadLibrary file) → FIRST_MODULE ≤ answer
+    → AnyStep old (OfModules command) (Word answer) new
+    → IsUsedOnce (finmap.get old.modules answer) (finmap.get new.modules answer)
+    × ((handle i slot : ℕ) (m : Module) (s : Segment) → finmap.get old.modules handle ≡ None → finmap.get new.modules handle ≡ Some (Loaded m)
+    → slice_get m.tables.segments i ≡ Some s → slice_get m.slots i ≡ Some slot → (s.kind ≡ Fixed) ⊎ ((s.is_preload ≡ true) × (s.kind ≢ Discardable)) → is_some (bytes_at new.handles.heap slot) ≡ true)

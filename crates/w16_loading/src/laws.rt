@@ -1,5 +1,5 @@
 //! The laws of the definitions. Each function does nothing: its contract is the law.
-ghost use Rattle.w16_loading.specs.Effects.{BuiltInLaw, FindLaw, FreeLaw, LoadResourceLaw, LockResourceLaw, NamedLaw, SizeofLaw};
+ghost use Rattle.w16_loading.specs.Effects.{BuiltInLaw, FindLaw, FreeLaw, LoadLaw, LoadResourceLaw, LockResourceLaw, NamedLaw, SizeofLaw};
 ghost use Rattle.w16_loading.specs.Bystanders.{StepBystandersLaw, StepPinnedLaw};
 ghost use Rattle.w16_loading.specs.Fewest.{ExactRequestsFewestLaw, FetchFewestLaw, LoadFewestLaw, RequestsFewestLaw};
 ghost use Rattle.w16_loading.specs.Law.{
@@ -107,14 +107,15 @@ pub fn uses_and_importers_are_apart()
     ensures { UsesApartLaw }
 {}
 
-/// What calls of modules and resources are for: look-ups answer what has the name, and LoadResource, LockResource
-/// and FreeResource count loads and locks.
+/// What calls of modules and resources are for: look-ups answer what has the name, loads use a module
+/// whose segments have bytes, and LoadResource, LockResource and FreeResource count loads and locks.
 pub fn calls_of_modules_do_what_they_are_for()
     ensures named { NamedLaw }
     ensures built_in { BuiltInLaw }
     ensures find { FindLaw }
     ensures size { SizeofLaw }
     ensures free { FreeLaw }
+    ensures load { LoadLaw }
     ensures load_resource { LoadResourceLaw }
     ensures lock_resource { LockResourceLaw }
 {}
