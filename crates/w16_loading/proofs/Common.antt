@@ -9,7 +9,7 @@ pub use Rattle.std.specs.FinMap.{get-retain_keys, nat_cmp-IsAntisymmetric, same_
 pub use Rattle.std.specs.List.{AllZip, list_all, position_or_len}
 pub use Rattle.std.specs.Option.{option_or}
 pub use Rattle.w16_loading.specs.AnyStore.{AnyCloses, AnyFetches, AnyLoads, AnyLoadsBy, GivesAny, IsAnyClosure, IsOwnedSize, far_reads_file, lock_reads_file, reads_files, with_files}
-pub use Rattle.w16_loading.specs.Bystanders.{IsReleased, IsStepAbout, StepBystandersLaw, StepPinnedLaw, call_of, releases, step_may_move_own}
+pub use Rattle.w16_loading.specs.Bystanders.{IsFreedResource, IsReleased, IsStepAbout, IsUnloaded, IsUnused, MayGo, StepBystandersLaw, StepPinnedLaw, call_of, step_may_move_own}
 pub use Rattle.w16_loading.specs.Closure.{Around, Closes, Closure, Found, Reading, Referent, after, are_sound, around, begun, dll, followed, meant, reading, with_bound, with_found}
 pub use Rattle.w16_loading.specs.Closure.Reading.{Meant, Read, Refused}
 pub use Rattle.w16_loading.specs.Closure.Referent.{New, There}
