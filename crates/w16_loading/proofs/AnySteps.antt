@@ -2,10 +2,10 @@
 use Rattle.w16_loading.proofs.Common.{◌≡◌, ℕ, ◌<◌, ◌≤◌, inl, inr, ◌⊎◌, Bool, true, false, cond, not, List, [], ◌∷◌, Option, Some, None, MatchOption, MatchBool, MatchResult, is_some, option_map, unwrap_or, Result, Ok, Err, IfOk, refl, sym}
 use Rattle.w16_loading.proofs.Common.{ap, ◌∙◌, subst, arith, find, option_or, false≢true, Heap, IsHeap, bytes_at, IsFreeSlot, selector_in, offset_in, repeated, FarAnswer, FarCommand, far_slot, Member, is_named, FIRST_MODULE, FetchFault}
 use Rattle.w16_loading.proofs.Common.{Format, IsFormat, IsModuleFile, ModuleFile, Resource, LoadingWorld, Load, Module, Named, name_of, module_at, handle_named, with_heap, Reply, Dword, Failed, FillsOne, Failure, is_of_device, is_of_read}
-use Rattle.w16_loading.proofs.Common.{Closure, Reading, Referent, reading, around, after, begun, Refused, Meant, Read, There, New, given, segments_of, named, Answer, Loads, LoadsFile, LoadsNew, Fulfils, Refuses, used_again, undone, left}
+use Rattle.w16_loading.proofs.Common.{Closure, Reading, Referent, reading, around, after, begun, Refused, Meant, Read, There, New, given, segments_of, named, Answer, Loads, LoadsBy, LoadsFile, LoadsNew, Fulfils, Refuses, used_again, undone, left}
 use Rattle.w16_loading.proofs.Common.{Go, used_less, without_module, Fetching, Fetches, Accesses, needs_fetch, far_read, far_write, gives, LoadsResource, LoadsNewResource, LocksResource, AnswersNone, is_too_long, resource_at, load_of}
 use Rattle.w16_loading.proofs.Common.{loaded_again, with_resource, locked, lock_outcome, slot_of_resource, LoadingCommand, ModuleCommand, ResourceCommand, Loading, FamilyStep, FarStep, LoadingStep, OfHandles, OfResizes, OfFar, OfModules}
-use Rattle.w16_loading.proofs.Common.{OfResources, AnyFetches, AnyLoads, AnyLoadsBy, GivesAny, far_reads_file, lock_reads_file, reads_files, FetchesFewest, GivesAnyFewest, RequestsFewestLaw, IsLoadingWorld, IsAnyStepLaw, ReadsNoFilesLaw}
+use Rattle.w16_loading.proofs.Common.{OfResources, AnyFetches, AnyLoads, AnyLoadsBy, GivesAny, far_reads_file, lock_reads_file, reads_files, ExactFetchesFewest, ExactRequestsFewestLaw, FetchesFewest, GivesAnyFewest, GivesExactFewest, RequestsFewestLaw, IsLoadingWorld, IsAnyStepLaw, ReadsNoFilesLaw}
 use Rattle.std.specs.FinMap as finmap
 use Rattle.w16_loading.proofs.Importers.{entry_there}
 use Rattle.w16_loading.proofs.Bound.{world_used_less, world_without}
@@ -250,3 +250,32 @@ requests_fewest_law old new command reply is step = turned AnyFetches FetchesFew
     (λ t slot fault next f. fetch_fewest old next is slot fault f)
     (λ t handle place slot r free at none fault next f. fetch_fewest (with_resource old slot handle place r) next (made_world old is slot free handle place r at.0 at.1 none) slot fault f)
     (λ t b file answer f. loads_fewest old is b (record new { failures = old.failures }) file answer f) step.step
+
+exact_both : (before : Heap) (slot : ℕ) (bytes : List ℕ) (fault : Option FetchFault) (after : Heap) → IsHeap before → FillsOne is_of_device before slot bytes fault after → GivesExactFewest before slot bytes fault after × IsHeap after
+exact_both before slot bytes fault after is f = ((f, one_fewest is_of_device before slot bytes fault after is f), one_heap is_of_device before slot bytes fault after is f)
+
+module _ (format : Format) (old : LoadingWorld) (is : IsLoadingWorld old) where
+  exact_loads : (b : Bool) (new : LoadingWorld) (file : List ℕ) (answer : Answer) → Loads format b old file answer new → LoadsBy GivesExactFewest format b old file answer new
+  exact_loads b new file answer (inl f) = inl f
+  exact_loads b new file answer (inr f) = inr (by_reading (reading format (around old) [] file) f)
+    where
+      by_outcome : (outcome : Result Closure ℕ) → MatchResult outcome (λ closure. LoadsNew (FillsOne is_of_device) old closure answer new) (λ number. Refuses old number answer new)
+          → MatchResult outcome (λ closure. LoadsNew GivesExactFewest old closure answer new) (λ number. Refuses old number answer new)
+      by_outcome (Ok closure) (inl h) = inl h
+      by_outcome (Ok closure) (inr h) = inr (fulfils_as (FillsOne is_of_device) GivesExactFewest exact_both old is closure answer new h)
+      by_outcome (Err number) h = h
+
+      by_reading : (r : Reading) → LoadsFile (FillsOne is_of_device) format b old file r answer new → LoadsFile GivesExactFewest format b old file r answer new
+      by_reading (Refused number) f = f
+      by_reading (Meant (There handle)) f = f
+      by_reading (Meant (New place)) f = absurd f
+      by_reading (Read read) f = (f.0, f.1, by_outcome f.0 f.2)
+
+exact_fetch : (format : Format) (old next : LoadingWorld) → IsLoadingWorld old → (slot : ℕ) (fault : Option FetchFault) → Fetches format old slot fault next → ExactFetchesFewest format old slot fault next
+exact_fetch format old next is slot fault f = (f, one_fewest is_of_device old.handles.heap slot f.bytes fault next.handles.heap is.handles.heap f.filled)
+
+pub exact_requests_fewest_law : ExactRequestsFewestLaw
+exact_requests_fewest_law format old new command reply is step = turned (Fetches format) (ExactFetchesFewest format) (Loads format) (LoadsBy GivesExactFewest format) old (record new { failures = old.failures }) reply command
+    (λ t slot fault next f. exact_fetch format old next is slot fault f)
+    (λ t handle place slot r free at none fault next f. exact_fetch format (with_resource old slot handle place r) next (made_world old is slot free handle place r at.0 at.1 none) slot fault f)
+    (λ t b file answer f. exact_loads format old is b (record new { failures = old.failures }) file answer f) step.step

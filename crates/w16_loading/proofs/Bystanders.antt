@@ -1,6 +1,6 @@
 -- What each step leaves of objects that it isn't about, and of pinned ones, whatever the store answers.
 use Rattle.w16_loading.proofs.Common.{◌≡◌, ℕ, inl, inr, ◌⊎◌, true, false, List, Option, Some, None, MatchOption, IsSomeAnd, is_some, refl, sym, subst, IsAbout, Handles, Object, object_at, is_pinned_object, StandsStill, Call, CallStep, Calls}
-use Rattle.w16_loading.proofs.Common.{AnyFetches, AnyLoads, IsReleased, IsStepAbout, StepBystandersLaw, StepPinnedLaw, call_of, releases, step_may_move_own, AddsBuiltIn, FamilyStep, GivesBuiltIn, LoadingCommand, ModuleCommand, ModuleStep}
+use Rattle.w16_loading.proofs.Common.{AnyFetches, AnyLoads, IsReleased, IsStepAbout, MayGo, StepBystandersLaw, StepPinnedLaw, call_of, step_may_move_own, AddsBuiltIn, FamilyStep, GivesBuiltIn, LoadingCommand, ModuleCommand, ModuleStep}
 use Rattle.w16_loading.proofs.Common.{ResourceCommand, ResourceStep, built_in, OfHandles, OfResizes, OfFar, OfModules, OfResources, Builtin, LoadModule, LoadLibrary, FreeLibrary, FreeModule, GetModuleHandle, GetModuleUsage, GetProcAddress}
 use Rattle.w16_loading.proofs.Common.{FindResource, LoadResource, LockResource, FreeResource, SizeofResource, IsLoadingWorld, LoadingWorld, handle_named, Reply, ResizeReplies, answer_in, ResizeCommand, ResizeStep, GlobalReAlloc, GlobalDiscard}
 use Rattle.std.specs.FinMap as finmap
@@ -9,7 +9,7 @@ use Rattle.w16_model.proofs.Bystanders as calls_proofs
 use Rattle.w16_loading.proofs.CallsKept.{answered}
 use Rattle.w16_loading.proofs.Owners.{some_of}
 use Rattle.w16_loading.proofs.Spared.{HasPinned, IsSpared, same_spared}
-use Rattle.w16_loading.proofs.SparedByFrees.{IsSparedOrTaken, resource_ended, uses_ended}
+use Rattle.w16_loading.proofs.SparedByFrees.{resource_ended, uses_ended}
 use Rattle.w16_loading.proofs.SparedByLoads.{modules_loaded, resource_loaded}
 use Rattle.w16_loading.proofs.SparedByUses.{access_spares, access_stands, lock_spares, lock_stands}
 
@@ -31,7 +31,7 @@ module _ (old : LoadingWorld) (is : IsLoadingWorld old) (q : ℕ) (there : is_so
 
   -- an object is spared, or gone with its module
   abbrev SparedOrReleased : LoadingCommand → Type 0
-  SparedOrReleased command = Spared new ⊎ IsReleased command old.handles new.handles q
+  SparedOrReleased command = Spared new ⊎ IsReleased command old new q
 
   same_world : new ≡ old → Spared new
   same_world e = subst Spared (sym e) (same_spared old.handles.heap q)
@@ -47,16 +47,12 @@ module _ (old : LoadingWorld) (is : IsLoadingWorld old) (q : ℕ) (there : is_so
       turn None (inr f) = subst Spared (sym f.1) (same_spared old.handles.heap q)
       turn (Some there) f = same_world f.1
 
-  taken : (command : LoadingCommand) → releases command ≡ true → IsSparedOrTaken old new q → SparedOrReleased command
-  taken command r (inl s) = inl s
-  taken command r (inr g) = inr (r, g.0, g.1)
-
   modules : (command : ModuleCommand) → ModuleStep AnyLoads old command reply new → SparedOrReleased (OfModules command)
   modules (Builtin name) f = inl (built name f.0 f.2)
   modules (LoadModule file) f = inl (modules_loaded old is q there true file f.0 new f.2)
   modules (LoadLibrary file) f = inl (modules_loaded old is q there false file f.0 new f.2)
-  modules (FreeLibrary handle) f = taken (OfModules (FreeLibrary handle)) refl (uses_ended old is q handle f.0 new f.2)
-  modules (FreeModule handle) f = taken (OfModules (FreeModule handle)) refl (uses_ended old is q handle f.0 new f.2)
+  modules (FreeLibrary handle) f = uses_ended old is q handle f.0 new f.2
+  modules (FreeModule handle) f = uses_ended old is q handle f.0 new f.2
   modules (GetModuleHandle name) f = inl (same_world f.1)
   modules (GetModuleUsage handle) f = inl (same_world f.1)
   modules (GetProcAddress handle label) f = inl (same_world f.1)
@@ -65,7 +61,7 @@ module _ (old : LoadingWorld) (is : IsLoadingWorld old) (q : ℕ) (there : is_so
   resources (FindResource handle name kind) f out = inl (same_world f.1)
   resources (LoadResource handle place) f out = inl (resource_loaded old is q there new reply handle place f)
   resources (LockResource handle) f out = inl (lock_spares old is q there new reply handle out f)
-  resources (FreeResource handle) f out = taken (OfResources (FreeResource handle)) refl (subst (λ w. IsSparedOrTaken old w q) (sym f.1) (resource_ended old is q handle))
+  resources (FreeResource handle) f out = subst (λ w. IsSpared old.handles.heap w.handles.heap q ⊎ IsReleased (OfResources (FreeResource handle)) old w q) (sym f.1) (resource_ended old is q handle)
   resources (SizeofResource handle place) f out = inl (same_world f.1)
 
   family_spares : (command : LoadingCommand) → FamilyStep AnyFetches AnyLoads old command reply new → (IsStepAbout old.handles command q → ⊥) → SparedOrReleased command
@@ -81,7 +77,7 @@ module _ (old : LoadingWorld) (is : IsLoadingWorld old) (q : ℕ) (there : is_so
     Stands world = StandsStill old.handles.heap world.handles.heap q
 
     abbrev StandsOrReleased : LoadingCommand → Type 0
-    StandsOrReleased command = Stands new ⊎ IsReleased command old.handles new.handles q
+    StandsOrReleased command = Stands new ⊎ IsReleased command old new q
 
     spared_stands : (command : LoadingCommand) → SparedOrReleased command → StandsOrReleased command
     spared_stands command (inl s) = inl (s.1 pinned)
@@ -104,11 +100,18 @@ module _ (old : LoadingWorld) (is : IsLoadingWorld old) (q : ℕ) (there : is_so
     family_stands (OfModules command) f out = spared_stands (OfModules command) (modules command f)
     family_stands (OfResources command) f out = resource_stands command f
 
+-- the count of failures is no matter
+may_go : (old new : LoadingWorld) (failures q : ℕ) (command : LoadingCommand) → MayGo command old (record new { failures = failures }) q → MayGo command old new q
+may_go old new failures q (OfModules (FreeLibrary handle)) g = g
+may_go old new failures q (OfModules (FreeModule handle)) g = g
+may_go old new failures q (OfResources (FreeResource handle)) g = g
+may_go old new failures q command g = absurd g
+
 pub bystanders_law : StepBystandersLaw
-bystanders_law old new command reply q is step there out = elim (family_spares old is q there (record new { failures = old.failures }) reply command step.step out) [ inl s ↦ inl s.0 | inr r ↦ inr r ]
+bystanders_law old new command reply q is step there out = elim (family_spares old is q there (record new { failures = old.failures }) reply command step.step out) [ inl s ↦ inl s.0 | inr r ↦ inr (r.0, may_go old new old.failures q command r.1) ]
 
 pub pinned_law : StepPinnedLaw
-pinned_law old new command reply q is step pinned out = family_stands old is q (some (object_at old.handles.heap q) pinned) (record new { failures = old.failures }) reply pinned command step.step out
+pinned_law old new command reply q is step pinned out = elim (family_stands old is q (some (object_at old.handles.heap q) pinned) (record new { failures = old.failures }) reply pinned command step.step out) [ inl s ↦ inl s | inr r ↦ inr (r.0, may_go old new old.failures q command r.1) ]
   where
     some : (p : Option Object) → IsSomeAnd p (λ o. is_pinned_object o ≡ true) → is_some p ≡ true
     some None h = absurd h

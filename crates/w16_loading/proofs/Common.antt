@@ -9,7 +9,7 @@ pub use Rattle.std.specs.FinMap.{get-retain_keys, nat_cmp-IsAntisymmetric, same_
 pub use Rattle.std.specs.List.{AllZip, list_all, position_or_len}
 pub use Rattle.std.specs.Option.{option_or}
 pub use Rattle.w16_loading.specs.AnyStore.{AnyCloses, AnyFetches, AnyLoads, AnyLoadsBy, GivesAny, IsAnyClosure, IsOwnedSize, far_reads_file, lock_reads_file, reads_files, with_files}
-pub use Rattle.w16_loading.specs.Bystanders.{IsReleased, IsStepAbout, StepBystandersLaw, StepPinnedLaw, call_of, releases, step_may_move_own}
+pub use Rattle.w16_loading.specs.Bystanders.{IsFreedResource, IsReleased, IsStepAbout, IsUnloaded, IsUnused, MayGo, StepBystandersLaw, StepPinnedLaw, call_of, step_may_move_own}
 pub use Rattle.w16_loading.specs.Closure.{Around, Closes, Closure, Found, Reading, Referent, after, are_sound, around, begun, dll, followed, meant, reading, with_bound, with_found}
 pub use Rattle.w16_loading.specs.Closure.Reading.{Meant, Read, Refused}
 pub use Rattle.w16_loading.specs.Closure.Referent.{New, There}
@@ -18,7 +18,7 @@ pub use Rattle.w16_loading.specs.Families.LoadingCommand.{OfFar, OfHandles, OfMo
 pub use Rattle.w16_loading.specs.Families.ModuleCommand.{Builtin, FreeLibrary, FreeModule, GetModuleHandle, GetModuleUsage, GetProcAddress, LoadLibrary, LoadModule}
 pub use Rattle.w16_loading.specs.Families.ResourceCommand.{FindResource, FreeResource, LoadResource, LockResource, SizeofResource}
 pub use Rattle.w16_loading.specs.Fetch.{Accesses, Fetches, Fetching, IsImage, far_read, far_write, gives, is_code, is_not_present, needs_fetch, read_of, reply_of_far, resource_bytes, segment_bytes}
-pub use Rattle.w16_loading.specs.Fewest.{FetchFewestLaw, FetchesFewest, GivesAnyFewest, GivesFewest, LoadFewestLaw, RequestsFewestLaw}
+pub use Rattle.w16_loading.specs.Fewest.{ExactFetchesFewest, ExactRequestsFewestLaw, FetchFewestLaw, FetchesFewest, GivesAnyFewest, GivesExactFewest, GivesFewest, LoadFewestLaw, RequestsFewestLaw}
 pub use Rattle.w16_loading.specs.File.{Far, Format, IsFormat, IsModuleFile, IsSegmentData, ModuleFile, Resource, Segment, SegmentData, Tables, Target, numbered, targets_of}
 pub use Rattle.w16_loading.specs.File.Entry.{InSegment}
 pub use Rattle.w16_loading.specs.File.Target.{Import, ImportName, Internal, InternalEntry, System}

@@ -1,11 +1,11 @@
 -- What calls of modules and resources are for, proved from their steps.
-use Rattle.w16_loading.proofs.Common.{◌≡◌, ◌≢◌, ℕ, ◌+◌, ◌-◌, ◌<◌, ◌≤◌, ◌&&◌, ◌==◌, inl, inr, Bool, true, false, cond, if◌then◌else◌, nat_lt, List, [], ◌∷◌, find, length, position, Option, Some, None, is_some, option_map, unwrap_or, slice_get, refl, sym, ap, ◌∙◌, subst, arith}
-use Rattle.w16_loading.proofs.Common.{IfSome, get_or, false≢true, and_parts, eq-eqb, ne_eqb, IsTrue, MatchOption, object_at, Handles, slot_of_handle, locks_at, Member, inserted_here, taken_here, is_named, is_named-Decides, slice_get-get_or, position-Some}
-use Rattle.w16_loading.proofs.Common.{Format, Resource, Load, LoadingWorld, Module, Modules, Named, module_at, name_of, handle_named, BuiltIn, Loaded, Reply, Word, Dword, LoadingStep, IsLoadingWorld, without_objects}
-use Rattle.w16_loading.proofs.Common.{OfModules, OfResources, AddsBuiltIn, GivesBuiltIn, built_in, free_resource, slot_of_resource, numbered}
+use Rattle.w16_loading.proofs.Common.{◌≡◌, ◌≢◌, ℕ, ◌+◌, ◌-◌, ◌<◌, ◌≤◌, ◌&&◌, ◌==◌, inl, inr, Bool, true, false, cond, if◌then◌else◌, nat_lt, List, [], ◌∷◌, find, position, Option, Some, None, option_map, unwrap_or, slice_get, refl, sym, ap, ◌∙◌, subst, arith}
+use Rattle.w16_loading.proofs.Common.{IfSome, get_or, and_parts, eq-eqb, ne_eqb, IsTrue, MatchOption, object_at, slot_of_handle, locks_at, Member, inserted_here, taken_here, is_named, is_named-Decides, slice_get-get_or, position-Some}
+use Rattle.w16_loading.proofs.Common.{Resource, Load, LoadingWorld, Modules, Named, module_at, name_of, handle_named, BuiltIn, Loaded, Reply, Word, IsLoadingWorld, without_objects}
+use Rattle.w16_loading.proofs.Common.{AddsBuiltIn, built_in, free_resource, numbered}
 use Rattle.std.proofs.Common.{le-ltb, lt-ltb}
 use Rattle.std.specs.FinMap as finmap
-use Rattle.w16_loading.specs.File.{Label, is_label}
+use Rattle.w16_loading.specs.File.{is_label}
 use Rattle.w16_model.specs.declared.Kind.TheVariants.{Fixed}
 use Rattle.w16_loading.specs.Effects.{BuiltInLaw, FindLaw, FreeLaw, NamedLaw, SizeofLaw}
 use Rattle.w16_loading.proofs.Given.{no_place, place_member}
@@ -16,7 +16,7 @@ use Rattle.w16_loading.proofs.ShrunkWorlds.{value_gone}
 -- Names.
 
 -- what is found is a member that passes
-found_passes : {X : Type 0} (p : X → Bool) (xs : List X) (x : X) → find p xs ≡ Some x → Member x xs × (p x ≡ true)
+pub found_passes : {X : Type 0} (p : X → Bool) (xs : List X) (x : X) → find p xs ≡ Some x → Member x xs × (p x ≡ true)
 found_passes p [] x e = cc
 found_passes p (y ∷ ys) x e = turn (p y) refl e (found_passes p ys x)
   where

@@ -62,13 +62,13 @@ module _ (old : LoadingWorld) (is : IsLoadingWorld old) (closure : Closure) (cho
   abbrev new : LoadingWorld
   new = with_heap begun heap
 
-  slots_differ : EachPair (λ a b. a ≢ b) (all_slots choice)
+  pub slots_differ : EachPair (λ a b. a ≢ b) (all_slots choice)
   slots_differ = EachPair-from_AllPairs (λ (a b : ℕ). a ≢ b) (all_slots choice) good.slots.apart
 
-  handles_differ : EachPair (λ a b. a ≢ b) choice.handles
+  pub handles_differ : EachPair (λ a b. a ≢ b) choice.handles
   handles_differ = EachPair-from_AllPairs (λ (a b : ℕ). a ≢ b) choice.handles good.apart
 
-  segments_differ : AreApart (segments_of gs)
+  pub segments_differ : AreApart (segments_of gs)
   segments_differ = given_slots_apart 0 closure.found choice.handles choice.slots slots_differ
 
   -- each segment is small enough for one slot
@@ -92,7 +92,7 @@ module _ (old : LoadingWorld) (is : IsLoadingWorld old) (closure : Closure) (cho
   was_free x m = unused_slot old.handles is.handles x.0 (free_slot old closure choice good x.0 (chosen 0 closure.found choice.handles choice.slots x m))
 
   -- a handle of a new module was free
-  free_handle : (g : Given) → Member g gs → IsFreeModule old.modules g.handle
+  pub free_handle : (g : Given) → Member g gs → IsFreeModule old.modules g.handle
   free_handle g m = Each-at (IsFreeModule old.modules) choice.handles (Each-from_All (IsFreeModule old.modules) choice.handles good.free) g.handle (given_handle 0 closure.found choice.handles choice.slots g m)
 
   none_some : {X A : Type 0} (p : Option X) (x : X) → p ≡ None → p ≡ Some x → A

@@ -121,7 +121,7 @@ module _ (old : LoadingWorld) (is : IsLoadingWorld old) (slot : ℕ) (free : IsF
   }))
 
   -- no other object is of this place
-  none_of_place : (q : ℕ) (l : Load) → finmap.get old.loads q ≡ Some l → l.handle ≡ handle → l.place ≡ place → ⊥
+  pub none_of_place : (q : ℕ) (l : Load) → finmap.get old.loads q ≡ Some l → l.handle ≡ handle → l.place ≡ place → ⊥
   none_of_place q l there e f = false≢true (sym (find_none (λ (x : ℕ × Load). (x.1.handle == handle) && (x.1.place == place)) (finmap.entries old.loads) unloaded (q, l) (there_entry old.loads q l there))
       ∙ (λ i. (eq-eqb l.handle handle e i) && (eq-eqb l.place place f i)))
 

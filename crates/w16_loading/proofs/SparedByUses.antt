@@ -72,7 +72,7 @@ slot_in handles handle slot = turn (object_at handles.heap (handle / 8))
     turn None e = cc
     turn (Some o) e = by_test (handle == handle_of o.kind (handle / 8)) e
 
-named_slot : (old : LoadingWorld) (handle : ℕ) (x : ℕ × Load) → slot_of_resource old handle ≡ Some x → slot_of_handle old.handles handle ≡ Some x.0
+pub named_slot : (old : LoadingWorld) (handle : ℕ) (x : ℕ × Load) → slot_of_resource old handle ≡ Some x → slot_of_handle old.handles handle ≡ Some x.0
 named_slot old handle x = turn (slot_of_handle old.handles handle)
   where
     by_load : (slot : ℕ) (p : Option Load) → ◌≡◌ {A = Option (ℕ × Load)} (option_map (λ load. (slot, load)) p) (Some x) → Some slot ≡ Some x.0

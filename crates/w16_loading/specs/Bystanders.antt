@@ -1,21 +1,23 @@
 -- What a step leaves of objects that it isn't about, whatever the store answers.
-use Rattle.std.specs.Prelude.{◌≡◌, ℕ, ◌⊎◌, Bool, true, false, is_some, IsSomeAnd, None, Some}
+use Rattle.std.specs.Prelude.{◌≡◌, ◌≢◌, ℕ, ◌≤◌, ◌⊎◌, ◌==◌, Bool, true, false, if◌then◌else◌, is_some, IsSomeAnd, None, Some}
+use Rattle.std.specs.FinMap as finmap
 use Rattle.w16_model.specs.declared.TheConstants.{GMEM_MOVEABLE}
 use Rattle.w16_model.specs.CallLaws.{IsAbout, IsKeptOrDiscarded, may_move_own}
+use Rattle.w16_model.specs.Calls.{locks_at}
+use Rattle.w16_model.specs.Discards.{is_member}
 use Rattle.w16_model.specs.Effects.{pointer_in}
 use Rattle.w16_model.specs.Handles.{Handles, Part, selector_in, slot_of_handle, part_of_selector}
 use Rattle.w16_model.specs.Heap.{object_at, is_pinned_object}
 use Rattle.w16_model.specs.Law.{StandsStill}
 use Rattle.w16_model.specs.Outcomes.{Call}
 use Rattle.w16_model.specs.Outcomes.Call.{Calls, ReAllocs}
-use Rattle.w16_model.specs.Owned.{is_owned}
 use Rattle.w16_loading.specs.AnyStore.{AnyStep}
 use Rattle.w16_loading.specs.Families.{LoadingCommand}
 use Rattle.w16_loading.specs.Families.LoadingCommand.{OfHandles, OfResizes, OfFar, OfModules, OfResources}
 use Rattle.w16_loading.specs.Families.ModuleCommand.{FreeLibrary, FreeModule}
 use Rattle.w16_loading.specs.Families.ResourceCommand.{LockResource, FreeResource}
 use Rattle.w16_loading.specs.Law.{IsLoadingWorld}
-use Rattle.w16_loading.specs.Modules.{LoadingWorld}
+use Rattle.w16_loading.specs.Modules.{LoadingWorld, Module, IsSegmentOf, IsResourceOf, module_at}
 use Rattle.w16_loading.specs.Replies.{Reply}
 use Rattle.w16_loading.specs.Resizes.{ResizeCommand}
 use Rattle.w16_loading.specs.Resizes.ResizeCommand.{GlobalReAlloc, GlobalDiscard}
@@ -33,21 +35,36 @@ IsStepAbout old (OfFar command) q = IsSomeAnd (part_of_selector old (selector_in
 IsStepAbout old (OfResources (LockResource handle)) q = slot_of_handle old handle ≡ Some q
 IsStepAbout old command q = ⊥
 
--- whether modules and resources may go by a step, and their objects with them
-abbrev pub releases : LoadingCommand → Bool
-releases (OfModules (FreeLibrary handle)) = true
-releases (OfModules (FreeModule handle)) = true
-releases (OfResources (FreeResource handle)) = true
-releases command = false
+-- A module goes with the use of a handle that ends: it has no other explicit use; and it is the handle's own, which none imports, or all that import
+-- it go too.
+abbrev pub IsUnused : LoadingWorld → ℕ → LoadingWorld → ℕ → Module → Type 0
+IsUnused old handle new a m =
+    (m.uses ≤ (if a == handle then 1 else 0)) × (module_at new.modules a ≡ None)
+    × ((b : ℕ) (n : Module) → b ≢ a → module_at old.modules b ≡ Some n → is_member a n.imports ≡ true → (a ≢ handle) × (module_at new.modules b ≡ None))
 
-abbrev pub IsReleased : LoadingCommand → Handles → Handles → ℕ → Type 0
-IsReleased command old new q = (releases command ≡ true) × (is_owned old q ≡ true) × (object_at new.heap q ≡ None)
+-- an object of a module that goes so
+abbrev pub IsUnloaded : LoadingWorld → ℕ → LoadingWorld → ℕ → Type 0
+IsUnloaded old handle new q = (a number : ℕ) × (m : Module) × (IsSegmentOf old q a number m ⊎ IsResourceOf old q a number m) × IsUnused old handle new a m
+
+-- the object of a handle, a resource that was loaded once more than it was freed and isn't locked
+abbrev pub IsFreedResource : LoadingWorld → ℕ → LoadingWorld → ℕ → Type 0
+IsFreedResource old handle new q = (slot_of_handle old.handles handle ≡ Some q) × IsSomeAnd (finmap.get old.loads q) (λ load. load.loads ≡ 1) × (locks_at old.handles.heap q ≡ 0) × (finmap.get new.loads q ≡ None)
+
+-- whose object may go by a step
+abbrev pub MayGo : LoadingCommand → LoadingWorld → LoadingWorld → ℕ → Type 0
+MayGo (OfModules (FreeLibrary handle)) old new q = IsUnloaded old handle new q
+MayGo (OfModules (FreeModule handle)) old new q = IsUnloaded old handle new q
+MayGo (OfResources (FreeResource handle)) old new q = IsFreedResource old handle new q
+MayGo command old new q = ⊥
+
+abbrev pub IsReleased : LoadingCommand → LoadingWorld → LoadingWorld → ℕ → Type 0
+IsReleased command old new q = (object_at new.handles.heap q ≡ None) × MayGo command old new q
 
 -- Every other object is as it was; or it was discardable and not locked, and has lost its bytes alone; or it is gone with its module or resource.
 abbrev pub StepBystandersLaw : Type 0
 StepBystandersLaw = (old new : LoadingWorld) (command : LoadingCommand) (reply : Reply) (q : ℕ) → IsLoadingWorld old → AnyStep old command reply new
     → is_some (object_at old.handles.heap q) ≡ true → (IsStepAbout old.handles command q → ⊥)
-    → IsKeptOrDiscarded old.handles.heap new.handles.heap q ⊎ IsReleased command old.handles new.handles q
+    → IsKeptOrDiscarded old.handles.heap new.handles.heap q ⊎ IsReleased command old new q
 
 -- whether a step may move a fixed or locked object, or free it: its own reallocation with GMEM_MOVEABLE to a size above 0, and GlobalFree
 abbrev pub step_may_move_own : LoadingCommand → Bool
@@ -59,4 +76,4 @@ step_may_move_own command = false
 abbrev pub StepPinnedLaw : Type 0
 StepPinnedLaw = (old new : LoadingWorld) (command : LoadingCommand) (reply : Reply) (q : ℕ) → IsLoadingWorld old → AnyStep old command reply new
     → IsSomeAnd (object_at old.handles.heap q) (λ o. is_pinned_object o ≡ true) → (step_may_move_own command ≡ true → IsStepAbout old.handles command q → ⊥)
-    → StandsStill old.handles.heap new.handles.heap q ⊎ IsReleased command old.handles new.handles q
+    → StandsStill old.handles.heap new.handles.heap q ⊎ IsReleased command old new q

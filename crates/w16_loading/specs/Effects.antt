@@ -1,18 +1,21 @@
 -- What calls of modules and resources are for: by their replies, and by what the worlds before and after have.
-use Rattle.std.specs.Prelude.{◌≡◌, ◌≢◌, ℕ, ◌-◌, ◌<◌, ◌≤◌, ◌&&◌, true, false, List, Some, None, slice_get}
+use Rattle.std.specs.Prelude.{◌≡◌, ◌≢◌, ℕ, ◌+◌, ◌-◌, ◌<◌, ◌≤◌, ◌⊎◌, ◌&&◌, true, false, if◌then◌else◌, is_some, List, length, Option, Some, None, IfSome, IsSomeAnd, slice_get}
 use Rattle.std.specs.FinMap as finmap
-use Rattle.w16_model.specs.Heap.{object_at}
-use Rattle.w16_model.specs.Handles.{slot_of_handle}
-use Rattle.w16_model.specs.Calls.{locks_at}
+use Rattle.w16_model.specs.declared.Kind.TheVariants.{Fixed, Discardable}
+use Rattle.w16_model.specs.Heap.{object_at, bytes_at, is_fixed}
+use Rattle.w16_model.specs.Handles.{IsFreeSlot, slot_of_handle, selector_of, far_pointer}
+use Rattle.w16_model.specs.Calls.{locks_at, rounded_size}
 use Rattle.w16_store.specs.Names.{is_named}
-use Rattle.w16_loading.specs.File.{Format, Label, Resource, is_label}
+use Rattle.w16_loading.specs.declared.TheConstants.{FIRST_MODULE}
+use Rattle.w16_loading.specs.File.{Format, Label, Resource, Segment, is_label}
 use Rattle.w16_loading.specs.Modules.{Load, LoadingWorld, Module, Named, module_at, name_of}
-use Rattle.w16_loading.specs.Modules.Named.{BuiltIn}
+use Rattle.w16_loading.specs.Modules.Named.{BuiltIn, Loaded}
 use Rattle.w16_loading.specs.Replies.Reply.{Dword, Word}
-use Rattle.w16_loading.specs.Families.{LoadingStep}
+use Rattle.w16_loading.specs.Families.{LoadingStep, ModuleCommand}
 use Rattle.w16_loading.specs.Families.LoadingCommand.{OfModules, OfResources}
-use Rattle.w16_loading.specs.Families.ModuleCommand.{Builtin, GetModuleHandle}
-use Rattle.w16_loading.specs.Families.ResourceCommand.{FindResource, FreeResource, SizeofResource}
+use Rattle.w16_loading.specs.Families.ModuleCommand.{Builtin, GetModuleHandle, LoadLibrary, LoadModule}
+use Rattle.w16_loading.specs.Families.ResourceCommand.{FindResource, FreeResource, LoadResource, LockResource, SizeofResource}
+use Rattle.w16_loading.specs.AnyStore.{AnyStep}
 use Rattle.w16_loading.specs.Law.{IsLoadingWorld}
 
 -- GetModuleHandle: a module or built-in of this name, or 0 where there is none
@@ -45,3 +48,51 @@ FreeLaw = (format : Format) (old new : LoadingWorld) (handle slot answer : ℕ) 
     → (1 < load.loads → (answer ≡ 0) × (new.handles ≡ old.handles) × (new.modules ≡ old.modules) × (finmap.get new.loads slot ≡ Some (record load { loads = load.loads - 1 })))
     × (load.loads ≤ 1 → 0 < locks_at old.handles.heap slot → (answer ≡ 1) × (new.handles ≡ old.handles) × (new.modules ≡ old.modules) × (new.loads ≡ old.loads))
     × (load.loads ≤ 1 → locks_at old.handles.heap slot ≡ 0 → (answer ≡ 0) × (object_at new.handles.heap slot ≡ None) × (finmap.get new.loads slot ≡ None) × (new.modules ≡ old.modules))
+
+-- A resource that was loaded is loaded once more, with the same handles.
+abbrev pub IsLoadedAgain : LoadingWorld → ℕ → ℕ → ℕ → LoadingWorld → Type 0
+IsLoadedAgain old handle place slot new =
+    (loads : ℕ) × (finmap.get old.loads slot ≡ Some (record { handle = handle; place = place; loads = loads }))
+    × (finmap.get new.loads slot ≡ Some (record { handle = handle; place = place; loads = loads + 1 })) × (new.handles ≡ old.handles)
+
+-- One that was not is loaded once: an object that isn't locked has a free slot, and as many bytes as the resource, rounded up.
+abbrev pub IsLoadedFirst : LoadingWorld → ℕ → ℕ → ℕ → LoadingWorld → Type 0
+IsLoadedFirst old handle place slot new =
+    ((q : ℕ) (load : Load) → finmap.get old.loads q ≡ Some load → load.handle ≡ handle → load.place ≡ place → ⊥)
+    × (finmap.get new.loads slot ≡ Some (record { handle = handle; place = place; loads = 1 })) × IsFreeSlot old.handles slot
+    × (m : Module) × (r : Resource) × (module_at old.modules handle ≡ Some m) × (0 < place) × (slice_get m.tables.resources (place - 1) ≡ Some r)
+    × IsSomeAnd (object_at new.handles.heap slot) (λ o. (o.kind ≡ r.kind) × (o.locks ≡ 0) × IsSomeAnd o.bytes (λ bytes. length bytes ≡ rounded_size r.length_in))
+
+-- LoadResource, over any store: the handle of the one object that is loaded for this module and place, or 0 and no change
+abbrev pub LoadResourceLaw : Type 0
+LoadResourceLaw = (old new : LoadingWorld) (handle place answer : ℕ) → IsLoadingWorld old → AnyStep old (OfResources (LoadResource handle place)) (Word answer) new
+    → (new.modules ≡ old.modules) × (answer ≡ 0 → (new.loads ≡ old.loads) × (new.handles ≡ old.handles))
+    × (answer ≢ 0 → (slot : ℕ) × (slot_of_handle new.handles answer ≡ Some slot) × ((q : ℕ) → q ≢ slot → finmap.get new.loads q ≡ finmap.get old.loads q)
+    × (IsLoadedAgain old handle place slot new ⊎ IsLoadedFirst old handle place slot new))
+
+-- a resource's object has bytes, those that it had if it had any, and one lock more unless it is fixed
+abbrev pub IsLockedOnce : LoadingWorld → ℕ → LoadingWorld → Type 0
+IsLockedOnce old slot new = IsSomeAnd (object_at old.handles.heap slot) (λ o. (bytes : List ℕ) × IfSome o.bytes (λ b. bytes ≡ b) × (is_fixed o.kind ≡ false → o.locks < 255)
+    × (object_at new.handles.heap slot ≡ Some (record o { locks = if is_fixed o.kind then o.locks else o.locks + 1; bytes = Some bytes })))
+
+-- LockResource, over any store: the far pointer to the first byte of a resource, locked; or 0, with the same handles
+abbrev pub LockResourceLaw : Type 0
+LockResourceLaw = (old new : LoadingWorld) (handle answer : ℕ) → IsLoadingWorld old → AnyStep old (OfResources (LockResource handle)) (Dword answer) new
+    → (new.modules ≡ old.modules) × (new.loads ≡ old.loads) × (answer ≡ 0 → new.handles ≡ old.handles)
+    × (answer ≢ 0 → (slot : ℕ) × (load : Load) × (slot_of_handle old.handles handle ≡ Some slot) × (finmap.get old.loads slot ≡ Some load)
+    × (answer ≡ far_pointer (selector_of slot) 0) × IsLockedOnce old slot new)
+
+-- what a load's answer names: a new module with one explicit use, or one that was there with one use more, or a built-in
+abbrev pub IsUsedOnce : Option Named → Option Named → Type 0
+IsUsedOnce None now = (m : Module) × (now ≡ Some (Loaded m)) × (m.uses ≡ 1)
+IsUsedOnce (Some (Loaded m)) now = now ≡ Some (Loaded (record m { uses = m.uses + 1 }))
+IsUsedOnce (Some (BuiltIn name)) now = now ≡ Some (BuiltIn name)
+
+-- LoadModule and LoadLibrary, over any store, answered with a handle: it is in use; and of each new module each segment has bytes that is fixed, or
+-- preload and not discardable. A discardable one may have lost them to the next.
+abbrev pub LoadLaw : Type 0
+LoadLaw = (old new : LoadingWorld) (command : ModuleCommand) (file : List ℕ) (answer : ℕ) → IsLoadingWorld old → (command ≡ LoadModule file) ⊎ (command ≡ LoadLibrary file) → FIRST_MODULE ≤ answer
+    → AnyStep old (OfModules command) (Word answer) new
+    → IsUsedOnce (finmap.get old.modules answer) (finmap.get new.modules answer)
+    × ((handle i slot : ℕ) (m : Module) (s : Segment) → finmap.get old.modules handle ≡ None → finmap.get new.modules handle ≡ Some (Loaded m)
+    → slice_get m.tables.segments i ≡ Some s → slice_get m.slots i ≡ Some slot → (s.kind ≡ Fixed) ⊎ ((s.is_preload ≡ true) × (s.kind ≢ Discardable)) → is_some (bytes_at new.handles.heap slot) ≡ true)

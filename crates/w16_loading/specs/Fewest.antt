@@ -12,7 +12,8 @@ use Rattle.w16_loading.specs.Naming.{Choice, IsChoice, named, fills}
 use Rattle.w16_loading.specs.Closure.{Closure}
 use Rattle.w16_loading.specs.Fetch.{Fetching, Fetches}
 use Rattle.w16_loading.specs.Replies.{Reply}
-use Rattle.w16_loading.specs.Families.{LoadingCommand, FamilyStep}
+use Rattle.w16_loading.specs.Families.{LoadingCommand, FamilyStep, LoadingStep}
+use Rattle.w16_loading.specs.Load.{LoadsBy}
 use Rattle.w16_loading.specs.AnyStore.{AnyStep, AnyFetches, AnyLoadsBy}
 use Rattle.w16_loading.specs.Law.{IsLoadingWorld}
 
@@ -50,6 +51,20 @@ GivesAnyFewest old slot bytes fault new = (some : List ℕ) × (length some ≡ 
 abbrev pub RequestsFewest : LoadingWorld → LoadingCommand → Reply → LoadingWorld → Type 0
 RequestsFewest old command reply new = FamilyStep FetchesFewest (AnyLoadsBy GivesAnyFewest) old command reply (record new { failures = old.failures })
 
+-- Over files that stay the bytes that are asked room for are the files' own, so a load or fetch is refused only where these have no room, or the
+-- device failed.
+abbrev pub ExactFetchesFewest : Format → Fetching
+ExactFetchesFewest format old slot fault new = (fetched : Fetches format old slot fault new) × GivesFewest old.handles.heap slot fetched.bytes fault new.handles.heap
+
+abbrev pub GivesExactFewest : Giving
+GivesExactFewest old slot bytes fault new = FillsOne is_of_device old slot bytes fault new × GivesFewest old slot bytes fault new
+
+abbrev pub ExactRequestsFewest : Format → LoadingWorld → LoadingCommand → Reply → LoadingWorld → Type 0
+ExactRequestsFewest format old command reply new = FamilyStep (ExactFetchesFewest format) (LoadsBy GivesExactFewest format) old command reply (record new { failures = old.failures })
+
 -- each step is one
 abbrev pub RequestsFewestLaw : Type 0
 RequestsFewestLaw = (old new : LoadingWorld) (command : LoadingCommand) (reply : Reply) → IsLoadingWorld old → AnyStep old command reply new → RequestsFewest old command reply new
+
+abbrev pub ExactRequestsFewestLaw : Type 0
+ExactRequestsFewestLaw = (format : Format) (old new : LoadingWorld) (command : LoadingCommand) (reply : Reply) → IsLoadingWorld old → LoadingStep format old command reply new → ExactRequestsFewest format old command reply new

@@ -1,7 +1,7 @@
 //! The laws of the definitions. Each function does nothing: its contract is the law.
-ghost use Rattle.w16_loading.specs.Effects.{BuiltInLaw, FindLaw, FreeLaw, NamedLaw, SizeofLaw};
+ghost use Rattle.w16_loading.specs.Effects.{BuiltInLaw, FindLaw, FreeLaw, LoadLaw, LoadResourceLaw, LockResourceLaw, NamedLaw, SizeofLaw};
 ghost use Rattle.w16_loading.specs.Bystanders.{StepBystandersLaw, StepPinnedLaw};
-ghost use Rattle.w16_loading.specs.Fewest.{FetchFewestLaw, LoadFewestLaw, RequestsFewestLaw};
+ghost use Rattle.w16_loading.specs.Fewest.{ExactRequestsFewestLaw, FetchFewestLaw, LoadFewestLaw, RequestsFewestLaw};
 ghost use Rattle.w16_loading.specs.Law.{
   AnyKeepsWorldsLaw,
   AnyRefusedLoadLaw,
@@ -107,13 +107,17 @@ pub fn uses_and_importers_are_apart()
     ensures { UsesApartLaw }
 {}
 
-/// What calls of modules and resources are for: look-ups answer what has the name, and FreeResource takes one load.
+/// What calls of modules and resources are for: look-ups answer what has the name, loads use a module
+/// whose segments have bytes, and LoadResource, LockResource and FreeResource count loads and locks.
 pub fn calls_of_modules_do_what_they_are_for()
     ensures named { NamedLaw }
     ensures built_in { BuiltInLaw }
     ensures find { FindLaw }
     ensures size { SizeofLaw }
     ensures free { FreeLaw }
+    ensures load { LoadLaw }
+    ensures load_resource { LoadResourceLaw }
+    ensures lock_resource { LockResourceLaw }
 {}
 
 /// Which unused module goes first doesn't matter.
@@ -182,9 +186,11 @@ pub fn refused_loads_leave_discards_over_any_store()
     ensures { AnyRefusedLoadLaw }
 {}
 
-/// Each request of a step discards as few objects as it can: that of a fetch, and those of a load.
+/// Each request of a step discards as few objects as it can: that of a fetch, and those of a load. Over files that stay
+/// it is also for the bytes that the file gives, and is refused only where there is no room or the device failed.
 pub fn requests_of_steps_discard_fewest()
-    ensures { RequestsFewestLaw }
+    ensures any_store { RequestsFewestLaw }
+    ensures exact { ExactRequestsFewestLaw }
 {}
 
 /// Whatever the store answers, an object that is there keeps its owner or has none any more: none comes to be a

@@ -24,7 +24,7 @@ IsCommandAbout old (OfLocals command) q = ⊥
 
 -- it is gone with its module or resource
 abbrev pub IsGone : World → Command → World → ℕ → Type 0
-IsGone old (OfLoading command) new q = IsReleased command old.loading.handles new.loading.handles q
+IsGone old (OfLoading command) new q = IsReleased command old.loading new.loading q
 IsGone old (OfLocals command) new q = ⊥
 
 -- It is as it was; or it was discardable and not locked, and has lost its bytes alone; or it is gone with its module or resource. A local call

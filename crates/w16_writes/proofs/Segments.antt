@@ -341,7 +341,7 @@ module _ (old new : LoadingWorld) (is : IsLoadingWorld old) (reply : Reply) (q :
       turn None e = had_no_object old.handles.heap new.handles.heap q e
       turn (Some o) e = elim (bystanders_law old new command reply q is step (ap is_some e) out) [
         | inl kept ↦ kept_agrees old.handles.heap new.handles.heap q kept
-        | inr gone ↦ no_object old.handles.heap new.handles.heap q gone.2
+        | inr gone ↦ no_object old.handles.heap new.handles.heap q gone.0
       ]
 
 pub loading_keeps : (old new : LoadingWorld) → IsLoadingWorld old → (command : LoadingCommand) (reply : Reply) → AnyStep old command reply new → KeepsSegments old.handles new.handles command reply

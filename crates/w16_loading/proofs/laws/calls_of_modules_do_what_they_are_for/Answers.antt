@@ -1,3 +1,5 @@
+use Rattle.w16_loading.proofs.LoadEffects.{load_law}
+use Rattle.w16_loading.proofs.ResourceEffects.{load_resource_law, lock_resource_law}
 use Rattle.w16_loading.proofs.Effects.{built_in_law, find_law, free_law, named_law, sizeof_law}
 use Rattle.w16_loading.proofs.laws.calls_of_modules_do_what_they_are_for.Goals as goal
 
@@ -15,3 +17,12 @@ returns-clause-size c = sizeof_law
 
 pub returns-clause-free : goal.returns-clause-free
 returns-clause-free c = free_law
+
+pub returns-clause-load_resource : goal.returns-clause-load_resource
+returns-clause-load_resource c = load_resource_law
+
+pub returns-clause-lock_resource : goal.returns-clause-lock_resource
+returns-clause-lock_resource c = lock_resource_law
+
+pub returns-clause-load : goal.returns-clause-load
+returns-clause-load c = load_law

@@ -1,0 +1,225 @@
+-- What LoadModule and LoadLibrary are for, proved from their steps over any store.
+use Rattle.w16_loading.proofs.Common.{◌≡◌, ◌≢◌, ℕ, zero, suc, ◌+◌, ◌<◌, ◌≤◌, ◌==◌, ◌&&◌, ◌||◌, not, inl, inr, ◌⊎◌, Bool, true, false, cond, nat_lt, List, [], ◌∷◌, length, flat_map, map, Option, Some, None, IsSomeAnd, is_some, slice_get, slice_index_or, refl, sym, ap, ◌∙◌, subst, arith}
+use Rattle.w16_loading.proofs.Common.{AllZip, false≢true, cases_eq, eq-eqb, Kind, Discardable, Heap, Object, IsHeap, object_at, owned_at, bytes_at, bytes_in, is_fixed, IsKeptOrDiscarded, Member, inserted_here, inserted_other, FIRST_MODULE, MOST_USES, FetchFault, Store, Damaged, NoRoom}
+use Rattle.w16_loading.proofs.Common.{IsModuleFile, IsSegmentData, Segment, SegmentData, Far, LoadingWorld, Module, Named, Loaded, BuiltIn, with_heap, Filling, Failure, Fills, InTurn, is_of_read, GivesAny, AnyLoads, Closure, Found, around, Choice, IsChoice, Given, given, segments_of}
+use Rattle.w16_loading.proofs.Common.{bound, named, fills, fills_from, fills_of, Answer, Says, Fulfils, after_use, left, outcome_of, refusal_of, undone, used_again, Word, ModuleStep, LoadModule, LoadLibrary, IsLoadingWorld, ModuleCommand}
+use Rattle.std.specs.FinMap as finmap
+use Rattle.w16_model.specs.declared.Kind.TheVariants.{Fixed}
+use Rattle.w16_loading.specs.declared.FetchFault.TheVariants as faults
+use Rattle.w16_loading.specs.Effects.{IsUsedOnce, LoadLaw}
+use Rattle.w16_loading.specs.Families.{reply_of}
+use Rattle.w16_loading.specs.Load.Answer.{StoreFails}
+use Rattle.w16_loading.proofs.ClosureFacts.{IsClosure, closure_is}
+use Rattle.w16_loading.proofs.Fillings.{IsLost, any_do, filled_object, filled_other, one_heap}
+use Rattle.w16_loading.proofs.Given.{at_place, given_found, given_segment, index_place, put_here, put_named, zip_member}
+use Rattle.w16_loading.proofs.LoadWorlds.{free_handle, handles_differ, named_new, segments_differ}
+use Rattle.w16_loading.proofs.Named.{named_heap}
+use Rattle.w16_loading.proofs.Undone.{in_first, in_second}
+
+-- An object of some kind that isn't discardable keeps what a filling gave it.
+module _ (k : Kind) (firm : k ≢ Discardable) (q : ℕ) where
+  abbrev Has : (Option (List ℕ) → Type 0) → Heap → Type 0
+  Has W heap = IsSomeAnd (object_at heap q) (λ o. (o.kind ≡ k) × W o.bytes)
+
+  filled_keeps : (W : Option (List ℕ) → Type 0) → ((b : List ℕ) → W (Some b)) → (a : Heap) (slot : ℕ) (bytes : List ℕ) (b : Heap) → IsHeap a → Fills a slot bytes true b → Has W a → Has W b
+  filled_keeps W some a slot bytes b is f h = elim (cases_eq q slot) [
+    | inl e ↦ subst (λ p. IsSomeAnd p (λ (o : Object). (o.kind ≡ k) × W o.bytes)) (sym (ap (object_at b) e ∙ filled_object a slot bytes b f)) ((subst (λ p. IsSomeAnd p (λ (o : Object). (o.kind ≡ k) × W o.bytes)) (ap (object_at a) e ∙ f.there) h).0, some bytes)
+    | inr d ↦ kept (filled_other a slot bytes b f is q d)
+  ]
+    where
+      lost : (p : Option Object) → IsSomeAnd p (IsLost b q) → IsSomeAnd p (λ o. (o.kind ≡ k) × W o.bytes) → ⊥
+      lost None l h = l
+      lost (Some o) l h = firm (sym h.0 ∙ l.0)
+
+      kept : IsKeptOrDiscarded a b q → Has W b
+      kept (inl e) = subst (λ p. IsSomeAnd p (λ (o : Object). (o.kind ≡ k) × W o.bytes)) (sym e) h
+      kept (inr l) = absurd (lost (object_at a q) l h)
+
+  abbrev HasBytes : Heap → Type 0
+  HasBytes = Has (λ p. is_some p ≡ true)
+
+  -- so it has bytes at the end
+  all_filled : (old new : Heap) (xs : List Filling) (x : Filling) → Member x xs → x.slot ≡ q → IsHeap old → InTurn GivesAny old xs None new → Has (λ p. Unit {0}) old → HasBytes new
+  all_filled old new [] x m e is f h = absurd m
+  all_filled old new (y ∷ xs) x m e is (Some fault, next, g, rest) h = let none : ◌≡◌ {A = Option Failure} None (Some (record { place = y.place; fault = fault })) = rest.0 in cc
+  all_filled old new (y ∷ xs) x (inl same) e is (None, next, g, rest) h = (any_do (λ a b. HasBytes a → HasBytes b) (λ a h. h) (λ a b c s t h. t (s h)) next new xs None (one_heap is_of_read old y.slot g.0 None next is g.2)
+      (λ z n a b bytes here long f. filled_keeps (λ p. is_some p ≡ true) (λ b. refl) a z.slot bytes b here f) rest).0 given_now
+    where
+      at : y.slot ≡ q
+      at = (λ i. (sym same i).slot) ∙ e
+
+      given_now : HasBytes next
+      given_now = subst (λ p. IsSomeAnd p (λ (o : Object). (o.kind ≡ k) × (is_some o.bytes ≡ true))) (sym (ap (object_at next) (sym at) ∙ filled_object old y.slot g.0 next g.2))
+          ((subst (λ p. IsSomeAnd p (λ (o : Object). (o.kind ≡ k) × Unit {0})) (ap (object_at old) (sym at) ∙ g.2.there) h).0, refl)
+  all_filled old new (y ∷ xs) x (inr m) e is (None, next, g, rest) h = all_filled next new xs x m e (one_heap is_of_read old y.slot g.0 None next is g.2) rest (filled_keeps (λ p. Unit {0}) (λ b. tt) old y.slot g.0 next is g.2 h)
+
+-- A segment that is fixed or preload is filled.
+fill_there : (f : SegmentData → List Far) (place : ℕ) (slots : List ℕ) (segments : List Segment) (parts : List SegmentData) → AllZip IsSegmentData segments parts → (i slot : ℕ) (s : Segment) → slice_get slots i ≡ Some slot → slice_get segments i ≡ Some s
+    → (is_fixed s.kind || s.is_preload) ≡ true → (x : Filling) × Member x (fills_from place slots segments parts (map f parts)) × (x.slot ≡ slot)
+fill_there f place [] segments parts all i slot s at there t = cc
+fill_there f place (q ∷ qs) [] parts all i slot s at there t = cc
+fill_there f place (q ∷ qs) (g ∷ gs) [] all i slot s at there t = absurd all
+fill_there f place (q ∷ qs) (g ∷ gs) (d ∷ ds) all zero slot s at there t =
+    let same : g ≡ s = cc in
+    let its : q ≡ slot = cc in
+    subst (λ b. (x : Filling) × Member x (cond {A = List Filling} b (record { place = place; slot = q; bytes = d.image (f d) } ∷ fills_from place qs gs ds (map f ds)) (fills_from place qs gs ds (map f ds))) × (x.slot ≡ slot))
+    (sym (ap (λ (z : Segment). is_fixed z.kind || z.is_preload) same ∙ t)) (record { place = place; slot = q; bytes = d.image (f d) }, inl refl, its)
+fill_there f place (q ∷ qs) (g ∷ gs) (d ∷ ds) all (suc i) slot s at there t = later (is_fixed g.kind || g.is_preload) (fill_there f place qs gs ds all.1 i slot s at there t)
+  where
+    later : (b : Bool) → (x : Filling) × Member x (fills_from place qs gs ds (map f ds)) × (x.slot ≡ slot)
+        → (x : Filling) × Member x (cond {A = List Filling} b (record { place = place; slot = q; bytes = d.image (f d) } ∷ fills_from place qs gs ds (map f ds)) (fills_from place qs gs ds (map f ds))) × (x.slot ≡ slot)
+    later true r = (r.0, inr r.1, r.2)
+    later false r = r
+
+in_all : (module_of : Given → Module) (gs : List Given) (g : Given) (x : Filling) → Member g gs → Member x (fills_of module_of g) → Member x (flat_map (fills_of module_of) gs)
+in_all module_of [] g x m n = absurd m
+in_all module_of (h ∷ gs) g x (inl e) n = in_first x (fills_of module_of h) (flat_map (fills_of module_of) gs) (subst (λ y. Member x (fills_of module_of y)) e n)
+in_all module_of (h ∷ gs) g x (inr m) n = in_second x (fills_of module_of h) (flat_map (fills_of module_of) gs) (in_all module_of gs g x m n)
+
+module _ (old : LoadingWorld) (is : IsLoadingWorld old) (answer : ℕ) (new : LoadingWorld) where
+  abbrev IsReady : LoadingWorld → Type 0
+  IsReady world = (handle i slot : ℕ) (m : Module) (s : Segment) → finmap.get old.modules handle ≡ None → finmap.get world.modules handle ≡ Some (Loaded m)
+      → slice_get m.tables.segments i ≡ Some s → slice_get m.slots i ≡ Some slot → (s.kind ≡ Fixed) ⊎ ((s.is_preload ≡ true) × (s.kind ≢ Discardable)) → is_some (bytes_at world.handles.heap slot) ≡ true
+
+  abbrev Does : LoadingWorld → Type 0
+  Does world = IsUsedOnce (finmap.get old.modules answer) (finmap.get world.modules answer) × IsReady world
+
+  no_value : {A : Type 0} (p : Option Named) (m : Module) → p ≡ None → p ≡ Some (Loaded m) → A
+  no_value p m e f = let g : ◌≡◌ {A = Option Named} None (Some (Loaded m)) = sym e ∙ f in cc
+
+  first : FIRST_MODULE ≡ 33
+  first = refl
+
+  -- A load that has come to its end.
+  module _ (closure : Closure) (facts : IsClosure (around old).named closure) (choice : Choice) (good : IsChoice old closure.found choice) (heap : Heap) (filled : InTurn GivesAny (named old closure choice).handles.heap (fills old closure choice) None heap) where
+    abbrev gs : List Given
+    gs = given closure choice
+
+    abbrev module_of : Given → Module
+    module_of = bound old closure choice
+
+    abbrev done : LoadingWorld
+    done = with_heap (named old closure choice) heap
+
+    given_bytes : (g : Given) → Member g gs → (i slot : ℕ) (s : Segment) → slice_get g.found.read.tables.segments i ≡ Some s → slice_get g.slots i ≡ Some slot → (is_fixed s.kind || s.is_preload) ≡ true → s.kind ≢ Discardable → is_some (bytes_at heap slot) ≡ true
+    given_bytes g member i slot s there at t firm = has_some (object_at heap slot)
+        (all_filled s.kind firm slot (named old closure choice).handles.heap heap (fills old closure choice) x.0 (in_all module_of gs g x.0 member x.1) x.2 (named_heap old closure choice is.handles good) filled
+        (subst (λ p. IsSomeAnd p (λ (o : Object). (o.kind ≡ s.kind) × Unit {0})) (sym begun.0) (refl, tt)))
+      where
+        file : IsModuleFile g.found.read
+        file = facts.files g.found (given_found 0 closure.found choice.handles choice.slots g member)
+
+        x : (x : Filling) × Member x (fills_of module_of g) × (x.slot ≡ slot)
+        x = fill_there _ g.place g.slots g.found.read.tables.segments g.found.read.segments file.segments i slot s at there t
+
+        begun : (object_at (named old closure choice).handles.heap slot ≡ Some (record { kind = s.kind; locks = 0; bytes = None })) × (owned_at (named old closure choice).handles slot ≡ Some (record { size = s.size; code = s.is_code }))
+        begun = named_new old (segments_of gs) (segments_differ old is closure choice good facts heap filled) (slot, s) (given_segment gs g (slot, s) member (zip_member g.slots g.found.read.tables.segments i slot s at there))
+
+        has_some : (p : Option Object) → IsSomeAnd p (λ o. (o.kind ≡ s.kind) × (is_some o.bytes ≡ true)) → is_some (bytes_in p) ≡ true
+        has_some None h = absurd h
+        has_some (Some o) h = h.1
+
+    or_true : (b : Bool) → (b || true) ≡ true
+    or_true true = refl
+    or_true false = refl
+
+    ready : IsReady done
+    ready handle i slot m s unnamed there at slot_at asked = elim (put_named module_of gs old.modules handle (Loaded m) there) [
+      | inr f ↦ no_value (finmap.get old.modules handle) m unnamed f
+      | inl r ↦ let same : m ≡ module_of r.0 = unloaded r.0 r.3 in given_bytes r.0 r.1 i slot s (ap (λ (x : Module). slice_get x.tables.segments i) (sym same) ∙ at) (ap (λ (x : Module). slice_get x.slots i) (sym same) ∙ slot_at) (wanted asked) (firm asked)
+    ]
+      where
+        unloaded : (g : Given) → Loaded m ≡ Loaded (module_of g) → m ≡ module_of g
+        unloaded g e = cc
+
+        wanted : (s.kind ≡ Fixed) ⊎ ((s.is_preload ≡ true) × (s.kind ≢ Discardable)) → (is_fixed s.kind || s.is_preload) ≡ true
+        wanted (inl e) = ap (λ k. is_fixed k || s.is_preload) e
+        wanted (inr e) = ap (λ b. is_fixed s.kind || b) e.0 ∙ or_true (is_fixed s.kind)
+
+        firm : (s.kind ≡ Fixed) ⊎ ((s.is_preload ≡ true) × (s.kind ≢ Discardable)) → s.kind ≢ Discardable
+        firm (inl e) = λ d. false≢true (ap is_fixed (sym d ∙ e))
+        firm (inr e) = e.1
+
+    used : answer ≡ slice_index_or choice.handles 0 0 → FIRST_MODULE ≤ answer → IsUsedOnce (finmap.get old.modules answer) (finmap.get done.modules answer)
+    used says le = by closure.found refl
+      where
+        by : (fs : List Found) → closure.found ≡ fs → IsUsedOnce (finmap.get old.modules answer) (finmap.get done.modules answer)
+        by [] e = absurd (none choice.handles (good.many ∙ ap length e) says)
+          where
+            none : (hs : List ℕ) → length hs ≡ 0 → answer ≡ slice_index_or hs 0 0 → ⊥
+            none [] e f = omega (arith, f, le, first)
+            none (h ∷ hs) e f = omega (arith, e)
+        by (f ∷ fs) e =
+            let g : (g : Given) × Member g gs × (g.place ≡ 0 + 0) × (slice_get choice.handles 0 ≡ Some g.handle) = at_place 0 closure.found choice.handles choice.slots good.many good.slots.many 0 (subst (λ xs. 0 < length xs) (sym e) (omega arith)) in
+            let same : answer ≡ g.0.handle = says ∙ index_place choice.handles 0 g.0.handle 0 g.3 in
+            let place : g.0.place ≡ 0 + 0 = g.2 in
+            subst (λ (a : ℕ). IsUsedOnce (finmap.get old.modules a) (finmap.get done.modules a)) (sym same) (subst (λ p. IsUsedOnce p (finmap.get done.modules g.0.handle)) (sym (free_handle old is closure choice good facts heap filled g.0 g.1).2)
+            (module_of g.0, put_here module_of 0 closure.found choice.handles choice.slots old.modules (handles_differ old is closure choice good facts heap filled) g.0 g.1, ap (λ b. cond b 1 0) (eq-eqb g.0.place 0 (omega (arith, place)))))
+
+  module _ (le : FIRST_MODULE ≤ answer) where
+    small : {A : Type 0} (n : ℕ) → Says answer ≡ Says n → n < 33 → A
+    small n e lt = let same : answer ≡ n = cc in absurd (omega (arith, same, lt, le, first))
+
+    fulfilled : (closure : Closure) → IsClosure (around old).named closure → Fulfils GivesAny old closure (Says answer) new → Does new
+    fulfilled closure facts f = by f.failure f.filled f.answered f.after
+      where
+        by_fault : (place : ℕ) (fault : FetchFault) → Says answer ≡ refusal_of place fault → Does new
+        by_fault place faults.NoRoom e = small 0 e (omega arith)
+        by_fault place faults.Store e = cc
+        by_fault place faults.Damaged e = turn (place == 0) e
+          where
+            turn : (b : Bool) → Says answer ≡ Says (cond b 11 20) → Does new
+            turn true e = small 11 e (omega arith)
+            turn false e = small 20 e (omega arith)
+
+        by : (failure : Option Failure) → InTurn GivesAny (named old closure f.choice).handles.heap (fills old closure f.choice) failure f.heap → Says answer ≡ outcome_of failure (slice_index_or f.choice.handles 0 0)
+            → new ≡ left failure (with_heap (named old closure f.choice) f.heap) (undone old f.choice f.heap) → Does new
+        by (Some failure) filled says after = by_fault failure.place failure.fault says
+        by None filled says after =
+            let same : answer ≡ slice_index_or f.choice.handles 0 0 = cc in
+            subst Does (sym after) (used closure facts f.choice f.is_choice f.heap filled same le, ready closure facts f.choice f.is_choice f.heap filled)
+
+    again : (b : Bool) (handle : ℕ) (n : Named) → finmap.get old.modules handle ≡ Some n → ◌≡◌ {A = Answer × LoadingWorld} (Says answer, new) (used_again b old handle (Some n)) → Does new
+    again b handle (BuiltIn name) there e =
+        let says : Says answer ≡ Says handle = ap (λ (x : Answer × LoadingWorld). x.0) e in
+        let same : answer ≡ handle = cc in
+        let at : finmap.get old.modules answer ≡ Some (BuiltIn name) = ap (finmap.get old.modules) same ∙ there in
+        subst Does (sym (ap (λ (x : Answer × LoadingWorld). x.1) e)) (subst (λ p. IsUsedOnce p p) (sym at) refl, λ a i slot m s none some. no_value (finmap.get old.modules a) m none some)
+    again b handle (Loaded m) there e = by (b && not m.tables.is_library) (nat_lt m.uses MOST_USES) e
+      where
+        more : Named
+        more = Loaded (record m { uses = m.uses + 1 })
+
+        by : (s t : Bool) → ◌≡◌ {A = Answer × LoadingWorld} (Says answer, new) (cond {A = Answer × LoadingWorld} s (Says 16, old) (cond {A = Answer × LoadingWorld} t (Says handle, after_use old handle m) (Says 0, old))) → Does new
+        by true t e = small 16 (ap (λ (x : Answer × LoadingWorld). x.0) e) (omega arith)
+        by false false e = small 0 (ap (λ (x : Answer × LoadingWorld). x.0) e) (omega arith)
+        by false true e =
+            let says : Says answer ≡ Says handle = ap (λ (x : Answer × LoadingWorld). x.0) e in
+            let same : answer ≡ handle = cc in
+            let at : finmap.get old.modules answer ≡ Some (Loaded m) = ap (finmap.get old.modules) same ∙ there in
+            subst Does (sym (ap (λ (x : Answer × LoadingWorld). x.1) e)) (
+              subst (λ p. IsUsedOnce p (finmap.get (after_use old handle m).modules answer)) (sym at) (inserted_here old.modules handle (Loaded (record m { uses = m.uses + 1 })) answer same),
+              λ a i slot n s none some. elim (cases_eq a handle) [
+                | inl d ↦ no_value (finmap.get old.modules a) m none (ap (finmap.get old.modules) d ∙ there)
+                | inr d ↦ no_value (finmap.get old.modules a) n none (sym (inserted_other old.modules handle (Loaded (record m { uses = m.uses + 1 })) a d) ∙ some)
+              ],
+            )
+
+    loads : (b : Bool) (file : List ℕ) → AnyLoads b old file (Says answer) new → Does new
+    loads b file (inl f) = let g : Says answer ≡ StoreFails = f.0 in cc
+    loads b file (inr (inl f)) = small f.0 f.2.0 f.1
+    loads b file (inr (inr (inl f))) = again b f.0 f.1 f.2 f.3
+    loads b file (inr (inr (inr (closure, any, inl f)))) = small 0 f.1.0 (omega arith)
+    loads b file (inr (inr (inr (closure, any, inr f)))) = fulfilled closure (closure_is (around old) file closure any) f
+
+    -- the answer that is printed
+    printed : (b : Bool) (file : List ℕ) (a : Answer) → Word answer ≡ reply_of a → AnyLoads b old file a new → Does new
+    printed b file (Says n) e f = let same : n ≡ answer = cc in loads b file (subst (λ k. AnyLoads b old file (Says k) new) same f)
+    printed b file StoreFails e f = cc
+
+    steps : (command : ModuleCommand) (file : List ℕ) → (command ≡ LoadModule file) ⊎ (command ≡ LoadLibrary file) → ModuleStep AnyLoads old command (Word answer) new → Does new
+    steps command file (inl e) step = let f : ModuleStep AnyLoads old (LoadModule file) (Word answer) new = subst (λ c. ModuleStep AnyLoads old c (Word answer) new) e step in printed true file f.0 f.1 f.2
+    steps command file (inr e) step = let f : ModuleStep AnyLoads old (LoadLibrary file) (Word answer) new = subst (λ c. ModuleStep AnyLoads old c (Word answer) new) e step in printed false file f.0 f.1 f.2
+
+pub load_law : LoadLaw
+load_law old new command file answer is which le step = steps old is answer (record new { failures = old.failures }) le command file which step.step

@@ -1,0 +1,332 @@
+-- What LoadResource and LockResource are for, proved from their steps over any store.
+use Rattle.w16_loading.proofs.Common.{◌≡◌, ◌≢◌, ℕ, ◌+◌, ◌-◌, ◌<◌, ◌≤◌, ◌==◌, ◌&&◌, inl, inr, ◌⊎◌, Bool, true, false, cond, not, nat_lt, List, length, Option, Some, None, IfSome, IsSomeAnd, MatchOption, MatchBool, is_some, slice_get, refl, sym, ap, ◌∙◌, subst, arith, eqb-true}
+use Rattle.w16_loading.proofs.Common.{false≢true, and_parts, IsTrue, Heap, Object, Handles, IsFreeSlot, object_at, bytes_at, bytes_in, is_fixed, handle_of, slot_of_handle, selector_of, rounded_size, global_lock, owned_in, inserted_here, inserted_other}
+use Rattle.w16_loading.proofs.Common.{with_ordered, FetchFault, NoRoom, Store, Damaged, numbered, Resource, Load, LoadingWorld, Module, module_at, with_heap, Reply, Word, Dword, Failed, MOST_USES, IsLoad, IsLoadingWorld, IsObjectOf, AnyFetches, is_of_read}
+use Rattle.w16_loading.proofs.Common.{AnswersNone, LoadsNewResource, LoadsResource, LocksResource, attributes_for, is_too_long, load_of, loaded_again, lock_outcome, locked, resource_at, resource_outcome, slot_of_resource, with_resource}
+use Rattle.std.proofs.Common.{Result, Ok, Err}
+use Rattle.std.specs.FinMap as finmap
+use Rattle.w16_model.specs.Changes.{touched}
+use Rattle.w16_model.specs.Calls as calls
+use Rattle.w16_model.specs.Handles.{far_pointer}
+use Rattle.w16_model.specs.OneObject.{after_lock}
+use Rattle.w16_model.specs.declared.Refusal.{Refusal}
+use Rattle.w16_model.specs.declared.Refusal.TheVariants as refusals
+use Rattle.w16_model.proofs.Fewest.{some_handle}
+use Rattle.w16_model.proofs.Naming.{names_law}
+use Rattle.w16_loading.specs.Effects.{IsLoadedAgain, IsLoadedFirst, IsLockedOnce, LoadResourceLaw, LockResourceLaw}
+use Rattle.w16_loading.specs.Resource.{reply_of_call}
+use Rattle.w16_loading.proofs.Effects.{found_passes}
+use Rattle.w16_loading.proofs.Fillings.{filled_object, one_outcome}
+use Rattle.w16_loading.proofs.ResourceWorlds.{none_of_place}
+use Rattle.w16_loading.proofs.SparedByUses.{named_slot}
+use Rattle.w16_loading.proofs.Stepping.{found_load, resource_load, with_count}
+
+-- the handle of an object that is there finds its slot
+finds : (handles : Handles) (slot : ℕ) (o : Object) → object_at handles.heap slot ≡ Some o → slot_of_handle handles (handle_of o.kind slot) ≡ Some slot
+finds handles slot o there = (names_law handles (handle_of o.kind slot) slot).0.1 (subst (λ p. IsSomeAnd p (λ x. handle_of o.kind slot ≡ handle_of x.kind slot)) (sym there) refl)
+
+-- Loads.
+
+module _ (old : LoadingWorld) (is : IsLoadingWorld old) (handle place answer : ℕ) (new : LoadingWorld) where
+  abbrev Does : Type 0
+  Does = (new.modules ≡ old.modules) × (answer ≡ 0 → (new.loads ≡ old.loads) × (new.handles ≡ old.handles))
+      × (answer ≢ 0 → (slot : ℕ) × (slot_of_handle new.handles answer ≡ Some slot) × ((q : ℕ) → q ≢ slot → finmap.get new.loads q ≡ finmap.get old.loads q)
+      × (IsLoadedAgain old handle place slot new ⊎ IsLoadedFirst old handle place slot new))
+
+  none : AnswersNone old (Word answer) new → Does
+  none (says, same) = let zero : answer ≡ 0 = cc in (
+    ap (λ (w : LoadingWorld). w.modules) same,
+    λ z. (ap (λ (w : LoadingWorld). w.loads) same, ap (λ (w : LoadingWorld). w.handles) same),
+    λ d. absurd (d zero),
+  )
+
+  -- a pair's parts
+  reply_is : (p : Reply × LoadingWorld) → ◌≡◌ {A = Reply × LoadingWorld} (Word answer, new) p → (Word answer ≡ p.0) × (new ≡ p.1)
+  reply_is p e = (ap (λ (x : Reply × LoadingWorld). x.0) e, ap (λ (x : Reply × LoadingWorld). x.1) e)
+
+  -- an object of the load
+  its_object : (r : Resource) (x : ℕ × Load) → resource_at old handle place ≡ Some r → finmap.get old.loads x.0 ≡ Some x.1 → x.1.handle ≡ handle → x.1.place ≡ place → (o : Object) × (object_at old.handles.heap x.0 ≡ Some o) × (o.kind ≡ r.kind)
+  its_object r x at there h p = by (object_at old.handles.heap x.0) refl owned.object
+    where
+      load : IsLoad old x.0 x.1
+      load = subst (λ p. IfSome p (IsLoad old x.0)) there (is.loads x.0)
+
+      owned : IsObjectOf old x.0 r.kind (rounded_size r.length_in) false
+      owned = subst (λ p. IsSomeAnd p (λ r. IsObjectOf old x.0 r.kind (rounded_size r.length_in) false)) ((λ i. resource_at old (h i) (p i)) ∙ at) load.resource
+
+      by : (p : Option Object) → object_at old.handles.heap x.0 ≡ p → IsSomeAnd p (λ o. (o.kind ≡ r.kind) × IfSome o.bytes (λ bytes. length bytes ≡ rounded_size r.length_in)) → (o : Object) × (object_at old.handles.heap x.0 ≡ Some o) × (o.kind ≡ r.kind)
+      by None e h = absurd h
+      by (Some o) e h = (o, e, h.0)
+
+  again : (r : Resource) (x : ℕ × Load) → resource_at old handle place ≡ Some r → load_of old handle place ≡ Some x → ◌≡◌ {A = Reply × LoadingWorld} (Word answer, new) (loaded_again old r x) → Does
+  again r x at found e = by (nat_lt x.1.loads MOST_USES) e
+    where
+      there : finmap.get old.loads x.0 ≡ Some x.1
+      there = found_load old handle place x found
+
+      passes : IsTrue (x.1.handle == handle) × IsTrue (x.1.place == place)
+      passes = and_parts _ _ (found_passes (λ (y : ℕ × Load). (y.1.handle == handle) && (y.1.place == place)) (finmap.entries old.loads) x found).1
+
+      h : x.1.handle ≡ handle
+      h = eqb-true x.1.handle handle passes.0
+
+      p : x.1.place ≡ place
+      p = eqb-true x.1.place place passes.1
+
+      by : (b : Bool) → ◌≡◌ {A = Reply × LoadingWorld} (Word answer, new) (cond {A = Reply × LoadingWorld} b (Word (handle_of r.kind x.0), with_count old x.0 x.1 (x.1.loads + 1)) (Word 0, old)) → Does
+      by false e = none (reply_is _ e)
+      by true e =
+          let both = reply_is _ e in
+          let says : answer ≡ handle_of r.kind x.0 = (let f : Word answer ≡ Word (handle_of r.kind x.0) = both.0 in cc) in
+          let o : (o : Object) × (object_at old.handles.heap x.0 ≡ Some o) × (o.kind ≡ r.kind) = its_object r x at there h p in
+          let loads : new.loads ≡ finmap.insert old.loads x.0 (record x.1 { loads = x.1.loads + 1 }) = ap (λ (w : LoadingWorld). w.loads) both.1 in
+          let handles : new.handles ≡ old.handles = ap (λ (w : LoadingWorld). w.handles) both.1 in (
+            ap (λ (w : LoadingWorld). w.modules) both.1,
+            λ zero. absurd (some_handle r.kind x.0 (sym says ∙ zero)),
+            λ some. (
+              x.0,
+              (λ i. slot_of_handle (handles i) (says i)) ∙ ap (λ k. slot_of_handle old.handles (handle_of k x.0)) (sym o.2) ∙ finds old.handles x.0 o.0 o.1,
+              λ q d. ap (λ l. finmap.get l q) loads ∙ inserted_other old.loads x.0 (record x.1 { loads = x.1.loads + 1 }) q d,
+              inl (
+                x.1.loads,
+                there ∙ (λ i. Some (record { handle = h i; place = p i; loads = x.1.loads })),
+                ap (λ l. finmap.get l x.0) loads ∙ inserted_here old.loads x.0 (record x.1 { loads = x.1.loads + 1 }) x.0 refl ∙ (λ i. Some (record { handle = h i; place = p i; loads = x.1.loads + 1 })),
+                handles,
+              ),
+            ),
+          )
+
+  -- whose resource it is
+  its_module : (r : Resource) → resource_at old handle place ≡ Some r → (m : Module) × (module_at old.modules handle ≡ Some m) × (0 < place) × (slice_get m.tables.resources (place - 1) ≡ Some r)
+  its_module r at = by (module_at old.modules handle) refl at
+    where
+      by_place : (m : Module) → module_at old.modules handle ≡ Some m → (b : Bool) → (place == 0) ≡ b → cond b None (slice_get m.tables.resources (place - 1)) ≡ Some r → (m : Module) × (module_at old.modules handle ≡ Some m) × (0 < place) × (slice_get m.tables.resources (place - 1) ≡ Some r)
+      by_place m there true t e = cc
+      by_place m there false t e = (m, there, grind (arith, t), e)
+
+      by : (p : Option Module) → module_at old.modules handle ≡ p → elim p as (λ _. Option Resource) [ None ↦ None | Some m ↦ numbered m.tables.resources place ] ≡ Some r → (m : Module) × (module_at old.modules handle ≡ Some m) × (0 < place) × (slice_get m.tables.resources (place - 1) ≡ Some r)
+      by None e f = cc
+      by (Some m) e f = by_place m e (place == 0) refl f
+
+  first : (r : Resource) → resource_at old handle place ≡ Some r → is_too_long r ≡ false → load_of old handle place ≡ None → LoadsNewResource AnyFetches old handle place r (Word answer) new → Does
+  first r at short unloaded l = by l.fault l.fetched l.outcome
+    where
+      slot : ℕ
+      slot = l.slot
+
+      made : LoadingWorld
+      made = with_resource old l.slot handle place r
+
+      entered : Object
+      entered = record { kind = r.kind; locks = 0; bytes = None }
+
+      by : (fault : Option FetchFault) → AnyFetches (with_resource old l.slot handle place r) l.slot fault l.next → ◌≡◌ {A = Reply × LoadingWorld} (Word answer, new) (resource_outcome fault (handle_of r.kind l.slot) l.next old) → Does
+      by (Some NoRoom) f e = none (reply_is _ e)
+      by (Some Store) f e = let g : Word answer ≡ Failed Store = (reply_is _ e).0 in cc
+      by (Some Damaged) f e = let g : Word answer ≡ Failed Damaged = (reply_is _ e).0 in cc
+      by None f e =
+          let both = reply_is (Word (handle_of r.kind l.slot), l.next) e in
+          let says : answer ≡ handle_of r.kind l.slot = (let f : Word answer ≡ Word (handle_of r.kind l.slot) = both.0 in cc) in
+          let rest : new ≡ with_heap (with_resource old l.slot handle place r) l.next.handles.heap = both.1 ∙ f.rest in
+          let loads : new.loads ≡ finmap.insert old.loads l.slot (record { handle = handle; place = place; loads = 1 }) = ap (λ (w : LoadingWorld). w.loads) rest in
+          let before : f.filled.before ≡ entered = (let g : Some f.filled.before ≡ Some entered = sym f.filled.there ∙ inserted_here old.handles.heap.objects l.slot entered l.slot refl in cc) in
+          let object : object_at new.handles.heap l.slot ≡ Some (record entered { bytes = Some f.bytes }) = ap (λ (w : LoadingWorld). object_at w.handles.heap l.slot) rest
+          ∙ filled_object _ l.slot f.bytes l.next.handles.heap f.filled ∙ ap (λ (o : Object). Some (record o { bytes = Some f.bytes })) before in
+          let long : length f.bytes ≡ rounded_size r.length_in = subst (λ p. IsSomeAnd p (λ owned. length f.bytes ≡ owned.size)) (ap owned_in (inserted_here old.handles.attributes l.slot (attributes_for r) l.slot refl)) f.image in
+          let m = its_module r at in (
+            ap (λ (w : LoadingWorld). w.modules) rest,
+            λ zero. absurd (some_handle r.kind l.slot (sym says ∙ zero)),
+            λ some. (
+              l.slot,
+              ap (slot_of_handle new.handles) says ∙ finds new.handles l.slot (record entered { bytes = Some f.bytes }) object,
+              λ q d. ap (λ l. finmap.get l q) loads ∙ inserted_other old.loads l.slot (record { handle = handle; place = place; loads = 1 }) q d,
+              inr (
+                none_of_place old is l.slot l.free handle place r at short unloaded,
+                ap (λ s. finmap.get s l.slot) loads ∙ inserted_here old.loads l.slot (record { handle = handle; place = place; loads = 1 }) l.slot refl,
+                l.free,
+                m.0,
+                r,
+                m.1,
+                m.2,
+                m.3,
+                subst (λ p. IsSomeAnd p (λ (o : Object). (o.kind ≡ r.kind) × (o.locks ≡ 0) × IsSomeAnd o.bytes (λ bytes. length bytes ≡ rounded_size r.length_in))) (sym object) (refl, refl, long),
+              ),
+            ),
+          )
+
+  loads : LoadsResource AnyFetches old handle place (Word answer) new → Does
+  loads step = by_resource (resource_at old handle place) refl step
+    where
+      by_load : (r : Resource) → resource_at old handle place ≡ Some r → is_too_long r ≡ false → (p : Option (ℕ × Load)) → load_of old handle place ≡ p
+          → MatchOption p ((((slot : ℕ) → IsFreeSlot old.handles slot → ⊥) × AnswersNone old (Word answer) new) ⊎ LoadsNewResource AnyFetches old handle place r (Word answer) new) (λ x. (Word answer, new) ≡ loaded_again old r x) → Does
+      by_load r at short None e (inl f) = none f.1
+      by_load r at short None e (inr f) = first r at short e f
+      by_load r at short (Some x) e f = again r x at e f
+
+      by_size : (r : Resource) → resource_at old handle place ≡ Some r → (b : Bool) → is_too_long r ≡ b → MatchBool b (AnswersNone old (Word answer) new)
+          (MatchOption (load_of old handle place) ((((slot : ℕ) → IsFreeSlot old.handles slot → ⊥) × AnswersNone old (Word answer) new) ⊎ LoadsNewResource AnyFetches old handle place r (Word answer) new) (λ x. (Word answer, new) ≡ loaded_again old r x)) → Does
+      by_size r at true t f = none f
+      by_size r at false t f = by_load r at t (load_of old handle place) refl f
+
+      by_resource : (p : Option Resource) → resource_at old handle place ≡ p → MatchOption p (AnswersNone old (Word answer) new) (λ r. MatchBool (is_too_long r) (AnswersNone old (Word answer) new)
+          (MatchOption (load_of old handle place) ((((slot : ℕ) → IsFreeSlot old.handles slot → ⊥) × AnswersNone old (Word answer) new) ⊎ LoadsNewResource AnyFetches old handle place r (Word answer) new) (λ x. (Word answer, new) ≡ loaded_again old r x))) → Does
+      by_resource None e f = none f
+      by_resource (Some r) e f = by_size r e (is_too_long r) refl f
+
+pub load_resource_law : LoadResourceLaw
+load_resource_law old new handle place answer is step = loads old is handle place answer (record new { failures = old.failures }) step.step
+
+-- Locks.
+
+-- a lock of an object that has bytes
+module _ (h : Handles) (slot : ℕ) (o : Object) (there : object_at h.heap slot ≡ Some o) (bytes : is_some o.bytes ≡ true) where
+  abbrev more : Object
+  more = record o { locks = o.locks + 1 }
+
+  abbrev counted : Heap
+  counted = with_ordered h.heap slot more (touched slot)
+
+  abbrev outcome : Result Heap Refusal → calls.Answer × Handles
+  outcome r = elim r [
+    | Ok heap ↦ (calls.Answer.Dword (far_pointer (selector_of slot) 0), record h { heap = heap })
+    | Err refusals.Fixed ↦ (calls.Answer.Dword (far_pointer (selector_of slot) 0), h)
+    | Err _ ↦ (calls.Answer.Dword 0, h)
+  ]
+
+  abbrev lock_if : Bool → Bool → Bool → Result Heap Refusal
+  lock_if b c d = cond (not b) (Err refusals.Absent) (cond c (Err refusals.Fixed) (cond d (Err refusals.LockFull) (Ok counted)))
+
+  is_locked : (handle : ℕ) → slot_of_handle h handle ≡ Some slot → global_lock h handle ≡ outcome (lock_if true (is_fixed o.kind) (o.locks == 255))
+  is_locked handle found =
+      ap (λ (p : Option ℕ). elim p as (λ _. calls.Answer × Handles) [
+        | None ↦ (calls.Answer.Dword 0, h)
+        | Some s ↦ elim (after_lock h.heap s) [
+          | Ok heap ↦ (calls.Answer.Dword (far_pointer (selector_of s) 0), record h { heap = heap })
+          | Err refusals.Fixed ↦ (calls.Answer.Dword (far_pointer (selector_of s) 0), h)
+          | Err _ ↦ (calls.Answer.Dword 0, h)
+        ]
+      ]) found
+      ∙ ap outcome (ap (λ (p : Option Object). elim p as (λ _. Result Heap Refusal) [
+        | None ↦ Err refusals.Absent
+        | Some x ↦ cond (not (is_some x.bytes)) (Err refusals.Absent)
+            (cond (is_fixed x.kind) (Err refusals.Fixed) (cond (x.locks == 255) (Err refusals.LockFull) (Ok (with_ordered h.heap slot (record x { locks = x.locks + 1 }) (touched slot)))))
+      ]) there
+      ∙ ap (λ b. lock_if b (is_fixed o.kind) (o.locks == 255)) bytes)
+
+some_pointer : (slot : ℕ) → far_pointer (selector_of slot) 0 ≡ 0 → ⊥
+some_pointer slot e = omega (arith, e)
+
+module _ (old : LoadingWorld) (is : IsLoadingWorld old) (handle answer : ℕ) (new : LoadingWorld) where
+  -- a world is left as it was for want of a count; or the object has a lock more, unless it is fixed
+  abbrev IsFull : LoadingWorld → Object → Type 0
+  IsFull world o = (answer ≡ 0) × (new ≡ world) × (o.locks ≡ 255)
+
+  abbrev IsLocked : LoadingWorld → ℕ → Object → Type 0
+  IsLocked world slot o = (answer ≡ far_pointer (selector_of slot) 0) × (new.modules ≡ world.modules) × (new.loads ≡ world.loads) × (is_fixed o.kind ≡ false → o.locks < 255)
+      × (object_at new.handles.heap slot ≡ Some (record o { locks = cond (is_fixed o.kind) o.locks (o.locks + 1) }))
+
+  lock_at : (world : LoadingWorld) (slot : ℕ) (o : Object) → object_at world.handles.heap slot ≡ Some o → is_some o.bytes ≡ true → o.locks ≤ 255 → slot_of_handle world.handles handle ≡ Some slot
+      → ◌≡◌ {A = Reply × LoadingWorld} (Dword answer, new) (locked world handle) → IsFull world o ⊎ IsLocked world slot o
+  lock_at world slot o there bytes few found e = by (is_fixed o.kind) (o.locks == 255) refl refl (e ∙ ap printed (is_locked world.handles slot o there bytes handle found))
+    where
+      printed : calls.Answer × Handles → Reply × LoadingWorld
+      printed x = (reply_of_call x.0, record world { handles = x.1 })
+
+      locked_so : (c : Bool) → is_fixed o.kind ≡ c → (answer ≡ far_pointer (selector_of slot) 0) → (is_fixed o.kind ≡ false → o.locks < 255) → (next : Handles) → new ≡ record world { handles = next }
+          → object_at next.heap slot ≡ Some (record o { locks = cond c o.locks (o.locks + 1) }) → IsLocked world slot o
+      locked_so c fixed says less next same object = (
+        says,
+        ap (λ (w : LoadingWorld). w.modules) same,
+        ap (λ (w : LoadingWorld). w.loads) same,
+        less,
+        ap (λ (w : LoadingWorld). object_at w.handles.heap slot) same ∙ object ∙ ap (λ b. Some (record o { locks = cond b o.locks (o.locks + 1) })) (sym fixed),
+      )
+
+      parts : (p : Reply × LoadingWorld) → ◌≡◌ {A = Reply × LoadingWorld} (Dword answer, new) p → (Dword answer ≡ p.0) × (new ≡ p.1)
+      parts p e = (ap (λ (x : Reply × LoadingWorld). x.0) e, ap (λ (x : Reply × LoadingWorld). x.1) e)
+
+      dword : (n : ℕ) → Dword answer ≡ Dword n → answer ≡ n
+      dword n e = cc
+
+      by : (c d : Bool) → is_fixed o.kind ≡ c → (o.locks == 255) ≡ d → ◌≡◌ {A = Reply × LoadingWorld} (Dword answer, new) (printed (outcome world.handles slot o there bytes (lock_if world.handles slot o there bytes true c d))) → IsFull world o ⊎ IsLocked world slot o
+      by true d fixed t e = let both = parts _ e in inr (locked_so true fixed (dword _ both.0) (λ loose. absurd (false≢true (sym loose ∙ fixed))) world.handles both.1 there)
+      by false true fixed t e = inl (dword 0 (parts _ e).0, (parts _ e).1, eqb-true o.locks 255 t)
+      by false false fixed t e =
+          let both = parts _ e in
+          inr (locked_so false fixed (dword _ both.0) (λ loose. grind (arith, few, t)) (record world.handles { heap = counted world.handles slot o there bytes }) both.1
+          (inserted_here world.handles.heap.objects slot (record o { locks = o.locks + 1 }) slot refl))
+
+  abbrev Locks : Type 0
+  Locks = (new.modules ≡ old.modules) × (new.loads ≡ old.loads) × (answer ≡ 0 → new.handles ≡ old.handles)
+      × (answer ≢ 0 → (slot : ℕ) × (load : Load) × (slot_of_handle old.handles handle ≡ Some slot) × (finmap.get old.loads slot ≡ Some load) × (answer ≡ far_pointer (selector_of slot) 0) × IsLockedOnce old slot new)
+
+  unlocked : answer ≡ 0 → new ≡ old → Locks
+  unlocked zero same = (ap (λ (w : LoadingWorld). w.modules) same, ap (λ (w : LoadingWorld). w.loads) same, λ z. ap (λ (w : LoadingWorld). w.handles) same, λ d. absurd (d zero))
+
+  module _ (slot : ℕ) (load : Load) (found : slot_of_handle old.handles handle ≡ Some slot) (loaded : finmap.get old.loads slot ≡ Some load) (o : Object) (there : object_at old.handles.heap slot ≡ Some o) where
+    -- with these bytes
+    locked_once : (bytes : List ℕ) → IfSome o.bytes (λ b. bytes ≡ b) → (world : LoadingWorld) → world.modules ≡ old.modules → world.loads ≡ old.loads → IsLocked world slot (record o { bytes = Some bytes }) → Locks
+    locked_once bytes same world modules loads l = (
+      l.1 ∙ modules,
+      l.2 ∙ loads,
+      λ zero. absurd (some_pointer slot (sym l.0 ∙ zero)),
+      λ some. (
+        slot,
+        load,
+        found,
+        loaded,
+        l.0,
+        subst (λ p. IsSomeAnd p (λ o. (bytes : List ℕ) × IfSome o.bytes (λ b. bytes ≡ b) × (is_fixed o.kind ≡ false → o.locks < 255)
+            × (object_at new.handles.heap slot ≡ Some (record o { locks = cond (is_fixed o.kind) o.locks (o.locks + 1); bytes = Some bytes })))) (sym there) (bytes, same, l.3, l.4),
+      ),
+    )
+
+    counts : (o.locks ≤ 255) × (IsTrue (is_fixed o.kind) → o.locks ≡ 0) × (o.bytes ≡ None → o.locks ≡ 0)
+    counts = subst (λ p. IfSome p (λ o. (o.locks ≤ 255) × (IsTrue (is_fixed o.kind) → o.locks ≡ 0) × (o.bytes ≡ None → o.locks ≡ 0))) there (is.handles.heap.counted slot)
+
+    fetched : (fault : Option FetchFault) (next : LoadingWorld) → o.bytes ≡ None → AnyFetches old slot fault next → ◌≡◌ {A = Reply × LoadingWorld} (Dword answer, new) (lock_outcome fault handle next) → Locks
+    fetched (Some NoRoom) next none f e =
+        let zero : answer ≡ 0 = (let g : Dword answer ≡ Dword 0 = ap (λ (x : Reply × LoadingWorld). x.0) e in cc) in
+        unlocked zero (ap (λ (x : Reply × LoadingWorld). x.1) e ∙ f.rest ∙ ap (with_heap old) ((one_outcome old.handles.heap slot f.bytes next.handles.heap is_of_read (Some NoRoom) f.filled).0 refl))
+    fetched (Some Store) next none f e = let g : Dword answer ≡ Failed Store = ap (λ (x : Reply × LoadingWorld). x.0) e in cc
+    fetched (Some Damaged) next none f e = let g : Dword answer ≡ Failed Damaged = ap (λ (x : Reply × LoadingWorld). x.0) e in cc
+    fetched None next none f e = elim (lock_at next slot (record o { bytes = Some f.bytes }) object refl counts.0 (finds_next f.rest) e) [
+      | inl full ↦ absurd (omega (arith, full.2, counts.2 none))
+      | inr l ↦ locked_once f.bytes (subst (λ p. IfSome p (λ b. f.bytes ≡ b)) (sym none) tt) next (ap (λ (w : LoadingWorld). w.modules) f.rest) (ap (λ (w : LoadingWorld). w.loads) f.rest) l
+    ]
+      where
+        before : f.filled.before ≡ o
+        before = let g : Some f.filled.before ≡ Some o = sym f.filled.there ∙ there in cc
+
+        object : object_at next.handles.heap slot ≡ Some (record o { bytes = Some f.bytes })
+        object = filled_object old.handles.heap slot f.bytes next.handles.heap f.filled ∙ ap (λ (x : Object). Some (record x { bytes = Some f.bytes })) before
+
+        names_it : IsSomeAnd (object_at old.handles.heap slot) (λ x. handle ≡ handle_of x.kind slot)
+        names_it = (names_law old.handles handle slot).0.0 found
+
+        finds_next : next ≡ with_heap old next.handles.heap → slot_of_handle next.handles handle ≡ Some slot
+        finds_next rest = (names_law next.handles handle slot).0.1 (subst (λ p. IsSomeAnd p (λ x. handle ≡ handle_of x.kind slot)) (sym object) (subst (λ p. IsSomeAnd p (λ x. handle ≡ handle_of x.kind slot)) there names_it))
+
+    by_bytes : (p : Option (List ℕ)) → o.bytes ≡ p
+        → MatchOption p ((fault : Option FetchFault) × (next : LoadingWorld) × AnyFetches old slot fault next × ((Dword answer, new) ≡ lock_outcome fault handle next)) (λ _. (Dword answer, new) ≡ locked old handle) → Locks
+    by_bytes None e f = fetched f.0 f.1 e f.2 f.3
+    by_bytes (Some bytes) e f = elim (lock_at old slot o there (ap is_some e) counts.0 found f) [
+      | inl full ↦ unlocked full.0 full.1
+      | inr l ↦ locked_once bytes (subst (λ p. IfSome p (λ b. bytes ≡ b)) (sym e) refl) old refl refl (subst (λ (x : Object). IsLocked old slot x) (λ i. record o { bytes = e i }) l)
+    ]
+
+  locks : LocksResource AnyFetches old handle (Dword answer) new → Locks
+  locks step = by_slot (slot_of_resource old handle) refl step
+    where
+      by_object : (x : ℕ × Load) → slot_of_resource old handle ≡ Some x → (p : Option Object) → object_at old.handles.heap x.0 ≡ p → IsSomeAnd p (λ o. handle ≡ handle_of o.kind x.0)
+          → MatchOption (bytes_in p) ((fault : Option FetchFault) × (next : LoadingWorld) × AnyFetches old x.0 fault next × ((Dword answer, new) ≡ lock_outcome fault handle next)) (λ _. (Dword answer, new) ≡ locked old handle) → Locks
+      by_object x e None at h f = absurd h
+      by_object x e (Some o) at h f = by_bytes x.0 x.1 (named_slot old handle x e) (resource_load old handle x e) o at o.bytes refl f
+
+      by_slot : (p : Option (ℕ × Load)) → slot_of_resource old handle ≡ p → MatchOption p ((◌≡◌ {A = Reply} (Dword answer) (Dword 0)) × (new ≡ old)) (λ x. MatchOption (bytes_at old.handles.heap x.0)
+          ((fault : Option FetchFault) × (next : LoadingWorld) × AnyFetches old x.0 fault next × ((Dword answer, new) ≡ lock_outcome fault handle next)) (λ _. (Dword answer, new) ≡ locked old handle)) → Locks
+      by_slot None e f = unlocked (let g : Dword answer ≡ Dword 0 = f.0 in cc) f.1
+      by_slot (Some x) e f = by_object x e (object_at old.handles.heap x.0) refl ((names_law old.handles handle x.0).0.0 (named_slot old handle x e)) f
+
+pub lock_resource_law : LockResourceLaw
+lock_resource_law old new handle answer is step = locks old is handle answer (record new { failures = old.failures }) step.step
