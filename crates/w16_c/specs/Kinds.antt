@@ -65,7 +65,7 @@ abbrev pub IsOrFailure : (Reply → Type 0) → Reply → Type 0
 IsOrFailure Is (Failed f) = Unit {0}
 IsOrFailure Is reply = Is reply
 
--- so many bytes, or why there are none
+-- that many bytes, or why there are none
 abbrev pub IsBytes : ℕ → Reply → Type 0
 IsBytes count (Bytes bytes) = length bytes ≡ count
 IsBytes count (Fault f) = Unit {0}

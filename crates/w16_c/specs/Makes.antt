@@ -38,7 +38,7 @@ abbrev pub Refuses : Held → Command → Refusal → Held → Type 0
 Refuses old command NoMachine new = IsEmpty old new
 Refuses old command NoMemory new = LacksMemory old command new
 
--- A call, its status, and the reply that it has where it is done. A machine that is held makes the step, but for want of memory.
+-- A call, its status, and the reply that it has where it is done. A machine that is held makes the step, except for want of memory.
 abbrev pub Calls : Held → Command → ℕ → Reply → Held → Type 0
 Calls old command status reply new =
     ((status ≡ DONE) × Makes old command reply new)

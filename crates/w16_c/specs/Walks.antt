@@ -22,7 +22,7 @@ part_of item = elim item.owner [
   | Some owner ↦ record { at = item.at; size = item.size; handle = owner.name; kind = kind_number owner.kind; locks = owner.locks }
 ]
 
--- The first part from an address on is told; behind the last one there is none, and what was lent for it stays.
+-- The first part from an address on is told; after the last one there is none, and what was lent for it stays.
 abbrev pub Told : ℕ → Part → Part → Option Item → Type 0
 Told status before part None = (status ≡ END) × (part ≡ before)
 Told status before part (Some item) = (status ≡ DONE) × (part ≡ part_of item)

@@ -1,4 +1,4 @@
-//! Bytes behind far pointers, in buffers that the caller lends.
+//! Bytes after far pointers, in buffers that the caller lends.
 ghost use Rattle.std.specs.Prelude.{◌≡◌, ◌<◌, ◌≤◌, length};
 ghost use Rattle.w16_loading.specs.Replies as replies;
 ghost use Rattle.w16_model.specs.Far as far;
@@ -15,7 +15,7 @@ use crate::status::{BAD_SIZE, DONE, NO_MACHINE, NO_MEMORY, status_of, status_of_
 use std::alloc::Global;
 use w16_kernel::{Call, MOST_FILLED, MOST_READ, Reply};
 
-/// Copies the bytes of a reply into a buffer of just so many, and answers the reply's status.
+/// Copies the bytes of a reply into a buffer of just that many, and answers the reply's status.
 fn copied(reply: Reply<'_>, into: &mut [u8]) -> u8
     requires { IsBytes (length into.old) (reply_of reply) }
     ensures { IsRead result (reply_of reply.entry) into.old into.new }

@@ -56,7 +56,7 @@ pub extern "C" fn w16_global_unlock(
     word(alloc, held, &Call::GlobalUnlock { handle }, left)
 }
 
-/// `GlobalCompact`: makes a hole of so many bytes, if it can, and answers the longest one. For a size of 0 it only asks how long one could be.
+/// `GlobalCompact`: makes a hole of that many bytes, if it can, and answers the longest one. For a size of 0 it only asks how long one could be.
 #[unsafe(no_mangle)]
 pub extern "C" fn w16_global_compact(
     alloc: Global,

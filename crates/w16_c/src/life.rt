@@ -39,7 +39,7 @@ fn made(alloc: Global, memory: u32, selectors: u32) -> Result<Box<Kernel<Growing
     Ok(Box::new(alloc, kernel)?)
 }
 
-/// A new machine of so many bytes of memory, a multiple of 32 from 32 to 16,777,216, and so many selectors, from 1 to 8,160, in place of what
+/// A new machine of that many bytes of memory, a multiple of 32 from 32 to 16,777,216, and that many selectors, from 1 to 8,160, in place of what
 /// the holder had. `BAD_SIZE` is for other sizes, and `NO_MEMORY` for want of memory: either leaves the holder as it was.
 #[unsafe(no_mangle)]
 pub extern "C" fn w16_new(alloc: Global, held: &mut Held, memory: u32, selectors: u32) -> u8

@@ -42,7 +42,7 @@ pub extern "C" fn w16_ds(alloc: Global, held: &mut Held, selector: u16) -> u8
     done(alloc, held, &Call::DS { selector })
 }
 
-/// `LocalAlloc`: a new object of so many bytes in the heap of DS, and its name, or 0.
+/// `LocalAlloc`: a new object of that many bytes in the heap of DS, and its name, or 0.
 #[unsafe(no_mangle)]
 pub extern "C" fn w16_local_alloc(
     alloc: Global,

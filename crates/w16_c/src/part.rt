@@ -58,7 +58,7 @@ fn told(item: Item) -> Part
     }
 }
 
-/// `Walk`, part by part: the first part that begins at an address or above it. `END` behind the last, and then `part` stays as it was. A
+/// `Walk`, part by part: the first part that begins at an address or above it. `END` after the last, and then `part` stays as it was. A
 /// whole walk goes from 0 to each part's end.
 #[unsafe(no_mangle)]
 pub extern "C" fn w16_walk_from(alloc: Global, held: &mut Held, from: u32, part: &mut Part) -> u8

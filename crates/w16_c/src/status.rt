@@ -14,7 +14,7 @@ pub const NO_MACHINE: u8 = 1;
 /// The host has no memory, and nothing changed.
 pub const NO_MEMORY: u8 = 2;
 
-/// What was asked for can't be: a machine of these sizes, or so many bytes. Nothing changed.
+/// What was asked for can't be: a machine of these sizes, or that many bytes. Nothing changed.
 pub const BAD_SIZE: u8 = 3;
 
 /// No object has the far pointer's selector.

@@ -14,7 +14,7 @@ fn is_freed(alloc: Global, mut held: Held) -> bool {
     }
 }
 
-/// A new machine of so many bytes for 16 objects, and whether there is one.
+/// A new machine of that many bytes for 16 objects, and whether there is one.
 fn begun(alloc: Global, memory: u32) -> (Held, bool) {
     let mut held = Held::none();
     let status = w16_new(alloc, &mut held, memory, 16);

@@ -79,7 +79,7 @@ module _ (honest : Type 0) (old : World) (is : IsWorldOver honest old) (command 
       let step = on_handles honest old.loading (OfFar command) reply next (reads_are old.loading command ∙ none) s in
       (step, (λ i. record { loading = with_handles old.loading next; heaps = sym (stay honest old is (OfFar command) reply (with_handles old.loading next) (reads_are old.loading command ∙ none) step) i; ds = old.ds }))
 
-  -- what is made again behind a fetch, and the sweep
+  -- what is made again after a fetch, and the sweep
   pub made_again : (mid : LoadingWorld) (next : Handles) → needs_fetch (access_of command old.loading).0 old.loading (selector_of_command command) ≡ true
       → StoreFetch honest old.loading (far_slot old.loading.handles (selector_of_command command)) None mid → FarReplies mid.handles command reply next
       → Makes (record { loading = with_handles mid next; heaps = left_in next.heap old.heaps; ds = old.ds })

@@ -1,4 +1,4 @@
--- A step over the kernel's parts, and the sweep behind it, are one step of the machine.
+-- A step over the kernel's parts, and the sweep after it, are one step of the machine.
 use Rattle.w16_kernel.proofs.Common.{◌≡◌, ℕ, ◌≤◌, Dword, Moved, Bool, true, false, refl, sym, subst, arith, false≢true, Handles, Heap, reads_files, LoadingCommand, LoadingStep, FamilyStep, Fetches, OfHandles, OfResizes, OfFar, OfModules}
 use Rattle.w16_kernel.proofs.Common.{OfResources, Loads, Failed, Store, LoadingWorld, with_handles, reads_no_files_law, code_reads_law, World, left_in, step_may_take, Command, IsCommand, OnHandles, StoreStep, Step, after_loading, OfLoading}
 use Rattle.w16_kernel.proofs.Common.{OfLocals, heaps_law, handles_step, world_kept, files_law, is_format, ne_format, reply_of, KernelStep, ReadsCode, Unswept, IsWorldOver, may_take_bytes, surviving_heaps, Promises, promised_step, [], ◌∷◌}
@@ -27,7 +27,7 @@ module _ (honest : Type 0) (old : LoadingWorld) where
       record { any = reads_no_files_law ne_format old new command reply none made; exact = λ _. made }
 
 module _ (honest : Type 0) (old : World) (is : IsWorldOver honest old) where
-  -- behind a step that takes no bytes all heaps stay
+  -- after a step that takes no bytes all heaps stay
   pub stay : (command : LoadingCommand) (reply : printed.Reply) (new : LoadingWorld) → step_may_take old.loading command ≡ false → StoreStep honest ne_format old.loading command reply new → left_in new.handles.heap old.heaps ≡ old.heaps
   stay command reply new none s = heaps_law ne_format old (after_loading old new) command reply is.0.heaps none (record { any = s.any; exact = λ no. s.exact (λ t. absurd (no t)) }, refl)
 

@@ -50,7 +50,7 @@ Unswept honest old (OfLoading (OfResources command)) reply new =
     StoreStep honest ne_format old.loading (OfResources command) reply new.loading × (new ≡ record old { loading = new.loading })
 Unswept honest old (OfLocals command) reply new = LocalStep old command reply new
 
--- Whether a step may take bytes of a global object, so that a sweep of local heaps is due behind it.
+-- Whether a step may take bytes of a global object, so that a sweep of local heaps is due after it.
 abbrev pub may_take_bytes : Command → Bool
 may_take_bytes (OfLoading (OfHandles command)) = call_may_take command
 may_take_bytes (OfLoading (OfResizes command)) = true

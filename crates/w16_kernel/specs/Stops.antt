@@ -6,7 +6,7 @@ use Rattle.w16_writes.specs.Promises.{Promises}
 use Rattle.w16_kernel.specs.declared.call.Call.{Call}
 use Rattle.w16_kernel.specs.Runs.{command_of, TakesMemory}
 
--- So many calls were done, from old to the last world, and no other: there was no memory before the first one, or for the next one, which takes
+-- That many calls were done, from old to the last world, and no other: there was no memory before the first one, or for the next one, which takes
 -- some, and which left the world the same.
 pub record StopsEarly (steps : Steps) (old : World) (calls : List Call) (new : World) : Type 0 where
   pub done : ℕ

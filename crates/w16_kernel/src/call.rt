@@ -240,7 +240,7 @@ pub enum Reply<'r> {
     Fault(FarFault),
     /// An object of a module didn't get its bytes.
     Failed(FetchFault),
-    /// So many parts of the heap, which `Kernel::walk_at` tells one by one, and `Kernel::walk_from` from address to address.
+    /// That many parts of the heap, which `Kernel::walk_at` tells one by one, and `Kernel::walk_from` from address to address.
     Walk(u32),
 }
 

@@ -8,7 +8,7 @@ use std::alloc::Global;
 use std::marker::Model;
 use w16_store::{MemStore, Store, StoreFault};
 
-/// The longest name that is kept, in bytes: that of the file of a reference, which has at most 255 and `.DLL` behind them.
+/// The longest name that is kept, in bytes: that of the file of a reference, which has at most 255 and `.DLL` after them.
 pub const MOST_NAME: usize = 259;
 
 /// A name in place.

@@ -49,8 +49,8 @@ impl<S: Store + Drop, A: Allocator + Copy> Model for Kernel<S, A> {
 }
 
 impl<S: Store + Drop, A: Allocator + Copy> Kernel<S, A> {
-    /// A machine over a store, and over `memory` bytes, a multiple of 32, with so many selectors, at most 8,160, in which nothing is allocated
-    /// and nothing loaded. It takes its memory here, room for one segment of a file among it, but for that of local heaps and of modules. An error
+    /// A machine over a store, and over `memory` bytes, a multiple of 32, with that many selectors, at most 8,160, in which nothing is allocated
+    /// and nothing loaded. It takes its memory here, room for one segment of a file among it, except for that of local heaps and of modules. An error
     /// is that there was none, and then the store is dropped.
     pub fn new(alloc: A, memory: u32, slots: u32, store: S) -> Result<Kernel<S, A>, AllocError>
         requires grained { memory % GRAIN ≡ 0 }
@@ -113,7 +113,7 @@ impl<S: Store + Drop, A: Allocator + Copy> Kernel<S, A> {
         Ok(reply)
     }
 
-    /// The i-th part of the heap by address, from 0 on: an object's bytes, the object named by its handle, or a hole. None behind the last. It
+    /// The i-th part of the heap by address, from 0 on: an object's bytes, the object named by its handle, or a hole. None after the last. It
     /// goes over the parts before it: a whole walk is quicker by [`Kernel::walk_from`].
     pub fn walk_at(&self, i: usize) -> Option<Item>
         ensures { (items : List Item) × IsWorldWalk self.now items × (result ≡ slice_get items i) }
@@ -122,7 +122,7 @@ impl<S: Store + Drop, A: Allocator + Copy> Kernel<S, A> {
         self.global.walk(i)
     }
 
-    /// The first part of the heap that begins at an address or above it; none behind the last. A whole walk asks from 0 on, then from the
+    /// The first part of the heap that begins at an address or above it; none after the last. A whole walk asks from 0 on, then from the
     /// end of each part.
     pub fn walk_from(&self, from: u32) -> Option<Item>
         ensures found { IsFirstItem handle_of self.now.loading.handles.heap from result }

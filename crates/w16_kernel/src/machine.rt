@@ -24,7 +24,7 @@ pub trait Machine {
     /// The steps that it may take.
     ghost steps: { World → Command → printed.Reply → World → Type 0 };
 
-    /// One call: a step that it may take, and a run of one step, which keeps what each run promises. Bytes that are read are put into the room. An error is that there was no memory, for a new local heap, a built-in or a load, and the world is the same but for
+    /// One call: a step that it may take, and a run of one step, which keeps what each run promises. Bytes that are read are put into the room. An error is that there was no memory, for a new local heap, a built-in or a load, and the world is the same except for
     /// the count of the store's failures.
     fn call<'r>(
         &mut self,
@@ -38,7 +38,7 @@ pub trait Machine {
         ensures wanted { OnErr result (TakesMemory (world self.old) (command_of call.now)) }
         ensures refused { OnErr result (IsSame (world self.old) (world self.new)) };
 
-    /// The first part of the heap that begins at an address or above it; none behind the last. A whole walk asks from 0 on, then from the
+    /// The first part of the heap that begins at an address or above it; none after the last. A whole walk asks from 0 on, then from the
     /// end of each part.
     fn walk_from(&self, from: u32) -> Option<Item>
         ensures found { IsFirstItem handle_of (world self.now).loading.handles.heap from result }

@@ -50,7 +50,7 @@ module _ {A : Type 0} where
   at_place (x ∷ xs) (c ∷ cs) h zero f e = let same : x ≡ f = cc in record { c = c; at = refl; is = subst (λ y. IsFoundOf y c) same h.0 }
   at_place (x ∷ xs) (c ∷ cs) h (suc place) f e = let r = at_place xs cs h.1 place f e in record { c = r.c; at = r.at; is = r.is }
 
-  -- the module behind those that were there
+  -- the module after those that were there
   record Next (xs : List (Found A)) (cs : List closing.Found) (f : Found A) : Type 0 where
     c : closing.Found
     at : slice_get cs (length xs) ≡ Some c
@@ -167,7 +167,7 @@ module _ {A : Type 0} (modules : Modules) (files : Files) (all : List closing.Fo
             (λ i. record { found = fs ++ record { file = sym file i; read = n.c.read } ∷ []; pending = left_from place done fs ++ references_of (length fs) n.c; bound = map bound_in bound ++ (place, New (length fs)) ∷ [] })
             ∙ (λ i. record { found = t i; pending = p i; bound = b i })
 
-  -- behind the last reference of a module come those of the next
+  -- after the last reference of a module come those of the next
   pub ends_any : (place count : ℕ) → count ≡ length (references_at found place) → left_from place count fs ≡ left_from (suc place) 0 fs
   ends_any place count e = turn (nat_lt place (length found)) refl
     where

@@ -141,7 +141,7 @@ fewer_modules modules left handle m found removed =
     let n : (n : Named) × (finmap.get modules handle ≡ Some n) = loaded_some (finmap.get modules handle) m found in
     subst (λ p. IfSome p (λ _. finmap.len left < finmap.len modules)) found (subst (λ (x : Modules). finmap.len x < finmap.len modules) (sym removed) (fewer_left modules handle n.0 n.1))
 
--- What goes from here on, behind one that went; and a use that ended before all that.
+-- What goes from here on, after one that went; and a use that ended before all that.
 
 pub goes_first : (now next end : LoadingWorld) (handle : ℕ) → is_idle now.modules handle ≡ true → next ≡ without_module now handle → (gone : List ℕ) × Go next gone end → (gone : List ℕ) × Go now gone end
 goes_first now next end handle idle less later = (handle ∷ later.0, (idle, subst (λ (w : LoadingWorld). Go w later.0 end) less later.1))

@@ -1,4 +1,4 @@
--- A load finds modules behind those that it had, and no more than handles are free.
+-- A load finds modules after those that it had, and no more than handles are free.
 use Rattle.w16_loader.proofs.Common.{◌≡◌, ℕ, ◌<◌, ◌+◌, inl, inr, List, [], ◌∷◌, ◌++◌, length, sym, ap, ◌∙◌, subst, arith, length-append, append-nil, append_assoc, Modules, free_modules, dll, Found, Followed, FindsFew, LeadsByName, LeadsByFile, LeadsSomewhere, found_after}
 use Rattle.w16_loader.specs.declared.closure.Followed.TheVariants as leads
 

@@ -19,7 +19,7 @@ indexed [] place number f some le e = absurd (omega (arith, some, le))
 indexed (g ∷ gs) zero number f some le e = (ap Some (sym e), subst (λ (h : Found _). number ≤ length h.module.references) (sym e) le)
 indexed (g ∷ gs) (suc place) number f some le e = indexed gs place number f some le e
 
--- a new module comes behind those that are there
+-- a new module comes after those that are there
 same_at : {A : Type 0} (found : List (Found A)) (place : ℕ) (f g : Found A) → slice_get found place ≡ Some f → references_at (found ++ g ∷ []) place ≡ references_at found place
 same_at [] place f g e = cc
 same_at (x ∷ xs) zero f g e = refl
@@ -76,7 +76,7 @@ module _ {A : Type 0} (files : Files) (place : ℕ) where
     refused before after faults.Device h = h
     refused before after faults.OutOfMemory h = tt
 
-  -- behind the last reference of a module come those of the next
+  -- after the last reference of a module come those of the next
   ends : (found : List (Found A)) (count : ℕ) → count ≡ length (references_at found place) → left_from place count (kept found) ≡ left_from (suc place) 0 (kept found)
   ends found count e = turn (nat_lt place (length found)) refl
     where
@@ -96,7 +96,7 @@ module _ {A : Type 0} (files : Files) (place : ℕ) where
       subst (λ p. Leads format a first (pending_in files p last)) next h
 
 module _ {A : Type 0} (files : Files) where
-  -- behind the last place none is left
+  -- after the last place none is left
   pub all_done : (format : Format) (a : Around) (most : ℕ) (first last : Closure A) → a.free ≤ most → length first.found.items ≤ most → Leads format a (reached files 0 0 first) (reached files most 0 last)
       → Closes format a (reached files 0 0 first) (Ok (closed_in files last))
   all_done format a most first last le few h =

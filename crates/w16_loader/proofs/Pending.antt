@@ -27,7 +27,7 @@ module _ (fs : List Found) (place : ℕ) (f : Found) (at : slice_get fs place �
   here : references_from place (drop place fs) ≡ references_of place f ++ references_from (suc place) (drop (suc place) fs)
   here = ap (references_from place) (one_left fs place f at)
 
-  -- the next reference is left, and those behind it
+  -- the next reference is left, and those after it
   pub next_left : (done : ℕ) (name : List ℕ) → slice_get f.read.tables.references done ≡ Some name → left_from place done fs ≡ (place, name) ∷ left_from place (suc done) fs
   next_left done name is =
       let lt : done < length f.read.tables.references = slice_get_within f.read.tables.references done name is in
@@ -37,11 +37,11 @@ module _ (fs : List Found) (place : ℕ) (f : Found) (at : slice_get fs place �
       ∙ ap (λ xs. xs ++ references_from (suc place) (drop (suc place) fs)) (one_left (references_of place f) done (place, name) got)
       ∙ ap (λ xs. (place, name) ∷ xs) (sym (ap (drop (suc done)) here ∙ drop-append-le (suc done) (references_of place f) (references_from (suc place) (drop (suc place) fs)) (omega (arith, lt, many))))
 
-  -- behind the last come those of the next module
+  -- after the last come those of the next module
   pub last_left : left_from place (length f.read.tables.references) fs ≡ left_from (suc place) 0 fs
   last_left = ap (drop (length f.read.tables.references)) here ∙ past (references_of place f) (references_from (suc place) (drop (suc place) fs)) (length f.read.tables.references) (sym many)
 
-  -- those of a new module come behind all
+  -- those of a new module come after all
   pub more_left : (done : ℕ) (g : Found) → done ≤ length f.read.tables.references → left_from place done (fs ++ g ∷ []) ≡ left_from place done fs ++ references_of (length fs) g
   more_left done g le =
       let lt : place < length fs = slice_get_within fs place f at in
@@ -53,7 +53,7 @@ module _ (fs : List Found) (place : ℕ) (f : Found) (at : slice_get fs place �
       ∙ ap (drop done) (from_more place (drop place fs) g ∙ ap (λ n. references_from place (drop place fs) ++ references_of n g) where_)
       ∙ drop-append-le done (references_from place (drop place fs)) (references_of (length fs) g) long
 
--- none is left behind the last module
+-- none is left after the last module
 pub none_left : (fs : List Found) (place done : ℕ) → length fs ≤ place → left_from place done fs ≡ []
 none_left fs place done le = ap (λ xs. drop done (references_from place xs)) (drop_all place fs le) ∙ drop_all done [] (omega arith)
 

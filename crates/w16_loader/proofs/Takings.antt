@@ -5,7 +5,7 @@ use Rattle.w16_loader.proofs.Common.{Member, EachPair, Each-map, Each-from, All-
 use Rattle.std.specs.List.{AllByRecursion as Each}
 use Rattle.std.specs.FinMap as finmap
 
--- What all of them leave, and some behind others.
+-- What all of them leave, and some after others.
 
 pub takes_fold : (xs : List (ℕ × Segment)) (old new : LoadingWorld) → Takes old xs new → new ≡ fold with_segment old xs
 takes_fold [] old new t = t

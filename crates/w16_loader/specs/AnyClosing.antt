@@ -20,7 +20,7 @@ IsGood f = IsModuleFile f.read × (are_sound f.read ≡ true)
 abbrev pub AreGood : List closing.Found → Type 0
 AreGood found = All IsGood found
 
--- one module as another, but for what its file says beside its tables
+-- one module as another, except for what its file says beside its tables
 abbrev pub IsAlike : closing.Found → closing.Found → Type 0
 IsAlike f g = (g.file ≡ f.file) × (g.read.tables ≡ f.read.tables)
 
@@ -37,7 +37,7 @@ said_by None = Err 11
 said_by (Some f) = Ok f.read
 
 -- A format in which some file says whatever a load may have read: the file of a number from 1 says what the module of that number does, and 0 with a
--- name behind it says that name alone.
+-- name after it says that name alone.
 abbrev pub any_format : List closing.Found → Format
 any_format all [] = Err 11
 any_format all (zero ∷ name) = Ok (named_file name)

@@ -103,7 +103,7 @@ abbrev pub IsBindFailure : ℕ → ℕ → BindFault → Type 0
 IsBindFailure before after (binds.Failed f) = (f.fault ≡ Store) × (before < after)
 IsBindFailure before after binds.OutOfMemory = Unit {0}
 
--- over any store, one of so many modules can't be read
+-- over any store, one of that many modules can't be read
 abbrev pub IsUnread : ℕ → BindFault → Type 0
 IsUnread many (binds.Failed f) = (is_of_read f.fault ≡ true) × (f.place < many)
 IsUnread many binds.OutOfMemory = Unit {0}

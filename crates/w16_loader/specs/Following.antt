@@ -39,7 +39,7 @@ abbrev pub references_from : ℕ → List closing.Found → List (ℕ × List �
 references_from place [] = []
 references_from place (f ∷ fs) = references_of place f ++ references_from (suc place) fs
 
--- the references of the modules from a place on, but for so many that come first
+-- the references of the modules from a place on, except for that many that come first
 abbrev pub left_from : ℕ → ℕ → List closing.Found → List (ℕ × List ℕ)
 left_from place done found = drop done (references_from place (drop place found))
 
@@ -55,7 +55,7 @@ module _ {A : Type 0} where
   abbrev pub closed_in : Files → Closure A → closing.Closure
   closed_in files c = pending_in files [] c
 
-  -- where the references of the modules before a place are followed, and so many of the module at that place
+  -- where the references of the modules before a place are followed, and that many of the module at that place
   abbrev pub reached : Files → ℕ → ℕ → Closure A → closing.Closure
   reached files place done c = pending_in files (left_from place done (map (found_in files) c.found.items)) c
 
@@ -87,13 +87,13 @@ module _ {A : Type 0} where
   abbrev pub LeadsSomewhere : Modules → List (Found A) → List ℕ → Followed A → Type 0
   LeadsSomewhere modules found name followed = LeadsByName modules found name followed ⊎ ((meant_in modules found name ≡ None) × LeadsByFile modules found (dll name) followed)
 
-  -- Modules are found behind those that were there, and no more than handles are free, or than there were.
+  -- Modules are found after those that were there, and no more than handles are free, or than there were.
   pub record FindsFew (modules : Modules) (before after : List (Found A)) : Type 0 where
     pub since : List (Found A)
     pub kept : after ≡ before ++ since
     pub few : (most : ℕ) → free_modules modules ≤ most → length before ≤ most → length after ≤ most
 
-  -- the modules after it, and what it means after so many modules
+  -- the modules after it, and what it means after that many modules
   abbrev pub found_after : List (Found A) → Followed A → List (Found A)
   found_after found (leads.Meant referent) = found
   found_after found (leads.New f) = found ++ f ∷ []

@@ -75,7 +75,7 @@ fn fault_at(place: usize, fault: ValueFault) -> BindFault
     }
 }
 
-/// Room for so many values, and none yet.
+/// Room for that many values, and none yet.
 fn room_for<T, A: Allocator + Clone>(alloc: &A, len: usize) -> Result<Vec<T, A>, AllocError>
     ensures items { IfOk result (λ made. made.items ≡ []) }
     ensures capacity { IfOk result (λ made. vec_capacity made ≡ len) }

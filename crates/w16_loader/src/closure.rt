@@ -66,7 +66,7 @@ fn fault_of_reference(fault: FileFault) -> FileFault
     }
 }
 
-/// The file that a reference is looked for in: its name with `.DLL` behind it.
+/// The file that a reference is looked for in: its name with `.DLL` after it.
 fn file_of_reference<A: Allocator + Clone>(alloc: &A, name: &[u8]) -> Result<Vec<u8, A>, AllocError>
     ensures { IfOk result (λ file. file.items ≡ dll name.now) }
 {
@@ -113,7 +113,7 @@ impl<A: Allocator + Copy> Closure<A> {
     }
 
     /// What a reference of one of its modules leads to, by its name, in any case of letters: a module or built-in that is there, or a new module
-    /// that it has; else what its file says, that of the name with `.DLL` behind it.
+    /// that it has; else what its file says, that of the name with `.DLL` after it.
     ///
     /// A file that is refused gives 20; where no handle is left, 0.
     pub fn follow<S: Store>(

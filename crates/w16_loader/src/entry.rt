@@ -54,7 +54,7 @@ impl<A: Allocator> Model for Loaded<A> {
 }
 
 impl<A: Allocator> Loaded<A> {
-    /// A module with the name of its file, so many explicit uses, at most 65,000, and for each segment the slot of its object, below 8,192,
+    /// A module with the name of its file, that many explicit uses, at most 65,000, and for each segment the slot of its object, below 8,192,
     /// and the values of its relocation records, and for each reference the handle of the module that it means.
     pub fn new(
         file: Vec<u8, A>,

@@ -223,7 +223,7 @@ fn handle_meant(handles: &[u16], referent: Referent) -> u16
     }
 }
 
-/// So many vectors, all of them empty.
+/// That many vectors, all of them empty.
 fn empty_lists<A: Allocator + Copy>(
     alloc: A,
     count: usize,

@@ -239,7 +239,7 @@ impl<A: Allocator> Registry<A> {
         }
     }
 
-    /// The lowest free handles, so many, the lowest first; all of them where there are fewer. An error is that memory ran out.
+    /// The lowest free handles, that many, the lowest first; all of them where there are fewer. An error is that memory ran out.
     pub fn free_handles(&self, alloc: A, count: usize) -> Result<Vec<u16, A>, AllocError>
         ensures lowest { IfOk result (λ made. made.items ≡ take count (free_handles self.now)) }
         ensures many { IfOk result (λ made. count ≤ free_modules self.now → length made.items ≡ count) }

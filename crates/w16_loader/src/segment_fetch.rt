@@ -95,7 +95,7 @@ pub fn give<A: Allocator + Copy>(
     true
 }
 
-/// Gives the object of a segment, which has no bytes, those of its file again: its data, zeros behind them, and the values that were bound at
+/// Gives the object of a segment, which has no bytes, those of its file again: its data, zeros after them, and the values that were bound at
 /// load over the sites of its relocation records. The file is read and checked before room is asked for.
 ///
 /// Others slide and are discarded for it, as few as can be, as for an allocation with no flags; a discardable object becomes the newest in the

@@ -8,7 +8,7 @@ use w16_global::Work;
 use w16_region::Space;
 use w16_reloc::{Far, Record, apply};
 
-/// Puts data at the front of some bytes, as many as have room, and zeros behind them.
+/// Puts data at the front of some bytes, as many as have room, and zeros after them.
 fn place(bytes: &mut [u8], source: &[u8])
     ensures placed { length source.now ≤ length bytes.old → (o : ℕ) → byte bytes.new o ≡ byte source.now o }
     ensures length { length bytes.new ≡ length bytes.old }
@@ -18,7 +18,7 @@ fn place(bytes: &mut [u8], source: &[u8])
     bytes[len..].fill(0);
 }
 
-/// Writes a segment's image over some bytes: its data, zeros behind them, and the values of its relocation records, one for each. Where the
+/// Writes a segment's image over some bytes: its data, zeros after them, and the values of its relocation records, one for each. Where the
 /// records are not sound in the data, or the data have no room, the bytes are any afterwards.
 fn write_image(bytes: &mut [u8], source: &[u8], records: &[Record], values: &[Far])
     requires { length records.now ≡ length values.now }
@@ -31,7 +31,7 @@ fn write_image(bytes: &mut [u8], source: &[u8], records: &[Record], values: &[Fa
     apply(bytes, records, values);
 }
 
-/// Writes a segment's image over the bytes of its object; with no records, as of a resource, its data and zeros behind them.
+/// Writes a segment's image over the bytes of its object; with no records, as of a resource, its data and zeros after them.
 #[derive(Clone, Copy)]
 pub struct SegmentWork<'a> {
     /// Its data in the file.

@@ -17,7 +17,7 @@ pub struct SegmentOf {
     pub number: usize,
 }
 
-/// So many places, none of them taken. An error is that memory ran out.
+/// That many places, none of them taken. An error is that memory ran out.
 pub fn untaken<A: Allocator>(
     alloc: A,
     places: usize,

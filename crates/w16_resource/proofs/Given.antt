@@ -7,7 +7,7 @@ use Rattle.w16_reloc.specs.Sound.{IsSound}
 use Rattle.w16_reloc.specs.declared.fault.RelocFault.TheVariants as relocs
 use Rattle.w16_store.specs.declared.store.StoreFault.TheVariants as stores
 
--- what was written with no records is the data, and zeros behind them
+-- what was written with no records is the data, and zeros after them
 plain_image : (source bytes : List ℕ) (n : ℕ) → length source ≤ length bytes → length bytes ≡ n → IsWritten source [] [] bytes → padded source n ≡ bytes
 plain_image source bytes n room long is = same_lists (padded source n) bytes (padded_length source n ∙ sym long) (λ k d lt.
     let same = padded_length source n in
@@ -31,7 +31,7 @@ no_more n e = by (nat_eq n 0) e
 pub rounded_up : (n : ℕ) → n ≤ rounded_size n
 rounded_up n = let unit : GRAIN ≡ 32 = refl in omega (arith, unit)
 
--- a file that reaches behind the place of a resource has some byte of it
+-- a file that reaches past the place of a resource has some byte of it
 pub has_some : (file : List ℕ) (place n : ℕ) → is_long n ≡ false → place < length file → 0 < length (take n (drop place file))
 has_some file place n short inside =
     let some = some_bytes n short in

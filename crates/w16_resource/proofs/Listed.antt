@@ -23,7 +23,7 @@ load_removed es slot lt = same_values (loads_in (set es slot None)) (finmap.remo
   | inr d ↦ load_at (set es slot None) q ∙ ap (option_map load_in) (get_or-set_other es slot q None None d) ∙ sym (load_at es q) ∙ sym (taken_other (loads_in es) slot q d)
 ])
 
--- behind the list there is none
+-- after the list there is none
 pub none_behind : (es : List (Option Load)) (slot : ℕ) → length es ≤ slot → finmap.get (loads_in es) slot ≡ None
 none_behind es slot le = load_at es slot ∙ ap (option_map load_in) (get_or_past es slot None le)
 

@@ -103,7 +103,7 @@ next_done world next slot same done q lt = subst (λ (w : LoadingWorld). is_left
   | inr d ↦ swept_other world slot q (done q (let f : q ≡ slot → ⊥ = d in omega (arith, lt, f)))
 ])
 
--- where none is left up to here, and none was behind
+-- where none is left up to here, and none was after
 pub none_left : (old world : LoadingWorld) (end slot : ℕ) → ((q : ℕ) → q < slot → is_left_over world q ≡ false) → end ≤ slot → ((q : ℕ) → end ≤ q → finmap.get old.loads q ≡ None)
     → ((q : ℕ) → is_left_over old q ≡ false → is_left_over world q ≡ false) → world ≡ without_orphans world
 none_left old world end slot done le none behind = sym (all_swept world (λ q. elim (cases_lt q slot) [

@@ -36,7 +36,7 @@ pub record IsSourceAt (modules : Modules) (handle place : ℕ) (file : List ℕ)
   pub there : ne.resource_at t.resources place ≡ Some (kind, entry)
   pub inside : (bytes : List ℕ) → tables_at (Some bytes) ≡ Ok t → 0 < entry.len → entry.place < length bytes
 
--- whether a resource of so many bytes can't be loaded
+-- whether a resource of that many bytes can't be loaded
 abbrev pub is_long : ℕ → Bool
 is_long len = (len == 0) || nat_lt LARGEST_OWNED len
 

@@ -26,7 +26,7 @@ use w16_model::names::slot_of;
 use w16_reloc::{Scratch, read_part};
 use w16_store::Store;
 
-/// Whether a resource of so many bytes in its file can't be loaded: it has none, or more than an object that a module owns.
+/// Whether a resource of that many bytes in its file can't be loaded: it has none, or more than an object that a module owns.
 pub(crate) fn is_too_long(len: u32) -> bool
     ensures { result ≡ is_long len }
 {
@@ -67,7 +67,7 @@ pub(crate) fn read<S: Store, A: Allocator>(
     Ok(())
 }
 
-/// Gives an object that a module owns, and that has no bytes, those of a resource, and zeros behind them. They are read before room is asked for.
+/// Gives an object that a module owns, and that has no bytes, those of a resource, and zeros after them. They are read before room is asked for.
 pub(crate) fn fetch_from<S: Store, A: Allocator + Copy>(
     source: &ResourceSource<'_>,
     global: &mut Global16<A>,
@@ -98,7 +98,7 @@ pub(crate) fn fetch_from<S: Store, A: Allocator + Copy>(
 }
 
 impl<A: Allocator + Copy> Resources<A> {
-    /// Gives the object of a resource, which has no bytes, those of its file, and zeros behind them. The file is read before room is asked for.
+    /// Gives the object of a resource, which has no bytes, those of its file, and zeros after them. The file is read before room is asked for.
     ///
     /// Others slide and are discarded for it, as few as can be, as for an allocation with no flags; a discardable object becomes the newest in the
     /// order of use. `Store` where the store's device failed; `Damaged` where the file reads otherwise than it did when the module was loaded;

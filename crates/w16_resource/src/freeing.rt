@@ -37,7 +37,7 @@ impl<A: Allocator + Copy> Resources<A> {
         0
     }
 
-    /// The resources of modules that are gone go, with their objects, locked or not. It is due behind `FreeLibrary` and `FreeModule`.
+    /// The resources of modules that are gone go, with their objects, locked or not. It is due after `FreeLibrary` and `FreeModule`.
     pub fn sweep(&mut self, registry: &Registry<A>, global: &mut Global16<A>)
         ensures { (rest : LoadingWorld) → record rest { handles = global.new.handles; modules = registry.now; loads = self.new } ≡ without_orphans (record rest { handles = global.old.handles; modules = registry.now; loads = self.old }) }
     {

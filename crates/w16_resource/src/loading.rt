@@ -53,7 +53,7 @@ fn kind_of(flags: ResourceFlags) -> Kind
     }
 }
 
-/// What a resource's object is to its module: so many bytes, in whole grains, that may be written.
+/// What a resource's object is to its module: that many bytes, in whole grains, that may be written.
 fn owned_for(len: u32) -> Owned
     requires { is_long len ≡ false }
     ensures owned { result ≡ record { size = rounded_size len; code = false } }

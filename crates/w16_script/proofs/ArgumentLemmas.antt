@@ -3,7 +3,7 @@ use Rattle.w16_script.proofs.Common.{◌≡◌, ◌≢◌, ℕ, ◌*◌, ◌^◌
 use Rattle.w16_script.proofs.Common.{Parameter, Label, IsLiteral, IsNumber, Argument, IsLabel, IsArgument, AreArguments, Makes, parameters_of, command_with, decode_of, decode_of-ok}
 use Rattle.w16_script.specs.declared.arguments.Parameter.TheVariants as p
 
--- a word of another length has no so many bytes
+-- a word of another length doesn't have that many bytes
 pub length-bytes : (word bytes : List ℕ) → decode_of word ≡ Ok bytes → length word ≡ 2 * length bytes
 length-bytes word bytes h = (decode_of-ok word bytes h).2
 

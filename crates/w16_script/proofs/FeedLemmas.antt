@@ -104,7 +104,7 @@ Stops-overflow steps a s v w bytes more fault one_line same is over =
       stops = (over.over, same, Keeps-refl a);
     })
 
--- or any byte stands behind the last line that may end
+-- or any byte stands after the last line that may end
 pub Stops-full : (steps : Steps) (a : Option (List ℕ)) (s : Progress) (v w : State) (bytes : List ℕ) → 0 < length bytes → w ≡ v → IsWithinLimits s → s.lines ≡ 1000000 → Stops steps a s v bytes TooLong a w
 Stops-full steps a s v w [] some same fits full = absurd (omega arith)
 Stops-full steps a s v w (byte ∷ more) some same fits full = record {

@@ -7,7 +7,7 @@ HasNoLf-at [] i h within = absurd (omega arith)
 HasNoLf-at (x ∷ xs) zero h within = h.0
 HasNoLf-at (x ∷ xs) (suc i) h within = HasNoLf-at xs i h.1 (omega arith)
 
--- behind the last line that may be
+-- after the last line that may be
 pub Overflows-lines : (here : Progress) (bytes : List ℕ) → 0 < length bytes → IsWithinLimits here → here.lines ≡ 1000000 → Overflows here bytes
 Overflows-lines here [] some fits full = absurd (omega arith)
 Overflows-lines here (byte ∷ more) some fits full =

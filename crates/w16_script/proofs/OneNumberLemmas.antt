@@ -37,7 +37,7 @@ apart registers text m n p q =
     let start : get_or text 0 0 ≡ 114 = (BeginsWith-start text q.suffix q.register (BeginsWith-from registers text n q)).1 in
     clash (is_digit 10 (get_or text 0 0)) (literal_start text m p) (ap (is_digit 10) start)
 
--- what stands behind a register's name has one form
+-- what stands after a register's name has one form
 
 differ : (suffix a b : List ℕ) (k : ℕ) → suffix ≡ a → suffix ≡ b → get_or a k 0 ≢ get_or b k 0 → ⊥
 differ suffix a b k p q ne = ne (ap (λ (l : List ℕ). get_or l k 0) (sym p ∙ q))

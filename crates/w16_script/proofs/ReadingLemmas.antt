@@ -60,7 +60,7 @@ pub not_register : (n : Name) (r : ℕ) → text_of n ≡ 114 ∷ decimal r → 
 not_register name.GlobalAlloc r e = absurd (clash (get_or (text_of name.GlobalAlloc) 0 0 == 114) (ap (λ (l : List ℕ). get_or l 0 0 == 114) e) refl)
 not_register n r e = absurd (clash (get_or (text_of n) 0 0 == 114) (ap (λ (l : List ℕ). get_or l 0 0 == 114) e) refl)
 
--- the words behind a target
+-- the words after a target
 pub behind_one : (words : List (List ℕ)) (s t : Option ℕ) (m n : Name) (a b : List (List ℕ)) → GoesTo words s (text_of m ∷ a) → GoesTo words t (text_of n ∷ b)
     → (s ≡ t) × (text_of m ≡ text_of n) × (a ≡ b)
 behind_one words None None m n a b p q =

@@ -59,7 +59,7 @@ is_digit-of d small = grind (arith, nat_tests)
 pub clash : (b : Bool) → b ≡ true → b ≡ false → ⊥
 clash b p q = cc
 
--- a digit can't stand behind the name
+-- a digit can't stand after the name
 no_digit : (text rest behind : List ℕ) (r d : ℕ) → BeginsWith text r rest → d < 10 → rest ≡ (48 + d) ∷ behind → ⊥
 no_digit text rest behind r d h small e =
     clash (is_digit 10 (get_or rest 0 0)) (ap (λ (l : List ℕ). is_digit 10 (get_or l 0 0)) e ∙ is_digit-of d small) h.ends
@@ -116,7 +116,7 @@ BeginsWith-same text s t a b p q = elim (BeginsWith-form text s a p) [
   ]
 ]
 
--- a register's name, and nothing behind it
+-- a register's name, and nothing after it
 
 pub BeginsWith-name : (word : List ℕ) (r : ℕ) → IsRegister word r → BeginsWith word r []
 BeginsWith-name word r h = record { name = word; named = h; whole = sym (append-nil word); ends = refl }
@@ -128,7 +128,7 @@ not_named word rest a b test is some h named =
     let full : (length rest == 0) ≡ true = grind (arith, nat_tests) in
     clash test (is ∙ full) some
 
--- Forms behind a name.
+-- Forms after a name.
 
 form_ends : (value : ℕ) (suffix : List ℕ) (n : ℕ) → IsForm value suffix n → is_digit 10 (get_or suffix 0 0) ≡ false
 form_ends value suffix n (inl (is, same)) = ap (λ (l : List ℕ). is_digit 10 (get_or l 0 0)) is

@@ -51,7 +51,7 @@ module _ (world : World) (items : List Item) (walk : IsWorldWalk world items) (f
       ap (λ (l : List ℕ). l ++ end_text) parts ∙ append_assoc done (item_text item ++ flat_map item_text n.more) end_text ∙ ap (λ (l : List ℕ). done ++ l) (append_assoc (item_text item) (flat_map item_text n.more) end_text) in
       subst (AppendsFront held new) (sym text) (AppendsFront-between held holds new done (item_text item) behind printed.appends front)
 
-  -- behind the last item all were printed
+  -- after the last item all were printed
   whole : IsFirstItem handle_of world.loading.handles.heap from None → done ≡ flat_map item_text items
   whole none = ap (flat_map item_text) (sym (all_done handle_of world.loading.handles.heap items walk from printed.cut none))
 

@@ -82,7 +82,7 @@ FailsLater-last steps left a b c t v x w registers text Write end p small filled
 FailsLater-last steps left a b c t v x w registers text Memory end p small filled q = inr (StopsLast-from steps left a b c t v x w registers text Memory end p small filled q)
 FailsLater-last steps left a b c t v x w registers text TooLong end p small filled q = absurd q
 
--- any fault behind the start is one of the run
+-- any fault after the start is one of the run
 pub Fails-later : (steps : Steps) (left held : Option (List ℕ)) (old : World) (text : List ℕ) (fault : RunFault) (holds : Option (List ℕ)) (new : World) → FailsLater steps left held old text fault holds new
     → Fails steps left held old text fault holds new
 Fails-later steps left held old text Read holds new h = h

@@ -21,7 +21,7 @@ AppendsFront-take a b xs n h p = record {
   appends = p;
 }
 
--- something before it was written whole, and something is left behind it
+-- something before it was written whole, and something is left after it
 pub AppendsFront-between : (a b c : Option (List ℕ)) (before bytes behind : List ℕ) → Appends a b before → AppendsFront b c bytes → AppendsFront a c (before ++ (bytes ++ behind))
 AppendsFront-between a b c before bytes behind p q = record {
   front = before ++ q.front;

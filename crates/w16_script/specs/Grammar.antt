@@ -110,7 +110,7 @@ abbrev pub made : (Family : Type 0) (parameters : List Parameter) → Maker Fami
 made Family [] command arguments place = command
 made Family (parameter ∷ parameters) maker arguments place = made Family parameters (maker (value_at parameter arguments place)) arguments (suc place)
 
--- how a command is written, what stands behind it, and the command that this makes
+-- how a command is written, what stands after it, and the command that this makes
 pub record Row : Type 0 where
   pub text : List ℕ
   pub parameters : List Parameter
@@ -208,7 +208,7 @@ IsBytes word bytes = (decode_of word ≡ Ok bytes) × (0 < length bytes) × (len
 abbrev pub IsText : List ℕ → Type 0
 IsText word = (0 < length word) × (length word ≤ 255) × (list_all is_ascii_graphic word ≡ true)
 
--- a text that doesn't begin with `#`; or behind a `#` a number that stands as it is and is a word
+-- a text that doesn't begin with `#`; or after a `#` a number that stands as it is and is a word
 abbrev pub IsLabel : List ℕ → files.Label → Type 0
 IsLabel word (files.Label.Text text) = (text ≡ word) × IsText word × (slice_index word 0 ≢ 35)
 IsLabel word (files.Label.Number n) = (digits : List ℕ) × (word ≡ 35 ∷ digits) × IsLiteral digits n × (n < 2 ^ 16)
@@ -232,7 +232,7 @@ AreArguments registers words parameters arguments = ⊥
 
 -- Lines.
 
--- the register before a command, `rN =`, if there is one, and the words behind it
+-- the register before a command, `rN =`, if there is one, and the words after it
 abbrev pub GoesTo : List (List ℕ) → Option ℕ → List (List ℕ) → Type 0
 GoesTo words None rest = words ≡ rest
 GoesTo words (Some r) rest = (word : List ℕ) × IsRegister word r × (words ≡ word ∷ codes "=" ∷ rest)
@@ -243,7 +243,7 @@ pub record Makes (registers : List ℕ) (name : Name) (words : List (List ℕ)) 
   pub right : AreArguments registers words (parameters_of name) arguments
   pub is : command ≡ command_with name arguments
 
--- the words are a register, if there is one, and behind it a command's name and its arguments
+-- the words are a register, if there is one, and after it a command's name and its arguments
 pub record Spells (registers : List ℕ) (words : List (List ℕ)) (target : Option ℕ) (command : Command) : Type 0 where
   pub name : Name
   pub rest : List (List ℕ)

@@ -25,7 +25,7 @@ PrintsLine (Said.Says target command) (event ∷ []) output = (event.command ≡
 PrintsLine said events output = ⊥
 
 -- What lines print, where the events are their commands in order. The registers are old before the lines and new
--- behind them, and each line is read with those that the replies before it left.
+-- after them, and each line is read with those that the replies before it left.
 abbrev pub Prints : List ℕ → List (List ℕ) → List Event → List ℕ → List ℕ → Type 0
 Prints old [] events output new = (events ≡ []) × (output ≡ []) × (new ≡ old)
 Prints old (line ∷ lines) events output new =

@@ -32,7 +32,7 @@ abbrev pub digits_behind : List ℕ → List ℕ
 digits_behind [] = []
 digits_behind (byte ∷ bytes) = 32 ∷ encode_lower (byte ∷ bytes)
 
--- a reply without the end of its line: a word in four digits, a double word in eight; `end` behind the lines of a walk
+-- a reply without the end of its line: a word in four digits, a double word in eight; `end` after the lines of a walk
 abbrev pub body_of : replies.Reply → List ℕ
 body_of (replies.Reply.Word n) = encode_lower (to_be_bytes w16 n)
 body_of (replies.Reply.Dword n) = encode_lower (to_be_bytes w32 n)
@@ -66,7 +66,7 @@ owner_text None = codes "free"
 abbrev pub item_text : Item → List ℕ
 item_text item = encode_lower (to_be_bytes w32 item.at) ++ codes " " ++ encode_lower (to_be_bytes w32 item.size) ++ codes " " ++ owner_text item.owner ++ 10 ∷ []
 
--- behind the last item
+-- after the last item
 abbrev pub end_text : List ℕ
 end_text = codes "end" ++ 10 ∷ []
 

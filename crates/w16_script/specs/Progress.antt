@@ -15,14 +15,14 @@ fresh = record { line = []; lines = 0; replies = 0 }
 abbrev pub with_bytes : Progress → List ℕ → Progress
 with_bytes here bytes = record { line = here.line ++ bytes; lines = here.lines; replies = here.replies }
 
--- no limit is passed: at most 1,000,000 lines ended and nothing stands behind the millionth, and the unfinished line has at most 4,096 bytes
+-- no limit is passed: at most 1,000,000 lines ended and nothing stands after the millionth, and the unfinished line has at most 4,096 bytes
 pub record IsWithinLimits (here : Progress) : Type 0 where
   pub replies : here.replies ≤ here.lines
   pub lines : here.lines ≤ 1000000
   pub last : 0 < length here.line → here.lines < 1000000
   pub short : length here.line ≤ 4096
 
--- this byte passes a limit: it stands behind the millionth line, or a line goes on with it that has its 4,096 bytes
+-- this byte passes a limit: it stands after the millionth line, or a line goes on with it that has its 4,096 bytes
 abbrev pub IsOver : Progress → ℕ → Type 0
 IsOver here byte = (here.lines ≡ 1000000) ⊎ ((length here.line ≡ 4096) × (byte ≢ 10))
 

@@ -19,11 +19,11 @@ IsRaw line = HasNoLf line × (length line ≤ 4096)
 abbrev pub without_cr : List ℕ → List ℕ
 without_cr line = strip_last 13 line
 
--- what stands behind the last LF is a line too, if there is something
+-- what stands after the last LF is a line too, if there is something
 abbrev pub last_of : List ℕ → List (List ℕ)
 last_of [] = []
 last_of (byte ∷ rest) = (byte ∷ rest) ∷ []
 
--- the lines, where these stand before LFs, and the rest behind the last
+-- the lines, where these stand before LFs, and the rest after the last
 abbrev pub lines_of : List (List ℕ) → List ℕ → List (List ℕ)
 lines_of raw rest = map without_cr raw ++ last_of rest

@@ -24,7 +24,7 @@ pub enum Parameter {
     Byte,
     Bytes,
     Text,
-    /// A text, or behind a `#` a number.
+    /// A text, or after a `#` a number.
     Label,
 }
 
@@ -124,7 +124,7 @@ impl<'a> Value<'a> for Label<'a> {
     }
 }
 
-/// The value that the next word is, and what stands behind it.
+/// The value that the next word is, and what stands after it.
 #[tactic(auto, using(crate::proofs::ArgumentLemmas::no_value))]
 fn split_value<'a, V: Value<'a>>(text: &'a [u8], registers: &Registers) -> Option<(V, &'a [u8])>
     ensures found { IfSome result (λ read. (word : List ℕ) × (words_of text.now ≡ word ∷ words_of read.1.now) × IsArgument registers.now word V.parameter (V.argument read.0)) }

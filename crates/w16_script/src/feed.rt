@@ -97,7 +97,7 @@ impl Unfinished {
     }
 }
 
-/// The line up to the first LF, and what stands behind it.
+/// The line up to the first LF, and what stands after it.
 fn split_line(text: &[u8]) -> Option<(&[u8], &[u8])>
     ensures some { IfSome result (λ split. text.now ≡ ended split.0.now ++ split.1.now) }
     ensures one_line { IfSome result (λ split. HasNoLf split.0.now) }

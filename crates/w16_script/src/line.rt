@@ -26,7 +26,7 @@ pub enum Line<'a> {
     Command { target: Option<u8>, call: Call<'a> },
 }
 
-/// The register before a command, `rN =`, and what stands behind it.
+/// The register before a command, `rN =`, and what stands after it.
 fn split_target<'a>(word: &[u8], text: &'a [u8]) -> Option<(u8, &'a [u8])>
     ensures found { IfSome result (λ split. GoesTo (word.now ∷ words_of text.now) (Some split.0) (words_of split.1.now)) }
     ensures small { IfSome result (λ split. split.0 < 100) }
@@ -216,7 +216,7 @@ fn call<'a>(
     }
 }
 
-/// The register before a command, if there is one, the command's name, and what stands behind it.
+/// The register before a command, if there is one, the command's name, and what stands after it.
 fn head<'a>(word: &[u8], text: &'a [u8]) -> Option<(Option<u8>, Name, &'a [u8])>
     ensures found { IfSome result (λ head. GoesTo (word.now ∷ words_of text.now) head.0 (text_of head.1 ∷ words_of head.2.now)) }
     ensures small { IfSome result (λ head. IfSome head.0 (λ r. r < 100)) }

@@ -63,7 +63,7 @@ fn sum(value: u32, tail: &[u8]) -> Option<u32>
     value.checked_add(more)
 }
 
-/// The number that a register's value makes with this behind the register's name.
+/// The number that a register's value makes with this after the register's name.
 fn form(value: u32, suffix: &[u8]) -> Option<u32>
     ensures found { IfSome result (λ n. IsForm value suffix.now n) }
     ensures none { IfNone result ((n : ℕ) → n < 2 ^ 32 → IsForm value suffix.now n → ⊥) }

@@ -13,7 +13,7 @@ pub enum RunFault {
     /// The host has no memory: for the buffer that a run needs at its start, and nothing was read; or for the local heap of a `LocalInit`,
     /// a `Builtin`, or a load, whose line wasn't run. The replies of all earlier lines were written.
     Memory,
-    /// A line has more than 4,096 bytes before its LF, or a byte stands behind the millionth line end. All
+    /// A line has more than 4,096 bytes before its LF, or a byte stands after the millionth line end. All
     /// lines that ended before were run, and their replies were written.
     TooLong,
 }

@@ -141,7 +141,7 @@ fn failure_line(fault: FetchFault) -> &'static [u8]
     }
 }
 
-/// Prints a reply as one line; for a walk that is the line behind its items. It fails where the writer failed or took nothing, after a front of the line.
+/// Prints a reply as one line; for a walk that is the line after its items. It fails where the writer failed or took nothing, after a front of the line.
 /// The room is for its text, so that the writer gets it at once.
 pub fn write_reply<W: Write>(
     writer: &mut W,
@@ -162,7 +162,7 @@ pub fn write_reply<W: Write>(
     }
 }
 
-/// Prints the line behind the items of a walk. It fails as `print_reply` does.
+/// Prints the line after the items of a walk. It fails as `print_reply` does.
 pub fn print_end<W: Write>(writer: &mut W) -> Result<(), ErrorKind>
     ensures ok { OnOk result (Appends (W.contents writer.old) (W.contents writer.new) end_text) }
     ensures err { OnErr result (AppendsFront (W.contents writer.old) (W.contents writer.new) end_text) }
@@ -178,7 +178,7 @@ pub fn write_error<W: Write>(writer: &mut W) -> Result<(), ErrorKind>
     write_whole(writer, b"error syntax\n")
 }
 
-/// Prints a reply as one line; for a walk that is the line behind its items. It fails where the writer failed or took nothing, after a front of the line.
+/// Prints a reply as one line; for a walk that is the line after its items. It fails where the writer failed or took nothing, after a front of the line.
 pub fn print_reply<W: Write>(writer: &mut W, reply: &Reply<'_>) -> io::Result<()>
     ensures ok { OnOk result (Appends (W.contents writer.old) (W.contents writer.new) (reply_text (reply_of reply.now))) }
     ensures err { OnErr result (AppendsFront (W.contents writer.old) (W.contents writer.new) (reply_text (reply_of reply.now))) }

@@ -62,7 +62,7 @@ impl Registers {
     }
 }
 
-/// The digit that the text begins with, and what stands behind it.
+/// The digit that the text begins with, and what stands after it.
 fn split_digit(text: &[u8]) -> Option<(u8, &[u8])>
     ensures found { IfSome result (λ split. (split.0 < 10) × (text.now ≡ (48 + split.0) ∷ split.1.now)) }
     ensures none { IfNone result (is_digit 10 (slice_index text.now 0) ≡ false) }
@@ -73,7 +73,7 @@ fn split_digit(text: &[u8]) -> Option<(u8, &[u8])>
     }
 }
 
-/// The register that the text begins with, and what stands behind its name, which is no digit.
+/// The register that the text begins with, and what stands after its name, which is no digit.
 pub fn split_register(text: &[u8]) -> Option<(u8, &[u8])>
     ensures found { IfSome result (λ split. BeginsWith text.now split.0 split.1.now) }
     ensures small { IfSome result (λ split. split.0 < 100) }

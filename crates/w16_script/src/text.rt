@@ -38,7 +38,7 @@ pub fn text(word: &[u8]) -> Option<&[u8]>
     if is_text(word) { Some(word) } else { None }
 }
 
-/// The number that stands behind a `#`.
+/// The number that stands after a `#`.
 fn number_behind(digits: &[u8]) -> Option<u16>
     ensures found { IfSome result (λ n. IsLiteral digits.now n) }
     ensures none { IfNone result ((n : ℕ) → IsLiteral digits.now n → n < 2 ^ 16 → ⊥) }
@@ -51,7 +51,7 @@ fn number_behind(digits: &[u8]) -> Option<u16>
     }
 }
 
-/// The label that a word is: behind a `#` a number, else a text.
+/// The label that a word is: after a `#` a number, else a text.
 pub fn label(word: &[u8]) -> Option<Label<'_>>
     ensures found { IfSome result (λ label. IsLabel word.now (label_of label)) }
     ensures none { IfNone result ((label : files.Label) → IsLabel word.now label → ⊥) }

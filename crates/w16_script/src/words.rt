@@ -53,7 +53,7 @@ fn blank_among(text: &[u8], at: usize) -> usize
     lowest_bit(blanks.to_bitmask())
 }
 
-/// Where the first blank stands from a place on, found byte by byte: behind the last byte, where there is none.
+/// Where the first blank stands from a place on, found byte by byte: after the last byte, where there is none.
 fn blank_from(text: &[u8], from: usize) -> usize
     requires { from ≤ length text.now }
     ensures within { (from ≤ result) × (result ≤ length text.now) }
@@ -68,7 +68,7 @@ fn blank_from(text: &[u8], from: usize) -> usize
     text.len()
 }
 
-/// How many bytes come before the first blank. Sixteen bytes are compared at once, as long as there are so many.
+/// How many bytes come before the first blank. Sixteen bytes are compared at once, as long as there are that many.
 fn word_length(text: &[u8]) -> usize
     ensures within { result ≤ length text.now }
     ensures before { (k : ℕ) → k < result → is_blank (slice_index text.now k) ≡ false }
@@ -85,7 +85,7 @@ fn word_length(text: &[u8]) -> usize
     blank_from(text, at)
 }
 
-/// The first word and what stands behind it. There is none only where there are but blanks.
+/// The first word and what stands after it. There is none only where there are but blanks.
 #[tactic(auto, using(crate::proofs::WordsLemmas::words_of_split))]
 pub fn split_word(text: &[u8]) -> Option<(&[u8], &[u8])>
     ensures some { IfSome result (λ split. words_of text.now ≡ split.0.now ∷ words_of split.1.now) }

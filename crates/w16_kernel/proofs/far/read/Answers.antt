@@ -1,4 +1,4 @@
--- An access is made once, or is ended by what it met, or is made again behind a fetch.
+-- An access is made once, or is ended by what it met, or is made again after a fetch.
 use Rattle.w16_kernel.proofs.Common.{refl, ap, subst, length, FarAnswer, FarReplies, Global, Read, offset_in, reply_of, world_of}
 use Rattle.w16_model.specs.Far as far
 use Rattle.w16_model.specs.Handles.{Gives}

@@ -1,4 +1,4 @@
--- An access is made once, or is ended by what it met, or is made again behind a fetch.
+-- An access is made once, or is ended by what it met, or is made again after a fetch.
 use Rattle.w16_kernel.proofs.Common.{ap, sym, ◌∙◌, subst, FarReplies, Global, reply_of, world_of, write_of}
 use Rattle.w16_kernel.proofs.Absent.{met_absent}
 use Rattle.w16_kernel.proofs.FarSteps.{answered, ended_by, not_fault, remade_by, selector_of_write}

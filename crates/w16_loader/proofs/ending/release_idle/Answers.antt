@@ -1,4 +1,4 @@
--- One went, and what goes from there on goes behind it.
+-- One went, and what goes from there on goes after it.
 use Rattle.w16_loader.proofs.Common.{◌∙◌, with_handles, in_world}
 use Rattle.w16_loader.proofs.Endings.{goes_first}
 use Rattle.w16_loader.proofs.ending.release_idle.Goals as goal

@@ -1,4 +1,4 @@
--- What goes from here on, behind what went, goes from the start; and each time a module less is left.
+-- What goes from here on, after what went, goes from the start; and each time a module less is left.
 use Rattle.w16_loader.proofs.Common.{◌≡◌, ℕ, List, LoadingWorld, with_handles, Go, in_world}
 use Rattle.std.specs.FinMap as finmap
 use Rattle.w16_loader.proofs.ending.release_idle.Given as goal

@@ -12,7 +12,7 @@ zero_at k i = elim (cases_lt i k) [
     length_zeros : (k : ℕ) → length (replicate {A = ℕ} k 0) ≡ k
     length_zeros k = length-replicate k 0
 
--- bytes over which a whole list was put, and zeros behind it
+-- bytes over which a whole list was put, and zeros after it
 placed : (source b s z : List ℕ) (n m : ℕ) → n ≡ length source → s ≡ take n source → z ≡ replicate m 0 → (o : ℕ)
     → get_or (put_mid n (length (s ++ drop n b) - n) (s ++ drop n b) z) o 0 ≡ get_or source o 0
 placed source b s z n m e is zeros o =

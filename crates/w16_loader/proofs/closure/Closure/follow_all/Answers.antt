@@ -1,4 +1,4 @@
--- Each module leads on, and behind the last place none is left.
+-- Each module leads on, and after the last place none is left.
 use Rattle.w16_loader.proofs.Common.{◌+◌, ◌≤◌, ◌∙◌, refl, arith, MOST_MODULES, free_modules, ne_format, around_in, reached, reached_of}
 use Rattle.w16_loader.proofs.Steps.{leads_nowhere}
 use Rattle.w16_loader.proofs.Followings.{all_done, leads_through, refused_through, few_free}

@@ -1,4 +1,4 @@
--- Behind the list there is no load.
+-- After the list there is no load.
 use Rattle.w16_resource.proofs.Common.{arith}
 use Rattle.w16_resource.proofs.Listed.{none_behind}
 use Rattle.w16_resource.proofs.resources.Resources.end.Goals as goal
