@@ -88,11 +88,13 @@ IsUsedOnce None now = (m : Module) × (now ≡ Some (Loaded m)) × (m.uses ≡ 1
 IsUsedOnce (Some (Loaded m)) now = now ≡ Some (Loaded (record m { uses = m.uses + 1 }))
 IsUsedOnce (Some (BuiltIn name)) now = now ≡ Some (BuiltIn name)
 
--- LoadModule and LoadLibrary, over any store, answered with a handle: it is in use; and of each new module each segment has bytes that is fixed, or
--- preload and not discardable. A discardable one may have lost them to the next.
+-- LoadModule and LoadLibrary, over any store, answered with a handle: it is in use; and each fixed or preload segment of each new module has bytes,
+-- or it is discardable and has lost them to a later one, for which all that was there and may be discarded has gone before it.
 abbrev pub LoadLaw : Type 0
 LoadLaw = (old new : LoadingWorld) (command : ModuleCommand) (file : List ℕ) (answer : ℕ) → IsLoadingWorld old → (command ≡ LoadModule file) ⊎ (command ≡ LoadLibrary file) → FIRST_MODULE ≤ answer
     → AnyStep old (OfModules command) (Word answer) new
     → IsUsedOnce (finmap.get old.modules answer) (finmap.get new.modules answer)
     × ((handle i slot : ℕ) (m : Module) (s : Segment) → finmap.get old.modules handle ≡ None → finmap.get new.modules handle ≡ Some (Loaded m)
-    → slice_get m.tables.segments i ≡ Some s → slice_get m.slots i ≡ Some slot → (s.kind ≡ Fixed) ⊎ ((s.is_preload ≡ true) × (s.kind ≢ Discardable)) → is_some (bytes_at new.handles.heap slot) ≡ true)
+    → slice_get m.tables.segments i ≡ Some s → slice_get m.slots i ≡ Some slot → (s.kind ≡ Fixed) ⊎ (s.is_preload ≡ true)
+    → (is_some (bytes_at new.handles.heap slot) ≡ true)
+    ⊎ ((s.kind ≡ Discardable) × ((q : ℕ) → IsSomeAnd (object_at old.handles.heap q) (λ o. (o.kind ≡ Discardable) × (o.locks ≡ 0)) → bytes_at new.handles.heap q ≡ None)))
