@@ -1,7 +1,7 @@
 -- A discardable segment that a load filled loses its bytes to a later one only after all that was there before and may be discarded.
 use Rattle.w16_loading.proofs.Common.{◌≡◌, ◌≢◌, ℕ, zero, suc, inl, inr, ◌⊎◌, ◌==◌, ◌&&◌, ◌||◌, Bool, true, false, cond, not, nat_lt, List, [], ◌∷◌, ◌++◌, fold, filter, take, Option, Some, None, IsSomeAnd, is_some, refl, sym, ap, ◌∙◌, subst, eqb-true, eq-eqb, ne_eqb}
-use Rattle.w16_loading.proofs.Common.{IsTrue, and_parts, false≢true, cases_Bool, cases_eq, Discardable, Heap, Object, IsHeap, object_at, bytes_at, bytes_in, absent, blocks, discarded, eligible, is_in_order, is_member, is_pinned_object, is_fixed, with_newest, stays_for, with_ordered, Settles, revival_options}
-use Rattle.w16_loading.proofs.Common.{KeepsOthers, Member, IsBlockOf, member_filter, filter_member, is_member-true, true-is_member, Filling, Failure, Fills, InTurn, GivesAny, is_of_read, Block}
+use Rattle.w16_loading.proofs.Common.{IsTrue, and_parts, false≢true, cases_Bool, cases_eq, Discardable, Heap, Object, IsHeap, object_at, bytes_at, bytes_in, absent, blocks, discarded, eligible, is_in_order, is_member, is_pinned_object, is_fixed, with_newest}
+use Rattle.w16_loading.proofs.Common.{stays_for, with_ordered, Settles, revival_options, KeepsOthers, Member, IsBlockOf, member_filter, filter_member, is_member-true, true-is_member, Filling, Failure, Fills, InTurn, GivesAny, is_of_read, Block}
 use Rattle.std.specs.List.{list_any}
 use Rattle.w16_model.specs.Discards.{is_about, is_pinned_id}
 use Rattle.w16_model.specs.Gap.{is_pinned, holds_still}
