@@ -39,8 +39,8 @@ impl<H: HoleList> Arena<H> {
     }
 
     /// The least end, of at most [`LAST_END`] and not below the present one, at which a request of `size` bytes for an id would be answered: an
-    /// allocation where it has no bytes, and else a reallocation. It would be answered at every later end too. None where no such end serves.
-    /// It takes one pass over the blocks, and changes nothing.
+    /// allocation where it has no bytes, and else a reallocation. It would be answered at every later end too. It is a multiple of the grain where
+    /// the present end and the size are. None where no such end serves. It takes one pass over the blocks, and changes nothing.
     pub fn least_end<S: Space>(
         &self,
         space: &S,
@@ -54,6 +54,7 @@ impl<H: HoleList> Arena<H> {
         requires memory { HasRange H.are_in (holes_in self.now.table) self.now.table.hi (S.bytes space.now) }
         ensures least { IfSome result (λ end. (end ≤ LAST_END) × IsLeastEnd (heap_in self.now.table (S.bytes space.now)) id size options end) }
         ensures none { IfNone result (HasNoEnd LAST_END (heap_in self.now.table (S.bytes space.now)) id size options) }
+        ensures grained { IsMultiple self.now.table.grain self.now.table.hi → IsMultiple self.now.table.grain size → IfSome result (IsMultiple self.now.table.grain) }
     {
         let stretch = match self.block(id) {
             None => stretch_for(&self.blocks, space, &self.order, Some(id), options),
@@ -74,7 +75,8 @@ fn growth_stretch<S: Space, H: Holes<S>>(
     requires id { block.id < blocks.now.cap }
     requires known { block_with blocks.now.blocks block.id ≡ Some block }
     requires kept { H.are_in (holes_of blocks.now) (S.bytes space.now) }
-    ensures { (end n : ℕ) → blocks.now.hi ≤ end → let s = snapshot blocks.now.lo end blocks.now.blocks order.now.ids in
+    ensures grained { IfSome result.last (IsMultiple blocks.now.grain) }
+    ensures value { (end n : ℕ) → blocks.now.hi ≤ end → let s = snapshot blocks.now.lo end blocks.now.blocks order.now.ids in
         nat_le n (stretch_at result end) ≡ (nat_le n block.size || (if holds_still block.hold && not options.may_move then fits_in_place s n block.id else is_some (growth_for s n block.id options))) }
 {
     let behind = stretch_behind(blocks, space, block);
@@ -108,6 +110,7 @@ fn stretch_behind<S: Space, H: Holes<S>>(blocks: &Blocks<H>, space: &S, block: B
     requires known { block_with blocks.now.blocks block.id ≡ Some block }
     requires kept { H.are_in (holes_of blocks.now) (S.bytes space.now) }
     ensures value { (end : ℕ) → blocks.now.hi ≤ end → stretch_at result end ≡ block.size + hole_after end blocks.now.blocks (block_end block) }
+    ensures grained { IfSome result.last (IsMultiple blocks.now.grain) }
     ensures ordered { IsOrdered blocks.now }
 {
     blocks.bounds();
@@ -124,7 +127,8 @@ fn stretch_behind<S: Space, H: Holes<S>>(blocks: &Blocks<H>, space: &S, block: B
 
 /// As many bytes as one stretch or the other has.
 fn longer(one: Stretch, other: Stretch) -> Stretch
-    ensures { (end : ℕ) → stretch_at result end ≡ max (stretch_at one end) (stretch_at other end) }
+    ensures value { (end : ℕ) → stretch_at result end ≡ max (stretch_at one end) (stretch_at other end) }
+    ensures grained { (grain : ℕ) → IfSome one.last (IsMultiple grain) → IfSome other.last (IsMultiple grain) → IfSome result.last (IsMultiple grain) }
 {
     let last = match (one.last, other.last) {
         (Some(p), Some(q)) => Some(p.min(q)),
@@ -144,6 +148,7 @@ fn end_for(stretch: Stretch, hi: u32, n: u32) -> Option<u32>
     ensures enough { IfSome result (λ end. (e : ℕ) → end ≤ e → nat_le n (stretch_at stretch e) ≡ true) }
     ensures least { IfSome result (λ end. (e : ℕ) → hi ≤ e → e < end → nat_le n (stretch_at stretch e) ≡ false) }
     ensures none { IfNone result ((e : ℕ) → hi ≤ e → e ≤ LAST_END → nat_le n (stretch_at stretch e) ≡ false) }
+    ensures grained { (grain : ℕ) → IsMultiple grain hi → IsMultiple grain n → IfSome stretch.last (IsMultiple grain) → IfSome result (IsMultiple grain) }
 {
     let end = if n <= stretch.most {
         hi

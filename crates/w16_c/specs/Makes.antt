@@ -1,5 +1,5 @@
 -- What a call on a holder leaves, and the status that it answers.
-use Rattle.std.specs.Prelude.{◌≡◌, ℕ, ◌⊎◌, true, false, List}
+use Rattle.std.specs.Prelude.{◌≡◌, ℕ, ◌⊎◌, true, false, List, [], ◌∷◌}
 use Rattle.w16_model.specs.declared.FarFault.{FarFault}
 use Rattle.w16_model.specs.declared.FarFault.TheVariants as fault
 use Rattle.w16_loading.specs.declared.FetchFault.{FetchFault}
@@ -7,7 +7,7 @@ use Rattle.w16_loading.specs.declared.FetchFault.TheVariants as fetch
 use Rattle.w16_loading.specs.Replies.{Reply}
 use Rattle.w16_loading.specs.Replies.Reply.{Word, Dword, Bytes, Done, Fault, Failed}
 use Rattle.w16_machine.specs.Machine.{Command, IsSame}
-use Rattle.w16_machine.specs.Fewest.{IsFewest}
+use Rattle.w16_writes.specs.Promises.{Promises}
 use Rattle.w16_kernel.specs.Parts.{KernelStep}
 use Rattle.w16_kernel.specs.Runs.{TakesMemory}
 use Rattle.w16_c.specs.declared.held.Held.{Held}
@@ -15,12 +15,12 @@ use Rattle.w16_c.specs.declared.asked.Refusal.{Refusal}
 use Rattle.w16_c.specs.declared.asked.Refusal.TheVariants.{NoMachine, NoMemory}
 use Rattle.w16_c.specs.declared.status.TheConstants.{DONE, NO_MACHINE, NO_MEMORY, BAD_SIZE, FAULT_SELECTOR, FAULT_READ_ONLY, FAULT_NOT_PRESENT, FAULT_LIMIT, FAULT_ROOM, FAULT_STORE, FAULT_DAMAGED}
 
--- The command is a step of the machine that is held, and discards as few objects as it can.
+-- The command is a step of the machine that is held, and a run of this one step keeps what every run promises.
 pub record Makes (old : Held) (command : Command) (reply : Reply) (new : Held) : Type 0 where
   pub was : old.is_held ≡ true
   pub is : new.is_held ≡ true
   pub step : KernelStep (Unit {0}) old.world command reply new.world
-  pub fewest : IsFewest old.world (record { command = command; reply = reply; after = new.world })
+  pub promises : Promises old.world (record { command = command; reply = reply; after = new.world } ∷ [])
 
 -- There was no machine, and there is none.
 abbrev pub IsEmpty : Held → Held → Type 0

@@ -2,6 +2,7 @@
 use std::alloc::{AllocError, Global};
 use std::test::Fail;
 use w16_kernel::{Call, Kernel, MOST_READ, Reply};
+use w16_play::files::file_of;
 use w16_play::held::HeldKernel;
 use w16_store::MemStore;
 
@@ -33,5 +34,13 @@ fn load_anew(alloc: Global, file: &[u8]) -> Result<Option<u16>, AllocError> {
 fn refuses_a_text(rt: HostRuntime) -> Result<(), Fail> {
     let number = load_anew(rt.alloc(), b"no module")?;
     assert!(rt; number == Some(11));
+    Ok(())
+}
+
+#[test]
+fn loads_a_library(rt: HostRuntime) -> Result<(), Fail> {
+    let file = file_of(rt.alloc(), "TLIB.DLL")?;
+    let number = load_anew(rt.alloc(), file.bytes.as_slice())?;
+    assert!(rt; number == Some(0x21));
     Ok(())
 }

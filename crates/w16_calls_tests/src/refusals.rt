@@ -1,10 +1,12 @@
-//! Want of memory: each growth of each constructor is refused in turn.
+//! Want of memory: each growth of each constructor, and of calls one after another, is refused in turn.
+ghost use Rattle.std.specs.Prelude.{All};
+ghost use Rattle.w16_kernel.specs.Runs.{IsCall};
 
 use std::alloc::{AllocError, Global};
 use std::test::Fail;
 use w16_fuse::{Fuse, growths};
 use w16_global::Global16;
-use w16_kernel::Kernel;
+use w16_kernel::{Call, Kernel};
 use w16_local::LocalHeaps;
 use w16_play::held::{HeldGlobal, HeldKernel, HeldLocals};
 use w16_store::MemStore;
@@ -15,14 +17,17 @@ enum Machine {
     GlobalHeap,
     LocalHeaps,
     Kernel,
+    Calls,
 }
 
 /// Each, and how many growths it takes: a global heap its attributes, two of selectors, its memory, one of holes and nine of an arena;
-/// local heaps two lists; a kernel both, a table of modules, one of loads of resources, and four lists of a segment's room.
+/// local heaps two lists; a kernel both, a table of modules, one of loads of resources, and four lists of a segment's room; three calls the list of
+/// their answers, a built-in, and a local heap.
 static MACHINES: &[(Machine, u64)] = &[
     (Machine::GlobalHeap, 14),
     (Machine::LocalHeaps, 2),
     (Machine::Kernel, 22),
+    (Machine::Calls, 36),
 ];
 
 /// Makes a global heap, and it goes.
@@ -46,17 +51,44 @@ fn make_kernel(fuse: &Fuse<Global>, alloc: Global) -> Result<(), AllocError> {
     Ok(())
 }
 
+/// Calls that take memory, and one that takes none.
+fn calls() -> [Call<'static>; 3]
+    ensures { All IsCall result }
+{
+    [
+        Call::GlobalAlloc {
+            flags: 0x42,
+            size: 4096,
+        },
+        Call::Builtin { name: b"KERNEL" },
+        Call::LocalInit {
+            selector: 0x107,
+            start: 4,
+            end: 4096,
+        },
+    ]
+}
+
+/// Makes a kernel, makes the calls, and the kernel goes.
+fn make_calls(fuse: &Fuse<Global>, alloc: Global) -> Result<(), AllocError> {
+    let kernel = Kernel::new(fuse, 4096, 16, MemStore::new(alloc))?;
+    let mut held = HeldKernel { kernel };
+    let _answers = held.kernel.run_calls(&calls())?;
+    Ok(())
+}
+
 /// Whether it is made. It goes at once.
 fn is_made(fuse: &Fuse<Global>, alloc: Global, machine: Machine) -> bool {
     match machine {
         Machine::GlobalHeap => make_global_heap(fuse).is_ok(),
         Machine::LocalHeaps => make_local_heaps(fuse).is_ok(),
         Machine::Kernel => make_kernel(fuse, alloc).is_ok(),
+        Machine::Calls => make_calls(fuse, alloc).is_ok(),
     }
 }
 
 #[test]
-fn constructors_fail_where_a_growth_is_refused(rt: HostRuntime) -> Result<(), Fail> {
+fn each_growth_is_refused(rt: HostRuntime) -> Result<(), Fail> {
     let fuse = Fuse::new(rt.alloc());
     for (machine, wanted) in MACHINES {
         let taken = growths(&fuse, |fuse| is_made(fuse, rt.alloc(), *machine));

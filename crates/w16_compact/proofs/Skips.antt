@@ -1,10 +1,25 @@
 -- One pass over the counted blocks.
-use Rattle.w16_compact.proofs.Common.{◌≡◌, ℕ, ◌+◌, ◌-◌, ◌^◌, ◌<◌, ◌≤◌, zero, suc, max, Bool, true, false, cond, filter, List, [], ◌∷◌, drop, sym, ap, ◌∙◌, subst, arith, add-one, AllByRecursion, cond-true, cond-false, Block, IsLaid, room, is_pinned, block_end, AreNamed, IsLaid-from, laid_le, Reached}
+use Rattle.w16_compact.proofs.Common.{◌≡◌, ℕ, ◌+◌, ◌-◌, ◌^◌, ◌<◌, ◌≤◌, zero, suc, max, Bool, true, false, cond, filter, List, [], ◌∷◌, drop, sym, ap, ◌∙◌, subst, arith, add-one, AllByRecursion}
+use Rattle.w16_compact.proofs.Common.{cond-true, cond-false, Block, IsLaid, room, is_pinned, block_end, AreNamed, IsLaid-from, laid_le, Reached, IsGrained, IsMultiple, multiple_sum}
 use Rattle.w16_compact.proofs.OnePass.{scan, scan-room}
 
 -- the pass with one more block
 abbrev pub passed : Reached → Block → Reached
 passed r x = cond (is_pinned x) (record { low = block_end x; loose = 0 }) (record { low = r.low; loose = r.loose + x.size })
+
+-- what it has reached stays a multiple of the grain
+abbrev pub IsReachedGrained : ℕ → Reached → Type 0
+IsReachedGrained g r = IsMultiple g r.low × IsMultiple g r.loose
+
+pub no_grain : (g : ℕ) → IsMultiple g 0
+no_grain g = (0, omega arith)
+
+pub passed_grained : (g : ℕ) (r next : Reached) (x : Block) → IsGrained g x → IsReachedGrained g r → next ≡ passed r x → IsReachedGrained g next
+passed_grained g r next x fits reached is = subst (IsReachedGrained g) (sym is) (turn (is_pinned x))
+  where
+    turn : (b : Bool) → IsReachedGrained g (cond b (record { low = block_end x; loose = 0 }) (record { low = r.low; loose = r.loose + x.size }))
+    turn true = (multiple_sum g x.at x.size fits.0 fits.1, no_grain g)
+    turn false = (reached.0, multiple_sum g r.loose x.size reached.1 fits.1)
 
 -- what is behind the i-th
 pub rest_after : {A : Type 0} (xs : List A) (i : ℕ) (x : A) (rest : List A) → drop i xs ≡ x ∷ rest → drop (suc i) xs ≡ rest

@@ -1,6 +1,7 @@
 //! How many bytes a request can have in a row, by where the range ends.
-ghost use Rattle.std.specs.Prelude.{◌≡◌, ℕ, ◌<◌, ◌≤◌, ◌&&◌, ◌||◌, not, nat_le, is_some};
+ghost use Rattle.std.specs.Prelude.{◌≡◌, ℕ, ◌<◌, ◌≤◌, ◌&&◌, ◌||◌, not, nat_le, is_some, IfSome};
 ghost use Rattle.w16_model.specs.Gap.{is_pinned};
+ghost use Rattle.w16_model.specs.Heap.{IsMultiple};
 ghost use Rattle.w16_model.specs.Discards.{is_about, is_member, is_pinned_id, prefix_for, snapshot};
 ghost use Rattle.w16_blocks.specs.Layout.{IsOrdered, holes_of};
 ghost use Rattle.w16_compact.specs.Stretch.{stretch_at};
@@ -18,12 +19,13 @@ use w16_region::Space;
 pub struct Stretch {
     /// At least as many, at the present end and at each later one.
     pub most: u32,
-    /// And as many as lie between this place and a later end; none where a later end gives no more.
+    /// And as many as lie between this place, a multiple of the grain, and a later end; none where a later end gives no more.
     pub last: Option<u32>,
 }
 
 /// As many as a request about `h` can have in a range of these blocks: for every end from the present one on, so many bytes are had just
-/// where some number of discards makes room for them. It takes one pass over the blocks.
+/// where some number of discards makes room for them. The place from which a later end counts is a multiple of the grain. It takes one pass over
+/// the blocks.
 pub fn stretch_for<S: Space, H: Holes<S>>(
     blocks: &Blocks<H>,
     space: &S,
@@ -34,6 +36,7 @@ pub fn stretch_for<S: Space, H: Holes<S>>(
     requires { H.are_in (holes_of blocks.now) (S.bytes space.now) }
     ensures value { (end n : ℕ) → blocks.now.hi ≤ end → nat_le n (stretch_at result end)
         ≡ is_some (prefix_for (snapshot blocks.now.lo end blocks.now.blocks order.now.ids) n h options) }
+    ensures grained { IfSome result.last (IsMultiple blocks.now.grain) }
     ensures ordered { IsOrdered blocks.now }
 {
     let bounds = blocks.bounds();

@@ -1,4 +1,4 @@
-//! Tests of the heap's model, and of constructors of the layers that place, slide and discard: calls on these are tried by rows of scripts, in `w16_calls_tests`. They stand in a crate of their own, so that what they test is proved once.
+//! Tests of the heap's model, and of constructors of the layers that place, slide and discard: calls on these are tried by rows of scripts, in `w16rows`. They stand in a crate of their own, so that what they test is proved once.
 #![tactic(auto)]
 
 macro_rules! loose {

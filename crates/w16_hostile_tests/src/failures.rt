@@ -142,7 +142,7 @@ Read 0x010f0000 2 -> bytes 0102",
     (
         "TLIB.DLL len=200",
         "\
-Read 0x01070000 0 -> fault damaged
+Read 0x01070000 16 -> fault damaged
 Read 0x010f0000 2 -> fault damaged
 Walk -> 00000000 00001000 free / end",
     ),

@@ -34,23 +34,22 @@ pub use Rattle.w16_loading.specs.Owner.{Owner, owner_of}
 pub use Rattle.w16_loading.specs.Release.{without_objects}
 pub use Rattle.w16_local.proofs.Beginning.{on_any}
 pub use Rattle.w16_local.proofs.Common.{with_parts}
-pub use Rattle.w16_machine.proofs.Common.{Accesses, AnyStep, AreFewest, AreHandles, Bool, Command, Discardable, Dword, Event, Failed, FarAnswer, FarCommand, FarFault, FarReplies, FetchFault, Fetches, Fill, FinMap, Fixed, Format}
-pub use Rattle.w16_machine.proofs.Common.{Handles, Heap, IfSome, IsCommand, IsFewest, IsHeap, IsLoadingWorld, IsLocalIn, IsOfFiles, IsSomeAnd, IsWorld, Kind, List, LoadingCommand, LoadingStep, LoadingWorld, Loads, Moveable, Object}
+pub use Rattle.w16_machine.proofs.Common.{Accesses, AnyStep, AreHandles, Bool, Command, Discardable, Dword, Event, Failed, FarAnswer, FarCommand, FarFault, FarReplies, FetchFault, Fetches, Fill, FinMap, Fixed, Format}
+pub use Rattle.w16_machine.proofs.Common.{Handles, Heap, IfSome, IsCommand, IsHeap, IsLoadingWorld, IsLocalIn, IsOfFiles, IsSomeAnd, IsWorld, Kind, List, LoadingCommand, LoadingStep, LoadingWorld, Loads, Moveable, Object}
 pub use Rattle.w16_machine.proofs.Common.{OfFar, OfHandles, OfLoading, OfLocals, OfModules, OfResizes, OfResources, OnHandles, Read, Reply, Run, Step, Store, StoreStep, Table, Word, World, Write, [], after_loading, answer_in, ap}
 pub use Rattle.w16_machine.proofs.Common.{arith, bytes_at, bytes_in, call_may_take, cond, data_write, false, false≢true, far_bytes, far_fault, far_read, far_reads_file, far_slot, far_write, get-empty, get-retain_keys, get_or, gives}
 pub use Rattle.w16_machine.proofs.Common.{has_range, inl, inr, is_in_order, is_member, is_some, left_in, length, nat_cmp, nat_cmp-IsAntisymmetric, nat_cmp_total, needs_fetch, object_at, offset_in, option_map, owned_at, part}
 pub use Rattle.w16_machine.proofs.Common.{reads_files, refl, refuses_write, reply_of_far, same_map, selector_in, slot_of_selector, subst, sym, take, taken_here, taken_other, true, unwrap_or, with_handles, ℕ, ◌&&◌, ◌<◌, ◌∙◌, ◌∷◌}
 pub use Rattle.w16_machine.proofs.Common.{◌≡◌, ◌≤◌, ◌⊎◌}
 unfoldable pub use Rattle.w16_machine.proofs.Common.{repeated}
-pub use Rattle.w16_machine.proofs.Discards.{step_fewest}
+pub use Rattle.w16_machine.proofs.Runs.{run_append}
 pub use Rattle.w16_machine.proofs.LocalStays.{heaps_law}
 pub use Rattle.w16_machine.proofs.Stepped.{handles_step}
 pub use Rattle.w16_machine.proofs.Worlds.{files_law, world_kept}
 pub use Rattle.w16_machine.specs.LocalStays.{step_may_take}
 pub use Rattle.w16_machine.specs.Machine.{IsSame, Steps}
-pub use Rattle.w16_writes.proofs.Runs.{reads_back_law}
-pub use Rattle.w16_writes.proofs.Steps.{step_law}
-pub use Rattle.w16_writes.specs.LastWrite.{AllKeepWritten, KeepsWritten, ReadsBack}
+pub use Rattle.w16_writes.proofs.Promises.{promised_append, promised_none, promised_step}
+pub use Rattle.w16_writes.specs.Promises.{Promises}
 pub use Rattle.w16_model.proofs.Listed.{walk_law}
 pub use Rattle.w16_model.specs.Law.{HasOneWalk}
 pub use Rattle.w16_model.proofs.Naming.{names_law}

@@ -1,8 +1,9 @@
 -- A step over the kernel's parts, and the sweep behind it, are one step of the machine.
 use Rattle.w16_kernel.proofs.Common.{◌≡◌, ℕ, ◌≤◌, Dword, Moved, Bool, true, false, refl, sym, subst, arith, false≢true, Handles, Heap, reads_files, LoadingCommand, LoadingStep, FamilyStep, Fetches, OfHandles, OfResizes, OfFar, OfModules}
 use Rattle.w16_kernel.proofs.Common.{OfResources, Loads, Failed, Store, LoadingWorld, with_handles, reads_no_files_law, code_reads_law, World, left_in, step_may_take, Command, IsCommand, OnHandles, StoreStep, Step, after_loading, OfLoading}
-use Rattle.w16_kernel.proofs.Common.{OfLocals, IsFewest, step_fewest, heaps_law, handles_step, world_kept, files_law, is_format, ne_format, reply_of, KernelStep, ReadsCode, Unswept, IsWorldOver, may_take_bytes, surviving_heaps, KeepsWritten}
-use Rattle.w16_kernel.proofs.Common.{step_law}
+use Rattle.w16_kernel.proofs.Common.{OfLocals, heaps_law, handles_step, world_kept, files_law, is_format, ne_format, reply_of, KernelStep, ReadsCode, Unswept, IsWorldOver, may_take_bytes, surviving_heaps, Promises, promised_step, [], ◌∷◌}
+use Rattle.w16_kernel.specs.Parts.{AsksExactly}
+use Rattle.w16_loading.proofs.AnySteps.{exact_requests_fewest_law}
 use Rattle.w16_loading.specs.Replies as printed
 use Rattle.w16_loading.specs.Replies.Reply.{Bytes}
 use Rattle.w16_model.specs.Far.FarCommand.{Read}
@@ -61,6 +62,11 @@ module _ (honest : Type 0) (old : World) (is : IsWorldOver honest old) where
       let far : Step honest ne_format old (OfLoading (OfFar (Read pointer count))) (Bytes bytes) new = subst (λ reply. Step honest ne_format old (OfLoading (OfFar (Read pointer count))) reply new) r of_command in
       code_reads_law ne_format old.loading (record new.loading { failures = old.loading.failures }) pointer count bytes slot handle number m is.0.loading (is.1 h) (far.0.exact (λ _. h)).step named segment coded
 
+  -- what is asked room for
+  asks_exactly : (command : Command) (reply : printed.Reply) (new : World) → Step honest ne_format old command reply new → honest → AsksExactly old command reply new
+  asks_exactly (OfLoading command) reply new s h = exact_requests_fewest_law ne_format old.loading new.loading command reply is.0.loading (s.0.exact (λ _. h))
+  asks_exactly (OfLocals command) reply new s h = tt
+
   -- over a store that is honest where a premise holds
   under : (given : Type 0) → (given → honest) → (command : Command) (reply : printed.Reply) (new : World) → Step honest ne_format old command reply new → Step given ne_format old command reply new
   under given is_so (OfLoading command) reply new s = (record { any = s.0.any; exact = λ p. s.0.exact (λ t. is_so (p t)) }, s.1)
@@ -84,19 +90,16 @@ module _ (honest : Type 0) (old : World) (is : IsWorldOver honest old) where
       unfailed : (n : ℕ) → ◌≡◌ {A = printed.Reply} (Dword n) (Failed Store) → ⊥
       unfailed n e = cc
 
-  -- What the kernel tells of a reply: the step, that it discards as few as it can, that it keeps what is written, and that it leaves a world.
+  -- What the kernel tells of a reply: the step, what a run of it promises, and that it leaves a world.
   module _ (command : Command) (reply : Reply) (mid : World) (step : Unswept honest old command (reply_of reply) mid) where
     made : Step honest ne_format old command (reply_of reply) (with_surviving mid command)
     made = swept_step command (reply_of reply) mid step
 
     pub told_step : KernelStep honest old command (reply_of reply) (with_surviving mid command)
-    told_step = record { step = made; code = reads_code command (reply_of reply) (with_surviving mid command) made }
+    told_step = record { step = made; code = reads_code command (reply_of reply) (with_surviving mid command) made; requests = asks_exactly command (reply_of reply) (with_surviving mid command) made }
 
-    pub told_fewest : IsFewest old (record { command = command; reply = reply_of reply; after = with_surviving mid command })
-    told_fewest = step_fewest honest ne_format old (record { command = command; reply = reply_of reply; after = with_surviving mid command }) is.0 made
-
-    pub told_written : IsCommand command → KeepsWritten old (record { command = command; reply = reply_of reply; after = with_surviving mid command })
-    told_written known = step_law ne_format old (with_surviving mid command) command (reply_of reply) is.0 known (under ⊥ (λ no. absurd no) command (reply_of reply) (with_surviving mid command) made)
+    pub told_promises : IsCommand command → Promises old (record { command = command; reply = reply_of reply; after = with_surviving mid command } ∷ [])
+    told_promises known = promised_step ne_format old (with_surviving mid command) command (reply_of reply) is.0 known (under ⊥ (λ no. absurd no) command (reply_of reply) (with_surviving mid command) made)
 
     pub told_world : IsCommand command → IsWorldOver honest (with_surviving mid command)
     told_world known = kept command (reply_of reply) (with_surviving mid command) known made

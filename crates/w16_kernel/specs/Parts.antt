@@ -12,6 +12,7 @@ use Rattle.w16_model.specs.Table.{Table}
 use Rattle.w16_model.specs.Far.FarCommand.{Read}
 use Rattle.w16_loading.specs.Families.LoadingCommand.{OfHandles, OfResizes, OfFar, OfModules, OfResources}
 use Rattle.w16_loading.specs.Fetch.{is_code, segment_bytes}
+use Rattle.w16_loading.specs.Fewest.{ExactRequestsFewest}
 use Rattle.w16_loading.specs.Law.{IsOfFiles}
 use Rattle.w16_loading.specs.Modules.{IsSegmentOf, Load, Module, Modules, with_handles}
 use Rattle.w16_loading.specs.Replies.{Reply}
@@ -98,7 +99,15 @@ ReadsCode old command reply = (pointer count : ℕ) (bytes : List ℕ) (slot han
     → slot_of_selector old.loading.handles (selector_in pointer) ≡ Some slot → IsSegmentOf old.loading slot handle number m → is_code old.loading slot ≡ true
     → IsSomeAnd (segment_bytes ne_format old.loading m number) (λ image. bytes ≡ part image (offset_in pointer) count)
 
--- One step of the machine over a store, of New Executable files. Where the store is honest, code reads as its file's.
+-- A load or a fetch asks room for the bytes that the file gives, discards as few objects for them as it can, and is refused only where they have
+-- no room or the device failed.
+abbrev pub AsksExactly : World → Command → Reply → World → Type 0
+AsksExactly old (OfLoading command) reply new = ExactRequestsFewest ne_format old.loading command reply new.loading
+AsksExactly old (OfLocals command) reply new = Unit {0}
+
+-- One step of the machine over a store, of New Executable files. Where the store is honest, code reads as its file's, and requests are for what
+-- files give.
 pub record KernelStep (honest : Type 0) (old : World) (command : Command) (reply : Reply) (new : World) : Type 0 where
   pub step : Step honest ne_format old command reply new
   pub code : honest → ReadsCode old command reply
+  pub requests : honest → AsksExactly old command reply new

@@ -2,8 +2,7 @@
 use Rattle.w16_machine.specs.World.{World}
 use Rattle.std.specs.Prelude.{◌≡◌, ℕ, ◌⊎◌, List, map, take, slice_get, IsSomeAnd}
 use Rattle.w16_machine.specs.Machine.{Event, IsSame, Steps, Run}
-use Rattle.w16_machine.specs.Fewest.{AreFewest}
-use Rattle.w16_writes.specs.LastWrite.{AllKeepWritten, ReadsBack}
+use Rattle.w16_writes.specs.Promises.{Promises}
 use Rattle.w16_kernel.specs.declared.call.Call.{Call}
 use Rattle.w16_kernel.specs.Runs.{command_of, TakesMemory}
 
@@ -15,8 +14,6 @@ pub record StopsEarly (steps : Steps) (old : World) (calls : List Call) (new : W
   pub last : World
   pub run : Run steps old events last
   pub commands : map (λ e. e.command) events ≡ map command_of (take done calls)
-  pub fewest : AreFewest old events
-  pub written : AllKeepWritten old events
-  pub reads_back : ReadsBack events
+  pub promises : Promises old events
   pub wanted : (done ≡ 0) ⊎ IsSomeAnd (slice_get calls done) (λ call. TakesMemory last (command_of call))
   pub same : IsSame last new

@@ -1,11 +1,10 @@
 //! The machine's state, and its steps.
-ghost use Rattle.std.specs.Prelude.{◌≡◌, ◌+◌, ◌%◌, ◌^◌, ◌<◌, ◌≤◌, List, map, slice_get, All, None, IfSome, IfOk, IfErr, OnOk, OnErr};
+ghost use Rattle.std.specs.Prelude.{◌≡◌, ◌+◌, ◌%◌, ◌^◌, ◌<◌, ◌≤◌, List, [], ◌∷◌, map, slice_get, All, None, IfSome, IfOk, IfErr, OnOk, OnErr};
 ghost use Rattle.w16_model.specs.Handles.{handle_of};
 ghost use Rattle.w16_model.specs.Walk.{IsFirstItem, IsItem};
 ghost use Rattle.w16_machine.specs.World.{IsWorldWalk, empty_world};
 ghost use Rattle.w16_machine.specs.Machine.{Event, IsSame, Run};
-ghost use Rattle.w16_machine.specs.Fewest.{IsFewest, AreFewest};
-ghost use Rattle.w16_writes.specs.LastWrite.{AllKeepWritten, KeepsWritten, ReadsBack};
+ghost use Rattle.w16_writes.specs.Promises.{Promises};
 ghost use Rattle.w16_store.specs.Files.{file_of};
 ghost use Rattle.w16_kernel.specs.Growing.{AddsFile, IsNotAdded};
 ghost use Rattle.w16_kernel.specs.Parts.{KernelStep};
@@ -83,8 +82,9 @@ impl<S: Store + Drop, A: Allocator + Copy> Kernel<S, A> {
     /// begins takes memory, and so do `Builtin`, `LoadModule` and `LoadLibrary`: an error is that there was none, and the world is the same but
     /// for the count of the store's failures. Every other call answers.
     ///
-    /// What a far pointer writes is there afterwards, what it reads was there, and each other position that is there before and after has its
-    /// byte.
+    /// It is a run of one step, and keeps what each run promises: no two objects share a byte; only an unlocked discardable object loses bytes to
+    /// another's request; fixed and locked objects keep their address until their own reallocation, last unlock or freeing; a request is refused only
+    /// where no gap could hold it; and what is written stays until it is written again.
     #[inline(always)]
     pub fn call<'r>(
         &mut self,
@@ -93,8 +93,7 @@ impl<S: Store + Drop, A: Allocator + Copy> Kernel<S, A> {
     ) -> Result<Reply<'r>, AllocError>
         requires { IsCall call.now }
         ensures step { IfOk result (λ reply. KernelStep S.is_honest self.old (command_of call.now) (reply_of reply) self.new) }
-        ensures fewest { IfOk result (λ reply. IsFewest self.old (record { command = command_of call.now; reply = reply_of reply; after = self.new })) }
-        ensures written { IfOk result (λ reply. KeepsWritten self.old (record { command = command_of call.now; reply = reply_of reply; after = self.new })) }
+        ensures promises { IfOk result (λ reply. Promises self.old (record { command = command_of call.now; reply = reply_of reply; after = self.new } ∷ [])) }
         ensures short { IfOk result (λ reply. IsReply reply) }
         ensures wanted { OnErr result (TakesMemory self.old (command_of call.now)) }
         ensures refused { OnErr result (IsSame self.old self.new) }
@@ -140,14 +139,13 @@ impl<S: Store + Drop, A: Allocator + Copy> Kernel<S, A> {
         self.global.walk_from(from)
     }
 
-    /// Calls one after another, and their answers: a run of the machine, in which each call for room discards as few objects as it can, and
-    /// what is written through far pointers reads back. An error is that there was no memory, for the answers or for a call that takes some:
-    /// the calls before it were done, and no other.
+    /// Calls one after another, and their answers: a run of the machine, which keeps what each run promises ([`Kernel::call`]). An error is that
+    /// there was no memory, for the answers or for a call that takes some: the calls before it were done, and no other.
     pub fn run_calls(&mut self, calls: &[Call<'_>]) -> Result<Vec<Answer, A>, AllocError>
         requires { All IsCall calls.now }
         ensures run { IfOk result (λ answers. (events : List Event) × Run (KernelStep S.is_honest) self.old events self.new × (map (λ e. e.command) events ≡ map command_of calls.now)
             × (map (λ e. e.reply) events ≡ map answer_of answers.items)
-            × AreFewest self.old events × AllKeepWritten self.old events × ReadsBack events) }
+            × Promises self.old events) }
         ensures refused { OnErr result (StopsEarly (KernelStep S.is_honest) self.old calls.now self.new) }
     {
         let mut answers = Vec::with_capacity(self.library.alloc, calls.len())?;

@@ -1,12 +1,11 @@
 //! What a run asks of a machine.
-ghost use Rattle.std.specs.Prelude.{◌≡◌, ◌+◌, ◌^◌, ◌<◌, ◌≤◌, List, IfSome, IfOk, OnErr};
+ghost use Rattle.std.specs.Prelude.{◌≡◌, ◌+◌, ◌^◌, ◌<◌, ◌≤◌, List, [], ◌∷◌, IfSome, IfOk, OnErr};
 ghost use Rattle.w16_model.specs.Handles.{handle_of};
 ghost use Rattle.w16_model.specs.Walk.{IsFirstItem, IsItem};
 ghost use Rattle.w16_loading.specs.Replies as printed;
 ghost use Rattle.w16_machine.specs.World.{IsWorldWalk, World};
 ghost use Rattle.w16_machine.specs.Machine.{Command, IsSame};
-ghost use Rattle.w16_machine.specs.Fewest.{IsFewest};
-ghost use Rattle.w16_writes.specs.LastWrite.{KeepsWritten};
+ghost use Rattle.w16_writes.specs.Promises.{Promises};
 ghost use Rattle.w16_kernel.specs.Parts.{KernelStep};
 ghost use Rattle.w16_kernel.specs.Runs.{command_of, reply_of, IsCall, IsReply, TakesMemory};
 
@@ -25,8 +24,7 @@ pub trait Machine {
     /// The steps that it may take.
     ghost steps: { World → Command → printed.Reply → World → Type 0 };
 
-    /// One call: a step that it may take, which discards as few objects as it can and keeps what is written. Bytes that are read are put
-    /// into the room. An error is that there was no memory, for a new local heap, a built-in or a load, and the world is the same but for
+    /// One call: a step that it may take, and a run of one step, which keeps what each run promises. Bytes that are read are put into the room. An error is that there was no memory, for a new local heap, a built-in or a load, and the world is the same but for
     /// the count of the store's failures.
     fn call<'r>(
         &mut self,
@@ -35,8 +33,7 @@ pub trait Machine {
     ) -> Result<Reply<'r>, AllocError>
         requires { IsCall call.now }
         ensures step { IfOk result (λ reply. steps (world self.old) (command_of call.now) (reply_of reply) (world self.new)) }
-        ensures fewest { IfOk result (λ reply. IsFewest (world self.old) (record { command = command_of call.now; reply = reply_of reply; after = world self.new })) }
-        ensures written { IfOk result (λ reply. KeepsWritten (world self.old) (record { command = command_of call.now; reply = reply_of reply; after = world self.new })) }
+        ensures promises { IfOk result (λ reply. Promises (world self.old) (record { command = command_of call.now; reply = reply_of reply; after = world self.new } ∷ [])) }
         ensures short { IfOk result (λ reply. IsReply reply) }
         ensures wanted { OnErr result (TakesMemory (world self.old) (command_of call.now)) }
         ensures refused { OnErr result (IsSame (world self.old) (world self.new)) };

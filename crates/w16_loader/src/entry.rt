@@ -21,8 +21,8 @@ const CONSTANT: u16 = 0xffff;
 /// A module that is loaded.
 #[derive(Drop)]
 pub struct Loaded<A: Allocator = Global> {
-    file: Vec<u8, A>,
     module: Module<A>,
+    file: Vec<u8, A>,
     uses: u32,
     slots: Vec<u16, A>,
     values: Vec<Vec<Far, A>, A>,
@@ -76,8 +76,8 @@ impl<A: Allocator> Loaded<A> {
         } }
     {
         Loaded {
-            file,
             module: module_file,
+            file,
             uses,
             slots,
             values,

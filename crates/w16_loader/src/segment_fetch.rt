@@ -154,8 +154,8 @@ impl<A: Allocator> Loaded<A> {
         ensures number { result.number ≡ number }
     {
         SegmentSource {
-            file: self.file(),
             module: self.module(),
+            file: self.file(),
             number,
             values: self.values(number),
         }

@@ -160,17 +160,25 @@ module _ (old new : World) (command : LocalCommand) (is : IsWorld old) (q : ℕ)
 pub step_spares_law : StepSparesLaw
 step_spares_law format old new (OfLoading command) reply is step = record {
   ds = λ other. ap (λ (w : World). w.ds) step.1;
-  objects = λ q there other. bystanders_law old.loading new.loading command reply q is.loading step.0.any there other;
-  pinned = λ q pinned unmoved. pinned_law old.loading new.loading command reply q is.loading step.0.any pinned unmoved;
-  local_objects = λ slot at after q o e f there other. inl ((stays_same format old new command reply is step slot at after e f).objects q ∙ ap (option_map but_bytes) there);
-  local_pinned = λ slot at after q o e f there pinned unmoved. stands_same (heap_of at) (heap_of after) q (ap (λ h. finmap.get h.places q) (stays_same format old new command reply is step slot at after e f).rest);
+  bytes = record {
+    objects = λ q there other. bystanders_law old.loading new.loading command reply q is.loading step.0.any there other;
+    local_objects = λ slot at after q o e f there other. inl ((stays_same format old new command reply is step slot at after e f).objects q ∙ ap (option_map but_bytes) there);
+  };
+  addresses = record {
+    objects = λ q pinned unmoved. pinned_law old.loading new.loading command reply q is.loading step.0.any pinned unmoved;
+    local_objects = λ slot at after q o e f there pinned unmoved. stands_same (heap_of at) (heap_of after) q (ap (λ h. finmap.get h.places q) (stays_same format old new command reply is step slot at after e f).rest);
+  };
 }
 step_spares_law format old new (OfLocals command) reply is step = record {
   ds = λ other. local_ds old new command reply step other;
-  objects = λ q there other. object_spared old new command is q there (frame_law old new command reply is.heaps step);
-  pinned = λ q pinned unmoved. inl (object_stands old new command is q pinned (frame_law old new command reply is.heaps step));
-  local_objects = λ slot at after q o e f there other. local_spared old new command reply is step slot at after e f q o there other;
-  local_pinned = λ slot at after q o e f there pinned unmoved. local_stands old new command reply is step slot at after e f q o there pinned unmoved;
+  bytes = record {
+    objects = λ q there other. object_spared old new command is q there (frame_law old new command reply is.heaps step);
+    local_objects = λ slot at after q o e f there other. local_spared old new command reply is step slot at after e f q o there other;
+  };
+  addresses = record {
+    objects = λ q pinned unmoved. inl (object_stands old new command is q pinned (frame_law old new command reply is.heaps step));
+    local_objects = λ slot at after q o e f there pinned unmoved. local_stands old new command reply is step slot at after e f q o there pinned unmoved;
+  };
 }
 
 pub run_spares_law : RunSparesLaw

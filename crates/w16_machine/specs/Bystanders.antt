@@ -1,5 +1,5 @@
 -- What steps, and so runs, leave of objects that they aren't about, and of DS.
-use Rattle.std.specs.Prelude.{◌≡◌, ℕ, ◌⊎◌, Bool, true, false, is_some, List, [], ◌∷◌, All, Some, None, option_map, IsSomeAnd}
+use Rattle.std.specs.Prelude.{◌≡◌, ℕ, ◌⊎◌, Bool, true, false, is_some, List, All, Some, None, option_map, IsSomeAnd}
 use Rattle.w16_model.specs.declared.Kind.TheVariants.{Discardable}
 use Rattle.w16_model.specs.CallLaws.{IsKeptOrDiscarded}
 use Rattle.w16_model.specs.Heap.{Object, object_at, is_pinned_object}
@@ -12,7 +12,7 @@ use Rattle.w16_machine.specs.Law.{IsWorld}
 use Rattle.w16_machine.specs.Local.{LocalHeap, heap_of, local_in, current_heap}
 use Rattle.w16_machine.specs.LocalCalls.LocalCommand.{DS}
 use Rattle.w16_machine.specs.LocalLaw.{IsLeftByGrowth, IsNamedBy, IsObjectKept, asks_for_room, but_bytes, may_grow, may_move_named}
-use Rattle.w16_machine.specs.Machine.{Command, IsCommand, Event, Step, Run}
+use Rattle.w16_machine.specs.Machine.{Command, EachStep, IsCommand, Event, Step, Run}
 use Rattle.w16_machine.specs.Machine.Command.{OfLoading, OfLocals}
 
 -- Objects of the global heap.
@@ -62,19 +62,30 @@ local_may_move_own (OfLoading command) = false
 local_may_move_own (OfLocals command) = may_move_named command
 
 -- What a step spares. A local heap that goes with its segment is not among these: that has laws of its own.
-pub record Spares (old : World) (command : Command) (new : World) : Type 0 where
-  -- DS is changed by the command DS alone
-  pub ds : ((selector : ℕ) → command ≡ OfLocals (DS selector) → ⊥) → new.ds ≡ old.ds
-  -- only a discardable object that isn't locked loses its bytes to a step that isn't about it
+
+-- Only a discardable object that isn't locked loses its bytes to a step that isn't about it: one of the global heap, and one of a local heap that
+-- stays.
+pub record SparesBytes (old : World) (command : Command) (new : World) : Type 0 where
   pub objects : (q : ℕ) → is_some (object_at old.loading.handles.heap q) ≡ true → (IsCommandAbout old command q → ⊥) → IsSpared old command new q
-  -- a fixed or locked one keeps its address but for its own reallocation and freeing
-  pub pinned : (q : ℕ) → IsSomeAnd (object_at old.loading.handles.heap q) (λ o. is_pinned_object o ≡ true) → (command_may_move_own command ≡ true → IsCommandAbout old command q → ⊥)
-      → StandsStill old.loading.handles.heap new.loading.handles.heap q ⊎ IsGone old command new q
-  -- the same of each object of a local heap that stays, by its near pointer
   pub local_objects : (slot : ℕ) (at after : LocalHeap) (q : ℕ) (o : Object) → local_in old slot ≡ Some at → local_in new slot ≡ Some after → object_at (heap_of at) q ≡ Some o
       → (IsLocalAbout old command at q → ⊥) → IsLocalSpared old command at after q o
-  pub local_pinned : (slot : ℕ) (at after : LocalHeap) (q : ℕ) (o : Object) → local_in old slot ≡ Some at → local_in new slot ≡ Some after → object_at (heap_of at) q ≡ Some o
+
+-- A fixed or locked object keeps its address, or its near pointer, except by its own reallocation and freeing. What its last unlock has made
+-- loose is neither from then on.
+pub record KeepsAddresses (old : World) (command : Command) (new : World) : Type 0 where
+  pub objects : (q : ℕ) → IsSomeAnd (object_at old.loading.handles.heap q) (λ o. is_pinned_object o ≡ true) → (command_may_move_own command ≡ true → IsCommandAbout old command q → ⊥)
+      → StandsStill old.loading.handles.heap new.loading.handles.heap q ⊎ IsGone old command new q
+  pub local_objects : (slot : ℕ) (at after : LocalHeap) (q : ℕ) (o : Object) → local_in old slot ≡ Some at → local_in new slot ≡ Some after → object_at (heap_of at) q ≡ Some o
       → is_pinned_object o ≡ true → (local_may_move_own command ≡ true → IsLocalAbout old command at q → ⊥) → StandsStill (heap_of at) (heap_of after) q
+
+-- DS is changed by the command DS alone.
+abbrev pub KeepsDS : World → Command → World → Type 0
+KeepsDS old command new = ((selector : ℕ) → command ≡ OfLocals (DS selector) → ⊥) → new.ds ≡ old.ds
+
+pub record Spares (old : World) (command : Command) (new : World) : Type 0 where
+  pub ds : KeepsDS old command new
+  pub bytes : SparesBytes old command new
+  pub addresses : KeepsAddresses old command new
 
 -- The laws. Each step spares these, whatever the store answers,
 abbrev pub StepSparesLaw : Type 0
@@ -82,8 +93,7 @@ StepSparesLaw = (format : Format) (old new : World) (command : Command) (reply :
 
 -- and so does each step of a run.
 abbrev pub AllSpare : World → List Event → Type 0
-AllSpare old [] = Unit {0}
-AllSpare old (event ∷ events) = Spares old event.command event.after × AllSpare event.after events
+AllSpare old events = EachStep (λ old event. Spares old event.command event.after) old events
 
 abbrev pub RunSparesLaw : Type 0
 RunSparesLaw = (format : Format) (old new : World) (events : List Event) → IsWorld old → All (λ e. IsCommand e.command) events → Run (Step ⊥ format) old events new → AllSpare old events

@@ -1,6 +1,6 @@
 -- What whole runs promise of discards, read at each step: a call for room discards as few objects as it can, of the global heap or of a local
 -- one, and is refused for room only where none could be made.
-use Rattle.std.specs.Prelude.{◌≡◌, ℕ, ◌<◌, List, [], ◌∷◌, false, Some}
+use Rattle.std.specs.Prelude.{◌≡◌, ℕ, ◌<◌, List, false, Some}
 use Rattle.w16_model.specs.Calls.{has_flag}
 use Rattle.w16_model.specs.Calls.HandleCommand.{GlobalAlloc, GlobalCompact}
 use Rattle.w16_model.specs.Fewest as global
@@ -16,7 +16,7 @@ use Rattle.w16_machine.specs.World.{World}
 use Rattle.w16_machine.specs.Local.{LocalHeap, LocalObject, heap_of, current_heap, object_named}
 use Rattle.w16_machine.specs.LocalCalls.LocalCommand.{LocalAlloc, LocalReAlloc, LocalCompact}
 use Rattle.w16_machine.specs.LocalFewest.{Left, AllocFewest, ReallocFewest}
-use Rattle.w16_machine.specs.Machine.{Event}
+use Rattle.w16_machine.specs.Machine.{EachStep, Event}
 use Rattle.w16_machine.specs.Machine.Command.{OfLoading, OfLocals}
 
 -- The calls on the global heap.
@@ -58,7 +58,6 @@ pub record IsFewest (old : World) (event : Event) : Type 0 where
   pub local_compact : LocalCompactFewest old event
   pub requests : LoadingFewest old event
 
--- each step is such, from the world before it
+-- each step is such
 abbrev pub AreFewest : World → List Event → Type 0
-AreFewest old [] = Unit {0}
-AreFewest old (event ∷ events) = IsFewest old event × AreFewest event.after events
+AreFewest old events = EachStep IsFewest old events

@@ -1,13 +1,14 @@
 -- What holds of every world, and the laws of steps and runs of the whole machine. Each law is the contract of a function of the module `laws`.
-use Rattle.std.specs.Prelude.{◌≡◌, ℕ, ◌≤◌, false, List, All, IfSome}
+use Rattle.std.specs.Prelude.{◌≡◌, ◌≢◌, ℕ, ◌+◌, ◌≤◌, ◌⊎◌, false, List, length, All, Some, IfSome}
 use Rattle.std.specs.FinMap as finmap
 use Rattle.w16_model.specs.declared.TheConstants.{MOST_SLOTS}
+use Rattle.w16_model.specs.Heap.{Heap, bytes_at}
 use Rattle.w16_model.specs.Owned.{is_code}
 use Rattle.w16_loading.specs.File.{Format, IsFormat}
 use Rattle.w16_loading.specs.Law.{IsLoadingWorld, IsOfFiles}
 use Rattle.w16_loading.specs.Replies.{Reply}
 use Rattle.w16_machine.specs.World.{World, empty_world}
-use Rattle.w16_machine.specs.Local.{AreLocalHeaps}
+use Rattle.w16_machine.specs.Local.{AreLocalHeaps, LocalHeap, heap_of, local_in}
 use Rattle.w16_machine.specs.Machine.{Command, IsCommand, Step, Event, Run}
 use Rattle.w16_machine.specs.Fewest.{AreFewest}
 
@@ -18,7 +19,20 @@ pub record IsWorld (w : World) : Type 0 where
   -- no local heap lies in code, or local calls would write it
   pub uncoded : (slot : ℕ) → IfSome (finmap.get w.heaps slot) (λ _. is_code w.loading.handles slot ≡ false)
 
--- and where the store is honest: all that is loaded is of its file
+-- No two objects of a heap share a byte.
+abbrev pub AreApart : Heap → Type 0
+AreApart heap = (q r from to : ℕ) (bytes others : List ℕ) → q ≢ r → finmap.get heap.places q ≡ Some from → bytes_at heap q ≡ Some bytes → finmap.get heap.places r ≡ Some to → bytes_at heap r ≡ Some others
+    → (from + length bytes ≤ to) ⊎ (to + length others ≤ from)
+
+-- neither of the global heap nor of a local one
+abbrev pub ShareNoByte : World → Type 0
+ShareNoByte w = AreApart w.loading.handles.heap × ((slot : ℕ) (at : LocalHeap) → local_in w slot ≡ Some at → AreApart (heap_of at))
+
+-- and so it is in every world
+abbrev pub ApartLaw : Type 0
+ApartLaw = (w : World) → IsWorld w → ShareNoByte w
+
+-- And where the store is honest: all that is loaded is of its file.
 abbrev pub IsWorldOfFiles : Format → World → Type 0
 IsWorldOfFiles format w = IsWorld w × IsOfFiles format w.loading
 

@@ -64,3 +64,8 @@ Steps = World → Command → Reply → World → Type 0
 abbrev pub Run : Steps → World → List Event → World → Type 0
 Run steps old [] new = new ≡ old
 Run steps old (event ∷ events) new = steps old event.command event.reply event.after × Run steps event.after events new
+
+-- this holds of each step, from the world before it
+abbrev pub EachStep : (World → Event → Type 0) → World → List Event → Type 0
+EachStep holds old [] = Unit {0}
+EachStep holds old (event ∷ events) = holds old event × EachStep holds event.after events

@@ -1,6 +1,6 @@
 //! The laws of steps and runs of the whole machine. Each function does nothing: its contract is the law.
 ghost use Rattle.w16_machine.specs.Bystanders.{RunSparesLaw, StepSparesLaw};
-ghost use Rattle.w16_machine.specs.Law.{EmptyLaw, FewestLaw, FilesLaw, RunFilesLaw, RunWorldLaw, WorldLaw};
+ghost use Rattle.w16_machine.specs.Law.{ApartLaw, EmptyLaw, FewestLaw, FilesLaw, RunFilesLaw, RunWorldLaw, WorldLaw};
 
 /// The world in which nothing is allocated and nothing loaded is one, and all in it is of its file.
 pub fn nothing_allocated_is_a_world()
@@ -18,6 +18,11 @@ pub fn steps_keep_worlds()
 pub fn runs_keep_worlds()
     ensures worlds { RunWorldLaw }
     ensures files { RunFilesLaw }
+{}
+
+/// In no world do two objects share a byte, neither two of the global heap nor two of a local one.
+pub fn objects_share_no_byte()
+    ensures { ApartLaw }
 {}
 
 /// In every run each call for room discards as few objects as it can, of the global heap or of a local one, whichever way the others slide,

@@ -59,33 +59,15 @@ Script-from steps a b c t v x w registers text counts p small q =
 -- Faults.
 
 -- a piece met a fault
-StopsWithin-piece : (steps : Steps) (a b c : Option (List ℕ)) (t : Progress) (v x : World) (w : State) (registers text piece : List ℕ) (fault : RunFault) → Feeds steps a fresh (start v) text b t w
-    → length piece ≤ 65536 → Stops steps b t w piece fault c (state_with x registers) → StopsWithin steps a v (text ++ piece) fault c x
-StopsWithin-piece steps a b c t v x w registers text piece fault p small q =
-    let size : length piece ≡ length q.front + length (q.byte ∷ q.more) = ap (length {A = ℕ}) q.whole ∙ length-append q.front (q.byte ∷ q.more) in
-    record {
-      registers = registers;
-      stops = record {
-        front = text ++ q.front;
-        byte = q.byte;
-        more = q.more;
-        whole = ap (λ (l : List ℕ). text ++ l) q.whole ∙ sym (append_assoc text q.front (q.byte ∷ q.more));
-        between = q.between;
-        here = q.here;
-        state = q.state;
-        feeds = Feeds-trans steps a b q.between fresh t q.here (start v) w q.state text q.front p q.feeds;
-        fits = q.fits;
-        stops = q.stops;
-      };
-      near = omega (arith, size, small);
-    }
+module _ (steps : Steps) (left a b c : Option (List ℕ)) (t : Progress) (v x : World) (w : State) (registers text piece : List ℕ) (p : Feeds steps a fresh (start v) text b t w) (fits : IsWithinLimits t) (short : length piece ≤ 65536) where
+  StopsWithin-piece : (fault : RunFault) → Stops steps b t w piece fault c (state_with x registers) → StopsWithin steps a v (text ++ piece) fault c x
+  StopsWithin-piece fault q = record { before = text; piece = piece; pieces = refl; short = short; between = b; here = t; state = w; feeds = p; fits = fits; registers = registers; stops = q }
 
-pub FailsLater-piece : (steps : Steps) (left a b c : Option (List ℕ)) (t : Progress) (v x : World) (w : State) (registers text piece : List ℕ) (fault : RunFault) → Feeds steps a fresh (start v) text b t w
-    → length piece ≤ 65536 → Stops steps b t w piece fault c (state_with x registers) → FailsLater steps left a v (text ++ piece) fault c x
-FailsLater-piece steps left a b c t v x w registers text piece Read p small q = absurd q.stops.2
-FailsLater-piece steps left a b c t v x w registers text piece Write p small q = inl (StopsWithin-piece steps a b c t v x w registers text piece Write p small q)
-FailsLater-piece steps left a b c t v x w registers text piece Memory p small q = inl (StopsWithin-piece steps a b c t v x w registers text piece Memory p small q)
-FailsLater-piece steps left a b c t v x w registers text piece TooLong p small q = StopsWithin-piece steps a b c t v x w registers text piece TooLong p small q
+  pub FailsLater-piece : (fault : RunFault) → Stops steps b t w piece fault c (state_with x registers) → FailsLater steps left a v (text ++ piece) fault c x
+  FailsLater-piece Read q = absurd q.stops.2
+  FailsLater-piece Write q = inl (StopsWithin-piece Write q)
+  FailsLater-piece Memory q = inl (StopsWithin-piece Memory q)
+  FailsLater-piece TooLong q = StopsWithin-piece TooLong q
 
 StopsLast-from : (steps : Steps) (left a b c : Option (List ℕ)) (t : Progress) (v x : World) (w : State) (registers text : List ℕ) (fault : RunFault) → IsAtEnd left → Feeds steps a fresh (start v) text b t w
     → IsWithinLimits t → 0 < length t.line → FailsAt steps b w t.line fault c (state_with x registers) → StopsLast steps left a v text fault c x

@@ -3,8 +3,7 @@ use Rattle.std.specs.Prelude.{◌≡◌, ℕ, ◌+◌, List, [], ◌∷◌, ◌+
 use Rattle.std.specs.List.{flat_map, AllByRecursion}
 use Rattle.std.specs.Io.KnownBytes.{Keeps}
 use Rattle.w16_machine.specs.Machine.{Command, Event, Steps, Run, IsSame}
-use Rattle.w16_machine.specs.Fewest.{AreFewest}
-use Rattle.w16_writes.specs.LastWrite.{AllKeepWritten, ReadsBack}
+use Rattle.w16_writes.specs.Promises.{Promises}
 use Rattle.w16_kernel.specs.Runs.{TakesMemory}
 use Rattle.w16_script.specs.declared.outcome.RunFault.{RunFault}
 use Rattle.w16_script.specs.declared.outcome.RunFault.TheVariants.{Write, Memory, TooLong}
@@ -19,8 +18,7 @@ use Rattle.w16_script.specs.Progress.{Progress, IsWithinLimits, IsOver}
 abbrev pub FailsAt : Steps → Option (List ℕ) → State → List ℕ → RunFault → Option (List ℕ) → State → Type 0
 -- its command was done, and a front of its reply was written
 FailsAt steps held old line Write holds new =
-    (events : List Event) × (output : List ℕ) × Run steps old.world events new.world × Prints old.registers (line ∷ []) events output new.registers × AppendsFront held holds output
-    × AreFewest old.world events × AllKeepWritten old.world events × ReadsBack events
+    (events : List Event) × (output : List ℕ) × Run steps old.world events new.world × Prints old.registers (line ∷ []) events output new.registers × AppendsFront held holds output × Promises old.world events
 -- its command wants memory, and nothing was done
 FailsAt steps held old line Memory holds new =
     (target : Option ℕ) × (command : Command) × Reads old.registers line (Said.Says target command) × TakesMemory old.world command × IsSame old.world new.world × (new.registers ≡ old.registers) × Keeps held holds

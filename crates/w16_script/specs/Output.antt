@@ -5,8 +5,7 @@ use Rattle.w16_model.specs.declared.Item.{Item}
 use Rattle.w16_machine.specs.World.{IsWorldWalk, World}
 use Rattle.w16_loading.specs.Replies as replies
 use Rattle.w16_machine.specs.Machine.{Event, Steps, Run}
-use Rattle.w16_machine.specs.Fewest.{AreFewest}
-use Rattle.w16_writes.specs.LastWrite.{AllKeepWritten, ReadsBack}
+use Rattle.w16_writes.specs.Promises.{Promises}
 use Rattle.w16_script.specs.Registers.{stored_all}
 use Rattle.w16_script.specs.State.{State}
 use Rattle.w16_script.specs.Words.{words_of}
@@ -35,16 +34,14 @@ Prints old (line ∷ lines) events output new =
     × Prints (stored_all old (target_of said) first) lines more back new
 
 -- Lines were run, from the state old to new, and what they print was written: held and holds are what the
--- writer had before and has now, where it tells that. What the lines write through far pointers reads back.
+-- writer had before and has now, where it tells that. The run keeps what every run promises.
 pub record RunsLines (steps : Steps) (held : Option (List ℕ)) (old : State) (lines : List (List ℕ)) (holds : Option (List ℕ)) (new : State) : Type 0 where
   pub events : List Event
   pub output : List ℕ
   pub run : Run steps old.world events new.world
   pub prints : Prints old.registers lines events output new.registers
   pub appends : Appends held holds output
-  pub fewest : AreFewest old.world events
-  pub written : AllKeepWritten old.world events
-  pub reads_back : ReadsBack events
+  pub promises : Promises old.world events
 
 -- whether a line has a reply
 abbrev pub has_reply : List ℕ → Bool

@@ -45,11 +45,19 @@ pub record StopsReading (steps : Steps) (held : Option (List ℕ)) (old : World)
   pub feeds : Feeds steps held fresh (start old) text holds here (state_with new registers)
   pub fits : IsWithinLimits here
 
--- a byte of what was read last met the fault: fewer than 65,536 bytes were read behind it
+-- A byte of the piece that was read last met the fault. All that was read before was taken, within the limits, and nothing was read afterwards.
 pub record StopsWithin (steps : Steps) (held : Option (List ℕ)) (old : World) (text : List ℕ) (fault : RunFault) (holds : Option (List ℕ)) (new : World) : Type 0 where
+  pub before : List ℕ
+  pub piece : List ℕ
+  pub pieces : text ≡ before ++ piece
+  pub short : length piece ≤ 65536
+  pub between : Option (List ℕ)
+  pub here : Progress
+  pub state : State
+  pub feeds : Feeds steps held fresh (start old) before between here state
+  pub fits : IsWithinLimits here
   pub registers : List ℕ
-  pub stops : Stops steps held fresh (start old) text fault holds (state_with new registers)
-  pub near : length stops.more < 65536
+  pub stops : Stops steps between here state piece fault holds (state_with new registers)
 
 -- the reader was at its end, and the last line, which has no LF, met the fault
 pub record StopsLast (steps : Steps) (left held : Option (List ℕ)) (old : World) (text : List ℕ) (fault : RunFault) (holds : Option (List ℕ)) (new : World) : Type 0 where

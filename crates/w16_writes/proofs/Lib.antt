@@ -5,3 +5,4 @@ pub mod Locals
 pub mod Steps
 pub mod Runs
 pub mod Examples
+pub mod Promises

@@ -15,7 +15,7 @@ use Rattle.w16_loading.specs.Replies.{Reply, answer_in}
 use Rattle.w16_loading.specs.Replies.Reply.{Bytes, Done}
 use Rattle.w16_machine.specs.Law.{IsWorld}
 use Rattle.w16_machine.specs.Local.{segment_bytes, heap_of, local_in}
-use Rattle.w16_machine.specs.Machine.{Command, Event, IsCommand, Run, Step}
+use Rattle.w16_machine.specs.Machine.{Command, EachStep, Event, IsCommand, Run, Step}
 use Rattle.w16_machine.specs.Machine.Command.{OfLoading}
 use Rattle.w16_machine.specs.World.{World}
 
@@ -117,10 +117,9 @@ pub record KeepsWritten (old : World) (event : Event) : Type 0 where
 
 -- Runs.
 
--- each step is such, from the world before it
+-- each step is such
 abbrev pub AllKeepWritten : World → List Event → Type 0
-AllKeepWritten old [] = Unit {0}
-AllKeepWritten old (event ∷ events) = KeepsWritten old event × AllKeepWritten event.after events
+AllKeepWritten old events = EachStep KeepsWritten old events
 
 -- the world after steps
 abbrev pub world_after : World → List Event → World

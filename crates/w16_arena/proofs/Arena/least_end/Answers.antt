@@ -1,4 +1,4 @@
-use Rattle.w16_arena.proofs.Common.{◌≡◌, false, ◌<◌, ◌≤◌, ℕ, nat_le, IfSome, IfNone, List, Some, None, sym, ap, ◌∙◌, subst, length, Span, Table, block_with, heap_in, table_of}
+use Rattle.w16_arena.proofs.Common.{◌≡◌, false, ◌<◌, ◌≤◌, ℕ, nat_le, IfSome, IfNone, IsMultiple, List, Some, None, sym, ap, ◌∙◌, subst, length, Span, Table, block_with, heap_in, table_of}
 use Rattle.w16_model.specs.Ends.{ending, is_answered, IsLeastEnd, HasNoEnd}
 use Rattle.w16_holes.specs.declared.holes.TheConstants.{LAST_END}
 use Rattle.w16_compact.specs.Stretch.{stretch_at}
@@ -46,7 +46,7 @@ module _ (g : _) (c : goal.After-end_for g) where
         let found = found_known table c.args.id b (known c.self.invariant c.self.view_is (λ t. Some b ≡ block_with t.blocks c.args.id) w.in-Some.ensures.value) in
         ap (λ (q : ℕ). is_answered (ending (heap_in table memory) e) q c.args.size c.args.options) (sym found.0)
         ∙ answered_known table c.self.invariant.sound memory inside e c.args.size c.args.options b found.1
-        ∙ sym (ap (λ (s : Stretch). nat_le c.args.size (stretch_at s e)) w.stretch-is ∙ w.growth_stretch-stretch.ensures e c.args.size le)
+        ∙ sym (ap (λ (s : Stretch). nat_le c.args.size (stretch_at s e)) w.stretch-is ∙ w.growth_stretch-stretch.ensures.value e c.args.size le)
   ]
 
 pub returns-clause-least : goal.returns-clause-least
@@ -66,3 +66,14 @@ returns-clause-none g c =
     told c.self.invariant c.self.view_is (λ t. IfNone found (HasNoEnd LAST_END (heap_in t m) c.args.id n c.args.options))
     (none_found (heap_in (table g c) m) c.args.id n c.args.options s (tells g c) found
     (subst (λ (hi : ℕ). IfNone found ((e : ℕ) → hi ≤ e → e ≤ LAST_END → nat_le n (stretch_at s e) ≡ false)) (top g c) c.end_for.ensures.none))
+
+pub returns-clause-grained : goal.returns-clause-grained
+unfolding table memory
+returns-clause-grained g c =
+    let grain = c.self.inside.blocks.grain in let found = c.end_for.result in
+    let last : IfSome c.match-block.stretch.last (IsMultiple grain) = elim c.match-block.branch [
+      | in-None w ↦ subst (λ (s : Stretch). IfSome s.last (IsMultiple grain)) (sym w.stretch-is) w.stretch_for-stretch.ensures.grained
+      | in-Some w ↦ subst (λ (s : Stretch). IfSome s.last (IsMultiple grain)) (sym w.stretch-is) w.growth_stretch-stretch.ensures.grained
+    ] in
+    told c.self.invariant c.self.view_is (λ t. IsMultiple t.grain t.hi → IsMultiple t.grain c.args.size → IfSome found (IsMultiple t.grain))
+    (λ hi size. c.end_for.ensures.grained grain (subst (IsMultiple grain) (sym (top g c)) hi) size last)

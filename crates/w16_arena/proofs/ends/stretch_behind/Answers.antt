@@ -1,6 +1,7 @@
-use Rattle.w16_arena.proofs.Common.{◌≡◌, IfSome, subst, sym, arith, Block, block_end, hole_after, Layout}
+use Rattle.w16_arena.proofs.Common.{◌≡◌, IfSome, IsMultiple, subst, sym, arith, Block, block_end, hole_after, Layout}
 use Rattle.w16_arena.proofs.Fitting.{spare_small, ends_inside}
 use Rattle.w16_arena.proofs.Behind.{behind_is}
+use Rattle.w16_arena.proofs.ButFor.{own_grained}
 use Rattle.w16_arena.proofs.ends.stretch_behind.Goals as goal
 use Rattle.w16_arena.proofs.ends.stretch_behind.Goals.{in-Some, in-None}
 
@@ -23,4 +24,12 @@ returns-clause-value g c =
     elim c.match-next_from.branch [
       | in-Some w ↦ behind_is l c.bounds.ensures.ordered.laid b inside _ (sym w.in-Some.ensures.value) c.free_after-free.result free c.match-next_from.last w.last-is
       | in-None w ↦ behind_is l c.bounds.ensures.ordered.laid b inside _ (sym w.in-None.ensures.value) c.free_after-free.result free c.match-next_from.last w.last-is
+    ]
+
+pub returns-clause-grained : goal.returns-clause-grained
+returns-clause-grained g c =
+    let fits = own_grained c.bounds.ensures.ordered c.args.block c.requires.known in
+    elim c.match-next_from.branch [
+      | in-Some w ↦ subst (λ p. IfSome p (IsMultiple c.args.blocks.now.grain)) (sym w.last-is) tt
+      | in-None w ↦ subst (λ p. IfSome p (IsMultiple c.args.blocks.now.grain)) (sym w.last-is) fits.0
     ]

@@ -1,7 +1,7 @@
-use Rattle.w16_compact.proofs.Common.{◌≡◌, ◌+◌, ◌-◌, ℕ, max, nat_le, filter, arith, refl, sym, ap, ◌∙◌, subst, Span, room, laid_later}
+use Rattle.w16_compact.proofs.Common.{◌≡◌, ◌+◌, ◌-◌, ℕ, max, nat_le, filter, arith, refl, sym, ap, ◌∙◌, subst, Span, room, laid_later, IsGrained, IsMultiple, multiple_sum}
 use Rattle.w16_compact.proofs.OnePass.{ord_max-max}
 use Rattle.w16_compact.proofs.ByAddress.{all_left, may_begin}
-use Rattle.w16_compact.proofs.Skips.{IsPassed, rest_is, passed_start, passed_end, ends_now_all, id_here}
+use Rattle.w16_compact.proofs.Skips.{IsPassed, no_grain, passed_grained, each_here, rest_is, passed_start, passed_end, ends_now_all, id_here}
 use Rattle.w16_compact.proofs.Stays.{seen, stays, goes_for, laid_seen, seen_none, reaches, turn_out, turn_sliding, turn_still, prefix_is}
 use Rattle.w16_compact.proofs.stretch.stretch_for.Goals as goal
 
@@ -23,6 +23,7 @@ loop-block-init g c =
             subst (λ (s : Span). IsPassed p end xs (room l.lo end (filter p xs)) 0 0 s.from 0) (sym c.bounds-bounds.ensures.value)
             (passed_start p l.lo end xs (laid_seen o.compact l.lo end l.blocks (laid_later l.lo l.hi end l.blocks c.bounds-bounds.ensures.ordered.laid le))),
       );
+      grained = (subst (λ (s : Span). IsMultiple l.grain s.from) (sym c.bounds-bounds.ensures.value) c.bounds-bounds.ensures.ordered.from, no_grain l.grain);
     }
 
 pub is_left_out-requires : goal.is_left_out-requires
@@ -43,6 +44,7 @@ loop-block-preserved-then-is_left_out g c =
         λ end le.
             turn_out goes end _ l.blocks c.in-Some.block _ now.passed.0 here c.loop-block.most c.loop-block.reached o.compact (sym c.is_left_out.ensures ∙ c.if-is_left_out.true) (now.passed.2 end le),
       );
+      grained = now.grained;
     }
 
 -- the next block's place, and the bytes before it
@@ -67,6 +69,7 @@ loop-block-preserved-then-may_slide g c =
             turn_sliding goes end _ l.blocks c.in-Some.block _ now.passed.0 here c.loop-block.most c.loop-block.reached o.compact (sym c.is_left_out.ensures ∙ c.if-is_left_out.false) (sym c.may_slide.ensures ∙ c.if-may_slide.true)
             c.passing-reached.result c.passing-reached.ensures (now.passed.2 end le),
       );
+      grained = passed_grained l.grain c.loop-block.reached c.passing-reached.result c.in-Some.block (each_here (IsGrained l.grain) l.blocks c.in-Some.block _ now.passed.0 here c.bounds-bounds.ensures.ordered.grained) now.grained c.passing-reached.ensures;
     }
 
 pub room_to-requires : goal.room_to-requires
@@ -95,6 +98,7 @@ loop-block-preserved g c =
             turn_still goes end _ l.blocks c.in-Some.block _ now.passed.0 here c.loop-block.most c.loop-block.reached o.compact (sym c.is_left_out.ensures ∙ c.if-is_left_out.false) (sym c.may_slide.ensures ∙ c.if-may_slide.false)
             c.max-most.result most (now.passed.2 end le),
       );
+      grained = let fits = each_here (IsGrained l.grain) l.blocks c.in-Some.block _ now.passed.0 here c.bounds-bounds.ensures.ordered.grained in (multiple_sum l.grain _ _ fits.0 fits.1, no_grain l.grain);
     }
 
 -- behind the last block
@@ -124,3 +128,6 @@ returns-clause-value g c = λ end n le.
     let best : c.max.result ≡ max c.loop-block.most (l.hi - r.low - r.loose) = c.max.ensures ∙ ap (λ (k : ℕ). max c.loop-block.most k) last in
     let at : max c.max.result (end - (r.low + r.loose)) ≡ max c.loop-block.most (end - r.low - r.loose) = omega arith in
     ap (nat_le n) (at ∙ whole) ∙ sym (prefix_is l.lo end l.blocks c.args.order.now.ids n c.args.h o)
+
+pub returns-clause-grained : goal.returns-clause-grained
+returns-clause-grained g c = let reached = c.loop-block.invariant.grained in multiple_sum c.args.blocks.now.grain _ _ reached.0 reached.1

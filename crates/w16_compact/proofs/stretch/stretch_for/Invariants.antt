@@ -1,5 +1,5 @@
 use Rattle.w16_compact.proofs.Common.{ℕ, ◌≡◌, ◌≤◌, drop, filter, room, from_address}
-use Rattle.w16_compact.proofs.Skips.{IsPassed}
+use Rattle.w16_compact.proofs.Skips.{IsPassed, IsReachedGrained}
 use Rattle.w16_compact.proofs.Stays.{seen, stays, goes_for}
 use Rattle.w16_compact.proofs.stretch.stretch_for.Given as goal
 
@@ -11,4 +11,5 @@ invariant-loop-block g l =
       ends : (goal.iterator-loop-block g).is_finite l.block-iterator;
       passed : (i : ℕ) × (drop i b.blocks ≡ from_address l.block-iterator.from l.block-iterator.blocks.now.blocks)
           × ((end : ℕ) → b.hi ≤ end → IsPassed p end xs (room b.lo end (filter p xs)) i l.most l.reached.low l.reached.loose);
+      grained : IsReachedGrained b.grain l.reached;
     }

@@ -1,4 +1,4 @@
-use Rattle.w16_script.proofs.Common.{[], ◌∷◌, refl, Appends-nil, Event, command_of, reply_of, Said, error_text, reads_back_law}
+use Rattle.w16_script.proofs.Common.{[], ◌∷◌, refl, Appends-nil, Event, command_of, reply_of, Said, error_text, promised_none}
 use Rattle.w16_script.proofs.RunLemmas.{Prints-one}
 use Rattle.w16_script.proofs.running.run_line.Goals as goal
 
@@ -9,9 +9,7 @@ returns-in-Silent-clause-ok g c = record {
   run = refl;
   prints = Prints-one c.args.registers.now c.args.line.now Said.Silent [] [] c.args.registers.now c.in-Silent.ensures.reads refl refl;
   appends = Appends-nil _;
-  fewest = tt;
-  written = tt;
-  reads_back = reads_back_law (g.K.Machine.world c.args.kernel.now) [] tt;
+  promises = promised_none (g.K.Machine.world c.args.kernel.now);
 }
 
 pub returns-in-Ok-clause-ok : goal.returns-in-Ok-clause-ok
@@ -21,14 +19,12 @@ returns-in-Ok-clause-ok g c = record {
   run = refl;
   prints = Prints-one c.args.registers.now c.args.line.now Said.Bad [] error_text c.args.registers.now c.in-Bad.ensures.reads refl refl;
   appends = c.in-Ok.ensures.ok;
-  fewest = tt;
-  written = tt;
-  reads_back = reads_back_law (g.K.Machine.world c.args.kernel.now) [] tt;
+  promises = promised_none (g.K.Machine.world c.args.kernel.now);
 }
 
 pub returns-in-Err-clause-err : goal.returns-in-Err-clause-err
 returns-in-Err-clause-err g c =
-    ([], error_text, refl, Prints-one c.args.registers.now c.args.line.now Said.Bad [] error_text c.args.registers.now c.in-Bad.ensures.reads refl refl, c.in-Err.ensures.err, tt, tt, reads_back_law (g.K.Machine.world c.args.kernel.now) [] tt)
+    ([], error_text, refl, Prints-one c.args.registers.now c.args.line.now Said.Bad [] error_text c.args.registers.now c.in-Bad.ensures.reads refl refl, c.in-Err.ensures.err, promised_none (g.K.Machine.world c.args.kernel.now))
 
 pub returns-in-Ok-print_shown-clause-ok : goal.returns-in-Ok-print_shown-clause-ok
 returns-in-Ok-print_shown-clause-ok g c =
@@ -41,9 +37,7 @@ returns-in-Ok-print_shown-clause-ok g c =
       run = (c.in-Ok-call.ensures.step, refl {a = g.K.Machine.world c.call.new.self});
       prints = Prints-one c.args.registers.now c.args.line.now (Said.Says c.in-Command.target command) (event ∷ []) text c.store.new.self c.in-Command.ensures.reads (refl, shows) c.store.ensures;
       appends = appends;
-      fewest = (c.in-Ok-call.ensures.fewest, tt);
-      written = (c.in-Ok-call.ensures.written, tt);
-      reads_back = reads_back_law (g.K.Machine.world c.args.kernel.now) (event ∷ []) (c.in-Ok-call.ensures.written, tt);
+      promises = c.in-Ok-call.ensures.promises;
     }
 
 pub returns-in-Err-print_shown-clause-err : goal.returns-in-Err-print_shown-clause-err
@@ -56,7 +50,5 @@ returns-in-Err-print_shown-clause-err g c =
       (c.in-Ok-call.ensures.step, refl {a = g.K.Machine.world c.call.new.self}),
       Prints-one c.args.registers.now c.args.line.now (Said.Says c.in-Command.target command) (event ∷ []) text c.store.new.self c.in-Command.ensures.reads (refl, shows) c.store.ensures,
       front,
-      (c.in-Ok-call.ensures.fewest, tt),
-      (c.in-Ok-call.ensures.written, tt),
-      reads_back_law (g.K.Machine.world c.args.kernel.now) (event ∷ []) (c.in-Ok-call.ensures.written, tt),
+      c.in-Ok-call.ensures.promises,
     )

@@ -10,7 +10,8 @@ returns-in_err-feed-clause-err g c =
     rw (p.1, p.2) (
       text ++ take c.in-Ok.count c.read_some.new.buffer,
       Consumes-trans _ _ _ _ _ consumed c.in-Ok.ensures.ok,
-      FailsLater-piece _ _ _ _ _ _ _ _ _ _ text _ c.in_err-feed.field-0.0 (Feeds-kept _ _ _ _ _ _ _ _ text feeds c.flush_writer.ensures) (omega (arith, c.pieces.invariant.size, c.read_some.auto.buffer, length-take c.in-Ok.count c.read_some.new.buffer)) c.in_err-feed.ensures.err,
+      FailsLater-piece _ _ _ _ _ _ _ _ _ _ text _ (Feeds-kept _ _ _ _ _ _ _ _ text feeds c.flush_writer.ensures) c.pieces.invariant.fits (omega (arith, c.pieces.invariant.size, c.read_some.auto.buffer, length-take c.in-Ok.count c.read_some.new.buffer))
+          c.in_err-feed.field-0.0 c.in_err-feed.ensures.err,
     )
 
 pub pieces-init : goal.pieces-init

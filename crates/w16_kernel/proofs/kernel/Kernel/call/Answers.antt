@@ -1,6 +1,6 @@
 use Rattle.w16_kernel.proofs.Common.{sym, subst, on_any, IsWorldOver}
 use Rattle.w16_kernel.proofs.Spared.{others_stay}
-use Rattle.w16_kernel.proofs.Stepping.{recounted, told_step, told_fewest, told_world, told_written}
+use Rattle.w16_kernel.proofs.Stepping.{recounted, told_promises, told_step, told_world}
 use Rattle.w16_kernel.proofs.kernel.Kernel.call.Goals as goal
 
 pub sweep-requires : goal.sweep-requires
@@ -10,12 +10,9 @@ sweep-requires g c = rw (c.object_slot-slot.ensures, c.word.ensures, c.discardab
 pub returns-clause-step : goal.returns-clause-step
 returns-clause-step g c = rw (← c.self.view_is) (rw c.sweep.ensures (told_step g.S.Store.is_honest _ c.self.invariant _ c.in_ok-reply.reply _ c.in_ok-reply.ensures.step))
 
-pub returns-clause-fewest : goal.returns-clause-fewest
-returns-clause-fewest g c = rw (← c.self.view_is) (rw c.sweep.ensures (told_fewest g.S.Store.is_honest _ c.self.invariant _ c.in_ok-reply.reply _ c.in_ok-reply.ensures.step))
-
-pub returns-clause-written : goal.returns-clause-written
-returns-clause-written g c =
-    rw (← c.self.view_is) (rw c.sweep.ensures (told_written g.S.Store.is_honest _ c.self.invariant _ c.in_ok-reply.reply _ c.in_ok-reply.ensures.step c.in_ok-reply.ensures.ranged))
+pub returns-clause-promises : goal.returns-clause-promises
+returns-clause-promises g c =
+    rw (← c.self.view_is) (rw c.sweep.ensures (told_promises g.S.Store.is_honest _ c.self.invariant _ c.in_ok-reply.reply _ c.in_ok-reply.ensures.step c.in_ok-reply.ensures.ranged))
 
 pub invariant_of-self-2 : goal.invariant_of-self-2
 invariant_of-self-2 g c = rw c.sweep.ensures (told_world g.S.Store.is_honest _ c.self.invariant _ c.in_ok-reply.reply _ c.in_ok-reply.ensures.step c.in_ok-reply.ensures.ranged)

@@ -1,4 +1,4 @@
-use Rattle.w16_kernel.proofs.Common.{take, get_or, IsSomeAnd, List, sym, subst, arith, take_more, slice_get-get_or, on_any, IsFewest, Call, GlobalAlloc, KernelStep, KeepsWritten, command_of, TakesMemory}
+use Rattle.w16_kernel.proofs.Common.{take, get_or, IsSomeAnd, List, sym, subst, arith, take_more, slice_get-get_or, on_any, Call, GlobalAlloc, KernelStep, Promises, [], ◌∷◌, command_of, TakesMemory}
 use Rattle.w16_kernel.proofs.Running.{Ran, none_done, ran_all, ran_more, ran_stops}
 use Rattle.w16_kernel.proofs.kernel.Kernel.run_calls.Goals as goal
 
@@ -8,9 +8,8 @@ loop-call-preserved g c =
     let calls = c.args.calls.now in
     let call = get_or calls i (GlobalAlloc 0 0) in
     let step = subst (λ reply. KernelStep g.S.Store.is_honest c.loop-call.self (command_of call) reply c.call.new.self) (sym c.of.ensures) c.in_ok-reply.ensures.step in
-    let few = subst (λ reply. IsFewest c.loop-call.self (record { command = command_of call; reply = reply; after = c.call.new.self })) (sym c.of.ensures) c.in_ok-reply.ensures.fewest in
-    let keeps = subst (λ reply. KeepsWritten c.loop-call.self (record { command = command_of call; reply = reply; after = c.call.new.self })) (sym c.of.ensures) c.in_ok-reply.ensures.written in
-    let longer = ran_more (KernelStep g.S.Store.is_honest) c.args.self.now (take i calls) c.loop-call.answers.items c.loop-call.self call c.of.result c.call.new.self c.loop-call.invariant.ran step few keeps in
+    let promises = subst (λ reply. Promises c.loop-call.self (record { command = command_of call; reply = reply; after = c.call.new.self } ∷ [])) (sym c.of.ensures) c.in_ok-reply.ensures.promises in
+    let longer = ran_more (KernelStep g.S.Store.is_honest) c.args.self.now (take i calls) c.loop-call.answers.items c.loop-call.self call c.of.result c.call.new.self c.loop-call.invariant.ran step promises in
     let longest = c.push_reserved.ensures.capacity in let one = c.push_reserved.ensures.len in let count = c.loop-call.invariant.count in let room = c.loop-call.invariant.room in
     record { count = omega arith; room = omega arith; ran = subst (λ (cs : List Call). Ran (KernelStep g.S.Store.is_honest) c.args.self.now cs c.push_reserved.new.self.items c.call.new.self) (sym (take_more calls i (GlobalAlloc 0 0) (omega arith))) (rw c.push_reserved.ensures.items longer) }
 
