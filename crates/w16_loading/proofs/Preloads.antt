@@ -94,6 +94,9 @@ module _ (x q : ℕ) where
     none_stays : bytes_at a q ≡ None → bytes_at b q ≡ None
     none_stays none = elim now [ inl e ↦ ap bytes_in e ∙ ap bytes_in (sym its.1) ∙ none | inr e ↦ ap bytes_in e ]
 
+    abbrev listed : List ℕ
+    listed = eligible (blocks a) a.order (Some slot)
+
     settled_k : (k : ℕ) × (o : Object) × Settles a (stays_for slot revival_options) (with_ordered (discarded a k (Some slot)) slot o (with_newest slot o)) b
     settled_k = settled_so a slot bytes b f
 
@@ -103,19 +106,22 @@ module _ (x q : ℕ) where
     order_is : b.order ≡ with_newest slot settled_k.1 order_before
     order_is = ap (λ (h : Heap). h.order) settled_k.2.same
 
+    abbrev rest_before : List ℕ
+    rest_before = filter (λ r. not (r == slot)) order_before
+
     -- the order once the slot is the newest
-    last_newest : (c : Bool) → IsLast (filter (λ r. not (r == slot)) order_before) → IsLast (cond {A = List ℕ} c (filter (λ r. not (r == slot)) order_before ++ slot ∷ []) (filter (λ r. not (r == slot)) order_before))
-    last_newest true h = last_then (filter (λ r. not (r == slot)) order_before) slot d h
+    last_newest : (c : Bool) → IsLast rest_before → IsLast (cond {A = List ℕ} c (rest_before ++ slot ∷ []) rest_before)
+    last_newest true h = last_then rest_before slot d h
     last_newest false h = h
 
-    last_then_of : IsLast (filter (λ r. not (r == slot)) order_before) → IsLast b.order
+    last_then_of : IsLast rest_before → IsLast b.order
     last_then_of h = subst IsLast (sym order_is) (last_newest (is_in_order (Some settled_k.1)) h)
 
     -- where the segment itself is filled
     filled_now : slot ≡ x → IsAfter b
     filled_now same = record {
       may = may_then;
-      last = last_then_of (none_last (filter (λ r. not (r == slot)) order_before) (λ m. false≢true (sym (ap not (eq-eqb x slot (sym same))) ∙ (member_filter (λ r. not (r == slot)) order_before x m).1)));
+      last = last_then_of (none_last rest_before (λ m. false≢true (sym (ap not (eq-eqb x slot (sym same))) ∙ (member_filter (λ r. not (r == slot)) order_before x m).1)));
       lost = λ e. let g : ◌≡◌ {A = Option (List ℕ)} None (Some bytes) = sym e ∙ ap (bytes_at b) (sym same) ∙ ap bytes_in (filled_object a slot bytes b f) in cc;
     }
 
@@ -123,7 +129,7 @@ module _ (x q : ℕ) where
     filled_then : IsAfter a → IsAfter b
     filled_then h = record {
       may = may_then;
-      last = last_then_of (last_filter (λ r. not (r == slot)) order_before (last_absent (take settled_k.0 (eligible (blocks a) a.order (Some slot))) a h.last));
+      last = last_then_of (last_filter (λ r. not (r == slot)) order_before (last_absent (take settled_k.0 listed) a h.last));
       lost = lost_then;
     }
       where
@@ -133,22 +139,22 @@ module _ (x q : ℕ) where
         loose : is_pinned_object its.0 ≡ false
         loose = ap (λ k. is_fixed k || nat_lt 0 its.0.locks) its.2 ∙ ap (nat_lt 0) its.3
 
-        q_eligible : is_some (bytes_at a q) ≡ true → Member q (eligible (blocks a) a.order (Some slot))
+        q_eligible : is_some (bytes_at a q) ≡ true → Member q listed
         q_eligible some = filter_member (λ r. not (is_pinned_id (blocks a) r) && not (is_about (Some slot) r)) a.order q
             (is_member-true q a.order (is.in_order q ∙ ap is_in_order its.1 ∙ ap (λ k. is_discardable k && is_some its.0.bytes) its.2 ∙ ap is_some (sym (ap bytes_in its.1)) ∙ some))
             (ap (λ t. not t && not (q == slot)) (loose_id a q its.0 its.1 loose) ∙ ap not (ne_eqb q slot d))
 
-        also : is_member x (take others.0 (eligible (blocks a) a.order (Some slot))) ≡ true → (p : Option (List ℕ)) → bytes_at a q ≡ p → bytes_at b q ≡ None
+        also : is_member x (take others.0 listed) ≡ true → (p : Option (List ℕ)) → bytes_at a q ≡ p → bytes_at b q ≡ None
         also t None e = none_stays e
         also t (Some c) e =
-            let m : Member q (take others.0 (eligible (blocks a) a.order (Some slot))) = in_take others.0 (eligible (blocks a) a.order (Some slot)) (last_filter (λ r. not (is_pinned_id (blocks a) r) && not (is_about (Some slot) r)) a.order h.last)
-            (is_member-true x (take others.0 (eligible (blocks a) a.order (Some slot))) t) (q_eligible (ap is_some e)) in
-            ap bytes_in (subst (λ p. IsSomeAnd p (IsLost b q)) its.1 (others.1.discarded q (true-is_member q (take others.0 (eligible (blocks a) a.order (Some slot))) m))).3
+            let m : Member q (take others.0 listed) = in_take others.0 listed (last_filter (λ r. not (is_pinned_id (blocks a) r) && not (is_about (Some slot) r)) a.order h.last)
+            (is_member-true x (take others.0 listed) t) (q_eligible (ap is_some e)) in
+            ap bytes_in (subst (λ p. IsSomeAnd p (IsLost b q)) its.1 (others.1.discarded q (true-is_member q (take others.0 listed) m))).3
 
         lost_then : bytes_at b x ≡ None → bytes_at b q ≡ None
         lost_then e = elim (cases_eq x slot) [
           | inl same ↦ absurd (full (sym e ∙ ap (bytes_at b) same ∙ ap bytes_in (filled_object a slot bytes b f)))
-          | inr apart ↦ elim (cases_Bool (is_member x (take others.0 (eligible (blocks a) a.order (Some slot))))) [
+          | inr apart ↦ elim (cases_Bool (is_member x (take others.0 listed))) [
             | inl t ↦ also t (bytes_at a q) refl
             | inr t ↦ none_stays (h.lost (sym (ap bytes_in (others.1.kept x (λ s. apart (sym (its_slot s))) (λ u. false≢true (sym t ∙ u)))) ∙ e))
           ]
