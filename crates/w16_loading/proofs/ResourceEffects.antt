@@ -1,5 +1,5 @@
 -- What LoadResource and LockResource are for, proved from their steps over any store.
-use Rattle.w16_loading.proofs.Common.{◌≡◌, ◌≢◌, ℕ, ◌+◌, ◌-◌, ◌<◌, ◌≤◌, ◌==◌, ◌&&◌, inl, inr, ◌⊎◌, Bool, true, false, cond, not, nat_lt, List, length, Option, Some, None, IfSome, IsSomeAnd, MatchOption, MatchBool, is_some, slice_get, refl, sym, ap, ◌∙◌, subst, arith, eqb-true}
+use Rattle.w16_loading.proofs.Common.{◌≡◌, ◌≢◌, ℕ, ◌+◌, ◌-◌, ◌<◌, ◌≤◌, ◌==◌, ◌&&◌, inl, inr, ◌⊎◌, Bool, true, false, cond, not, nat_lt, List, length, Option, Some, None, IfSome, IsSomeAnd, MatchOption, MatchBool, is_some, option_map, slice_get, refl, sym, ap, ◌∙◌, subst, arith, eqb-true}
 use Rattle.w16_loading.proofs.Common.{false≢true, and_parts, IsTrue, Heap, Object, Handles, IsFreeSlot, object_at, bytes_at, bytes_in, is_fixed, handle_of, slot_of_handle, selector_of, rounded_size, global_lock, owned_in, inserted_here, inserted_other}
 use Rattle.w16_loading.proofs.Common.{with_ordered, FetchFault, NoRoom, Store, Damaged, numbered, Resource, Load, LoadingWorld, Module, module_at, with_heap, Reply, Word, Dword, Failed, MOST_USES, IsLoad, IsLoadingWorld, IsObjectOf, AnyFetches, is_of_read}
 use Rattle.w16_loading.proofs.Common.{AnswersNone, LoadsNewResource, LoadsResource, LocksResource, attributes_for, is_too_long, load_of, loaded_again, lock_outcome, locked, resource_at, resource_outcome, slot_of_resource, with_resource}
@@ -225,7 +225,7 @@ some_pointer slot e = omega (arith, e)
 module _ (old : LoadingWorld) (is : IsLoadingWorld old) (handle answer : ℕ) (new : LoadingWorld) where
   -- a world is left as it was for want of a count; or the object has a lock more, unless it is fixed
   abbrev IsFull : LoadingWorld → Object → Type 0
-  IsFull world o = (answer ≡ 0) × (new ≡ world) × (o.locks ≡ 255)
+  IsFull world o = (answer ≡ 0) × (new ≡ world) × (o.locks ≡ 255) × (is_fixed o.kind ≡ false)
 
   abbrev IsLocked : LoadingWorld → ℕ → Object → Type 0
   IsLocked world slot o = (answer ≡ far_pointer (selector_of slot) 0) × (new.modules ≡ world.modules) × (new.loads ≡ world.loads) × (is_fixed o.kind ≡ false → o.locks < 255)
@@ -256,7 +256,7 @@ module _ (old : LoadingWorld) (is : IsLoadingWorld old) (handle answer : ℕ) (n
 
       by : (c d : Bool) → is_fixed o.kind ≡ c → (o.locks == 255) ≡ d → ◌≡◌ {A = Reply × LoadingWorld} (Dword answer, new) (printed (outcome world.handles slot o there bytes (lock_if world.handles slot o there bytes true c d))) → IsFull world o ⊎ IsLocked world slot o
       by true d fixed t e = let both = parts _ e in inr (locked_so true fixed (dword _ both.0) (λ loose. absurd (false≢true (sym loose ∙ fixed))) world.handles both.1 there)
-      by false true fixed t e = inl (dword 0 (parts _ e).0, (parts _ e).1, eqb-true o.locks 255 t)
+      by false true fixed t e = inl (dword 0 (parts _ e).0, (parts _ e).1, eqb-true o.locks 255 t, fixed)
       by false false fixed t e =
           let both = parts _ e in
           inr (locked_so false fixed (dword _ both.0) (λ loose. grind (arith, few, t)) (record world.handles { heap = counted world.handles slot o there bytes }) both.1
@@ -336,5 +336,23 @@ module _ (old : LoadingWorld) (is : IsLoadingWorld old) (handle answer : ℕ) (n
       by_slot None e f = unlocked (let g : Dword answer ≡ Dword 0 = f.0 in cc) f.1
       by_slot (Some x) e f = by_object x e (object_at old.handles.heap x.0) refl ((names_law old.handles handle x.0).0.0 (named_slot old handle x e)) f
 
+  -- what has bytes is answered, unless its count is full
+  answers : (slot : ℕ) (load : Load) (o : Object) → slot_of_handle old.handles handle ≡ Some slot → finmap.get old.loads slot ≡ Some load → object_at old.handles.heap slot ≡ Some o → is_some o.bytes ≡ true → (is_fixed o.kind ≡ true) ⊎ (o.locks < 255)
+      → LocksResource AnyFetches old handle (Dword answer) new → answer ≢ 0
+  answers slot load o found loaded there bytes few step = by o.bytes bytes (subst (Fetched slot) (ap bytes_in there)
+      (subst (λ p. MatchOption p ((◌≡◌ {A = Reply} (Dword answer) (Dword 0)) × (new ≡ old)) (λ x. Fetched x.0 (bytes_at old.handles.heap x.0))) is_it step))
+    where
+      is_it : slot_of_resource old handle ≡ Some (slot, load)
+      is_it = ap (λ p. elim p as (λ _. Option (ℕ × Load)) [ None ↦ None | Some s ↦ option_map {T = Load} {U = ℕ × Load} (λ l. (s, l)) (finmap.get old.loads s) ]) found ∙ ap (option_map {T = Load} {U = ℕ × Load} (λ l. (slot, l))) loaded
+
+      by : (p : Option (List ℕ)) → is_some p ≡ true → Fetched slot p → answer ≢ 0
+      by None t f zero = false≢true t
+      by (Some b) t f zero = elim (lock_at old slot o there bytes (counts slot load found loaded o there).0 found f) [
+        | inl full ↦ elim few [ inl fixed ↦ false≢true (sym full.3 ∙ fixed) | inr lt ↦ omega (arith, full.2, lt) ]
+        | inr l ↦ some_pointer slot (sym l.0 ∙ zero)
+      ]
+
 pub lock_resource_law : LockResourceLaw
-lock_resource_law old new handle answer is step = locks old is handle answer (record new { failures = old.failures }) step.step
+lock_resource_law old new handle answer is step =
+    let l = locks old is handle answer (record new { failures = old.failures }) step.step in
+    (l.0, l.1, l.2, l.3, λ slot load o found loaded there bytes few. answers old is handle answer (record new { failures = old.failures }) slot load o found loaded there bytes few step.step)

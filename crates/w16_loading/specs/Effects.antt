@@ -2,7 +2,7 @@
 use Rattle.std.specs.Prelude.{◌≡◌, ◌≢◌, ℕ, ◌+◌, ◌-◌, ◌<◌, ◌≤◌, ◌⊎◌, ◌&&◌, true, false, if◌then◌else◌, is_some, List, length, Option, Some, None, IfSome, IsSomeAnd, slice_get}
 use Rattle.std.specs.FinMap as finmap
 use Rattle.w16_model.specs.declared.Kind.TheVariants.{Fixed, Discardable}
-use Rattle.w16_model.specs.Heap.{object_at, bytes_at, is_fixed}
+use Rattle.w16_model.specs.Heap.{Object, object_at, bytes_at, is_fixed}
 use Rattle.w16_model.specs.Handles.{IsFreeSlot, slot_of_handle, selector_of, far_pointer}
 use Rattle.w16_model.specs.Calls.{locks_at, rounded_size}
 use Rattle.w16_store.specs.Names.{is_named}
@@ -75,12 +75,15 @@ abbrev pub IsLockedOnce : LoadingWorld → ℕ → LoadingWorld → Type 0
 IsLockedOnce old slot new = IsSomeAnd (object_at old.handles.heap slot) (λ o. (bytes : List ℕ) × IfSome o.bytes (λ b. bytes ≡ b) × (is_fixed o.kind ≡ false → o.locks < 255)
     × (object_at new.handles.heap slot ≡ Some (record o { locks = if is_fixed o.kind then o.locks else o.locks + 1; bytes = Some bytes })))
 
--- LockResource, over any store: the far pointer to the first byte of a resource, locked; or 0, with the same handles
+-- LockResource, over any store: the far pointer to the first byte of a resource, locked; or 0, with the same handles, and not where it has bytes, unless
+-- 255 locks are full
 abbrev pub LockResourceLaw : Type 0
 LockResourceLaw = (old new : LoadingWorld) (handle answer : ℕ) → IsLoadingWorld old → AnyStep old (OfResources (LockResource handle)) (Dword answer) new
     → (new.modules ≡ old.modules) × (new.loads ≡ old.loads) × (answer ≡ 0 → new.handles ≡ old.handles)
     × (answer ≢ 0 → (slot : ℕ) × (load : Load) × (slot_of_handle old.handles handle ≡ Some slot) × (finmap.get old.loads slot ≡ Some load)
     × (answer ≡ far_pointer (selector_of slot) 0) × IsLockedOnce old slot new)
+    × ((slot : ℕ) (load : Load) (o : Object) → slot_of_handle old.handles handle ≡ Some slot → finmap.get old.loads slot ≡ Some load → object_at old.handles.heap slot ≡ Some o
+    → is_some o.bytes ≡ true → (is_fixed o.kind ≡ true) ⊎ (o.locks < 255) → answer ≢ 0)
 
 -- what a load's answer names: a new module with one explicit use, or one that was there with one use more, or a built-in
 abbrev pub IsUsedOnce : Option Named → Option Named → Type 0
