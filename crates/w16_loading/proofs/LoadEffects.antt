@@ -4,7 +4,8 @@ use Rattle.w16_loading.proofs.Common.{AllZip, false≢true, cases_eq, eq-eqb, Ki
 use Rattle.w16_loading.proofs.Common.{IsModuleFile, IsSegmentData, Segment, SegmentData, Far, LoadingWorld, Module, Named, Loaded, BuiltIn, with_heap, Filling, Failure, Fills, InTurn, is_of_read, GivesAny, AnyLoads, Closure, Found, around, Choice, IsChoice, Given, given, segments_of}
 use Rattle.w16_loading.proofs.Common.{bound, named, fills, fills_from, fills_of, Answer, Says, Fulfils, after_use, left, outcome_of, refusal_of, undone, used_again, Word, ModuleStep, LoadModule, LoadLibrary, IsLoadingWorld, ModuleCommand}
 use Rattle.std.specs.FinMap as finmap
-use Rattle.w16_model.specs.declared.Kind.TheVariants.{Fixed}
+use Rattle.w16_model.specs.declared.Kind.TheVariants.{Fixed, Moveable}
+use Rattle.w16_model.specs.Heap.{is_discardable}
 use Rattle.w16_loading.specs.declared.FetchFault.TheVariants as faults
 use Rattle.w16_loading.specs.Effects.{IsUsedOnce, LoadLaw}
 use Rattle.w16_loading.specs.Families.{reply_of}
@@ -12,9 +13,10 @@ use Rattle.w16_loading.specs.Load.Answer.{StoreFails}
 use Rattle.w16_loading.proofs.ClosureFacts.{IsClosure, closure_is}
 use Rattle.w16_loading.proofs.Fillings.{IsLost, any_do, filled_object, filled_other, one_heap}
 use Rattle.w16_loading.proofs.Given.{at_place, given_found, given_segment, index_place, put_here, put_named, zip_member}
-use Rattle.w16_loading.proofs.LoadWorlds.{free_handle, handles_differ, named_new, segments_differ}
+use Rattle.w16_loading.proofs.LoadWorlds.{free_handle, handles_differ, named_new, segments_differ, sized, was_free}
 use Rattle.w16_loading.proofs.Named.{named_heap}
-use Rattle.w16_loading.proofs.Undone.{in_first, in_second}
+use Rattle.w16_loading.proofs.Preloads.{all_after}
+use Rattle.w16_loading.proofs.Undone.{fold_named, in_first, in_second}
 
 -- An object of some kind that isn't discardable keeps what a filling gave it.
 module _ (k : Kind) (firm : k ≢ Discardable) (q : ℕ) where
@@ -77,9 +79,12 @@ in_all module_of (h ∷ gs) g x (inl e) n = in_first x (fills_of module_of h) (f
 in_all module_of (h ∷ gs) g x (inr m) n = in_second x (fills_of module_of h) (flat_map (fills_of module_of) gs) (in_all module_of gs g x m n)
 
 module _ (old : LoadingWorld) (is : IsLoadingWorld old) (answer : ℕ) (new : LoadingWorld) where
+  abbrev HasOrLost : Heap → ℕ → Segment → Type 0
+  HasOrLost heap slot s = (is_some (bytes_at heap slot) ≡ true) ⊎ ((s.kind ≡ Discardable) × ((q : ℕ) → IsSomeAnd (object_at old.handles.heap q) (λ o. (o.kind ≡ Discardable) × (o.locks ≡ 0)) → bytes_at heap q ≡ None))
+
   abbrev IsReady : LoadingWorld → Type 0
   IsReady world = (handle i slot : ℕ) (m : Module) (s : Segment) → finmap.get old.modules handle ≡ None → finmap.get world.modules handle ≡ Some (Loaded m)
-      → slice_get m.tables.segments i ≡ Some s → slice_get m.slots i ≡ Some slot → (s.kind ≡ Fixed) ⊎ ((s.is_preload ≡ true) × (s.kind ≢ Discardable)) → is_some (bytes_at world.handles.heap slot) ≡ true
+      → slice_get m.tables.segments i ≡ Some s → slice_get m.slots i ≡ Some slot → (s.kind ≡ Fixed) ⊎ (s.is_preload ≡ true) → HasOrLost world.handles.heap slot s
 
   abbrev Does : LoadingWorld → Type 0
   Does world = IsUsedOnce (finmap.get old.modules answer) (finmap.get world.modules answer) × IsReady world
@@ -101,23 +106,55 @@ module _ (old : LoadingWorld) (is : IsLoadingWorld old) (answer : ℕ) (new : Lo
     abbrev done : LoadingWorld
     done = with_heap (named old closure choice) heap
 
-    given_bytes : (g : Given) → Member g gs → (i slot : ℕ) (s : Segment) → slice_get g.found.read.tables.segments i ≡ Some s → slice_get g.slots i ≡ Some slot → (is_fixed s.kind || s.is_preload) ≡ true → s.kind ≢ Discardable → is_some (bytes_at heap slot) ≡ true
-    given_bytes g member i slot s there at t firm = has_some (object_at heap slot)
-        (all_filled s.kind firm slot (named old closure choice).handles.heap heap (fills old closure choice) x.0 (in_all module_of gs g x.0 member x.1) x.2 (named_heap old closure choice is.handles good) filled
-        (subst (λ p. IsSomeAnd p (λ (o : Object). (o.kind ≡ s.kind) × Unit {0})) (sym begun.0) (refl, tt)))
-      where
-        file : IsModuleFile g.found.read
-        file = facts.files g.found (given_found 0 closure.found choice.handles choice.slots g member)
+    module _ (g : Given) (member : Member g gs) (i slot : ℕ) (s : Segment) (there : slice_get g.found.read.tables.segments i ≡ Some s) (at : slice_get g.slots i ≡ Some slot) (t : (is_fixed s.kind || s.is_preload) ≡ true) where
+      file : IsModuleFile g.found.read
+      file = facts.files g.found (given_found 0 closure.found choice.handles choice.slots g member)
 
-        x : (x : Filling) × Member x (fills_of module_of g) × (x.slot ≡ slot)
-        x = fill_there _ g.place g.slots g.found.read.tables.segments g.found.read.segments file.segments i slot s at there t
+      x : (x : Filling) × Member x (fills_of module_of g) × (x.slot ≡ slot)
+      x = fill_there _ g.place g.slots g.found.read.tables.segments g.found.read.segments file.segments i slot s at there t
 
-        begun : (object_at (named old closure choice).handles.heap slot ≡ Some (record { kind = s.kind; locks = 0; bytes = None })) × (owned_at (named old closure choice).handles slot ≡ Some (record { size = s.size; code = s.is_code }))
-        begun = named_new old (segments_of gs) (segments_differ old is closure choice good facts heap filled) (slot, s) (given_segment gs g (slot, s) member (zip_member g.slots g.found.read.tables.segments i slot s at there))
+      filling : Member x.0 (fills old closure choice)
+      filling = in_all module_of gs g x.0 member x.1
 
-        has_some : (p : Option Object) → IsSomeAnd p (λ o. (o.kind ≡ s.kind) × (is_some o.bytes ≡ true)) → is_some (bytes_in p) ≡ true
-        has_some None h = absurd h
-        has_some (Some o) h = h.1
+      given_bytes : s.kind ≢ Discardable → is_some (bytes_at heap slot) ≡ true
+      given_bytes firm = has_some (object_at heap slot)
+          (all_filled s.kind firm slot (named old closure choice).handles.heap heap (fills old closure choice) x.0 filling x.2 (named_heap old closure choice is.handles good) filled
+          (subst (λ p. IsSomeAnd p (λ (o : Object). (o.kind ≡ s.kind) × Unit {0})) (sym begun.0) (refl, tt)))
+        where
+          begun : (object_at (named old closure choice).handles.heap slot ≡ Some (record { kind = s.kind; locks = 0; bytes = None })) × (owned_at (named old closure choice).handles slot ≡ Some (record { size = s.size; code = s.is_code }))
+          begun = named_new old (segments_of gs) (segments_differ old is closure choice good facts heap filled) (slot, s) (given_segment gs g (slot, s) member (zip_member g.slots g.found.read.tables.segments i slot s at there))
+
+          has_some : (p : Option Object) → IsSomeAnd p (λ o. (o.kind ≡ s.kind) × (is_some o.bytes ≡ true)) → is_some (bytes_in p) ≡ true
+          has_some None h = absurd h
+          has_some (Some o) h = h.1
+
+      -- an object that was there is no new segment's
+      not_new : (q : ℕ) → is_some (object_at old.handles.heap q) ≡ true → (z : ℕ × Segment) → Member z (segments_of gs) → q ≢ z.0
+      not_new q some z m e = false≢true (sym (ap is_some (ap (object_at old.handles.heap) e ∙ was_free old is closure choice good facts heap filled z m)) ∙ some)
+
+      lost : bytes_at heap slot ≡ None → (q : ℕ) → IsSomeAnd (object_at old.handles.heap q) (λ o. (o.kind ≡ Discardable) × (o.locks ≡ 0)) → bytes_at heap q ≡ None
+      lost none q may = all_after slot q (named old closure choice).handles.heap heap (fills old closure choice) x.0 filling x.2
+          (λ z m e. let d = sized old is closure choice good facts heap filled z m in not_new q some (z.slot, d.0) d.1 e) (named_heap old closure choice is.handles good) filled
+          (subst (λ p. IsSomeAnd p (λ (o : Object). (o.kind ≡ Discardable) × (o.locks ≡ 0))) (sym ((fold_named old (segments_of gs)).others q (not_new q some))) may) none
+        where
+          there_is : (p : Option Object) → IsSomeAnd p (λ o. (o.kind ≡ Discardable) × (o.locks ≡ 0)) → is_some p ≡ true
+          there_is None h = absurd h
+          there_is (Some o) h = refl
+
+          some : is_some (object_at old.handles.heap q) ≡ true
+          some = there_is (object_at old.handles.heap q) may
+
+      has_or_lost : HasOrLost heap slot s
+      has_or_lost = by_kind s.kind refl
+        where
+          by_bytes : s.kind ≡ Discardable → (p : Option (List ℕ)) → bytes_at heap slot ≡ p → HasOrLost heap slot s
+          by_bytes k None e = inr (k, lost e)
+          by_bytes k (Some b) e = inl (ap is_some e)
+
+          by_kind : (k : Kind) → s.kind ≡ k → HasOrLost heap slot s
+          by_kind Discardable e = by_bytes e (bytes_at heap slot) refl
+          by_kind Fixed e = inl (given_bytes (λ d. false≢true (ap is_discardable (sym e ∙ d))))
+          by_kind Moveable e = inl (given_bytes (λ d. false≢true (ap is_discardable (sym e ∙ d))))
 
     or_true : (b : Bool) → (b || true) ≡ true
     or_true true = refl
@@ -126,19 +163,15 @@ module _ (old : LoadingWorld) (is : IsLoadingWorld old) (answer : ℕ) (new : Lo
     ready : IsReady done
     ready handle i slot m s unnamed there at slot_at asked = elim (put_named module_of gs old.modules handle (Loaded m) there) [
       | inr f ↦ no_value (finmap.get old.modules handle) m unnamed f
-      | inl r ↦ let same : m ≡ module_of r.0 = unloaded r.0 r.3 in given_bytes r.0 r.1 i slot s (ap (λ (x : Module). slice_get x.tables.segments i) (sym same) ∙ at) (ap (λ (x : Module). slice_get x.slots i) (sym same) ∙ slot_at) (wanted asked) (firm asked)
+      | inl r ↦ let same : m ≡ module_of r.0 = unloaded r.0 r.3 in has_or_lost r.0 r.1 i slot s (ap (λ (x : Module). slice_get x.tables.segments i) (sym same) ∙ at) (ap (λ (x : Module). slice_get x.slots i) (sym same) ∙ slot_at) (wanted asked)
     ]
       where
         unloaded : (g : Given) → Loaded m ≡ Loaded (module_of g) → m ≡ module_of g
         unloaded g e = cc
 
-        wanted : (s.kind ≡ Fixed) ⊎ ((s.is_preload ≡ true) × (s.kind ≢ Discardable)) → (is_fixed s.kind || s.is_preload) ≡ true
+        wanted : (s.kind ≡ Fixed) ⊎ (s.is_preload ≡ true) → (is_fixed s.kind || s.is_preload) ≡ true
         wanted (inl e) = ap (λ k. is_fixed k || s.is_preload) e
-        wanted (inr e) = ap (λ b. is_fixed s.kind || b) e.0 ∙ or_true (is_fixed s.kind)
-
-        firm : (s.kind ≡ Fixed) ⊎ ((s.is_preload ≡ true) × (s.kind ≢ Discardable)) → s.kind ≢ Discardable
-        firm (inl e) = λ d. false≢true (ap is_fixed (sym d ∙ e))
-        firm (inr e) = e.1
+        wanted (inr e) = ap (λ b. is_fixed s.kind || b) e ∙ or_true (is_fixed s.kind)
 
     used : answer ≡ slice_index_or choice.handles 0 0 → FIRST_MODULE ≤ answer → IsUsedOnce (finmap.get old.modules answer) (finmap.get done.modules answer)
     used says le = by closure.found refl

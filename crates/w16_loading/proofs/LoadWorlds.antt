@@ -88,7 +88,7 @@ module _ (old : LoadingWorld) (is : IsLoadingWorld old) (closure : Closure) (cho
   begun_handles = named_handles old closure choice is.handles good small
 
   -- a slot of a new segment was free
-  was_free : (x : ℕ × Segment) → Member x (segments_of gs) → object_at old.handles.heap x.0 ≡ None
+  pub was_free : (x : ℕ × Segment) → Member x (segments_of gs) → object_at old.handles.heap x.0 ≡ None
   was_free x m = unused_slot old.handles is.handles x.0 (free_slot old closure choice good x.0 (chosen 0 closure.found choice.handles choice.slots x m))
 
   -- a handle of a new module was free
@@ -101,7 +101,7 @@ module _ (old : LoadingWorld) (is : IsLoadingWorld old) (closure : Closure) (cho
   -- Objects.
 
   -- what is filled has the size of its segment
-  sized : (x : Filling) → Member x (fills old closure choice) → (segment : Segment) × Member {X = ℕ × Segment} (x.slot, segment) (segments_of gs) × (length x.bytes ≡ segment.size)
+  pub sized : (x : Filling) → Member x (fills old closure choice) → (segment : Segment) × Member {X = ℕ × Segment} (x.slot, segment) (segments_of gs) × (length x.bytes ≡ segment.size)
   sized x m =
       let r : (g : Given) × Member g gs × IsFilledBy module_of g x = filled_by module_of gs x m in
       let f : IsFilledBy module_of r.0 x = r.2 in

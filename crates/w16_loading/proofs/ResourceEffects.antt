@@ -1,5 +1,5 @@
 -- What LoadResource and LockResource are for, proved from their steps over any store.
-use Rattle.w16_loading.proofs.Common.{◌≡◌, ◌≢◌, ℕ, ◌+◌, ◌-◌, ◌<◌, ◌≤◌, ◌==◌, ◌&&◌, inl, inr, ◌⊎◌, Bool, true, false, cond, not, nat_lt, List, length, Option, Some, None, IfSome, IsSomeAnd, MatchOption, MatchBool, is_some, slice_get, refl, sym, ap, ◌∙◌, subst, arith, eqb-true}
+use Rattle.w16_loading.proofs.Common.{◌≡◌, ◌≢◌, ℕ, ◌+◌, ◌-◌, ◌<◌, ◌≤◌, ◌==◌, ◌&&◌, inl, inr, ◌⊎◌, Bool, true, false, cond, not, nat_lt, List, length, Option, Some, None, IfSome, IsSomeAnd, MatchOption, MatchBool, is_some, option_map, slice_get, refl, sym, ap, ◌∙◌, subst, arith, eqb-true}
 use Rattle.w16_loading.proofs.Common.{false≢true, and_parts, IsTrue, Heap, Object, Handles, IsFreeSlot, object_at, bytes_at, bytes_in, is_fixed, handle_of, slot_of_handle, selector_of, rounded_size, global_lock, owned_in, inserted_here, inserted_other}
 use Rattle.w16_loading.proofs.Common.{with_ordered, FetchFault, NoRoom, Store, Damaged, numbered, Resource, Load, LoadingWorld, Module, module_at, with_heap, Reply, Word, Dword, Failed, MOST_USES, IsLoad, IsLoadingWorld, IsObjectOf, AnyFetches, is_of_read}
 use Rattle.w16_loading.proofs.Common.{AnswersNone, LoadsNewResource, LoadsResource, LocksResource, attributes_for, is_too_long, load_of, loaded_again, lock_outcome, locked, resource_at, resource_outcome, slot_of_resource, with_resource}
@@ -97,14 +97,17 @@ module _ (old : LoadingWorld) (is : IsLoadingWorld old) (handle place answer : �
           )
 
   -- whose resource it is
-  its_module : (r : Resource) → resource_at old handle place ≡ Some r → (m : Module) × (module_at old.modules handle ≡ Some m) × (0 < place) × (slice_get m.tables.resources (place - 1) ≡ Some r)
+  abbrev HasResource : Resource → Type 0
+  HasResource r = (m : Module) × (module_at old.modules handle ≡ Some m) × (0 < place) × (slice_get m.tables.resources (place - 1) ≡ Some r)
+
+  its_module : (r : Resource) → resource_at old handle place ≡ Some r → HasResource r
   its_module r at = by (module_at old.modules handle) refl at
     where
-      by_place : (m : Module) → module_at old.modules handle ≡ Some m → (b : Bool) → (place == 0) ≡ b → cond b None (slice_get m.tables.resources (place - 1)) ≡ Some r → (m : Module) × (module_at old.modules handle ≡ Some m) × (0 < place) × (slice_get m.tables.resources (place - 1) ≡ Some r)
+      by_place : (m : Module) → module_at old.modules handle ≡ Some m → (b : Bool) → (place == 0) ≡ b → cond b None (slice_get m.tables.resources (place - 1)) ≡ Some r → HasResource r
       by_place m there true t e = cc
       by_place m there false t e = (m, there, grind (arith, t), e)
 
-      by : (p : Option Module) → module_at old.modules handle ≡ p → elim p as (λ _. Option Resource) [ None ↦ None | Some m ↦ numbered m.tables.resources place ] ≡ Some r → (m : Module) × (module_at old.modules handle ≡ Some m) × (0 < place) × (slice_get m.tables.resources (place - 1) ≡ Some r)
+      by : (p : Option Module) → module_at old.modules handle ≡ p → elim p as (λ _. Option Resource) [ None ↦ None | Some m ↦ numbered m.tables.resources place ] ≡ Some r → HasResource r
       by None e f = cc
       by (Some m) e f = by_place m e (place == 0) refl f
 
@@ -154,22 +157,25 @@ module _ (old : LoadingWorld) (is : IsLoadingWorld old) (handle place answer : �
             ),
           )
 
+  abbrev Made : Resource → Option (ℕ × Load) → Type 0
+  Made r p = MatchOption p ((((slot : ℕ) → IsFreeSlot old.handles slot → ⊥) × AnswersNone old (Word answer) new) ⊎ LoadsNewResource AnyFetches old handle place r (Word answer) new) (λ x. (Word answer, new) ≡ loaded_again old r x)
+
   loads : LoadsResource AnyFetches old handle place (Word answer) new → Does
   loads step = by_resource (resource_at old handle place) refl step
     where
       by_load : (r : Resource) → resource_at old handle place ≡ Some r → is_too_long r ≡ false → (p : Option (ℕ × Load)) → load_of old handle place ≡ p
-          → MatchOption p ((((slot : ℕ) → IsFreeSlot old.handles slot → ⊥) × AnswersNone old (Word answer) new) ⊎ LoadsNewResource AnyFetches old handle place r (Word answer) new) (λ x. (Word answer, new) ≡ loaded_again old r x) → Does
+          → Made r p → Does
       by_load r at short None e (inl f) = none f.1
       by_load r at short None e (inr f) = first r at short e f
       by_load r at short (Some x) e f = again r x at e f
 
       by_size : (r : Resource) → resource_at old handle place ≡ Some r → (b : Bool) → is_too_long r ≡ b → MatchBool b (AnswersNone old (Word answer) new)
-          (MatchOption (load_of old handle place) ((((slot : ℕ) → IsFreeSlot old.handles slot → ⊥) × AnswersNone old (Word answer) new) ⊎ LoadsNewResource AnyFetches old handle place r (Word answer) new) (λ x. (Word answer, new) ≡ loaded_again old r x)) → Does
+          (Made r (load_of old handle place)) → Does
       by_size r at true t f = none f
       by_size r at false t f = by_load r at t (load_of old handle place) refl f
 
       by_resource : (p : Option Resource) → resource_at old handle place ≡ p → MatchOption p (AnswersNone old (Word answer) new) (λ r. MatchBool (is_too_long r) (AnswersNone old (Word answer) new)
-          (MatchOption (load_of old handle place) ((((slot : ℕ) → IsFreeSlot old.handles slot → ⊥) × AnswersNone old (Word answer) new) ⊎ LoadsNewResource AnyFetches old handle place r (Word answer) new) (λ x. (Word answer, new) ≡ loaded_again old r x))) → Does
+          (Made r (load_of old handle place))) → Does
       by_resource None e f = none f
       by_resource (Some r) e f = by_size r e (is_too_long r) refl f
 
@@ -219,7 +225,7 @@ some_pointer slot e = omega (arith, e)
 module _ (old : LoadingWorld) (is : IsLoadingWorld old) (handle answer : ℕ) (new : LoadingWorld) where
   -- a world is left as it was for want of a count; or the object has a lock more, unless it is fixed
   abbrev IsFull : LoadingWorld → Object → Type 0
-  IsFull world o = (answer ≡ 0) × (new ≡ world) × (o.locks ≡ 255)
+  IsFull world o = (answer ≡ 0) × (new ≡ world) × (o.locks ≡ 255) × (is_fixed o.kind ≡ false)
 
   abbrev IsLocked : LoadingWorld → ℕ → Object → Type 0
   IsLocked world slot o = (answer ≡ far_pointer (selector_of slot) 0) × (new.modules ≡ world.modules) × (new.loads ≡ world.loads) × (is_fixed o.kind ≡ false → o.locks < 255)
@@ -250,7 +256,7 @@ module _ (old : LoadingWorld) (is : IsLoadingWorld old) (handle answer : ℕ) (n
 
       by : (c d : Bool) → is_fixed o.kind ≡ c → (o.locks == 255) ≡ d → ◌≡◌ {A = Reply × LoadingWorld} (Dword answer, new) (printed (outcome world.handles slot o there bytes (lock_if world.handles slot o there bytes true c d))) → IsFull world o ⊎ IsLocked world slot o
       by true d fixed t e = let both = parts _ e in inr (locked_so true fixed (dword _ both.0) (λ loose. absurd (false≢true (sym loose ∙ fixed))) world.handles both.1 there)
-      by false true fixed t e = inl (dword 0 (parts _ e).0, (parts _ e).1, eqb-true o.locks 255 t)
+      by false true fixed t e = inl (dword 0 (parts _ e).0, (parts _ e).1, eqb-true o.locks 255 t, fixed)
       by false false fixed t e =
           let both = parts _ e in
           inr (locked_so false fixed (dword _ both.0) (λ loose. grind (arith, few, t)) (record world.handles { heap = counted world.handles slot o there bytes }) both.1
@@ -259,6 +265,9 @@ module _ (old : LoadingWorld) (is : IsLoadingWorld old) (handle answer : ℕ) (n
   abbrev Locks : Type 0
   Locks = (new.modules ≡ old.modules) × (new.loads ≡ old.loads) × (answer ≡ 0 → new.handles ≡ old.handles)
       × (answer ≢ 0 → (slot : ℕ) × (load : Load) × (slot_of_handle old.handles handle ≡ Some slot) × (finmap.get old.loads slot ≡ Some load) × (answer ≡ far_pointer (selector_of slot) 0) × IsLockedOnce old slot new)
+
+  abbrev Fetched : ℕ → Option (List ℕ) → Type 0
+  Fetched slot p = MatchOption p ((fault : Option FetchFault) × (next : LoadingWorld) × AnyFetches old slot fault next × ((Dword answer, new) ≡ lock_outcome fault handle next)) (λ _. (Dword answer, new) ≡ locked old handle)
 
   unlocked : answer ≡ 0 → new ≡ old → Locks
   unlocked zero same = (ap (λ (w : LoadingWorld). w.modules) same, ap (λ (w : LoadingWorld). w.loads) same, λ z. ap (λ (w : LoadingWorld). w.handles) same, λ d. absurd (d zero))
@@ -308,7 +317,7 @@ module _ (old : LoadingWorld) (is : IsLoadingWorld old) (handle answer : ℕ) (n
         finds_next rest = (names_law next.handles handle slot).0.1 (subst (λ p. IsSomeAnd p (λ x. handle ≡ handle_of x.kind slot)) (sym object) (subst (λ p. IsSomeAnd p (λ x. handle ≡ handle_of x.kind slot)) there names_it))
 
     by_bytes : (p : Option (List ℕ)) → o.bytes ≡ p
-        → MatchOption p ((fault : Option FetchFault) × (next : LoadingWorld) × AnyFetches old slot fault next × ((Dword answer, new) ≡ lock_outcome fault handle next)) (λ _. (Dword answer, new) ≡ locked old handle) → Locks
+        → Fetched slot p → Locks
     by_bytes None e f = fetched f.0 f.1 e f.2 f.3
     by_bytes (Some bytes) e f = elim (lock_at old slot o there (ap is_some e) counts.0 found f) [
       | inl full ↦ unlocked full.0 full.1
@@ -319,14 +328,31 @@ module _ (old : LoadingWorld) (is : IsLoadingWorld old) (handle answer : ℕ) (n
   locks step = by_slot (slot_of_resource old handle) refl step
     where
       by_object : (x : ℕ × Load) → slot_of_resource old handle ≡ Some x → (p : Option Object) → object_at old.handles.heap x.0 ≡ p → IsSomeAnd p (λ o. handle ≡ handle_of o.kind x.0)
-          → MatchOption (bytes_in p) ((fault : Option FetchFault) × (next : LoadingWorld) × AnyFetches old x.0 fault next × ((Dword answer, new) ≡ lock_outcome fault handle next)) (λ _. (Dword answer, new) ≡ locked old handle) → Locks
+          → Fetched x.0 (bytes_in p) → Locks
       by_object x e None at h f = absurd h
       by_object x e (Some o) at h f = by_bytes x.0 x.1 (named_slot old handle x e) (resource_load old handle x e) o at o.bytes refl f
 
-      by_slot : (p : Option (ℕ × Load)) → slot_of_resource old handle ≡ p → MatchOption p ((◌≡◌ {A = Reply} (Dword answer) (Dword 0)) × (new ≡ old)) (λ x. MatchOption (bytes_at old.handles.heap x.0)
-          ((fault : Option FetchFault) × (next : LoadingWorld) × AnyFetches old x.0 fault next × ((Dword answer, new) ≡ lock_outcome fault handle next)) (λ _. (Dword answer, new) ≡ locked old handle)) → Locks
+      by_slot : (p : Option (ℕ × Load)) → slot_of_resource old handle ≡ p → MatchOption p ((◌≡◌ {A = Reply} (Dword answer) (Dword 0)) × (new ≡ old)) (λ x. Fetched x.0 (bytes_at old.handles.heap x.0)) → Locks
       by_slot None e f = unlocked (let g : Dword answer ≡ Dword 0 = f.0 in cc) f.1
       by_slot (Some x) e f = by_object x e (object_at old.handles.heap x.0) refl ((names_law old.handles handle x.0).0.0 (named_slot old handle x e)) f
 
+  -- what has bytes is answered, unless its count is full
+  answers : (slot : ℕ) (load : Load) (o : Object) → slot_of_handle old.handles handle ≡ Some slot → finmap.get old.loads slot ≡ Some load → object_at old.handles.heap slot ≡ Some o → is_some o.bytes ≡ true → (is_fixed o.kind ≡ true) ⊎ (o.locks < 255)
+      → LocksResource AnyFetches old handle (Dword answer) new → answer ≢ 0
+  answers slot load o found loaded there bytes few step = by o.bytes bytes (subst (Fetched slot) (ap bytes_in there)
+      (subst (λ p. MatchOption p ((◌≡◌ {A = Reply} (Dword answer) (Dword 0)) × (new ≡ old)) (λ x. Fetched x.0 (bytes_at old.handles.heap x.0))) is_it step))
+    where
+      is_it : slot_of_resource old handle ≡ Some (slot, load)
+      is_it = ap (λ p. elim p as (λ _. Option (ℕ × Load)) [ None ↦ None | Some s ↦ option_map {T = Load} {U = ℕ × Load} (λ l. (s, l)) (finmap.get old.loads s) ]) found ∙ ap (option_map {T = Load} {U = ℕ × Load} (λ l. (slot, l))) loaded
+
+      by : (p : Option (List ℕ)) → is_some p ≡ true → Fetched slot p → answer ≢ 0
+      by None t f zero = false≢true t
+      by (Some b) t f zero = elim (lock_at old slot o there bytes (counts slot load found loaded o there).0 found f) [
+        | inl full ↦ elim few [ inl fixed ↦ false≢true (sym full.3 ∙ fixed) | inr lt ↦ omega (arith, full.2, lt) ]
+        | inr l ↦ some_pointer slot (sym l.0 ∙ zero)
+      ]
+
 pub lock_resource_law : LockResourceLaw
-lock_resource_law old new handle answer is step = locks old is handle answer (record new { failures = old.failures }) step.step
+lock_resource_law old new handle answer is step =
+    let l = locks old is handle answer (record new { failures = old.failures }) step.step in
+    (l.0, l.1, l.2, l.3, λ slot load o found loaded there bytes few. answers old is handle answer (record new { failures = old.failures }) slot load o found loaded there bytes few step.step)

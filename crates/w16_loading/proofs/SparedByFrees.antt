@@ -23,9 +23,13 @@ record IsLeftOf (handle a : ℕ) (n was : Module) : Type 0 where
   imports : n.imports ≡ was.imports
   uses : was.uses ≤ n.uses + cond (a == handle) 1 0
 
+-- a segment's object that is gone with its module
+abbrev IsOfGone : LoadingWorld → ℕ → LoadingWorld → Type 0
+IsOfGone old q world = (object_at world.handles.heap q ≡ None) × (a number : ℕ) × (m : Module) × IsSegmentOf old q a number m × (module_at world.modules a ≡ None)
+
 -- on the way: an object is spared, or was a segment's of a module that is gone; and what is gone is unused
 record OnTheWay (old : LoadingWorld) (handle q : ℕ) (world : LoadingWorld) : Type 0 where
-  outcome : IsSpared old.handles.heap world.handles.heap q ⊎ ((object_at world.handles.heap q ≡ None) × (a number : ℕ) × (m : Module) × IsSegmentOf old q a number m × (module_at world.modules a ≡ None))
+  outcome : IsSpared old.handles.heap world.handles.heap q ⊎ IsOfGone old q world
   loads : world.loads ≡ old.loads
   sources : (a : ℕ) (n : Module) → module_at world.modules a ≡ Some n → (was : Module) × (module_at old.modules a ≡ Some was) × IsLeftOf handle a n was
   gone : (a : ℕ) (m : Module) → module_at old.modules a ≡ Some m → module_at world.modules a ≡ None → IsUnused old handle world a m
@@ -142,15 +146,15 @@ module _ (old : LoadingWorld) (is : IsLoadingWorld old) (q : ℕ) where
       its : (was : Module) × (module_at old.modules k ≡ Some was) × IsLeftOf handle k idle.idle was
       its = h.sources k idle.idle (ap module_in idle.loaded)
 
-      outcome_then : IsSpared old.handles.heap next.handles.heap q ⊎ ((object_at next.handles.heap q ≡ None) × (a number : ℕ) × (m : Module) × IsSegmentOf old q a number m × (module_at next.modules a ≡ None))
+      outcome_then : Spared next ⊎ IsOfGone old q next
       outcome_then = by_test (cases_Bool (is_member q idle.idle.slots)) h.outcome
         where
           back : (n : ℕ) → n + 1 - 1 ≡ n
           back n = omega arith
 
           by_test : (is_member q idle.idle.slots ≡ true) ⊎ (is_member q idle.idle.slots ≡ false)
-              → Spared world ⊎ ((object_at world.handles.heap q ≡ None) × (a number : ℕ) × (m : Module) × IsSegmentOf old q a number m × (module_at world.modules a ≡ None))
-              → IsSpared old.handles.heap next.handles.heap q ⊎ ((object_at next.handles.heap q ≡ None) × (a number : ℕ) × (m : Module) × IsSegmentOf old q a number m × (module_at next.modules a ≡ None))
+              → Spared world ⊎ IsOfGone old q world
+              → Spared next ⊎ IsOfGone old q next
           by_test (inl t) o =
               let i : (i : ℕ) × (slice_get idle.idle.slots i ≡ Some q) = member_place idle.idle.slots q (is_member-true q idle.idle.slots t) in
               inr (
@@ -266,7 +270,7 @@ module _ (old : LoadingWorld) (is : IsLoadingWorld old) (q : ℕ) where
             none None t = refl
             none (Some m) t = absurd (false≢true t)
 
-        by_test : (is_left_over f.left q ≡ true) ⊎ (is_left_over f.left q ≡ false) → Spared f.left ⊎ ((object_at f.left.handles.heap q ≡ None) × (a number : ℕ) × (m : Module) × IsSegmentOf old q a number m × (module_at f.left.modules a ≡ None))
+        by_test : (is_left_over f.left q ≡ true) ⊎ (is_left_over f.left q ≡ false) → Spared f.left ⊎ IsOfGone old q f.left
             → Ended (without_objects (is_left_over f.left) f.left)
         by_test (inl t) o =
             let l = left_over (finmap.get f.left.loads q) refl t in

@@ -46,11 +46,11 @@ IsUnused old handle new a m =
 abbrev pub IsUnloaded : LoadingWorld → ℕ → LoadingWorld → ℕ → Type 0
 IsUnloaded old handle new q = (a number : ℕ) × (m : Module) × (IsSegmentOf old q a number m ⊎ IsResourceOf old q a number m) × IsUnused old handle new a m
 
--- the object of a handle, a resource that was loaded once more than it was freed and isn't locked
+-- the handle's object, a resource that has one load left and isn't locked
 abbrev pub IsFreedResource : LoadingWorld → ℕ → LoadingWorld → ℕ → Type 0
 IsFreedResource old handle new q = (slot_of_handle old.handles handle ≡ Some q) × IsSomeAnd (finmap.get old.loads q) (λ load. load.loads ≡ 1) × (locks_at old.handles.heap q ≡ 0) × (finmap.get new.loads q ≡ None)
 
--- whose object may go by a step
+-- which object may go by a step
 abbrev pub MayGo : LoadingCommand → LoadingWorld → LoadingWorld → ℕ → Type 0
 MayGo (OfModules (FreeLibrary handle)) old new q = IsUnloaded old handle new q
 MayGo (OfModules (FreeModule handle)) old new q = IsUnloaded old handle new q

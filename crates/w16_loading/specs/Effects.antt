@@ -2,7 +2,7 @@
 use Rattle.std.specs.Prelude.{◌≡◌, ◌≢◌, ℕ, ◌+◌, ◌-◌, ◌<◌, ◌≤◌, ◌⊎◌, ◌&&◌, true, false, if◌then◌else◌, is_some, List, length, Option, Some, None, IfSome, IsSomeAnd, slice_get}
 use Rattle.std.specs.FinMap as finmap
 use Rattle.w16_model.specs.declared.Kind.TheVariants.{Fixed, Discardable}
-use Rattle.w16_model.specs.Heap.{object_at, bytes_at, is_fixed}
+use Rattle.w16_model.specs.Heap.{Object, object_at, bytes_at, is_fixed}
 use Rattle.w16_model.specs.Handles.{IsFreeSlot, slot_of_handle, selector_of, far_pointer}
 use Rattle.w16_model.specs.Calls.{locks_at, rounded_size}
 use Rattle.w16_store.specs.Names.{is_named}
@@ -75,12 +75,15 @@ abbrev pub IsLockedOnce : LoadingWorld → ℕ → LoadingWorld → Type 0
 IsLockedOnce old slot new = IsSomeAnd (object_at old.handles.heap slot) (λ o. (bytes : List ℕ) × IfSome o.bytes (λ b. bytes ≡ b) × (is_fixed o.kind ≡ false → o.locks < 255)
     × (object_at new.handles.heap slot ≡ Some (record o { locks = if is_fixed o.kind then o.locks else o.locks + 1; bytes = Some bytes })))
 
--- LockResource, over any store: the far pointer to the first byte of a resource, locked; or 0, with the same handles
+-- LockResource, over any store: the far pointer to the first byte of a resource, locked; or 0, with the same handles, and not where it has bytes, unless
+-- 255 locks are full
 abbrev pub LockResourceLaw : Type 0
 LockResourceLaw = (old new : LoadingWorld) (handle answer : ℕ) → IsLoadingWorld old → AnyStep old (OfResources (LockResource handle)) (Dword answer) new
     → (new.modules ≡ old.modules) × (new.loads ≡ old.loads) × (answer ≡ 0 → new.handles ≡ old.handles)
     × (answer ≢ 0 → (slot : ℕ) × (load : Load) × (slot_of_handle old.handles handle ≡ Some slot) × (finmap.get old.loads slot ≡ Some load)
     × (answer ≡ far_pointer (selector_of slot) 0) × IsLockedOnce old slot new)
+    × ((slot : ℕ) (load : Load) (o : Object) → slot_of_handle old.handles handle ≡ Some slot → finmap.get old.loads slot ≡ Some load → object_at old.handles.heap slot ≡ Some o
+    → is_some o.bytes ≡ true → (is_fixed o.kind ≡ true) ⊎ (o.locks < 255) → answer ≢ 0)
 
 -- what a load's answer names: a new module with one explicit use, or one that was there with one use more, or a built-in
 abbrev pub IsUsedOnce : Option Named → Option Named → Type 0
@@ -88,11 +91,13 @@ IsUsedOnce None now = (m : Module) × (now ≡ Some (Loaded m)) × (m.uses ≡ 1
 IsUsedOnce (Some (Loaded m)) now = now ≡ Some (Loaded (record m { uses = m.uses + 1 }))
 IsUsedOnce (Some (BuiltIn name)) now = now ≡ Some (BuiltIn name)
 
--- LoadModule and LoadLibrary, over any store, answered with a handle: it is in use; and of each new module each segment has bytes that is fixed, or
--- preload and not discardable. A discardable one may have lost them to the next.
+-- LoadModule and LoadLibrary, over any store, answered with a handle: it is in use; and each fixed or preload segment of each new module has bytes,
+-- or it is discardable and has lost them to a later one, for which all that was there and may be discarded has gone before it.
 abbrev pub LoadLaw : Type 0
 LoadLaw = (old new : LoadingWorld) (command : ModuleCommand) (file : List ℕ) (answer : ℕ) → IsLoadingWorld old → (command ≡ LoadModule file) ⊎ (command ≡ LoadLibrary file) → FIRST_MODULE ≤ answer
     → AnyStep old (OfModules command) (Word answer) new
     → IsUsedOnce (finmap.get old.modules answer) (finmap.get new.modules answer)
     × ((handle i slot : ℕ) (m : Module) (s : Segment) → finmap.get old.modules handle ≡ None → finmap.get new.modules handle ≡ Some (Loaded m)
-    → slice_get m.tables.segments i ≡ Some s → slice_get m.slots i ≡ Some slot → (s.kind ≡ Fixed) ⊎ ((s.is_preload ≡ true) × (s.kind ≢ Discardable)) → is_some (bytes_at new.handles.heap slot) ≡ true)
+    → slice_get m.tables.segments i ≡ Some s → slice_get m.slots i ≡ Some slot → (s.kind ≡ Fixed) ⊎ (s.is_preload ≡ true)
+    → (is_some (bytes_at new.handles.heap slot) ≡ true)
+    ⊎ ((s.kind ≡ Discardable) × ((q : ℕ) → IsSomeAnd (object_at old.handles.heap q) (λ o. (o.kind ≡ Discardable) × (o.locks ≡ 0)) → bytes_at new.handles.heap q ≡ None)))
