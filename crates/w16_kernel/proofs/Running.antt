@@ -11,6 +11,10 @@ pub record Ran (steps : Steps) (old : World) (calls : List Call) (kept : List An
   pub answers : map (λ (e : Event). e.reply) events ≡ map answer_of kept
   pub promises : Promises old events
 
+-- none is done so far
+pub ran_none : (steps : Steps) (old : World) (kept : List Answer) → kept ≡ [] → Ran steps old [] kept old
+ran_none steps old kept none = record { events = []; run = refl; commands = refl; answers = ap (map answer_of) (sym none); promises = promised_none old }
+
 -- a call, its answer, and the world after it
 abbrev pub event_of : Call → Answer → World → Event
 event_of call answer new = record { command = command_of call; reply = answer_of answer; after = new }

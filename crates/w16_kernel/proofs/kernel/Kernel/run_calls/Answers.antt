@@ -1,6 +1,11 @@
 use Rattle.w16_kernel.proofs.Common.{take, get_or, IsSomeAnd, List, sym, subst, arith, take_more, slice_get-get_or, on_any, Call, GlobalAlloc, KernelStep, Promises, [], ◌∷◌, command_of, TakesMemory}
-use Rattle.w16_kernel.proofs.Running.{Ran, none_done, ran_all, ran_more, ran_stops}
+use Rattle.w16_kernel.proofs.Running.{Ran, ran_none, none_done, ran_all, ran_more, ran_stops}
 use Rattle.w16_kernel.proofs.kernel.Kernel.run_calls.Goals as goal
+
+pub loop-call-init : goal.loop-call-init
+loop-call-init g c =
+    let count = c.in_ok-answers.ensures.len in let room = c.in_ok-answers.ensures.capacity in
+    record { count = omega arith; room = omega arith; ran = ran_none (KernelStep g.S.Store.is_honest) c.args.self.now c.in_ok-answers.answers.items c.in_ok-answers.ensures.items }
 
 pub loop-call-preserved : goal.loop-call-preserved
 loop-call-preserved g c =
