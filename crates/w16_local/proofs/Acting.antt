@@ -54,18 +54,18 @@ lent_in {old} {tables} {ds} is new lent = inr (subst (λ (m : Option LocalHeap).
     (subst (λ (m : Option (List ℕ)). IsSomeAnd m (λ bytes. new.written ≡ counted old.written (length bytes))) is.had lent))
 
 -- and their segment stays as long
-pub once_in : {old new : Global} {tables left : FinMap nat_cmp Table} {slot : ℕ} {does : Table → List ℕ → Table → List ℕ → Type 0} (a : ActedIn old.handles tables slot does new.handles left)
+pub once_in : (old new : Global) {tables left : FinMap nat_cmp Table} {slot : ℕ} {does : Table → List ℕ → Table → List ℕ → Type 0} (a : ActedIn old.handles tables slot does new.handles left)
     → IsLent old slot new → WritesOnce (in_slot a.before a.bytes slot) old.written new.handles new.written
-once_in {old} {new} {slot = slot} a lent =
+once_in old new {slot = slot} a lent =
     let o : (o : Object) × (object_at old.handles.heap slot ≡ Some o) × (o.bytes ≡ Some a.bytes) = object_of old.handles.heap slot a.bytes a.had in
     let now : bytes_at new.handles.heap slot ≡ Some a.after = ap (λ (h : Handles). bytes_at h.heap slot) a.rest.1 ∙ ap bytes_in (segment_after old.handles.heap slot o.0 o.1 a.bytes o.2 a.after a.long) in (
       subst (λ (b : Option (List ℕ)). IsSomeAnd b (λ bytes. length bytes ≡ length a.bytes)) (sym now) a.long,
       subst (λ (b : Option (List ℕ)). IsSomeAnd b (λ bytes. new.written ≡ counted old.written (length bytes))) a.had lent,
     )
 
-pub once_slot : {old new : Global} {tables left : FinMap nat_cmp Table} {slot : ℕ} {does : Table → List ℕ → Table → List ℕ → Type 0} → ActedIn old.handles tables slot does new.handles left
+pub once_slot : (old new : Global) {tables left : FinMap nat_cmp Table} {slot : ℕ} {does : Table → List ℕ → Table → List ℕ → Type 0} → ActedIn old.handles tables slot does new.handles left
     → IsLent old slot new → InSlot old.handles tables slot new.handles left (λ before at after. WritesOnce at old.written after.loading.handles new.written)
-once_slot a lent = record { table = a.before; bytes = a.bytes; was = a.was; had = a.had; holds = λ rest ds. once_in a lent }
+once_slot old new a lent = record { table = a.before; bytes = a.bytes; was = a.was; had = a.had; holds = λ rest ds. once_in old new a lent }
 
 -- what is so of a slot's heap is so of the one that DS names
 pub held_here : {so : World → LocalHeap → World → Type 0} {handles next : Handles} {tables new : FinMap nat_cmp Table} {ds slot : ℕ} {t : Table} (is : IsIn handles tables ds slot t) → InSlot handles tables slot next new so → (rest : World)
@@ -80,26 +80,26 @@ held_here {so} {handles} {next} {tables} {new} {ds} {slot} {t} is s rest =
     same_bytes = let both : ◌≡◌ {A = Option (List ℕ)} (Some s.bytes) (Some is.bytes) = sym s.had ∙ is.had in cc
 
 -- the same where it may have grown for a request
-module _ {old : Global} {tables left : FinMap nat_cmp Table} {ds slot : ℕ} {t : Table} (is : IsIn old.handles tables ds slot t) (new : Global) (flags size : ℕ) (is_for : LocalHeap → ℕ → Type 0) where
+module _ {old : Global} {tables : FinMap nat_cmp Table} {ds slot : ℕ} {t : Table} (is : IsIn old.handles tables ds slot t) (new : Global) (flags size : ℕ) (is_for : LocalHeap → ℕ → Type 0) where
   written_in : WritesFor is_for flags size (alone old.handles tables ds) old.written new.handles new.written (in_slot t is.bytes slot) → IsLentOrGrown is_for flags size old tables ds new
   written_in so = inr (subst (λ (m : Option LocalHeap). IsSomeAnd m (WritesFor is_for flags size (alone old.handles tables ds) old.written new.handles new.written)) (sym is.is_current) so)
 
-  pub served_in : (kind : Option Kind) (id : ℕ) → is_for (in_slot t is.bytes slot) id → 0 < size
+  pub served_in : {left : FinMap nat_cmp Table} (kind : Option Kind) (id : ℕ) → is_for (in_slot t is.bytes slot) id → 0 < size
       → InSlot old.handles tables slot new.handles left (λ before at after. WritesServed (record { id = id; size = rounded_up size; kind = kind; options = local_options flags }) before at old.written after.loading.handles new.written)
       → IsLentOrGrown is_for flags size old tables ds new
   served_in kind id so some s = written_in (elim (held_here is s (empty_world 0 0 [] 0)) [
     | inl once ↦ inl once
-    | inr grown ↦ inr (some, (id, (so, grown)))
+    | inr grown ↦ inr (some, id, so, grown)
   ])
 
   -- and where it hasn't
-  pub once_lent : {does : Table → List ℕ → Table → List ℕ → Type 0} → ActedIn old.handles tables slot does new.handles left → IsLent old slot new → IsLentOrGrown is_for flags size old tables ds new
-  once_lent a lent = written_in (inl (held_here is (once_slot a lent) (empty_world 0 0 [] 0)))
+  pub once_lent : {left : FinMap nat_cmp Table} {does : Table → List ℕ → Table → List ℕ → Type 0} → ActedIn old.handles tables slot does new.handles left → IsLent old slot new → IsLentOrGrown is_for flags size old tables ds new
+  once_lent a lent = written_in (inl (held_here is (once_slot old new a lent) (empty_world 0 0 [] 0)))
 
 -- a call of size 0 only lends
-pub only_lent : {old new : Global} {tables : FinMap nat_cmp Table} {ds flags : ℕ} {is_for : LocalHeap → ℕ → Type 0} → IsLentOrGrown is_for flags 0 old tables ds new → IsLentOnce old tables ds new
-only_lent (inl same) = inl same
-only_lent {old} {new} {tables} {ds} {flags} {is_for} (inr so) = inr (turn (current_heap (alone old.handles tables ds)) so)
+pub only_lent : (old new : Global) (tables : FinMap nat_cmp Table) (ds flags : ℕ) (is_for : LocalHeap → ℕ → Type 0) → IsLentOrGrown is_for flags 0 old tables ds new → IsLentOnce old tables ds new
+only_lent old new tables ds flags is_for (inl same) = inl same
+only_lent old new tables ds flags is_for (inr so) = inr (turn (current_heap (alone old.handles tables ds)) so)
   where
     turn : (m : Option LocalHeap) → IsSomeAnd m (WritesFor is_for flags 0 (alone old.handles tables ds) old.written new.handles new.written) → IsSomeAnd m (λ at. new.written ≡ counted old.written (length at.bytes))
     turn None h = h

@@ -192,8 +192,8 @@ module _ {old : Global} {tables : FinMap nat_cmp Table} {slot size : ℕ} {r : R
           holds = λ rest ds. record { size = size; growth = m.growth; lengthens = lengthened rest ds; bytes = a.after; left = after_handles; written = count_is };
         }
           where
-            count_is : count ≡ counted (counted old.written l.left.moved) size
-            count_is = subst (λ b. IsSomeAnd b (λ (bytes : List ℕ). count ≡ counted new.written (length bytes))) has_now lent ∙ (λ i. counted (written i) (grown.long i))
-
             written : new.written ≡ counted old.written l.left.moved
             written = l.written ∙ ap (λ k. counted (counted old.written l.left.moved) k) (ap (λ f. zeroed_behind old.handles handle.0 size f answer) flags_are ∙ no_zeros r.options old.handles handle.0 size answer) ∙ counted_none (counted old.written l.left.moved)
+
+            count_is : count ≡ counted (counted old.written l.left.moved) size
+            count_is = subst (λ b. IsSomeAnd b (λ (bytes : List ℕ). count ≡ counted new.written (length bytes))) has_now lent ∙ (λ i. counted (written i) (grown.long i))

@@ -128,28 +128,28 @@ module _ {handles : Handles} {tables : FinMap nat_cmp Table} {slot : ℕ} (r : R
           grown rest ds = subst (λ (p : Table × List ℕ). Grown r some (with_parts rest handles tables ds) (in_slot p.0 p.1 slot) answer (with_parts rest last final ds)) (λ i. (table_is i, bytes_are i)) (there.holds rest ds)
 
 -- What is written where the heap doesn't grow,
-pub once_writes : {old new : Global} {tables left : FinMap nat_cmp Table} {slot : ℕ} (r : Request) (met : Met) → Tried old.handles tables slot r met new.handles left → IsLent old slot new
+pub once_writes : (old new : Global) {tables left : FinMap nat_cmp Table} {slot : ℕ} {does : Table → List ℕ → Table → List ℕ → Type 0} (r : Request) → ActedIn old.handles tables slot does new.handles left → IsLent old slot new
     → InSlot old.handles tables slot new.handles left (λ before at after. WritesServed r before at old.written after.loading.handles new.written)
-once_writes r met a lent = record { table = a.before; bytes = a.bytes; was = a.was; had = a.had; holds = λ rest ds. inl (once_in a lent) }
+once_writes old new r a lent = record { table = a.before; bytes = a.bytes; was = a.was; had = a.had; holds = λ rest ds. inl (once_in old new a lent) }
 
 -- and where it may have grown.
-module _ (old between new : Global) {tables mid left : FinMap nat_cmp Table} {slot : ℕ} (r : Request) (size : Option ℕ) (a : Tried old.handles tables slot r (Lacks size) between.handles mid) (lent : IsLent old slot between) where
-  abbrev Writes : (old : Handles) → FinMap nat_cmp Table → ℕ → Type 0
-  Writes handles tables count = InSlot handles tables slot new.handles left (λ before at after. WritesGrown before at r.id r.size r.options count after.loading.handles new.written)
+module _ (old between new : Global) {tables mid : FinMap nat_cmp Table} (left : FinMap nat_cmp Table) {slot : ℕ} (r : Request) (size : Option ℕ) (a : Tried old.handles tables slot r (Lacks size) between.handles mid) (lent : IsLent old slot between) where
+  abbrev GrownFrom : (old : Handles) → FinMap nat_cmp Table → ℕ → Type 0
+  GrownFrom handles tables count = InSlot handles tables slot new.handles left (λ before at after. WritesGrown before at r.id r.size r.options count after.loading.handles new.written)
 
-  pub grown_writes : (new ≡ between) ⊎ Writes between.handles mid between.written → InSlot old.handles tables slot new.handles left (λ before at after. WritesServed r before at old.written after.loading.handles new.written)
+  pub grown_writes : (new ≡ between) ⊎ GrownFrom between.handles mid between.written → InSlot old.handles tables slot new.handles left (λ before at after. WritesServed r before at old.written after.loading.handles new.written)
   grown_writes may = record { table = a.before; bytes = a.bytes; was = a.was; had = a.had; holds = λ rest ds. turn rest ds may }
     where
-      turn : (rest : World) (ds : ℕ) → (new ≡ between) ⊎ Writes between.handles mid between.written → WritesServed r (with_parts rest old.handles tables ds) (in_slot a.before a.bytes slot) old.written new.handles new.written
-      turn rest ds (inl still) = inl (subst (λ (g : Global). WritesOnce (in_slot a.before a.bytes slot) old.written g.handles g.written) (sym still) (once_in a lent))
+      turn : (rest : World) (ds : ℕ) → (new ≡ between) ⊎ GrownFrom between.handles mid between.written → WritesServed r (with_parts rest old.handles tables ds) (in_slot a.before a.bytes slot) old.written new.handles new.written
+      turn rest ds (inl still) = inl (subst (λ (g : Global). WritesOnce (in_slot a.before a.bytes slot) old.written g.handles g.written) (sym still) (once_in old between a lent))
       turn rest ds (inr grown) = inr (subst (λ (p : Table × List ℕ). WritesGrown (with_parts rest old.handles tables ds) (in_slot p.0 p.1 slot) r.id r.size r.options (counted old.written (length a.bytes)) new.handles new.written)
           (λ i. (table_is i, bytes_are i)) (there.holds rest ds))
         where
           kept : (mid ≡ tables) × (between.handles ≡ old.handles)
           kept = same r size a
 
-          there : Writes old.handles tables (counted old.written (length a.bytes))
-          there = subst (λ (p : Handles × FinMap nat_cmp Table × ℕ). Writes p.0 p.1 p.2) (λ i. (kept.1 i, (kept.0 i, (once_in a lent).1 i))) grown
+          there : GrownFrom old.handles tables (counted old.written (length a.bytes))
+          there = subst (λ (p : Handles × FinMap nat_cmp Table × ℕ). GrownFrom p.0 p.1 p.2) (λ i. (kept.1 i, kept.0 i, (once_in old between a lent).1 i)) grown
 
           table_is : there.table ≡ a.before
           table_is = let both : ◌≡◌ {A = Option Table} (Some there.table) (Some a.before) = sym there.was ∙ a.was in cc
