@@ -44,29 +44,6 @@ acted_same {handles} {next} {tables} {new} {slot} a table bytes =
     let heap_same : after_write handles.heap slot 0 a.after ≡ handles.heap = ap (after_write handles.heap slot 0) bytes ∙ same_write handles.heap slot a.bytes a.had in
     (a.rest.0 ∙ ap (finmap.insert tables slot) table ∙ put_same tables slot a.before a.was, a.rest.1 ∙ (λ i. record handles { heap = heap_same i }))
 
--- what may be done in the heap that DS names
-pub may_in : {handles : Handles} {tables : FinMap nat_cmp Table} {ds slot : ℕ} {t : Table} (is : IsIn handles tables ds slot t) (act : ByteOp) → MayAct act (heap_in t is.bytes) → MayActIn handles tables slot (MayActOver act)
-may_in is act may = record { table = _; bytes = is.bytes; was = is.kept; had = is.had; may = (is.over.inside, may) }
-
--- and the bytes that were lent for it are those of that heap
-pub lent_in : {old : Global} {tables : FinMap nat_cmp Table} {ds slot : ℕ} {t : Table} (is : IsIn old.handles tables ds slot t) (new : Global) → IsLent old slot new → IsLentOnce old tables ds new
-lent_in {old} {tables} {ds} is new lent = inr (subst (λ (m : Option LocalHeap). IsSomeAnd m (λ at. new.written ≡ counted old.written (length at.bytes))) (sym is.is_current)
-    (subst (λ (m : Option (List ℕ)). IsSomeAnd m (λ bytes. new.written ≡ counted old.written (length bytes))) is.had lent))
-
--- and their segment stays as long
-pub once_in : (old new : Global) {tables left : FinMap nat_cmp Table} {slot : ℕ} {does : Table → List ℕ → Table → List ℕ → Type 0} (a : ActedIn old.handles tables slot does new.handles left)
-    → IsLent old slot new → WritesOnce (in_slot a.before a.bytes slot) old.written new.handles new.written
-once_in old new {slot = slot} a lent =
-    let o : (o : Object) × (object_at old.handles.heap slot ≡ Some o) × (o.bytes ≡ Some a.bytes) = object_of old.handles.heap slot a.bytes a.had in
-    let now : bytes_at new.handles.heap slot ≡ Some a.after = ap (λ (h : Handles). bytes_at h.heap slot) a.rest.1 ∙ ap bytes_in (segment_after old.handles.heap slot o.0 o.1 a.bytes o.2 a.after a.long) in (
-      subst (λ (b : Option (List ℕ)). IsSomeAnd b (λ bytes. length bytes ≡ length a.bytes)) (sym now) a.long,
-      subst (λ (b : Option (List ℕ)). IsSomeAnd b (λ bytes. new.written ≡ counted old.written (length bytes))) a.had lent,
-    )
-
-pub once_slot : (old new : Global) {tables left : FinMap nat_cmp Table} {slot : ℕ} {does : Table → List ℕ → Table → List ℕ → Type 0} → ActedIn old.handles tables slot does new.handles left
-    → IsLent old slot new → InSlot old.handles tables slot new.handles left (λ before at after. WritesOnce at old.written after.loading.handles new.written)
-once_slot old new a lent = record { table = a.before; bytes = a.bytes; was = a.was; had = a.had; holds = λ rest ds. once_in old new a lent }
-
 -- what is so of a slot's heap is so of the one that DS names
 pub held_here : {so : World → LocalHeap → World → Type 0} {handles next : Handles} {tables new : FinMap nat_cmp Table} {ds slot : ℕ} {t : Table} (is : IsIn handles tables ds slot t) → InSlot handles tables slot next new so → (rest : World)
     → so (with_parts rest handles tables ds) (in_slot t is.bytes slot) (with_parts rest next new ds)
@@ -79,7 +56,31 @@ held_here {so} {handles} {next} {tables} {new} {ds} {slot} {t} is s rest =
     same_bytes : s.bytes ≡ is.bytes
     same_bytes = let both : ◌≡◌ {A = Option (List ℕ)} (Some s.bytes) (Some is.bytes) = sym s.had ∙ is.had in cc
 
--- the same where it may have grown for a request
+-- what may be done in the heap that DS names
+pub may_in : {handles : Handles} {tables : FinMap nat_cmp Table} {ds slot : ℕ} {t : Table} (is : IsIn handles tables ds slot t) (act : ByteOp) → MayAct act (heap_in t is.bytes) → MayActIn handles tables slot (MayActOver act)
+may_in is act may = record { table = _; bytes = is.bytes; was = is.kept; had = is.had; may = (is.over.inside, may) }
+
+-- and the bytes that were lent for it are those of that heap
+pub lent_in : {old : Global} {tables : FinMap nat_cmp Table} {ds slot : ℕ} {t : Table} (is : IsIn old.handles tables ds slot t) (new : Global) → IsLent old slot new → IsLentOnce old tables ds new
+lent_in {old} {tables} {ds} is new lent = inr (subst (λ (m : Option LocalHeap). IsSomeAnd m (λ at. new.written ≡ counted old.written (length at.bytes))) (sym is.is_current)
+    (subst (λ (m : Option (List ℕ)). IsSomeAnd m (λ bytes. new.written ≡ counted old.written (length bytes))) is.had lent))
+
+-- Their segment stays as long,
+pub once_in : (old new : Global) {tables left : FinMap nat_cmp Table} {slot : ℕ} {does : Table → List ℕ → Table → List ℕ → Type 0} (a : ActedIn old.handles tables slot does new.handles left)
+    → IsLent old slot new → WritesOnce (in_slot a.before a.bytes slot) old.written new.handles new.written
+once_in old new {slot = slot} a lent =
+    let o : (o : Object) × (object_at old.handles.heap slot ≡ Some o) × (o.bytes ≡ Some a.bytes) = object_of old.handles.heap slot a.bytes a.had in
+    let now : bytes_at new.handles.heap slot ≡ Some a.after = ap (λ (h : Handles). bytes_at h.heap slot) a.rest.1 ∙ ap bytes_in (segment_after old.handles.heap slot o.0 o.1 a.bytes o.2 a.after a.long) in (
+      subst (λ (b : Option (List ℕ)). IsSomeAnd b (λ bytes. length bytes ≡ length a.bytes)) (sym now) a.long,
+      subst (λ (b : Option (List ℕ)). IsSomeAnd b (λ bytes. new.written ≡ counted old.written (length bytes))) a.had lent,
+    )
+
+-- in whatever world has these parts.
+pub once_slot : (old new : Global) {tables left : FinMap nat_cmp Table} {slot : ℕ} {does : Table → List ℕ → Table → List ℕ → Type 0} → ActedIn old.handles tables slot does new.handles left
+    → IsLent old slot new → InSlot old.handles tables slot new.handles left (λ before at after. WritesOnce at old.written after.loading.handles new.written)
+once_slot old new a lent = record { table = a.before; bytes = a.bytes; was = a.was; had = a.had; holds = λ rest ds. once_in old new a lent }
+
+-- What is written for a request is written in the heap that DS names, where it may have grown,
 module _ {old : Global} {tables : FinMap nat_cmp Table} {ds slot : ℕ} {t : Table} (is : IsIn old.handles tables ds slot t) (new : Global) (flags size : ℕ) (is_for : LocalHeap → ℕ → Type 0) where
   written_in : WritesFor is_for flags size (alone old.handles tables ds) old.written new.handles new.written (in_slot t is.bytes slot) → IsLentOrGrown is_for flags size old tables ds new
   written_in so = inr (subst (λ (m : Option LocalHeap). IsSomeAnd m (WritesFor is_for flags size (alone old.handles tables ds) old.written new.handles new.written)) (sym is.is_current) so)
@@ -92,7 +93,7 @@ module _ {old : Global} {tables : FinMap nat_cmp Table} {ds slot : ℕ} {t : Tab
     | inr grown ↦ inr (some, id, so, grown)
   ])
 
-  -- and where it hasn't
+  -- and where it hasn't.
   pub once_lent : {left : FinMap nat_cmp Table} {does : Table → List ℕ → Table → List ℕ → Type 0} → ActedIn old.handles tables slot does new.handles left → IsLent old slot new → IsLentOrGrown is_for flags size old tables ds new
   once_lent a lent = written_in (inl (held_here is (once_slot old new a lent) (empty_world 0 0 [] 0)))
 

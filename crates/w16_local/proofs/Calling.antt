@@ -1,5 +1,5 @@
 -- The calls that act in a local heap.
-use Rattle.w16_local.proofs.Common.{◌≡◌, ℕ, ◌+◌, ◌*◌, ◌/◌, ◌<◌, ◌≤◌, ◌==◌, ◌&&◌, inl, inr, Bool, true, false, MatchBool, MatchOption, OnErr, IsSome, if◌then◌else◌, List, length, Option, Some, None, Result, Ok, Err, is_ok, is_some}
+use Rattle.w16_local.proofs.Common.{◌≡◌, ℕ, ◌+◌, ◌*◌, ◌/◌, ◌<◌, ◌≤◌, ◌==◌, ◌&&◌, inl, inr, Bool, true, false, MatchBool, MatchOption, OnErr, IsSome, if◌then◌else◌, length, Option, Some, None, Result, Ok, Err, is_ok, is_some}
 use Rattle.w16_local.proofs.Common.{refl, sym, ap, ◌∙◌, subst, arith, eq-eqb, ne_eqb, nat_cmp, FinMap, cases_lt, false≢true, Kind, Discardable, Fixed, Moveable, Refusal, has_flag, with_newest, with_object, Handles, Heap, Object}
 use Rattle.w16_local.proofs.Common.{is_fixed, object_at, after_discard, after_free, after_modify, Allocates, IsNew, MakesRoom, most_room, discards_needed, Table, entry_at, heap_in, object_in, inserted_here, object_is, none_about}
 use Rattle.w16_local.proofs.Common.{not_asked, LMEM_DISCARDABLE, LMEM_MODIFY, LMEM_MOVEABLE, World, LocalHeap, LocalObject, Acts, Becomes, IsLowestFree, Stays, current_heap, heap_of, name_at, name_of, object_named, rounded_up}

@@ -93,8 +93,8 @@ pub record InSlot (handles : Handles) (tables : FinMap nat_cmp Table) (slot : �
 abbrev pub WritesOnce : LocalHeap → ℕ → Handles → ℕ → Type 0
 WritesOnce at before new after = IsSomeAnd (bytes_at new.heap at.slot) (λ bytes. length bytes ≡ length at.bytes) × (after ≡ counted before (length at.bytes))
 
--- And where it has grown for n bytes for an entry: the bytes that the reallocation of the segment moves, and then its bytes, which are lent once. It is
--- the reallocation that leaves the handles, up to the bytes in the segment.
+-- And where it has grown for n bytes for an entry: the bytes that the reallocation of the segment moves, and then its bytes, which are lent once. The
+-- handles are those that this reallocation leaves, with other bytes in the segment, and the number of bytes moved stays.
 pub record WritesGrown (old : World) (at : LocalHeap) (id n : ℕ) (options : RoomOptions) (before : ℕ) (new : Handles) (after : ℕ) : Type 0 where
   pub size : ℕ
   pub growth : IsGrowth at id n options size
