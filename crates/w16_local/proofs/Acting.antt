@@ -1,8 +1,12 @@
 -- An act in the object of a slot, as a call's step.
 use Rattle.w16_local.proofs.Common.{◌≡◌, ℕ, ◌<◌, ◌⊎◌, inl, inr, IsSomeAnd, List, length, Option, Some, None, option_map, refl, sym, ap, ◌∙◌, subst, nat_cmp, FinMap, put_part, after_write, Handles, Heap, Object, bytes_at, object_at, Table}
 use Rattle.w16_local.proofs.Common.{heap_in, counted, Global, Lends, World, LocalHeap, Acts, IsLocalTable, object_of, put_all, ByteOp, Acted, ActedIn, DoesAct, Done, Idle, IsLent, IsLentOnce, MayAct, MayActIn, MayActOver, IsIn, with_parts}
+use Rattle.w16_local.proofs.Common.{Kind, [], alone, arith, current_heap, local_options, rounded_up}
+use Rattle.w16_machine.proofs.Common.{bytes_in}
 use Rattle.std.specs.FinMap as finmap
-use Rattle.w16_local.specs.Growth.{IsLentOrGrown, WritesGrown, WritesServed}
+use Rattle.w16_machine.proofs.LocalFacts.{segment_after}
+use Rattle.w16_machine.specs.World.{empty_world}
+use Rattle.w16_local.specs.Growth.{InSlot, IsLentOrGrown, WritesFor, WritesOnce, WritesServed, in_slot}
 use Rattle.w16_model.proofs.Maps.{put_same}
 
 -- bytes that are written over themselves
@@ -40,6 +44,18 @@ acted_same {handles} {next} {tables} {new} {slot} a table bytes =
     let heap_same : after_write handles.heap slot 0 a.after ≡ handles.heap = ap (after_write handles.heap slot 0) bytes ∙ same_write handles.heap slot a.bytes a.had in
     (a.rest.0 ∙ ap (finmap.insert tables slot) table ∙ put_same tables slot a.before a.was, a.rest.1 ∙ (λ i. record handles { heap = heap_same i }))
 
+-- what is so of a slot's heap is so of the one that DS names
+pub held_here : {so : World → LocalHeap → World → Type 0} {handles next : Handles} {tables new : FinMap nat_cmp Table} {ds slot : ℕ} {t : Table} (is : IsIn handles tables ds slot t) → InSlot handles tables slot next new so → (rest : World)
+    → so (with_parts rest handles tables ds) (in_slot t is.bytes slot) (with_parts rest next new ds)
+held_here {so} {handles} {next} {tables} {new} {ds} {slot} {t} is s rest =
+    subst (λ (p : Table × List ℕ). so (with_parts rest handles tables ds) (in_slot p.0 p.1 slot) (with_parts rest next new ds)) (λ i. (same_table i, same_bytes i)) (s.holds rest ds)
+  where
+    same_table : s.table ≡ t
+    same_table = let both : ◌≡◌ {A = Option Table} (Some s.table) (Some t) = sym s.was ∙ is.kept in cc
+
+    same_bytes : s.bytes ≡ is.bytes
+    same_bytes = let both : ◌≡◌ {A = Option (List ℕ)} (Some s.bytes) (Some is.bytes) = sym s.had ∙ is.had in cc
+
 -- what may be done in the heap that DS names
 pub may_in : {handles : Handles} {tables : FinMap nat_cmp Table} {ds slot : ℕ} {t : Table} (is : IsIn handles tables ds slot t) (act : ByteOp) → MayAct act (heap_in t is.bytes) → MayActIn handles tables slot (MayActOver act)
 may_in is act may = record { table = _; bytes = is.bytes; was = is.kept; had = is.had; may = (is.over.inside, may) }
@@ -49,14 +65,47 @@ pub lent_in : {old : Global} {tables : FinMap nat_cmp Table} {ds slot : ℕ} {t 
 lent_in {old} {tables} {ds} is new lent = inr (subst (λ (m : Option LocalHeap). IsSomeAnd m (λ at. new.written ≡ counted old.written (length at.bytes))) (sym is.is_current)
     (subst (λ (m : Option (List ℕ)). IsSomeAnd m (λ bytes. new.written ≡ counted old.written (length bytes))) is.had lent))
 
--- the same where it may have grown for a request
-pub served_in : {old : Global} {tables : FinMap nat_cmp Table} {ds slot : ℕ} {t : Table} (is : IsIn old.handles tables ds slot t) (new : Global) (size : ℕ) → 0 < size → WritesServed old slot new → IsLentOrGrown size old tables ds new
-served_in {old} {tables} {ds} {slot} is new size some (inl lent) = inl (lent_in is new lent)
-served_in {old} {tables} {ds} {slot} is new size some (inr grown) = inr (
-  some,
-  subst (λ (m : Option LocalHeap). IsSomeAnd m (λ at. WritesGrown old.handles at.slot (counted old.written (length at.bytes)) new.written)) (sym is.is_current)
-      (subst (λ (m : Option (List ℕ)). IsSomeAnd m (λ bytes. WritesGrown old.handles slot (counted old.written (length bytes)) new.written)) is.had grown),
-)
+-- Their segment stays as long,
+pub once_in : (old new : Global) {tables left : FinMap nat_cmp Table} {slot : ℕ} {does : Table → List ℕ → Table → List ℕ → Type 0} (a : ActedIn old.handles tables slot does new.handles left)
+    → IsLent old slot new → WritesOnce (in_slot a.before a.bytes slot) old.written new.handles new.written
+once_in old new {slot = slot} a lent =
+    let o : (o : Object) × (object_at old.handles.heap slot ≡ Some o) × (o.bytes ≡ Some a.bytes) = object_of old.handles.heap slot a.bytes a.had in
+    let now : bytes_at new.handles.heap slot ≡ Some a.after = ap (λ (h : Handles). bytes_at h.heap slot) a.rest.1 ∙ ap bytes_in (segment_after old.handles.heap slot o.0 o.1 a.bytes o.2 a.after a.long) in (
+      subst (λ (b : Option (List ℕ)). IsSomeAnd b (λ bytes. length bytes ≡ length a.bytes)) (sym now) a.long,
+      subst (λ (b : Option (List ℕ)). IsSomeAnd b (λ bytes. new.written ≡ counted old.written (length bytes))) a.had lent,
+    )
+
+-- in whatever world has these parts.
+pub once_slot : (old new : Global) {tables left : FinMap nat_cmp Table} {slot : ℕ} {does : Table → List ℕ → Table → List ℕ → Type 0} → ActedIn old.handles tables slot does new.handles left
+    → IsLent old slot new → InSlot old.handles tables slot new.handles left (λ before at after. WritesOnce at old.written after.loading.handles new.written)
+once_slot old new a lent = record { table = a.before; bytes = a.bytes; was = a.was; had = a.had; holds = λ rest ds. once_in old new a lent }
+
+-- What is written for a request is written in the heap that DS names, where it may have grown,
+module _ {old : Global} {tables : FinMap nat_cmp Table} {ds slot : ℕ} {t : Table} (is : IsIn old.handles tables ds slot t) (new : Global) (flags size : ℕ) (is_for : LocalHeap → ℕ → Type 0) where
+  written_in : WritesFor is_for flags size (alone old.handles tables ds) old.written new.handles new.written (in_slot t is.bytes slot) → IsLentOrGrown is_for flags size old tables ds new
+  written_in so = inr (subst (λ (m : Option LocalHeap). IsSomeAnd m (WritesFor is_for flags size (alone old.handles tables ds) old.written new.handles new.written)) (sym is.is_current) so)
+
+  pub served_in : {left : FinMap nat_cmp Table} (kind : Option Kind) (id : ℕ) → is_for (in_slot t is.bytes slot) id → 0 < size
+      → InSlot old.handles tables slot new.handles left (λ before at after. WritesServed (record { id = id; size = rounded_up size; kind = kind; options = local_options flags }) before at old.written after.loading.handles new.written)
+      → IsLentOrGrown is_for flags size old tables ds new
+  served_in kind id so some s = written_in (elim (held_here is s (empty_world 0 0 [] 0)) [
+    | inl once ↦ inl once
+    | inr grown ↦ inr (some, id, so, grown)
+  ])
+
+  -- and where it hasn't.
+  pub once_lent : {left : FinMap nat_cmp Table} {does : Table → List ℕ → Table → List ℕ → Type 0} → ActedIn old.handles tables slot does new.handles left → IsLent old slot new → IsLentOrGrown is_for flags size old tables ds new
+  once_lent a lent = written_in (inl (held_here is (once_slot old new a lent) (empty_world 0 0 [] 0)))
+
+-- a call of size 0 only lends
+pub only_lent : (old new : Global) (tables : FinMap nat_cmp Table) (ds flags : ℕ) (is_for : LocalHeap → ℕ → Type 0) → IsLentOrGrown is_for flags 0 old tables ds new → IsLentOnce old tables ds new
+only_lent old new tables ds flags is_for (inl same) = inl same
+only_lent old new tables ds flags is_for (inr so) = inr (turn (current_heap (alone old.handles tables ds)) so)
+  where
+    turn : (m : Option LocalHeap) → IsSomeAnd m (WritesFor is_for flags 0 (alone old.handles tables ds) old.written new.handles new.written) → IsSomeAnd m (λ at. new.written ≡ counted old.written (length at.bytes))
+    turn None h = h
+    turn (Some at) (inl once) = once.1
+    turn (Some at) (inr grown) = absurd (omega (arith, grown.0))
 
 -- and what that leaves: the same world, or one in which the heap acted
 module _ {handles : Handles} {tables : FinMap nat_cmp Table} {ds slot : ℕ} {t : Table} (is : IsIn handles tables ds slot t) {act : ByteOp} {answer : ℕ} {next : Handles} {new : FinMap nat_cmp Table} (a : ActedIn handles tables slot (DoesAct act answer) next new) (rest : World) where

@@ -1,5 +1,5 @@
 -- The calls that act in a local heap.
-use Rattle.w16_local.proofs.Common.{◌≡◌, ℕ, ◌+◌, ◌*◌, ◌/◌, ◌<◌, ◌≤◌, ◌==◌, ◌&&◌, inl, inr, Bool, true, false, MatchBool, MatchOption, OnErr, IsSome, if◌then◌else◌, List, length, Option, Some, None, Result, Ok, Err, is_ok, is_some}
+use Rattle.w16_local.proofs.Common.{◌≡◌, ℕ, ◌+◌, ◌*◌, ◌/◌, ◌<◌, ◌≤◌, ◌==◌, ◌&&◌, inl, inr, Bool, true, false, MatchBool, MatchOption, OnErr, IsSome, if◌then◌else◌, length, Option, Some, None, Result, Ok, Err, is_ok, is_some}
 use Rattle.w16_local.proofs.Common.{refl, sym, ap, ◌∙◌, subst, arith, eq-eqb, ne_eqb, nat_cmp, FinMap, cases_lt, false≢true, Kind, Discardable, Fixed, Moveable, Refusal, has_flag, with_newest, with_object, Handles, Heap, Object}
 use Rattle.w16_local.proofs.Common.{is_fixed, object_at, after_discard, after_free, after_modify, Allocates, IsNew, MakesRoom, most_room, discards_needed, Table, entry_at, heap_in, object_in, inserted_here, object_is, none_about}
 use Rattle.w16_local.proofs.Common.{not_asked, LMEM_DISCARDABLE, LMEM_MODIFY, LMEM_MOVEABLE, World, LocalHeap, LocalObject, Acts, Becomes, IsLowestFree, Stays, current_heap, heap_of, name_at, name_of, object_named, rounded_up}
@@ -33,18 +33,6 @@ make id size flags = record { id = id; size = rounded_up size; kind = Some (loca
 
 abbrev pub resize : ℕ → ℕ → ℕ → Request
 resize id size flags = record { id = id; size = rounded_up size; kind = None; options = local_options flags }
-
--- what is so of a slot's heap is so of the one that DS names
-served_here : {handles next : Handles} {tables new : FinMap nat_cmp Table} {ds slot answer : ℕ} {t : Table} (r : Request) (is : IsIn handles tables ds slot t) → InSlot handles tables slot next new (λ old at left. Served r old at answer left) → (rest : World)
-    → Served r (with_parts rest handles tables ds) (record { slot = slot; table = t; bytes = is.bytes }) answer (with_parts rest next new ds)
-served_here {handles} {next} {tables} {new} {ds} {slot} {answer} {t} r is s rest =
-    subst (λ (p : Table × List ℕ). Served r (with_parts rest handles tables ds) (record { slot = slot; table = p.0; bytes = p.1 }) answer (with_parts rest next new ds)) (λ i. (same_table i, same_bytes i)) (s.holds rest ds)
-  where
-    same_table : s.table ≡ t
-    same_table = let both : ◌≡◌ {A = Option Table} (Some s.table) (Some t) = sym s.was ∙ is.kept in cc
-
-    same_bytes : s.bytes ≡ is.bytes
-    same_bytes = let both : ◌≡◌ {A = Option (List ℕ)} (Some s.bytes) (Some is.bytes) = sym s.had ∙ is.had in cc
 
 -- bytes are given up
 gives_up : {old new : World} {at : LocalHeap} (r : Result Heap Refusal) (taken refused : ℕ) → Acts old at (λ next. r ≡ Ok next) new → GivesUp old at r taken refused taken new
@@ -103,7 +91,7 @@ module _ {handles : Handles} {tables : FinMap nat_cmp Table} {ds name slot : ℕ
       resize_calls some s = not_modified (λ rest.
           subst (λ b. MatchBool b (DiscardsObject (with_parts rest handles tables ds) name flags answer (with_parts rest next new ds) named_object) (SizesObject (with_parts rest handles tables ds) size flags answer (with_parts rest next new ds) named_object))
           (sym (ne_eqb size 0 (λ e. absurd (omega (arith, e, some)))))
-          (elim (served_here (resize id size flags) n.heap s rest) [
+          (elim (acting.held_here n.heap s rest) [
             | inl acts ↦ inl (sizes (heap_of named_object.heap) acts)
             | inr r ↦ inr (
               r.0.0,
@@ -182,7 +170,7 @@ module _ {handles : Handles} {tables : FinMap nat_cmp Table} {ds slot : ℕ} {t 
     alloc_empty none f = alloc_in 0 handles tables (λ rest. inl (inl (none, f), (refl, refl)))
 
     module _ (id : ℕ) (lowest : IsLowest t id) where
-      is_lowest : IsLowestFree heap id
+      pub is_lowest : IsLowestFree heap id
       is_lowest = record {
         free = (lowest.known, no_object id lowest.free);
         lowest = λ q free. elim (cases_lt q id) [
@@ -201,7 +189,7 @@ module _ {handles : Handles} {tables : FinMap nat_cmp Table} {ds slot : ℕ} {t 
       alloc_calls some {answer} {next} {new} s = alloc_in answer next new (λ rest. inr (
         id,
         is_lowest,
-        elim (served_here (make id size flags) is s rest) [
+        elim (acting.held_here is s rest) [
           | inl acts ↦ inl (makes some acts)
           | inr r ↦ inr (
             (some, room r.0.0),

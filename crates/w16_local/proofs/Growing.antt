@@ -151,6 +151,9 @@ module _ {old : Global} {tables : FinMap nat_cmp Table} {slot size : ℕ} {r : R
         later : Later r size m.table now.0 result a.table a.after
         later = subst (λ (p : Table × List ℕ). Later r size p.0 p.1 result a.table a.after) (λ i. (same_table i, same_bytes i)) a.does.1.0
 
+        after_handles : next ≡ record l.left { heap = after_write l.left.heap slot 0 a.after; moved = old.handles.moved }
+        after_handles = a.rest.1 ∙ (λ i. record (l.handles i) { heap = after_write (l.handles i).heap slot 0 a.after })
+
         pub has_grown : InSlot old.handles tables slot next final (λ before at after. Grown r size before at result after)
         unfolding lengthened now
         has_grown = record {
@@ -174,24 +177,23 @@ module _ {old : Global} {tables : FinMap nat_cmp Table} {slot size : ℕ} {r : R
           );
         }
           where
-            after_handles : next ≡ record l.left { heap = after_write l.left.heap slot 0 a.after; moved = old.handles.moved }
-            after_handles = a.rest.1 ∙ (λ i. record (l.handles i) { heap = after_write (l.handles i).heap slot 0 a.after })
-
             after_tables : final ≡ finmap.insert (finmap.insert (left_in l.left.heap tables) slot (record m.table { hi = size })) slot a.table
             after_tables = a.rest.0 ∙ ap (λ t. finmap.insert t slot a.table) left_here ∙ sym (put_twice (left_in l.left.heap tables) slot (record m.table { hi = size }) a.table)
 
         -- what is written: the bytes that were moved, and the longer segment's
-        pub grown_written : (count : ℕ) → IsSomeAnd (bytes_at new.handles.heap slot) (λ bytes. count ≡ counted new.written (length bytes)) → WritesGrown old.handles slot old.written count
+        pub grown_written : (count : ℕ) → IsSomeAnd (bytes_at new.handles.heap slot) (λ bytes. count ≡ counted new.written (length bytes))
+            → InSlot old.handles tables slot next final (λ before at after. WritesGrown before at r.id r.size r.options old.written after.loading.handles count)
+        unfolding lengthened now
         grown_written count lent = record {
-          handle = handle.0;
-          named = handle.1;
-          size = size;
-          flags = flags;
-          answer = answer;
-          left = l.left;
-          reallocated = l.step;
-          written = subst (λ b. IsSomeAnd b (λ (bytes : List ℕ). count ≡ counted new.written (length bytes))) has_now lent ∙ (λ i. counted (written i) (grown.long i));
+          table = m.table;
+          bytes = m.bytes;
+          was = m.was;
+          had = m.had;
+          holds = λ rest ds. record { size = size; growth = m.growth; lengthens = lengthened rest ds; bytes = a.after; left = after_handles; written = count_is };
         }
           where
             written : new.written ≡ counted old.written l.left.moved
             written = l.written ∙ ap (λ k. counted (counted old.written l.left.moved) k) (ap (λ f. zeroed_behind old.handles handle.0 size f answer) flags_are ∙ no_zeros r.options old.handles handle.0 size answer) ∙ counted_none (counted old.written l.left.moved)
+
+            count_is : count ≡ counted (counted old.written l.left.moved) size
+            count_is = subst (λ b. IsSomeAnd b (λ (bytes : List ℕ). count ≡ counted new.written (length bytes))) has_now lent ∙ (λ i. counted (written i) (grown.long i))

@@ -1,12 +1,12 @@
 -- A request in the heap of a slot, as a call's step.
-use Rattle.w16_local.proofs.Common.{◌≡◌, ℕ, ◌⊎◌, inl, inr, IsSomeAnd, List, length, Option, Some, None, refl, sym, ◌∙◌, subst, arith, nat_cmp, FinMap, Kind, Heap, Handles, Table}
-use Rattle.w16_local.proofs.Common.{bytes_at, heap_in, counted, Global, World, IsLocalTable, ActedIn, Acted, Done, Idle, IsLent, MayAct, MayActIn, MayActOver, Writes, with_parts}
+use Rattle.w16_local.proofs.Common.{◌≡◌, ℕ, ◌⊎◌, inl, inr, List, length, Option, Some, None, refl, sym, ◌∙◌, subst, arith, nat_cmp, FinMap, Kind, Heap, Handles, Table}
+use Rattle.w16_local.proofs.Common.{heap_in, counted, Global, World, IsLocalTable, ActedIn, Acted, Done, Idle, IsLent, MayAct, MayActIn, MayActOver, Writes, with_parts}
 use Rattle.w16_machine.specs.LocalGrowth.{IsGrowth, IsKeptShort}
 use Rattle.w16_local.specs.declared.growth.Met.{Met}
 use Rattle.w16_local.specs.declared.growth.Met.TheVariants.{Answered, Lacks}
 use Rattle.w16_local.specs.declared.growth.Request.{Request}
-use Rattle.w16_local.specs.Growth.{Grown, InSlot, MayGrowIn, Served, ServedOver, SizeTold, WritesGrown, WritesServed, act_of, in_slot}
-use Rattle.w16_local.proofs.Acting.{acted_same}
+use Rattle.w16_local.specs.Growth.{Grown, InSlot, MayGrowIn, Served, ServedOver, SizeTold, WritesGrown, WritesOnce, WritesServed, act_of, in_slot}
+use Rattle.w16_local.proofs.Acting.{acted_same, once_in}
 
 -- a refusal answers 0
 idle_none : (r : Request) (heap : Heap) (answer : ℕ) → Idle (act_of r) heap answer → answer ≡ 0
@@ -127,11 +127,32 @@ module _ {handles : Handles} {tables : FinMap nat_cmp Table} {slot : ℕ} (r : R
           grown : (rest : World) (ds : ℕ) → Grown r some (with_parts rest handles tables ds) (in_slot a.before a.bytes slot) answer (with_parts rest last final ds)
           grown rest ds = subst (λ (p : Table × List ℕ). Grown r some (with_parts rest handles tables ds) (in_slot p.0 p.1 slot) answer (with_parts rest last final ds)) (λ i. (table_is i, bytes_are i)) (there.holds rest ds)
 
--- What is written where the heap may have grown.
-pub grown_writes : (old between new : Global) (slot : ℕ) → between.handles ≡ old.handles → IsLent old slot between → (new ≡ between) ⊎ WritesGrown between.handles slot between.written new.written → WritesServed old slot new
-grown_writes old between new slot kept lent (inl still) = inl (subst (IsLent old slot) (sym still) lent)
-grown_writes old between new slot kept lent (inr grown) = inr (turn (bytes_at old.handles.heap slot) lent)
-  where
-    turn : (b : Option (List ℕ)) → IsSomeAnd b (λ bytes. between.written ≡ counted old.written (length bytes)) → IsSomeAnd b (λ bytes. WritesGrown old.handles slot (counted old.written (length bytes)) new.written)
-    turn None h = h
-    turn (Some bytes) h = subst (λ (p : Handles × ℕ). WritesGrown p.0 slot p.1 new.written) (λ i. (kept i, h i)) grown
+-- What is written where the heap doesn't grow,
+pub once_writes : (old new : Global) {tables left : FinMap nat_cmp Table} {slot : ℕ} {does : Table → List ℕ → Table → List ℕ → Type 0} (r : Request) → ActedIn old.handles tables slot does new.handles left → IsLent old slot new
+    → InSlot old.handles tables slot new.handles left (λ before at after. WritesServed r before at old.written after.loading.handles new.written)
+once_writes old new r a lent = record { table = a.before; bytes = a.bytes; was = a.was; had = a.had; holds = λ rest ds. inl (once_in old new a lent) }
+
+-- and where it may have grown.
+module _ (old between new : Global) {tables mid : FinMap nat_cmp Table} (left : FinMap nat_cmp Table) {slot : ℕ} (r : Request) (size : Option ℕ) (a : Tried old.handles tables slot r (Lacks size) between.handles mid) (lent : IsLent old slot between) where
+  abbrev GrownFrom : (old : Handles) → FinMap nat_cmp Table → ℕ → Type 0
+  GrownFrom handles tables count = InSlot handles tables slot new.handles left (λ before at after. WritesGrown before at r.id r.size r.options count after.loading.handles new.written)
+
+  pub grown_writes : (new ≡ between) ⊎ GrownFrom between.handles mid between.written → InSlot old.handles tables slot new.handles left (λ before at after. WritesServed r before at old.written after.loading.handles new.written)
+  grown_writes may = record { table = a.before; bytes = a.bytes; was = a.was; had = a.had; holds = λ rest ds. turn rest ds may }
+    where
+      turn : (rest : World) (ds : ℕ) → (new ≡ between) ⊎ GrownFrom between.handles mid between.written → WritesServed r (with_parts rest old.handles tables ds) (in_slot a.before a.bytes slot) old.written new.handles new.written
+      turn rest ds (inl still) = inl (subst (λ (g : Global). WritesOnce (in_slot a.before a.bytes slot) old.written g.handles g.written) (sym still) (once_in old between a lent))
+      turn rest ds (inr grown) = inr (subst (λ (p : Table × List ℕ). WritesGrown (with_parts rest old.handles tables ds) (in_slot p.0 p.1 slot) r.id r.size r.options (counted old.written (length a.bytes)) new.handles new.written)
+          (λ i. (table_is i, bytes_are i)) (there.holds rest ds))
+        where
+          kept : (mid ≡ tables) × (between.handles ≡ old.handles)
+          kept = same r size a
+
+          there : GrownFrom old.handles tables (counted old.written (length a.bytes))
+          there = subst (λ (p : Handles × FinMap nat_cmp Table × ℕ). GrownFrom p.0 p.1 p.2) (λ i. (kept.1 i, kept.0 i, (once_in old between a lent).1 i)) grown
+
+          table_is : there.table ≡ a.before
+          table_is = let both : ◌≡◌ {A = Option Table} (Some there.table) (Some a.before) = sym there.was ∙ a.was in cc
+
+          bytes_are : there.bytes ≡ a.bytes
+          bytes_are = let both : ◌≡◌ {A = Option (List ℕ)} (Some there.bytes) (Some a.bytes) = sym there.had ∙ a.had in cc

@@ -4,23 +4,25 @@ use Rattle.std.specs.Ordering.{nat_cmp}
 use Rattle.std.specs.FinMap as finmap
 use Rattle.std.specs.FinMap.{FinMap}
 use Rattle.w16_model.specs.Ends.{is_answered}
-use Rattle.w16_model.specs.Handles.{Handles, slot_of_handle}
+use Rattle.w16_model.specs.Far.{after_write}
+use Rattle.w16_model.specs.Handles.{Handles}
 use Rattle.w16_model.specs.Heap.{IsMultiple, bytes_at}
-use Rattle.w16_model.specs.Resizes.{GlobalReAllocs}
+use Rattle.w16_model.specs.declared.RoomOptions.{RoomOptions}
 use Rattle.w16_model.specs.Table.{Table, IsSameOutside, heap_in}
 use Rattle.w16_region.specs.Bytes.{counted}
 use Rattle.w16_arena.specs.State.{IsSameRange}
 use Rattle.w16_global.specs.Joined.{Global}
 use Rattle.w16_machine.specs.declared.local.TheConstants.{LAST_LOCAL_END, LOCAL_GRAIN}
 use Rattle.w16_machine.specs.World.{World}
-use Rattle.w16_machine.specs.Local.{LocalHeap, Acts, IsLocalTable, Stays, current_heap, heap_of}
+use Rattle.w16_machine.specs.Local.{LocalHeap, Acts, IsLocalTable, Stays, current_heap, heap_of, rounded_up}
+use Rattle.w16_machine.specs.LocalCalls.{local_options}
 use Rattle.w16_machine.specs.LocalGrowth.{IsGrowth, IsKeptShort, Lengthens, OnceLonger, longer, with_longer}
 use Rattle.w16_local.specs.declared.acts.ByteOp.{ByteOp}
 use Rattle.w16_local.specs.declared.acts.ByteOp.TheVariants.{Alloc, Realloc}
 use Rattle.w16_local.specs.declared.growth.Met.{Met}
 use Rattle.w16_local.specs.declared.growth.Met.TheVariants.{Answered, Lacks}
 use Rattle.w16_local.specs.declared.growth.Request.{Request}
-use Rattle.w16_local.specs.Acts.{Acted, Done, Idle, IsLent, IsLentOnce, MayAct}
+use Rattle.w16_local.specs.Acts.{Acted, Done, Idle, MayAct}
 use Rattle.w16_local.specs.Parts.{alone, with_parts}
 
 -- what a request does to a heap
@@ -87,22 +89,30 @@ pub record InSlot (handles : Handles) (tables : FinMap nat_cmp Table) (slot : �
   pub had : bytes_at handles.heap slot ≡ Some bytes
   pub holds : (rest : World) (ds : ℕ) → so (with_parts rest handles tables ds) (in_slot table bytes slot) (with_parts rest next new ds)
 
--- What a growth writes: the bytes that the reallocation of a segment moves, and then its bytes are lent once.
-pub record WritesGrown (handles : Handles) (slot before after : ℕ) : Type 0 where
-  pub handle : ℕ
-  pub named : slot_of_handle handles handle ≡ Some slot
+-- What is written where the heap doesn't grow: its segment's bytes are lent once, and it stays as long.
+abbrev pub WritesOnce : LocalHeap → ℕ → Handles → ℕ → Type 0
+WritesOnce at before new after = IsSomeAnd (bytes_at new.heap at.slot) (λ bytes. length bytes ≡ length at.bytes) × (after ≡ counted before (length at.bytes))
+
+-- And where it has grown for n bytes for an entry: the bytes that the reallocation of the segment moves, and then its bytes, which are lent once. The
+-- handles are those that this reallocation leaves, with other bytes in the segment, and the number of bytes moved stays.
+pub record WritesGrown (old : World) (at : LocalHeap) (id n : ℕ) (options : RoomOptions) (before : ℕ) (new : Handles) (after : ℕ) : Type 0 where
   pub size : ℕ
-  pub flags : ℕ
-  pub answer : ℕ
-  pub left : Handles
-  pub reallocated : GlobalReAllocs handles handle size flags answer left
-  pub written : after ≡ counted (counted before left.moved) size
+  pub growth : IsGrowth at id n options size
+  pub lengthens : Lengthens old at options size
+  pub bytes : List ℕ
+  pub left : new ≡ record lengthens.handles { heap = after_write lengthens.handles.heap at.slot 0 bytes; moved = old.loading.handles.moved }
+  pub written : after ≡ counted (counted before lengthens.handles.moved) size
 
--- what is written for a request in a slot's heap: its segment's bytes are lent once, and the heap may grow then
-abbrev pub WritesServed : Global → ℕ → Global → Type 0
-WritesServed old slot new = IsLent old slot new ⊎ IsSomeAnd (bytes_at old.handles.heap slot) (λ bytes. WritesGrown old.handles slot (counted old.written (length bytes)) new.written)
+-- what is written for a request in a slot's heap: its bytes are lent, and then it may grow
+abbrev pub WritesServed : Request → World → LocalHeap → ℕ → Handles → ℕ → Type 0
+WritesServed r old at before new after = WritesOnce at before new after ⊎ WritesGrown old at r.id r.size r.options (counted before (length at.bytes)) new after
 
--- the same of a call of a size, in the heap that DS names; none of size 0 grows
-abbrev pub IsLentOrGrown : ℕ → Global → FinMap nat_cmp Table → ℕ → Global → Type 0
-IsLentOrGrown size old tables ds new = IsLentOnce old tables ds new
-    ⊎ ((0 < size) × IsSomeAnd (current_heap (alone old.handles tables ds)) (λ at. WritesGrown old.handles at.slot (counted old.written (length at.bytes)) new.written))
+-- the same of a call of a size, which grows for one of these entries; none of size 0 grows
+abbrev pub WritesFor : (LocalHeap → ℕ → Type 0) → ℕ → ℕ → World → ℕ → Handles → ℕ → LocalHeap → Type 0
+WritesFor is_for flags size old before new after at = WritesOnce at before new after
+    ⊎ ((0 < size) × (id : ℕ) × is_for at id × WritesGrown old at id (rounded_up size) (local_options flags) (counted before (length at.bytes)) new after)
+
+-- in the heap that DS names; or all is as it was
+abbrev pub IsLentOrGrown : (LocalHeap → ℕ → Type 0) → ℕ → ℕ → Global → FinMap nat_cmp Table → ℕ → Global → Type 0
+IsLentOrGrown is_for flags size old tables ds new = (new ≡ old)
+    ⊎ IsSomeAnd (current_heap (alone old.handles tables ds)) (WritesFor is_for flags size (alone old.handles tables ds) old.written new.handles new.written)

@@ -1,5 +1,6 @@
 //! The calls that make local objects, give them another size or kind, discard and free them, and make room.
-ghost use Rattle.std.specs.Prelude.{◌≡◌};
+ghost use Rattle.std.specs.Prelude.{◌≡◌, Some};
+ghost use Rattle.w16_machine.specs.Local.{IsLowestFree, heap_of, id_named};
 ghost use Rattle.w16_machine.specs.LocalCalls.LocalCommand.{LocalAlloc, LocalCompact, LocalDiscard, LocalFree, LocalReAlloc};
 ghost use Rattle.w16_local.specs.Acts.{IsLentOnce};
 ghost use Rattle.w16_local.specs.Growth.{IsLentOrGrown};
@@ -26,7 +27,7 @@ impl<A: Allocator + Copy> LocalHeaps<A> {
     pub fn local_alloc(&mut self, global: &mut Global16<A>, ds: u16, flags: u16, size: u16) -> u16
         ensures step { Calls global.old.handles self.old ds (LocalAlloc flags size) result global.new.handles self.new }
         ensures fewest { InWorlds global.old.handles self.old ds global.new.handles self.new (AllocsFewest flags size result) }
-        ensures written { IsLentOrGrown size global.old self.old ds global.new }
+        ensures written { IsLentOrGrown (λ at id. IsLowestFree (heap_of at) id) flags size global.old self.old ds global.new }
     {
         let Some(CurrentHeap { slot, .. }) = self.current_heap(global, ds) else {
             return 0;
@@ -63,7 +64,7 @@ impl<A: Allocator + Copy> LocalHeaps<A> {
     ) -> u16
         ensures step { Calls global.old.handles self.old ds (LocalReAlloc name size flags) result global.new.handles self.new }
         ensures fewest { InWorlds global.old.handles self.old ds global.new.handles self.new (ReallocsFewest name size flags result) }
-        ensures written { IsLentOrGrown size global.old self.old ds global.new }
+        ensures written { IsLentOrGrown (λ at id. id_named (heap_of at) name ≡ Some id) flags size global.old self.old ds global.new }
     {
         let Some(Named { slot, heap, id }) = self.named(global, ds, name) else {
             return 0;

@@ -147,7 +147,7 @@ impl<A: Allocator + Copy> LocalHeaps<A> {
     pub(crate) fn serve(&mut self, global: &mut Global16<A>, slot: u16, request: Request) -> u16
         requires { MayActIn global.old.handles self.old slot (MayActOver (act_of request)) }
         ensures served { InSlot global.old.handles self.old slot global.new.handles self.new (λ old at new. Served request old at result new) }
-        ensures written { WritesServed global.old slot global.new }
+        ensures written { InSlot global.old.handles self.old slot global.new.handles self.new (λ old at new. WritesServed request old at global.old.written new.loading.handles global.new.written) }
     {
         match self.act(global, slot, &request) {
             Met::Answered(answer) => answer,
@@ -161,7 +161,7 @@ impl<A: Allocator + Copy> LocalHeaps<A> {
     fn grow(&mut self, global: &mut Global16<A>, slot: u16, size: u32, request: Request) -> u16
         requires { MayGrowIn global.old.handles self.old slot size request }
         ensures grown { InSlot global.old.handles self.old slot global.new.handles self.new (λ old at new. Grown request size old at result new) }
-        ensures written { (global.new ≡ global.old) ⊎ WritesGrown global.old.handles slot global.old.written global.new.written }
+        ensures written { (global.new ≡ global.old) ⊎ InSlot global.old.handles self.old slot global.new.handles self.new (λ old at new. WritesGrown old at request.id request.size request.options global.old.written new.loading.handles global.new.written) }
     {
         global.reveal_handles();
         let flags = growth_flags(request.options);

@@ -1,8 +1,8 @@
-use Rattle.w16_local.proofs.Common.{Ok, Result, Some, arith, subst, sym, ◌≡◌, ◌∙◌, IsSomeAnd, None, Option, Kind, Refusal, with_object, Heap, Table, IsFull, IsLowest, MayStep, Stepped, outcome, Alloc, Enter, local_alloc_law}
+use Rattle.w16_local.proofs.Common.{Ok, Result, Some, arith, subst, sym, ◌≡◌, ◌∙◌, IsSomeAnd, None, Option, Kind, Refusal, with_object, Heap, Table, IsFull, IsLowest, MayStep, Stepped, outcome, Alloc, Enter, IsLowestFree, heap_of, local_kind, local_alloc_law}
 use Rattle.w16_local.specs.declared.growth.Request.{Request}
-use Rattle.w16_local.specs.Growth.{InSlot, Served}
+use Rattle.w16_local.specs.Growth.{InSlot, Served, WritesServed}
 use Rattle.w16_local.proofs.Acting.{may_in, served_in}
-use Rattle.w16_local.proofs.Calling.{alloc_calls, alloc_empty, alloc_full, alloc_none, enter_calls, no_object, rounded_size}
+use Rattle.w16_local.proofs.Calling.{alloc_calls, alloc_empty, alloc_full, alloc_none, enter_calls, is_lowest, no_object, rounded_size}
 use Rattle.w16_local.proofs.Stepping.{holds_in}
 use Rattle.w16_local.proofs.LocalHeaps.local_alloc.Goals as goal
 
@@ -67,4 +67,11 @@ pub returns-clause-fewest : goal.returns-clause-fewest
 returns-clause-fewest g c = λ rest is at current. local_alloc_law _ _ c.args.flags c.args.size _ at is (returns-clause-step g c rest) current
 
 pub returns-clause-written : goal.returns-clause-written
-returns-clause-written g c = let some = c.if-size-eq0.false in served_in c.in-Some.ensures.some c.serve.new.global c.args.size (omega (arith, some)) c.serve.ensures.written
+returns-clause-written g c =
+    let is = c.in-Some.ensures.some in
+    let lowest = holds_in (λ (t : Table). IsLowest t c.in-Some-free_entry.id) is.kept c.in-Some-free_entry.ensures.found in
+    let some = c.if-size-eq0.false in
+    served_in is c.serve.new.global c.args.flags c.args.size (λ at id. IsLowestFree (heap_of at) id) (Some (local_kind c.args.flags)) c.in-Some-free_entry.id (is_lowest is c.args.flags c.args.size c.in-Some-free_entry.id lowest) (omega (arith, some))
+    (subst (λ (r : Request). InSlot c.args.global.now.handles c.args.self.now c.in-Some.field-0.slot
+    c.serve.new.global.handles c.serve.new.self (λ old at left. WritesServed r old at c.args.global.now.written left.loading.handles c.serve.new.global.written))
+    (λ i. record { id = c.in-Some-free_entry.id; size = c.rounded_up.ensures i; kind = Some (c.local_kind.ensures i); options = c.local_options.ensures i }) c.serve.ensures.written)

@@ -1,7 +1,7 @@
-use Rattle.w16_local.proofs.Common.{IsSomeAnd, None, inl, Option, arith, subst, sym, ◌≡◌, ◌∙◌, Kind, after_modify, Table, MayStep, Stepped, outcome, Discard, Realloc, Modify, local_realloc_law}
+use Rattle.w16_local.proofs.Common.{IsSomeAnd, None, Option, arith, subst, sym, ◌≡◌, ◌∙◌, Kind, after_modify, Table, MayStep, Stepped, outcome, Discard, Realloc, Modify, local_realloc_law, Some, heap_of, id_named}
 use Rattle.w16_local.specs.declared.growth.Request.{Request}
-use Rattle.w16_local.specs.Growth.{InSlot, Served}
-use Rattle.w16_local.proofs.Acting.{lent_in, may_in, served_in}
+use Rattle.w16_local.specs.Growth.{InSlot, Served, WritesServed}
+use Rattle.w16_local.proofs.Acting.{may_in, once_lent, served_in}
 use Rattle.w16_local.proofs.Calling.{discard_calls, discard_refused, discard_unasked, modify_calls, named_there, realloc_none, resize_calls, rounded_size}
 use Rattle.w16_local.proofs.LocalHeaps.local_realloc.Goals as goal
 
@@ -57,7 +57,11 @@ pub returns-clause-fewest : goal.returns-clause-fewest
 returns-clause-fewest g c = λ rest is o named unmodified some. local_realloc_law _ _ c.args.name c.args.size c.args.flags _ o is (returns-clause-step g c rest) named unmodified some
 
 pub returns-then-size-gt0-clause-written : goal.returns-then-size-gt0-clause-written
-returns-then-size-gt0-clause-written g c = let n = c.in-Some.ensures.some in served_in n.heap c.serve.new.global c.args.size c.if-size-gt0.true c.serve.ensures.written
+returns-then-size-gt0-clause-written g c =
+    let n = c.in-Some.ensures.some in
+    served_in n.heap c.serve.new.global c.args.flags c.args.size (λ at id. id_named (heap_of at) c.args.name ≡ Some id) None c.in-Some.field-0.id n.has c.if-size-gt0.true
+    (subst (λ (r : Request). InSlot c.args.global.now.handles c.args.self.now c.in-Some.field-0.slot c.serve.new.global.handles c.serve.new.self (λ old at left. WritesServed r old at c.args.global.now.written left.loading.handles c.serve.new.global.written))
+    (λ i. record { id = c.in-Some.field-0.id; size = c.rounded_up.ensures i; kind = None; options = c.local_options.ensures i }) c.serve.ensures.written)
 
 pub returns-clause-written : goal.returns-clause-written
-returns-clause-written g c = let n = c.in-Some.ensures.some in inl (lent_in n.heap c.act.new.global c.act.ensures.lent)
+returns-clause-written g c = let n = c.in-Some.ensures.some in once_lent n.heap c.act.new.global c.args.flags c.args.size (λ at id. id_named (heap_of at) c.args.name ≡ Some id) c.act.ensures.acted c.act.ensures.lent

@@ -1,8 +1,14 @@
-use Rattle.w16_local.proofs.Serving.{grown_writes, may_grow, same, served_grown, served_now, served_still}
+use Rattle.w16_local.proofs.Serving.{grown_writes, may_grow, once_writes, served_grown, served_now, served_still}
 use Rattle.w16_local.proofs.LocalHeaps.serve.Goals as goal
 
 pub returns-in-Answered-clause-served : goal.returns-in-Answered-clause-served
 returns-in-Answered-clause-served g c = served_now c.args.request c.in-Answered.answer c.in-Answered.ensures.acted
+
+pub returns-in-Answered-clause-written : goal.returns-in-Answered-clause-written
+returns-in-Answered-clause-written g c = once_writes c.args.global.now c.act.new.global c.args.request c.in-Answered.ensures.acted c.act.ensures.lent
+
+pub returns-in-Lacks-None-clause-written : goal.returns-in-Lacks-None-clause-written
+returns-in-Lacks-None-clause-written g c = once_writes c.args.global.now c.act.new.global c.args.request c.in-Lacks-None.ensures.acted c.act.ensures.lent
 
 pub returns-in-Lacks-None-clause-served : goal.returns-in-Lacks-None-clause-served
 returns-in-Lacks-None-clause-served g c = served_still c.args.request c.in-Lacks-None.field-0 c.in-Lacks-None.ensures.acted c.in-Lacks-None.field-0-is
@@ -15,4 +21,4 @@ returns-in-Lacks-Some-clause-served g c = served_grown c.args.request c.in-Lacks
 
 pub returns-in-Lacks-Some-clause-written : goal.returns-in-Lacks-Some-clause-written
 returns-in-Lacks-Some-clause-written g c =
-    grown_writes c.args.global.now c.act.new.global c.grow.new.global c.args.slot (same c.args.request c.in-Lacks-Some.field-0 c.in-Lacks-Some.ensures.acted).1 c.act.ensures.lent c.grow.ensures.written
+    grown_writes c.args.global.now c.act.new.global c.grow.new.global c.grow.new.self c.args.request c.in-Lacks-Some.field-0 c.in-Lacks-Some.ensures.acted c.act.ensures.lent c.grow.ensures.written
