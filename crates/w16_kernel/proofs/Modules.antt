@@ -28,21 +28,16 @@ fails : (answer : Answer) → families.reply_of answer ≡ Failed Store → answ
 fails (Says word) e = absurd (word_unfailed word e)
 fails StoreFails e = refl
 
-module _ (honest : Type 0) (handles : Handles) (modules : Modules) (loads : FinMap nat_cmp Load) (files : List (List ℕ × List ℕ)) (failures : ℕ) (next : Handles) (loaded : Modules) (left : List (List ℕ × List ℕ)) (count : ℕ) where
-  abbrev old : LoadingWorld
-  old = loading_of handles modules loads files failures
-
-  abbrev new : LoadingWorld
-  new = loading_of next loaded loads left count
-
-  pub load_told : (is_load_module : Bool) (file : List ℕ) (answer : Answer) (reply : printed.Reply) → reply ≡ families.reply_of answer → left ≡ files → failures ≤ count
-      → AnyLoadsBy GivesAnyFewest is_load_module old file answer (loading_of next loaded loads files failures) → (honest → LoadsCounted ne_format is_load_module old file answer new)
-      → StoreStep honest ne_format old (OfModules (load_command is_load_module file)) reply new
-  load_told true file answer reply e same counted any exact = record {
-    any = record { counted = counted; files = same; step = (answer, e, as_any true old file answer (record new { failures = failures }) (subst (λ (fs : List (List ℕ × List ℕ)). AnyLoadsBy GivesAnyFewest true old file answer (loading_of next loaded loads fs failures)) (sym same) any)) };
-    exact = λ asked. let l : LoadsCounted ne_format true old file answer new = exact (asked refl) in record { counted = l.counted; failed = λ f. l.failed (fails answer (sym e ∙ f)); step = (answer, e, l.loads) };
+module _ {honest : Type 0} {old : LoadingWorld} {next : Handles} {loaded : Modules} {left : List (List ℕ × List ℕ)} {count : ℕ} where
+  pub load_told : (is_load_module : Bool) {file : List ℕ} {answer : Answer} {reply : printed.Reply} → reply ≡ families.reply_of answer → left ≡ old.files → old.failures ≤ count
+      → ((rest : LoadingWorld) → AnyLoadsBy GivesAnyFewest is_load_module (record rest { handles = old.handles; modules = old.modules }) file answer (record rest { handles = next; modules = loaded }))
+      → ((rest : LoadingWorld) → honest → LoadsCounted ne_format is_load_module (record old { loads = rest.loads }) file answer (record { handles = next; modules = loaded; loads = rest.loads; files = left; failures = count }))
+      → StoreStep honest ne_format old (OfModules (load_command is_load_module file)) reply (record old { handles = next; modules = loaded; files = left; failures = count })
+  load_told true {answer = answer} e same counted any exact = record {
+    any = record { counted = counted; files = same; step = (answer, e, as_any true _ _ _ _ (rw same (any old))) };
+    exact = λ asked. let l = exact old (asked refl) in record { counted = l.counted; failed = λ f. l.failed (fails answer (sym e ∙ f)); step = (answer, e, l.loads) };
   }
-  load_told false file answer reply e same counted any exact = record {
-    any = record { counted = counted; files = same; step = (answer, e, as_any false old file answer (record new { failures = failures }) (subst (λ (fs : List (List ℕ × List ℕ)). AnyLoadsBy GivesAnyFewest false old file answer (loading_of next loaded loads fs failures)) (sym same) any)) };
-    exact = λ asked. let l : LoadsCounted ne_format false old file answer new = exact (asked refl) in record { counted = l.counted; failed = λ f. l.failed (fails answer (sym e ∙ f)); step = (answer, e, l.loads) };
+  load_told false {answer = answer} e same counted any exact = record {
+    any = record { counted = counted; files = same; step = (answer, e, as_any false _ _ _ _ (rw same (any old))) };
+    exact = λ asked. let l = exact old (asked refl) in record { counted = l.counted; failed = λ f. l.failed (fails answer (sym e ∙ f)); step = (answer, e, l.loads) };
   }
