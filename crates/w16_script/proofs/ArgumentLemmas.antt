@@ -1,11 +1,11 @@
 -- Lemmas on the arguments of commands.
-use Rattle.w16_script.proofs.Common.{◌≡◌, ◌≢◌, ℕ, ◌*◌, ◌^◌, ◌<◌, ◌≤◌, List, [], ◌∷◌, length, get_or, refl, ap, sym, subst, ◌∙◌, arith, Ok, Option, Some, None, IfNone, Command, Name}
+use Rattle.w16_script.proofs.Common.{common_steps, ◌≡◌, ◌≢◌, ℕ, ◌*◌, ◌^◌, ◌<◌, ◌≤◌, List, [], ◌∷◌, length, get_or, refl, ap, sym, subst, ◌∙◌, arith, Ok, Option, Some, None, IfNone, Command, Name}
 use Rattle.w16_script.proofs.Common.{Parameter, Label, IsLiteral, IsNumber, Argument, IsLabel, IsArgument, AreArguments, Makes, parameters_of, command_with, decode_of, decode_of-ok}
 use Rattle.w16_script.specs.declared.arguments.Parameter.TheVariants as p
 
 -- a word of another length doesn't have that many bytes
-pub length-bytes : (word bytes : _) → decode_of word ≡ Ok bytes → length word ≡ 2 * length bytes
-length-bytes word bytes h = (decode_of-ok word bytes h).2
+pub length_bytes : (word bytes : _) → decode_of word ≡ Ok bytes → length word ≡ 2 * length bytes
+length_bytes word bytes h = (decode_of-ok word bytes h).2
 
 pub IfNone-weaker : {X P Q : Type 0} (o : Option X) → (P → Q) → IfNone o P → IfNone o Q
 IfNone-weaker None f h = f h
@@ -71,6 +71,8 @@ no_first registers [] parameter parameters none values h = absurd h
 no_first registers (word ∷ words) parameter parameters none [] h = absurd h
 no_first registers (word ∷ words) parameter parameters none (value ∷ values) h = none word words value refl h.0
 
+pub ruleset taken = (common_steps, more, no_first, no_rest)
+
 -- Commands of their arguments.
 
 pub makes : (registers words name parameters arguments command : _) → AreArguments registers words parameters arguments → parameters_of name ≡ parameters → command ≡ command_with name arguments → Makes registers name words command
@@ -78,3 +80,5 @@ makes registers words name parameters arguments command right same is = record {
 
 pub makes_none : (registers words name parameters : _) → ((values : _) → AreArguments registers words parameters values → ⊥) → parameters_of name ≡ parameters → (command : _) → Makes registers name words command → ⊥
 makes_none registers words name parameters none same command made = none made.arguments (rw same at made.right)
+
+pub ruleset making = (common_steps, makes, makes_none)

@@ -1,5 +1,5 @@
 -- Lemmas on digits.
-use Rattle.w16_script.proofs.Common.{◌≡◌, ℕ, zero, suc, ◌+◌, ◌*◌, ◌%◌, ◌<◌, ◌≤◌, ◌⊎◌, List, Bool, true, false, Option, Some, None, Ok, Err, length, take, drop, refl, sym, ap, ◌∙◌, subst, arith, inl, inr, ◌==◌, ◌&&◌, if◌then◌else◌, nat_lt}
+use Rattle.w16_script.proofs.Common.{◌≡◌, ℕ, zero, suc, ◌+◌, ◌*◌, ◌%◌, ◌<◌, ◌≤◌, ◌⊎◌, Bool, true, false, Option, Some, None, Ok, Err, length, take, drop, refl, sym, ap, ◌∙◌, arith, inl, inr, ◌==◌, ◌&&◌, if◌then◌else◌, nat_lt}
 use Rattle.w16_script.proofs.Common.{bit_or, slice_index, MatchOption, cases_lt, nat_tests, decode_of, decode_pairs, hex_digit_value, pair_value, FromHexError, InvalidHexCharacter, decode_of-even, prepend, decode_err, decode_done, VALUES}
 use Rattle.w16_script.proofs.OneNumberLemmas.{both}
 
@@ -47,8 +47,8 @@ reckoned_right : all_right reckoned 256 ≡ true
 unfolding all_right stands
 reckoned_right = refl
 
-pub value-reckoned : (byte x : _) → byte < 256 → x ≡ reckoned byte → Stands (hex_digit_value byte) x
-value-reckoned byte x small e = rw e (right-at reckoned 256 byte small reckoned_right)
+pub value_reckoned : (byte x : _) → byte < 256 → x ≡ reckoned byte → Stands (hex_digit_value byte) x
+value_reckoned byte x small e = rw e (right-at reckoned 256 byte small reckoned_right)
 
 known : (digit x : _) → Stands digit x → x < 16 → digit ≡ Some x
 known None x h other = absurd (omega (arith, h, other))

@@ -1,7 +1,7 @@
 -- Lemmas on bytes that are fed.
-use Rattle.w16_script.proofs.Common.{◌≡◌, ◌≢◌, ℕ, ◌+◌, ◌<◌, ◌≤◌, Bool, List, [], ◌∷◌, ◌++◌, Option, length, length-append, map, refl, sym, ap, ◌∙◌, append-nil, append_assoc, subst, inl, inr, arith}
-use Rattle.w16_script.proofs.Common.{count_by, if◌then◌else◌, flat_map, AllByRecursion, Keeps, Keeps-refl, map-append, sum_by-append, flat_map-append, RunFault, Read, Write, Memory, TooLong, Steps}
-use Rattle.w16_script.proofs.Common.{State, RunsLines, has_reply, ended, HasNoLf, IsRaw, without_cr, Progress, with_bytes, IsWithinLimits, IsOver, Overflows, FailsAt, Feeds, StopsHere, Stops}
+use Rattle.w16_script.proofs.Common.{◌≡◌, ◌≢◌, ◌+◌, ◌<◌, ◌≤◌, Bool, List, [], ◌∷◌, ◌++◌, length, length-append, refl, ap, ◌∙◌, append-nil, append_assoc, inl, inr, arith}
+use Rattle.w16_script.proofs.Common.{count_by, if◌then◌else◌, AllByRecursion, Keeps, Keeps-refl, map-append, sum_by-append, flat_map-append, Write, Memory, TooLong}
+use Rattle.w16_script.proofs.Common.{RunsLines, has_reply, ended, HasNoLf, IsRaw, without_cr, Progress, with_bytes, IsWithinLimits, IsOver, Overflows, FailsAt, Feeds, StopsHere, Stops}
 use Rattle.w16_script.proofs.RunLemmas.{RunsLines-none, RunsLines-append, RunsLines-kept}
 
 -- Lists.

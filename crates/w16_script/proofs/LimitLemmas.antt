@@ -1,5 +1,5 @@
 -- Lemmas on the limits of a script.
-use Rattle.w16_script.proofs.Common.{◌≡◌, ◌≢◌, ℕ, zero, suc, ◌+◌, ◌-◌, ◌<◌, ◌≤◌, List, [], ◌∷◌, ◌++◌, length, length-append, length-take, take, drop, get_or, sym, ap, ◌∙◌, inl, inr, refl, arith, take-append-drop, drop-cons, HasNoLf, Progress, IsWithinLimits, Overflows, append-nil}
+use Rattle.w16_script.proofs.Common.{◌≡◌, ◌≢◌, ℕ, zero, suc, ◌+◌, ◌-◌, ◌<◌, List, [], ◌∷◌, ◌++◌, length, length-append, length-take, take, drop, get_or, sym, ap, ◌∙◌, inl, inr, refl, arith, take-append-drop, drop-cons, HasNoLf, Progress, IsWithinLimits, Overflows, append-nil}
 
 -- no byte of a line is an LF
 HasNoLf-at : (bytes : List ℕ) (i : ℕ) → HasNoLf bytes → i < length bytes → get_or bytes i 0 ≢ 10

@@ -1,5 +1,5 @@
 -- Lemmas on the value of digits.
-use Rattle.w16_script.proofs.Common.{◌≡◌, ℕ, suc, ◌<◌, ◌≤◌, ◌+◌, ◌*◌, ◌^◌, List, ◌∷◌, length, refl, sym, ap, ◌∙◌, arith, mul-le-mul_left, pow-suc, drop, get_or, add-one, true, list_all, drop-cons, nat_tests, nat_lt, one-le-pow, digit_value, place_value, is_digit}
+use Rattle.w16_script.proofs.Common.{◌≡◌, ℕ, suc, ◌<◌, ◌≤◌, ◌+◌, ◌*◌, ◌^◌, List, length, refl, arith, mul-le-mul_left, pow-suc, drop, get_or, add-one, true, list_all, drop-cons, nat_tests, one-le-pow, digit_value, place_value, is_digit}
 
 -- the number that digits make after the number so far
 abbrev pub value_behind : ℕ → ℕ → List ℕ → ℕ

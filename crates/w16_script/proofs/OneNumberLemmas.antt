@@ -1,6 +1,6 @@
 -- A number has only one reading.
-use Rattle.w16_script.proofs.Common.{◌≡◌, ◌≢◌, ℕ, ◌+◌, ◌^◌, ◌<◌, ◌⊎◌, inl, inr, Bool, true, false, List, [], ◌∷◌, ◌++◌, length, get_or, drop, subst, sym, ap, ◌∙◌, refl, arith, IsTrue}
-use Rattle.w16_script.proofs.Common.{codes, slice_index, ◌&&◌, list_all, place_value, is_digit, IsDigits, IsDecimal, IsHexadecimal, IsLiteral, IsSum, IsForm, IsOfRegister, IsNumber}
+use Rattle.w16_script.proofs.Common.{◌≡◌, ℕ, ◌+◌, ◌^◌, ◌<◌, ◌⊎◌, inl, inr, Bool, true, false, List, [], ◌∷◌, length, get_or, drop, sym, ap, ◌∙◌, refl, arith, IsTrue}
+use Rattle.w16_script.proofs.Common.{slice_index, ◌&&◌, list_all, place_value, is_digit, IsDecimal, IsHexadecimal, IsLiteral, IsSum, IsForm, IsOfRegister, IsNumber}
 use Rattle.w16_script.proofs.RegisterLemmas.{clash, BeginsWith-start, BeginsWith-same, BeginsWith-from}
 
 -- both tests hold
@@ -53,8 +53,8 @@ number-same registers word m n (inl p, _) (inr q, _) = absurd (apart registers w
 number-same registers word m n (inr p, _) (inl q, _) = absurd (apart registers word n m q p)
 number-same registers word m n (inr p, _) (inr q, _) = of_register-one p q
 
-pub literal-same : (text : List ℕ) (m n : ℕ) → IsLiteral text m → IsLiteral text n → m ≡ n
-literal-same text m n p q = either-one text m n p.0 q.0
+pub literal_same : (text : List ℕ) (m n : ℕ) → IsLiteral text m → IsLiteral text n → m ≡ n
+literal_same text m n p q = either-one text m n p.0 q.0
 
 -- What no sum, no form and no number are.
 

@@ -1,7 +1,7 @@
 -- A line that says a command has plain bytes alone.
-use Rattle.w16_script.proofs.Common.{◌≡◌, ℕ, ◌≤◌, Bool, true, false, List, [], ◌∷◌, ◌++◌, refl, arith, inl, inr, cond, Option, Some, None, ◌+◌, ◌/◌, ◌%◌, ap, ◌∙◌, cases_lt, decimal_digit, ◌&&◌, codes}
-use Rattle.w16_script.proofs.Common.{slice_index, list_all, nat_tests, list_all-from_AllPass, is_ascii_graphic, is_hex_digit, decode_of-ok, Command, Name, Parameter, Label, IsRegister, is_blank, with_byte}
-use Rattle.w16_script.proofs.Common.{words_of, is_digit, IsLiteral, IsForm, IsNumber, Argument, IsBytes, IsText, IsLabel, IsArgument, AreArguments, GoesTo, Spells, Said, Reads, text_of, parameters_of}
+use Rattle.w16_script.proofs.Common.{◌≡◌, ℕ, ◌≤◌, Bool, true, false, List, [], ◌∷◌, refl, arith, inl, inr, cond, Option, Some, None, ◌+◌, ◌/◌, ◌%◌, cases_lt, decimal_digit}
+use Rattle.w16_script.proofs.Common.{list_all, nat_tests, list_all-from_AllPass, is_ascii_graphic, is_hex_digit, decode_of-ok, Command, Name, Parameter, Label, IsRegister, is_blank, with_byte}
+use Rattle.w16_script.proofs.Common.{words_of, is_digit, IsLiteral, IsForm, IsNumber, Argument, IsText, IsLabel, IsArgument, AreArguments, GoesTo, Spells, Said, Reads, text_of, parameters_of}
 use Rattle.w16_script.proofs.Common.{is_plain}
 use Rattle.w16_script.specs.declared.name.Name.TheVariants as name
 use Rattle.w16_script.specs.declared.arguments.Parameter.TheVariants as p

@@ -1,6 +1,6 @@
 -- Lemmas on runs and on what they print.
-use Rattle.w16_script.proofs.Common.{◌≡◌, ℕ, List, [], ◌∷◌, ◌++◌, Option, refl, sym, ap, ◌∙◌, append-nil, append_assoc, subst, Keeps, Appends-nil, Appends-trans, Appends-kept}
-use Rattle.w16_script.proofs.Common.{Event, Steps, promised_append, promised_none, run_append, stored_all, State, Said, Reads, target_of, Prints, PrintsLine, RunsLines}
+use Rattle.w16_script.proofs.Common.{◌≡◌, [], ◌∷◌, ◌++◌, refl, sym, append-nil, append_assoc, Keeps, Appends-nil, Appends-trans, Appends-kept}
+use Rattle.w16_script.proofs.Common.{promised_append, promised_none, run_append, stored_all, Reads, target_of, Prints, PrintsLine, RunsLines}
 
 -- what lines print, and then what others print
 Prints-append : (a b c lines others events more output rest : _) → Prints a lines events output b → Prints b others more rest c → Prints a (lines ++ others) (events ++ more) (output ++ rest) c

@@ -1,5 +1,5 @@
 -- Lemmas on commands and their targets.
-use Rattle.w16_script.proofs.Common.{◌≡◌, ℕ, List, ◌∷◌, Option, Some, None, sym, ap, ◌∙◌, false, subst, Command, Name, words_of, GoesTo, Makes, Said, Reads, is_silent, text_of}
+use Rattle.w16_script.proofs.Common.{◌≡◌, ℕ, List, ◌∷◌, Option, Some, None, ap, ◌∙◌, false, Command, Name, words_of, GoesTo, Makes, Said, Reads, is_silent, text_of}
 use Rattle.w16_script.proofs.ReadingLemmas.{name-one, behind_one}
 
 -- neither a register and an equals sign nor a name

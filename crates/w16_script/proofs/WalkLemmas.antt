@@ -1,14 +1,14 @@
 -- Lemmas on walks that are printed, item by item.
-use Rattle.w16_script.proofs.Common.{◌≡◌, ℕ, ◌+◌, ◌<◌, ◌≤◌, List, [], ◌∷◌, ◌++◌, Option, None, Some, length, codes, length-append, refl, sym, ap, ◌∙◌, append-nil, append_assoc, arith, subst, w32, to_be_bytes, flat_map, Appends, Appends-nil, Appends-trans}
-use Rattle.w16_script.proofs.Common.{flat_map-append, encode_lower, Item, World, IsWorldWalk, handle_of, IsFirstItem, IsItem, IsCut, Next, next, cut_none, done_none, cut_more, cut_on, done_more, all_done, AppendsFront, owner_text, item_text, end_text, walk_text}
+use Rattle.w16_script.proofs.Common.{◌≡◌, ℕ, ◌+◌, ◌<◌, ◌≤◌, List, [], ◌∷◌, ◌++◌, Option, None, Some, length, codes, length-append, refl, sym, ap, ◌∙◌, append-nil, append_assoc, arith, w32, to_be_bytes, flat_map, Appends, Appends-nil, Appends-trans}
+use Rattle.w16_script.proofs.Common.{flat_map-append, encode_lower, Item, IsFirstItem, IsItem, IsCut, Next, next, cut_none, done_none, cut_more, cut_on, done_more, all_done, AppendsFront, owner_text, item_text, end_text, walk_text}
 use Rattle.w16_model.specs.Walk.{IsWalk}
 use Rattle.w16_script.proofs.WriteLemmas.{AppendsFront-between}
 
 -- Fronts of what is printed.
 
 -- nothing was written of something
-pub AppendsFront-none : (a bytes : _) → 0 < length bytes → AppendsFront a a bytes
-AppendsFront-none a bytes some = record { front = []; back = bytes; whole = refl; left = some; appends = Appends-nil a }
+pub AppendsFront_none : (a bytes : _) → 0 < length bytes → AppendsFront a a bytes
+AppendsFront_none a bytes some = record { front = []; back = bytes; whole = refl; left = some; appends = Appends-nil a }
 
 -- a line is not empty
 pub item_filled : (item : Item) → 0 < length (item_text item)

@@ -1,10 +1,10 @@
 -- Lemmas on whole runs.
-use Rattle.w16_script.proofs.Common.{World, ◌≡◌, ℕ, ◌+◌, ◌≤◌, ◌<◌, List, [], ◌∷◌, ◌++◌, Option, length, length-append, map, take, refl, sym, ap, ◌∙◌, append-nil, append_assoc, subst, arith, inl}
-use Rattle.w16_script.proofs.Common.{inr, suc, Bool, true, ◌==◌, count_by, nat_tests, Consumes, IsAtEnd, Consumes-trans, Ended, RunFault, Read, Write, Memory, TooLong, Steps, State, state_with}
-use Rattle.w16_script.proofs.Common.{start, RunsLines, has_reply, without_cr, last_of, Progress, fresh, IsWithinLimits, FailsAt, Feeds, Stops, Finishes, Script, StopsWithin, StopsLast, FailsLater}
+use Rattle.w16_script.proofs.Common.{◌≡◌, ℕ, ◌+◌, ◌≤◌, ◌<◌, List, [], ◌∷◌, ◌++◌, length, length-append, map, take, refl, ap, ◌∙◌, append-nil, subst, arith, inl}
+use Rattle.w16_script.proofs.Common.{inr, Bool, true, ◌==◌, nat_tests, Consumes, IsAtEnd, Consumes-trans, Ended, RunFault, Read, Write, Memory, TooLong, state_with}
+use Rattle.w16_script.proofs.Common.{start, has_reply, without_cr, last_of, Progress, fresh, IsWithinLimits, FailsAt, Feeds, Stops, Finishes, Script, StopsWithin, StopsLast, FailsLater}
 use Rattle.w16_script.proofs.Common.{Fails}
 use Rattle.w16_script.proofs.RunLemmas.{RunsLines-none, RunsLines-append}
-use Rattle.w16_script.proofs.FeedLemmas.{Feeds-trans, count-append}
+use Rattle.w16_script.proofs.FeedLemmas.{count-append}
 use Rattle.std.proofs.lemmas.List.{length-map}
 
 -- before the first byte no limit is passed

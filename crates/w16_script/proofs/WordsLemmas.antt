@@ -1,5 +1,5 @@
 -- Lemmas on the words of a line.
-use Rattle.w16_script.proofs.Common.{if◌then◌else◌, ◌≡◌, ℕ, zero, suc, ◌<◌, ◌≤◌, Bool, true, false, List, [], ◌∷◌, length, take, drop, get_or, refl, sym, ap, ◌∙◌, arith, words_of, is_blank, with_byte}
+use Rattle.w16_script.proofs.Common.{common_steps, if◌then◌else◌, ◌≡◌, ℕ, zero, suc, ◌<◌, ◌≤◌, Bool, true, false, List, [], ◌∷◌, length, take, drop, get_or, refl, sym, ap, ◌∙◌, arith, words_of, is_blank, with_byte}
 use Rattle.std.proofs.Common.{◌+◌, ◌%◌, ◌^◌, ◌||◌, ◌==◌, not, cond, map, bit_or}
 use Rattle.std.proofs.lemmas.List.{length-map}
 use Rattle.std.proofs.lemmas.Simd.{map-map, mask_l-mod, length-chunk, first_set_mask_l}
@@ -64,3 +64,5 @@ blank_lanes text at r z room found lanes =
     let marked : map (top 7) z ≡ map is_blank v = ap (map (top 7)) lanes ∙ map-map (top 7) _ v ∙ (λ i. map (λ x. blank_lane (x == 32) (x == 9) i) v) in
     let few = mask_l-mod (map is_blank v) 64 (omega (arith, length-map v is_blank, long)) in
     found ∙ ap (λ ms. lowest (mask_l ms % 2 ^ 64)) marked ∙ ap lowest few ∙ first_set_mask_l is_blank v 16 long (omega arith)
+
+pub ruleset splitting = (common_steps, words_of_split)

@@ -1,5 +1,5 @@
 -- Lemmas on writes.
-use Rattle.w16_script.proofs.Common.{◌≡◌, ℕ, ◌+◌, ◌<◌, List, Option, Result, Ok, Err, OnErr, length, length-append, length-drop, ◌++◌, ap, ◌∙◌, append_assoc, take, drop, sym, subst, take-append-drop, arith, Appends, Appends-trans, take-add, AppendsFront}
+use Rattle.w16_script.proofs.Common.{◌≡◌, ◌+◌, ◌<◌, Result, Ok, Err, OnErr, length, length-append, length-drop, ◌++◌, ap, ◌∙◌, append_assoc, take, drop, sym, take-append-drop, arith, Appends, Appends-trans, take-add, AppendsFront}
 
 -- what holds anyway holds on an error
 pub on_err : {T E P : Type 0} (r : Result T E) → P → OnErr r P

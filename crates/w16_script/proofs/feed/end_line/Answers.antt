@@ -1,4 +1,4 @@
-use Rattle.w16_script.proofs.Common.{◌≡◌, ◌+◌, Bool, ap, ◌∙◌, if◌then◌else◌, strip_last, without_cr, Progress, progress_of}
+use Rattle.w16_script.proofs.Common.{◌≡◌, ◌+◌, ap, ◌∙◌, if◌then◌else◌, strip_last, without_cr}
 use Rattle.w16_script.proofs.FeedLemmas.{Feeds-ends}
 use Rattle.w16_script.proofs.feed.end_line.Goals as goal
 

@@ -1,4 +1,4 @@
-use Rattle.w16_script.proofs.Common.{err_from_is_err_and, ℕ, List, ◌++◌, [], length-append, sym, ap, ◌∙◌, append-nil, append_assoc, arith, refl, IfErr-weaker, state_with, ended, progress_of}
+use Rattle.w16_script.proofs.Common.{err_from_is_err_and, ◌++◌, [], length-append, sym, ap, ◌∙◌, append-nil, append_assoc, arith, refl, IfErr-weaker, state_with, ended}
 use Rattle.w16_script.proofs.FeedLemmas.{Feeds-trans, Feeds-held, Stops-overflow, Stops-later}
 use Rattle.w16_script.proofs.feed.feed.Goals as goal
 

@@ -1,4 +1,4 @@
-use Rattle.w16_script.proofs.Common.{◌+◌, Bool, ap, ◌∙◌, if◌then◌else◌, Progress, progress_of}
+use Rattle.w16_script.proofs.Common.{◌+◌, ap, ◌∙◌, if◌then◌else◌}
 use Rattle.w16_script.proofs.FeedLemmas.{Feeds-whole}
 use Rattle.w16_script.proofs.feed.run_whole.Goals as goal
 

@@ -1,4 +1,4 @@
-use Rattle.w16_script.proofs.Common.{err_from_is_err_and, ◌<◌, [], ◌∷◌, ap, arith, length-append, refl, sym, ◌∙◌, IfErr-weaker, state_with, Progress, ended, progress_of}
+use Rattle.w16_script.proofs.Common.{err_from_is_err_and, ◌<◌, [], ◌∷◌, ap, arith, length-append, refl, sym, ◌∙◌, IfErr-weaker, state_with, ended}
 use Rattle.w16_script.proofs.FeedLemmas.{Stops-overflow, Stops-full, Stops-line, Stops-whole}
 use Rattle.w16_script.proofs.feed.take_line.Goals as goal
 

@@ -1,4 +1,4 @@
-use Rattle.w16_script.proofs.Common.{◌≡◌, arith}
+use Rattle.w16_script.proofs.Common.{arith}
 use Rattle.w16_script.proofs.ArgumentLemmas.{IfNone-weaker}
 use Rattle.w16_script.proofs.OneNumberLemmas.{no_sum}
 use Rattle.w16_script.proofs.number.form.Goals as goal

@@ -1,4 +1,4 @@
-use Rattle.w16_script.proofs.Common.{◌≡◌, codes, ◌++◌, [], ◌∷◌, List, ℕ, sym, subst, arith, append-nil, ap, ◌∙◌, Appends-nil, on_err_weaker, encode_lower, reply_text, AppendsFront}
+use Rattle.w16_script.proofs.Common.{◌≡◌, codes, ◌++◌, [], ◌∷◌, arith, append-nil, Appends-nil, on_err_weaker, encode_lower, reply_text}
 use Rattle.w16_loading.specs.Replies as replies
 use Rattle.w16_script.proofs.WriteLemmas.{on_err, AppendsFront-between}
 use Rattle.w16_script.proofs.PrintLemmas.{bytes_text}

@@ -1,4 +1,3 @@
-use Rattle.std.proofs.Common.{◌+◌}
 use Rattle.w16_script.proofs.RegisterLemmas.{begins_r, one_byte, two_bytes, BeginsWith-one, BeginsWith-two, no_digits, no_zero, no_third}
 use Rattle.w16_script.proofs.registers.split_register.Goals as goal
 

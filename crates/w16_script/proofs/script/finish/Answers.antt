@@ -1,4 +1,4 @@
-use Rattle.w16_script.proofs.Common.{refl, progress_of}
+use Rattle.w16_script.proofs.Common.{refl}
 use Rattle.w16_script.proofs.WholeLemmas.{Finishes-none, empty-from}
 use Rattle.w16_script.proofs.script.finish.Goals as goal
 

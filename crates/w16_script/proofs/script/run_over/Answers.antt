@@ -1,4 +1,4 @@
-use Rattle.w16_script.proofs.Common.{err_from_is_err_and, [], ◌++◌, take, length-take, arith, subst, sym, ap, IfOk-weaker, IfErr-weaker, Consumes-nil, Consumes-trans, state_with, fresh, IsWithinLimits, progress_of}
+use Rattle.w16_script.proofs.Common.{err_from_is_err_and, [], ◌++◌, take, length-take, arith, ap, IfOk-weaker, IfErr-weaker, Consumes-nil, Consumes-trans, state_with}
 use Rattle.w16_script.proofs.FeedLemmas.{Feeds-held, Feeds-kept, Feeds-trans}
 use Rattle.w16_script.proofs.WholeLemmas.{fresh-fits, Script-from, FailsLater-piece, FailsLater-last, Consumes-none}
 use Rattle.w16_script.proofs.script.run_over.Goals as goal

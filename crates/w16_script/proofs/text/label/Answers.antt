@@ -1,4 +1,4 @@
-use Rattle.w16_script.proofs.Common.{ℕ, ◌∷◌, ap, ◌∙◌, rules}
+use Rattle.w16_script.proofs.Common.{◌∷◌, ap, ◌∙◌, rules}
 use Rattle.w16_script.proofs.ArgumentLemmas.{no_number_behind}
 use Rattle.w16_script.proofs.text.label.Goals as goal
 

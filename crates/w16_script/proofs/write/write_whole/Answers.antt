@@ -1,4 +1,4 @@
-use Rattle.w16_script.proofs.Common.{ℕ, ◌≤◌, List, drop, length, length-drop, arith, subst, take_rest, Appends-kept}
+use Rattle.w16_script.proofs.Common.{◌≤◌, drop, length, length-drop, arith, subst, take_rest, Appends-kept}
 use Rattle.w16_script.proofs.WriteLemmas.{on_err, Appends-take, AppendsFront-take}
 use Rattle.w16_script.proofs.write.write_whole.Goals as goal
 
