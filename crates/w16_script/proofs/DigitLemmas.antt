@@ -1,5 +1,5 @@
 -- Lemmas on digits.
-use Rattle.w16_script.proofs.Common.{◌≡◌, ℕ, zero, suc, ◌+◌, ◌*◌, ◌%◌, ◌<◌, ◌≤◌, ◌⊎◌, List, Bool, true, false, Option, Some, None, Ok, Err, length, take, drop, refl, sym, ap, ◌∙◌, subst, arith, inl, inr, ◌==◌, ◌&&◌, if◌then◌else◌, nat_lt}
+use Rattle.w16_script.proofs.Common.{◌≡◌, ℕ, zero, suc, ◌+◌, ◌*◌, ◌%◌, ◌<◌, ◌≤◌, ◌⊎◌, Bool, true, false, Option, Some, None, Ok, Err, length, take, drop, refl, sym, ap, ◌∙◌, arith, inl, inr, ◌==◌, ◌&&◌, if◌then◌else◌, nat_lt}
 use Rattle.w16_script.proofs.Common.{bit_or, slice_index, MatchOption, cases_lt, nat_tests, decode_of, decode_pairs, hex_digit_value, pair_value, FromHexError, InvalidHexCharacter, decode_of-even, prepend, decode_err, decode_done, VALUES}
 use Rattle.w16_script.proofs.OneNumberLemmas.{both}
 
@@ -11,24 +11,24 @@ stands : Option ℕ → ℕ → Bool
 stands None x = x == 16
 stands (Some value) x = (x == value) && nat_lt value 16
 
-from-stands : (digit : Option ℕ) (x : ℕ) → stands digit x ≡ true → Stands digit x
+from-stands : (digit x : _) → stands digit x ≡ true → Stands digit x
 unfolding stands
 from-stands None x e = grind (arith, nat_tests)
-from-stands (Some value) x e = let parts = both (x == value) (nat_lt value 16) e in (grind (arith, nat_tests, parts.0), grind (arith, nat_tests, parts.1))
+from-stands (Some value) x e = (grind (arith, nat_tests), grind (arith, nat_tests))
 
 -- it is right for each byte below n
 all_right : (ℕ → ℕ) → ℕ → Bool
 all_right value zero = true
 all_right value (suc n) = stands (hex_digit_value n) (value n) && all_right value n
 
-right-at : (value : ℕ → ℕ) (n byte : ℕ) → byte < n → all_right value n ≡ true → Stands (hex_digit_value byte) (value byte)
+right-at : (value : ℕ → ℕ) (n byte : _) → byte < n → all_right value n ≡ true → Stands (hex_digit_value byte) (value byte)
 unfolding all_right
 right-at value zero byte small e = absurd (omega (arith, small))
 right-at value (suc n) byte small e =
     let parts = both (stands (hex_digit_value n) (value n)) (all_right value n) e in
     elim (cases_lt byte n) [
       | inl below ↦ right-at value n byte below parts.1
-      | inr above ↦ let same : n ≡ byte = omega (arith, small, above) in subst (λ k. Stands (hex_digit_value k) (value k)) same (from-stands (hex_digit_value n) (value n) parts.0)
+      | inr above ↦ let same : byte ≡ n = omega arith in rw same (from-stands (hex_digit_value n) (value n) parts.0)
     ]
 
 -- the program's table is right
@@ -36,37 +36,36 @@ values_right : all_right (slice_index VALUES.now) 256 ≡ true
 unfolding all_right stands
 values_right = refl
 
-pub value-at : (byte : ℕ) → byte < 256 → Stands (hex_digit_value byte) (slice_index VALUES.now byte)
+pub value-at : (byte : _) → byte < 256 → Stands (hex_digit_value byte) (slice_index VALUES.now byte)
 value-at byte small = right-at (slice_index VALUES.now) 256 byte small values_right
 
 -- and so is what it reckons
-reckoned : ℕ → ℕ
+abbrev pub reckoned : ℕ → ℕ
 reckoned byte = if nat_lt ((byte + 208) % 256) 10 then (byte + 208) % 256 else if nat_lt ((bit_or byte 32 + 159) % 256) 6 then (bit_or byte 32 + 159) % 256 + 10 else 16
 
 reckoned_right : all_right reckoned 256 ≡ true
-unfolding all_right stands reckoned
+unfolding all_right stands
 reckoned_right = refl
 
-pub value-reckoned : (byte x : ℕ) → byte < 256 → x ≡ (if nat_lt ((byte + 208) % 256) 10 then (byte + 208) % 256 else if nat_lt ((bit_or byte 32 + 159) % 256) 6 then (bit_or byte 32 + 159) % 256 + 10 else 16) → Stands (hex_digit_value byte) x
-unfolding reckoned
-value-reckoned byte x small e = subst (Stands (hex_digit_value byte)) (sym e) (right-at reckoned 256 byte small reckoned_right)
+pub value_reckoned : (byte x : _) → byte < 256 → x ≡ reckoned byte → Stands (hex_digit_value byte) x
+value_reckoned byte x small e = rw e (right-at reckoned 256 byte small reckoned_right)
 
-known : (digit : Option ℕ) (x : ℕ) → Stands digit x → x < 16 → digit ≡ Some x
+known : (digit x : _) → Stands digit x → x < 16 → digit ≡ Some x
 known None x h other = absurd (omega (arith, h, other))
 known (Some value) x h other = ap Some (sym h.0)
 
-unknown : (digit : Option ℕ) (x : ℕ) → Stands digit x → 16 ≤ x → digit ≡ None
+unknown : (digit x : _) → Stands digit x → 16 ≤ x → digit ≡ None
 unknown None x h e = refl
 unknown (Some value) x h e = absurd (omega (arith, h.0, h.1, e))
 
 -- two digits
-pub pair-read : (a b high low i : ℕ) → Stands (hex_digit_value a) high → Stands (hex_digit_value b) low → high < 16 → low < 16 → pair_value a b i ≡ Ok ((high * 16 % 256 + low) % 256)
+pub pair-read : (a b high low i : _) → Stands (hex_digit_value a) high → Stands (hex_digit_value b) low → high < 16 → low < 16 → pair_value a b i ≡ Ok ((high * 16 % 256 + low) % 256)
 pair-read a b high low i p q first second =
     let same : (high * 16 % 256 + low) % 256 ≡ high * 16 + low = omega (arith, first, second) in
     rw (known (hex_digit_value a) high p first, known (hex_digit_value b) low q second, same) refl
 
 -- one of the two is none
-pub pair-bad : (a b high low i : ℕ) → Stands (hex_digit_value a) high → Stands (hex_digit_value b) low → (nat_lt high 16 ≡ false) ⊎ (nat_lt low 16 ≡ false) → (e : FromHexError) × (pair_value a b i ≡ Err e)
+pub pair-bad : (a b high low i : _) → Stands (hex_digit_value a) high → Stands (hex_digit_value b) low → (nat_lt high 16 ≡ false) ⊎ (nat_lt low 16 ≡ false) → (e : FromHexError) × (pair_value a b i ≡ Err e)
 pair-bad a b high low i p q (inl bad) = (InvalidHexCharacter a i, rw (unknown (hex_digit_value a) high p (grind (arith, nat_tests, bad))) refl)
 pair-bad a b high low i p q (inr bad) = elim (cases_lt high 16) [
   | inl some ↦ (InvalidHexCharacter b (i + 1), rw (known (hex_digit_value a) high p some, unknown (hex_digit_value b) low q (grind (arith, nat_tests, bad))) refl)
@@ -74,18 +73,17 @@ pair-bad a b high low i p q (inr bad) = elim (cases_lt high 16) [
 ]
 
 -- not all three
-pub one-bad : (a b c : Bool) → ((a && b) && c) ≡ false → a ≡ true → (b ≡ false) ⊎ (c ≡ false)
+pub one-bad : (a b c : _) → ((a && b) && c) ≡ false → a ≡ true → (b ≡ false) ⊎ (c ≡ false)
 one-bad false b c e all = cc
 one-bad true false c e all = inl refl
 one-bad true true c e all = inr e
 
 -- a bad pair is a bad text
-pub bad_text : (word out other : List ℕ) (i : ℕ) (e : FromHexError) → length word ≡ 2 * length out → i < length out → pair_value (slice_index word (2 * i)) (slice_index word (2 * i + 1)) (2 * i) ≡ Err e
-    → decode_pairs 0 word ≡ prepend (take i out) (decode_pairs (2 * i) (drop (2 * i) word)) → decode_of word ≡ Ok other → ⊥
+pub bad_text : (word out other i e : _) → length word ≡ 2 * length out → i < length out → pair_value (slice_index word (2 * i)) (slice_index word (2 * i + 1)) (2 * i) ≡ Err e → decode_pairs 0 word ≡ prepend (take i out) (decode_pairs (2 * i) (drop (2 * i) word)) → decode_of word ≡ Ok other → ⊥
 bad_text word out other i e sized here bad inv reads =
     let even = decode_of-even word (omega (arith, sized)) in
     let clash : Ok other ≡ Err e = sym reads ∙ even ∙ decode_err word out i e (omega (arith, sized, here)) bad inv in
     cc
 
-pub whole_text : (word out : List ℕ) (i : ℕ) → length word ≡ 2 * length out → length out ≤ i → decode_pairs 0 word ≡ prepend (take i out) (decode_pairs (2 * i) (drop (2 * i) word)) → decode_of word ≡ Ok out
+pub whole_text : (word out i : _) → length word ≡ 2 * length out → length out ≤ i → decode_pairs 0 word ≡ prepend (take i out) (decode_pairs (2 * i) (drop (2 * i) word)) → decode_of word ≡ Ok out
 whole_text word out i sized here inv = decode_of-even word (omega (arith, sized)) ∙ decode_done word out i here (omega (arith, sized, here)) inv

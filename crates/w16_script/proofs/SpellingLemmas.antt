@@ -1,21 +1,18 @@
 -- Lemmas on commands and their targets.
-use Rattle.w16_script.proofs.Common.{◌≡◌, ℕ, List, ◌∷◌, Option, Some, None, sym, ap, ◌∙◌, false, subst, Command, Name, words_of, GoesTo, Makes, Said, Reads, is_silent, text_of}
+use Rattle.w16_script.proofs.Common.{◌≡◌, ℕ, List, ◌∷◌, Option, Some, None, ap, ◌∙◌, false, Command, Name, words_of, GoesTo, Makes, Said, Reads, is_silent, text_of}
 use Rattle.w16_script.proofs.ReadingLemmas.{name-one, behind_one}
 
 -- neither a register and an equals sign nor a name
-pub no_head : (word : List ℕ) (behind : List (List ℕ)) → ((r : ℕ) (rest : List (List ℕ)) → GoesTo (word ∷ behind) (Some r) rest → ⊥) → ((name : Name) → word ≡ text_of name → ⊥)
-    → (target : Option ℕ) (name : Name) (rest : List (List ℕ)) → GoesTo (word ∷ behind) target (text_of name ∷ rest) → ⊥
+pub no_head : (word behind : _) → ((r : ℕ) (rest : List (List ℕ)) → GoesTo (word ∷ behind) (Some r) rest → ⊥) → ((name : Name) → word ≡ text_of name → ⊥) → (target : Option ℕ) (name : Name) (rest : List (List ℕ)) → GoesTo (word ∷ behind) target (text_of name ∷ rest) → ⊥
 no_head word behind loose none None name rest goes = none name (cc)
 no_head word behind loose none (Some r) name rest goes = loose r (text_of name ∷ rest) goes
 
 -- it is bad if they make none
-pub Reads-unmade : (registers line : List ℕ) (words rest : List (List ℕ)) (target : Option ℕ) (name : Name) → words_of line ≡ words → is_silent words ≡ false
-    → GoesTo words target (text_of name ∷ rest) → ((command : Command) → Makes registers name rest command → ⊥) → Reads registers line Said.Bad
+pub Reads-unmade : (registers line words rest target name : _) → words_of line ≡ words → is_silent words ≡ false → GoesTo words target (text_of name ∷ rest) → ((command : Command) → Makes registers name rest command → ⊥) → Reads registers line Said.Bad
 Reads-unmade registers line words rest target name is loud goes none = (
   ap is_silent is ∙ loud,
   λ other command spells.
-      let there = subst (λ (l : List (List ℕ)). GoesTo l other (text_of spells.name ∷ spells.rest)) is spells.goes in
+      let there = rw is at spells.goes in
       let (targets, texts, rests) = behind_one words target other name spells.name rest spells.rest goes there in
-      let names : name ≡ spells.name = name-one name spells.name texts in
-      none command (subst (λ (n : Name). Makes registers n rest command) (sym names) (subst (λ (l : List (List ℕ)). Makes registers spells.name l command) (sym rests) spells.makes)),
+      none command (rw (name-one name spells.name texts, rests) spells.makes),
 )

@@ -1,13 +1,14 @@
 -- Lemmas on walks that are printed, item by item.
-use Rattle.w16_script.proofs.Common.{◌≡◌, ℕ, ◌+◌, ◌<◌, ◌≤◌, List, [], ◌∷◌, ◌++◌, Option, None, Some, length, codes, length-append, refl, sym, ap, ◌∙◌, append-nil, append_assoc, arith, subst, w32, to_be_bytes, flat_map, Appends, Appends-nil, Appends-trans}
-use Rattle.w16_script.proofs.Common.{flat_map-append, encode_lower, Item, World, IsWorldWalk, handle_of, IsFirstItem, IsItem, IsCut, Next, next, cut_none, done_none, cut_more, cut_on, done_more, all_done, AppendsFront, owner_text, item_text, end_text, walk_text}
+use Rattle.w16_script.proofs.Common.{◌≡◌, ℕ, ◌+◌, ◌<◌, ◌≤◌, List, [], ◌∷◌, ◌++◌, Option, None, Some, length, codes, length-append, refl, sym, ap, ◌∙◌, append-nil, append_assoc, arith, w32, to_be_bytes, flat_map, Appends, Appends-nil, Appends-trans}
+use Rattle.w16_script.proofs.Common.{flat_map-append, encode_lower, Item, IsFirstItem, IsItem, IsCut, Next, next, cut_none, done_none, cut_more, cut_on, done_more, all_done, AppendsFront, owner_text, item_text, end_text, walk_text}
+use Rattle.w16_model.specs.Walk.{IsWalk}
 use Rattle.w16_script.proofs.WriteLemmas.{AppendsFront-between}
 
 -- Fronts of what is printed.
 
 -- nothing was written of something
-pub AppendsFront-none : (a : Option (List ℕ)) (bytes : List ℕ) → 0 < length bytes → AppendsFront a a bytes
-AppendsFront-none a bytes some = record { front = []; back = bytes; whole = refl; left = some; appends = Appends-nil a }
+pub AppendsFront_none : (a bytes : _) → 0 < length bytes → AppendsFront a a bytes
+AppendsFront_none a bytes some = record { front = []; back = bytes; whole = refl; left = some; appends = Appends-nil a }
 
 -- a line is not empty
 pub item_filled : (item : Item) → 0 < length (item_text item)
@@ -21,45 +22,38 @@ pub record PrintedBelow (held holds : Option (List ℕ)) (items : List Item) (fr
   pub appends : Appends held holds (flat_map item_text cut.done)
 
 -- before the first
-pub none_printed : (held : Option (List ℕ)) (items : List Item) → PrintedBelow held held items 0
-none_printed held items = record { cut = cut_none items; appends = subst (λ (l : List Item). Appends held held (flat_map item_text l)) (sym (done_none items)) (Appends-nil held) }
+pub none_printed : (held items : _) → PrintedBelow held held items 0
+none_printed held items = record { cut = cut_none items; appends = rw done_none (Appends-nil held) }
 
-module _ (world : World) (items : List Item) (walk : IsWorldWalk world items) (from : ℕ) (held holds : Option (List ℕ)) (printed : PrintedBelow held holds items from) where
+module _ (name heap items : _) (walk : IsWalk name heap items) (from held holds : _) (printed : PrintedBelow held holds items from) where
   abbrev done : List ℕ
   done = flat_map item_text printed.cut.done
 
   -- one item more, inside which none begins
-  pub item_printed : (item : Item) (new : Option (List ℕ)) → IsFirstItem handle_of world.loading.handles.heap from (Some item) → 0 < item.size
-      → ((other : Item) → IsItem handle_of world.loading.handles.heap other → item.at < other.at → item.at + item.size ≤ other.at) → Appends holds new (item_text item) → PrintedBelow held new items (item.at + item.size)
+  pub item_printed : (item : Item) (new : _) → IsFirstItem name heap from (Some item) → 0 < item.size → ((other : Item) → IsItem name heap other → item.at < other.at → item.at + item.size ≤ other.at) → Appends holds new (item_text item)
+      → PrintedBelow held new items (item.at + item.size)
   item_printed item new first some apart appends =
-      let on = cut_on handle_of world.loading.handles.heap item some apart items walk (cut_more handle_of world.loading.handles.heap items walk from printed.cut item first) in
+      let on = cut_on name heap item some apart items walk (cut_more name heap items walk from printed.cut item first) in
       record {
         cut = on.0;
-        appends = subst (Appends held new)
-            (ap (λ (l : List ℕ). done ++ l) (sym (append-nil (item_text item))) ∙ sym (flat_map-append item_text printed.cut.done (item ∷ [])) ∙ ap (flat_map item_text) (sym (on.1 ∙ done_more handle_of world.loading.handles.heap items walk from printed.cut item first)))
-            (Appends-trans held holds new done (item_text item) printed.appends appends);
+        appends = rw (on.1, done_more name heap items walk from printed.cut item first, flat_map-append, append-nil) (Appends-trans held holds new done (item_text item) printed.appends appends);
       }
 
   -- a front of an item is one of the walk
-  pub item_fails : (item : Item) (new : Option (List ℕ)) → IsFirstItem handle_of world.loading.handles.heap from (Some item) → AppendsFront holds new (item_text item) → AppendsFront held new (walk_text items)
+  pub item_fails : (item new : _) → IsFirstItem name heap from (Some item) → AppendsFront holds new (item_text item) → AppendsFront held new (walk_text items)
   item_fails item new first front =
-      let n : Next handle_of world.loading.handles.heap items walk from printed.cut item = next handle_of world.loading.handles.heap items walk from printed.cut item first in
-      let behind : List ℕ = flat_map item_text n.more ++ end_text in
-      let parts : flat_map item_text items ≡ done ++ (item_text item ++ flat_map item_text n.more) =
-      ap (flat_map item_text) (printed.cut.whole ∙ ap (λ (l : List Item). printed.cut.done ++ l) n.is) ∙ flat_map-append item_text printed.cut.done (item ∷ n.more) in
-      let text : walk_text items ≡ done ++ (item_text item ++ behind) =
-      ap (λ (l : List ℕ). l ++ end_text) parts ∙ append_assoc done (item_text item ++ flat_map item_text n.more) end_text ∙ ap (λ (l : List ℕ). done ++ l) (append_assoc (item_text item) (flat_map item_text n.more) end_text) in
-      subst (AppendsFront held new) (sym text) (AppendsFront-between held holds new done (item_text item) behind printed.appends front)
+      let n : Next name heap items walk from printed.cut item = next name heap items walk from printed.cut item first in
+      let text : walk_text items ≡ done ++ (item_text item ++ (flat_map item_text n.more ++ end_text)) =
+      ap walk_text (printed.cut.whole ∙ ap (λ l. printed.cut.done ++ l) n.is) ∙ simp (flat_map-append, append_assoc) in
+      rw text (AppendsFront-between held new done _ printed.appends front)
 
   -- after the last item all were printed
-  whole : IsFirstItem handle_of world.loading.handles.heap from None → done ≡ flat_map item_text items
-  whole none = ap (flat_map item_text) (sym (all_done handle_of world.loading.handles.heap items walk from printed.cut none))
+  whole : IsFirstItem name heap from None → done ≡ flat_map item_text items
+  whole none = ap (flat_map item_text) (sym (all_done name heap items walk from printed.cut none))
 
-  pub walk_printed : (new : Option (List ℕ)) → IsFirstItem handle_of world.loading.handles.heap from None → Appends holds new end_text → Appends held new (walk_text items)
-  walk_printed new none appends = subst (λ (l : List ℕ). Appends held new (l ++ end_text)) (whole none) (Appends-trans held holds new done end_text printed.appends appends)
+  pub walk_printed : (new : _) → IsFirstItem name heap from None → Appends holds new end_text → Appends held new (walk_text items)
+  walk_printed new none appends = rw (← whole none) (Appends-trans held holds new done end_text printed.appends appends)
 
   -- and a front of the last line is one of the walk
-  pub end_fails : (new : Option (List ℕ)) → IsFirstItem handle_of world.loading.handles.heap from None → AppendsFront holds new end_text → AppendsFront held new (walk_text items)
-  end_fails new none front =
-      subst (λ (l : List ℕ). AppendsFront held new (l ++ end_text)) (whole none)
-      (subst (λ (l : List ℕ). AppendsFront held new (done ++ l)) (append-nil end_text) (AppendsFront-between held holds new done end_text [] printed.appends front))
+  pub end_fails : (new : _) → IsFirstItem name heap from None → AppendsFront holds new end_text → AppendsFront held new (walk_text items)
+  end_fails new none front = rw (← whole none, ← append-nil end_text) (AppendsFront-between held new done [] printed.appends front)

@@ -1,5 +1,5 @@
 -- Lemmas on writes.
-use Rattle.w16_script.proofs.Common.{◌≡◌, ℕ, ◌+◌, ◌<◌, List, Option, Result, Ok, Err, OnErr, length, length-append, length-drop, ◌++◌, ap, ◌∙◌, append_assoc, take, drop, sym, subst, take-append-drop, arith, Appends, Appends-trans, take-add, AppendsFront}
+use Rattle.w16_script.proofs.Common.{◌≡◌, ◌+◌, ◌<◌, Result, Ok, Err, OnErr, length, length-append, length-drop, ◌++◌, ap, ◌∙◌, append_assoc, take, drop, sym, take-append-drop, arith, Appends, Appends-trans, take-add, AppendsFront}
 
 -- what holds anyway holds on an error
 pub on_err : {T E P : Type 0} (r : Result T E) → P → OnErr r P
@@ -7,13 +7,12 @@ on_err (Ok x) p = tt
 on_err (Err e) p = p
 
 -- a further front of what is left
-pub Appends-take : (a b c : Option (List ℕ)) (xs ys : List ℕ) (n m : ℕ) → Appends a b (take n xs) → ys ≡ drop n xs → Appends b c (take m ys) → Appends a c (take (n + m) xs)
-Appends-take a b c xs ys n m p e q =
-    subst (Appends a c) (sym (take-add n m xs)) (Appends-trans a b c _ _ p (subst (λ (l : List ℕ). Appends b c (take m l)) e q))
+pub Appends-take : (a b c xs ys n m : _) → Appends a b (take n xs) → ys ≡ drop n xs → Appends b c (take m ys) → Appends a c (take (n + m) xs)
+Appends-take a b c xs ys n m p e q = rw take-add (Appends-trans a b c _ _ p (rw e at q))
 
 -- a front that is not all
-pub AppendsFront-take : (a b : Option (List ℕ)) (xs : List ℕ) (n : ℕ) → n < length xs → Appends a b (take n xs) → AppendsFront a b xs
-AppendsFront-take a b xs n h p = record {
+pub AppendsFront-take : {a b xs : _} (n : _) → n < length xs → Appends a b (take n xs) → AppendsFront a b xs
+AppendsFront-take {xs} n h p = record {
   front = take n xs;
   back = drop n xs;
   whole = sym (take-append-drop n xs);
@@ -22,11 +21,11 @@ AppendsFront-take a b xs n h p = record {
 }
 
 -- something before it was written whole, and something is left after it
-pub AppendsFront-between : (a b c : Option (List ℕ)) (before bytes behind : List ℕ) → Appends a b before → AppendsFront b c bytes → AppendsFront a c (before ++ (bytes ++ behind))
-AppendsFront-between a b c before bytes behind p q = record {
+pub AppendsFront-between : {b bytes : _} (a c before behind : _) → Appends a b before → AppendsFront b c bytes → AppendsFront a c (before ++ (bytes ++ behind))
+AppendsFront-between a c before behind p q = record {
   front = before ++ q.front;
   back = q.back ++ behind;
-  whole = ap (λ (l : List ℕ). before ++ (l ++ behind)) q.whole ∙ ap (λ (l : List ℕ). before ++ l) (append_assoc q.front q.back behind) ∙ sym (append_assoc before q.front (q.back ++ behind));
+  whole = ap (λ l. before ++ (l ++ behind)) q.whole ∙ simp append_assoc;
   left = omega (arith, q.left, length-append q.back behind);
-  appends = Appends-trans a b c before q.front p q.appends;
+  appends = Appends-trans _ _ _ before q.front p q.appends;
 }

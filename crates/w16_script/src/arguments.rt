@@ -55,6 +55,7 @@ impl<'a> Value<'a> for u16 {
 
     ghost argument = { λ n. Argument.Word n };
 
+    #[tactic(auto, using(crate::proofs::ArgumentLemmas::no_word))]
     fn read(word: &'a [u8], registers: &Registers) -> Option<u16> {
         let number = number_up_to(word, 65_535, registers)?;
         Some(number as u16)
@@ -67,6 +68,7 @@ impl<'a> Value<'a> for u32 {
 
     ghost argument = { λ n. Argument.Dword n };
 
+    #[tactic(auto, using(crate::proofs::ArgumentLemmas::no_dword))]
     fn read(word: &'a [u8], registers: &Registers) -> Option<u32> {
         number(word, registers)
     }
@@ -78,6 +80,7 @@ impl<'a> Value<'a> for u8 {
 
     ghost argument = { λ n. Argument.Byte n };
 
+    #[tactic(auto, using(crate::proofs::ArgumentLemmas::no_byte))]
     fn read(word: &'a [u8], registers: &Registers) -> Option<u8> {
         let number = number_up_to(word, 255, registers)?;
         Some(number as u8)
@@ -96,6 +99,7 @@ impl<'a, const MOST: u32> Value<'a> for Count<MOST> {
 
     ghost argument = { λ count. Argument.Count count.number };
 
+    #[tactic(auto, using(crate::proofs::ArgumentLemmas::no_count))]
     fn read(word: &'a [u8], registers: &Registers) -> Option<Count<MOST>> {
         let number = number_up_to(word, MOST, registers)?;
         Some(Count { number })
@@ -145,7 +149,7 @@ pub fn nothing(text: &[u8], registers: &Registers) -> Option<()>
 }
 
 /// The one argument that the text is.
-#[tactic(auto, using(crate::proofs::ArgumentLemmas::more, crate::proofs::ArgumentLemmas::no_first, crate::proofs::ArgumentLemmas::no_rest))]
+#[tactic(auto, using(crate::proofs::ArgumentLemmas::taken))]
 pub fn one<'a, V: Value<'a>>(text: &'a [u8], registers: &Registers) -> Option<V>
     ensures found { IfSome result (λ value. AreArguments registers.now (words_of text.now) (V.parameter ∷ []) (V.argument value ∷ [])) }
     ensures none { IfNone result ((values : List Argument) → AreArguments registers.now (words_of text.now) (V.parameter ∷ []) values → ⊥) }
@@ -156,7 +160,7 @@ pub fn one<'a, V: Value<'a>>(text: &'a [u8], registers: &Registers) -> Option<V>
 }
 
 /// The two arguments that the text is.
-#[tactic(auto, using(crate::proofs::ArgumentLemmas::more, crate::proofs::ArgumentLemmas::no_first, crate::proofs::ArgumentLemmas::no_rest))]
+#[tactic(auto, using(crate::proofs::ArgumentLemmas::taken))]
 pub fn two<'a, V: Value<'a>, W: Value<'a>>(text: &'a [u8], registers: &Registers) -> Option<(V, W)>
     ensures found { IfSome result (λ values. AreArguments registers.now (words_of text.now) (V.parameter ∷ W.parameter ∷ []) (V.argument values.0 ∷ W.argument values.1 ∷ [])) }
     ensures none { IfNone result ((values : List Argument) → AreArguments registers.now (words_of text.now) (V.parameter ∷ W.parameter ∷ []) values → ⊥) }
@@ -167,7 +171,7 @@ pub fn two<'a, V: Value<'a>, W: Value<'a>>(text: &'a [u8], registers: &Registers
 }
 
 /// The three arguments that the text is.
-#[tactic(auto, using(crate::proofs::ArgumentLemmas::more, crate::proofs::ArgumentLemmas::no_first, crate::proofs::ArgumentLemmas::no_rest))]
+#[tactic(auto, using(crate::proofs::ArgumentLemmas::taken))]
 pub fn three<'a, V: Value<'a>, W: Value<'a>, X: Value<'a>>(
     text: &'a [u8],
     registers: &Registers,
@@ -181,7 +185,7 @@ pub fn three<'a, V: Value<'a>, W: Value<'a>, X: Value<'a>>(
 }
 
 /// The bytes that the text is, in the room that is lent.
-#[tactic(auto, using(crate::proofs::ArgumentLemmas::more, crate::proofs::ArgumentLemmas::no_first, crate::proofs::ArgumentLemmas::no_rest))]
+#[tactic(auto, using(crate::proofs::ArgumentLemmas::taken))]
 fn bytes_alone<'a>(
     text: &[u8],
     registers: &Registers,
@@ -196,7 +200,7 @@ fn bytes_alone<'a>(
 }
 
 /// The two arguments that the text is, the second of them bytes, in the room that is lent.
-#[tactic(auto, using(crate::proofs::ArgumentLemmas::more, crate::proofs::ArgumentLemmas::no_first, crate::proofs::ArgumentLemmas::no_rest))]
+#[tactic(auto, using(crate::proofs::ArgumentLemmas::taken))]
 pub fn with_bytes<'a, V: Value<'a>>(
     text: &'a [u8],
     registers: &Registers,

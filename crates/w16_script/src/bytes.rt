@@ -44,6 +44,7 @@ pub fn value_of(byte: u8) -> u8
 }
 
 /// The same without a table, so that many bytes go at once.
+#[tactic(auto, using(crate::proofs::DigitLemmas::value_reckoned))]
 fn digit_of(byte: u8) -> u8
     ensures { MatchOption (hex_digit_value byte) (result ≡ NO_DIGIT) (λ value. (result ≡ value) × (value < NO_DIGIT)) }
 {
@@ -103,6 +104,7 @@ pub fn encode(bytes: &[u8], text: &mut [u8])
 }
 
 /// One to 1,024 bytes in hexadecimal of either case, in the room that is lent.
+#[tactic(auto, using(crate::proofs::ArgumentLemmas::length_bytes))]
 pub fn bytes<'a>(word: &[u8], room: &'a mut [u8; MOST_BYTES]) -> Option<&'a [u8]>
     ensures found { IfSome result (λ bytes. IsBytes word.now bytes.now) }
     ensures none { IfNone result ((bytes : List ℕ) → IsBytes word.now bytes → ⊥) }

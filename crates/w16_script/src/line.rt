@@ -114,7 +114,7 @@ fn with_text(name: Name, text: &[u8]) -> Option<Call<'_>>
 }
 
 /// The far access of this name that the text makes, if it is a far access's name.
-#[tactic(auto, using(crate::proofs::ArgumentLemmas::makes, crate::proofs::ArgumentLemmas::makes_none))]
+#[tactic(auto, using(crate::proofs::ArgumentLemmas::making))]
 fn far_access<'a>(
     name: Name,
     text: &'a [u8],
@@ -150,7 +150,7 @@ fn far_access<'a>(
 }
 
 /// The call of this name that the text makes.
-#[tactic(auto, using(crate::proofs::ArgumentLemmas::makes, crate::proofs::ArgumentLemmas::makes_none))]
+#[tactic(auto, using(crate::proofs::ArgumentLemmas::making))]
 fn call<'a>(
     name: Name,
     text: &'a [u8],
@@ -217,6 +217,7 @@ fn call<'a>(
 }
 
 /// The register before a command, if there is one, the command's name, and what stands after it.
+#[tactic(auto, using(crate::proofs::SpellingLemmas::no_head))]
 fn head<'a>(word: &[u8], text: &'a [u8]) -> Option<(Option<u8>, Name, &'a [u8])>
     ensures found { IfSome result (λ head. GoesTo (word.now ∷ words_of text.now) head.0 (text_of head.1 ∷ words_of head.2.now)) }
     ensures small { IfSome result (λ head. IfSome head.0 (λ r. r < 100)) }

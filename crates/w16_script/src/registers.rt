@@ -96,6 +96,7 @@ pub fn split_register(text: &[u8]) -> Option<(u8, &[u8])>
 }
 
 /// The register of this name.
+#[tactic(auto, using(crate::proofs::RegisterLemmas::not_named))]
 pub fn register(word: &[u8]) -> Option<u8>
     ensures found { IfSome result (λ r. IsRegister word.now r) }
     ensures none { IfNone result ((r : ℕ) → IsRegister word.now r → ⊥) }

@@ -39,6 +39,7 @@ pub fn text(word: &[u8]) -> Option<&[u8]>
 }
 
 /// The number that stands after a `#`.
+#[tactic(auto, using(crate::proofs::OneNumberLemmas::literal_same))]
 fn number_behind(digits: &[u8]) -> Option<u16>
     ensures found { IfSome result (λ n. IsLiteral digits.now n) }
     ensures none { IfNone result ((n : ℕ) → IsLiteral digits.now n → n < 2 ^ 16 → ⊥) }

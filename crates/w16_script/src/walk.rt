@@ -61,6 +61,7 @@ fn item_line(item: &Item) -> io::Result<ItemLine>
 }
 
 /// Prints an item as one line. It fails as `print_reply` does.
+#[tactic(auto, using(crate::proofs::WalkLemmas::AppendsFront_none, crate::proofs::WalkLemmas::item_filled))]
 fn print_item<W: Write>(writer: &mut W, item: &Item) -> Result<(), ErrorKind>
     requires { IfSome item.now.owner (λ owner. owner.name < 2 ^ 16) }
     ensures ok { OnOk result (Appends (W.contents writer.old) (W.contents writer.new) (item_text item.now)) }

@@ -86,7 +86,7 @@ fn word_length(text: &[u8]) -> usize
 }
 
 /// The first word and what stands after it. There is none only where there are but blanks.
-#[tactic(auto, using(crate::proofs::WordsLemmas::words_of_split))]
+#[tactic(auto, using(crate::proofs::WordsLemmas::splitting))]
 pub fn split_word(text: &[u8]) -> Option<(&[u8], &[u8])>
     ensures some { IfSome result (λ split. words_of text.now ≡ split.0.now ∷ words_of split.1.now) }
     ensures filled { IfSome result (λ split. 0 < length split.0.now) }
@@ -102,6 +102,7 @@ pub fn split_word(text: &[u8]) -> Option<(&[u8], &[u8])>
 }
 
 /// Whether a text has no words.
+#[tactic(auto, using(crate::proofs::WordsLemmas::words_of_none))]
 pub fn has_no_words(text: &[u8]) -> bool
     ensures { IsTrue result ↔ (words_of text.now ≡ []) }
 {

@@ -1,4 +1,4 @@
-use Rattle.w16_script.proofs.Common.{◌≡◌, ◌+◌, Bool, ap, ◌∙◌, if◌then◌else◌, strip_last, without_cr, Progress, progress_of}
+use Rattle.w16_script.proofs.Common.{◌≡◌, ◌+◌, ap, ◌∙◌, if◌then◌else◌, strip_last, without_cr}
 use Rattle.w16_script.proofs.FeedLemmas.{Feeds-ends}
 use Rattle.w16_script.proofs.feed.end_line.Goals as goal
 
@@ -6,5 +6,5 @@ pub returns-clause-ok : goal.returns-clause-ok
 returns-clause-ok g c =
     let same : c.without_cr-line.result.now ≡ without_cr c.args.state.now.line.items = c.without_cr-line.ensures ∙ ap (strip_last 13) c.as_slice.ensures.value in
     let counted = c.count_line.ensures.progress in
-    rw c.count_line.ensures.registers (Feeds-ends _ _ _ (progress_of c.args.state.now) _ _ _ c.without_cr-line.result.now same c.in_ok-replied.ensures.ok c.requires.fits.short (ap (λ (p : Progress). p.line) counted ∙ c.clear.ensures) (ap (λ (p : Progress). p.lines) counted)
-    (ap (λ (p : Progress). p.replies) counted ∙ ap (λ (b : Bool). c.args.state.now.replies + (if b then 1 else 0)) c.in_ok-replied.ensures.replied))
+    rw c.count_line.ensures.registers (Feeds-ends same c.in_ok-replied.ensures.ok c.requires.fits.short (ap (λ p. p.line) counted ∙ c.clear.ensures) (ap (λ p. p.lines) counted)
+    (ap (λ p. p.replies) counted ∙ ap (λ b. c.args.state.now.replies + (if b then 1 else 0)) c.in_ok-replied.ensures.replied))

@@ -4,17 +4,17 @@ use Rattle.w16_script.proofs.PrintLemmas.{split-at, PrintedTo-none, PrintedTo-mo
 use Rattle.w16_script.proofs.print.print_digits.Goals as goal
 
 pub pieces-init : goal.pieces-init
-pieces-init g c = record { printed = PrintedTo-none _ _ }
+pieces-init g c = record { printed = PrintedTo-none }
 
 pub pieces-preserved : goal.pieces-preserved
 pieces-preserved g c =
     let parts = split-at _ _ _ 1024 c.split_at.ensures.front c.split_at.ensures.back in
-    record { printed = PrintedTo-more _ _ _ _ _ _ _ _ c.pieces.invariant.printed parts c.digits_of.ensures c.in_ok-write_whole.ensures.ok }
+    record { printed = PrintedTo-more _ _ _ _ _ _ c.pieces.invariant.printed _ _ parts c.digits_of.ensures c.in_ok-write_whole.ensures.ok }
 
 pub returns-in_err-write_whole-clause-err : goal.returns-in_err-write_whole-clause-err
 returns-in_err-write_whole-clause-err g c =
     let parts = split-at _ _ _ 1024 c.split_at.ensures.front c.split_at.ensures.back in
-    on_err c.from_residual.result (PrintedTo-fails _ _ _ _ _ _ _ _ c.pieces.invariant.printed parts c.digits_of.ensures c.in_err-write_whole.ensures.err)
+    on_err c.from_residual.result (PrintedTo-fails _ _ _ _ _ _ c.pieces.invariant.printed _ _ parts c.digits_of.ensures c.in_err-write_whole.ensures.err)
 
 pub returns-clause-ok : goal.returns-clause-ok
 returns-clause-ok g c = on_ok_weaker c.write_whole-2.result (λ appends. PrintedTo-end _ _ _ _ _ _ c.pieces.invariant.printed c.last_digits.ensures appends) c.write_whole-2.ensures.ok

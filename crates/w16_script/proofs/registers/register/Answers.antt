@@ -1,9 +1,6 @@
 use Rattle.std.proofs.Common.{[]}
-use Rattle.w16_script.proofs.RegisterLemmas.{BeginsWith-name, not_named}
+use Rattle.w16_script.proofs.RegisterLemmas.{BeginsWith-name}
 use Rattle.w16_script.proofs.registers.register.Goals as goal
-
-pub returns-else-is_empty-clause-none : goal.returns-else-is_empty-clause-none
-returns-else-is_empty-clause-none c = λ r named. not_named c.args.word.now c.in_ok-register.rest.now c.in_ok-register.register r c.is_empty.result c.is_empty.ensures c.if-is_empty.false c.in_ok-register.ensures.found named
 
 pub returns-in_err-register-clause-none : goal.returns-in_err-register-clause-none
 returns-in_err-register-clause-none c =

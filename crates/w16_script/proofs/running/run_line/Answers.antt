@@ -7,7 +7,7 @@ returns-in-Silent-clause-ok g c = record {
   events = [];
   output = [];
   run = refl;
-  prints = Prints-one c.args.registers.now c.args.line.now Said.Silent [] [] c.args.registers.now c.in-Silent.ensures.reads refl refl;
+  prints = Prints-one c.args.line.now Said.Silent [] c.in-Silent.ensures.reads refl refl;
   appends = Appends-nil _;
   promises = promised_none (g.K.Machine.world c.args.kernel.now);
 }
@@ -17,14 +17,14 @@ returns-in-Ok-clause-ok g c = record {
   events = [];
   output = error_text;
   run = refl;
-  prints = Prints-one c.args.registers.now c.args.line.now Said.Bad [] error_text c.args.registers.now c.in-Bad.ensures.reads refl refl;
+  prints = Prints-one c.args.line.now Said.Bad [] c.in-Bad.ensures.reads refl refl;
   appends = c.in-Ok.ensures.ok;
   promises = promised_none (g.K.Machine.world c.args.kernel.now);
 }
 
 pub returns-in-Err-clause-err : goal.returns-in-Err-clause-err
 returns-in-Err-clause-err g c =
-    ([], error_text, refl, Prints-one c.args.registers.now c.args.line.now Said.Bad [] error_text c.args.registers.now c.in-Bad.ensures.reads refl refl, c.in-Err.ensures.err, promised_none (g.K.Machine.world c.args.kernel.now))
+    ([], error_text, refl, Prints-one c.args.line.now Said.Bad [] c.in-Bad.ensures.reads refl refl, c.in-Err.ensures.err, promised_none (g.K.Machine.world c.args.kernel.now))
 
 pub returns-in-Ok-print_shown-clause-ok : goal.returns-in-Ok-print_shown-clause-ok
 returns-in-Ok-print_shown-clause-ok g c =
@@ -35,7 +35,7 @@ returns-in-Ok-print_shown-clause-ok g c =
       events = event ∷ [];
       output = text;
       run = (c.in-Ok-call.ensures.step, refl {a = g.K.Machine.world c.call.new.self});
-      prints = Prints-one c.args.registers.now c.args.line.now (Said.Says c.in-Command.target command) (event ∷ []) text c.store.new.self c.in-Command.ensures.reads (refl, shows) c.store.ensures;
+      prints = Prints-one c.args.line.now (Said.Says c.in-Command.target command) (event ∷ []) c.in-Command.ensures.reads (refl, shows) c.store.ensures;
       appends = appends;
       promises = c.in-Ok-call.ensures.promises;
     }
@@ -48,7 +48,7 @@ returns-in-Err-print_shown-clause-err g c =
       event ∷ [],
       text,
       (c.in-Ok-call.ensures.step, refl {a = g.K.Machine.world c.call.new.self}),
-      Prints-one c.args.registers.now c.args.line.now (Said.Says c.in-Command.target command) (event ∷ []) text c.store.new.self c.in-Command.ensures.reads (refl, shows) c.store.ensures,
+      Prints-one c.args.line.now (Said.Says c.in-Command.target command) (event ∷ []) c.in-Command.ensures.reads (refl, shows) c.store.ensures,
       front,
       c.in-Ok-call.ensures.promises,
     )

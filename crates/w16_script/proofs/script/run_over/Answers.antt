@@ -1,4 +1,4 @@
-use Rattle.w16_script.proofs.Common.{err_from_is_err_and, [], ◌++◌, take, length-take, arith, subst, sym, ap, IfOk-weaker, IfErr-weaker, Consumes-nil, Consumes-trans, state_with, fresh, IsWithinLimits, progress_of}
+use Rattle.w16_script.proofs.Common.{err_from_is_err_and, [], ◌++◌, take, length-take, arith, ap, IfOk-weaker, IfErr-weaker, Consumes-nil, Consumes-trans, state_with}
 use Rattle.w16_script.proofs.FeedLemmas.{Feeds-held, Feeds-kept, Feeds-trans}
 use Rattle.w16_script.proofs.WholeLemmas.{fresh-fits, Script-from, FailsLater-piece, FailsLater-last, Consumes-none}
 use Rattle.w16_script.proofs.script.run_over.Goals as goal
@@ -10,14 +10,14 @@ returns-in_err-feed-clause-err g c =
     rw (p.1, p.2) (
       text ++ take c.in-Ok.count c.read_some.new.buffer,
       Consumes-trans _ _ _ _ _ consumed c.in-Ok.ensures.ok,
-      FailsLater-piece _ _ _ _ _ _ _ _ _ _ text _ (Feeds-kept _ _ _ _ _ _ _ _ text feeds c.flush_writer.ensures) c.pieces.invariant.fits (omega (arith, c.pieces.invariant.size, c.read_some.auto.buffer, length-take c.in-Ok.count c.read_some.new.buffer))
-          c.in_err-feed.field-0.0 c.in_err-feed.ensures.err,
+      FailsLater-piece _ _ _ _ _ _ _ _ _ _ text _ _ (Feeds-kept feeds c.flush_writer.ensures) c.pieces.invariant.fits (omega (arith, c.pieces.invariant.size, c.read_some.auto.buffer, length-take c.in-Ok.count c.read_some.new.buffer))
+          c.in_err-feed.ensures.err,
     )
 
 pub pieces-init : goal.pieces-init
 pieces-init g c = record {
-  fed = ([], Consumes-nil _, Feeds-held _ _ fresh (progress_of c.new-state.result) _ _ [] tt c.new-state.ensures.progress (ap (state_with (g.K.Machine.world c.args.kernel.now)) c.new-state.ensures.registers));
-  fits = subst IsWithinLimits (sym c.new-state.ensures.progress) fresh-fits;
+  fed = ([], Consumes-nil _, Feeds-held tt c.new-state.ensures.progress (ap (state_with (g.K.Machine.world c.args.kernel.now)) c.new-state.ensures.registers));
+  fits = rw c.new-state.ensures.progress fresh-fits;
   size = c.requires;
 }
 
@@ -28,7 +28,7 @@ pieces-preserved g c =
       fed = (
         text ++ take c.in-Ok.count c.read_some.new.buffer,
         Consumes-trans _ _ _ _ _ consumed c.in-Ok.ensures.ok,
-        Feeds-trans _ _ _ _ _ _ _ _ _ _ _ _ (Feeds-kept _ _ _ _ _ _ _ _ text feeds c.flush_writer.ensures) c.in_ok-feed.ensures.ok,
+        Feeds-trans (Feeds-kept feeds c.flush_writer.ensures) c.in_ok-feed.ensures.ok,
       );
       fits = c.in_ok-feed.ensures.within;
       size = omega (arith, c.pieces.invariant.size, c.read_some.auto.buffer);
@@ -42,7 +42,7 @@ returns-then-count-eq0-clause-ok g c =
       text,
       Consumes-none _ _ _ _ _ _ c.if-count-eq0.true consumed c.in-Ok.ensures.ok,
       c.in-Ok.ensures.end c.if-count-eq0.true,
-      Script-from _ _ _ _ _ _ _ _ _ text counts (Feeds-kept _ _ _ _ _ _ _ _ text feeds c.flush_writer.ensures) c.pieces.invariant.fits finishes,
+      Script-from (Feeds-kept feeds c.flush_writer.ensures) c.pieces.invariant.fits finishes,
     ))
     c.finish.ensures.ok
 
@@ -53,6 +53,6 @@ returns-then-count-eq0-clause-err g c =
     (λ fault (filled, fails). (
       text,
       Consumes-none _ _ _ _ _ _ c.if-count-eq0.true consumed c.in-Ok.ensures.ok,
-      FailsLater-last _ _ _ _ _ _ _ _ _ _ text fault (c.in-Ok.ensures.end c.if-count-eq0.true) (Feeds-kept _ _ _ _ _ _ _ _ text feeds c.flush_writer.ensures) c.pieces.invariant.fits filled fails,
+      FailsLater-last _ _ _ _ _ _ _ _ _ _ text fault (c.in-Ok.ensures.end c.if-count-eq0.true) (Feeds-kept feeds c.flush_writer.ensures) c.pieces.invariant.fits filled fails,
     ))
     c.finish.ensures.err
