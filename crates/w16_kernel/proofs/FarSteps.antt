@@ -1,6 +1,6 @@
 -- Far accesses over a store, with what they fetch.
 use Rattle.w16_kernel.proofs.Common.{◌≡◌, ℕ, inl, inr, Bool, true, false, MatchBool, MatchOption, Option, Some, None, Result, Ok, Err, refl, sym, ap, ◌∙◌, subst, repeated, FarAnswer, FarCommand, FarFault, FetchFault, Read, Write, Fill}
-use Rattle.w16_kernel.proofs.Common.{Handles, far_slot, selector_in, offset_in, AnyFetches, Fetching, Fetches, FetchesCounted, Accesses, needs_fetch, far_read, far_write, far_reads_file, gives, reply_of_far, FarReplies, Failed, Store}
+use Rattle.w16_kernel.proofs.Common.{Handles, far_slot, selector_in, offset_in, AnyFetches, Fetching, Fetches, Accesses, needs_fetch, far_read, far_write, far_reads_file, gives, reply_of_far, FarReplies, Failed}
 use Rattle.w16_kernel.proofs.Common.{FinMap, Table, nat_cmp, false≢true, OfFar, OfHandles, LoadingWorld, with_handles, World, left_in, Step, OfLoading, ne_format, reply_of, write_of, IsWorldOver, StoreFetch, Refetches, Moved, Dword}
 use Rattle.w16_loading.specs.Families.{FarStep}
 use Rattle.w16_loading.specs.Replies as printed

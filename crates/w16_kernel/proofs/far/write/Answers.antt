@@ -1,5 +1,5 @@
 -- An access is made once, or is ended by what it met, or is made again after a fetch.
-use Rattle.w16_kernel.proofs.Common.{ap, sym, ◌∙◌, subst, FarReplies, Global, reply_of, write_of}
+use Rattle.w16_kernel.proofs.Common.{ap, sym, ◌∙◌, Global, reply_of, write_of}
 use Rattle.w16_kernel.proofs.Absent.{met_absent}
 use Rattle.w16_kernel.proofs.FarSteps.{answered, ended_by, not_fault, remade_by, selector_of_write}
 use Rattle.w16_kernel.proofs.far.write.Goals as goal
