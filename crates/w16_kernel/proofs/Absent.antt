@@ -58,6 +58,11 @@ met_absent old next same selector command named fault s e = rw (same, named) (he
     here (Write pointer bytes) s = write_absent old (selector_in pointer) (offset_in pointer) bytes (ap Fault (sym e) ∙ s.0)
     here (Fill pointer count byte) s = write_absent old (selector_in pointer) (offset_in pointer) (repeated count byte) (ap Fault (sym e) ∙ s.0)
 
+pub slot_in_handle : (kind : Kind) (slot : ℕ) → handle_of kind slot / 8 ≡ slot
+slot_in_handle Fixed slot = omega arith
+slot_in_handle Moveable slot = omega arith
+slot_in_handle Discardable slot = omega arith
+
 module _ (handles : Handles) (is : AreHandles handles) (selector : ℕ) (absent : IsAbsent handles selector) (few : selector < 65536) where
   -- the selector is one of the object's
   named : (selector ≡ selector_of (absent.place.slot + absent.place.number)) × (absent.place.number < slots_at handles.attributes absent.place.slot)
@@ -86,18 +91,13 @@ module _ (handles : Handles) (is : AreHandles handles) (selector : ℕ) (absent 
   low Moveable = omega (arith, named.0, few)
   low Discardable = omega (arith, named.0, few)
 
-  of_slot : (kind : Kind) → handle_of kind absent.place.slot / 8 ≡ absent.place.slot
-  of_slot Fixed = omega arith
-  of_slot Moveable = omega arith
-  of_slot Discardable = omega arith
-
   -- Its handle is in the low word of what GlobalHandle tells of the selector.
   module _ (name : ℕ) (name_is : name ≡ offset_in (global_handle handles selector)) where
     same : name ≡ handle
     same = name_is ∙ ap (λ n. n % 65536) told ∙ low object.0.kind
 
     at : name / 8 ≡ absent.place.slot
-    at = ap (λ n. n / 8) same ∙ of_slot object.0.kind
+    at = ap (λ n. n / 8) same ∙ slot_in_handle object.0.kind _
 
     pub slot_is : far_slot handles selector ≡ name / 8
     slot_is = rw (absent.named, far_slot) (sym at)

@@ -1,11 +1,12 @@
 -- Which local heaps a call of a program for bytes spares, told by how many discardable objects there are before and after.
 use Rattle.w16_kernel.proofs.Common.{◌≡◌, ◌≢◌, ℕ, ◌≤◌, ◌/◌, inl, inr, Bool, true, false, cond, not, ◌&&◌, ◌==◌, nat_le, if◌then◌else◌, IfSome, IsSomeAnd, List, [], ◌∷◌, length, filter, Option, Some, None, option_map, unwrap_or, is_some, refl, sym}
-use Rattle.w16_kernel.proofs.Common.{ap, ◌∙◌, subst, arith, false≢true, cases_eq, le-leb, length-filter, count_by-le-length, nat_cmp, nat_cmp_total, nat_cmp-IsAntisymmetric, same_map, get-retain_keys, Kind, Fixed, Moveable, Discardable, FinMap}
+use Rattle.w16_kernel.proofs.Common.{ap, ◌∙◌, subst, arith, false≢true, cases_eq, le-leb, length-filter, count_by-le-length, nat_cmp, nat_cmp_total, nat_cmp-IsAntisymmetric, same_map, get-retain_keys, Discardable, FinMap}
 use Rattle.w16_kernel.proofs.Common.{Heap, Object, Table, object_at, bytes_at, bytes_in, is_discardable, is_in_order, is_member, without, Handles, AreHandles, numbered, handle_of, slot_of_handle, kind_asked, alloc_options}
 use Rattle.w16_kernel.proofs.Common.{CallStep, Outcome, IsUnmoved, IsLocked, IsUnlocked, IsFreed, IsNewest, IsOldest, IsEntered, IsAllocated, IsCompacted, IsModified, IsDiscarded, IsResized, IsKeptOrDiscarded, OnlyLeave, handle_in}
 use Rattle.w16_kernel.proofs.Common.{may_change, names_law, taken_here, taken_other, outcome, answer_in, GlobalFree, GlobalCompact, GlobalReAlloc, GlobalDiscard, Calls, ReAllocs, GMEM_MOVEABLE, Reply, Word, Dword, World, Command, OfLoading}
 use Rattle.w16_kernel.proofs.Common.{OfHandles, OfResizes, IsWorldOver, Unswept, object_slot, word_of, discardable_beside, bystanders_law, allocated, compacted, stays, filter_swapped, other_of, twice_out, without_absent, IsLocalIn, has_range, left_in}
 use Rattle.w16_kernel.proofs.Common.{OthersStay}
+use Rattle.w16_kernel.proofs.Absent.{slot_in_handle}
 use Rattle.std.specs.FinMap as finmap
 use Rattle.std.specs.Prelude.{◌||◌}
 use Rattle.std.proofs.lemmas.Bool.{eq-eqb, eqb-true, ne_eqb}
@@ -28,11 +29,6 @@ filter_all p (x ∷ l) le = turn (p x) le (filter_all p l)
     turn false le rest = absurd (let few = length-filter p l in let fewer = count_by-le-length p l in omega (arith, le, few, fewer))
 
 -- The slot of a call's object: the one that it names, or that it has made.
-
-slot_in_handle : (kind : Kind) (slot : ℕ) → handle_of kind slot / 8 ≡ slot
-slot_in_handle Fixed slot = omega arith
-slot_in_handle Moveable slot = omega arith
-slot_in_handle Discardable slot = omega arith
 
 abbrev pub slot_made : Answer → ℕ
 slot_made (calls.Answer.Word handle) = handle / 8
@@ -147,14 +143,11 @@ module _ (heap : Heap) (tables : FinMap nat_cmp Table) (slot : ℕ) (others : (q
 
   pub swept_slot : (b : Bool) → has_range heap tables slot ≡ b → (if b then tables else finmap.remove tables slot) ≡ left_in heap tables
   swept_slot b has = same_map nat_cmp_total nat_cmp-IsAntisymmetric (if b then tables else finmap.remove tables slot) (left_in heap tables)
-      (λ q. elim (cases_eq q slot) [ inl e ↦ here b has q e | inr d ↦ away b q d ∙ sym (other_left q d) ])
+      (λ q. elim (cases_eq q slot) [ inl e ↦ here b q e ∙ sym (left_at q ∙ ap (λ b. cond b (finmap.get tables q) None) (ap (has_range heap tables) e ∙ has)) | inr d ↦ away b q d ∙ sym (other_left q d) ])
     where
-      here : (b : Bool) → has_range heap tables slot ≡ b → (q : ℕ) → q ≡ slot → finmap.get (if b then tables else finmap.remove tables slot) q ≡ finmap.get (left_in heap tables) q
-      here b has q e = turn b ∙ sym (left_at q ∙ ap (λ b. cond b (finmap.get tables q) None) (ap (has_range heap tables) e ∙ has))
-        where
-          turn : (b : Bool) → finmap.get (if b then tables else finmap.remove tables slot) q ≡ cond b (finmap.get tables q) None
-          turn true = refl
-          turn false = taken_here tables slot q e
+      here : (b : Bool) (q : ℕ) → q ≡ slot → finmap.get (if b then tables else finmap.remove tables slot) q ≡ cond b (finmap.get tables q) None
+      here true q e = refl
+      here false q e = taken_here tables slot q e
 
       away : (b : Bool) (q : ℕ) → q ≢ slot → finmap.get (if b then tables else finmap.remove tables slot) q ≡ finmap.get tables q
       away true q d = refl
