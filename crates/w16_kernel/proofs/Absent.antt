@@ -1,7 +1,7 @@
 -- An access that met an object without bytes: which object that is, and its handle.
-use Rattle.w16_kernel.proofs.Common.{◌≡◌, ℕ, ◌+◌, ◌*◌, ◌/◌, ◌%◌, ◌<◌, ◌≤◌, true, length, Option, Some, None, IfSome, IsSomeAnd, is_some, option_map, unwrap_or, refl, sym, ap, ◌∙◌, subst, arith, false≢true, Kind, Fixed, Moveable, Discardable}
-use Rattle.w16_kernel.proofs.Common.{Attributes, Object, Handles, AreHandles, Part, REACH, reached, slots_at, slots_none, reach_law, bytes_at, dword_of, far_slot, handle_of, object_at, offset_in, selector_of, is_owned, global_handle}
-use Rattle.w16_kernel.proofs.Common.{LacksBytes, IsAbsent, names_law, Bool, false, cond, List, FarAnswer, FarFault, far_fault, FarCommand, FarReplies, Read, Write, Fill, data_write, far_bytes, part, repeated, refuses_write, selector_in}
+use Rattle.w16_kernel.proofs.Common.{◌≡◌, ℕ, ◌+◌, ◌/◌, ◌%◌, ◌<◌, true, length, Option, Some, None, is_some, option_map, unwrap_or, refl, sym, ap, ◌∙◌, arith, false≢true, Kind, Fixed, Moveable, Discardable}
+use Rattle.w16_kernel.proofs.Common.{Attributes, Object, Handles, AreHandles, Part, slots_at, slots_none, reach_law, bytes_at, dword_of, far_slot, handle_of, object_at, offset_in, selector_of, is_owned, global_handle}
+use Rattle.w16_kernel.proofs.Common.{LacksBytes, IsAbsent, names_law, Bool, false, cond, List, FarAnswer, FarFault, far_fault, FarCommand, FarReplies, Read, Write, Fill, data_write, repeated, refuses_write, selector_in}
 use Rattle.std.specs.FinMap as finmap
 use Rattle.w16_model.specs.declared.FarFault.TheVariants.{BadSelector, ReadOnly, NotPresent, Limit}
 use Rattle.w16_model.specs.Far as far
@@ -41,37 +41,32 @@ module _ (handles : Handles) (selector : ℕ) where
       same fault e = cc
 
   read_absent : (offset n : ℕ) → Fault NotPresent ≡ (far.far_read handles selector offset n).0 → IsAbsent handles selector
-  read_absent offset n e = by_answer offset n _ (differ (part (far_bytes handles selector) (far_at handles selector offset) n)) (far_fault handles selector offset n) refl e
-    where
-      differ : (bytes : List ℕ) → ◌≡◌ {A = FarAnswer} (Bytes bytes) (Fault NotPresent) → ⊥
-      differ bytes e = cc
+  read_absent offset n e = by_answer offset n _ (λ e. cc) (far_fault handles selector offset n) refl e
 
   write_absent : (offset : ℕ) (slice : List ℕ) → Fault NotPresent ≡ (far.far_write handles selector offset slice).0 → IsAbsent handles selector
   write_absent offset slice e = turn (refuses_write handles selector) e
     where
-      done : ◌≡◌ {A = FarAnswer} Done (Fault NotPresent) → ⊥
-      done e = cc
-
-      read_only : ◌≡◌ {A = FarAnswer} (Fault NotPresent) (Fault ReadOnly) → ⊥
-      read_only e = cc
-
       turn : (b : Bool) → Fault NotPresent ≡ (cond b (Fault ReadOnly, handles) (data_write handles selector offset slice)).0 → IsAbsent handles selector
-      turn true e = absurd (read_only e)
-      turn false e = by_answer offset (length slice) _ done (far_fault handles selector offset (length slice)) refl e
+      turn true e = cc
+      turn false e = by_answer offset (length slice) _ (λ e. cc) (far_fault handles selector offset (length slice)) refl e
 
 pub met_absent : (old next : Handles) → next ≡ old → (selector : ℕ) (command : FarCommand) → selector ≡ selector_of_command command → (fault : FarFault) → FarReplies old command (replies.Reply.Fault fault) next → fault ≡ NotPresent → IsAbsent next selector
-met_absent old next same selector command named fault s e = subst (λ h. IsAbsent h selector) (sym same) (subst (IsAbsent old) (sym named) (here command s))
+met_absent old next same selector command named fault s e = rw (same, named) (here command s)
   where
     here : (command : FarCommand) → FarReplies old command (replies.Reply.Fault fault) next → IsAbsent old (selector_of_command command)
     here (Read pointer count) s = read_absent old (selector_in pointer) (offset_in pointer) count (ap Fault (sym e) ∙ s.0)
     here (Write pointer bytes) s = write_absent old (selector_in pointer) (offset_in pointer) bytes (ap Fault (sym e) ∙ s.0)
     here (Fill pointer count byte) s = write_absent old (selector_in pointer) (offset_in pointer) (repeated count byte) (ap Fault (sym e) ∙ s.0)
 
+pub slot_in_handle : (kind : Kind) (slot : ℕ) → handle_of kind slot / 8 ≡ slot
+slot_in_handle Fixed slot = omega arith
+slot_in_handle Moveable slot = omega arith
+slot_in_handle Discardable slot = omega arith
+
 module _ (handles : Handles) (is : AreHandles handles) (selector : ℕ) (absent : IsAbsent handles selector) (few : selector < 65536) where
   -- the selector is one of the object's
   named : (selector ≡ selector_of (absent.place.slot + absent.place.number)) × (absent.place.number < slots_at handles.attributes absent.place.slot)
-  named = let r = subst (λ p. IfSome p (λ (p : Part). (selector ≡ selector_of (p.slot + p.number)) × (p.number < slots_at handles.attributes p.slot)
-      × IfSome (bytes_at handles.heap p.slot) (λ bytes. (0 < reached (length bytes) p) × (REACH * p.number + reached (length bytes) p ≤ length bytes)))) absent.named (reach_law handles selector is) in (r.0, r.1)
+  named = let r = rw absent.named at (reach_law handles selector is) in (r.0, r.1)
 
   object : (o : Object) × (object_at handles.heap absent.place.slot ≡ Some o)
   object = turn (object_at handles.heap absent.place.slot) refl (sym (is.attributed absent.place.slot) ∙ has (finmap.get handles.attributes absent.place.slot) refl)
@@ -96,25 +91,20 @@ module _ (handles : Handles) (is : AreHandles handles) (selector : ℕ) (absent 
   low Moveable = omega (arith, named.0, few)
   low Discardable = omega (arith, named.0, few)
 
-  of_slot : (kind : Kind) → handle_of kind absent.place.slot / 8 ≡ absent.place.slot
-  of_slot Fixed = omega arith
-  of_slot Moveable = omega arith
-  of_slot Discardable = omega arith
-
   -- Its handle is in the low word of what GlobalHandle tells of the selector.
   module _ (name : ℕ) (name_is : name ≡ offset_in (global_handle handles selector)) where
     same : name ≡ handle
     same = name_is ∙ ap (λ n. n % 65536) told ∙ low object.0.kind
 
     at : name / 8 ≡ absent.place.slot
-    at = ap (λ n. n / 8) same ∙ of_slot object.0.kind
+    at = ap (λ n. n / 8) same ∙ slot_in_handle object.0.kind _
 
     pub slot_is : far_slot handles selector ≡ name / 8
-    slot_is = ap (λ (p : Option Part). (unwrap_or p (record { slot = 0; number = 0 })).slot) absent.named ∙ sym at
+    slot_is = rw (absent.named, far_slot) (sym at)
 
     pub lacks : is_owned handles (name / 8) ≡ true → LacksBytes handles name
     lacks owned = record {
-      named = (names_law handles name absent.place.slot).0.1 (subst (λ (p : Option Object). IsSomeAnd p (λ (o : Object). name ≡ handle_of o.kind absent.place.slot)) (sym object.1) same) ∙ ap Some (sym at);
+      named = (names_law handles name absent.place.slot).0.1 (rw object.1 same) ∙ ap Some (sym at);
       owned = owned;
       without_bytes = ap (bytes_at handles.heap) at ∙ absent.without_bytes;
     }

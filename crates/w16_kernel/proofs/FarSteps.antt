@@ -1,6 +1,6 @@
 -- Far accesses over a store, with what they fetch.
 use Rattle.w16_kernel.proofs.Common.{◌≡◌, ℕ, inl, inr, Bool, true, false, MatchBool, MatchOption, Option, Some, None, Result, Ok, Err, refl, sym, ap, ◌∙◌, subst, repeated, FarAnswer, FarCommand, FarFault, FetchFault, Read, Write, Fill}
-use Rattle.w16_kernel.proofs.Common.{Handles, far_slot, selector_in, offset_in, AnyFetches, Fetching, Fetches, FetchesCounted, Accesses, needs_fetch, far_read, far_write, far_reads_file, gives, reply_of_far, FarReplies, Failed, Store}
+use Rattle.w16_kernel.proofs.Common.{Handles, far_slot, selector_in, offset_in, AnyFetches, Fetching, Fetches, Accesses, needs_fetch, far_read, far_write, far_reads_file, gives, reply_of_far, FarReplies, Failed}
 use Rattle.w16_kernel.proofs.Common.{FinMap, Table, nat_cmp, false≢true, OfFar, OfHandles, LoadingWorld, with_handles, World, left_in, Step, OfLoading, ne_format, reply_of, write_of, IsWorldOver, StoreFetch, Refetches, Moved, Dword}
 use Rattle.w16_loading.specs.Families.{FarStep}
 use Rattle.w16_loading.specs.Replies as printed
@@ -50,9 +50,8 @@ given old next (Fill pointer count byte) Done s = (ap reply_of_far s.0, ap (with
 given old next (Fill pointer count byte) (Fault fault) s = (ap reply_of_far s.0, ap (with_handles old) s.1)
 given old next command reply s = absurd s
 
--- no access replies that a fetch failed
-unfailed : (h next : Handles) (command : FarCommand) (reply : printed.Reply) (fault : FetchFault) → FarReplies h command reply next → reply ≡ Failed fault → ⊥
-unfailed h next command reply fault s e = subst (λ r. FarReplies h command r next) e s
+abbrev Makes : Type 0 → World → FarCommand → printed.Reply → World → Type 0
+Makes honest old command reply new = Step honest ne_format old (OfLoading (OfFar command)) reply new
 
 -- An access that fetches the object, or fails to.
 module _ (old : LoadingWorld) (command : FarCommand) (reply : printed.Reply) (needed : needs_fetch (access_of command old).0 old (selector_of_command command) ≡ true) where
@@ -70,61 +69,40 @@ module _ (old : LoadingWorld) (command : FarCommand) (reply : printed.Reply) (ne
   failed fetches fault new f e = accessed fetches old command reply new (subst (Outcome fetches new) (sym needed) (Some fault, new, f, (e, refl)))
 
 module _ (honest : Type 0) (old : World) (is : IsWorldOver honest old) (command : FarCommand) (reply : printed.Reply) where
-  abbrev Makes : World → Type 0
-  Makes new = Step honest ne_format old (OfLoading (OfFar command)) reply new
-
   -- what fetches nothing
-  pub made_once : (next : Handles) → needs_fetch (access_of command old.loading).0 old.loading (selector_of_command command) ≡ false → FarReplies old.loading.handles command reply next → Makes (record old { loading = with_handles old.loading next })
+  pub made_once : (next : Handles) → needs_fetch (access_of command old.loading).0 old.loading (selector_of_command command) ≡ false → FarReplies old.loading.handles command reply next → Makes honest old command reply (record old { loading = with_handles old.loading next })
   made_once next none s =
       let step = on_handles honest old.loading (OfFar command) reply next (reads_are old.loading command ∙ none) s in
-      (step, (λ i. record { loading = with_handles old.loading next; heaps = sym (stay honest old is (OfFar command) reply (with_handles old.loading next) (reads_are old.loading command ∙ none) step) i; ds = old.ds }))
+      (step, (λ i. record { loading = with_handles old.loading next; heaps = sym (stay honest old is _ _ _ (reads_are old.loading command ∙ none) step) i; ds = old.ds }))
 
   -- what is made again after a fetch, and the sweep
   pub made_again : (mid : LoadingWorld) (next : Handles) → needs_fetch (access_of command old.loading).0 old.loading (selector_of_command command) ≡ true
       → StoreFetch honest old.loading (far_slot old.loading.handles (selector_of_command command)) None mid → FarReplies mid.handles command reply next
-      → Makes (record { loading = with_handles mid next; heaps = left_in next.heap old.heaps; ds = old.ds })
-  made_again mid next needed f s = (
-    record {
-      any = record {
-        counted = f.counted;
-        files = f.files;
-        step = again old.loading command reply needed AnyFetches (record mid { failures = old.loading.failures }) (with_handles (record mid { failures = old.loading.failures }) next) f.any
-            (given (record mid { failures = old.loading.failures }) next command reply s);
-      };
-      exact = λ asked. let fetched : FetchesCounted ne_format old.loading (far_slot old.loading.handles (selector_of_command command)) None mid = f.exact (asked (reads_are old.loading command ∙ needed)) in record {
-        counted = f.counted;
-        failed = λ e. absurd (unfailed mid.handles next command reply Store s e);
-        step = again old.loading command reply needed (Fetches ne_format) (record mid { failures = old.loading.failures }) (with_handles (record mid { failures = old.loading.failures }) next) fetched.fetched
-            (given (record mid { failures = old.loading.failures }) next command reply s);
-      };
-    },
-    refl,
-  )
+      → Makes honest old command reply (record { loading = with_handles mid next; heaps = left_in next.heap old.heaps; ds = old.ds })
+  made_again mid next needed f s =
+      let m : LoadingWorld = record mid { failures = old.loading.failures } in
+      let g = given m next command reply s in (
+        record {
+          any = record { counted = f.counted; files = f.files; step = again _ _ _ needed AnyFetches m _ f.any g };
+          exact = λ asked. let fetched = f.exact (asked (reads_are old.loading command ∙ needed)) in record { counted = f.counted; failed = λ e. absurd (rw e at s); step = again _ _ _ needed (Fetches ne_format) m _ fetched.fetched g };
+        },
+        refl,
+      )
 
   -- what can't be fetched
   pub not_made : (fault : FetchFault) (new : LoadingWorld) → needs_fetch (access_of command old.loading).0 old.loading (selector_of_command command) ≡ true
       → StoreFetch honest old.loading (far_slot old.loading.handles (selector_of_command command)) (Some fault) new → reply ≡ Failed fault → new.handles ≡ old.loading.handles
-      → Makes (record { loading = new; heaps = old.heaps; ds = old.ds })
+      → Makes honest old command reply (record { loading = new; heaps = old.heaps; ds = old.ds })
   not_made fault new needed f e same = (
     record {
-      any = record { counted = f.counted; files = f.files; step = failed old.loading command reply needed AnyFetches fault (record new { failures = old.loading.failures }) f.any e };
-      exact = λ asked. let fetched : FetchesCounted ne_format old.loading (far_slot old.loading.handles (selector_of_command command)) (Some fault) new = f.exact (asked (reads_are old.loading command ∙ needed)) in record {
-        counted = f.counted;
-        failed = λ r. fetched.failed (store_is fault e r);
-        step = failed old.loading command reply needed (Fetches ne_format) fault (record new { failures = old.loading.failures }) fetched.fetched e;
-      };
+      any = record { counted = f.counted; files = f.files; step = failed _ _ _ needed AnyFetches fault _ f.any e };
+      exact = λ asked. let fetched = f.exact (asked (reads_are old.loading command ∙ needed)) in record { counted = f.counted; failed = λ r. fetched.failed (cc); step = failed _ _ _ needed (Fetches ne_format) fault _ fetched.fetched e };
     },
     (λ i. record { loading = new; heaps = (sym still ∙ ap (λ (h : Handles). left_in h.heap old.heaps) (sym same)) i; ds = old.ds }),
   )
     where
-      store_is : (fault : FetchFault) → reply ≡ Failed fault → reply ≡ Failed Store → Some fault ≡ Some Store
-      store_is fault e r = ap Some (same_fault (sym e ∙ r))
-        where
-          same_fault : ◌≡◌ {A = printed.Reply} (Failed fault) (Failed Store) → fault ≡ Store
-          same_fault q = cc
-
       still : left_in old.loading.handles.heap old.heaps ≡ old.heaps
-      still = stay honest old is (OfHandles Moved) (Dword old.loading.handles.moved) old.loading refl (on_handles honest old.loading (OfHandles Moved) (Dword old.loading.handles.moved) old.loading.handles refl (refl, refl))
+      still = stay honest old is _ _ _ refl (on_handles honest old.loading (OfHandles Moved) (Dword old.loading.handles.moved) old.loading.handles refl (refl, refl))
 
 -- An access that met a fault, and what became of it then.
 met_fault : (old : LoadingWorld) (next : Handles) (command : FarCommand) (fault : FarFault) → FarReplies old.handles command (Fault fault) next → FarAnswer.Fault fault ≡ (access_of command old).0
@@ -138,16 +116,13 @@ module _ (honest : Type 0) (old : World) (is : IsWorldOver honest old) (command 
 
   -- it isn't made again
   pub ended : (reply : Reply) (new : LoadingWorld) → Refetches honest old.loading (selector_of_command command) fault (Err reply) new
-      → Step honest ne_format old (OfLoading (OfFar command)) (reply_of reply) (record { loading = new; heaps = old.heaps; ds = old.ds })
-  ended reply new (inl (none, e, same)) =
-      let once : Step honest ne_format old (OfLoading (OfFar command)) (reply_of reply) (record old { loading = old.loading }) =
-      made_once honest old is command (reply_of reply) old.loading.handles (met_needs false none) (subst (λ r. FarReplies old.loading.handles command r old.loading.handles) (sym e) met) in
-      subst (λ (w : LoadingWorld). Step honest ne_format old (OfLoading (OfFar command)) (reply_of reply) (record { loading = w; heaps = old.heaps; ds = old.ds })) (sym same) once
+      → Makes honest old command (reply_of reply) (record { loading = new; heaps = old.heaps; ds = old.ds })
+  ended reply new (inl (none, e, same)) = rw (same, e) (made_once honest old is command _ old.loading.handles (met_needs false none) met)
   ended reply new (inr (needed, same, failed, e, f)) = not_made honest old is command (reply_of reply) failed new (met_needs true needed) f e same
 
   -- it is
   pub remade : (mid : LoadingWorld) (reply : printed.Reply) (next : Handles) → Refetches honest old.loading (selector_of_command command) fault (Ok tt) mid → FarReplies mid.handles command reply next
-      → Step honest ne_format old (OfLoading (OfFar command)) reply (record { loading = with_handles mid next; heaps = left_in next.heap old.heaps; ds = old.ds })
+      → Makes honest old command reply (record { loading = with_handles mid next; heaps = left_in next.heap old.heaps; ds = old.ds })
   remade mid reply next f s = made_again honest old is command reply mid next (met_needs true f.0) f.1 s
 
 -- The steps as the code makes them: an access answers at once, or it left the handles as they were, and was ended or made again.
@@ -166,22 +141,20 @@ needs_nothing old selector reply (FarAnswer.Fault fault) e none = absurd (false�
 
 module _ (honest : Type 0) (old : World) (command : FarCommand) where
   pub answered : IsWorldOver honest old → (reply : printed.Reply) (next : Handles) → is_fault reply ≡ false → FarReplies old.loading.handles command reply next
-      → Step honest ne_format old (OfLoading (OfFar command)) reply (record old { loading = with_handles old.loading next })
+      → Makes honest old command reply (record old { loading = with_handles old.loading next })
   answered is reply next none s = made_once honest old is command reply next (needs_nothing old.loading (selector_of_command command) reply (access_of command old.loading).0 (given old.loading next command reply s).0 none) s
 
   module _ (next : Handles) (same : next ≡ old.loading.handles) (selector : ℕ) (named : selector ≡ selector_of_command command) (fault : FarFault) (met : FarReplies old.loading.handles command (Fault fault) next) where
     met_here : FarReplies old.loading.handles command (Fault fault) old.loading.handles
-    met_here = subst (FarReplies old.loading.handles command (Fault fault)) same met
+    met_here = rw same at met
 
     refetched : (result : Result (Unit {0}) Reply) (new : LoadingWorld) → Refetches honest (with_handles old.loading next) selector fault result new → Refetches honest old.loading (selector_of_command command) fault result new
-    refetched result new f = subst (λ n. Refetches honest old.loading n fault result new) named (subst (λ (h : Handles). Refetches honest (with_handles old.loading h) selector fault result new) same f)
+    refetched result new f = rw (named, same) at f
 
     pub ended_by : IsWorldOver honest old → (reply : Reply) (new : LoadingWorld) → Refetches honest (with_handles old.loading next) selector fault (Err reply) new
-        → Step honest ne_format old (OfLoading (OfFar command)) (reply_of reply) (record { loading = new; heaps = old.heaps; ds = old.ds })
+        → Makes honest old command (reply_of reply) (record { loading = new; heaps = old.heaps; ds = old.ds })
     ended_by is reply new f = ended honest old is command fault met_here reply new (refetched (Err reply) new f)
 
     pub remade_by : IsWorldOver honest old → (mid : LoadingWorld) (reply : printed.Reply) (last : Handles) (heaps : FinMap nat_cmp Table) → Refetches honest (with_handles old.loading next) selector fault (Ok tt) mid → FarReplies mid.handles command reply last
-        → heaps ≡ left_in last.heap old.heaps → Step honest ne_format old (OfLoading (OfFar command)) reply (record { loading = with_handles mid last; heaps = heaps; ds = old.ds })
-    remade_by is mid reply last heaps f s left =
-        subst (λ (tables : FinMap nat_cmp Table). Step honest ne_format old (OfLoading (OfFar command)) reply (record { loading = with_handles mid last; heaps = tables; ds = old.ds })) (sym left)
-        (remade honest old is command fault met_here mid reply last (refetched (Ok tt) mid f) s)
+        → heaps ≡ left_in last.heap old.heaps → Makes honest old command reply (record { loading = with_handles mid last; heaps = heaps; ds = old.ds })
+    remade_by is mid reply last heaps f s left = rw left (remade honest old is command fault met_here mid reply last (refetched (Ok tt) mid f) s)

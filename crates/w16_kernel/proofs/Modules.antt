@@ -1,31 +1,23 @@
 -- Calls on modules and resources.
-use Rattle.w16_kernel.proofs.Common.{◌≡◌, ℕ, ◌≤◌, Bool, true, false, List, refl, sym, ◌∙◌, subst, nat_cmp, Handles, Store, StoreFails, AnyLoadsBy, GivesAnyFewest, LoadsCounted, as_any, reads_files}
-use Rattle.w16_kernel.proofs.Common.{LoadingCommand, FamilyStep, Fetches, FinMap, OfModules, Loads, Failed, Word, Dword, LoadingWorld, Load, Modules, StoreStep, ne_format, load_command, loading_of}
+use Rattle.w16_kernel.proofs.Common.{◌≡◌, ℕ, ◌≤◌, Bool, true, false, List, refl, sym, ◌∙◌, Handles, Store, StoreFails, AnyLoadsBy, GivesAnyFewest, LoadsCounted, as_any, reads_files}
+use Rattle.w16_kernel.proofs.Common.{LoadingCommand, FamilyStep, Fetches, OfModules, Loads, Failed, Word, Dword, LoadingWorld, Modules, StoreStep, ne_format, load_command}
 use Rattle.w16_loading.specs.Families as families
 use Rattle.w16_loading.specs.Load.{Answer}
 use Rattle.w16_loading.specs.Load.Answer.{Says}
 use Rattle.w16_loading.specs.Replies as printed
 use Rattle.w16_kernel.proofs.Stepping.{on_loading}
 
--- A word and a double word say of no fetch that it failed.
-
-word_unfailed : (word : ℕ) → ◌≡◌ {A = printed.Reply} (Word word) (Failed Store) → ⊥
-word_unfailed word e = cc
-
-dword_unfailed : (dword : ℕ) → ◌≡◌ {A = printed.Reply} (Dword dword) (Failed Store) → ⊥
-dword_unfailed dword e = cc
-
 module _ (honest : Type 0) (old new : LoadingWorld) (command : LoadingCommand) (none : reads_files old command ≡ false) (same : new.failures ≡ old.failures) where
   pub word_told : (word : ℕ) → FamilyStep (Fetches ne_format) (Loads ne_format) old command (Word word) (record new { failures = old.failures }) → StoreStep honest ne_format old command (Word word) new
-  word_told word s = on_loading honest old command (Word word) new none (word_unfailed word) same s
+  word_told word s = on_loading honest old command (Word word) new none (λ e. cc) same s
 
   pub dword_told : (dword : ℕ) → FamilyStep (Fetches ne_format) (Loads ne_format) old command (Dword dword) (record new { failures = old.failures }) → StoreStep honest ne_format old command (Dword dword) new
-  dword_told dword s = on_loading honest old command (Dword dword) new none (dword_unfailed dword) same s
+  dword_told dword s = on_loading honest old command (Dword dword) new none (λ e. cc) same s
 
 -- A load.
 
 fails : (answer : Answer) → families.reply_of answer ≡ Failed Store → answer ≡ StoreFails
-fails (Says word) e = absurd (word_unfailed word e)
+fails (Says word) e = cc
 fails StoreFails e = refl
 
 module _ {honest : Type 0} {old : LoadingWorld} {next : Handles} {loaded : Modules} {left : List (List ℕ × List ℕ)} {count : ℕ} where

@@ -1,7 +1,7 @@
 -- What becomes of an access that met a fault: what the kernel fetches is the object that the access asked for.
 use Rattle.w16_kernel.proofs.Common.{◌≡◌, ℕ, ◌-◌, ◌/◌, ◌<◌, ◌≤◌, true, false, length, List, Option, Some, None, IfNone, IsSomeAnd, is_some, slice_get, refl, sym, ap, ◌∙◌, subst, arith, length-map, slice_get_within}
-use Rattle.w16_kernel.proofs.Common.{FarAnswer, FetchFault, Load, IsSome, Bool, Handles, far_slot, needs_fetch, owned_at, is_owned, LoadingWorld, Module, IsSegmentOf, IsLoadingWorld}
-use Rattle.w16_kernel.proofs.Common.{Segment, module_at, AnyFetches, FetchesCounted, Owner, owner_of, segment_among, IsFetchable, IsSourceOf, owner_in, tables_in, ne_format}
+use Rattle.w16_kernel.proofs.Common.{FarAnswer, FetchFault, Bool, Handles, far_slot, needs_fetch, owned_at, is_owned, LoadingWorld, Module, IsSegmentOf, IsLoadingWorld}
+use Rattle.w16_kernel.proofs.Common.{Segment, module_at, AnyFetches, FetchesCounted, owner_of, segment_among, IsFetchable, IsSourceOf, owner_in, tables_in, ne_format}
 use Rattle.w16_kernel.proofs.Common.{IsLoadingOver, IsSourceFor, IsAbsent, StoreFetch, LacksBytes, owner_law, of_segment, segment_owned, global_handle, offset_in, segment_in}
 use Rattle.w16_kernel.proofs.Common.{Tables}
 use Rattle.std.specs.FinMap as finmap
@@ -35,7 +35,7 @@ source_for {slot = slot} {handle = handle} {number = number} {n = n} {m = m} {so
 -- An object that is no resource is a module's segment or the script's.
 module _ {world : LoadingWorld} (slot : ℕ) (is : IsLoadingWorld world) (none : finmap.get world.loads slot ≡ None) where
   owner_is : owner_of world slot ≡ segment_among (finmap.entries world.modules) slot
-  owner_is = ap (λ (p : Option Load). elim p as (λ _. Owner) [ Some load ↦ Owner.OfResource load.handle load.place | None ↦ segment_among (finmap.entries world.modules) slot ]) none
+  owner_is = rw (none, owner_of)
 
   pub unowned : owner_in None ≡ segment_among (finmap.entries world.modules) slot → owned_at world.handles slot ≡ None
   unowned e = (owner_law world slot Script is).0 (owner_is ∙ sym e)

@@ -26,10 +26,10 @@ ran_more steps old calls kept now call answer new ran step promises =
     let last : Event = event_of call answer new in
     record {
       events = ran.events ++ last ∷ [];
-      run = run_append steps old now new ran.events (last ∷ []) ran.run (step, refl);
+      run = run_append _ _ _ _ _ _ ran.run (step, refl);
       commands = map_push (λ (e : Event). e.command) ran.events last ∙ ap (λ cs. cs ++ command_of call ∷ []) ran.commands ∙ sym (map_push command_of calls call);
       answers = map_push (λ (e : Event). e.reply) ran.events last ∙ ap (λ rs. rs ++ answer_of answer ∷ []) ran.answers ∙ sym (map_push answer_of kept answer);
-      promises = promised_append steps old now ran.events (last ∷ []) ran.run ran.promises promises;
+      promises = promised_append _ _ _ _ _ ran.run ran.promises promises;
     }
 
 -- all calls are done

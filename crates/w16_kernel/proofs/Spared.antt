@@ -1,11 +1,12 @@
 -- Which local heaps a call of a program for bytes spares, told by how many discardable objects there are before and after.
 use Rattle.w16_kernel.proofs.Common.{◌≡◌, ◌≢◌, ℕ, ◌≤◌, ◌/◌, inl, inr, Bool, true, false, cond, not, ◌&&◌, ◌==◌, nat_le, if◌then◌else◌, IfSome, IsSomeAnd, List, [], ◌∷◌, length, filter, Option, Some, None, option_map, unwrap_or, is_some, refl, sym}
-use Rattle.w16_kernel.proofs.Common.{ap, ◌∙◌, subst, arith, false≢true, cases_eq, le-leb, length-filter, count_by-le-length, nat_cmp, nat_cmp_total, nat_cmp-IsAntisymmetric, same_map, get-retain_keys, Kind, Fixed, Moveable, Discardable, FinMap}
-use Rattle.w16_kernel.proofs.Common.{Heap, Object, Table, object_at, bytes_at, bytes_in, is_discardable, is_in_order, is_member, without, Handles, AreHandles, numbered, handle_of, slot_of_handle, kind_asked, alloc_options, realloc_options}
-use Rattle.w16_kernel.proofs.Common.{rounded_size, CallStep, Outcome, IsUnmoved, IsLocked, IsUnlocked, IsFreed, IsNewest, IsOldest, IsEntered, IsAllocated, IsCompacted, IsModified, IsDiscarded, IsResized, IsKeptOrDiscarded, OnlyLeave, handle_in}
+use Rattle.w16_kernel.proofs.Common.{ap, ◌∙◌, subst, arith, false≢true, cases_eq, le-leb, length-filter, count_by-le-length, nat_cmp, nat_cmp_total, nat_cmp-IsAntisymmetric, same_map, get-retain_keys, Discardable, FinMap}
+use Rattle.w16_kernel.proofs.Common.{Heap, Object, Table, object_at, bytes_at, bytes_in, is_discardable, is_in_order, is_member, without, Handles, AreHandles, numbered, handle_of, slot_of_handle, kind_asked, alloc_options}
+use Rattle.w16_kernel.proofs.Common.{CallStep, Outcome, IsUnmoved, IsLocked, IsUnlocked, IsFreed, IsNewest, IsOldest, IsEntered, IsAllocated, IsCompacted, IsModified, IsDiscarded, IsResized, IsKeptOrDiscarded, OnlyLeave, handle_in}
 use Rattle.w16_kernel.proofs.Common.{may_change, names_law, taken_here, taken_other, outcome, answer_in, GlobalFree, GlobalCompact, GlobalReAlloc, GlobalDiscard, Calls, ReAllocs, GMEM_MOVEABLE, Reply, Word, Dword, World, Command, OfLoading}
 use Rattle.w16_kernel.proofs.Common.{OfHandles, OfResizes, IsWorldOver, Unswept, object_slot, word_of, discardable_beside, bystanders_law, allocated, compacted, stays, filter_swapped, other_of, twice_out, without_absent, IsLocalIn, has_range, left_in}
 use Rattle.w16_kernel.proofs.Common.{OthersStay}
+use Rattle.w16_kernel.proofs.Absent.{slot_in_handle}
 use Rattle.std.specs.FinMap as finmap
 use Rattle.std.specs.Prelude.{◌||◌}
 use Rattle.std.proofs.lemmas.Bool.{eq-eqb, eqb-true, ne_eqb}
@@ -24,15 +25,10 @@ filter_all p [] le = refl
 filter_all p (x ∷ l) le = turn (p x) le (filter_all p l)
   where
     turn : (b : Bool) → length (x ∷ l) ≤ length (cond {A = List ℕ} b (x ∷ filter p l) (filter p l)) → (length l ≤ length (filter p l) → filter p l ≡ l) → cond {A = List ℕ} b (x ∷ filter p l) (filter p l) ≡ x ∷ l
-    turn true le rest = ap (λ (m : List ℕ). x ∷ m) (rest (omega arith))
+    turn true le rest = ap (λ m. x ∷ m) (rest (omega arith))
     turn false le rest = absurd (let few = length-filter p l in let fewer = count_by-le-length p l in omega (arith, le, few, fewer))
 
 -- The slot of a call's object: the one that it names, or that it has made.
-
-slot_in_handle : (kind : Kind) (slot : ℕ) → handle_of kind slot / 8 ≡ slot
-slot_in_handle Fixed slot = omega arith
-slot_in_handle Moveable slot = omega arith
-slot_in_handle Discardable slot = omega arith
 
 abbrev pub slot_made : Answer → ℕ
 slot_made (calls.Answer.Word handle) = handle / 8
@@ -59,33 +55,33 @@ module _ (old new : Handles) (is : AreHandles old) (are : AreHandles new) (call 
   abbrev Leaves : ℕ → Type 0
   Leaves slot = OnlyLeave new.heap (without slot old.heap.order) (without slot new.heap.order)
 
-  named : (c : Call) (handle slot : ℕ) → call ≡ c → handle_in c ≡ Some handle → slot_of_handle old handle ≡ Some slot → Leaves slot → Leaves (slot_in call answer)
-  named c handle slot asked names found = subst Leaves (sym (ap (λ p. unwrap_or (option_map (λ handle. handle / 8) p) (slot_made answer)) (ap handle_in asked ∙ names) ∙ found_slot old handle slot found))
+  named : {handle slot : ℕ} → handle_in call ≡ Some handle → slot_of_handle old handle ≡ Some slot → Leaves slot → Leaves (slot_in call answer)
+  named names found = subst Leaves (sym (ap (λ p. unwrap_or (option_map (λ handle. handle / 8) p) (slot_made answer)) names ∙ found_slot old _ _ found))
 
   same_order : (slot : ℕ) → without slot new.heap.order ≡ without slot old.heap.order → Leaves slot
-  same_order slot e = stays old.heap new.heap (without slot old.heap.order) (without slot new.heap.order) e
+  same_order slot e = stays old.heap _ _ _ e
 
-  never : (c : Call) → call ≡ c → may_change c ≡ false → Leaves (slot_in call answer)
-  never c asked none = absurd (false≢true (sym none ∙ ap may_change (sym asked) ∙ may))
+  never : may_change call ≡ false → Leaves (slot_in call answer)
+  never none = absurd (false≢true (sym none ∙ may))
 
   leaves : Outcome old call answer new → Leaves (slot_in call answer)
-  leaves (IsSame s e) = same_order (slot_in call answer) (ap (λ (h : Handles). without (slot_in call answer) h.heap.order) e)
-  leaves (IsUnmoved s e) = same_order (slot_in call answer) (ap (λ (h : Handles). without (slot_in call answer) h.heap.order) e)
-  leaves (IsLocked l) = never _ l.asked refl
-  leaves (IsUnlocked u) = never _ u.asked refl
-  leaves (IsFreed f) = named _ f.handle f.slot f.asked refl f.named.found (same_order f.slot (ap (λ (h : Handles). without f.slot h.heap.order) f.rest ∙ twice_out f.slot old.heap.order))
-  leaves (IsNewest n) = never _ n.asked refl
-  leaves (IsOldest n) = never _ n.asked refl
-  leaves (IsEntered e) = same_order (slot_in call answer) (ap (λ (h : Heap). without (slot_in call answer) h.order) e.entered.entered)
+  leaves (IsSame s e) = same_order _ (rw e)
+  leaves (IsUnmoved s e) = same_order _ (rw e)
+  leaves (IsLocked l) = never (ap may_change l.asked)
+  leaves (IsUnlocked u) = never (ap may_change u.asked)
+  leaves (IsFreed f) = named (ap handle_in f.asked) f.named.found (same_order f.slot (rw f.rest (twice_out f.slot old.heap.order)))
+  leaves (IsNewest n) = never (ap may_change n.asked)
+  leaves (IsOldest n) = never (ap may_change n.asked)
+  leaves (IsEntered e) = same_order _ (rw e.entered.entered)
   leaves (IsAllocated a) =
       let made : slot_in call answer ≡ a.slot = (λ i. slot_in (a.asked i) (a.answered i)) ∙ slot_in_handle (kind_asked a.flags) a.slot in
-      subst Leaves (sym made) (allocated old.heap new.heap is.heap a.slot a.count (alloc_options a.flags) a.object a.settled)
+      subst Leaves (sym made) (allocated _ _ is.heap _ _ (alloc_options a.flags) _ a.settled)
   leaves (IsCompacted c) =
-      let left : OnlyLeave new.heap old.heap.order new.heap.order = compacted old.heap new.heap is.heap c.count c.settled in
+      let left = compacted _ _ is.heap _ c.settled in
       record { gone = left.gone; without_bytes = left.without_bytes; order_is = ap (without (slot_in call answer)) left.order_is ∙ filter_swapped (λ q. not (q == slot_in call answer)) (λ q. not (is_member q left.gone)) old.heap.order }
-  leaves (IsModified m) = named _ m.handle m.slot m.asked refl m.named.found (same_order m.slot m.changes.rest)
-  leaves (IsDiscarded d) = named _ d.handle d.slot d.asked refl d.named.found (same_order d.slot (ap (λ (h : Handles). without d.slot h.heap.order) d.rest ∙ twice_out d.slot old.heap.order))
-  leaves (IsResized r) = named _ r.handle r.slot r.asked refl r.named.found (subst (λ slot. OnlyLeave new.heap (without r.slot old.heap.order) (without slot new.heap.order)) (keeps r) (resized_leaves old new is call answer r))
+  leaves (IsModified m) = named (ap handle_in m.asked) m.named.found (same_order m.slot m.changes.rest)
+  leaves (IsDiscarded d) = named (ap handle_in d.asked) d.named.found (same_order d.slot (rw d.rest (twice_out d.slot old.heap.order)))
+  leaves (IsResized r) = named (ap handle_in r.asked) r.named.found (rw (keeps r) at (resized_leaves old new is call answer r))
 
   module _ (step : CallStep old call answer new) (many : length (without (slot_in call answer) old.heap.order) ≤ length (without (slot_in call answer) new.heap.order)) (q : ℕ) (other : q ≢ slot_in call answer) where
     left : Leaves (slot_in call answer)
@@ -147,11 +143,11 @@ module _ (heap : Heap) (tables : FinMap nat_cmp Table) (slot : ℕ) (others : (q
 
   pub swept_slot : (b : Bool) → has_range heap tables slot ≡ b → (if b then tables else finmap.remove tables slot) ≡ left_in heap tables
   swept_slot b has = same_map nat_cmp_total nat_cmp-IsAntisymmetric (if b then tables else finmap.remove tables slot) (left_in heap tables)
-      (λ q. elim (cases_eq q slot) [ inl e ↦ here b has q e | inr d ↦ away b q d ∙ sym (other_left q d) ])
+      (λ q. elim (cases_eq q slot) [ inl e ↦ here b q e ∙ sym (left_at q ∙ ap (λ b. cond b (finmap.get tables q) None) (ap (has_range heap tables) e ∙ has)) | inr d ↦ away b q d ∙ sym (other_left q d) ])
     where
-      here : (b : Bool) → has_range heap tables slot ≡ b → (q : ℕ) → q ≡ slot → finmap.get (if b then tables else finmap.remove tables slot) q ≡ finmap.get (left_in heap tables) q
-      here true has q e = sym (left_at q ∙ ap (λ b. cond b (finmap.get tables q) None) (ap (has_range heap tables) e ∙ has))
-      here false has q e = taken_here tables slot q e ∙ sym (left_at q ∙ ap (λ b. cond b (finmap.get tables q) None) (ap (has_range heap tables) e ∙ has))
+      here : (b : Bool) (q : ℕ) → q ≡ slot → finmap.get (if b then tables else finmap.remove tables slot) q ≡ cond b (finmap.get tables q) None
+      here true q e = refl
+      here false q e = taken_here tables slot q e
 
       away : (b : Bool) (q : ℕ) → q ≢ slot → finmap.get (if b then tables else finmap.remove tables slot) q ≡ finmap.get tables q
       away true q d = refl
@@ -165,8 +161,8 @@ module _ (honest : Type 0) (old : World) (is : IsWorldOver honest old) (mid : Wo
   by_call : (call : Call) (answer : Answer) → may_change call ≡ true → ((r : Resized old.loading.handles call answer mid.loading.handles) → r.first ≡ r.slot) → mid.heaps ≡ old.heaps → CallStep old.loading.handles call answer mid.loading.handles
       → (before : ℕ) → length (without (slot_in call answer) order) ≤ before → OthersStay (Some (slot_in call answer)) before mid.loading.handles.heap mid.heaps
   by_call call answer may keeps same step before le = λ few q other.
-      keeps_range old.loading.handles mid.loading.handles is.0.heaps.handles are call answer may keeps step (omega (arith, le, few)) q other mid.heaps
-      (subst (λ (tables : FinMap nat_cmp Table). IfSome (finmap.get tables q) (λ t. IsSomeAnd (bytes_at old.loading.handles.heap q) (IsLocalIn t))) (sym same) (is.0.heaps.heaps q))
+      keeps_range _ _ is.0.heaps.handles are call answer may keeps step (omega (arith, le, few)) q other mid.heaps
+      (rw same (is.0.heaps.heaps q))
 
   -- a call of another kind gives no object another size, nor does a discard
   other_call : (command : HandleCommand) (answer : Answer) (r : Resized old.loading.handles (Calls command) answer mid.loading.handles) → r.first ≡ r.slot
@@ -195,7 +191,7 @@ module _ (honest : Type 0) (old : World) (is : IsWorldOver honest old) (mid : Wo
   freed : (handle : ℕ) (answer : Option Answer) → mid.heaps ≡ old.heaps → IsSomeAnd answer (λ answer. CallStep old.loading.handles (Calls (GlobalFree handle)) answer mid.loading.handles)
       → OthersStay (Some (handle / 8)) (length (without (handle / 8) order)) mid.loading.handles.heap mid.heaps
   freed handle None same h = absurd h
-  freed handle (Some answer) same h = by_call (Calls (GlobalFree handle)) answer refl (other_call (GlobalFree handle) answer) same h (length (without (handle / 8) order)) (omega arith)
+  freed handle (Some answer) same h = by_call (Calls (GlobalFree handle)) answer refl (other_call _ _) same h (length (without (handle / 8) order)) (omega arith)
 
   -- an object that may have left its slot is not looked at
   kept : (b : Bool) (slot before : ℕ) (heap : Heap) (tables : FinMap nat_cmp Table) → (b ≡ true → OthersStay (Some slot) before heap tables) → OthersStay (if b then Some slot else None) before heap tables
@@ -205,15 +201,15 @@ module _ (honest : Type 0) (old : World) (is : IsWorldOver honest old) (mid : Wo
   pub others_stay : (command : Command) (reply : Reply) → Unswept honest old command reply mid → OthersStay (object_slot command (word_of reply)) (discardable_beside (object_slot command 0) old.loading.handles.heap) mid.loading.handles.heap mid.heaps
   others_stay (OfLoading (OfHandles (GlobalAlloc flags size))) (Word handle) s = by_call
       (Calls (GlobalAlloc flags size)) (calls.Answer.Word handle) refl
-      (other_call (GlobalAlloc flags size) (calls.Answer.Word handle)) (ap (λ (w : World). w.heaps) s.1) s.0
+      (other_call _ _) (ap (λ (w : World). w.heaps) s.1) s.0
       (length (without 0 order)) (shorter 0 (handle / 8) order none_at_0)
   others_stay (OfLoading (OfHandles (GlobalAlloc flags size))) reply s = absurd s.0
   others_stay (OfLoading (OfHandles (GlobalFree handle))) reply s = freed handle (answer_in reply) (ap (λ (w : World). w.heaps) s.1) s.0
-  others_stay (OfLoading (OfHandles (GlobalCompact size))) (Dword longest) s = by_call (Calls (GlobalCompact size)) (calls.Answer.Dword longest) refl (other_call (GlobalCompact size) (calls.Answer.Dword longest)) (ap (λ (w : World). w.heaps) s.1) s.0 (length (without 0 order)) (omega arith)
+  others_stay (OfLoading (OfHandles (GlobalCompact size))) (Dword longest) s = by_call (Calls (GlobalCompact size)) (calls.Answer.Dword longest) refl (other_call _ _) (ap (λ (w : World). w.heaps) s.1) s.0 (length (without 0 order)) (omega arith)
   others_stay (OfLoading (OfHandles (GlobalCompact size))) reply s = absurd s.0
-  others_stay (OfLoading (OfResizes (GlobalReAlloc handle size flags))) (Word answer) s = kept ((answer == 0) || (answer / 8 == handle / 8)) (handle / 8) (length (without (handle / 8) order)) mid.loading.handles.heap mid.heaps
-      (λ here. by_call (ReAllocs handle size flags) (calls.Answer.Word answer) refl (same_slot handle size flags answer here) (ap (λ (w : World). w.heaps) s.1) s.0 (length (without (handle / 8) order)) (omega arith))
+  others_stay (OfLoading (OfResizes (GlobalReAlloc handle size flags))) (Word answer) s = kept ((answer == 0) || (answer / 8 == handle / 8)) _ _ mid.loading.handles.heap _
+      (λ here. by_call (ReAllocs handle size flags) (calls.Answer.Word answer) refl (same_slot _ _ _ _ here) (ap (λ (w : World). w.heaps) s.1) s.0 (length (without (handle / 8) order)) (omega arith))
   others_stay (OfLoading (OfResizes (GlobalReAlloc handle size flags))) reply s = absurd s.0
-  others_stay (OfLoading (OfResizes (GlobalDiscard handle))) (Word answer) s = by_call (ReAllocs handle 0 GMEM_MOVEABLE) (calls.Answer.Word answer) refl (discarded handle (calls.Answer.Word answer)) (ap (λ (w : World). w.heaps) s.1) s.0 (length (without (handle / 8) order)) (omega arith)
+  others_stay (OfLoading (OfResizes (GlobalDiscard handle))) (Word answer) s = by_call (ReAllocs handle 0 GMEM_MOVEABLE) (calls.Answer.Word answer) refl (discarded _ _) (ap (λ (w : World). w.heaps) s.1) s.0 (length (without (handle / 8) order)) (omega arith)
   others_stay (OfLoading (OfResizes (GlobalDiscard handle))) reply s = absurd s.0
   others_stay command reply s = tt

@@ -1,5 +1,5 @@
 -- A step over the kernel's parts, and the sweep after it, are one step of the machine.
-use Rattle.w16_kernel.proofs.Common.{◌≡◌, ℕ, ◌≤◌, Dword, Moved, Bool, true, false, refl, sym, subst, arith, false≢true, Handles, Heap, reads_files, LoadingCommand, LoadingStep, FamilyStep, Fetches, OfHandles, OfResizes, OfFar, OfModules}
+use Rattle.w16_kernel.proofs.Common.{◌≡◌, ℕ, ◌≤◌, Dword, Moved, Bool, true, false, refl, sym, arith, false≢true, Handles, Heap, reads_files, LoadingCommand, LoadingStep, FamilyStep, Fetches, OfHandles, OfResizes, OfFar, OfModules}
 use Rattle.w16_kernel.proofs.Common.{OfResources, Loads, Failed, Store, LoadingWorld, with_handles, reads_no_files_law, code_reads_law, World, left_in, step_may_take, Command, IsCommand, OnHandles, StoreStep, Step, after_loading, OfLoading}
 use Rattle.w16_kernel.proofs.Common.{OfLocals, heaps_law, handles_step, world_kept, files_law, is_format, ne_format, reply_of, KernelStep, ReadsCode, Unswept, IsWorldOver, may_take_bytes, surviving_heaps, Promises, promised_step, [], ◌∷◌}
 use Rattle.w16_kernel.specs.Parts.{AsksExactly}
@@ -18,18 +18,18 @@ module _ (honest : Type 0) (old : LoadingWorld) where
   pub on_handles : (command : LoadingCommand) (reply : printed.Reply) (next : Handles) → reads_files old command ≡ false → OnHandles old.handles command reply next → StoreStep honest ne_format old command reply (with_handles old next)
   on_handles command reply next none s =
       let made : LoadingStep ne_format old command reply (with_handles old next) = handles_step ne_format old next command reply none s in
-      record { any = reads_no_files_law ne_format old (with_handles old next) command reply none made; exact = λ _. made }
+      record { any = reads_no_files_law _ _ _ _ _ none made; exact = λ _. made }
 
   pub on_loading : (command : LoadingCommand) (reply : printed.Reply) (new : LoadingWorld) → reads_files old command ≡ false → (reply ≡ Failed Store → ⊥) → new.failures ≡ old.failures
       → FamilyStep (Fetches ne_format) (Loads ne_format) old command reply (record new { failures = old.failures }) → StoreStep honest ne_format old command reply new
   on_loading command reply new none unfailed same s =
       let made : LoadingStep ne_format old command reply new = record { counted = omega (arith, same); failed = λ e. absurd (unfailed e); step = s } in
-      record { any = reads_no_files_law ne_format old new command reply none made; exact = λ _. made }
+      record { any = reads_no_files_law _ _ _ _ _ none made; exact = λ _. made }
 
 module _ (honest : Type 0) (old : World) (is : IsWorldOver honest old) where
   -- after a step that takes no bytes all heaps stay
   pub stay : (command : LoadingCommand) (reply : printed.Reply) (new : LoadingWorld) → step_may_take old.loading command ≡ false → StoreStep honest ne_format old.loading command reply new → left_in new.handles.heap old.heaps ≡ old.heaps
-  stay command reply new none s = heaps_law ne_format old (after_loading old new) command reply is.0.heaps none (record { any = s.any; exact = λ no. s.exact (λ t. absurd (no t)) }, refl)
+  stay command reply new none s = heaps_law _ _ (after_loading old new) _ _ is.0.heaps none (record { any = s.any; exact = λ no. s.exact (λ t. absurd (no t)) }, refl)
 
   survive : (b : Bool) (heap : Heap) → (b ≡ false → left_in heap old.heaps ≡ old.heaps) → surviving_heaps b heap old.heaps ≡ left_in heap old.heaps
   survive true heap same = refl
@@ -43,28 +43,27 @@ module _ (honest : Type 0) (old : World) (is : IsWorldOver honest old) where
   -- the step from a world in which the tables of local heaps are as they were
   unchanged : (command : LoadingCommand) (reply : printed.Reply) (mid : World) (new : LoadingWorld) → mid ≡ record old { loading = new } → (may_take_bytes (OfLoading command) ≡ false → step_may_take old.loading command ≡ false)
       → StoreStep honest ne_format old.loading command reply new → Step honest ne_format old (OfLoading command) reply (with_surviving mid (OfLoading command))
-  unchanged command reply mid new same none s = subst (λ w. Step honest ne_format old (OfLoading command) reply (with_surviving w (OfLoading command))) (sym same) (swept command reply new none s)
+  unchanged command reply mid new same none s = rw same (swept command reply new none s)
 
   swept_step : (command : Command) (reply : printed.Reply) (mid : World) → Unswept honest old command reply mid → Step honest ne_format old command reply (with_surviving mid command)
   swept_step (OfLocals command) reply mid s = s
   swept_step (OfLoading (OfHandles command)) reply mid s =
-      unchanged (OfHandles command) reply mid (with_handles old.loading mid.loading.handles) s.1 (λ e. e) (on_handles honest old.loading (OfHandles command) reply mid.loading.handles refl s.0)
+      unchanged _ _ _ _ s.1 (λ e. e) (on_handles honest old.loading (OfHandles command) reply _ refl s.0)
   swept_step (OfLoading (OfResizes command)) reply mid s =
-      unchanged (OfResizes command) reply mid (with_handles old.loading mid.loading.handles) s.1 (λ e. absurd (false≢true (sym e))) (on_handles honest old.loading (OfResizes command) reply mid.loading.handles refl s.0)
+      unchanged _ _ _ _ s.1 (λ e. absurd (false≢true (sym e))) (on_handles honest old.loading (OfResizes command) reply _ refl s.0)
   swept_step (OfLoading (OfFar command)) reply mid s = s
-  swept_step (OfLoading (OfModules command)) reply mid s = unchanged (OfModules command) reply mid mid.loading s.1 (λ e. e) s.0
-  swept_step (OfLoading (OfResources command)) reply mid s = unchanged (OfResources command) reply mid mid.loading s.1 (λ e. e) s.0
+  swept_step (OfLoading (OfModules command)) reply mid s = unchanged _ _ _ _ s.1 (λ e. e) s.0
+  swept_step (OfLoading (OfResources command)) reply mid s = unchanged _ _ _ _ s.1 (λ e. e) s.0
 
   -- what an answered read of code tells
   reads_code : (command : Command) (reply : printed.Reply) (new : World) → Step honest ne_format old command reply new → honest → ReadsCode old command reply
   reads_code command reply new s h = λ pointer count bytes slot handle number m c r named segment coded.
-      let of_command : Step honest ne_format old (OfLoading (OfFar (Read pointer count))) reply new = subst (λ command. Step honest ne_format old command reply new) c s in
-      let far : Step honest ne_format old (OfLoading (OfFar (Read pointer count))) (Bytes bytes) new = subst (λ reply. Step honest ne_format old (OfLoading (OfFar (Read pointer count))) reply new) r of_command in
+      let far : Step honest ne_format old (OfLoading (OfFar (Read pointer count))) (Bytes bytes) new = rw (c, r) at s in
       code_reads_law ne_format old.loading (record new.loading { failures = old.loading.failures }) pointer count bytes slot handle number m is.0.loading (is.1 h) (far.0.exact (λ _. h)).step named segment coded
 
   -- what is asked room for
   asks_exactly : (command : Command) (reply : printed.Reply) (new : World) → Step honest ne_format old command reply new → honest → AsksExactly old command reply new
-  asks_exactly (OfLoading command) reply new s h = exact_requests_fewest_law ne_format old.loading new.loading command reply is.0.loading (s.0.exact (λ _. h))
+  asks_exactly (OfLoading command) reply new s h = exact_requests_fewest_law _ _ _ _ _ is.0.loading (s.0.exact (λ _. h))
   asks_exactly (OfLocals command) reply new s h = tt
 
   -- over a store that is honest where a premise holds
@@ -84,22 +83,19 @@ module _ (honest : Type 0) (old : World) (is : IsWorldOver honest old) where
   recounted failures counted =
       let told : printed.Reply = Dword old.loading.handles.moved in
       let new : LoadingWorld = record old.loading { failures = failures } in
-      let made : LoadingStep ne_format old.loading (OfHandles Moved) told new = record { counted = counted; failed = λ e. absurd (unfailed old.loading.handles.moved e); step = (old.loading.handles, (refl, refl), refl) } in
-      kept (OfLoading (OfHandles Moved)) told (record old { loading = new }) tt (swept (OfHandles Moved) told new (λ e. e) (record { any = reads_no_files_law ne_format old.loading new (OfHandles Moved) told refl made; exact = λ _. made }))
-    where
-      unfailed : (n : ℕ) → ◌≡◌ {A = printed.Reply} (Dword n) (Failed Store) → ⊥
-      unfailed n e = cc
+      let made : LoadingStep ne_format old.loading (OfHandles Moved) told new = record { counted = counted; failed = λ e. cc; step = (old.loading.handles, (refl, refl), refl) } in
+      kept (OfLoading (OfHandles Moved)) told (record old { loading = new }) tt (swept (OfHandles Moved) told new (λ e. e) (record { any = reads_no_files_law _ _ _ _ _ refl made; exact = λ _. made }))
 
   -- What the kernel tells of a reply: the step, what a run of it promises, and that it leaves a world.
   module _ (command : Command) (reply : Reply) (mid : World) (step : Unswept honest old command (reply_of reply) mid) where
     made : Step honest ne_format old command (reply_of reply) (with_surviving mid command)
-    made = swept_step command (reply_of reply) mid step
+    made = swept_step command _ mid step
 
     pub told_step : KernelStep honest old command (reply_of reply) (with_surviving mid command)
-    told_step = record { step = made; code = reads_code command (reply_of reply) (with_surviving mid command) made; requests = asks_exactly command (reply_of reply) (with_surviving mid command) made }
+    told_step = record { step = made; code = reads_code _ _ _ made; requests = asks_exactly _ _ _ made }
 
     pub told_promises : IsCommand command → Promises old (record { command = command; reply = reply_of reply; after = with_surviving mid command } ∷ [])
-    told_promises known = promised_step ne_format old (with_surviving mid command) command (reply_of reply) is.0 known (under ⊥ (λ no. absurd no) command (reply_of reply) (with_surviving mid command) made)
+    told_promises known = promised_step _ _ _ _ _ is.0 known (under ⊥ (λ no. absurd no) command (reply_of reply) (with_surviving mid command) made)
 
     pub told_world : IsCommand command → IsWorldOver honest (with_surviving mid command)
-    told_world known = kept command (reply_of reply) (with_surviving mid command) known made
+    told_world known = kept command _ _ known made

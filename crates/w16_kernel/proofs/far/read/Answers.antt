@@ -1,6 +1,5 @@
 -- An access is made once, or is ended by what it met, or is made again after a fetch.
 use Rattle.w16_kernel.proofs.Common.{refl, ap, length, Global, Read}
-use Rattle.w16_loading.specs.Replies.Reply.{Bytes}
 use Rattle.w16_kernel.proofs.Absent.{met_absent}
 use Rattle.w16_kernel.proofs.FarSteps.{answered, ended_by, remade_by}
 use Rattle.w16_kernel.proofs.far.read.Goals as goal

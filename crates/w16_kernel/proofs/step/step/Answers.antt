@@ -79,9 +79,3 @@ returns-in-SizeofResource-clause-step g c = rw c.in-SizeofResource.is (dword_tol
 
 pub returns-in-FreeResource-clause-step : goal.returns-in-FreeResource-clause-step
 returns-in-FreeResource-clause-step g c = let freed = c.free.ensures (at c.requires.world).loading in rw c.in-FreeResource.is (word_told _ _ _ _ refl refl _ (ap (λ x. Word x.0) freed, ap (λ x. x.1) freed), refl)
-
-pub returns-in-LoadResource-clause-step : goal.returns-in-LoadResource-clause-step
-returns-in-LoadResource-clause-step g c = rw c.in-LoadResource.is (c.load_resource.ensures.step, refl)
-
-pub returns-in-LockResource-clause-step : goal.returns-in-LockResource-clause-step
-returns-in-LockResource-clause-step g c = rw c.in-LockResource.is (c.lock_resource.ensures.step, refl)

@@ -5,17 +5,17 @@ use Rattle.w16_kernel.proofs.kernel.Kernel.call.Goals as goal
 
 pub sweep-requires : goal.sweep-requires
 sweep-requires g c = rw (c.object_slot-slot.ensures, c.word.ensures, c.discardable_beside-before.ensures, c.object_slot.ensures)
-    (others_stay g.S.Store.is_honest _ c.self.invariant _ c.reveal_handles.ensures _ _ c.in_ok-reply.ensures.step)
+    (others_stay _ _ c.self.invariant _ c.reveal_handles.ensures _ _ c.in_ok-reply.ensures.step)
 
 pub returns-clause-step : goal.returns-clause-step
-returns-clause-step g c = rw (← c.self.view_is) (rw c.sweep.ensures (told_step g.S.Store.is_honest _ c.self.invariant _ c.in_ok-reply.reply _ c.in_ok-reply.ensures.step))
+returns-clause-step g c = rw (← c.self.view_is) (rw c.sweep.ensures (told_step _ _ c.self.invariant _ c.in_ok-reply.reply _ c.in_ok-reply.ensures.step))
 
 pub returns-clause-promises : goal.returns-clause-promises
 returns-clause-promises g c =
-    rw (← c.self.view_is) (rw c.sweep.ensures (told_promises g.S.Store.is_honest _ c.self.invariant _ c.in_ok-reply.reply _ c.in_ok-reply.ensures.step c.in_ok-reply.ensures.ranged))
+    rw (← c.self.view_is) (rw c.sweep.ensures (told_promises _ _ c.self.invariant _ c.in_ok-reply.reply _ c.in_ok-reply.ensures.step c.in_ok-reply.ensures.ranged))
 
 pub invariant_of-self-2 : goal.invariant_of-self-2
-invariant_of-self-2 g c = rw c.sweep.ensures (told_world g.S.Store.is_honest _ c.self.invariant _ c.in_ok-reply.reply _ c.in_ok-reply.ensures.step c.in_ok-reply.ensures.ranged)
+invariant_of-self-2 g c = rw c.sweep.ensures (told_world _ _ c.self.invariant _ c.in_ok-reply.reply _ c.in_ok-reply.ensures.step c.in_ok-reply.ensures.ranged)
 
 pub returns-in_err-reply-clause-wanted : goal.returns-in_err-reply-clause-wanted
 returns-in_err-reply-clause-wanted g c = on_any c.from_residual.result _ (rw (← c.self.view_is) c.in_err-reply.ensures.wanted)
