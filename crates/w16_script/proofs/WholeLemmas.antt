@@ -22,8 +22,7 @@ empty-from xs (y ∷ ys) test h e same =
 -- The last line.
 
 length-last_of : (line n : _) → (0 < length line → n < 1000000) → n ≤ 1000000 → n + length (last_of line) ≤ 1000000
-length-last_of [] n h k = omega arith
-length-last_of (x ∷ xs) n h k = let small : n < 1000000 = h (omega arith) in omega arith
+length-last_of line n h k = grind (arith, nat_tests)
 
 -- there is none
 pub Finishes-none : {steps a v : _} {s : Progress} {counts : Ended} → s.line ≡ [] → counts.lines ≡ s.lines → counts.replies ≡ s.replies → Finishes steps a s v a v counts
@@ -81,9 +80,7 @@ FailsLater-last steps left a b c t v x w registers text fault end p small filled
 
 -- any fault after the start is one of the run
 pub Fails-later : (steps left held old text fault holds new : _) → FailsLater steps left held old text fault holds new → Fails steps left held old text fault holds new
-Fails-later steps left held old text Memory holds new h = inr h
-Fails-later steps left held old text Write holds new h = h
-Fails-later steps left held old text fault holds new h = h
+Fails-later steps left held old text fault holds new h = grind arith
 
 -- a read of nothing consumed nothing
 pub Consumes-none : (a b c text bytes : _) (n : ℕ) → n ≡ 0 → Consumes a b text → Consumes b c (take n bytes) → Consumes a c text

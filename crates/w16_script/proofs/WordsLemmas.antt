@@ -7,15 +7,8 @@ use Rattle.std.specs.Int.{trailing_zeros, w64}
 use Rattle.std.specs.List.{prefix_len}
 use lib.Lanes.{chunk, mask_l, top}
 
--- a byte before a blank is a word of its own
-with_byte-before_blank : (x y ys ws : _) → is_blank y ≡ true → with_byte x (y ∷ ys) ws ≡ (x ∷ []) ∷ ws
-with_byte-before_blank x y ys [] h = refl
-with_byte-before_blank x y ys (w ∷ ws) h = rw h refl
-
 with_byte-some : (x ys ws : _) → with_byte x ys ws ≡ [] → ⊥
-with_byte-some x [] ws e = cc
-with_byte-some x (y ∷ ys) [] e = cc
-with_byte-some x (y ∷ ys) (w ∷ ws) e = grind arith
+with_byte-some x ys ws e = grind arith
 
 -- where the first byte is no blank there is a word
 words_of_some : (xs : _) → 0 < length xs → is_blank (get_or xs 0 0) ≡ false → words_of xs ≡ [] → ⊥
@@ -25,26 +18,17 @@ words_of_some (x ∷ xs) some first e = with_byte-some x xs (words_of xs) (rw fi
 -- so none is left only where no byte is
 pub words_of_none : (text rest : _) → words_of rest ≡ words_of text → (0 < length rest → is_blank (get_or rest 0 0) ≡ false) → (length rest ≡ 0 → words_of text ≡ []) × (words_of text ≡ [] → length rest ≡ 0)
 words_of_none text [] same begins = (λ e. sym same, λ e. refl)
-words_of_none text (x ∷ xs) same begins = (λ e. absurd (omega (arith, e)), λ e. absurd (words_of_some (x ∷ xs) (omega arith) (begins (omega arith)) (same ∙ e)))
+words_of_none text (x ∷ xs) same begins = grind (arith, words_of_some)
 
 -- the front of a line up to a blank is its first word
 pub words_of_split : (xs n : _) → 0 < n → n ≤ length xs → ((k : ℕ) → k < n → is_blank (get_or xs k 0) ≡ false) → (n < length xs → is_blank (get_or xs n 0) ≡ true) → words_of xs ≡ take n xs ∷ words_of (drop n xs)
-words_of_split [] n some within before stop = absurd (omega arith)
-words_of_split xs zero some within before stop = absurd (omega arith)
-words_of_split (x ∷ []) (suc n) some within before stop =
-    let first : is_blank x ≡ false = before 0 (omega arith) in
-    let last : n ≡ 0 = omega arith in
-    rw (first, last) refl
-words_of_split (x ∷ y ∷ ys) (suc zero) some within before stop =
-    let first : is_blank x ≡ false = before 0 (omega arith) in
-    let next : is_blank y ≡ true = stop (omega arith) in
-    rw (first, with_byte-before_blank x y ys (words_of (y ∷ ys)) next) refl
+words_of_split [] n some within before stop = grind arith
+words_of_split xs zero some within before stop = grind arith
+words_of_split (x ∷ []) (suc n) some within before stop = grind (arith, before 0)
+words_of_split (x ∷ y ∷ ys) (suc zero) some within before stop = grind (arith, before 0)
 words_of_split (x ∷ y ∷ ys) (suc (suc n)) some within before stop =
-    let first : is_blank x ≡ false = before 0 (omega arith) in
-    let next : is_blank y ≡ false = before 1 (omega arith) in
-    let rest : words_of (y ∷ ys) ≡ take (suc n) (y ∷ ys) ∷ words_of (drop (suc n) (y ∷ ys)) =
-    words_of_split (y ∷ ys) (suc n) (omega arith) (omega arith) (λ k h. before (suc k) (omega arith)) (λ h. stop (omega arith)) in
-    rw (first, rest, next) refl
+    let rest = words_of_split (y ∷ ys) (suc n) (omega arith) (omega arith) (λ k h. before (suc k) (omega arith)) (λ h. stop (omega arith)) in
+    grind (arith, before 0, before 1)
 
 -- the place of the lowest bit of a mask of sixteen, or 16
 abbrev pub lowest : ℕ → ℕ

@@ -1,10 +1,9 @@
 -- Lemmas on writes.
-use Rattle.w16_script.proofs.Common.{◌≡◌, ◌+◌, ◌<◌, Result, Ok, Err, OnErr, length, length-append, length-drop, ◌++◌, ap, ◌∙◌, append_assoc, take, drop, sym, take-append-drop, arith, Appends, Appends-trans, take-add, AppendsFront}
+use Rattle.w16_script.proofs.Common.{◌≡◌, ◌+◌, ◌<◌, Result, OnErr, length, length-append, length-drop, ◌++◌, ap, ◌∙◌, append_assoc, take, drop, sym, take-append-drop, arith, Appends, Appends-trans, take-add, AppendsFront}
 
 -- what holds anyway holds on an error
 pub on_err : {T E P : Type 0} (r : Result T E) → P → OnErr r P
-on_err (Ok x) p = tt
-on_err (Err e) p = p
+on_err r p = grind arith
 
 -- a further front of what is left
 pub Appends-take : (a b c xs ys n m : _) → Appends a b (take n xs) → ys ≡ drop n xs → Appends b c (take m ys) → Appends a c (take (n + m) xs)
