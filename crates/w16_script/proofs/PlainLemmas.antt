@@ -1,6 +1,6 @@
 -- A line that says a command has plain bytes alone.
-use Rattle.w16_script.proofs.Common.{◌≡◌, ℕ, Bool, true, false, List, [], ◌∷◌, refl, arith, inl, inr, Option, decimal_digit}
-use Rattle.w16_script.proofs.Common.{list_all, nat_tests, list_all-from_AllPass, is_ascii_graphic, is_hex_digit, decode_of-ok, Command, Name, Parameter, Label, IsRegister, is_blank, with_byte}
+use Rattle.w16_script.proofs.Common.{◌≡◌, ℕ, Bool, true, List, [], ◌∷◌, refl, arith, inl, inr, Option, decimal_digit}
+use Rattle.w16_script.proofs.Common.{list_all, nat_tests, list_all-from_AllPass, is_ascii_graphic, is_hex_digit, decode_of-ok, Command, Name, Parameter, Label, IsRegister, with_byte}
 use Rattle.w16_script.proofs.Common.{words_of, is_digit, IsLiteral, IsForm, IsNumber, Argument, IsText, IsLabel, IsArgument, AreArguments, GoesTo, Spells, Said, Reads, text_of, parameters_of}
 use Rattle.w16_script.proofs.Common.{is_plain}
 use Rattle.w16_script.specs.declared.name.Name.TheVariants as name
@@ -82,10 +82,7 @@ with_byte-parts byte rest words e = grind arith
 
 line_plain : (line : List ℕ) → are_plain (words_of line) ≡ true → plain_word line ≡ true
 line_plain [] e = refl
-line_plain (byte ∷ rest) e = elim (is_blank byte) as (λ b. is_blank byte ≡ b → plain_word (byte ∷ rest) ≡ true) [
-  | true ↦ λ blank. let plain : is_plain byte ≡ true = grind (arith, nat_tests) in rw plain (line_plain rest (rw blank at e))
-  | false ↦ λ word. let parts = with_byte-parts byte rest (words_of rest) (rw word at e) in rw parts.0 (line_plain rest parts.1)
-] refl
+line_plain (byte ∷ rest) e = grind (arith, nat_tests, with_byte-parts, line_plain rest)
 
 pub plain : (registers line : List ℕ) (target : Option ℕ) (command : Command) → Reads registers line (Said.Says target command) → list_all is_plain line ≡ true
 plain registers line target command h = line_plain line (spelled_plain h.1)

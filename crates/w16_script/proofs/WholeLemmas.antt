@@ -15,9 +15,7 @@ fresh-fits = record { replies = omega arith; lines = omega arith; last = λ fill
 
 pub empty-from : (xs ys : List ℕ) (test : Bool) → test ≡ (length xs == 0) → test ≡ true → xs ≡ ys → ys ≡ []
 empty-from xs [] test h e same = refl
-empty-from xs (y ∷ ys) test h e same =
-    let none : length xs ≡ 0 = grind (arith, nat_tests) in
-    absurd (omega (arith, none, ap (length {A = ℕ}) same))
+empty-from xs (y ∷ ys) test h e same = grind (arith, nat_tests)
 
 -- The last line.
 
@@ -26,11 +24,7 @@ length-last_of line n h k = grind (arith, nat_tests)
 
 -- there is none
 pub Finishes-none : {steps a v : _} {s : Progress} {counts : Ended} → s.line ≡ [] → counts.lines ≡ s.lines → counts.replies ≡ s.replies → Finishes steps a s v a v counts
-Finishes-none empty lines replies = record {
-  runs = rw empty RunsLines-none;
-  lines = rw empty (omega (arith, lines));
-  replies = rw empty (omega (arith, replies));
-}
+Finishes-none empty lines replies = record { runs = rw empty RunsLines-none; lines = rw empty (omega (arith, lines)); replies = rw empty (omega (arith, replies)) }
 
 -- the text was fed, and its end came
 pub Script-from : {steps a b c v x w registers text counts : _} {t : Progress} → Feeds steps a fresh (start v) text b t w → IsWithinLimits t → Finishes steps b t w c (state_with x registers) counts → Script steps a v text c x counts

@@ -7,13 +7,10 @@ use Rattle.std.specs.Int.{trailing_zeros, w64}
 use Rattle.std.specs.List.{prefix_len}
 use lib.Lanes.{chunk, mask_l, top}
 
-with_byte-some : (x ys ws : _) → with_byte x ys ws ≡ [] → ⊥
-with_byte-some x ys ws e = grind arith
-
 -- where the first byte is no blank there is a word
 words_of_some : (xs : _) → 0 < length xs → is_blank (get_or xs 0 0) ≡ false → words_of xs ≡ [] → ⊥
 words_of_some [] some first e = absurd (omega arith)
-words_of_some (x ∷ xs) some first e = with_byte-some x xs (words_of xs) (rw first at e)
+words_of_some (x ∷ xs) some first e = grind arith
 
 -- so none is left only where no byte is
 pub words_of_none : (text rest : _) → words_of rest ≡ words_of text → (0 < length rest → is_blank (get_or rest 0 0) ≡ false) → (length rest ≡ 0 → words_of text ≡ []) × (words_of text ≡ [] → length rest ≡ 0)
@@ -35,10 +32,7 @@ abbrev pub lowest : ℕ → ℕ
 lowest mask = cond (mask == 0) 16 (trailing_zeros w64 mask)
 
 blank_lane : (a b : _) → top 7 (bit_or (cond a 255 0) (cond b 255 0)) ≡ (a || b)
-blank_lane true true = refl
-blank_lane true false = refl
-blank_lane false true = refl
-blank_lane false false = refl
+blank_lane a b = grind arith
 
 -- the lowest lane that a comparison with both blanks marks is the first blank
 pub blank_lanes : (text at r z : _) → at + 16 ≤ length text → r ≡ lowest (mask_l (map (top 7) z) % 2 ^ 64) → z ≡ map (λ x. bit_or (cond (x == 32) 255 0) (cond (x == 9) 255 0)) (chunk at 16 text) → r ≡ prefix_len (λ x. not (is_blank x)) (chunk at 16 text)
