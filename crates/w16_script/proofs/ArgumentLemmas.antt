@@ -8,8 +8,7 @@ pub length_bytes : (word bytes : _) → decode_of word ≡ Ok bytes → length w
 length_bytes word bytes h = (decode_of-ok word bytes h).2
 
 pub IfNone-weaker : {X P Q : Type 0} (o : Option X) → (P → Q) → IfNone o P → IfNone o Q
-IfNone-weaker None f h = f h
-IfNone-weaker (Some x) f h = h
+IfNone-weaker o f h = grind arith
 
 -- Words that a parameter doesn't take.
 
@@ -44,9 +43,7 @@ no_number_behind word digits is none (Label.Number n) (others, is_too, reads, sm
 -- the first word is no value
 pub no_value : (registers first words behind parameter : _) → words ≡ first ∷ behind → ((other : _) → IsArgument registers first parameter other → ⊥)
     → (word rest other : _) → words ≡ word ∷ rest → IsArgument registers word parameter other → ⊥
-no_value registers first words behind parameter is none word rest other too reads =
-    let same : word ≡ first = cc in
-    none other (rw same at reads)
+no_value registers first words behind parameter is none word rest other too reads = grind arith
 
 -- Arguments, one by one.
 
@@ -62,8 +59,7 @@ module _ (registers word : List ℕ) (words rest : List (List ℕ)) (parameter :
   more value values is first others = rw is (first, others)
 
   pub no_rest : words ≡ word ∷ rest → ((values : _) → AreArguments registers rest parameters values → ⊥) → (values : _) → AreArguments registers words (parameter ∷ parameters) values → ⊥
-  no_rest is none [] h = absurd (rw is at h)
-  no_rest is none (value ∷ values) h = none values (rw is at h).1
+  no_rest is none values h = grind arith
 
 pub no_first : (registers words parameter parameters : _) → ((word rest other : _) → words ≡ word ∷ rest → IsArgument registers word parameter other → ⊥)
     → (values : _) → AreArguments registers words (parameter ∷ parameters) values → ⊥

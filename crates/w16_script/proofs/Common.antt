@@ -23,7 +23,7 @@ pub use Rattle.hex.specs.Hex.{decode_of, decode_pairs, encode_lower, hex_digit_v
 unfoldable pub use Rattle.hex.specs.Hex.{encode_with}
 pub use Rattle.hex.specs.declared.error.FromHexError.{FromHexError}
 pub use Rattle.hex.specs.declared.error.FromHexError.TheVariants.{InvalidHexCharacter}
-pub use Rattle.w16_kernel.proofs.Common.{Command, Event, Run, Steps, World, command_of, common_steps, cut_on, handle_of, promised_append, promised_none, reply_of, run_append, ◌&&◌}
+pub use Rattle.w16_kernel.proofs.Common.{Command, Event, command_of, common_steps, cut_on, promised_append, promised_none, reply_of, run_append, ◌&&◌}
 pub use Rattle.w16_loading.proofs.Common.{IsTrue, MatchOption, count_by, if◌then◌else◌, list_all, nat_lt, slice_index, ◌==◌}
 pub use Rattle.w16_loading.specs.File.{Label}
 pub use Rattle.w16_machine.specs.World.{IsWorldWalk}
@@ -31,14 +31,14 @@ pub use Rattle.w16_model.proofs.Common.{IsFirstItem, IsItem, cases_lt, nat_tests
 pub use Rattle.w16_model.proofs.Cuts.{IsCut, Next, all_done, cut_more, cut_none, done_more, done_none, next}
 pub use Rattle.w16_model.specs.declared.Item.{Item}
 pub use Rattle.w16_script.specs.Feeding.{FailsAt, Feeds, Stops, StopsHere}
-pub use Rattle.w16_script.specs.Grammar.{AreArguments, Argument, GoesTo, IsArgument, IsBytes, IsLabel, IsText, Makes, Reads, Said, Spells, all_names, command_with, is_silent, parameters_of, target_of, text_of}
+pub use Rattle.w16_script.specs.Grammar.{AreArguments, Argument, GoesTo, IsArgument, IsLabel, IsText, Makes, Reads, Said, Spells, all_names, command_with, is_silent, parameters_of, target_of, text_of}
 pub use Rattle.w16_script.specs.Laws.{is_plain}
-pub use Rattle.w16_script.specs.Numbers.{BeginsWith, IsDecimal, IsDigits, IsForm, IsHexadecimal, IsLiteral, IsNumber, IsOfRegister, IsSum, is_digit, place_value}
+pub use Rattle.w16_script.specs.Numbers.{BeginsWith, IsDecimal, IsForm, IsHexadecimal, IsLiteral, IsNumber, IsOfRegister, IsSum, is_digit, place_value}
 pub use Rattle.w16_script.specs.Output.{Prints, PrintsLine, RunsLines, has_reply}
 pub use Rattle.w16_script.specs.Printed.{end_text, error_text, item_text, owner_text, reply_text, walk_text}
 pub use Rattle.w16_script.specs.Progress.{IsOver, IsWithinLimits, Overflows, Progress, fresh, room_of, with_bytes}
 pub use Rattle.w16_script.specs.Registers.{IsRegister, stored_all}
-pub use Rattle.w16_script.specs.State.{State, start, state_with}
+pub use Rattle.w16_script.specs.State.{start, state_with}
 pub use Rattle.w16_script.specs.Text.{HasNoLf, IsRaw, ended, last_of, without_cr}
 pub use Rattle.w16_script.specs.Unfinished.{progress_of, state_of}
 pub use Rattle.w16_script.specs.Whole.{Fails, FailsLater, Finishes, Script, StopsLast, StopsWithin}

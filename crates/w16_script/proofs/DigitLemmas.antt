@@ -1,5 +1,5 @@
 -- Lemmas on digits.
-use Rattle.w16_script.proofs.Common.{◌≡◌, ℕ, zero, suc, ◌+◌, ◌*◌, ◌%◌, ◌<◌, ◌≤◌, ◌⊎◌, Bool, true, false, Option, Some, None, Ok, Err, length, take, drop, refl, sym, ap, ◌∙◌, arith, inl, inr, ◌==◌, ◌&&◌, if◌then◌else◌, nat_lt}
+use Rattle.w16_script.proofs.Common.{◌≡◌, ℕ, zero, suc, ◌+◌, ◌*◌, ◌%◌, ◌<◌, ◌≤◌, ◌⊎◌, Bool, true, false, Option, Some, None, Ok, Err, length, take, drop, refl, sym, ◌∙◌, arith, inl, inr, ◌==◌, ◌&&◌, if◌then◌else◌, nat_lt}
 use Rattle.w16_script.proofs.Common.{bit_or, slice_index, MatchOption, cases_lt, nat_tests, decode_of, decode_pairs, hex_digit_value, pair_value, FromHexError, InvalidHexCharacter, decode_of-even, prepend, decode_err, decode_done, VALUES}
 use Rattle.w16_script.proofs.OneNumberLemmas.{both}
 
@@ -51,18 +51,14 @@ pub value_reckoned : (byte x : _) → byte < 256 → x ≡ reckoned byte → Sta
 value_reckoned byte x small e = rw e (right-at reckoned 256 byte small reckoned_right)
 
 known : (digit x : _) → Stands digit x → x < 16 → digit ≡ Some x
-known None x h other = absurd (omega (arith, h, other))
-known (Some value) x h other = ap Some (sym h.0)
+known digit x h other = grind arith
 
 unknown : (digit x : _) → Stands digit x → 16 ≤ x → digit ≡ None
-unknown None x h e = refl
-unknown (Some value) x h e = absurd (omega (arith, h.0, h.1, e))
+unknown digit x h e = grind arith
 
 -- two digits
 pub pair-read : (a b high low i : _) → Stands (hex_digit_value a) high → Stands (hex_digit_value b) low → high < 16 → low < 16 → pair_value a b i ≡ Ok ((high * 16 % 256 + low) % 256)
-pair-read a b high low i p q first second =
-    let same : (high * 16 % 256 + low) % 256 ≡ high * 16 + low = omega (arith, first, second) in
-    rw (known (hex_digit_value a) high p first, known (hex_digit_value b) low q second, same) refl
+pair-read a b high low i p q first second = grind (arith, known)
 
 -- one of the two is none
 pub pair-bad : (a b high low i : _) → Stands (hex_digit_value a) high → Stands (hex_digit_value b) low → (nat_lt high 16 ≡ false) ⊎ (nat_lt low 16 ≡ false) → (e : FromHexError) × (pair_value a b i ≡ Err e)
@@ -74,9 +70,7 @@ pair-bad a b high low i p q (inr bad) = elim (cases_lt high 16) [
 
 -- not all three
 pub one-bad : (a b c : _) → ((a && b) && c) ≡ false → a ≡ true → (b ≡ false) ⊎ (c ≡ false)
-one-bad false b c e all = cc
-one-bad true false c e all = inl refl
-one-bad true true c e all = inr e
+one-bad a b c e all = grind arith
 
 -- a bad pair is a bad text
 pub bad_text : (word out other i e : _) → length word ≡ 2 * length out → i < length out → pair_value (slice_index word (2 * i)) (slice_index word (2 * i + 1)) (2 * i) ≡ Err e → decode_pairs 0 word ≡ prepend (take i out) (decode_pairs (2 * i) (drop (2 * i) word)) → decode_of word ≡ Ok other → ⊥

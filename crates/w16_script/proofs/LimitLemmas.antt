@@ -1,11 +1,10 @@
 -- Lemmas on the limits of a script.
-use Rattle.w16_script.proofs.Common.{◌≡◌, ◌≢◌, ℕ, zero, suc, ◌+◌, ◌-◌, ◌<◌, List, [], ◌∷◌, ◌++◌, length, length-append, length-take, take, drop, get_or, sym, ap, ◌∙◌, inl, inr, refl, arith, take-append-drop, drop-cons, HasNoLf, Progress, IsWithinLimits, Overflows, append-nil}
+use Rattle.w16_script.proofs.Common.{◌≡◌, ◌≢◌, ℕ, suc, ◌+◌, ◌-◌, ◌<◌, List, [], ◌∷◌, ◌++◌, length, length-append, length-take, take, drop, get_or, sym, ap, ◌∙◌, inl, inr, refl, arith, take-append-drop, drop-cons, HasNoLf, Progress, IsWithinLimits, Overflows, append-nil}
 
 -- no byte of a line is an LF
 HasNoLf-at : (bytes : List ℕ) (i : ℕ) → HasNoLf bytes → i < length bytes → get_or bytes i 0 ≢ 10
 HasNoLf-at [] i h within = absurd (omega arith)
-HasNoLf-at (x ∷ xs) zero h within = h.0
-HasNoLf-at (x ∷ xs) (suc i) h within = HasNoLf-at xs i h.1 (omega arith)
+HasNoLf-at (x ∷ xs) i h within = grind (arith, HasNoLf-at xs)
 
 -- after the last line that may be
 pub Overflows-lines : (here : Progress) (bytes : List ℕ) → 0 < length bytes → IsWithinLimits here → here.lines ≡ 1000000 → Overflows here bytes

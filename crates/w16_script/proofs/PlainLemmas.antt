@@ -1,6 +1,6 @@
 -- A line that says a command has plain bytes alone.
-use Rattle.w16_script.proofs.Common.{◌≡◌, ℕ, ◌≤◌, Bool, true, false, List, [], ◌∷◌, refl, arith, inl, inr, cond, Option, Some, None, ◌+◌, ◌/◌, ◌%◌, cases_lt, decimal_digit}
-use Rattle.w16_script.proofs.Common.{list_all, nat_tests, list_all-from_AllPass, is_ascii_graphic, is_hex_digit, decode_of-ok, Command, Name, Parameter, Label, IsRegister, is_blank, with_byte}
+use Rattle.w16_script.proofs.Common.{◌≡◌, ℕ, Bool, true, List, [], ◌∷◌, refl, arith, inl, inr, Option, decimal_digit}
+use Rattle.w16_script.proofs.Common.{list_all, nat_tests, list_all-from_AllPass, is_ascii_graphic, is_hex_digit, decode_of-ok, Command, Name, Parameter, Label, IsRegister, with_byte}
 use Rattle.w16_script.proofs.Common.{words_of, is_digit, IsLiteral, IsForm, IsNumber, Argument, IsText, IsLabel, IsArgument, AreArguments, GoesTo, Spells, Said, Reads, text_of, parameters_of}
 use Rattle.w16_script.proofs.Common.{is_plain}
 use Rattle.w16_script.specs.declared.name.Name.TheVariants as name
@@ -17,32 +17,17 @@ are_plain words = list_all plain_word words
 
 -- The bytes of words.
 
-blank_plain : (byte : ℕ) → is_blank byte ≡ true → is_plain byte ≡ true
-blank_plain byte e = grind (arith, nat_tests)
-
-digit_plain : (base byte : ℕ) → base ≤ 16 → is_digit base byte ≡ true → is_plain byte ≡ true
-digit_plain base byte h e = grind (arith, nat_tests)
-
-graphic_plain : (byte : ℕ) → is_ascii_graphic byte ≡ true → is_plain byte ≡ true
-graphic_plain byte e = grind (arith, nat_tests)
-
-hex_plain : (byte : ℕ) → is_hex_digit byte ≡ true → is_plain byte ≡ true
-hex_plain byte e = grind (arith, nat_tests)
-
-digit_at : (digit : ℕ) → digit ≤ 9 → is_plain (48 + digit) ≡ true
-digit_at digit h = grind (arith, nat_tests)
-
 -- where each byte with p is plain, and all have p
 all_weaker : (p : ℕ → Bool) (xs : List ℕ) → ((x : ℕ) → p x ≡ true → is_plain x ≡ true) → list_all p xs ≡ true → plain_word xs ≡ true
 all_weaker p [] f e = refl
 all_weaker p (x ∷ xs) f e = grind (arith, f, all_weaker p xs f)
 
 literal_plain : (word : List ℕ) (n : ℕ) → IsLiteral word n → plain_word word ≡ true
-literal_plain word n (inl decimal, small) = all_weaker (is_digit 10) word (λ x. digit_plain 10 x (omega arith)) decimal.1.digits
-literal_plain word n (inr (tail, is, some, few, digits), small) = rw is (all_weaker (is_digit 16) tail (λ x. digit_plain 16 x (omega arith)) digits.digits)
+literal_plain word n (inl decimal, small) = all_weaker (is_digit 10) word (λ x e. grind (arith, nat_tests)) decimal.1.digits
+literal_plain word n (inr (tail, is, some, few, digits), small) = rw is (all_weaker (is_digit 16) tail (λ x e. grind (arith, nat_tests)) digits.digits)
 
 text_plain : (word : List ℕ) → IsText word → plain_word word ≡ true
-text_plain word (some, few, graphic) = all_weaker is_ascii_graphic word graphic_plain graphic
+text_plain word (some, few, graphic) = all_weaker is_ascii_graphic word (λ x e. grind (arith, nat_tests)) graphic
 
 label_plain : (word : List ℕ) (label : Label) → IsLabel word label → plain_word word ≡ true
 label_plain word (Label.Text text) (same, is, other) = text_plain word is
@@ -55,10 +40,7 @@ name_plain n = refl
 -- Words and lines.
 
 register_plain : (word : List ℕ) (r : ℕ) → IsRegister word r → plain_word word ≡ true
-register_plain word r (small, is) = elim (cases_lt r 10) [
-  | inl one ↦ rw (is, decimal_digit r one, digit_at r (omega arith)) refl
-  | inr two ↦ rw (is, two_digits r two small, digit_at (r / 10) (omega arith), digit_at (r % 10) (omega arith)) refl
-]
+register_plain word r h = grind (arith, nat_tests, decimal_digit, two_digits)
 
 form_plain : (value : ℕ) (suffix : List ℕ) (n : ℕ) → IsForm value suffix n → plain_word suffix ≡ true
 form_plain value suffix n (inl (is, same)) = rw is refl
@@ -77,7 +59,7 @@ module _ (registers : List ℕ) where
   argument_plain word p.Dword (Argument.Dword n) h = number_plain registers word n h.0
   argument_plain word (p.Count most) (Argument.Count n) h = number_plain registers word n h.0
   argument_plain word p.Byte (Argument.Byte n) h = number_plain registers word n h.0
-  argument_plain word p.Bytes (Argument.Bytes bytes) h = all_weaker is_hex_digit word hex_plain (list_all-from_AllPass is_hex_digit word (decode_of-ok word bytes h.0).1)
+  argument_plain word p.Bytes (Argument.Bytes bytes) h = all_weaker is_hex_digit word (λ x e. grind (arith, nat_tests)) (list_all-from_AllPass is_hex_digit word (decode_of-ok word bytes h.0).1)
   argument_plain word p.Text (Argument.Text text) h = text_plain word h.1
   argument_plain word p.Label (Argument.Label label) h = label_plain word label h
   argument_plain word parameter a h = absurd h
@@ -88,8 +70,7 @@ module _ (registers : List ℕ) where
   arguments_plain words parameters a h = absurd h
 
 goes_plain : (words : List (List ℕ)) (target : Option ℕ) (rest : List (List ℕ)) → GoesTo words target rest → are_plain rest ≡ true → are_plain words ≡ true
-goes_plain words None rest e h = rw e h
-goes_plain words (Some r) rest (word, named, whole) h = rw (whole, register_plain word r named) h
+goes_plain words target rest h e = grind (arith, register_plain)
 
 spelled_plain : {registers words target command : _} → Spells registers words target command → are_plain words ≡ true
 spelled_plain {registers} {words} {target} h =
@@ -97,20 +78,11 @@ spelled_plain {registers} {words} {target} h =
 
 -- a byte that was put before words is plain, and so are the words
 with_byte-parts : (byte : ℕ) (rest : List ℕ) (words : List (List ℕ)) → are_plain (with_byte byte rest words) ≡ true → (is_plain byte ≡ true) × (are_plain words ≡ true)
-with_byte-parts byte [] words e = grind arith
-with_byte-parts byte (next ∷ rest) [] e = grind arith
-with_byte-parts byte (next ∷ rest) (word ∷ words) e =
-    elim (is_blank next) as (λ b. are_plain (cond b ((byte ∷ []) ∷ word ∷ words) ((byte ∷ word) ∷ words)) ≡ true → (is_plain byte ≡ true) × (are_plain (word ∷ words) ≡ true)) [
-      | true ↦ λ h. grind arith
-      | false ↦ λ h. grind arith
-    ] e
+with_byte-parts byte rest words e = grind arith
 
 line_plain : (line : List ℕ) → are_plain (words_of line) ≡ true → plain_word line ≡ true
 line_plain [] e = refl
-line_plain (byte ∷ rest) e = elim (is_blank byte) as (λ b. is_blank byte ≡ b → plain_word (byte ∷ rest) ≡ true) [
-  | true ↦ λ blank. rw (blank_plain byte blank) (line_plain rest (rw blank at e))
-  | false ↦ λ word. let parts = with_byte-parts byte rest (words_of rest) (rw word at e) in rw parts.0 (line_plain rest parts.1)
-] refl
+line_plain (byte ∷ rest) e = grind (arith, nat_tests, with_byte-parts, line_plain rest)
 
 pub plain : (registers line : List ℕ) (target : Option ℕ) (command : Command) → Reads registers line (Said.Says target command) → list_all is_plain line ≡ true
 plain registers line target command h = line_plain line (spelled_plain h.1)

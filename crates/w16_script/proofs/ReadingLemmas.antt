@@ -1,20 +1,14 @@
 -- A line has only one reading.
 use Rattle.w16_script.proofs.Common.{◌≡◌, ℕ, List, [], ◌∷◌, Option, Some, None, sym, ap, ◌∙◌, refl, arith, get_or, decimal, decimal_injective, if◌then◌else◌, bytes_eq, decode_of-same, Name, Parameter}
-use Rattle.w16_script.proofs.Common.{Label, Argument, IsLabel, IsArgument, AreArguments, GoesTo, Makes, Spells, Said, Reads, text_of, parameters_of, command_with, all_names}
+use Rattle.w16_script.proofs.Common.{nat_tests, Label, Argument, IsLabel, IsArgument, AreArguments, GoesTo, Makes, Spells, Said, Reads, text_of, parameters_of, command_with, all_names}
 use Rattle.w16_script.specs.declared.name.Name.TheVariants as name
 use Rattle.w16_script.specs.declared.arguments.Parameter.TheVariants as p
 use Rattle.w16_script.proofs.OneNumberLemmas.{number-same, literal_same}
-use Rattle.w16_script.proofs.ArgumentLemmas.{hash}
 
 -- Arguments.
 
 label-one : (word : List ℕ) (a b : Label) → IsLabel word a → IsLabel word b → a ≡ b
-label-one word (Label.Text s) (Label.Text t) h k = ap Label.Text (h.0 ∙ sym k.0)
-label-one word (Label.Text s) (Label.Number n) h (digits, is, reads, small) = absurd (hash word digits is h.2)
-label-one word (Label.Number n) (Label.Text s) (digits, is, reads, small) k = absurd (hash word digits is k.2)
-label-one word (Label.Number m) (Label.Number n) (digits, is, reads, small) (others, is_too, reads_too, small_too) =
-    let same : others ≡ digits = cc in
-    ap Label.Number (literal_same digits m n reads (rw same at reads_too))
+label-one word a b h k = grind (arith, nat_tests, literal_same)
 
 module _ (registers : List ℕ) where
   argument-one : (word : List ℕ) (parameter : Parameter) (a b : Argument) → IsArgument registers word parameter a → IsArgument registers word parameter b → a ≡ b

@@ -15,23 +15,16 @@ fresh-fits = record { replies = omega arith; lines = omega arith; last = λ fill
 
 pub empty-from : (xs ys : List ℕ) (test : Bool) → test ≡ (length xs == 0) → test ≡ true → xs ≡ ys → ys ≡ []
 empty-from xs [] test h e same = refl
-empty-from xs (y ∷ ys) test h e same =
-    let none : length xs ≡ 0 = grind (arith, nat_tests) in
-    absurd (omega (arith, none, ap (length {A = ℕ}) same))
+empty-from xs (y ∷ ys) test h e same = grind (arith, nat_tests)
 
 -- The last line.
 
 length-last_of : (line n : _) → (0 < length line → n < 1000000) → n ≤ 1000000 → n + length (last_of line) ≤ 1000000
-length-last_of [] n h k = omega arith
-length-last_of (x ∷ xs) n h k = let small : n < 1000000 = h (omega arith) in omega arith
+length-last_of line n h k = grind (arith, nat_tests)
 
 -- there is none
 pub Finishes-none : {steps a v : _} {s : Progress} {counts : Ended} → s.line ≡ [] → counts.lines ≡ s.lines → counts.replies ≡ s.replies → Finishes steps a s v a v counts
-Finishes-none empty lines replies = record {
-  runs = rw empty RunsLines-none;
-  lines = rw empty (omega (arith, lines));
-  replies = rw empty (omega (arith, replies));
-}
+Finishes-none empty lines replies = record { runs = rw empty RunsLines-none; lines = rw empty (omega (arith, lines)); replies = rw empty (omega (arith, replies)) }
 
 -- the text was fed, and its end came
 pub Script-from : {steps a b c v x w registers text counts : _} {t : Progress} → Feeds steps a fresh (start v) text b t w → IsWithinLimits t → Finishes steps b t w c (state_with x registers) counts → Script steps a v text c x counts
@@ -81,9 +74,7 @@ FailsLater-last steps left a b c t v x w registers text fault end p small filled
 
 -- any fault after the start is one of the run
 pub Fails-later : (steps left held old text fault holds new : _) → FailsLater steps left held old text fault holds new → Fails steps left held old text fault holds new
-Fails-later steps left held old text Memory holds new h = inr h
-Fails-later steps left held old text Write holds new h = h
-Fails-later steps left held old text fault holds new h = h
+Fails-later steps left held old text fault holds new h = grind arith
 
 -- a read of nothing consumed nothing
 pub Consumes-none : (a b c text bytes : _) (n : ℕ) → n ≡ 0 → Consumes a b text → Consumes b c (take n bytes) → Consumes a c text

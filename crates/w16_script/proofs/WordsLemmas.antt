@@ -7,54 +7,32 @@ use Rattle.std.specs.Int.{trailing_zeros, w64}
 use Rattle.std.specs.List.{prefix_len}
 use lib.Lanes.{chunk, mask_l, top}
 
--- a byte before a blank is a word of its own
-with_byte-before_blank : (x y ys ws : _) → is_blank y ≡ true → with_byte x (y ∷ ys) ws ≡ (x ∷ []) ∷ ws
-with_byte-before_blank x y ys [] h = refl
-with_byte-before_blank x y ys (w ∷ ws) h = rw h refl
-
-with_byte-some : (x ys ws : _) → with_byte x ys ws ≡ [] → ⊥
-with_byte-some x [] ws e = cc
-with_byte-some x (y ∷ ys) [] e = cc
-with_byte-some x (y ∷ ys) (w ∷ ws) e = grind arith
-
 -- where the first byte is no blank there is a word
 words_of_some : (xs : _) → 0 < length xs → is_blank (get_or xs 0 0) ≡ false → words_of xs ≡ [] → ⊥
 words_of_some [] some first e = absurd (omega arith)
-words_of_some (x ∷ xs) some first e = with_byte-some x xs (words_of xs) (rw first at e)
+words_of_some (x ∷ xs) some first e = grind arith
 
 -- so none is left only where no byte is
 pub words_of_none : (text rest : _) → words_of rest ≡ words_of text → (0 < length rest → is_blank (get_or rest 0 0) ≡ false) → (length rest ≡ 0 → words_of text ≡ []) × (words_of text ≡ [] → length rest ≡ 0)
 words_of_none text [] same begins = (λ e. sym same, λ e. refl)
-words_of_none text (x ∷ xs) same begins = (λ e. absurd (omega (arith, e)), λ e. absurd (words_of_some (x ∷ xs) (omega arith) (begins (omega arith)) (same ∙ e)))
+words_of_none text (x ∷ xs) same begins = grind (arith, words_of_some)
 
 -- the front of a line up to a blank is its first word
 pub words_of_split : (xs n : _) → 0 < n → n ≤ length xs → ((k : ℕ) → k < n → is_blank (get_or xs k 0) ≡ false) → (n < length xs → is_blank (get_or xs n 0) ≡ true) → words_of xs ≡ take n xs ∷ words_of (drop n xs)
-words_of_split [] n some within before stop = absurd (omega arith)
-words_of_split xs zero some within before stop = absurd (omega arith)
-words_of_split (x ∷ []) (suc n) some within before stop =
-    let first : is_blank x ≡ false = before 0 (omega arith) in
-    let last : n ≡ 0 = omega arith in
-    rw (first, last) refl
-words_of_split (x ∷ y ∷ ys) (suc zero) some within before stop =
-    let first : is_blank x ≡ false = before 0 (omega arith) in
-    let next : is_blank y ≡ true = stop (omega arith) in
-    rw (first, with_byte-before_blank x y ys (words_of (y ∷ ys)) next) refl
+words_of_split [] n some within before stop = grind arith
+words_of_split xs zero some within before stop = grind arith
+words_of_split (x ∷ []) (suc n) some within before stop = grind (arith, before 0)
+words_of_split (x ∷ y ∷ ys) (suc zero) some within before stop = grind (arith, before 0)
 words_of_split (x ∷ y ∷ ys) (suc (suc n)) some within before stop =
-    let first : is_blank x ≡ false = before 0 (omega arith) in
-    let next : is_blank y ≡ false = before 1 (omega arith) in
-    let rest : words_of (y ∷ ys) ≡ take (suc n) (y ∷ ys) ∷ words_of (drop (suc n) (y ∷ ys)) =
-    words_of_split (y ∷ ys) (suc n) (omega arith) (omega arith) (λ k h. before (suc k) (omega arith)) (λ h. stop (omega arith)) in
-    rw (first, rest, next) refl
+    let rest = words_of_split (y ∷ ys) (suc n) (omega arith) (omega arith) (λ k h. before (suc k) (omega arith)) (λ h. stop (omega arith)) in
+    grind (arith, before 0, before 1)
 
 -- the place of the lowest bit of a mask of sixteen, or 16
 abbrev pub lowest : ℕ → ℕ
 lowest mask = cond (mask == 0) 16 (trailing_zeros w64 mask)
 
 blank_lane : (a b : _) → top 7 (bit_or (cond a 255 0) (cond b 255 0)) ≡ (a || b)
-blank_lane true true = refl
-blank_lane true false = refl
-blank_lane false true = refl
-blank_lane false false = refl
+blank_lane a b = grind arith
 
 -- the lowest lane that a comparison with both blanks marks is the first blank
 pub blank_lanes : (text at r z : _) → at + 16 ≤ length text → r ≡ lowest (mask_l (map (top 7) z) % 2 ^ 64) → z ≡ map (λ x. bit_or (cond (x == 32) 255 0) (cond (x == 9) 255 0)) (chunk at 16 text) → r ≡ prefix_len (λ x. not (is_blank x)) (chunk at 16 text)

@@ -1,10 +1,9 @@
 -- Lemmas on writes.
-use Rattle.w16_script.proofs.Common.{◌≡◌, ◌+◌, ◌<◌, Result, Ok, Err, OnErr, length, length-append, length-drop, ◌++◌, ap, ◌∙◌, append_assoc, take, drop, sym, take-append-drop, arith, Appends, Appends-trans, take-add, AppendsFront}
+use Rattle.w16_script.proofs.Common.{◌≡◌, ◌+◌, ◌<◌, Result, OnErr, length, length-append, length-drop, ◌++◌, ap, ◌∙◌, append_assoc, take, drop, sym, take-append-drop, arith, Appends, Appends-trans, take-add, AppendsFront}
 
 -- what holds anyway holds on an error
 pub on_err : {T E P : Type 0} (r : Result T E) → P → OnErr r P
-on_err (Ok x) p = tt
-on_err (Err e) p = p
+on_err r p = grind arith
 
 -- a further front of what is left
 pub Appends-take : (a b c xs ys n m : _) → Appends a b (take n xs) → ys ≡ drop n xs → Appends b c (take m ys) → Appends a c (take (n + m) xs)
@@ -12,13 +11,7 @@ Appends-take a b c xs ys n m p e q = rw take-add (Appends-trans a b c _ _ p (rw 
 
 -- a front that is not all
 pub AppendsFront-take : {a b xs : _} (n : _) → n < length xs → Appends a b (take n xs) → AppendsFront a b xs
-AppendsFront-take {xs} n h p = record {
-  front = take n xs;
-  back = drop n xs;
-  whole = sym (take-append-drop n xs);
-  left = omega (arith, length-drop n xs);
-  appends = p;
-}
+AppendsFront-take {xs} n h p = record { front = take n xs; back = drop n xs; whole = sym (take-append-drop n xs); left = omega (arith, length-drop n xs); appends = p }
 
 -- something before it was written whole, and something is left after it
 pub AppendsFront-between : {b bytes : _} (a c before behind : _) → Appends a b before → AppendsFront b c bytes → AppendsFront a c (before ++ (bytes ++ behind))

@@ -34,7 +34,4 @@ returns-clause-err g c =
 
 pub lines-init : goal.lines-init
 lines-init g c =
-    record {
-      fed = ([], refl, Feeds-held tt (simp append-nil) refl, omega arith);
-      fits = c.requires;
-    }
+    record { fed = ([], refl, Feeds-held tt (simp append-nil) refl, omega arith); fits = c.requires }

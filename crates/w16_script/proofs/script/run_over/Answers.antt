@@ -25,11 +25,7 @@ pub pieces-preserved : goal.pieces-preserved
 pieces-preserved g c =
     let (text, consumed, feeds) = c.pieces.invariant.fed in
     record {
-      fed = (
-        text ++ take c.in-Ok.count c.read_some.new.buffer,
-        Consumes-trans _ _ _ _ _ consumed c.in-Ok.ensures.ok,
-        Feeds-trans (Feeds-kept feeds c.flush_writer.ensures) c.in_ok-feed.ensures.ok,
-      );
+      fed = (text ++ take c.in-Ok.count c.read_some.new.buffer, Consumes-trans _ _ _ _ _ consumed c.in-Ok.ensures.ok, Feeds-trans (Feeds-kept feeds c.flush_writer.ensures) c.in_ok-feed.ensures.ok);
       fits = c.in_ok-feed.ensures.within;
       size = omega (arith, c.pieces.invariant.size, c.read_some.auto.buffer);
     }
