@@ -55,7 +55,7 @@ pub quiet : (old new : Handles) (command : LoadingCommand) (reply : Reply) → w
 quiet old new command reply w r agree free = record {
   put = λ slot i byte t h. absurd (subst (λ a. IsSomeAnd a (HasIn new slot i byte)) w h);
   got = λ slot i byte t h. absurd (subst (λ a. IsSomeAnd a (HasIn old slot i byte)) r h);
-  kept = λ slot i p q out. agree slot i p q;
+  kept = λ slot i p q out. (agree slot).one i p q;
   free = free;
 }
 
@@ -80,8 +80,8 @@ fetch_agrees old is slot fault next fetched q = elim (cases_eq q slot) [
     then a b c (inr e) (inr f) = inr (f ∙ e)
 
     agrees : Had old.handles.heap next.handles.heap → HeapsAgree old.handles.heap next.handles.heap slot
-    agrees (inl none) = agree_new (bytes_at old.handles.heap slot) (bytes_at next.handles.heap slot) none
-    agrees (inr e) = agree_same (bytes_at old.handles.heap slot) (bytes_at next.handles.heap slot) e
+    agrees (inl none) = agree_new none
+    agrees (inr e) = agree_same e
 
 -- An access is made in the world, or in what a fetch leaves of it; or that is all.
 record Made (old : LoadingWorld) (command : FarCommand) (reply : Reply) (new : LoadingWorld) : Type 0 where
@@ -106,7 +106,7 @@ module _ (old : LoadingWorld) (is : IsLoadingWorld old) (command : FarCommand) (
           ((fault : Option FetchFault) × (next : LoadingWorld) × AnyFetches old (far_slot old.handles selector) fault next × MatchOption fault (gives (access next) reply new) (λ f. (reply ≡ Failed f) × (new ≡ next)))
           (gives (access old) reply new) → Made old command reply new
       turn true h = fetched h.0 h.1 h.2 h.3
-      turn false g = in_world old is (λ q. agree_same (bytes_at old.handles.heap q) (bytes_at old.handles.heap q) refl) refl g
+      turn false g = in_world old is (λ q. agree_same refl) refl g
 
 far_made : (old : LoadingWorld) → IsLoadingWorld old → (command : FarCommand) (reply : Reply) (new : LoadingWorld) → FarStep AnyFetches old command reply new → Made old command reply new
 far_made old is (Read pointer count) reply new step = accessed old is (Read pointer count) reply new (far_read (selector_in pointer) (offset_in pointer) count) (selector_in pointer)
@@ -177,10 +177,10 @@ module _ (old mid new : Handles) (pointer : ℕ) (slice : List ℕ) (agree : (q 
         let same : byte_in (bytes_at new.heap slot) i ≡ byte_in (bytes_at mid.heap slot) i = ap (λ b. byte_in b i) now
         ∙ get-unwritten before (REACH * r.number + offset_in pointer) slice after w i (λ k byte place h. out byte (record { number = r.number; selected = at; index = k; place = place; has = h }))
         ∙ ap (λ b. byte_in b i) (sym was) in
-        same ∙ agree slot i p (ap is_some (sym same) ∙ q)
+        same ∙ (agree slot).one i p (ap is_some (sym same) ∙ q)
     | inr d ↦
         let same : byte_in (bytes_at new.heap slot) i ≡ byte_in (bytes_at mid.heap slot) i = ap (λ b. byte_in b i) (others mid new (selector_in pointer) write_end After r slot d) in
-        same ∙ agree slot i p (ap is_some (sym same) ∙ q)
+        same ∙ (agree slot).one i p (ap is_some (sym same) ∙ q)
   ]
 
 -- And a read.
@@ -208,7 +208,7 @@ module _ (old mid new : Handles) (pointer count : ℕ) (bytes : List ℕ) (agree
       let short : h.index < count = shorter before b.1 in
       let now : byte_in (bytes_at mid.heap slot) i ≡ Some byte = ap (λ (p : Part). byte_in (bytes_at mid.heap p.slot) i) at ∙ ap (λ b. byte_in b i) had ∙ ap (slice_get before) (h.place ∙ ap (λ (p : Part). REACH * p.number + offset_in pointer + h.index) at)
       ∙ sym (get-part before (REACH * r.number + offset_in pointer) count h.index short) ∙ ap (λ l. slice_get l h.index) (sym b.1) ∙ h.has in
-      sym (agree slot i p (ap is_some now)) ∙ now
+      sym ((agree slot).one i p (ap is_some now)) ∙ now
     where
       shorter : (before : List ℕ) → bytes ≡ part before (REACH * r.number + offset_in pointer) count → h.index < count
       shorter before e = let n : h.index < length bytes = slice_get_within bytes h.index byte h.has in let m : length
@@ -248,7 +248,7 @@ far_keeps_by old command reply new m = turn m.made
     answered (Read pointer count) (Bytes bytes) r = record {
       put = λ slot i byte p h. absurd h;
       got = λ slot i byte p h. read_gives old.handles m.mid new.handles pointer count bytes m.agree m.runs r slot i byte p h;
-      kept = λ slot i p q out. read_keeps old.handles m.mid new.handles pointer count bytes m.agree m.runs r slot i p q;
+      kept = λ slot i p q out. (read_keeps old.handles m.mid new.handles pointer count bytes m.agree m.runs r slot).one i p q;
       free = λ slot. inl refl;
     }
     answered (Write pointer slice) Done r = puts (Write pointer slice) pointer slice refl refl r
@@ -309,7 +309,7 @@ module _ (old new : LoadingWorld) (is : IsLoadingWorld old) (reply : Reply) (q :
   lock_agrees handle step = by_slot (slot_of_resource old handle) step
     where
       itself : Agrees old
-      itself = agree_same (bytes_at old.handles.heap q) (bytes_at old.handles.heap q) refl
+      itself = agree_same refl
 
       locks : (w : LoadingWorld) → Agrees w → Agrees (locked w handle).1
       locks w a = subst (Agree (bytes_at old.handles.heap q)) (sym ((contents w.handles (global_lock w.handles handle).1 (Calls (GlobalLock handle)) (global_lock w.handles handle).0
@@ -338,10 +338,10 @@ module _ (old new : LoadingWorld) (is : IsLoadingWorld old) (reply : Reply) (q :
   stands_by command step out = turn (object_at old.handles.heap q) refl
     where
       turn : (p : Option Object) → object_at old.handles.heap q ≡ p → Agrees new
-      turn None e = had_no_object old.handles.heap new.handles.heap q e
+      turn None e = had_no_object e
       turn (Some o) e = elim (bystanders_law old new command reply q is step (ap is_some e) out) [
         | inl kept ↦ kept_agrees old.handles.heap new.handles.heap q kept
-        | inr gone ↦ no_object old.handles.heap new.handles.heap q gone.0
+        | inr gone ↦ no_object gone.0
       ]
 
 pub loading_keeps : (old new : LoadingWorld) → IsLoadingWorld old → (command : LoadingCommand) (reply : Reply) → AnyStep old command reply new → KeepsSegments old.handles new.handles command reply

@@ -226,7 +226,7 @@ module _ (old new : World) (command : LocalCommand) (reply : Reply) (is : IsWorl
       in_heap entry at after e f t u (Some c) d = elim (cases_eq c.slot p.slot) [
         | inl s ↦
             let mine : current_heap old ≡ Some at = d ∙ sym (there_local old c (current_there old c d)) ∙ ap (local_in old) s ∙ e in
-            local_agrees old new is.heaps command reply step at after mine (ap (local_in new) (local_there old p.slot at e).1 ∙ f) entry p.offset t u
+            (local_agrees old new is.heaps command reply step at after mine (ap (local_in new) (local_there old p.slot at e).1 ∙ f) entry).one p.offset t u
         | inr s ↦ ap (λ h. bytes (Some h) entry) (other_same old new command reply is step p.slot at after e f (λ b g. let both : ◌≡◌ {A = Option LocalHeap} (Some c) (Some b) = sym d ∙ g in let same : c ≡ b = cc in subst (λ (h : LocalHeap). h.slot ≢ p.slot) same s))
       ]
 
