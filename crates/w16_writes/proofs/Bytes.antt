@@ -70,6 +70,10 @@ module _ (before : List ℕ) (at : ℕ) (slice after : List ℕ) (w : IsWritten 
     ]
   ]
 
+-- an option has one value
+pub only : {A : Type 0} {o : Option A} {a b : A} → o ≡ Some a → o ≡ Some b → a ≡ b
+only {A} {o} {a} {b} e f = let both : ◌≡◌ {A = Option A} (Some a) (Some b) = sym e ∙ f in cc
+
 -- What an object's bytes at two times agree on: each number that is inside at both has one byte.
 pub record Agree (before after : Option (List ℕ)) : Type 0 where
   pub one : (i : ℕ) → is_some (byte_in before i) ≡ true → is_some (byte_in after i) ≡ true → byte_in after i ≡ byte_in before i

@@ -28,7 +28,7 @@ use Rattle.w16_loading.proofs.Fillings.{one_does}
 use Rattle.w16_loading.proofs.Spared.{fetch_spares}
 use Rattle.w16_machine.specs.Machine.Command.{OfLoading}
 use Rattle.w16_writes.specs.LastWrite.{Access, byte_in, read, slot_after_step, written}
-use Rattle.w16_writes.proofs.Bytes.{Agree, agree_new, agree_same, get-part, get-written, get-unwritten}
+use Rattle.w16_writes.proofs.Bytes.{only, Agree, agree_new, agree_same, get-part, get-written, get-unwritten}
 use Rattle.w16_writes.proofs.Calls.{HeapsAgree, call_agrees, goes_free, had_no_object, kept_agrees, no_object}
 
 -- the byte at a place of a slot's object
@@ -150,7 +150,7 @@ module _ {mid new : Handles} {selector end : ℕ} {becomes : ℕ → List ℕ �
   selected h same = ap (λ a. part_of_selector (record mid { attributes = a }) selector) same ∙ r.found
 
   here : (h : Handles) → h.attributes ≡ mid.attributes → {p : Part} → part_of_selector h selector ≡ Some p → ◌≡◌ {A = Part} p (record { slot = r.slot; number = r.number })
-  here h same {p} e = let both : ◌≡◌ {A = Option Part} (Some p) (Some (record { slot = r.slot; number = r.number })) = sym e ∙ selected h same in cc
+  here h same e = only e (selected h same)
 
   runs : new.attributes ≡ mid.attributes
   runs = ap (λ (h : Handles). h.attributes) r.rest
@@ -318,16 +318,16 @@ module _ (old new : LoadingWorld) (is : IsLoadingWorld old) (reply : Reply) (q :
       turn (Some o) e = elim (bystanders_law old new command reply q is step (ap is_some e) out) [ inl kept ↦ kept_agrees old.handles.heap new.handles.heap q kept | inr gone ↦ no_object gone.0 ]
 
 module _ (old new : LoadingWorld) (is : IsLoadingWorld old) where
-  idle : (command : LoadingCommand) (reply : Reply) → AnyStep old command reply new → ((q : ℕ) → IsStepAbout old.handles command q → ⊥) → (q : ℕ) → HeapsAgree old.handles.heap new.handles.heap q
-  idle command reply step out q = stands_by old new is reply q command step (out q)
+  idle : {command : LoadingCommand} {reply : Reply} → AnyStep old command reply new → ((q : ℕ) → IsStepAbout old.handles command q → ⊥) → (q : ℕ) → HeapsAgree old.handles.heap new.handles.heap q
+  idle {command} {reply} step out q = stands_by old new is reply q command step (out q)
 
   pub loading_keeps : (command : LoadingCommand) (reply : Reply) → AnyStep old command reply new → KeepsSegments old.handles new.handles command reply
   loading_keeps (OfHandles command) reply step = calm refl refl (λ q. refl) (λ q. let f = step.step in let c = answered old is command reply f.0 f.1 in called old new is reply q command c.0 f.0 c.1 (ap handles_of f.2))
   loading_keeps (OfResizes command) reply step = let f = step.step in subst (λ (h : Handles). KeepsSegments old.handles h (OfResizes command) reply) (sym (ap handles_of f.2)) (resizes_keep old.handles f.0 is.handles command reply f.1)
   loading_keeps (OfFar command) reply step = let after = record new { failures = old.failures } in far_keeps_by old command reply after (far_made old is command reply after step.step)
-  loading_keeps (OfModules command) reply step = calm refl refl (λ q. refl) (idle (OfModules command) reply step (λ q about. about))
+  loading_keeps (OfModules command) reply step = calm refl refl (λ q. refl) (idle step (λ q about. about))
   loading_keeps (OfResources (LockResource handle)) reply step = calm refl refl (λ q. refl) (λ q. lock_agrees old (record new { failures = old.failures }) is reply q handle step.step)
-  loading_keeps (OfResources (FindResource handle name kind)) reply step = calm refl refl (λ q. refl) (idle (OfResources (FindResource handle name kind)) reply step (λ q about. about))
-  loading_keeps (OfResources (LoadResource handle place)) reply step = calm refl refl (λ q. refl) (idle (OfResources (LoadResource handle place)) reply step (λ q about. about))
-  loading_keeps (OfResources (FreeResource handle)) reply step = calm refl refl (λ q. refl) (idle (OfResources (FreeResource handle)) reply step (λ q about. about))
-  loading_keeps (OfResources (SizeofResource handle place)) reply step = calm refl refl (λ q. refl) (idle (OfResources (SizeofResource handle place)) reply step (λ q about. about))
+  loading_keeps (OfResources (FindResource handle name kind)) reply step = calm refl refl (λ q. refl) (idle step (λ q about. about))
+  loading_keeps (OfResources (LoadResource handle place)) reply step = calm refl refl (λ q. refl) (idle step (λ q about. about))
+  loading_keeps (OfResources (FreeResource handle)) reply step = calm refl refl (λ q. refl) (idle step (λ q about. about))
+  loading_keeps (OfResources (SizeofResource handle place)) reply step = calm refl refl (λ q. refl) (idle step (λ q about. about))
