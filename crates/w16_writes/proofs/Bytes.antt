@@ -35,11 +35,9 @@ get-range bytes at n i t = get-taken (at + n - at) (drop at bytes) i t ∙ get-d
 
 -- a number with a byte is inside
 pub inside : (bytes : List ℕ) (i : ℕ) → is_some (slice_get bytes i) ≡ true → i < length bytes
-inside bytes i t = turn (slice_get bytes i) refl t
-  where
-    turn : (p : Option ℕ) → slice_get bytes i ≡ p → is_some p ≡ true → i < length bytes
-    turn None e t = absurd (false≢true t)
-    turn (Some byte) e t = slice_get_within bytes i byte e
+inside [] i t = absurd (false≢true t)
+inside (x ∷ xs) zero t = omega arith
+inside (x ∷ xs) (suc i) t = omega (arith, inside xs i t)
 
 -- below a place and from one on
 pub get-below : (n : ℕ) (xs ys : List ℕ) (i : ℕ) → take n ys ≡ take n xs → i < n → slice_get ys i ≡ slice_get xs i
@@ -47,14 +45,11 @@ get-below n xs ys i same lt = sym (get-take n ys i lt) ∙ ap (λ l. slice_get l
 
 get-above : (n : ℕ) (xs ys : List ℕ) (i : ℕ) → drop n ys ≡ drop n xs → n ≤ i → slice_get ys i ≡ slice_get xs i
 get-above n xs ys i same le =
-    let k : ℕ = i - n in
-    let e : i ≡ n + k = omega arith in
-    ap (slice_get ys) e ∙ sym (get-drop n ys k) ∙ ap (λ l. slice_get l k) same ∙ get-drop n xs k ∙ ap (slice_get xs) (sym e)
+    let e : i ≡ n + (i - n) = omega arith in
+    ap (slice_get ys) e ∙ sym (get-drop n ys (i - n)) ∙ ap (λ l. slice_get l (i - n)) same ∙ get-drop n xs (i - n) ∙ ap (slice_get xs) (sym e)
 
 pub split : (a b : ℕ) → (a < b) ⊎ (b ≤ a)
-split a zero = inr (omega arith)
-split zero (suc b) = inl (omega arith)
-split (suc a) (suc b) = elim (split a b) [ inl h ↦ inl (omega (arith, h)) | inr h ↦ inr (omega (arith, h)) ]
+split a b = grind arith
 
 -- outside a range
 pub get-outside : (lo hi : ℕ) (before after : List ℕ) (i : ℕ) → IsSameOutside lo hi before after → (i < lo) ⊎ (hi ≤ i) → slice_get after i ≡ slice_get before i
@@ -75,23 +70,28 @@ module _ (before : List ℕ) (at : ℕ) (slice after : List ℕ) (w : IsWritten 
     ]
   ]
 
+-- an option has one value
+pub only : {A : Type 0} {o : Option A} {a b : A} → o ≡ Some a → o ≡ Some b → a ≡ b
+only {A} {o} {a} {b} e f = let both : ◌≡◌ {A = Option A} (Some a) (Some b) = sym e ∙ f in cc
+
 -- What an object's bytes at two times agree on: each number that is inside at both has one byte.
-abbrev pub Agree : Option (List ℕ) → Option (List ℕ) → Type 0
-Agree before after = (i : ℕ) → is_some (byte_in before i) ≡ true → is_some (byte_in after i) ≡ true → byte_in after i ≡ byte_in before i
+pub record Agree (before after : Option (List ℕ)) : Type 0 where
+  pub one : (i : ℕ) → is_some (byte_in before i) ≡ true → is_some (byte_in after i) ≡ true → byte_in after i ≡ byte_in before i
 
-pub agree_same : (before after : Option (List ℕ)) → after ≡ before → Agree before after
-agree_same before after e i p q = ap (λ b. byte_in b i) e
+module _ {before after : Option (List ℕ)} where
+  pub agree_same : after ≡ before → Agree before after
+  agree_same e = record { one = λ i p q. ap (λ b. byte_in b i) e }
 
-pub agree_gone : (before after : Option (List ℕ)) → after ≡ None → Agree before after
-agree_gone before after e i p q = absurd (false≢true (sym (ap (λ b. is_some (byte_in b i)) e) ∙ q))
+  pub agree_gone : after ≡ None → Agree before after
+  agree_gone e = record { one = λ i p q. absurd (false≢true (sym (ap (λ b. is_some (byte_in b i)) e) ∙ q)) }
 
-pub agree_new : (before after : Option (List ℕ)) → before ≡ None → Agree before after
-agree_new before after e i p q = absurd (false≢true (sym (ap (λ b. is_some (byte_in b i)) e) ∙ p))
+  pub agree_new : before ≡ None → Agree before after
+  agree_new e = record { one = λ i p q. absurd (false≢true (sym (ap (λ b. is_some (byte_in b i)) e) ∙ p)) }
 
 -- at another size
 pub agree_resized : (zeroed : Bool) (n : ℕ) (before after : Option (List ℕ)) → IsSomeAnd after (AreResized zeroed n (unwrap_or before [])) → Agree before after
-agree_resized zeroed n None after r i p q = absurd (false≢true p)
-agree_resized zeroed n (Some before) None r i p q = absurd r
-agree_resized zeroed n (Some before) (Some after) r i p q =
-    let long = inside after i q in
-    sym (get-take (length before) after i (inside before i p)) ∙ ap (λ l. slice_get l i) r.same ∙ get-take n before i (omega (arith, long, r.long))
+agree_resized zeroed n None after r = agree_new refl
+agree_resized zeroed n (Some before) None r = absurd r
+agree_resized zeroed n (Some before) (Some after) r = record {
+  one = λ i p q. sym (get-take (length before) after i (inside before i p)) ∙ ap (λ l. slice_get l i) r.same ∙ get-take n before i (omega (arith, inside after i q, r.long));
+}

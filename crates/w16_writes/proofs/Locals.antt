@@ -31,8 +31,8 @@ module _ (old : Heap) (id q : ℕ) where
   -- another object with its bytes is put in its place
   put : (o p : Object) (new : Heap) → object_at old id ≡ Some o → p.bytes ≡ o.bytes → new.objects ≡ finmap.insert old.objects id p → Agrees new
   put o p new there same e = elim (cases_eq q id) [
-    | inl here ↦ agree_same (bytes_at old q) (bytes_at new q) (ap (λ m. bytes_in (finmap.get m q)) e ∙ ap bytes_in (inserted_here old.objects id p q here) ∙ same ∙ sym (ap (bytes_at old) here ∙ ap bytes_in there))
-    | inr d ↦ same_object old new q (ap (λ m. finmap.get m q) e ∙ inserted_other old.objects id p q d)
+    | inl here ↦ agree_same (ap (λ m. bytes_in (finmap.get m q)) e ∙ ap bytes_in (inserted_here old.objects id p q here) ∙ same ∙ sym (ap (bytes_at old) here ∙ ap bytes_in there))
+    | inr d ↦ same_object (ap (λ m. finmap.get m q) e ∙ inserted_other old.objects id p q d)
   ]
 
   locks : IfOk (after_lock old id) Agrees
@@ -53,7 +53,7 @@ module _ (old : Heap) (id q : ℕ) where
   unlocks = turn (object_at old id) refl
     where
       turn : (p : Option Object) → object_at old id ≡ p → IfOk (elim p as (λ _. Result Heap Refusal) [ None ↦ Ok old | Some o ↦ cond (is_fixed o.kind) (Err refusals.Fixed) (Ok (with_object old id (record o { locks = o.locks - 1 }))) ]) Agrees
-      turn None e = same_object old old q refl
+      turn None e = agree_same refl
       turn (Some o) e = let less : Heap = with_object old id (record o { locks = o.locks - 1 }) in if_ok (is_fixed o.kind) (Err refusals.Fixed) (Ok less) tt (put o (record o { locks = o.locks - 1 }) less e refl refl)
 
   modifies : (kind : Kind) → IfOk (after_modify old id kind) Agrees
@@ -73,10 +73,10 @@ module _ (old : Heap) (id q : ℕ) where
   frees = turn (object_at old id)
     where
       gone : Agrees (removed old id)
-      gone = elim (cases_eq q id) [ inl e ↦ no_object old (removed old id) q (taken_here old.objects id q e) | inr d ↦ same_object old (removed old id) q (taken_other old.objects id q d) ]
+      gone = elim (cases_eq q id) [ inl e ↦ no_object (taken_here old.objects id q e) | inr d ↦ same_object (taken_other old.objects id q d) ]
 
       turn : (p : Option Object) → IfOk (elim p as (λ _. Result Heap Refusal) [ None ↦ Ok old | Some o ↦ cond (nat_lt 0 o.locks) (Err refusals.Locked) (Ok (removed old id)) ]) Agrees
-      turn None = same_object old old q refl
+      turn None = agree_same refl
       turn (Some o) = if_ok (nat_lt 0 o.locks) (Err refusals.Locked) (Ok (removed old id)) tt gone
 
   altered : (new : Heap) → IsAltered old id new → Agrees new
@@ -92,15 +92,15 @@ module _ (old : Heap) (id q : ℕ) where
 module _ (old : Heap) (is : IsHeap old) (q : ℕ) (new : Heap) where
   allocated : (id n : ℕ) (kind : Kind) (options : RoomOptions) → object_at old id ≡ None → Allocates old id n kind 0 options true new → HeapsAgree old new q
   allocated id n kind options free a = elim (cases_eq q id) [
-    | inl e ↦ had_no_object old new q (ap (object_at old) e ∙ free)
+    | inl e ↦ had_no_object (ap (object_at old) e ∙ free)
     | inr d ↦
         let what : Asked = record { options = options; prefix = discards_needed old n (Some id) options; becomes = IsNew options.zero n kind 0; order = with_newest id } in
         let r = asked old id what new a.request in
-        kept_agrees old new q (kept_or_discarded old new (Some id) r.0 q ((others_law old new is r.0).0 id options r.2.0 (with_newest id r.2.0) r.2.2) (apart id q d))
+        kept_agrees old new q (kept_or_discarded old new (Some id) r.0 q ((others_law old new is r.0).0 id options r.2.0 (with_newest id r.2.0) r.2.2) (apart d))
   ]
 
   compacted : (size answer : ℕ) → MakesRoom old size answer new → HeapsAgree old new q
-  compacted size answer m = kept_agrees old new q (kept_or_discarded old new None (compaction_prefix old size) q ((others_law old new is (compaction_prefix old size)).1 m.settled) (none_apart q))
+  compacted size answer m = kept_agrees old new q (kept_or_discarded old new None (compaction_prefix old size) q ((others_law old new is (compaction_prefix old size)).1 m.settled) none_apart)
 
   resized : (id size flags answer : ℕ) → ResizesObject old id size flags answer new → HeapsAgree old new q
   resized id size flags answer r = turn (object_at old id) refl (rest_law old new id (rounded_up size) (local_options flags) is r.resized)
@@ -108,14 +108,14 @@ module _ (old : Heap) (is : IsHeap old) (q : ℕ) (new : Heap) where
       turn : (p : Option Object) → object_at old id ≡ p → IsSomeAnd p (λ o. KeepsRest old id (rounded_up size) o (local_options flags) new) → HeapsAgree old new q
       turn None e h = absurd h
       turn (Some o) there k = elim (cases_eq q id) [
-        | inl e ↦ object_resized old new id q (rounded_up size) (local_options flags).zero o e there k.object
-        | inr d ↦ kept_agrees old new q (kept_or_discarded old new (Some id) k.count q k.others (apart id q d))
+        | inl e ↦ object_resized _ _ old new id q e there k.object
+        | inr d ↦ kept_agrees old new q (kept_or_discarded old new (Some id) k.count q k.others (apart d))
       ]
 
 -- So each call leaves each object of the current heap.
 pub local_agrees : (old new : World) → AreLocalHeaps old → (command : LocalCommand) (reply : Reply) → LocalStep old command reply new → (at after : LocalHeap) → current_heap old ≡ Some at → local_in new at.slot ≡ Some after → (q : ℕ) → HeapsAgree (heap_of at) (heap_of after) q
 local_agrees old new is command reply step at after c e q =
-    current_becomes old at c command reply new (λ next. HeapsAgree (heap_of at) next q) (same_object (heap_of at) (heap_of at) q refl) stepped roomed
+    current_becomes old at c command reply new (λ next. HeapsAgree (heap_of at) next q) (agree_same refl) stepped roomed
     (grown_becomes old is at c command new (λ next. HeapsAgree (heap_of at) next q) (λ answer next end asks later did. made end later answer next did)) after e step
   where
     heap : IsHeap (heap_of at)
@@ -124,8 +124,8 @@ local_agrees old new is command reply step at after c e q =
     stepped : (next : Heap) → IsStepped (heap_of at) command next → HeapsAgree (heap_of at) next q
     stepped next (inl (id, named, changed)) = altered (heap_of at) id q next changed
     stepped next (inr (flags, size, id, t, enters)) = elim (cases_eq q id) [
-      | inl e ↦ had_no_object (heap_of at) next q (ap (object_at (heap_of at)) e ∙ enters.unused)
-      | inr d ↦ same_object (heap_of at) next q (ap (λ (h : Heap). object_at h q) enters.entered ∙ inserted_other (heap_of at).objects id (record { kind = local_kind flags; locks = 0; bytes = None }) q d)
+      | inl e ↦ had_no_object (ap (object_at (heap_of at)) e ∙ enters.unused)
+      | inr d ↦ same_object (ap (λ (h : Heap). object_at h q) enters.entered ∙ inserted_other (heap_of at).objects id (record { kind = local_kind flags; locks = 0; bytes = None }) q d)
     ]
 
     -- room is made in it, or in it as it ends later

@@ -2,6 +2,7 @@
 use Rattle.std.proofs.Common.{◌≡◌, ℕ, List, [], ◌∷◌, ◌++◌, Option, Some, sym, ◌∙◌, subst}
 use Rattle.w16_machine.specs.Machine.{Event}
 use Rattle.w16_machine.specs.World.{World}
+use Rattle.w16_writes.proofs.Bytes.{only}
 use Rattle.w16_writes.specs.LastWrite.{Position, AllKeepWritten, IsThere, IsUndisturbed, Reads, ReadsBackLaw, Writes, byte_at, position_after, position_after_all, world_after}
 
 -- the byte of an undisturbed position, where it has gone
@@ -19,8 +20,7 @@ from_write : (w : World) (before between after : List Event) (writing reading : 
     → IsUndisturbed p writing.after between → Reads (world_after writing.after between) reading (position_after_all writing.after between p) found → found ≡ byte
 from_write w [] between after writing reading p byte found keeps writes free reads =
     let r = undisturbed p byte writing.after between (reading ∷ after) (keeps.0.written p byte writes) free keeps.1 in
-    let both : ◌≡◌ {A = Option ℕ} (Some found) (Some byte) = sym (r.1.0.read (position_after_all writing.after between p) found reads) ∙ r.0 in
-    cc
+    only (r.1.0.read (position_after_all writing.after between p) found reads) r.0
 from_write w (event ∷ before) between after writing reading p byte found keeps writes free reads = from_write event.after before between after writing reading p byte found keeps.1 writes free reads
 
 pub reads_back_law : ReadsBackLaw

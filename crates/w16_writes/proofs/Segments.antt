@@ -9,6 +9,7 @@ use Rattle.std.specs.List.{slice_get}
 use Rattle.std.proofs.lemmas.Option.{slice_get_within}
 use Rattle.std.proofs.lemmas.List.{length-take}
 use Rattle.w16_model.specs.declared.FarFault.{FarFault}
+use Rattle.w16_model.specs.Far.{FarStep as HandlesFarStep}
 use Rattle.w16_model.specs.Far.FarAnswer.{Bytes, Done, Fault}
 use Rattle.w16_model.specs.Far.FarCommand.{Read}
 use Rattle.w16_model.specs.CallLaws.{FarEffect, IsWritten, Reaches, next_slot}
@@ -27,8 +28,12 @@ use Rattle.w16_loading.proofs.Fillings.{one_does}
 use Rattle.w16_loading.proofs.Spared.{fetch_spares}
 use Rattle.w16_machine.specs.Machine.Command.{OfLoading}
 use Rattle.w16_writes.specs.LastWrite.{Access, byte_in, read, slot_after_step, written}
-use Rattle.w16_writes.proofs.Bytes.{Agree, agree_new, agree_same, get-part, get-written, get-unwritten}
+use Rattle.w16_writes.proofs.Bytes.{only, Agree, agree_new, agree_same, get-part, get-written, get-unwritten}
 use Rattle.w16_writes.proofs.Calls.{HeapsAgree, call_agrees, goes_free, had_no_object, kept_agrees, no_object}
+
+-- the byte at a place of a slot's object
+abbrev pub get : Handles → ℕ → ℕ → Option ℕ
+get h slot i = byte_in (bytes_at h.heap slot) i
 
 -- an access has this byte at a place of a slot's object
 pub record HasIn (h : Handles) (slot i byte : ℕ) (access : Access) : Type 0 where
@@ -38,31 +43,35 @@ pub record HasIn (h : Handles) (slot i byte : ℕ) (access : Access) : Type 0 wh
   pub place : i ≡ REACH * number + offset_in access.pointer + index
   pub has : slice_get access.bytes index ≡ Some byte
 
+module _ (old new : Handles) (command : LoadingCommand) (reply : Reply) where
+  abbrev pub goes : ℕ → ℕ
+  goes q = slot_after_step old (OfLoading command) reply new q
+
+  abbrev pub Puts : ℕ → ℕ → ℕ → Type 0
+  Puts slot i byte = IsSomeAnd (written (OfLoading command) reply) (HasIn new slot i byte)
+
 -- What a step puts is there, what it reads was there, and elsewhere bytes agree, each object's at its slot after the step.
 pub record KeepsSegments (old new : Handles) (command : LoadingCommand) (reply : Reply) : Type 0 where
-  pub put : (slot i byte : ℕ) → is_some (byte_in (bytes_at new.heap slot) i) ≡ true → IsSomeAnd (written (OfLoading command) reply) (HasIn new slot i byte) → byte_in (bytes_at new.heap slot) i ≡ Some byte
-  pub got : (slot i byte : ℕ) → is_some (byte_in (bytes_at old.heap slot) i) ≡ true → IsSomeAnd (read (OfLoading command) reply) (HasIn old slot i byte) → byte_in (bytes_at old.heap slot) i ≡ Some byte
-  pub kept : (slot i : ℕ) → is_some (byte_in (bytes_at old.heap slot) i) ≡ true → is_some (byte_in (bytes_at new.heap (slot_after_step old (OfLoading command) reply new slot)) i) ≡ true
-      → ((byte : ℕ) → IsSomeAnd (written (OfLoading command) reply) (HasIn new (slot_after_step old (OfLoading command) reply new slot) i byte) → ⊥)
-      → byte_in (bytes_at new.heap (slot_after_step old (OfLoading command) reply new slot)) i ≡ byte_in (bytes_at old.heap slot) i
+  pub put : (slot i byte : ℕ) → is_some (get new slot i) ≡ true → Puts old new command reply slot i byte → get new slot i ≡ Some byte
+  pub got : (slot i byte : ℕ) → is_some (get old slot i) ≡ true → IsSomeAnd (read (OfLoading command) reply) (HasIn old slot i byte) → get old slot i ≡ Some byte
+  pub kept : (slot i : ℕ) → is_some (get old slot i) ≡ true → is_some (get new (goes old new command reply slot) i) ≡ true → ((byte : ℕ) → Puts old new command reply (goes old new command reply slot) i byte → ⊥)
+      → get new (goes old new command reply slot) i ≡ get old slot i
   -- another slot had no object
-  pub free : (slot : ℕ) → (slot_after_step old (OfLoading command) reply new slot ≡ slot) ⊎ (object_at old.heap (slot_after_step old (OfLoading command) reply new slot) ≡ None)
+  pub free : (slot : ℕ) → (goes old new command reply slot ≡ slot) ⊎ (object_at old.heap (goes old new command reply slot) ≡ None)
 
--- a step that is no answered access
-pub quiet : (old new : Handles) (command : LoadingCommand) (reply : Reply) → written (OfLoading command) reply ≡ None → read (OfLoading command) reply ≡ None
-    → ((q : ℕ) → Agree (bytes_at old.heap q) (bytes_at new.heap (slot_after_step old (OfLoading command) reply new q)))
-    → ((q : ℕ) → (slot_after_step old (OfLoading command) reply new q ≡ q) ⊎ (object_at old.heap (slot_after_step old (OfLoading command) reply new q) ≡ None)) → KeepsSegments old new command reply
-quiet old new command reply w r agree free = record {
-  put = λ slot i byte t h. absurd (subst (λ a. IsSomeAnd a (HasIn new slot i byte)) w h);
-  got = λ slot i byte t h. absurd (subst (λ a. IsSomeAnd a (HasIn old slot i byte)) r h);
-  kept = λ slot i p q out. agree slot i p q;
-  free = free;
-}
+module _ {old new : Handles} {command : LoadingCommand} {reply : Reply} (w : written (OfLoading command) reply ≡ None) (r : read (OfLoading command) reply ≡ None) where
+  -- a step that is no answered access
+  quiet : ((q : ℕ) → Agree (bytes_at old.heap q) (bytes_at new.heap (goes old new command reply q))) → ((q : ℕ) → (goes old new command reply q ≡ q) ⊎ (object_at old.heap (goes old new command reply q) ≡ None)) → KeepsSegments old new command reply
+  quiet agree free = record {
+    put = λ slot i byte t h. absurd (subst (λ a. IsSomeAnd a (HasIn new slot i byte)) w h);
+    got = λ slot i byte t h. absurd (subst (λ a. IsSomeAnd a (HasIn old slot i byte)) r h);
+    kept = λ slot i p q out. (agree slot).one i p q;
+    free = free;
+  }
 
--- one that leaves objects their slots
-pub calm : (old new : Handles) (command : LoadingCommand) (reply : Reply) → written (OfLoading command) reply ≡ None → read (OfLoading command) reply ≡ None → ((q : ℕ) → slot_after_step old (OfLoading command) reply new q ≡ q)
-    → ((q : ℕ) → HeapsAgree old.heap new.heap q) → KeepsSegments old new command reply
-calm old new command reply w r stays agree = quiet old new command reply w r (λ q. subst (λ s. Agree (bytes_at old.heap q) (bytes_at new.heap s)) (sym (stays q)) (agree q)) (λ q. inl (stays q))
+  -- one that leaves objects their slots
+  calm : ((q : ℕ) → goes old new command reply q ≡ q) → ((q : ℕ) → HeapsAgree old.heap new.heap q) → KeepsSegments old new command reply
+  calm stays agree = quiet (λ q. subst (λ s. Agree (bytes_at old.heap q) (bytes_at new.heap s)) (sym (stays q)) (agree q)) (λ q. inl (stays q))
 
 -- A fetch gives bytes to an object that had none, and other objects keep theirs or lose them.
 pub fetch_agrees : (old : LoadingWorld) → IsLoadingWorld old → (slot : ℕ) (fault : Option FetchFault) (next : LoadingWorld) → AnyFetches old slot fault next → (q : ℕ) → HeapsAgree old.handles.heap next.handles.heap q
@@ -80,8 +89,11 @@ fetch_agrees old is slot fault next fetched q = elim (cases_eq q slot) [
     then a b c (inr e) (inr f) = inr (f ∙ e)
 
     agrees : Had old.handles.heap next.handles.heap → HeapsAgree old.handles.heap next.handles.heap slot
-    agrees (inl none) = agree_new (bytes_at old.handles.heap slot) (bytes_at next.handles.heap slot) none
-    agrees (inr e) = agree_same (bytes_at old.handles.heap slot) (bytes_at next.handles.heap slot) e
+    agrees (inl none) = agree_new none
+    agrees (inr e) = agree_same e
+
+abbrev handles_of : LoadingWorld → Handles
+handles_of w = w.handles
 
 -- An access is made in the world, or in what a fetch leaves of it; or that is all.
 record Made (old : LoadingWorld) (command : FarCommand) (reply : Reply) (new : LoadingWorld) : Type 0 where
@@ -91,33 +103,31 @@ record Made (old : LoadingWorld) (command : FarCommand) (reply : Reply) (new : L
   pub made : ((answer : FarAnswer) × (reply ≡ reply_of_far answer) × FarEffect mid command answer new.handles) ⊎ ((fault : FetchFault) × (reply ≡ Failed fault) × (new.handles ≡ mid))
 
 module _ (old : LoadingWorld) (is : IsLoadingWorld old) (command : FarCommand) (reply : Reply) (new : LoadingWorld) where
-  accessed : (access : LoadingWorld → FarAnswer × LoadingWorld) (selector : ℕ) → ((w : LoadingWorld) → AreHandles w.handles → new ≡ (access w).1 → FarEffect w.handles command (access w).0 new.handles)
+  accessed : (access : LoadingWorld → FarAnswer × LoadingWorld) (selector : ℕ) → ((w : LoadingWorld) → new.handles ≡ (access w).1.handles → HandlesFarStep w.handles command (access w).0 new.handles)
       → Accesses AnyFetches access old selector reply new → Made old command reply new
-  accessed access selector effect step = turn (needs_fetch (access old).0 old selector) step
+  accessed access selector does step = turn (needs_fetch (access old).0 old selector) step
     where
       in_world : (w : LoadingWorld) → IsLoadingWorld w → ((q : ℕ) → HeapsAgree old.handles.heap w.handles.heap q) → w.handles.attributes ≡ old.handles.attributes → gives (access w) reply new → Made old command reply new
-      in_world w are agree runs g = record { mid = w.handles; agree = agree; runs = runs; made = inl ((access w).0, g.0, effect w are.handles g.1) }
+      in_world w are agree runs g = record { mid = w.handles; agree = agree; runs = runs; made = inl ((access w).0, g.0, far_effect_law w.handles new.handles command (access w).0 are.handles (does w (ap handles_of g.1))) }
 
-      fetched : (fault : Option FetchFault) (next : LoadingWorld) → AnyFetches old (far_slot old.handles selector) fault next → MatchOption fault (gives (access next) reply new) (λ f. (reply ≡ Failed f) × (new ≡ next)) → Made old command reply new
-      fetched None next f g = in_world next (fetched_world old is (far_slot old.handles selector) None next f) (fetch_agrees old is (far_slot old.handles selector) None next f) (ap (λ (w : LoadingWorld). w.handles.attributes) f.rest) g
-      fetched (Some fault) next f g = record { mid = next.handles; agree = fetch_agrees old is (far_slot old.handles selector) (Some fault) next f; runs = ap (λ (w : LoadingWorld). w.handles.attributes) f.rest; made = inr (fault, g.0, ap (λ (w : LoadingWorld). w.handles) g.1) }
+      slot : ℕ
+      slot = far_slot old.handles selector
 
-      turn : (b : Bool) → MatchBool b
-          ((fault : Option FetchFault) × (next : LoadingWorld) × AnyFetches old (far_slot old.handles selector) fault next × MatchOption fault (gives (access next) reply new) (λ f. (reply ≡ Failed f) × (new ≡ next)))
-          (gives (access old) reply new) → Made old command reply new
+      fetched : (fault : Option FetchFault) (next : LoadingWorld) → AnyFetches old slot fault next → MatchOption fault (gives (access next) reply new) (λ f. (reply ≡ Failed f) × (new ≡ next)) → Made old command reply new
+      fetched None next f g = in_world next (fetched_world old is slot None next f) (fetch_agrees old is slot None next f) (ap (λ (w : LoadingWorld). w.handles.attributes) f.rest) g
+      fetched (Some fault) next f g = record { mid = next.handles; agree = fetch_agrees old is slot (Some fault) next f; runs = ap (λ (w : LoadingWorld). w.handles.attributes) f.rest; made = inr (fault, g.0, ap handles_of g.1) }
+
+      turn : (b : Bool) → MatchBool b ((fault : Option FetchFault) × (next : LoadingWorld) × AnyFetches old slot fault next × MatchOption fault (gives (access next) reply new) (λ f. (reply ≡ Failed f) × (new ≡ next))) (gives (access old) reply new) → Made old command reply new
       turn true h = fetched h.0 h.1 h.2 h.3
-      turn false g = in_world old is (λ q. agree_same (bytes_at old.handles.heap q) (bytes_at old.handles.heap q) refl) refl g
+      turn false g = in_world old is (λ q. agree_same refl) refl g
 
 far_made : (old : LoadingWorld) → IsLoadingWorld old → (command : FarCommand) (reply : Reply) (new : LoadingWorld) → FarStep AnyFetches old command reply new → Made old command reply new
-far_made old is (Read pointer count) reply new step = accessed old is (Read pointer count) reply new (far_read (selector_in pointer) (offset_in pointer) count) (selector_in pointer)
-    (λ w are e. far_effect_law w.handles new.handles (Read pointer count) (far_read (selector_in pointer) (offset_in pointer) count w).0 are (refl, ap (λ (w : LoadingWorld). w.handles) e)) step
-far_made old is (Write pointer bytes) reply new step = accessed old is (Write pointer bytes) reply new (far_write (selector_in pointer) (offset_in pointer) bytes) (selector_in pointer)
-    (λ w are e. far_effect_law w.handles new.handles (Write pointer bytes) (far_write (selector_in pointer) (offset_in pointer) bytes w).0 are (refl, ap (λ (w : LoadingWorld). w.handles) e)) step
-far_made old is (Fill pointer count byte) reply new step = accessed old is (Fill pointer count byte) reply new (far_write (selector_in pointer) (offset_in pointer) (repeated count byte)) (selector_in pointer)
-    (λ w are e. far_effect_law w.handles new.handles (Fill pointer count byte) (far_write (selector_in pointer) (offset_in pointer) (repeated count byte) w).0 are (refl, ap (λ (w : LoadingWorld). w.handles) e)) step
+far_made old is (Read pointer count) reply new step = accessed old is (Read pointer count) reply new (far_read (selector_in pointer) (offset_in pointer) count) (selector_in pointer) (λ w e. (refl, e)) step
+far_made old is (Write pointer bytes) reply new step = accessed old is (Write pointer bytes) reply new (far_write (selector_in pointer) (offset_in pointer) bytes) (selector_in pointer) (λ w e. (refl, e)) step
+far_made old is (Fill pointer count byte) reply new step = accessed old is (Fill pointer count byte) reply new (far_write (selector_in pointer) (offset_in pointer) (repeated count byte)) (selector_in pointer) (λ w e. (refl, e)) step
 
 -- What an access reached.
-module _ (mid new : Handles) (selector end : ℕ) (becomes : ℕ → List ℕ → List ℕ → Type 0) (r : Reaches mid selector end becomes new) where
+module _ {mid new : Handles} {selector end : ℕ} {becomes : ℕ → List ℕ → List ℕ → Type 0} (r : Reaches mid selector end becomes new) where
   abbrev HasAfter : Object → List ℕ → Type 0
   HasAfter o bytes = (after : List ℕ) × becomes (REACH * r.number) bytes after × (object_at new.heap r.slot ≡ Some (record o { bytes = Some after }))
 
@@ -139,81 +149,59 @@ module _ (mid new : Handles) (selector end : ℕ) (becomes : ℕ → List ℕ �
   selected : (h : Handles) → h.attributes ≡ mid.attributes → part_of_selector h selector ≡ Some (record { slot = r.slot; number = r.number })
   selected h same = ap (λ a. part_of_selector (record mid { attributes = a }) selector) same ∙ r.found
 
-  here : (h : Handles) → h.attributes ≡ mid.attributes → (p : Part) → part_of_selector h selector ≡ Some p → ◌≡◌ {A = Part} p (record { slot = r.slot; number = r.number })
-  here h same p e = let both : ◌≡◌ {A = Option Part} (Some p) (Some (record { slot = r.slot; number = r.number })) = sym e ∙ selected h same in cc
+  here : (h : Handles) → h.attributes ≡ mid.attributes → {p : Part} → part_of_selector h selector ≡ Some p → ◌≡◌ {A = Part} p (record { slot = r.slot; number = r.number })
+  here h same e = only e (selected h same)
 
   runs : new.attributes ≡ mid.attributes
   runs = ap (λ (h : Handles). h.attributes) r.rest
 
-  others : (q : ℕ) → q ≢ r.slot → bytes_at new.heap q ≡ bytes_at mid.heap q
-  others q d = ap bytes_in (r.others q d)
-
 -- What an answered write leaves of what agreed before it, and what it puts.
-module _ (old mid new : Handles) (pointer : ℕ) (slice : List ℕ) (agree : (q : ℕ) → HeapsAgree old.heap mid.heap q)
-    (r : Reaches mid (selector_in pointer) (offset_in pointer + length slice) (λ begin before after. IsWritten before (begin + offset_in pointer) slice after) new) where
+module _ {mid new : Handles} (pointer : ℕ) (slice : List ℕ) (r : Reaches mid (selector_in pointer) (offset_in pointer + length slice) (λ begin before after. IsWritten before (begin + offset_in pointer) slice after) new) where
   abbrev access : Access
   access = record { pointer = pointer; bytes = slice }
 
-  abbrev After : ℕ → List ℕ → List ℕ → Type 0
-  After begin before after = IsWritten before (begin + offset_in pointer) slice after
-
-  abbrev write_end : ℕ
-  write_end = offset_in pointer + length slice
-
-  write_puts : (slot i byte : ℕ) → HasIn new slot i byte access → byte_in (bytes_at new.heap slot) i ≡ Some byte
+  write_puts : (slot i byte : ℕ) → HasIn new slot i byte access → get new slot i ≡ Some byte
   write_puts slot i byte h =
-      let (before, after, had, has, w) = reached mid new (selector_in pointer) write_end After r in
-      let at = here mid new (selector_in pointer) write_end After r new (runs mid new (selector_in pointer) write_end After r) (record { slot = slot; number = h.number }) h.selected in
-      ap (λ (p : Part). byte_in (bytes_at new.heap p.slot) i) at ∙ ap (λ b. byte_in b i) has ∙ ap (slice_get after) (h.place ∙ ap (λ (p : Part). REACH * p.number + offset_in pointer + h.index) at)
+      let (before, after, had, has, w) = reached r in
+      let at = here r new (runs r) h.selected in
+      ap (λ (p : Part). get new p.slot i) at ∙ ap (λ b. byte_in b i) has ∙ ap (slice_get after) (h.place ∙ ap (λ (p : Part). REACH * p.number + offset_in pointer + h.index) at)
       ∙ get-written before (REACH * r.number + offset_in pointer) slice after w h.index byte h.has
 
-  write_keeps : (slot i : ℕ) → is_some (byte_in (bytes_at old.heap slot) i) ≡ true → is_some (byte_in (bytes_at new.heap slot) i) ≡ true → ((byte : ℕ) → HasIn new slot i byte access → ⊥) → byte_in (bytes_at new.heap slot) i ≡ byte_in (bytes_at old.heap slot) i
-  write_keeps slot i p q out = elim (cases_eq slot r.slot) [
-    | inl e ↦
-        let (before, after, had, has, w) = reached mid new (selector_in pointer) write_end After r in
-        let now : bytes_at new.heap slot ≡ Some after = ap (bytes_at new.heap) e ∙ has in
-        let was : bytes_at mid.heap slot ≡ Some before = ap (bytes_at mid.heap) e ∙ had in
-        let at : part_of_selector new (selector_in pointer) ≡ Some (record { slot = slot; number = r.number }) = selected mid new (selector_in pointer) write_end After r new (runs mid new (selector_in pointer) write_end After r) ∙ ap (λ s. Some (record { slot = s; number = r.number })) (sym e) in
-        let same : byte_in (bytes_at new.heap slot) i ≡ byte_in (bytes_at mid.heap slot) i = ap (λ b. byte_in b i) now
-        ∙ get-unwritten before (REACH * r.number + offset_in pointer) slice after w i (λ k byte place h. out byte (record { number = r.number; selected = at; index = k; place = place; has = h }))
-        ∙ ap (λ b. byte_in b i) (sym was) in
-        same ∙ agree slot i p (ap is_some (sym same) ∙ q)
-    | inr d ↦
-        let same : byte_in (bytes_at new.heap slot) i ≡ byte_in (bytes_at mid.heap slot) i = ap (λ b. byte_in b i) (others mid new (selector_in pointer) write_end After r slot d) in
-        same ∙ agree slot i p (ap is_some (sym same) ∙ q)
-  ]
+  write_keeps : (old : Handles) → ((q : ℕ) → HeapsAgree old.heap mid.heap q) → (slot i : ℕ) → is_some (get old slot i) ≡ true → is_some (get new slot i) ≡ true → ((byte : ℕ) → HasIn new slot i byte access → ⊥) → get new slot i ≡ get old slot i
+  write_keeps old agree slot i p q out = same ∙ (agree slot).one i p (ap is_some (sym same) ∙ q)
+    where
+      same : get new slot i ≡ get mid slot i
+      same = elim (cases_eq slot r.slot) [
+        | inl e ↦
+            let (before, after, had, has, w) = reached r in
+            ap (λ s. get new s i) e ∙ ap (λ b. byte_in b i) has
+            ∙ get-unwritten before (REACH * r.number + offset_in pointer) slice after w i (λ k byte place h. out byte (record { number = r.number; selected = selected r new (runs r) ∙ ap (λ s. Some (record { slot = s; number = r.number })) (sym e); index = k; place = place; has = h }))
+            ∙ ap (λ b. byte_in b i) (sym had) ∙ ap (λ s. get mid s i) (sym e)
+        | inr d ↦ ap (λ o. byte_in (bytes_in o) i) (r.others slot d)
+      ]
 
 -- And a read.
 module _ (old mid new : Handles) (pointer count : ℕ) (bytes : List ℕ) (agree : (q : ℕ) → HeapsAgree old.heap mid.heap q) (runs : mid.attributes ≡ old.attributes)
     (r : Reaches mid (selector_in pointer) (offset_in pointer + count) (λ begin before after. (after ≡ before) × (bytes ≡ part before (begin + offset_in pointer) count)) new) where
-  abbrev Same : ℕ → List ℕ → List ℕ → Type 0
-  Same begin before after = (after ≡ before) × (bytes ≡ part before (begin + offset_in pointer) count)
-
-  abbrev read_end : ℕ
-  read_end = offset_in pointer + count
-
   read_keeps : (q : ℕ) → HeapsAgree old.heap new.heap q
   read_keeps q = subst (Agree (bytes_at old.heap q)) (sym same) (agree q)
     where
       same : bytes_at new.heap q ≡ bytes_at mid.heap q
       same = elim (cases_eq q r.slot) [
-        | inl e ↦ let (before, after, had, has, b) = reached mid new (selector_in pointer) read_end Same r in ap (bytes_at new.heap) e ∙ has ∙ ap Some b.0 ∙ sym had ∙ ap (bytes_at mid.heap) (sym e)
-        | inr d ↦ others mid new (selector_in pointer) read_end Same r q d
+        | inl e ↦ let (before, after, had, has, b) = reached r in ap (bytes_at new.heap) e ∙ has ∙ ap Some b.0 ∙ sym had ∙ ap (bytes_at mid.heap) (sym e)
+        | inr d ↦ ap bytes_in (r.others q d)
       ]
 
-  read_gives : (slot i byte : ℕ) → is_some (byte_in (bytes_at old.heap slot) i) ≡ true → HasIn old slot i byte (record { pointer = pointer; bytes = bytes }) → byte_in (bytes_at old.heap slot) i ≡ Some byte
+  read_gives : (slot i byte : ℕ) → is_some (get old slot i) ≡ true → HasIn old slot i byte (record { pointer = pointer; bytes = bytes }) → get old slot i ≡ Some byte
   read_gives slot i byte p h =
-      let (before, after, had, has, b) = reached mid new (selector_in pointer) read_end Same r in
-      let at = here mid new (selector_in pointer) read_end Same r old (sym runs) (record { slot = slot; number = h.number }) h.selected in
-      let short : h.index < count = shorter before b.1 in
-      let now : byte_in (bytes_at mid.heap slot) i ≡ Some byte = ap (λ (p : Part). byte_in (bytes_at mid.heap p.slot) i) at ∙ ap (λ b. byte_in b i) had ∙ ap (slice_get before) (h.place ∙ ap (λ (p : Part). REACH * p.number + offset_in pointer + h.index) at)
-      ∙ sym (get-part before (REACH * r.number + offset_in pointer) count h.index short) ∙ ap (λ l. slice_get l h.index) (sym b.1) ∙ h.has in
-      sym (agree slot i p (ap is_some now)) ∙ now
+      let (before, after, had, has, b) = reached r in
+      let at = here r old (sym runs) h.selected in
+      let now : get mid slot i ≡ Some byte = ap (λ (p : Part). get mid p.slot i) at ∙ ap (λ b. byte_in b i) had ∙ ap (slice_get before) (h.place ∙ ap (λ (p : Part). REACH * p.number + offset_in pointer + h.index) at)
+      ∙ sym (get-part before (REACH * r.number + offset_in pointer) count h.index (shorter before b.1)) ∙ ap (λ l. slice_get l h.index) (sym b.1) ∙ h.has in
+      sym ((agree slot).one i p (ap is_some now)) ∙ now
     where
       shorter : (before : List ℕ) → bytes ≡ part before (REACH * r.number + offset_in pointer) count → h.index < count
-      shorter before e = let n : h.index < length bytes = slice_get_within bytes h.index byte h.has in let m : length
-          bytes ≡ min count (length (drop (REACH * r.number + offset_in pointer) before)) = ap length e ∙ length-take
-          count (drop (REACH * r.number + offset_in pointer) before) in omega (arith, n, m)
+      shorter before e = omega (arith, slice_get_within bytes h.index byte h.has, ap length e ∙ length-take count (drop (REACH * r.number + offset_in pointer) before))
 
 far_keeps_by : (old : LoadingWorld) (command : FarCommand) (reply : Reply) (new : LoadingWorld) → Made old command reply new → KeepsSegments old.handles new.handles (OfFar command) reply
 far_keeps_by old command reply new m = turn m.made
@@ -225,30 +213,27 @@ far_keeps_by old command reply new m = turn m.made
     unchanged e q = subst (λ (h : Handles). HeapsAgree old.handles.heap h.heap q) (sym e) (m.agree q)
 
     failed : (command : FarCommand) (fault : FetchFault) → new.handles ≡ m.mid → Keeps command (Failed fault)
-    failed (Read pointer count) fault e = calm old.handles new.handles (OfFar (Read pointer count)) (Failed fault) refl refl (λ q. refl) (unchanged e)
-    failed (Write pointer bytes) fault e = calm old.handles new.handles (OfFar (Write pointer bytes)) (Failed fault) refl refl (λ q. refl) (unchanged e)
-    failed (Fill pointer count byte) fault e = calm old.handles new.handles (OfFar (Fill pointer count byte)) (Failed fault) refl refl (λ q. refl) (unchanged e)
-
-    faulted : (command : FarCommand) (fault : FarFault) → new.handles ≡ m.mid → Keeps command (reply_of_far (Fault fault))
-    faulted (Read pointer count) fault e = calm old.handles new.handles (OfFar (Read pointer count)) (reply_of_far (Fault fault)) refl refl (λ q. refl) (unchanged e)
-    faulted (Write pointer bytes) fault e = calm old.handles new.handles (OfFar (Write pointer bytes)) (reply_of_far (Fault fault)) refl refl (λ q. refl) (unchanged e)
-    faulted (Fill pointer count byte) fault e = calm old.handles new.handles (OfFar (Fill pointer count byte)) (reply_of_far (Fault fault)) refl refl (λ q. refl) (unchanged e)
+    failed (Read pointer count) fault e = calm refl refl (λ q. refl) (unchanged e)
+    failed (Write pointer bytes) fault e = calm refl refl (λ q. refl) (unchanged e)
+    failed (Fill pointer count byte) fault e = calm refl refl (λ q. refl) (unchanged e)
 
     puts : (command : FarCommand) (pointer : ℕ) (slice : List ℕ) → written (OfLoading (OfFar command)) (reply_of_far Done) ≡ Some (record { pointer = pointer; bytes = slice }) → read (OfLoading (OfFar command)) (reply_of_far Done) ≡ None
         → Reaches m.mid (selector_in pointer) (offset_in pointer + length slice) (λ begin before after. IsWritten before (begin + offset_in pointer) slice after) new.handles → Keeps command (reply_of_far Done)
     puts command pointer slice w g r = record {
-      put = λ slot i byte p h. write_puts old.handles m.mid new.handles pointer slice m.agree r slot i byte (subst (λ a. IsSomeAnd a (HasIn new.handles slot i byte)) w h);
+      put = λ slot i byte p h. write_puts pointer slice r slot i byte (subst (λ a. IsSomeAnd a (HasIn new.handles slot i byte)) w h);
       got = λ slot i byte p h. absurd (subst (λ a. IsSomeAnd a (HasIn old.handles slot i byte)) g h);
-      kept = λ slot i p q out. write_keeps old.handles m.mid new.handles pointer slice m.agree r slot i p q (λ byte h. out byte (subst (λ a. IsSomeAnd a (HasIn new.handles slot i byte)) (sym w) h));
+      kept = λ slot i p q out. write_keeps pointer slice r old.handles m.agree slot i p q (λ byte h. out byte (subst (λ a. IsSomeAnd a (HasIn new.handles slot i byte)) (sym w) h));
       free = λ slot. inl refl;
     }
 
     answered : (command : FarCommand) (answer : FarAnswer) → FarEffect m.mid command answer new.handles → Keeps command (reply_of_far answer)
-    answered command (Fault fault) e = faulted command fault e
+    answered (Read pointer count) (Fault fault) e = calm refl refl (λ q. refl) (unchanged e)
+    answered (Write pointer bytes) (Fault fault) e = calm refl refl (λ q. refl) (unchanged e)
+    answered (Fill pointer count byte) (Fault fault) e = calm refl refl (λ q. refl) (unchanged e)
     answered (Read pointer count) (Bytes bytes) r = record {
       put = λ slot i byte p h. absurd h;
       got = λ slot i byte p h. read_gives old.handles m.mid new.handles pointer count bytes m.agree m.runs r slot i byte p h;
-      kept = λ slot i p q out. read_keeps old.handles m.mid new.handles pointer count bytes m.agree m.runs r slot i p q;
+      kept = λ slot i p q out. (read_keeps old.handles m.mid new.handles pointer count bytes m.agree m.runs r slot).one i p q;
       free = λ slot. inl refl;
     }
     answered (Write pointer slice) Done r = puts (Write pointer slice) pointer slice refl refl r
@@ -261,9 +246,6 @@ far_keeps_by old command reply new m = turn m.made
     turn (inl (answer, e, effect)) = subst (Keeps command) (sym e) (answered command answer effect)
     turn (inr (fault, e, same)) = subst (Keeps command) (sym e) (failed command fault same)
 
-pub far_keeps : (old : LoadingWorld) → IsLoadingWorld old → (command : FarCommand) (reply : Reply) (new : LoadingWorld) → FarStep AnyFetches old command reply new → KeepsSegments old.handles new.handles (OfFar command) reply
-far_keeps old is command reply new step = far_keeps_by old command reply new (far_made old is command reply new step)
-
 -- Other steps.
 
 -- a resize is the call that it stands for, with the answer that is printed
@@ -272,29 +254,25 @@ record ResizeCall (old : Handles) (command : ResizeCommand) (reply : Reply) (nex
   pub says : answer_in reply ≡ Some answer
   pub step : CallStep old (call_of command) answer next
 
-resize_call : (old : Handles) (command : ResizeCommand) (reply : Reply) (next : Handles) → ResizeReplies old command reply next → ResizeCall old command reply next
-resize_call old command reply next step = printed (answer_in reply) refl step
+-- so it keeps segments
+resizes_keep : (old new : Handles) → AreHandles old → (command : ResizeCommand) (reply : Reply) → ResizeReplies old command reply new → KeepsSegments old new (OfResizes command) reply
+resizes_keep old new is command reply step = quiet refl refl (λ q. subst (λ s. Agree (bytes_at old.heap q) (bytes_at new.heap s)) (sym (to q)) (call_agrees old new is (call_of command) call.answer call.step q))
+    (λ q. subst (λ s. (s ≡ q) ⊎ (object_at old.heap s ≡ None)) (sym (to q)) (goes_free old new is (call_of command) call.answer call.step q))
   where
-    by : (command : ResizeCommand) (answer : Answer) → ResizeStep old command answer next → CallStep old (call_of command) answer next
+    by : (command : ResizeCommand) (answer : Answer) → ResizeStep old command answer new → CallStep old (call_of command) answer new
     by (GlobalReAlloc handle size flags) (Word answer) step = step
     by (GlobalDiscard handle) (Word answer) step = step
     by command answer step = absurd step
 
-    printed : (p : Option Answer) → answer_in reply ≡ p → IsSomeAnd p (λ answer. ResizeStep old command answer next) → ResizeCall old command reply next
+    printed : (p : Option Answer) → answer_in reply ≡ p → IsSomeAnd p (λ answer. ResizeStep old command answer new) → ResizeCall old command reply new
     printed None e h = absurd h
     printed (Some answer) e h = record { answer = answer; says = e; step = by command answer h }
 
--- so it keeps segments
-resizes_keep : (old new : Handles) → AreHandles old → (command : ResizeCommand) (reply : Reply) → ResizeReplies old command reply new → KeepsSegments old new (OfResizes command) reply
-resizes_keep old new is command reply step = quiet old new (OfResizes command) reply refl refl
-    (λ q. subst (λ s. Agree (bytes_at old.heap q) (bytes_at new.heap s)) (sym (goes q)) (call_agrees old new is (call_of command) call.answer call.step q))
-    (λ q. subst (λ s. (s ≡ q) ⊎ (object_at old.heap s ≡ None)) (sym (goes q)) (goes_free old new is (call_of command) call.answer call.step q))
-  where
     call : ResizeCall old command reply new
-    call = resize_call old command reply new step
+    call = printed (answer_in reply) refl step
 
-    goes : (q : ℕ) → slot_after_step old (OfLoading (OfResizes command)) reply new q ≡ next_slot old (call_of command) call.answer new q
-    goes q = ap (λ (p : Option Answer). elim p as (λ _. ℕ) [ None ↦ q | Some answer ↦ next_slot old (call_of command) answer new q ]) call.says
+    to : (q : ℕ) → goes old new (OfResizes command) reply q ≡ next_slot old (call_of command) call.answer new q
+    to q = ap (λ (p : Option Answer). elim p as (λ _. ℕ) [ None ↦ q | Some answer ↦ next_slot old (call_of command) answer new q ]) call.says
 
 module _ (old new : LoadingWorld) (is : IsLoadingWorld old) (reply : Reply) (q : ℕ) where
   abbrev Agrees : LoadingWorld → Type 0
@@ -308,12 +286,8 @@ module _ (old new : LoadingWorld) (is : IsLoadingWorld old) (reply : Reply) (q :
   lock_agrees : (handle : ℕ) → LocksResource AnyFetches old handle reply new → Agrees new
   lock_agrees handle step = by_slot (slot_of_resource old handle) step
     where
-      itself : Agrees old
-      itself = agree_same (bytes_at old.handles.heap q) (bytes_at old.handles.heap q) refl
-
       locks : (w : LoadingWorld) → Agrees w → Agrees (locked w handle).1
-      locks w a = subst (Agree (bytes_at old.handles.heap q)) (sym ((contents w.handles (global_lock w.handles handle).1 (Calls (GlobalLock handle)) (global_lock w.handles handle).0
-          (call_outcome w.handles (global_lock w.handles handle).1 (GlobalLock handle) (global_lock w.handles handle).0 (refl, refl)) refl).bytes q)) a
+      locks w a = let (answer, next) = global_lock w.handles handle in subst (Agree (bytes_at old.handles.heap q)) (sym ((contents w.handles next (Calls (GlobalLock handle)) answer (call_outcome w.handles next (GlobalLock handle) answer (refl, refl)) refl).bytes q)) a
 
       becomes : (end : Reply × LoadingWorld) → ◌≡◌ {A = Reply × LoadingWorld} (reply, new) end → Agrees end.1 → Agrees new
       becomes end e a = subst (λ (p : Reply × LoadingWorld). Agrees p.1) (sym e) a
@@ -324,33 +298,36 @@ module _ (old new : LoadingWorld) (is : IsLoadingWorld old) (reply : Reply) (q :
       after (Some faults.Store) next a = a
       after (Some faults.Damaged) next a = a
 
-      by_bytes : (x : ℕ × Load) (p : Option (List ℕ)) → MatchOption p ((fault : Option FetchFault) × (next : LoadingWorld) × AnyFetches old x.0 fault next × ((reply, new) ≡ lock_outcome fault handle next)) (λ _. (reply, new) ≡ locked old handle) → Agrees new
-      by_bytes x None f = becomes (lock_outcome f.0 handle f.1) f.3 (after f.0 f.1 (fetch_agrees old is x.0 f.0 f.1 f.2 q))
-      by_bytes x (Some bytes) f = becomes (locked old handle) f (locks old itself)
+      Locked : ℕ → Option (List ℕ) → Type 0
+      Locked slot p = MatchOption p ((fault : Option FetchFault) × (next : LoadingWorld) × AnyFetches old slot fault next × ((reply, new) ≡ lock_outcome fault handle next)) (λ _. (reply, new) ≡ locked old handle)
 
-      by_slot : (p : Option (ℕ × Load)) → MatchOption p ((reply ≡ Dword 0) × (new ≡ old)) (λ x. MatchOption (bytes_at old.handles.heap x.0)
-          ((fault : Option FetchFault) × (next : LoadingWorld) × AnyFetches old x.0 fault next × ((reply, new) ≡ lock_outcome fault handle next)) (λ _. (reply, new) ≡ locked old handle)) → Agrees new
-      by_slot None f = subst Agrees (sym f.1) itself
-      by_slot (Some x) f = by_bytes x (bytes_at old.handles.heap x.0) f
+      by_bytes : (slot : ℕ) (p : Option (List ℕ)) → Locked slot p → Agrees new
+      by_bytes slot None f = becomes (lock_outcome f.0 handle f.1) f.3 (after f.0 f.1 (fetch_agrees old is slot f.0 f.1 f.2 q))
+      by_bytes slot (Some bytes) f = becomes (locked old handle) f (locks old (agree_same refl))
+
+      by_slot : (p : Option (ℕ × Load)) → MatchOption p ((reply ≡ Dword 0) × (new ≡ old)) (λ x. Locked x.0 (bytes_at old.handles.heap x.0)) → Agrees new
+      by_slot None f = subst Agrees (sym f.1) (agree_same refl)
+      by_slot (Some x) f = by_bytes x.0 (bytes_at old.handles.heap x.0) f
 
   -- a step that is about no object
   stands_by : (command : LoadingCommand) → AnyStep old command reply new → (IsStepAbout old.handles command q → ⊥) → Agrees new
   stands_by command step out = turn (object_at old.handles.heap q) refl
     where
       turn : (p : Option Object) → object_at old.handles.heap q ≡ p → Agrees new
-      turn None e = had_no_object old.handles.heap new.handles.heap q e
-      turn (Some o) e = elim (bystanders_law old new command reply q is step (ap is_some e) out) [
-        | inl kept ↦ kept_agrees old.handles.heap new.handles.heap q kept
-        | inr gone ↦ no_object old.handles.heap new.handles.heap q gone.0
-      ]
+      turn None e = had_no_object e
+      turn (Some o) e = elim (bystanders_law old new command reply q is step (ap is_some e) out) [ inl kept ↦ kept_agrees old.handles.heap new.handles.heap q kept | inr gone ↦ no_object gone.0 ]
 
-pub loading_keeps : (old new : LoadingWorld) → IsLoadingWorld old → (command : LoadingCommand) (reply : Reply) → AnyStep old command reply new → KeepsSegments old.handles new.handles command reply
-loading_keeps old new is (OfHandles command) reply step = calm old.handles new.handles (OfHandles command) reply refl refl (λ q. refl) (λ q. let f = step.step in let c = answered old is command reply f.0 f.1 in called old new is reply q command c.0 f.0 c.1 (ap (λ (w : LoadingWorld). w.handles) f.2))
-loading_keeps old new is (OfResizes command) reply step = let f = step.step in subst (λ (h : Handles). KeepsSegments old.handles h (OfResizes command) reply) (sym (ap (λ (w : LoadingWorld). w.handles) f.2)) (resizes_keep old.handles f.0 is.handles command reply f.1)
-loading_keeps old new is (OfFar command) reply step = far_keeps old is command reply (record new { failures = old.failures }) step.step
-loading_keeps old new is (OfModules command) reply step = calm old.handles new.handles (OfModules command) reply refl refl (λ q. refl) (λ q. stands_by old new is reply q (OfModules command) step (λ about. about))
-loading_keeps old new is (OfResources (LockResource handle)) reply step = calm old.handles new.handles (OfResources (LockResource handle)) reply refl refl (λ q. refl) (λ q. lock_agrees old (record new { failures = old.failures }) is reply q handle step.step)
-loading_keeps old new is (OfResources (FindResource handle name kind)) reply step = calm old.handles new.handles (OfResources (FindResource handle name kind)) reply refl refl (λ q. refl) (λ q. stands_by old new is reply q (OfResources (FindResource handle name kind)) step (λ about. about))
-loading_keeps old new is (OfResources (LoadResource handle place)) reply step = calm old.handles new.handles (OfResources (LoadResource handle place)) reply refl refl (λ q. refl) (λ q. stands_by old new is reply q (OfResources (LoadResource handle place)) step (λ about. about))
-loading_keeps old new is (OfResources (FreeResource handle)) reply step = calm old.handles new.handles (OfResources (FreeResource handle)) reply refl refl (λ q. refl) (λ q. stands_by old new is reply q (OfResources (FreeResource handle)) step (λ about. about))
-loading_keeps old new is (OfResources (SizeofResource handle place)) reply step = calm old.handles new.handles (OfResources (SizeofResource handle place)) reply refl refl (λ q. refl) (λ q. stands_by old new is reply q (OfResources (SizeofResource handle place)) step (λ about. about))
+module _ (old new : LoadingWorld) (is : IsLoadingWorld old) where
+  idle : {command : LoadingCommand} {reply : Reply} → AnyStep old command reply new → ((q : ℕ) → IsStepAbout old.handles command q → ⊥) → (q : ℕ) → HeapsAgree old.handles.heap new.handles.heap q
+  idle {command} {reply} step out q = stands_by old new is reply q command step (out q)
+
+  pub loading_keeps : (command : LoadingCommand) (reply : Reply) → AnyStep old command reply new → KeepsSegments old.handles new.handles command reply
+  loading_keeps (OfHandles command) reply step = calm refl refl (λ q. refl) (λ q. let f = step.step in let c = answered old is command reply f.0 f.1 in called old new is reply q command c.0 f.0 c.1 (ap handles_of f.2))
+  loading_keeps (OfResizes command) reply step = let f = step.step in subst (λ (h : Handles). KeepsSegments old.handles h (OfResizes command) reply) (sym (ap handles_of f.2)) (resizes_keep old.handles f.0 is.handles command reply f.1)
+  loading_keeps (OfFar command) reply step = let after = record new { failures = old.failures } in far_keeps_by old command reply after (far_made old is command reply after step.step)
+  loading_keeps (OfModules command) reply step = calm refl refl (λ q. refl) (idle step (λ q about. about))
+  loading_keeps (OfResources (LockResource handle)) reply step = calm refl refl (λ q. refl) (λ q. lock_agrees old (record new { failures = old.failures }) is reply q handle step.step)
+  loading_keeps (OfResources (FindResource handle name kind)) reply step = calm refl refl (λ q. refl) (idle step (λ q about. about))
+  loading_keeps (OfResources (LoadResource handle place)) reply step = calm refl refl (λ q. refl) (idle step (λ q about. about))
+  loading_keeps (OfResources (FreeResource handle)) reply step = calm refl refl (λ q. refl) (idle step (λ q about. about))
+  loading_keeps (OfResources (SizeofResource handle place)) reply step = calm refl refl (λ q. refl) (idle step (λ q about. about))
