@@ -5,7 +5,10 @@ use w16_options::{Options, parse};
 
 macro_rules! options {
     ($memory:expr, $selectors:expr, $dir:expr, $script:expr) => {
-        Options { memory: $memory, selectors: $selectors, dir: $dir, script: $script }
+        options!($memory, $selectors, $dir, $script, false)
+    };
+    ($memory:expr, $selectors:expr, $dir:expr, $script:expr, $explain:expr) => {
+        Options { memory: $memory, selectors: $selectors, dir: $dir, script: $script, explain: $explain }
     };
 }
 
@@ -57,6 +60,10 @@ const READ: &[(&[&str], Options<'static>)] = &[
         options!(1_048_576, 1024, "modules", None),
     ),
     (
+        &["w16heap", "--explain", "tour.txt"],
+        options!(1_048_576, 1024, ".", Some("tour.txt"), true),
+    ),
+    (
         &["w16heap", "tour.txt", "--dir=/old/modules"],
         options!(1_048_576, 1024, "/old/modules", Some("tour.txt")),
     ),
@@ -82,6 +89,10 @@ const REFUSED: &[(&[&str], ErrorKind, i32)] = &[
     (&["w16heap", "--memory", "many"], ValueValidation, 2),
     (&["w16heap", "--memory", "-32"], UnknownArgument, 2),
     (&["w16heap", "--memory", ""], ValueValidation, 2),
+    (&["w16heap", "--memory", "31"], ValueValidation, 2),
+    (&["w16heap", "--memory", "16777217"], ValueValidation, 2),
+    (&["w16heap", "--selectors", "0"], ValueValidation, 2),
+    (&["w16heap", "--selectors", "8161"], ValueValidation, 2),
     (
         &["w16heap", "--selectors", "4294967296"],
         ValueValidation,

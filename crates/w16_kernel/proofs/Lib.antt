@@ -7,3 +7,4 @@ pub mod Refetching
 pub mod Running
 pub mod Spared
 pub mod Stepping
+pub mod Whys

@@ -11,6 +11,8 @@ ghost use Rattle.w16_kernel.specs.Parts.{KernelStep};
 ghost use Rattle.w16_kernel.specs.Runs.{command_of, reply_of, answer_of, IsCall, IsReply, TakesMemory};
 ghost use Rattle.w16_kernel.specs.Stops.{StopsEarly};
 
+pub mod why;
+
 use crate::call::{Answer, Call, MOST_READ, Reply};
 use crate::growing::{AddFault, GrowingStore};
 use crate::library::Library;

@@ -1,9 +1,13 @@
 //! The command line of `w16heap`.
 #![tactic(auto)]
 
-use clap::{Arg, Command, Error, value_parser};
+ghost use Rattle.std.specs.Prelude.{◌≡◌, false};
+ghost use Rattle.std.specs.Range.{range_inclusive_exhausted};
+
+use clap::{Arg, ArgAction, Command, Error, value_parser};
 use std::alloc::{AllocError, Global};
 use std::convert::AsStr;
+use std::ops::RangeInclusive;
 
 /// What the command line asks for.
 #[derive(Debug, Clone, Copy, PartialEq, Eq, Drop)]
@@ -16,6 +20,8 @@ pub struct Options<'a> {
     pub dir: &'a str,
     /// The script's path; standard input without one.
     pub script: Option<&'a str>,
+    /// Whether what is refused is explained on standard error.
+    pub explain: bool,
 }
 
 /// The memory's size where none is asked for, in bytes.
@@ -33,6 +39,9 @@ const SELECTORS_HELP: &str = "How many objects there may be at once, from 1 to 8
 
 const DIR_HELP: &str = "The folder of module files";
 
+const EXPLAIN_HELP: &str =
+    "Says on standard error what is wrong in bad lines, and why calls are refused";
+
 const SCRIPT_HELP: &str = "The script; standard input without it, or where it is -";
 
 /// The program's version.
@@ -44,12 +53,20 @@ const EXAMPLES: &str = "Examples:
   echo 'GlobalAlloc 2 100' | w16heap --memory 4096 --selectors 16
   w16heap - < examples/tour.txt";
 
-/// An option with a number, which is `value` where it isn't given.
-fn number<'a>(alloc: Global, name: &'a str, value: &'a str, help: &'a str) -> Arg<'a> {
+/// An option with a number in a range, which is `value` where it isn't given.
+fn number<'a>(
+    alloc: Global,
+    name: &'a str,
+    value: &'a str,
+    range: RangeInclusive<i64>,
+    help: &'a str,
+) -> Arg<'a>
+    requires { range_inclusive_exhausted range ≡ false }
+{
     Arg::new(alloc, name)
         .long(name)
         .value_name("N")
-        .value_parser(value_parser!(u32))
+        .value_parser(value_parser!(u32).range(range))
         .default_value(value)
         .help(help)
 }
@@ -69,9 +86,15 @@ fn command<'a>(alloc: Global) -> Result<Command<'a>, AllocError> {
         .version(VERSION)
         .about("Runs a script of memory calls of Windows 3.1 and prints one reply for each")
         .after_help(EXAMPLES)
-        .arg(number(alloc, "memory", MEMORY, MEMORY_HELP))?
-        .arg(number(alloc, "selectors", SELECTORS, SELECTORS_HELP))?
+        .arg(number(alloc, "memory", MEMORY, 32..=16_777_216, MEMORY_HELP))?
+        .arg(number(alloc, "selectors", SELECTORS, 1..=8160, SELECTORS_HELP))?
         .arg(dir(alloc))?
+        .arg(
+            Arg::new(alloc, "explain")
+                .long("explain")
+                .action(ArgAction::SetTrue)
+                .help(EXPLAIN_HELP),
+        )?
         .arg(Arg::new(alloc, "SCRIPT").help(SCRIPT_HELP))
 }
 
@@ -84,5 +107,6 @@ pub fn parse<'a, S: AsStr>(alloc: Global, words: &'a [S]) -> Result<Options<'a>,
         selectors: matches.get_one("selectors").unwrap_or_default(),
         dir: matches.get_str("dir").unwrap_or(DIR),
         script: matches.get_str("SCRIPT").filter(|path| *path != "-"),
+        explain: matches.get_flag("explain"),
     })
 }

@@ -4,6 +4,7 @@ pub mod Words
 pub mod Numbers
 pub mod Grammar
 pub mod Lines
+pub mod Expected
 pub mod Laws
 pub mod Written
 pub mod Printed

@@ -3,6 +3,7 @@
 
 mod arguments;
 mod bytes;
+mod expected;
 mod feed;
 mod laws;
 mod line;
@@ -20,6 +21,7 @@ mod words;
 mod write;
 
 pub use bytes::MOST_BYTES;
+pub use expected::{Expected, why_bad};
 pub use laws::{one_reading, plain_bytes};
 pub use line::{Line, read_line};
 pub use outcome::{Ended, RunFault};

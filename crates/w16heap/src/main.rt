@@ -1,14 +1,11 @@
 //! `w16heap`: runs a script of calls on a new machine over the module files of a folder, and prints one reply for each.
 #![tactic(auto)]
 
-mod fault;
-mod play;
-
 use clap::Error;
 use clap::error::ErrorKind;
-use fault::Fault;
 use std::process::ExitCode;
 use std::rt::Env;
+use w16_command::{Fault, play, report};
 use w16_options::parse;
 
 /// The words of the command line, the program's name first.
@@ -20,12 +17,12 @@ fn words_of(rt: &(impl Env + AllocGlobal)) -> std::io::Result<Vec<String>> {
 /// Prints what `clap` says, and answers its status; 3 where it had no memory, and 1 where help or the version couldn't be printed.
 fn refuse(rt: &HostRuntime, error: &Error) -> ExitCode {
     if error.kind() == ErrorKind::OutOfMemory {
-        return fault::report(rt, Fault::Memory);
+        return report(rt, Fault::Memory);
     }
     let printed = error.print(rt);
     // A wrong command line keeps its status where standard error is gone.
     if printed.is_err() && !error.use_stderr() {
-        return fault::report(rt, Fault::Write);
+        return report(rt, Fault::Write);
     }
     ExitCode::from(error.exit_code() as u8)
 }
@@ -33,14 +30,14 @@ fn refuse(rt: &HostRuntime, error: &Error) -> ExitCode {
 fn main(rt: HostRuntime) -> ExitCode {
     let words = match words_of(&rt) {
         Ok(words) => words,
-        Err(error) => return fault::report(&rt, Fault::from(error)),
+        Err(error) => return report(&rt, Fault::from(error)),
     };
     let options = match parse(rt.alloc(), words.as_slice()) {
         Ok(options) => options,
         Err(error) => return refuse(&rt, &error),
     };
-    match play::play(&rt, &options) {
+    match play(&rt, &options) {
         Ok(()) => ExitCode::SUCCESS,
-        Err(fault) => fault::report(&rt, fault),
+        Err(fault) => report(&rt, fault),
     }
 }

@@ -45,7 +45,7 @@ fn command<'a>(alloc: Global) -> Result<Command<'a>, AllocError> {
     let folder = Arg::new(alloc, "extract")
         .long("extract")
         .value_name("DIR")
-        .help("Writes each resource into a file of its own in this folder");
+        .help("Writes each resource into a file of its own in this folder, which must exist");
     let force = switch(alloc, "force", "Writes over files that are there").requires_arg("extract")?;
     let files = Arg::new(alloc, "FILE")
         .required(true)

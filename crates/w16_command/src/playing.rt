@@ -1,0 +1,166 @@
+//! Runs of a script on a new machine.
+ghost use Rattle.std.specs.Prelude.{◌≡◌, IfOk, IfErr, Err};
+ghost use Rattle.std.specs.String.{string_bytes};
+ghost use Rattle.w16_machine.specs.World.{empty_world};
+ghost use Rattle.w16_kernel.specs.Sizes.{IsMemorySize, IsSelectorCount};
+ghost use Rattle.w16_command.specs.Faults.{IsOfFiles};
+
+use crate::explain::{NotedMachine, Source};
+use crate::fault::Fault;
+use crate::lines::Lines;
+use std::alloc::Global;
+use std::cell::RefCell;
+use std::fs::{self, File};
+use std::io::{self, BufWriter, Error, Read, Write};
+use w16_kernel::{Kernel, Machine, check_sizes};
+use w16_options::Options;
+use w16_script::run;
+use w16_store::{DirFault, DirStore, Store, SystemDisk};
+
+/// Why a folder can't be listed: the system is asked once more for its reason.
+fn unlisted<'a>(rt: &HostRuntime, folder: &'a str) -> Fault<'a>
+    ensures { IsOfFiles folder.now result }
+{
+    let error = match fs::read_dir(rt, folder) {
+        Ok(_) => Error::other("can't be listed"),
+        Err(error) => error,
+    };
+    Fault::of_files(folder, error)
+}
+
+/// The module files of the folder that the options name, as it holds them now. None of them is opened yet.
+fn module_files<'a>(
+    rt: &HostRuntime,
+    options: &Options<'a>,
+) -> Result<DirStore<SystemDisk<HostRuntime>>, Fault<'a>>
+    ensures ok { IfOk result (λ store. string_bytes store.disk.folder ≡ options.now.dir.now) }
+    ensures err { IfErr result (IsOfFiles options.now.dir.now) }
+{
+    match DirStore::from_folder(rt, rt.alloc(), options.dir) {
+        Ok(store) => Ok(store),
+        Err(DirFault::Folder) => Err(unlisted(rt, options.dir)),
+        Err(DirFault::Memory) => Err(Fault::Memory),
+    }
+}
+
+/// The machine that the options ask for, over a store of module files, in which nothing is allocated and nothing loaded. An error is want of
+/// memory.
+fn machine<'a, S: Store + Drop>(
+    alloc: Global,
+    options: &Options<'a>,
+    store: S,
+) -> Result<Kernel<S>, Fault<'a>>
+    requires { IsMemorySize options.now.memory × IsSelectorCount options.now.selectors }
+    ensures ok { IfOk result (λ kernel. kernel ≡ empty_world options.now.memory options.now.selectors (S.files store) (S.failures store)) }
+    ensures err { IfErr result (λ fault. fault ≡ Fault.Memory) }
+{
+    Kernel::new(alloc, options.memory, options.selectors, store).map_err(|_| Fault::Memory)
+}
+
+/// Runs the script of a path, and flushes what was replied before the run's own fault is told: a failure there is the write fault.
+fn run_flushed<'a, R: Read + Drop>(
+    alloc: Global,
+    path: &'a str,
+    source: &mut Source<'_, R, HostRuntime>,
+    writer: &mut impl Write,
+    kernel: &mut impl Machine,
+) -> Result<(), Fault<'a>> {
+    let ended = run(alloc, source, writer, kernel);
+    if writer.flush().is_err() {
+        return Err(Fault::Write);
+    }
+    match ended {
+        Ok(_) => Ok(()),
+        Err(fault) => Err(Fault::of_run(fault, path, source.fault)),
+    }
+}
+
+/// Runs a script, whose replies go to standard output.
+fn run_printed<'a, R: Read + Drop>(
+    rt: &HostRuntime,
+    path: &'a str,
+    source: &mut Source<'_, R, HostRuntime>,
+    kernel: &mut impl Machine,
+) -> Result<(), Fault<'a>> {
+    match BufWriter::new(rt.alloc(), io::writer(rt)) {
+        Ok(mut writer) => run_flushed(rt.alloc(), path, source, &mut writer, kernel),
+        Err(_) => Err(Fault::Memory),
+    }
+}
+
+/// The same, and says why calls are refused and what is wrong in bad lines.
+fn run_explained<'a, S: Store + Drop, R: Read + Drop>(
+    rt: &HostRuntime,
+    path: &'a str,
+    reader: R,
+    kernel: Kernel<S>,
+) -> Result<(), Fault<'a>> {
+    let Ok(lines) = Lines::new(rt.alloc()) else {
+        return Err(Fault::Memory);
+    };
+    let lines = &RefCell::new(lines);
+    let mut source = Source::new(rt, reader, Some(lines));
+    run_printed(
+        rt,
+        path,
+        &mut source,
+        &mut NotedMachine { kernel, lines, rt },
+    )
+}
+
+/// Runs the script of a reader, which is called as its path, on a new machine over a store.
+fn run_script<'a, R: Read + Drop>(
+    rt: &HostRuntime,
+    options: &Options<'a>,
+    store: impl Store + Drop,
+    path: &'a str,
+    reader: R,
+) -> Result<(), Fault<'a>>
+    requires { IsMemorySize options.now.memory × IsSelectorCount options.now.selectors }
+{
+    match machine(rt.alloc(), options, store) {
+        Ok(kernel) if options.explain => run_explained(rt, path, reader, kernel),
+        Ok(mut kernel) => run_printed(rt, path, &mut Source::new(rt, reader, None), &mut kernel),
+        Err(fault) => Err(fault),
+    }
+}
+
+/// Runs the script of a file.
+fn run_file<'a>(
+    rt: &HostRuntime,
+    options: &Options<'a>,
+    store: impl Store + Drop,
+    path: &'a str,
+) -> Result<(), Fault<'a>>
+    requires { IsMemorySize options.now.memory × IsSelectorCount options.now.selectors }
+{
+    match File::open(rt, path) {
+        Ok(file) => run_script(rt, options, store, path, file),
+        Err(error) => Err(Fault::of_files(path, error)),
+    }
+}
+
+/// Does what the command line asks for, of sizes that a machine may have.
+fn play_sized<'a>(rt: &HostRuntime, options: &Options<'a>) -> Result<(), Fault<'a>>
+    requires { IsMemorySize options.now.memory × IsSelectorCount options.now.selectors }
+{
+    match module_files(rt, options) {
+        Ok(store) => match options.script {
+            Some(path) => run_file(rt, options, store, path),
+            None => run_script(rt, options, store, "standard input", rt.reader()),
+        },
+        Err(fault) => Err(fault),
+    }
+}
+
+/// Does what the command line asks for. A size that can't be is told first, then a folder that can't be listed, then a script that can't be
+/// opened, then want of memory for the machine.
+pub fn play<'a>(rt: &HostRuntime, options: &Options<'a>) -> Result<(), Fault<'a>>
+    ensures memory { (IsMemorySize options.now.memory → ⊥) → result ≡ Err (Fault.MemorySize options.now.memory) }
+    ensures selectors { IsMemorySize options.now.memory → (IsSelectorCount options.now.selectors → ⊥) → result ≡ Err (Fault.SelectorCount options.now.selectors) }
+{
+    match check_sizes(options.memory, options.selectors) {
+        Ok(()) => play_sized(rt, options),
+        Err(fault) => Err(Fault::of_sizes(fault, options)),
+    }
+}

@@ -1,0 +1,54 @@
+//! What is said of calls that are refused.
+use w16_kernel::{Call, Reply, Why};
+use w16_model::LARGEST_SIZE;
+
+/// What the number of a refused load says.
+fn of_load(number: u16) -> Option<&'static str> {
+    match number {
+        0 => Some("no room, no selector, no module handle, or 65000 uses"),
+        2 => Some("no such file"),
+        11 => Some("no module file that can be read here"),
+        12..=14 => Some("a module for another system"),
+        16 => Some("the application is loaded already"),
+        20 => Some("a module that it refers to can't be loaded"),
+        _ => None,
+    }
+}
+
+/// What is said of a call by its reply alone.
+fn of_reply(call: &Call<'_>, reply: &Reply<'_>) -> Option<&'static str> {
+    match (*call, *reply) {
+        (Call::LoadModule { .. } | Call::LoadLibrary { .. }, Reply::Word(number)) => {
+            of_load(number)
+        }
+        (Call::GlobalAlloc { size: 0, .. }, Reply::Word(0)) => Some(
+            "a fixed object of size 0, or no selector is free",
+        ),
+        (Call::GlobalReAlloc { size: 0, .. }, Reply::Word(0)) => {
+            Some("a size of 0 needs 0x0002 and a discardable object without locks")
+        }
+        (Call::GlobalAlloc { size, .. } | Call::GlobalReAlloc { size, .. }, Reply::Word(0))
+            if size > LARGEST_SIZE => { Some("more than 16711680 bytes") }
+        (Call::GlobalReAlloc { .. }, Reply::Word(0)) => Some(
+            "no room to grow, or no selector is free",
+        ),
+        (Call::GetModuleHandle { .. }, Reply::Word(0)) => Some("no module has the name"),
+        (Call::GetProcAddress { .. }, Reply::Dword(0)) => Some("no such module or entry"),
+        (Call::FindResource { .. }, Reply::Word(0)) => Some("no such module or resource"),
+        _ => None,
+    }
+}
+
+/// What is said of a call, by what the kernel found before it and its reply.
+pub fn reason(call: &Call<'_>, why: Option<Why>, reply: &Reply<'_>) -> Option<&'static str> {
+    match why {
+        Some(Why::BadHandle(_)) => Some("bad handle"),
+        Some(Why::BadSelector(_)) => Some("no object has the selector"),
+        Some(Why::Owned(_)) => Some("the object is a module's"),
+        Some(Why::Locked(_)) => Some("locked"),
+        Some(Why::NotDiscardable(_)) => Some("not discardable"),
+        Some(Why::NoBytes(_)) => Some("the object has no bytes"),
+        Some(Why::Limit(_, _)) => None,
+        None => of_reply(call, reply),
+    }
+}
