@@ -1,0 +1,7 @@
+use Rattle.std.proofs.Common.{◌≡◌, ◌++◌, take, string_bytes}
+use Rattle.std.specs.List.{flat_map}
+use Rattle.w16_picture.specs.Escape.{byte_text}
+use Rattle.w16_picture.proofs.escape.push_escaped.Given as goal
+
+abbrev pub invariant-loop-byte : goal.invariant-loop-byte
+invariant-loop-byte l = string_bytes l.out ≡ string_bytes l.initial.out ++ flat_map byte_text (take l.byte-index l.bytes)
