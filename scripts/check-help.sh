@@ -1,10 +1,10 @@
 #!/bin/sh
 # Compares the texts of scripts/help, which the launcher prints while a program isn't built, with what the programs print themselves.
-# usage: check-help.sh PROGRAM...    paths of built programs, whose file names are w16heap or w16ne; without one those that are built here
+# usage: check-help.sh PROGRAM...    paths of built programs, whose file names are w16heap, w16ne or w16map; without one those that are built here
 # It ends with 1 where something differs, and shows the difference.
 
 top=$(dirname "$(readlink -f "$0")")/..
-[ $# -gt 0 ] || for name in w16heap w16ne; do
+[ $# -gt 0 ] || for name in w16heap w16ne w16map; do
     [ ! -x "$top/crates/$name/out/$name" ] || set -- "$@" "$top/crates/$name/out/$name"
 done
 [ $# -gt 0 ] || { echo "check-help: no program is built, and none is named" >&2; exit 2; }
