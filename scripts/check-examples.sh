@@ -1,12 +1,14 @@
 #!/bin/sh
 # Runs each example and compares what it prints with the file that is kept beside it, and so each run that README.md shows.
-# usage: check-examples.sh W16HEAP [W16NE]    paths of the built programs; without the second the examples of w16ne are left out
+# usage: check-examples.sh W16HEAP [W16NE [W16MAP]]    paths of the built programs; those that aren't named have their examples left out
 # It ends with 1 where something differs, and shows the difference.
 
 [ $# -ge 1 ] || { sed -n '2,4s/^# //p' "$0" >&2; exit 2; }
 heap=$(realpath "$1") && [ -x "$heap" ] || { echo "check-examples: can't run $1" >&2; exit 2; }
 ne=
 [ $# -lt 2 ] || { ne=$(realpath "$2") && [ -x "$ne" ]; } || { echo "check-examples: can't run $2" >&2; exit 2; }
+map=
+[ $# -lt 3 ] || { map=$(realpath "$3") && [ -x "$map" ]; } || { echo "check-examples: can't run $3" >&2; exit 2; }
 cd "$(dirname "$0")/../examples" || exit 2
 room=$(mktemp -d) || exit 2
 trap 'rm -rf "$room"' EXIT
@@ -68,6 +70,10 @@ if [ -n "$ne" ]; then
     check tapp "$ne" "$room/modules/TAPP.EXE"
     check_fault
     check imports ./imports.sh "$ne" "$room/modules/TAPP.EXE" "$room/modules/TLIB.DLL" "$room/cut/TAPP.EXE"
+fi
+if [ -n "$map" ]; then
+    compare compaction.svg 0 "$map" --memory 512 compaction.txt
+    compare modules.svg 0 "$map" --memory 4096 --dir "$room/modules" modules.txt
 fi
 
 echo "check-examples: $passed passed, $failed failed"
