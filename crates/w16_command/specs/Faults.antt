@@ -2,8 +2,6 @@
 use Rattle.std.specs.Prelude.{ℕ, ◌≡◌, List}
 use Rattle.std.specs.Borrow.{Bor}
 use Rattle.std.specs.declared.io.Error.{Error}
-use Rattle.w16_kernel.specs.declared.sizes.SizeFault.{SizeFault}
-use Rattle.w16_kernel.specs.declared.sizes.SizeFault.TheVariants as size
 use Rattle.w16_script.specs.declared.outcome.RunFault.{RunFault}
 use Rattle.w16_script.specs.declared.outcome.RunFault.TheVariants as run
 use Rattle.w16_script.specs.Status as script
@@ -26,11 +24,6 @@ of_run run.Read path error = fault.Read path error
 of_run run.Write path error = fault.Write
 of_run run.Memory path error = fault.Memory
 of_run run.TooLong path error = fault.TooLong path
-
--- sizes that no machine has are the program's fault of the same name, with what was asked for
-abbrev pub of_sizes : SizeFault → ℕ → ℕ → Fault
-of_sizes size.MemorySize memory selectors = fault.MemorySize memory
-of_sizes size.SelectorCount memory selectors = fault.SelectorCount selectors
 
 -- what a path names can't be had: it can't be read, and the fault says so of this path, or there is no memory
 abbrev pub IsOfFiles : List ℕ → Fault → Type 0

@@ -11,7 +11,7 @@ use w16_kernel::{Call, Kernel, MOST_READ, Machine, Reply, Why};
 use w16_model::{FarFault, Item};
 use w16_store::Store;
 
-/// The reader of a script. It keeps why its last failed read failed, and notes what it reads where that is asked for.
+/// The reader of a script. It keeps why its last failed read failed, and notes what it reads, if that is asked for.
 #[derive(Drop)]
 pub struct Source<'a, R: Read + Drop, E: Eprint> {
     rt: &'a E,

@@ -1,14 +1,12 @@
 //! Why the program ends before its script does.
 ghost use Rattle.std.specs.Prelude.{◌≡◌, ◌↔◌};
 ghost use Rattle.std.specs.IoError.{error_kind};
-ghost use Rattle.w16_command.specs.Faults.{status_of, of_run, of_sizes, IsOfFiles};
+ghost use Rattle.w16_command.specs.Faults.{status_of, of_run, IsOfFiles};
 
 use std::io::ErrorKind;
 use std::process::ExitCode;
 use std::{fmt, io};
 use thiserror::Error;
-use w16_kernel::SizeFault;
-use w16_options::Options;
 use w16_script::RunFault;
 
 /// A fault of a run of the program, but for those of its command line. It is shown in one line.
@@ -48,16 +46,6 @@ impl From<io::Error> for Fault<'_> {
 }
 
 impl<'a> Fault<'a> {
-    /// Sizes that no machine has.
-    pub fn of_sizes(fault: SizeFault, options: &Options<'a>) -> Self
-        ensures { result ≡ of_sizes fault options.now.memory options.now.selectors }
-    {
-        match fault {
-            SizeFault::MemorySize => Fault::MemorySize(options.memory),
-            SizeFault::SelectorCount => Fault::SelectorCount(options.selectors),
-        }
-    }
-
     /// Why the file or the folder of a path can't be had.
     pub fn of_files(path: &'a str, error: io::Error) -> Self
         ensures files { IsOfFiles path.now result }

@@ -1,4 +1,4 @@
-//! What `w16heap` does once its command line is read: runs of scripts, faults and their statuses. It is a library, so that tests see it.
+//! What `w16heap` does once its command line is read. It is a library, so that tests see it.
 #![tactic(auto)]
 
 mod explain;

@@ -16,7 +16,7 @@ pub struct Lines {
     ended: bool,
 }
 
-/// The first line from a place on, and how long it is with its end. The last line of a script needs none.
+/// The first line from a place on, and its length with its end. The last one needs none.
 fn line_at(text: &[u8], at: usize, ended: bool) -> Option<(&[u8], usize)> {
     let (_, rest) = text.split_at_checked(at)?;
     let length = match rest.iter().position(|byte| *byte == b'\n') {
@@ -49,7 +49,7 @@ fn say_expected(rt: &impl Eprint, number: u32, line: &[u8]) {
 }
 
 impl Lines {
-    /// Before the first line. It takes its memory here: for a piece that a run reads, and a line that isn't complete before it.
+    /// Before the first line. It takes room for a piece that a run reads, and a line before it that isn't complete.
     pub fn new(alloc: Global) -> Result<Self, AllocError> {
         Ok(Lines {
             text: Vec::with_capacity(alloc, 65_536 + 4096)?,
@@ -60,7 +60,7 @@ impl Lines {
         })
     }
 
-    /// Passes the next line, if it is a command, where there is a reply, or none, where there isn't. Whether it did.
+    /// Passes the next line, if it is a command, where there is a reply, else if it is none. Whether it did.
     fn pass(&mut self, rt: &impl Eprint, reply: Option<&Reply<'_>>) -> bool {
         let Some((line, length)) = line_at(self.text.as_slice(), self.at, self.ended) else {
             return false;

@@ -12,12 +12,12 @@ use std::alloc::Global;
 use std::cell::RefCell;
 use std::fs::{self, File};
 use std::io::{self, BufWriter, Error, Read, Write};
-use w16_kernel::{Kernel, Machine, check_sizes};
+use w16_kernel::{Kernel, Machine, SizeFault, check_sizes};
 use w16_options::Options;
 use w16_script::run;
 use w16_store::{DirFault, DirStore, Store, SystemDisk};
 
-/// Why a folder can't be listed: the system is asked once more for its reason.
+/// Why a folder can't be listed: the system is asked once more.
 fn unlisted<'a>(rt: &HostRuntime, folder: &'a str) -> Fault<'a>
     ensures { IsOfFiles folder.now result }
 {
@@ -28,7 +28,7 @@ fn unlisted<'a>(rt: &HostRuntime, folder: &'a str) -> Fault<'a>
     Fault::of_files(folder, error)
 }
 
-/// The module files of the folder that the options name, as it holds them now. None of them is opened yet.
+/// The module files of the folder that the options name, as it holds them now.
 fn module_files<'a>(
     rt: &HostRuntime,
     options: &Options<'a>,
@@ -43,8 +43,7 @@ fn module_files<'a>(
     }
 }
 
-/// The machine that the options ask for, over a store of module files, in which nothing is allocated and nothing loaded. An error is want of
-/// memory.
+/// The machine that the options ask for, over a store of module files. An error is want of memory.
 fn machine<'a, S: Store + Drop>(
     alloc: Global,
     options: &Options<'a>,
@@ -57,7 +56,7 @@ fn machine<'a, S: Store + Drop>(
     Kernel::new(alloc, options.memory, options.selectors, store).map_err(|_| Fault::Memory)
 }
 
-/// Runs the script of a path, and flushes what was replied before the run's own fault is told: a failure there is the write fault.
+/// Runs a script, and flushes what was replied before the run's own fault is told: a failure there is the write fault.
 fn run_flushed<'a, R: Read + Drop>(
     alloc: Global,
     path: &'a str,
@@ -88,7 +87,7 @@ fn run_printed<'a, R: Read + Drop>(
     }
 }
 
-/// The same, and says why calls are refused and what is wrong in bad lines.
+/// The same, and explains.
 fn run_explained<'a, S: Store + Drop, R: Read + Drop>(
     rt: &HostRuntime,
     path: &'a str,
@@ -140,7 +139,7 @@ fn run_file<'a>(
     }
 }
 
-/// Does what the command line asks for, of sizes that a machine may have.
+/// Does what the command line asks for, where a machine may have these sizes.
 fn play_sized<'a>(rt: &HostRuntime, options: &Options<'a>) -> Result<(), Fault<'a>>
     requires { IsMemorySize options.now.memory × IsSelectorCount options.now.selectors }
 {
@@ -161,6 +160,7 @@ pub fn play<'a>(rt: &HostRuntime, options: &Options<'a>) -> Result<(), Fault<'a>
 {
     match check_sizes(options.memory, options.selectors) {
         Ok(()) => play_sized(rt, options),
-        Err(fault) => Err(Fault::of_sizes(fault, options)),
+        Err(SizeFault::MemorySize) => Err(Fault::MemorySize(options.memory)),
+        Err(SizeFault::SelectorCount) => Err(Fault::SelectorCount(options.selectors)),
     }
 }

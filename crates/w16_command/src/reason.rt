@@ -1,5 +1,6 @@
 //! What is said of calls that are refused.
-use w16_kernel::{Call, Reply, Why};
+use w16_kernel::Call::{self, *};
+use w16_kernel::{Reply, Why};
 use w16_model::LARGEST_SIZE;
 
 /// What the number of a refused load says.
@@ -18,23 +19,19 @@ fn of_load(number: u16) -> Option<&'static str> {
 /// What is said of a call by its reply alone.
 fn of_reply(call: &Call<'_>, reply: &Reply<'_>) -> Option<&'static str> {
     match (*call, *reply) {
-        (Call::LoadModule { .. } | Call::LoadLibrary { .. }, Reply::Word(number)) => {
-            of_load(number)
-        }
-        (Call::GlobalAlloc { size: 0, .. }, Reply::Word(0)) => Some(
+        (LoadModule { .. } | LoadLibrary { .. }, Reply::Word(number)) => { of_load(number) }
+        (GlobalAlloc { size: 0, .. }, Reply::Word(0)) => Some(
             "a fixed object of size 0, or no selector is free",
         ),
-        (Call::GlobalReAlloc { size: 0, .. }, Reply::Word(0)) => {
+        (GlobalReAlloc { size: 0, .. }, Reply::Word(0)) => {
             Some("a size of 0 needs 0x0002 and a discardable object without locks")
         }
-        (Call::GlobalAlloc { size, .. } | Call::GlobalReAlloc { size, .. }, Reply::Word(0))
+        (GlobalAlloc { size, .. } | GlobalReAlloc { size, .. }, Reply::Word(0))
             if size > LARGEST_SIZE => { Some("more than 16711680 bytes") }
-        (Call::GlobalReAlloc { .. }, Reply::Word(0)) => Some(
-            "no room to grow, or no selector is free",
-        ),
-        (Call::GetModuleHandle { .. }, Reply::Word(0)) => Some("no module has the name"),
-        (Call::GetProcAddress { .. }, Reply::Dword(0)) => Some("no such module or entry"),
-        (Call::FindResource { .. }, Reply::Word(0)) => Some("no such module or resource"),
+        (GlobalReAlloc { .. }, Reply::Word(0)) => Some("no room to grow, or no selector is free"),
+        (GetModuleHandle { .. }, Reply::Word(0)) => Some("no module has the name"),
+        (GetProcAddress { .. }, Reply::Dword(0)) => Some("no such module or entry"),
+        (FindResource { .. }, Reply::Word(0)) => Some("no such module or resource"),
         _ => None,
     }
 }

@@ -9,7 +9,7 @@ use w16_kernel::Kernel;
 use w16_script::run;
 use w16_store::MemStore;
 
-/// A script in a heap of 512 bytes with two selectors. Its registers are needed to know that line 10 is bad.
+/// For a heap of 512 bytes and two selectors. Line 10 is bad by what its register has.
 const SCRIPT: &str = ";
 GlobalAlloc 2
 r0 = GlobalAlloc 0x42 100
@@ -23,11 +23,9 @@ GlobalLock r1
 Read r1 1000
 Read 0x00100000 1
 r1 =
-GlobalDiscard r0
 GlobalUnlock r0
 GlobalDiscard r0\r
 GlobalReAlloc r0 0 0
-GlobalAlloc 2 16711681
 GlobalAlloc 2 32
 GlobalAlloc 2 32
 LoadLibrary none
@@ -42,18 +40,16 @@ line 10: GlobalLock takes HANDLE
 line 11: the last byte that the selector reaches is at offset 0x7f
 line 12: no object has the selector
 line 13: a command is missing
-line 14: locked
-line 16: not discardable
-line 17: a size of 0 needs 0x0002 and a discardable object without locks
-line 18: more than 16711680 bytes
-line 20: no selector is free, or no room as the flags have it
-line 21: no such file
-line 22: Moved takes no arguments
+line 15: not discardable
+line 16: a size of 0 needs 0x0002 and a discardable object without locks
+line 18: no selector is free, or no room as the flags have it
+line 19: no such file
+line 20: Moved takes no arguments
 ";
 
 const REPLIES: &str =
     "error syntax\n0106\n00000000\n01070000\nerror syntax\n0106\n0000\nerror syntax
-fault limit\nfault selector\nerror syntax\n0000\n0000\n0000\n0000\n0000\n010e\n0000\n0002\nerror syntax\n";
+fault limit\nfault selector\nerror syntax\n0000\n0000\n0000\n010e\n0000\n0002\nerror syntax\n";
 
 /// A text that is read at most that many bytes at once.
 #[derive(Drop)]

@@ -12,28 +12,16 @@ const MEMORY: &str = "--memory 100: it has to be a multiple of 32 from 32 to 167
 
 const SELECTORS: &str = "--selectors 8161: it has to be a number from 1 to 8160";
 
+const ABSENT: &str = "none: No such file or directory (os error 2)";
+
 const LONG: &str = "long: a line has more than 4096 bytes, or the script more than 1000000 lines";
 
 /// Each is wrong in all that comes after what it is told for. In long are 4,097 bytes without a line end.
 static ROWS: &[Row] = &[
-    (100, 0, "none", "no", 2, MEMORY),
-    (512, 8161, "none", "no", 2, SELECTORS),
-    (
-        512,
-        4,
-        "none",
-        "no",
-        1,
-        "none: No such file or directory (os error 2)",
-    ),
-    (
-        512,
-        4,
-        ".",
-        "no",
-        1,
-        "no: No such file or directory (os error 2)",
-    ),
+    (100, 0, "none", "none", 2, MEMORY),
+    (512, 8161, "none", "none", 2, SELECTORS),
+    (512, 4, "none", ".", 1, ABSENT),
+    (512, 4, ".", "none", 1, ABSENT),
     (512, 4, ".", ".", 1, ".: Is a directory (os error 21)"),
     (512, 4, ".", "long", 4, LONG),
 ];

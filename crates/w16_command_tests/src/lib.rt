@@ -1,4 +1,4 @@
-//! Tests of the program through its library: its faults in their order, what it says of them on standard error, and its statuses.
+//! Tests of the program: what it says on standard error, and its statuses.
 #![tactic(auto)]
 
 #[cfg(test)]
