@@ -1,9 +1,10 @@
 //! What a folder's store needs of the system.
-ghost use Rattle.std.specs.Prelude.{◌≡◌, ℕ, ◌≤◌, List, length, map, IfOk, IfErr};
+ghost use Rattle.std.specs.Prelude.{ℕ, ◌<◌, List, map, IfOk, IfErr, OnErr};
 ghost use Rattle.std.specs.List.Sorted.{IsPermutation};
 ghost use Rattle.std.specs.String.{string_bytes};
 ghost use Rattle.w16_store.specs.Files.{HasBytes};
 ghost use Rattle.w16_store.specs.Folder.{content_of, IsHonestRead};
+ghost use Rattle.w16_store.specs.Later.{IsLater};
 
 use crate::folder::DirFault;
 use std::alloc::Global;
@@ -21,10 +22,10 @@ pub trait Disk {
     /// The folder's regular files, each a name and its bytes. No call changes them.
     ghost files: { Self → List (List ℕ × List ℕ) };
 
-    /// How often the system has failed.
+    /// How often the system has failed: each failed read raises it.
     ghost failures: { Self → ℕ };
 
-    /// The files stay, and each answer is what they say, or a failure, which raised the count.
+    /// Each answer is what the files say, or a failure.
     ghost is_honest: { Type 0 };
 
     /// For which faults the folder may not be listed.
@@ -37,8 +38,8 @@ pub trait Disk {
 
     /// The whole length of a file, in bytes; and where the file has bytes for all of the buffer from an offset on, the buffer is filled with them.
     fn read(&mut self, name: &str, at: u64, buf: &mut [u8]) -> Result<u64, DiskFailure>
-        ensures files { files self.new ≡ files self.old }
-        ensures failures { failures self.old ≤ failures self.new }
+        ensures stays { IsLater (files self.old) (failures self.old) (files self.new) (failures self.new) }
+        ensures fails { OnErr result (failures self.old < failures self.new) }
         ensures honest { is_honest → IsHonestRead (failures self.old) (failures self.new) result
             (content_of (files self.old) name.now) at buf.old buf.new }
         ensures bytes { is_honest → IfOk result (λ _. HasBytes (content_of (files self.old) name.now)) };

@@ -1,7 +1,8 @@
 //! A store that fails once.
-ghost use Rattle.std.specs.Prelude.{◌≡◌, ℕ, ◌+◌, ◌≤◌, ◌≢◌, length, min, IfOk};
+ghost use Rattle.std.specs.Prelude.{◌≡◌, ℕ, ◌+◌, ◌≢◌, length, min, IfOk, IfErr};
 ghost use Rattle.w16_store.specs.Files.{file_of, bytes_of, length_of, IsHonestAnswer, HasBytes};
 ghost use Rattle.w16_store.specs.Fuse.{blown};
+ghost use Rattle.w16_store.specs.Later.{IsLater, RoseIf, is_device};
 ghost use Rattle.w16_store.specs.declared.store.StoreFault.TheVariants.{Device};
 
 use crate::store::{Store, StoreFault};
@@ -42,8 +43,10 @@ impl<S: Store + Drop> Store for FuseStore<S> {
     ghost is_honest = { S.is_honest };
 
     fn read_at(&mut self, name: &[u8], at: u64, buf: &mut [u8]) -> Result<(), StoreFault>
-        ensures files { S.files self.new.inner ≡ S.files self.old.inner }
-        ensures failures { S.failures self.old.inner + blown self.old.fuse self.old.reads ≤ S.failures self.new.inner + blown self.new.fuse self.new.reads }
+        ensures stays { IsLater (S.files self.old.inner) (S.failures self.old.inner + blown self.old.fuse self.old.reads)
+            (S.files self.new.inner) (S.failures self.new.inner + blown self.new.fuse self.new.reads) }
+        ensures device { IfErr result (RoseIf is_device (S.failures self.old.inner + blown self.old.fuse self.old.reads)
+            (S.failures self.new.inner + blown self.new.fuse self.new.reads)) }
         ensures honest { S.is_honest → IsHonestAnswer (λ _. buf.new) (S.failures self.old.inner + blown self.old.fuse self.old.reads)
             (S.failures self.new.inner + blown self.new.fuse self.new.reads) result
             (bytes_of (file_of (S.files self.old.inner) name.now) at (length buf.old)) }
@@ -62,8 +65,10 @@ impl<S: Store + Drop> Store for FuseStore<S> {
     }
 
     fn len_of(&mut self, name: &[u8]) -> Result<u64, StoreFault>
-        ensures files { S.files self.new.inner ≡ S.files self.old.inner }
-        ensures failures { S.failures self.old.inner + blown self.old.fuse self.old.reads ≤ S.failures self.new.inner + blown self.new.fuse self.new.reads }
+        ensures stays { IsLater (S.files self.old.inner) (S.failures self.old.inner + blown self.old.fuse self.old.reads)
+            (S.files self.new.inner) (S.failures self.new.inner + blown self.new.fuse self.new.reads) }
+        ensures device { IfErr result (RoseIf is_device (S.failures self.old.inner + blown self.old.fuse self.old.reads)
+            (S.failures self.new.inner + blown self.new.fuse self.new.reads)) }
         ensures honest { S.is_honest → IsHonestAnswer (λ n. n) (S.failures self.old.inner + blown self.old.fuse self.old.reads)
             (S.failures self.new.inner + blown self.new.fuse self.new.reads) result (length_of (file_of (S.files self.old.inner) name.now)) }
         ensures bytes { S.is_honest → IfOk result (λ _. HasBytes (file_of (S.files self.old.inner) name.now)) }

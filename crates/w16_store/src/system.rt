@@ -1,5 +1,5 @@
 //! A folder of the system.
-ghost use Rattle.std.specs.Prelude.{◌≡◌, ◌↔◌, ℕ, [], IfOk, OnOk, OnErr, IsOkUnless};
+ghost use Rattle.std.specs.Prelude.{◌≡◌, ◌<◌, ◌≤◌, ◌↔◌, ℕ, [], IfOk, OnOk, OnErr, IsOkUnless};
 ghost use Rattle.std.specs.Fs.{IsFile, file_type, metadata_len};
 ghost use Rattle.std.specs.IoError.{error_kind};
 ghost use Rattle.std.specs.String.{string_bytes};
@@ -20,6 +20,7 @@ pub struct SystemDisk<R: Files + Drop> {
     runtime: R,
     alloc: Global,
     folder: String,
+    failures: u64,
 }
 
 impl<R: Files + AllocGlobal + Clone + Drop> SystemDisk<R> {
@@ -33,6 +34,7 @@ impl<R: Files + AllocGlobal + Clone + Drop> SystemDisk<R> {
             runtime: rt.clone()?,
             alloc,
             folder: String::from_str(alloc, folder)?,
+            failures: 0,
         })
     }
 }
@@ -79,6 +81,18 @@ impl<R: Files + Drop> SystemDisk<R> {
         let mut file = self.open(name)?;
         read_regular(&mut file, at, buf)
     }
+
+    /// Counts a failure. Where the count is full, which takes 500 years at one failure a nanosecond, the file is as one without bytes.
+    fn fail(&mut self) -> Result<u64, DiskFailure>
+        ensures counted { self.old.failures ≤ self.new.failures }
+        ensures fails { OnErr result (self.old.failures < self.new.failures) }
+    {
+        let Some(failures) = self.failures.checked_add(1) else {
+            return Ok(0);
+        };
+        self.failures = failures;
+        Err(DiskFailure)
+    }
 }
 
 /// The length of a regular file, by what the system says of it. An error is that it is a folder, a device, a FIFO or the like.
@@ -118,11 +132,11 @@ fn fault_of(error: Error) -> DirFault
     }
 }
 
-// No contract says what a system's files hold, so nothing is promised of the answers: the folder's files are none, nothing makes it honest, and it may refuse for any fault.
+// No contract says what a system's files hold, so nothing is promised of the answers: the folder's files are none, nothing makes it honest, and it may refuse for any fault. Only failures are counted.
 impl<R: Files + AllocGlobal + Clone + Drop> Disk for SystemDisk<R> {
     ghost files = { λ _. [] };
 
-    ghost failures = { λ _. 0 };
+    ghost failures = { λ s. s.failures };
 
     ghost is_honest = { ⊥ };
 
@@ -140,7 +154,7 @@ impl<R: Files + AllocGlobal + Clone + Drop> Disk for SystemDisk<R> {
     fn read(&mut self, name: &str, at: u64, buf: &mut [u8]) -> Result<u64, DiskFailure> {
         match self.read_part(name, at, buf) {
             Ok(len) => Ok(len),
-            Err(_) => Err(DiskFailure),
+            Err(_) => self.fail(),
         }
     }
 }
