@@ -13,6 +13,10 @@ fails_on old before after faults.BadRecord said total le h on = on h
 fails_on old before after faults.SiteOutside said total le h on = on h
 fails_on old before after faults.Overlap said total le h on = on h
 
+pub answers_since : {X Y : Type 0} (view : X → Y) (old before after : ℕ) (r : Result X RelocFault) (said : Result Y RelocFault) → old ≤ before → Answers view before after r said → Answers view old after r said
+answers_since view old before after (Ok x) said le h = h
+answers_since view old before after (Err e) said le h = fails_on old before after e said said le h (λ s. s)
+
 pub own_fails : {A B : Type 0} (before after : ℕ) (e : RelocFault) (said : Result A RelocFault) (total : Result B RelocFault) → IsOfRecords e → said ≡ Err e → (said ≡ Err e → total ≡ Err e) → Refuses before after e total
 own_fails before after (faults.Store e) said total own h on = absurd own
 own_fails before after faults.BadRecord said total own h on = on h

@@ -1,5 +1,5 @@
 use Rattle.w16_reloc.proofs.Common.{◌+◌, ◌<◌, ◌≤◌, Ok, sym, length, arith, err_from_is_err_and}
-use Rattle.w16_reloc.proofs.Refusals.{fails_on, never, on_ok_both, ok_same}
+use Rattle.w16_reloc.proofs.Refusals.{answers_since, fails_on, never, on_ok_both, ok_same}
 use Rattle.w16_reloc.proofs.segment.read_segment.Goals as goal
 
 pub returns-in_err-read_bytes-clause-exact : goal.returns-in_err-read_bytes-clause-exact
@@ -15,3 +15,8 @@ returns-clause-held g c = λ file honest has lies.
     let inside : 0 < c.args.segment.now.len → c.args.segment.now.place + c.args.segment.now.len ≤ length file = λ lt. (lies.1 lt).0 in
     let said = c.in_ok-read_bytes.ensures.exact file honest has inside in
     on_ok_both c.read_table.result _ _ (sym (ok_same _ _ said)) (c.read_table.ensures.records file c.args.segment.now.records honest (rw c.in_ok-read_bytes.ensures.stays.same has) (lies.1 some).1)
+
+pub returns-clause-exact : goal.returns-clause-exact
+returns-clause-exact g c = λ file honest has lies.
+    let some : 0 < c.args.segment.now.len = omega (arith, c.if-segment-eq0.false) in
+    answers_since _ _ _ _ c.read_table.result _ c.in_ok-read_bytes.ensures.stays.counted (c.read_table.ensures.exact file c.args.segment.now.records honest (rw c.in_ok-read_bytes.ensures.stays.same has) (lies.1 some).1)
