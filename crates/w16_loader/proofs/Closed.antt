@@ -87,19 +87,10 @@ stored_in files f (Some bytes) e h = (bytes, e, h)
 
 -- What a load answers that fails.
 
-pub counted_failure : (before after : ℕ) (fault : BindFault) → IsBindFailure before after fault → IfOk (failed_by fault) (λ answer. answer_in answer ≡ StoreFails → before < after)
-counted_failure before after (binds.Failed f) h = λ e. h.1
-counted_failure before after binds.OutOfMemory h = tt
-
 pub refusal_is : (place : ℕ) (fault : FetchFault) → answer_in (of_fault place fault) ≡ refusal_of place fault
 refusal_is place fetches.Store = refl
 refusal_is place fetches.NoRoom = refl
 refusal_is place fetches.Damaged = refl
-
-pub store_alone : (place : ℕ) (fault : FetchFault) (P : Type 0) → (fault ≡ fetches.Store → P) → answer_in (of_fault place fault) ≡ StoreFails → P
-store_alone place fetches.Store P h e = h refl
-store_alone place fetches.NoRoom P h e = cc
-store_alone place fetches.Damaged P h e = cc
 
 pub err_by : (fault : BindFault) (P : Type 0) → (fault ≡ binds.OutOfMemory → P) → OnErr (failed_by fault) P
 err_by (binds.Failed f) P h = tt

@@ -4,6 +4,8 @@ use Rattle.w16_loader.proofs.Common.{ap, ◌∙◌, subst, arith, ne_eqb, lit<, 
 use Rattle.w16_loader.proofs.Common.{All-repeated, tables_at, RelocFault, Record, Held, checked, data_of, IsImage, naming, FetchFault, Store, Damaged, NoRoom, AnyFetches, FetchesFewest, AreHandles, IsOwnedSize, FetchesCounted, read_of, segment_bytes}
 use Rattle.w16_loader.proofs.Common.{Far, ModuleFile, SegmentData, IsModuleFile, IsSegmentData, numbered, Fills, FillsOne, is_of_device, is_of_read, IsItsFiles, IsObjectOf, LoadingWorld, Module, of_segment, data_in, target_of, targets_in, far_of}
 use Rattle.w16_loader.proofs.Common.{IsFileOf, IsRelocated, ne_format, module_file, segment_in, accepted, has_room, is_format, stored_law, is_relocated, words_same, file_of, Files, GivesBytes, IsFetchable, IsSoundIn, IsWritten, fault_in, image_in}
+use Rattle.std.specs.Prelude.{IfErr}
+use Rattle.w16_store.specs.Later.{RoseIf}
 use Rattle.w16_ne.specs.declared.segment_table.Segment.{Segment}
 use Rattle.w16_ne.specs.Modules.{Tables}
 use Rattle.w16_reloc.specs.declared.value.Far as words
@@ -171,21 +173,21 @@ module _ (world : LoadingWorld) (slot number : ℕ) (name : List ℕ) (t : Table
       ∙ ap (option_map (λ (d : SegmentData). d.image (slice_index_or m.values (number - 1) []))) (by_number (map (data_in file t) t.segments) ∙ data_there file t number values sound)
       ∙ ap (λ vs. Some ((data_in file t sound.segment).image vs)) is.source.bound
 
-  fails : {A : Type 0} (result : Result A FetchFault) → fault_in result ≡ Some Store → result ≡ Err Store
-  fails (Ok done) e = cc
-  fails (Err fault) e = let same : fault ≡ Store = cc in ap Err same
+  rises : {A : Type 0} (result : Result A FetchFault) (P : Type 0) → IfErr result (λ fault. is_of_device fault ≡ true → P) → fault_in result ≡ Some Store → P
+  rises (Ok done) P h e = cc
+  rises (Err fault) P h e = let same : fault ≡ Store = cc in h (ap is_of_device same)
 
   -- What a call that keeps the files answers over the file alone, is a fetch in the world.
   pub fetched : {A : Type 0} (result : Result A FetchFault) (files : Files) → files ≡ world.files → (failures : ℕ) → world.failures ≤ failures → (new : Handles)
       → ((bytes : List ℕ) → file_of world.files name ≡ Some bytes → (in_file : IsSoundIn bytes t number values) → IsSomeAnd (owned_at world.handles slot) (λ (w : Owned). w.size ≡ in_file.segment.size)
       → FillsOne is_of_device world.handles.heap slot (image_in bytes t in_file.segment values) (fault_in result) new.heap)
-      → ((bytes : List ℕ) → file_of world.files name ≡ Some bytes → IsSoundIn bytes t number values → result ≡ Err Store → world.failures < failures)
+      → IfErr result (RoseIf is_of_device world.failures failures)
       → new ≡ record world.handles { heap = new.heap }
       → FetchesCounted ne_format world slot (fault_in result) (record world { handles = new; files = files; failures = failures })
   fetched result files same failures counted new filled failed rest =
       subst (λ (fs : Files). FetchesCounted ne_format world slot (fault_in result) (record world { handles = new; files = fs; failures = failures })) (sym same) (record {
         counted = counted;
-        failed = λ e. failed file has sound (fails result e);
+        failed = rises result (world.failures < failures) failed;
         fetched = record {
           bytes = image_in file t sound.segment values;
           image = inl (is.handle, number, m, is.segment, bytes_are);

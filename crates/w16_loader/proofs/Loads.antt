@@ -5,7 +5,10 @@ use Rattle.w16_loader.proofs.Common.{LoadAnswer, Files, IsFault, around_in, foun
 use Rattle.std.specs.List.{AllByRecursion as Each}
 use Rattle.w16_loading.specs.Closure as closing
 use Rattle.w16_loading.proofs.CodeLoads as CodeLoads
+use Rattle.w16_store.specs.Later.{RoseIf}
+use Rattle.w16_loader.specs.Devices.{is_load_device}
 use Rattle.w16_loader.specs.declared.found.FileFault.TheVariants as faults
+use Rattle.w16_loader.specs.declared.loading.LoadAnswer.TheVariants as answers
 use Rattle.w16_loader.specs.declared.closure.Closure.{Closure}
 
 -- A load by what its file says.
@@ -92,9 +95,10 @@ pub all_of_files : (modules : Modules) (files : Files) (file : List ℕ) (read :
 all_of_files modules files file read closure is closes = All-from_recursion (IsOfFile files) closure.found (each_of_file modules files closure.found (CodeLoads.found_of_files ne_format (around_in modules files) file read closure closes.0 is closes.1))
 
 -- A failure since a moment is one since an earlier moment.
-pub failed_since : (result : Result LoadAnswer AllocError) (before mid after : ℕ) → before ≤ mid → IfOk result (λ answer. answer_in answer ≡ StoreFails → mid < after) → IfOk result (λ answer. answer_in answer ≡ StoreFails → before < after)
-failed_since (Ok answer) before mid after le fails = λ e. let lt = fails e in omega (arith, lt, le)
-failed_since (Err e) before mid after le fails = tt
+pub failed_since : (result : Result LoadAnswer AllocError) (before mid after : ℕ) → before ≤ mid → IfOk result (RoseIf is_load_device mid after) → IfOk result (λ answer. answer_in answer ≡ StoreFails → before < after)
+failed_since (Ok (answers.Says word)) before mid after le rose = λ e. cc
+failed_since (Ok answers.StoreFails) before mid after le rose = λ e. let lt = rose refl in omega (arith, lt, le)
+failed_since (Err e) before mid after le rose = tt
 
 pub fault_since : (IsRefused : ℕ → Type 0) (before mid after : ℕ) (fault : FileFault) → before ≤ mid → IsFault IsRefused mid after fault → IsFault IsRefused before after fault
 fault_since IsRefused before mid after (faults.Refused number) le is = is

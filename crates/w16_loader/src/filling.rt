@@ -58,8 +58,6 @@ fn fill_segment<S: Store, A: Allocator + Copy>(
     ensures filled { (read : ModuleFile) (place : ℕ) (part : Part loaded.now read (number - 1)) → S.is_honest → IsSaid (S.files store.old) loaded.now read → IsItsFiles loaded.now read
         → IsUnfilled global.old.handles part.slot part.segment
         → InTurn (FillsOne is_of_device) global.old.handles.heap (fills_of_part place part) (failure_at place result) global.new.handles.heap }
-    ensures failed { (read : ModuleFile) → S.is_honest → IsSaid (S.files store.old) loaded.now read → IsItsFiles loaded.now read → result ≡ Err store_fails
-        → S.failures store.old < S.failures store.new }
 {
     let source = loaded.source(number);
     let segment = source.module.segment(number);
@@ -92,8 +90,6 @@ fn fill_segments<S: Store, A: Allocator + Copy>(
     ensures filled { (read : ModuleFile) (place : ℕ) → S.is_honest → IsSaid (S.files store.old) loaded.now read → IsReadAs loaded.now read → IsItsFiles loaded.now read
         → HasUnfilled global.old.handles loaded.now
         → InTurn (FillsOne is_of_device) global.old.handles.heap (fills_in place loaded.now read) (failure_at place result) global.new.handles.heap }
-    ensures failed { (read : ModuleFile) → S.is_honest → IsSaid (S.files store.old) loaded.now read → IsItsFiles loaded.now read → result ≡ Err store_fails
-        → S.failures store.old < S.failures store.new }
 {
     let count = segment_count(loaded);
     for done in 0..count {
@@ -122,8 +118,6 @@ fn fill_module<S: Store, A: Allocator + Copy>(
     ensures filled { (m : Module) (read : ModuleFile) (place : ℕ) → module_at registry.now handle ≡ Some m → S.is_honest → IsSaid (S.files store.old) m read → IsReadAs m read → IsItsFiles m read
         → HasUnfilled global.old.handles m
         → InTurn (FillsOne is_of_device) global.old.handles.heap (fills_in place m read) (failure_at place result) global.new.handles.heap }
-    ensures failed { (m : Module) (read : ModuleFile) → module_at registry.now handle ≡ Some m → S.is_honest → IsSaid (S.files store.old) m read → IsItsFiles m read → result ≡ Err store_fails
-        → S.failures store.old < S.failures store.new }
 {
     match registry.module(handle) {
         None => Ok(()),
@@ -150,8 +144,6 @@ pub(crate) fn fill_modules<S: Store, A: Allocator + Copy>(
     ensures filled { (reads : List ModuleFile) → S.is_honest → AreSaid (S.files store.old) registry.now handles.now reads → AreReadAs registry.now handles.now reads
         → AreItsFiles registry.now handles.now reads → AreUnfilled registry.now global.old.handles handles.now
         → InTurn (FillsOne is_of_device) global.old.handles.heap (fills_with registry.now 0 handles.now reads) (failure_in result) global.new.handles.heap }
-    ensures failed { (reads : List ModuleFile) → S.is_honest → AreSaid (S.files store.old) registry.now handles.now reads → AreItsFiles registry.now handles.now reads
-        → IfErr result (λ failure. failure.fault ≡ store_fails → S.failures store.old < S.failures store.new) }
 {
     for (place, handle) in handles.iter().enumerate() {
         match fill_module(registry, global, store, scratch, *handle) {

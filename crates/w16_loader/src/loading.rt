@@ -143,9 +143,6 @@ fn give<S: Store, A: Allocator + Copy>(
     ensures any { (rest : LoadingWorld) (old : LoadingWorld) (meant : closing.Closure) → AreHandles old.handles
         → AreUnbound old meant handles.now (in_world (with_handles rest global.old.handles) registry.old)
         → IsGivenAny old meant handles.now result (in_world (with_handles rest global.new.handles) registry.new) }
-    ensures failed { (old : LoadingWorld) (meant : closing.Closure) (rest : LoadingWorld) → S.is_honest → All (IsOfFile (S.files store.old)) meant.found
-        → IsUnbound old meant handles.now (in_world (with_handles rest global.old.handles) registry.old)
-        → IfErr result (λ fault. IfOk (failed_by fault) (λ answer. answer_in answer ≡ StoreFails → S.failures store.old < S.failures store.new)) }
     ensures undone { (rest : LoadingWorld) (old : LoadingWorld) (meant : closing.Closure) → AreHandles old.handles
         → IsUnbound old meant handles.now (in_world (with_handles rest global.old.handles) registry.old)
         → IfErr result (λ fault. fault ≡ OutOfMemory → fold without_module (in_world (with_handles rest global.new.handles) registry.new) handles.now ≡ old) }
@@ -177,8 +174,6 @@ fn load_closure<S: Store, A: Allocator + Copy>(
         → IfOk result (λ answer. LoadsClosed (in_world (with_handles rest global.old.handles) registry.old) meant (answer_in answer) (in_world (with_handles rest global.new.handles) registry.new)) }
     ensures any { (rest : LoadingWorld) (meant : closing.Closure) → IsClosureOf closure meant
         → IfOk result (λ answer. LoadsAny (in_world (with_handles rest global.old.handles) registry.old) meant (answer_in answer) (in_world (with_handles rest global.new.handles) registry.new)) }
-    ensures failed { (meant : closing.Closure) → S.is_honest → IsClosureOf closure meant → All (IsOfFile (S.files store.old)) meant.found
-        → IfOk result (λ answer. answer_in answer ≡ StoreFails → S.failures store.old < S.failures store.new) }
     ensures err { OnErr result ((registry.new ≡ registry.old) × (global.new ≡ global.old)) }
 {
     global.reveal_handles();

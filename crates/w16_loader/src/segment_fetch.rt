@@ -126,8 +126,6 @@ pub fn fetch<S: Store, A: Allocator + Copy>(
         → (sound : IsSoundIn file source.now.module.now source.now.number source.now.values.now) → LacksBytes global.old.handles handle
         → IsSomeAnd (owned_at global.old.handles (handle / 8)) (λ owned. owned.size ≡ sound.segment.size)
         → FillsOne is_of_device global.old.handles.heap (handle / 8) (image_in file source.now.module.now sound.segment source.now.values.now) (fault_in result) global.new.handles.heap }
-    ensures failed { (file : List ℕ) → S.is_honest → file_of (S.files store.old) source.now.file.now ≡ Some file
-        → IsSoundIn file source.now.module.now source.now.number source.now.values.now → result ≡ Err store_fails → S.failures store.old < S.failures store.new }
     ensures fetched { (rest : LoadingWorld) → S.is_honest → LacksBytes global.old.handles handle
         → IsFetchable (in_parts rest global.old.handles (S.files store.old) (S.failures store.old)) (handle / 8)
         source.now.number source.now.file.now source.now.module.now source.now.values.now

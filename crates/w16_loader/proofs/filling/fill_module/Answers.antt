@@ -18,11 +18,6 @@ returns-in-Some-clause-filled g c = λ m read place found honest.
     → InTurn (FillsOne is_of_device) c.args.global.now.handles.heap (fills_in place n read) (failure_at place c.fill_segments.result) c.fill_segments.new.global.handles.heap)
     (one_module c.in-Some.loaded.now m (c.in-Some.ensures ∙ found)) (c.fill_segments.ensures.filled read place honest)
 
-pub returns-in-Some-clause-failed : goal.returns-in-Some-clause-failed
-returns-in-Some-clause-failed g c = λ m read found honest.
-    subst (λ (n : Module). IsSaid (g.S.Store.files c.args.store.now) n read → IsItsFiles n read → c.fill_segments.result ≡ Err Store → g.S.Store.failures c.args.store.now < g.S.Store.failures c.fill_segments.new.store)
-    (one_module c.in-Some.loaded.now m (c.in-Some.ensures ∙ found)) (c.fill_segments.ensures.failed read honest)
-
 pub returns-in-None-clause-kept : goal.returns-in-None-clause-kept
 returns-in-None-clause-kept g c = λ m slot s found all is. is
 
@@ -31,6 +26,3 @@ returns-in-None-clause-any g c = λ m read place found. absurd (no_module m (c.i
 
 pub returns-in-None-clause-filled : goal.returns-in-None-clause-filled
 returns-in-None-clause-filled g c = λ m read place found. absurd (no_module m (c.in-None.ensures ∙ found))
-
-pub returns-in-None-clause-failed : goal.returns-in-None-clause-failed
-returns-in-None-clause-failed g c = λ m read found. absurd (no_module m (c.in-None.ensures ∙ found))

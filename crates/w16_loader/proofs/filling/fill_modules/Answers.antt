@@ -70,15 +70,6 @@ returns-in-Err-clause-filled g c = λ reads honest said are its empty.
     (its_at c.args.registry.now IsItsFiles c.args.handles.now reads its c.loop-place.place h at n)
     (module_unfilled (FillsOne is_of_device) c.args.registry.now c.args.global.now.handles c.loop-place.global.handles c.fill_module.new.global.handles c.args.handles.now reads c.loop-place.place h n.read n.m at n.read_at n.found reached))
 
-pub returns-in-Err-clause-failed : goal.returns-in-Err-clause-failed
-returns-in-Err-clause-failed g c = λ reads honest said its e.
-    let inside : c.loop-place.place < length c.args.handles.now = omega arith in
-    let h : ℕ = get_or c.args.handles.now c.loop-place.place 0 in
-    let at : slice_get c.args.handles.now c.loop-place.place ≡ Some h = here c.args.handles.now c.loop-place.place inside in
-    let n : Named c.args.registry.now h reads c.loop-place.place = named_at c.args.registry.now IsItsFiles c.args.handles.now reads its c.loop-place.place inside in
-    let still = subst (λ files. IsSaid files n.m n.read) (sym c.loop-place.invariant.files) (its_at c.args.registry.now (IsSaid (g.S.Store.files c.args.store.now)) c.args.handles.now reads said c.loop-place.place h at n) in
-    omega (arith, c.in-Err.ensures.failed n.m n.read n.found honest still (its_at c.args.registry.now IsItsFiles c.args.handles.now reads its c.loop-place.place h at n) (ap Err e), c.loop-place.invariant.failures)
-
 pub returns-clause-any : goal.returns-clause-any
 returns-clause-any g c = λ reads are empty.
     let all : length c.args.handles.now ≤ c.loop-place.place = omega arith in
@@ -88,6 +79,3 @@ pub returns-clause-filled : goal.returns-clause-filled
 returns-clause-filled g c = λ reads honest said are its empty.
     let all : length c.args.handles.now ≤ c.loop-place.place = omega arith in
     reached_last (FillsOne is_of_device) c.args.registry.now c.args.global.now.handles c.loop-place.global.handles c.args.handles.now reads c.loop-place.place all (c.loop-place.invariant.filled reads honest said are its empty)
-
-pub returns-clause-failed : goal.returns-clause-failed
-returns-clause-failed g c = λ reads honest said its. tt

@@ -21,9 +21,6 @@ returns-then-not-is_filled-clause-filled g c = λ read place part honest said it
     unfilled c.args.loaded.now read c.args.number part place (FillsOne is_of_device) c.args.global.now.handles.heap
     (is_filled_by c.args.loaded.now read c.args.number part c.source-source.result.module.now c.segment-segment.result c.source-source.ensures.tables c.segment-segment.ensures.found c.is_filled.result false c.is_filled.ensures c.if-not-is_filled.true)
 
-pub returns-then-not-is_filled-clause-failed : goal.returns-then-not-is_filled-clause-failed
-returns-then-not-is_filled-clause-failed g c = λ read honest said its e. cc
-
 -- There is no slot.
 
 pub returns-in-None-clause-any : goal.returns-in-None-clause-any
@@ -31,9 +28,6 @@ returns-in-None-clause-any g c = λ read place part is_read is. absurd (no_slot 
 
 pub returns-in-None-clause-filled : goal.returns-in-None-clause-filled
 returns-in-None-clause-filled g c = λ read place part honest said its is. absurd (no_slot c.args.loaded.now read c.args.number part c.slots.result.now c.slots.ensures.slots c.in-None.ensures.slot)
-
-pub returns-in-None-clause-failed : goal.returns-in-None-clause-failed
-returns-in-None-clause-failed g c = λ read honest said its e. cc
 
 -- It is fetched.
 
@@ -61,10 +55,3 @@ returns-in-Some-clause-filled g c = λ read place part honest said its is.
     (is_named c.args.loaded.now read c.args.number part c.source-source.result.module.now c.segment-segment.result c.source-source.ensures.tables c.segment-segment.ensures.found c.slots.result.now c.slots.ensures.slots c.in-Some.slot c.in-Some.ensures.slot
     c.segment_kind.result c.segment_kind.ensures c.handle_of-handle.result c.handle_of-handle.ensures)
     is c.source-source.result.number c.source-source.ensures.number (λ file has in_file lacks sized. c.fetch.ensures.filled file honest has in_file lacks sized))
-
-pub returns-in-Some-clause-failed : goal.returns-in-Some-clause-failed
-returns-in-Some-clause-failed g c = λ read honest said its e.
-    let last : c.args.number ≤ length c.source-source.result.module.now.segments = omega (arith, c.requires.last, many_segments c.source-source.result.module.now c.args.loaded.now c.source-source.ensures.tables) in
-    let is = sound (g.S.Store.files c.args.store.now) c.args.loaded.now read said its c.source-source.result.module.now c.source-source.ensures.tables c.args.number c.requires.first last c.source-source.result.file.now c.source-source.result.values.now c.source-source.ensures.source in
-    let has = stored (g.S.Store.files c.args.store.now) c.args.loaded.now read said its c.source-source.result.module.now c.source-source.ensures.tables c.args.number c.requires.first last c.source-source.result.file.now c.source-source.result.values.now c.source-source.ensures.source in
-    c.fetch.ensures.failed said.file honest has (subst (λ n. IsSoundIn said.file c.source-source.result.module.now n c.source-source.result.values.now) (sym c.source-source.ensures.number) is) e

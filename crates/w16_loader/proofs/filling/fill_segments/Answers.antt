@@ -60,11 +60,6 @@ returns-in-Err-clause-filled g c = λ read place honest said is_read its empty.
     (c.loop-done.invariant.filled read place honest said is_read its empty) (record { place = place; fault = c.in-Err.fault })
     (c.in-Err.ensures.filled read place part honest still its (part_unfilled c.args.loaded.now read c.args.global.now.handles c.loop-done.global.handles c.loop-done.done (c.loop-done.done + 1 - 1) same empty part c.loop-done.invariant.kept))
 
-pub returns-in-Err-clause-failed : goal.returns-in-Err-clause-failed
-returns-in-Err-clause-failed g c = λ read honest said its e.
-    let still = subst (λ files. IsSaid files c.args.loaded.now read) (sym c.loop-done.invariant.files) said in
-    omega (arith, c.in-Err.ensures.failed read honest still its e, c.loop-done.invariant.failures)
-
 pub returns-clause-kept : goal.returns-clause-kept
 returns-clause-kept g c = λ slot s all is. c.loop-done.invariant.kept slot s (λ i lt. at_none c.args.loaded.now.slots slot all i) is
 
@@ -77,6 +72,3 @@ pub returns-clause-filled : goal.returns-clause-filled
 returns-clause-filled g c = λ read place honest said is_read its empty.
     let all : length c.args.loaded.now.slots ≤ c.loop-done.done = omega (arith, is_read.slots, c.segment_count-count.ensures, c.loop-done-test.false) in
     parts_done place c.args.loaded.now read (FillsOne is_of_device) c.args.global.now.handles.heap c.loop-done.global.handles.heap c.loop-done.done all (c.loop-done.invariant.filled read place honest said is_read its empty)
-
-pub returns-clause-failed : goal.returns-clause-failed
-returns-clause-failed g c = λ read honest said its e. cc

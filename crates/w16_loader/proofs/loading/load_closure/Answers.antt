@@ -35,14 +35,6 @@ returns-clause-loads g c = λ rest meant honest is of_files.
     subst (λ r. IfOk r (λ answer. LoadsClosed old meant (answer_in answer) (in_world (with_handles rest c.release_modules.new.global.handles) c.release_modules.new.registry))) (sym c.fail.ensures.answer)
     (subst (λ w. IfOk (failed_by c.in-Err.fault) (λ answer. LoadsClosed old meant (answer_in answer) w)) (sym gone) (c.in-Err.ensures.given rest old meant honest c.reveal_handles.ensures of_files u))
 
-pub returns-clause-failed : goal.returns-clause-failed
-returns-clause-failed g c = λ meant honest is of_files.
-    let rest : LoadingWorld = record { handles = c.args.global.now.handles; modules = c.args.registry.now; loads = finmap.empty; files = []; failures = 0 } in
-    let mid = in_world (with_handles rest c.name_modules.new.global.handles) c.name_modules.new.registry in
-    let u = subst (λ hs. IsUnbound rest meant hs mid) (sym c.as_slice.ensures.value) (c.in-Ok.ensures.named rest meant is) in
-    subst (λ r. IfOk r (λ answer. answer_in answer ≡ StoreFails → g.S.Store.failures c.args.store.now < g.S.Store.failures c.give.new.store)) (sym c.fail.ensures.answer)
-    (c.in-Err.ensures.failed rest meant rest honest of_files u)
-
 pub returns-clause-err : goal.returns-clause-err
 returns-clause-err g c =
     let rest : LoadingWorld = record { handles = c.args.global.now.handles; modules = c.args.registry.now; loads = finmap.empty; files = []; failures = 0 } in

@@ -34,7 +34,7 @@ returns-in-Ok-clause-loads g c = λ rest before le honest is.
     let later : before ≤ mid = omega (arith, le, c.in-Ok.ensures.stays.counted) in
     closed_load rest modules handles files before file c.load_closure.new.registry c.load_closure.new.global.handles (g.S.Store.files c.load_closure.new.store) (c.load_closure.ensures.stays.same ∙ c.in-Ok.ensures.stays.same)
     after (omega (arith, later, c.load_closure.ensures.stays.counted)) read meant is closes c.load_closure.result
-    (failed_since c.load_closure.result before mid after later (c.load_closure.ensures.failed meant honest (is_closure files c.in-Ok.closure) all))
+    (failed_since c.load_closure.result before mid after later c.load_closure.ensures.device)
     (c.load_closure.ensures.loads (record rest { files = files; failures = before }) meant honest (is_closure files c.in-Ok.closure) all)
 
 -- Over any store.

@@ -59,23 +59,15 @@ returns-else-give-clause-filled g c = λ file honest has sound lacks sized.
     subst (λ (x : Global). FillsOne is_of_device c.args.global.now.handles.heap (c.args.handle / 8) (image_in file c.args.source.now.module.now sound.segment c.args.source.now.values.now) (Some NoRoom) x.handles.heap) (sym same)
     (no_room file c.args.source.now.module.now c.args.source.now.number c.args.source.now.values.now sound c.args.global.now.handles (c.args.handle / 8) sized lacks.without_bytes (c.if-give.ensures.lacks refl lacks))
 
-pub returns-in_err-read-clause-failed : goal.returns-in_err-read-clause-failed
-returns-in_err-read-clause-failed g c = λ file honest has sound e. (c.in_err-read.ensures.exact file sound.segment sound.held honest has sound.tables sound.there sound.passed sound.many).1
-
-pub returns-then-give-clause-failed : goal.returns-then-give-clause-failed
-returns-then-give-clause-failed g c = λ file honest has sound e. cc
-
-pub returns-else-give-clause-failed : goal.returns-else-give-clause-failed
-returns-else-give-clause-failed g c = λ file honest has sound e. cc
-
 -- In a world of its files.
 
 pub returns-in_err-read-clause-fetched : goal.returns-in_err-read-clause-fetched
 returns-in_err-read-clause-fetched g c = λ rest honest lacks is.
+    let p = err_from_is_err_and c.from_residual.result c.from_residual.ensures.1 in
     fetched (in_parts rest c.args.global.now.handles (g.S.Store.files c.args.store.now) (g.S.Store.failures c.args.store.now)) (c.args.handle / 8)
     c.args.source.now.number c.args.source.now.file.now c.args.source.now.module.now c.args.source.now.values.now is c.requires.last
     c.from_residual.result (g.S.Store.files c.read.new.store) c.read.ensures.stays.same (g.S.Store.failures c.read.new.store) c.read.ensures.stays.counted c.args.global.now.handles
-    (λ file has sound sized. returns-in_err-read-clause-filled g c file honest has sound lacks sized) (λ file has sound. returns-in_err-read-clause-failed g c file honest has sound) (returns-in_err-read-clause-rest g c)
+    (λ file has sound sized. returns-in_err-read-clause-filled g c file honest has sound lacks sized) (rw (p.1, p.2) c.in_err-read.ensures.device) (returns-in_err-read-clause-rest g c)
 
 pub returns-then-give-clause-fetched : goal.returns-then-give-clause-fetched
 returns-then-give-clause-fetched g c = λ rest honest lacks is.
@@ -83,7 +75,7 @@ returns-then-give-clause-fetched g c = λ rest honest lacks is.
     fetched (in_parts rest c.args.global.now.handles (g.S.Store.files c.args.store.now) (g.S.Store.failures c.args.store.now)) (c.args.handle / 8)
     c.args.source.now.number c.args.source.now.file.now c.args.source.now.module.now c.args.source.now.values.now is c.requires.last
     result (g.S.Store.files c.read.new.store) c.read.ensures.stays.same (g.S.Store.failures c.read.new.store) c.read.ensures.stays.counted c.give.new.global.handles
-    (λ file has sound sized. returns-then-give-clause-filled g c file honest has sound lacks sized) (λ file has sound. returns-then-give-clause-failed g c file honest has sound) (returns-then-give-clause-rest g c)
+    (λ file has sound sized. returns-then-give-clause-filled g c file honest has sound lacks sized) tt (returns-then-give-clause-rest g c)
 
 pub returns-else-give-clause-fetched : goal.returns-else-give-clause-fetched
 returns-else-give-clause-fetched g c = λ rest honest lacks is.
@@ -91,4 +83,4 @@ returns-else-give-clause-fetched g c = λ rest honest lacks is.
     fetched (in_parts rest c.args.global.now.handles (g.S.Store.files c.args.store.now) (g.S.Store.failures c.args.store.now)) (c.args.handle / 8)
     c.args.source.now.number c.args.source.now.file.now c.args.source.now.module.now c.args.source.now.values.now is c.requires.last
     result (g.S.Store.files c.read.new.store) c.read.ensures.stays.same (g.S.Store.failures c.read.new.store) c.read.ensures.stays.counted c.give.new.global.handles
-    (λ file has sound sized. returns-else-give-clause-filled g c file honest has sound lacks sized) (λ file has sound. returns-else-give-clause-failed g c file honest has sound) (returns-else-give-clause-rest g c)
+    (λ file has sound sized. returns-else-give-clause-filled g c file honest has sound lacks sized) (λ e. cc) (returns-else-give-clause-rest g c)
