@@ -1,7 +1,7 @@
 -- A fetch keeps what holds of every world, whatever the store answers: what it gives has the size that the world has of it.
-use Rattle.w16_loading.proofs.Common.{◌≡◌, ◌≢◌, ℕ, ◌-◌, ◌<◌, ◌≤◌, ◌==◌, inl, inr, ◌⊎◌, Bool, true, false, cond, List, [], length, Option, Some, None, IfSome, IsSomeAnd, MatchOption, MatchResult, is_some, option_map, slice_get, slice_index_or}
+use Rattle.w16_loading.proofs.Common.{◌≡◌, ◌≢◌, ℕ, ◌-◌, ◌<◌, ◌≤◌, inl, inr, ◌⊎◌, Bool, true, false, cond, List, [], length, Option, Some, None, IfSome, IsSomeAnd, MatchOption, MatchResult, is_some, option_map, slice_get, slice_index_or}
 use Rattle.w16_loading.proofs.Common.{Result, Ok, Err, refl, sym, ap, ◌∙◌, subst, arith, ne_eqb, cases_eq, AllZip-left, Kind, Owned, Heap, Object, IsHeap, object_at, rounded_size, owned_at, other_handles, file_of, FetchFault, Format}
-use Rattle.w16_loading.proofs.Common.{Saying, AreContents, AreModuleFiles, IsFormat, IsModuleFile, IfOk, IsSegmentData, ModuleFile, Tables, Segment, SegmentData, Resource, Far, numbered, LoadingWorld, Module, IsSegmentOf, IsResourceOf, Fills, FillsOne, is_of_device, is_of_read}
+use Rattle.w16_loading.proofs.Common.{Saying, AreModuleFiles, IsContent, IsFormat, IsModuleFile, IfOk, IsSegmentData, ModuleFile, Tables, Segment, SegmentData, Resource, Far, numbered, LoadingWorld, Module, IsSegmentOf, IsResourceOf, Fills, FillsOne, is_of_device, is_of_read}
 use Rattle.w16_loading.proofs.Common.{Fetches, IsImage, read_of, segment_bytes, resource_bytes, AnyFetches, IsOwnedSize, IsLoadingWorld, IsObjectOf, IsItsFiles, ModulesAreItsFiles, IsSized, bytes_at, slots_at, slots_for, owned_slots}
 use Rattle.w16_loading.specs.declared.FetchFault.TheVariants as faults
 use Rattle.w16_loading.proofs.Fillings.{SameRange, one_does, one_there, one_range, one_heap, filled_object, filled_other, filled_sized}
@@ -67,34 +67,26 @@ module _ (format : Format) (is_format : IsFormat format) (old : LoadingWorld) (i
           (AllZip-left IsSegmentData read.tables.segments read.segments file.segments (number - 1)))
           (ap (λ b. option_map (λ (s : SegmentData). s.image values) (cond b None (slice_get read.segments (number - 1)))) (sym (ne_eqb number 0 some)) ∙ e)
 
-  resource_size : (bytes : List ℕ) (a : Option Resource) (d : Option (List ℕ)) → IsSomeAnd a (λ r. IsObjectOf old slot r.kind (rounded_size r.length_in) false)
-      → MatchOption a (Unit {0}) (λ r. IsSomeAnd d (λ (b : List ℕ). length b ≡ rounded_size r.length_in)) → d ≡ Some bytes → IsOwnedSize old slot bytes
+  resource_size : (bytes : List ℕ) (a : Option Resource) (d : Option (List ℕ)) → IsSomeAnd a (λ r. IsObjectOf old slot r.kind (rounded_size r.length_in) false) → IfSome a (λ r. IsSomeAnd d (IsContent r))
+      → d ≡ Some bytes → IsOwnedSize old slot bytes
   resource_size bytes None d h k e = absurd h
   resource_size bytes (Some r) None h k e = absurd k
-  resource_size bytes (Some r) (Some b) h k e = let same : b ≡ bytes = cc in owned_size r.kind (rounded_size r.length_in) false h bytes (ap length (sym same) ∙ k)
+  resource_size bytes (Some r) (Some b) h k e = let same : b ≡ bytes = cc in owned_size r.kind (rounded_size r.length_in) false h bytes (ap length (sym same) ∙ k.0)
 
   resource_image_size : (handle place : ℕ) (m : Module) (bytes : List ℕ) → IsResourceOf old slot handle place m → resource_bytes format old m place ≡ Some bytes → IsOwnedSize old slot bytes
   resource_image_size handle place m bytes r e = by_file (file_of old.files m.file) (modules handle m r.loaded) e
     where
-      by_place : (read : ModuleFile) (contents : List (List ℕ)) → AreContents read.tables.resources contents → read.tables ≡ m.tables → (b : Bool)
-          → IsSomeAnd (cond {A = Option Resource} b None (slice_get m.tables.resources (place - 1))) (λ x. IsObjectOf old slot x.kind (rounded_size x.length_in) false)
-          → cond {A = Option (List ℕ)} b None (slice_get contents (place - 1)) ≡ Some bytes → IsOwnedSize old slot bytes
-      by_place read contents are same true h e = absurd h
-      by_place read contents are same false h e = resource_size bytes (slice_get m.tables.resources (place - 1)) (slice_get contents (place - 1)) h
-          (subst (λ (t : Tables). MatchOption (slice_get t.resources (place - 1)) (Unit {0}) (λ x. IsSomeAnd (slice_get contents (place - 1)) (λ (b : List ℕ). length b ≡ rounded_size x.length_in))) same
-          (AllZip-left (λ (x : Resource) (b : List ℕ). length b ≡ rounded_size x.length_in) read.tables.resources contents are.sizes (place - 1)))
-          e
-
-      by_said : (contents : List (List ℕ)) (said : Result ModuleFile ℕ) → IfOk said (λ read. AreContents read.tables.resources contents)
+      by_said : (content : Option (List ℕ)) (said : Result ModuleFile ℕ) → IfOk said (λ read. IfSome (numbered read.tables.resources place) (λ x. IsSomeAnd content (IsContent x)))
           → IsSomeAnd (elim said as (λ _. Option ModuleFile) [ Ok read ↦ Some read | Err _ ↦ None ]) (IsItsFiles m)
-          → ◌≡◌ {A = Option (List ℕ)} (elim said [ Ok read ↦ numbered contents place | Err _ ↦ None ]) (Some bytes) → IsOwnedSize old slot bytes
-      by_said contents (Ok read) are its e = by_place read contents are its.tables (place == 0) (of_resource old is slot handle place m r) e
-      by_said contents (Err answer) are its e = absurd its
+          → ◌≡◌ {A = Option (List ℕ)} (elim said [ Ok _ ↦ content | Err _ ↦ None ]) (Some bytes) → IsOwnedSize old slot bytes
+      by_said content (Ok read) are its e = resource_size bytes (numbered m.tables.resources place) content (of_resource old is slot handle place m r)
+          (subst (λ (t : Tables). IfSome (numbered t.resources place) (λ x. IsSomeAnd content (IsContent x))) its.tables are) e
+      by_said content (Err answer) are its e = absurd its
 
       by_file : (p : Option (List ℕ)) → IsSomeAnd (read_by format.says p) (IsItsFiles m)
-          → ◌≡◌ {A = Option (List ℕ)} (elim p [ None ↦ None | Some file ↦ elim (format.says file) [ Ok read ↦ numbered (format.contents file) place | Err _ ↦ None ] ]) (Some bytes) → IsOwnedSize old slot bytes
+          → ◌≡◌ {A = Option (List ℕ)} (elim p [ None ↦ None | Some file ↦ elim (format.says file) [ Ok _ ↦ format.contents file place | Err _ ↦ None ] ]) (Some bytes) → IsOwnedSize old slot bytes
       by_file None its e = absurd its
-      by_file (Some file) its e = by_said (format.contents file) (format.says file) (is_format.contents file) its e
+      by_file (Some file) its e = by_said (format.contents file place) (format.says file) (is_format.contents file place) its e
 
   -- an image has the size that its owner says
   pub image_size : (bytes : List ℕ) → IsImage format old slot bytes → IsOwnedSize old slot bytes

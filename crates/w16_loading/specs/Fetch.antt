@@ -31,7 +31,7 @@ segment_bytes format world m number = elim (read_of format world m) [
 abbrev pub resource_bytes : Format → LoadingWorld → Module → ℕ → Option (List ℕ)
 resource_bytes format world m place = elim (file_of world.files m.file) [
   | None ↦ None
-  | Some file ↦ elim (format.says file) [ Ok read ↦ numbered (format.contents file) place | Err _ ↦ None ]
+  | Some file ↦ elim (format.says file) [ Ok _ ↦ format.contents file place | Err _ ↦ None ]
 ]
 
 -- the bytes that an object of a module is given

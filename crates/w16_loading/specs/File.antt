@@ -1,5 +1,5 @@
 -- What a module file says, apart from how it says it: what the formats of files and relocations give to a load.
-use Rattle.std.specs.Prelude.{◌≡◌, ℕ, ◌-◌, ◌<◌, ◌≤◌, Bool, false, ◌==◌, if◌then◌else◌, List, [], length, find, All, MatchResult, Option, None, Result, IfOk, unwrap_or, option_map, slice_get}
+use Rattle.std.specs.Prelude.{◌≡◌, ℕ, ◌-◌, ◌<◌, ◌≤◌, Bool, false, ◌==◌, if◌then◌else◌, List, [], length, find, All, MatchResult, Option, None, IfSome, IsSomeAnd, Result, IfOk, unwrap_or, option_map, slice_get}
 use Rattle.w16_model.specs.declared.Kind.{Kind}
 use Rattle.w16_model.specs.declared.TheConstants.{GRAIN}
 use Rattle.w16_loading.specs.declared.TheConstants.{LARGEST_OWNED}
@@ -95,11 +95,11 @@ targets_of s = unwrap_or s.targets []
 abbrev pub Saying : Type 0
 Saying = List ℕ → Result ModuleFile ℕ
 
--- A format: what files say, and of each resource of a file that is accepted, the bytes of its object: those of the file, and zeros after them. A load
--- doesn't read them.
+-- A format: what files say, and the bytes of the object of each resource of a file that is accepted, by its number: those of the file, and zeros
+-- after them. A load doesn't read these.
 pub record Format : Type 0 where
   pub says : Saying
-  pub contents : List ℕ → List (List ℕ)
+  pub contents : List ℕ → ℕ → Option (List ℕ)
 
 -- What a load relies on in a file that is accepted: as much data as there are segments, sizes and images that go together.
 pub record IsSegmentData (segment : Segment) (s : SegmentData) : Type 0 where
@@ -115,11 +115,11 @@ pub record IsModuleFile (read : ModuleFile) : Type 0 where
 abbrev pub AreModuleFiles : Saying → Type 0
 AreModuleFiles says = (file : List ℕ) → MatchResult (says file) IsModuleFile (λ answer. (11 ≤ answer) × (answer ≤ 14))
 
--- what a fetch relies on: as many contents as there are resources, of bytes, each as long as its object
-pub record AreContents (resources : List Resource) (contents : List (List ℕ)) : Type 0 where
-  pub sizes : AllZip (λ r (bytes : List ℕ). length bytes ≡ rounded_size r.length_in) resources contents
-  pub bytes : All (All (λ b. b < 256)) contents
+-- and a fetch in each resource: bytes, as many as its object has
+abbrev pub IsContent : Resource → List ℕ → Type 0
+IsContent r bytes = (length bytes ≡ rounded_size r.length_in) × All (λ b. b < 256) bytes
 
 pub record IsFormat (format : Format) : Type 0 where
   pub files : AreModuleFiles format.says
-  pub contents : (file : List ℕ) → IfOk (format.says file) (λ read. AreContents read.tables.resources (format.contents file))
+  pub contents : (file : List ℕ) (number : ℕ)
+      → IfOk (format.says file) (λ read. IfSome (numbered read.tables.resources number) (λ r. IsSomeAnd (format.contents file number) (IsContent r)))
