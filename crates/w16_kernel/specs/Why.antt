@@ -1,9 +1,15 @@
 -- Why calls are refused, by what the world answers to questions.
-use Rattle.std.specs.Prelude.{◌≡◌, ◌%◌, ◌<◌, true, false, None}
+use Rattle.std.specs.Prelude.{◌≡◌, ℕ, ◌%◌, ◌<◌, true, false, Option, None, Some}
 use Rattle.w16_model.specs.Calls.{global_flags, global_handle, global_size, has_flag, selector_limit}
-use Rattle.w16_model.specs.Handles.{Handles, slot_of_handle}
+use Rattle.w16_model.specs.Calls.HandleCommand as calls
+use Rattle.w16_model.specs.Far.FarCommand.{Read, Write, Fill}
+use Rattle.w16_model.specs.Handles.{Handles, selector_in, slot_of_handle}
 use Rattle.w16_model.specs.Owned.{owns}
 use Rattle.w16_model.specs.declared.TheConstants.{GMEM_DISCARDABLE}
+use Rattle.w16_loading.specs.Families.LoadingCommand.{OfHandles, OfResizes, OfFar}
+use Rattle.w16_loading.specs.Resizes.ResizeCommand.{GlobalReAlloc, GlobalDiscard}
+use Rattle.w16_machine.specs.Machine.{Command}
+use Rattle.w16_machine.specs.Machine.Command.{OfLoading}
 use Rattle.w16_kernel.specs.declared.kernel.why.Why.{Why}
 use Rattle.w16_kernel.specs.declared.kernel.why.Why.TheVariants as why
 
@@ -16,3 +22,36 @@ IsWhy handles (why.Locked handle) = 0 < global_flags handles handle % 256
 IsWhy handles (why.NotDiscardable handle) = has_flag (global_flags handles handle) GMEM_DISCARDABLE ≡ false
 IsWhy handles (why.NoBytes handle) = global_size handles handle ≡ 0
 IsWhy handles (why.Limit selector last) = selector_limit handles selector ≡ last
+
+-- the handle by which a command names a global object, if it names one so
+abbrev pub handle_asked : Command → Option ℕ
+handle_asked (OfLoading (OfHandles (calls.GlobalFree handle))) = Some handle
+handle_asked (OfLoading (OfHandles (calls.GlobalLock handle))) = Some handle
+handle_asked (OfLoading (OfHandles (calls.GlobalUnlock handle))) = Some handle
+handle_asked (OfLoading (OfHandles (calls.GlobalSize handle))) = Some handle
+handle_asked (OfLoading (OfHandles (calls.GlobalFlags handle))) = Some handle
+handle_asked (OfLoading (OfHandles (calls.GlobalLRUNewest handle))) = Some handle
+handle_asked (OfLoading (OfHandles (calls.GlobalLRUOldest handle))) = Some handle
+handle_asked (OfLoading (OfResizes (GlobalReAlloc handle size flags))) = Some handle
+handle_asked (OfLoading (OfResizes (GlobalDiscard handle))) = Some handle
+handle_asked command = None
+
+-- the selector by which it names one
+abbrev pub selector_asked : Command → Option ℕ
+selector_asked (OfLoading (OfHandles (calls.GlobalHandle selector))) = Some selector
+selector_asked (OfLoading (OfHandles (calls.GetSelectorBase selector))) = Some selector
+selector_asked (OfLoading (OfHandles (calls.GetSelectorLimit selector))) = Some selector
+selector_asked (OfLoading (OfFar (Read pointer count))) = Some (selector_in pointer)
+selector_asked (OfLoading (OfFar (Write pointer bytes))) = Some (selector_in pointer)
+selector_asked (OfLoading (OfFar (Fill pointer count byte))) = Some (selector_in pointer)
+selector_asked command = None
+
+-- A reason is of the handle or selector that the command names.
+abbrev pub IsAsked : Command → Why → Type 0
+IsAsked command (why.BadHandle handle) = handle_asked command ≡ Some handle
+IsAsked command (why.BadSelector selector) = selector_asked command ≡ Some selector
+IsAsked command (why.Owned handle) = handle_asked command ≡ Some handle
+IsAsked command (why.Locked handle) = handle_asked command ≡ Some handle
+IsAsked command (why.NotDiscardable handle) = handle_asked command ≡ Some handle
+IsAsked command (why.NoBytes handle) = handle_asked command ≡ Some handle
+IsAsked command (why.Limit selector last) = selector_asked command ≡ Some selector

@@ -9,3 +9,4 @@ pub mod Binding
 pub mod Filling
 pub mod Naming
 pub mod Loading
+pub mod Devices

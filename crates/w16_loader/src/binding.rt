@@ -1,11 +1,14 @@
 //! Binding: all relocation records of the new modules of a load get their values, once.
 ghost use Rattle.std.specs.Prelude.{◌≡◌, ◌<◌, ◌≤◌, ◌+◌, ◌-◌, ℕ, List, [], map, length, true, false, Some, Ok, All, IfOk, IfErr, IsSomeAnd, OnOk, OnErr, MatchResult, slice_get, vec_capacity};
+ghost use Rattle.w16_ne.specs.Reading.{is_ne_device};
+ghost use Rattle.w16_store.specs.Later.{IsLater, RoseIf};
+ghost use Rattle.w16_loader.specs.Devices.{is_bind_device, is_value_device};
 ghost use Rattle.std.specs.FinMap as finmap;
 ghost use Rattle.w16_model.specs.Discards.{is_member};
 ghost use Rattle.w16_ne.specs.Modules.{Tables, imported_place};
 ghost use Rattle.w16_ne.specs.Texts.{text_in};
 ghost use Rattle.w16_reloc.specs.Records.{has_text, is_named, text_of};
-ghost use Rattle.w16_reloc.specs.Segments.{has_text_at, offer_of};
+ghost use Rattle.w16_reloc.specs.Segments.{has_text_at, offer_of, is_reloc_device};
 ghost use Rattle.w16_loading.specs.File as loading;
 ghost use Rattle.w16_loading.specs.File.{ModuleFile, SegmentData, targets_of};
 ghost use Rattle.w16_loading.specs.File.Target.{ImportName};
@@ -38,7 +41,8 @@ pub enum BindFault {
 
 /// Why records have no values whose segment doesn't pass its check.
 fn fault_of_check(fault: RelocFault) -> ValueFault
-    ensures { result ≡ binding.fault_of_check fault }
+    ensures fault { result ≡ binding.fault_of_check fault }
+    ensures device { is_value_device result ≡ is_reloc_device fault }
 {
     match fault {
         RelocFault::Store(StoreFault::Device) => ValueFault::Device,
@@ -48,7 +52,8 @@ fn fault_of_check(fault: RelocFault) -> ValueFault
 
 /// Why a record has no value whose name can't be read.
 fn fault_of_name(fault: NeFault) -> ValueFault
-    ensures { result ≡ binding.fault_of_name fault }
+    ensures fault { result ≡ binding.fault_of_name fault }
+    ensures device { is_value_device result ≡ is_ne_device fault }
 {
     match fault {
         NeFault::OutOfMemory => ValueFault::OutOfMemory,
@@ -61,6 +66,7 @@ fn fault_of_name(fault: NeFault) -> ValueFault
 fn fault_at(place: usize, fault: ValueFault) -> BindFault
     ensures failure { (before : ℕ) (after : ℕ) → IsFailure before after fault → IsBindFailure before after result }
     ensures unread { (many : ℕ) → place < many → IsUnread many result }
+    ensures device { is_bind_device result ≡ is_value_device fault }
 {
     match fault {
         ValueFault::OutOfMemory => BindFault::OutOfMemory,
@@ -99,8 +105,8 @@ fn address_named<S: Store, A: Allocator>(
     reference: u16,
     name: u16,
 ) -> Result<Far, ValueFault>
-    ensures files { S.files store.new ≡ S.files store.old }
-    ensures failures { S.failures store.old ≤ S.failures store.new }
+    ensures stays { IsLater (S.files store.old) (S.failures store.old) (S.files store.new) (S.failures store.new) }
+    ensures device { IfErr result (RoseIf is_value_device (S.failures store.old) (S.failures store.new)) }
     ensures any { IfOk result (IsValue (finmap.get registry.now) loaded.now) }
     ensures exact { (file : List ℕ) (t : Tables) → S.is_honest → IsStoredAs (S.files store.old) loaded.now file t → has_text_at file (imported_place t + name) ≡ true
         → MatchResult result (λ far. far_of far ≡ value_of (finmap.get registry.now) loaded.now (ImportName reference (text_in file (imported_place t + name)))) (IsFailure (S.failures store.old) (S.failures store.new)) }
@@ -119,8 +125,8 @@ fn target_value<S: Store, A: Allocator>(
     loaded: &Loaded<A>,
     target: Target,
 ) -> Result<Far, ValueFault>
-    ensures files { S.files store.new ≡ S.files store.old }
-    ensures failures { S.failures store.old ≤ S.failures store.new }
+    ensures stays { IsLater (S.files store.old) (S.failures store.old) (S.files store.new) (S.failures store.new) }
+    ensures device { IfErr result (RoseIf is_value_device (S.failures store.old) (S.failures store.new)) }
     ensures any { IfOk result (IsValue (finmap.get registry.now) loaded.now) }
     ensures exact { (file : List ℕ) (t : Tables) → S.is_honest → IsStoredAs (S.files store.old) loaded.now file t → has_text (offer_of file t) (text_of target) ≡ true
         → MatchResult result (λ far. far_of far ≡ value_of (finmap.get registry.now) loaded.now (target_in file t target)) (IsFailure (S.failures store.old) (S.failures store.new)) }
@@ -145,8 +151,8 @@ fn record_value<S: Store, A: Allocator>(
     loaded: &Loaded<A>,
     relocation: Record,
 ) -> Result<Far, ValueFault>
-    ensures files { S.files store.new ≡ S.files store.old }
-    ensures failures { S.failures store.old ≤ S.failures store.new }
+    ensures stays { IsLater (S.files store.old) (S.failures store.old) (S.files store.new) (S.failures store.new) }
+    ensures device { IfErr result (RoseIf is_value_device (S.failures store.old) (S.failures store.new)) }
     ensures any { IfOk result (IsValue (finmap.get registry.now) loaded.now) }
     ensures exact { (file : List ℕ) (t : Tables) → S.is_honest → IsStoredAs (S.files store.old) loaded.now file t → is_named (offer_of file t) relocation ≡ true
         → MatchResult result (λ far. far_of far ≡ value_of (finmap.get registry.now) loaded.now (target_of file t relocation)) (IsFailure (S.failures store.old) (S.failures store.new)) }
@@ -166,8 +172,8 @@ fn record_values<S: Store, A: Allocator + Clone>(
     loaded: &Loaded<A>,
     records: &[Record],
 ) -> Result<Vec<Far, A>, ValueFault>
-    ensures files { S.files store.new ≡ S.files store.old }
-    ensures failures { S.failures store.old ≤ S.failures store.new }
+    ensures stays { IsLater (S.files store.old) (S.failures store.old) (S.files store.new) (S.failures store.new) }
+    ensures device { IfErr result (RoseIf is_value_device (S.failures store.old) (S.failures store.new)) }
     ensures any { IfOk result (λ values. (targets : List loading.Target) × AreValuesOf (finmap.get registry.now) loaded.now targets values.items) }
     ensures exact { (file : List ℕ) (t : Tables) → S.is_honest → IsStoredAs (S.files store.old) loaded.now file t → All (λ r. is_named (offer_of file t) r ≡ true) records.now
         → MatchResult result (λ values. AreValuesOf (finmap.get registry.now) loaded.now (map (target_of file t) records.now) values.items) (IsFailure (S.failures store.old) (S.failures store.new)) }
@@ -194,8 +200,8 @@ fn segment_values<S: Store, A: Allocator + Clone>(
 ) -> Result<Vec<Far, A>, ValueFault>
     requires first { 0 < number }
     requires last { number ≤ length loaded.now.tables.segments }
-    ensures files { S.files store.new ≡ S.files store.old }
-    ensures failures { S.failures store.old ≤ S.failures store.new }
+    ensures stays { IsLater (S.files store.old) (S.failures store.old) (S.files store.new) (S.failures store.new) }
+    ensures device { IfErr result (RoseIf is_value_device (S.failures store.old) (S.failures store.new)) }
     ensures any { IfOk result (λ values. (targets : List loading.Target) × AreValuesOf (finmap.get registry.now) loaded.now targets values.items) }
     ensures exact { (read : ModuleFile) (s : SegmentData) → S.is_honest → IsSaid (S.files store.old) loaded.now read → slice_get read.segments (number - 1) ≡ Some s
         → MatchResult result (λ values. AreValuesOf (finmap.get registry.now) loaded.now (targets_of s) values.items) (IsFailure (S.failures store.old) (S.failures store.new)) }
@@ -213,8 +219,8 @@ fn module_values<S: Store, A: Allocator + Clone>(
     scratch: &mut Scratch<A>,
     loaded: &Loaded<A>,
 ) -> Result<Vec<Vec<Far, A>, A>, ValueFault>
-    ensures files { S.files store.new ≡ S.files store.old }
-    ensures failures { S.failures store.old ≤ S.failures store.new }
+    ensures stays { IsLater (S.files store.old) (S.failures store.old) (S.files store.new) (S.failures store.new) }
+    ensures device { IfErr result (RoseIf is_value_device (S.failures store.old) (S.failures store.new)) }
     ensures any { IfOk result (λ values. (targets : List (List loading.Target)) × (length targets ≡ length loaded.now.tables.segments)
         × (map (λ v. map far_of v.items) values.items ≡ values_for (finmap.get registry.now) loaded.now targets)) }
     ensures exact { (read : ModuleFile) → S.is_honest → IsSaid (S.files store.old) loaded.now read
@@ -240,8 +246,8 @@ fn bind_module<S: Store, A: Allocator + Clone>(
     scratch: &mut Scratch<A>,
     handle: u16,
 ) -> Result<(), ValueFault>
-    ensures files { S.files store.new ≡ S.files store.old }
-    ensures failures { S.failures store.old ≤ S.failures store.new }
+    ensures stays { IsLater (S.files store.old) (S.failures store.old) (S.files store.new) (S.failures store.new) }
+    ensures device { IfErr result (RoseIf is_value_device (S.failures store.old) (S.failures store.new)) }
     ensures any { OnOk result ((targets : List (List loading.Target)) × IsForEach registry.old handle targets × (registry.new ≡ bound_as (finmap.get registry.old) registry.old handle targets)) }
     ensures exact { (read : ModuleFile) → S.is_honest → IsSomeAnd (module_at registry.old handle) (λ m. IsSaid (S.files store.old) m read)
         → MatchResult result (λ _. registry.new ≡ bound_as (finmap.get registry.old) registry.old handle (map targets_of read.segments)) (IsFailure (S.failures store.old) (S.failures store.new)) }
@@ -270,8 +276,8 @@ pub(crate) fn bind_modules<S: Store, A: Allocator + Clone>(
     scratch: &mut Scratch<A>,
     handles: &[u16],
 ) -> Result<(), BindFault>
-    ensures files { S.files store.new ≡ S.files store.old }
-    ensures failures { S.failures store.old ≤ S.failures store.new }
+    ensures stays { IsLater (S.files store.old) (S.failures store.old) (S.files store.new) (S.failures store.new) }
+    ensures device { IfErr result (RoseIf is_bind_device (S.failures store.old) (S.failures store.new)) }
     ensures values { (handle : ℕ) → without_values (finmap.get registry.new handle) ≡ without_values (finmap.get registry.old handle) }
     ensures others { (handle : ℕ) → is_member handle handles.now ≡ false → finmap.get registry.new handle ≡ finmap.get registry.old handle }
     ensures any { OnOk result ((targets : List (List (List loading.Target))) × AreTargets registry.old handles.now targets

@@ -1,5 +1,7 @@
 //! Which modules a load finds: the module asked for, and breadth first those that it and the others refer to.
 ghost use Rattle.std.specs.Prelude.{◌≡◌, ◌≤◌, ◌+◌, ◌<◌, ◌-◌, ◌++◌, ◌∷◌, [], ℕ, List, length, Ok, Err, IfOk, IfErr, OnOk, None};
+ghost use Rattle.w16_store.specs.Later.{IsLater, RoseIf};
+ghost use Rattle.w16_loader.specs.Devices.{is_file_device};
 ghost use Rattle.w16_loading.specs.Closure as closing;
 ghost use Rattle.w16_loading.specs.Closure.{Closes, begun, dll};
 ghost use Rattle.w16_loading.specs.Modules.{free_modules, handle_named};
@@ -84,8 +86,8 @@ fn follow_file<S: Store, A: Allocator + Copy>(
     scratch: &mut Scratch<A>,
     file: Vec<u8, A>,
 ) -> Result<Followed<A>, FileFault>
-    ensures files { S.files store.new ≡ S.files store.old }
-    ensures failures { S.failures store.old ≤ S.failures store.new }
+    ensures stays { IsLater (S.files store.old) (S.failures store.old) (S.files store.new) (S.failures store.new) }
+    ensures device { IfErr result (RoseIf is_file_device (S.failures store.old) (S.failures store.new)) }
     ensures any { IfOk result (LeadsByFile registry.now found.now file.items) }
     ensures small { IfErr result IsSmall }
     ensures ok { S.is_honest → IfOk result (IsReadOf (S.files store.old) file.items (reading_in registry.now (S.files store.old) found.now file.items)) }
@@ -124,8 +126,8 @@ impl<A: Allocator + Copy> Closure<A> {
         scratch: &mut Scratch<A>,
         name: &[u8],
     ) -> Result<Followed<A>, FileFault>
-        ensures files { S.files store.new ≡ S.files store.old }
-        ensures failures { S.failures store.old ≤ S.failures store.new }
+        ensures stays { IsLater (S.files store.old) (S.failures store.old) (S.files store.new) (S.failures store.new) }
+        ensures device { IfErr result (RoseIf is_file_device (S.failures store.old) (S.failures store.new)) }
         ensures any { IfOk result (LeadsSomewhere registry.now self.now.found.items name.now) }
         ensures small { IfErr result IsSmall }
         ensures ok { S.is_honest → IfOk result (λ made. (pending : List (ℕ × List ℕ)) (place : ℕ) → closing.followed ne_format (around_in registry.now (S.files store.old)) (pending_in (S.files store.old) pending self.now) place name.now
@@ -172,8 +174,8 @@ impl<A: Allocator + Copy> Closure<A> {
     ) -> Result<(), FileFault>
         requires first { 0 < number }
         requires last { number ≤ length (references_at self.old.found.items place) }
-        ensures files { S.files store.new ≡ S.files store.old }
-        ensures failures { S.failures store.old ≤ S.failures store.new }
+        ensures stays { IsLater (S.files store.old) (S.failures store.old) (S.files store.new) (S.failures store.new) }
+        ensures device { IfErr result (RoseIf is_file_device (S.failures store.old) (S.failures store.new)) }
         ensures same { OnOk result (references_at self.new.found.items place ≡ references_at self.old.found.items place) }
         ensures few { OnOk result (FindsFew registry.now self.old.found.items self.new.found.items) }
         ensures any { OnOk result (LeadsAny registry.now self.new.found.items (reached_of place (number - 1) self.old) (reached_of place number self.new)) }
@@ -211,8 +213,8 @@ impl<A: Allocator + Copy> Closure<A> {
         scratch: &mut Scratch<A>,
         place: usize,
     ) -> Result<(), FileFault>
-        ensures files { S.files store.new ≡ S.files store.old }
-        ensures failures { S.failures store.old ≤ S.failures store.new }
+        ensures stays { IsLater (S.files store.old) (S.failures store.old) (S.files store.new) (S.failures store.new) }
+        ensures device { IfErr result (RoseIf is_file_device (S.failures store.old) (S.failures store.new)) }
         ensures few { OnOk result (FindsFew registry.now self.old.found.items self.new.found.items) }
         ensures any { OnOk result (LeadsAny registry.now self.new.found.items (reached_of place 0 self.old) (reached_of (place + 1) 0 self.new)) }
         ensures small { IfErr result IsSmall }
@@ -239,8 +241,8 @@ impl<A: Allocator + Copy> Closure<A> {
         scratch: &mut Scratch<A>,
     ) -> Result<(), FileFault>
         requires { length self.old.found.items ≤ MOST_MODULES }
-        ensures files { S.files store.new ≡ S.files store.old }
-        ensures failures { S.failures store.old ≤ S.failures store.new }
+        ensures stays { IsLater (S.files store.old) (S.failures store.old) (S.files store.new) (S.failures store.new) }
+        ensures device { IfErr result (RoseIf is_file_device (S.failures store.old) (S.failures store.new)) }
         ensures few { OnOk result (FindsFew registry.now self.old.found.items self.new.found.items) }
         ensures any { OnOk result (LeadsAny registry.now self.new.found.items (reached_of 0 0 self.old) (closed_of self.new)) }
         ensures small { IfErr result IsSmall }
@@ -272,8 +274,8 @@ pub fn close<S: Store, A: Allocator + Copy>(
     scratch: &mut Scratch<A>,
     first: Found<A>,
 ) -> Result<Closure<A>, FileFault>
-    ensures files { S.files store.new ≡ S.files store.old }
-    ensures failures { S.failures store.old ≤ S.failures store.new }
+    ensures stays { IsLater (S.files store.old) (S.failures store.old) (S.files store.new) (S.failures store.new) }
+    ensures device { IfErr result (RoseIf is_file_device (S.failures store.old) (S.failures store.new)) }
     ensures some { IfOk result (λ made. 0 < length made.found.items) }
     ensures few { 0 < free_modules registry.now → IfOk result (λ made. length made.found.items ≤ free_modules registry.now) }
     ensures any { handle_named registry.now first.module.name ≡ None → 0 < free_modules registry.now → IfOk result (IsSomeClosure registry.now first.file.items) }

@@ -1,5 +1,6 @@
 //! Bytes for the objects of a load's modules: those of their fixed and of their preload segments.
 ghost use Rattle.std.specs.Prelude.{◌≡◌, ◌≢◌, ◌-◌, ◌<◌, ◌≤◌, ℕ, List, length, All, Some, Err, IfErr, IfSome, slice_get};
+ghost use Rattle.w16_store.specs.Later.{IsLater, RoseIf};
 ghost use Rattle.w16_loading.specs.declared.FetchFault.TheVariants.{Store as store_fails};
 ghost use Rattle.w16_loading.specs.AnyStore.{GivesAny};
 ghost use Rattle.w16_loading.specs.File.{ModuleFile, Segment};
@@ -48,8 +49,8 @@ fn fill_segment<S: Store, A: Allocator + Copy>(
 ) -> Result<(), FetchFault>
     requires first { 0 < number }
     requires last { number ≤ length loaded.now.tables.segments }
-    ensures files { S.files store.new ≡ S.files store.old }
-    ensures failures { S.failures store.old ≤ S.failures store.new }
+    ensures stays { IsLater (S.files store.old) (S.failures store.old) (S.files store.new) (S.failures store.new) }
+    ensures device { IfErr result (RoseIf is_of_device (S.failures store.old) (S.failures store.new)) }
     ensures rest { global.new.handles ≡ record global.old.handles { heap = global.new.handles.heap } }
     ensures kept { (slot : ℕ) (s : Segment) → slice_get loaded.now.slots (number - 1) ≢ Some slot → IsUnfilled global.old.handles slot s → IsUnfilled global.new.handles slot s }
     ensures any { (read : ModuleFile) (place : ℕ) (part : Part loaded.now read (number - 1)) → IsReadAs loaded.now read → IsUnfilled global.old.handles part.slot part.segment
@@ -82,8 +83,8 @@ fn fill_segments<S: Store, A: Allocator + Copy>(
     store: &mut S,
     scratch: &mut Scratch<A>,
 ) -> Result<(), FetchFault>
-    ensures files { S.files store.new ≡ S.files store.old }
-    ensures failures { S.failures store.old ≤ S.failures store.new }
+    ensures stays { IsLater (S.files store.old) (S.failures store.old) (S.files store.new) (S.failures store.new) }
+    ensures device { IfErr result (RoseIf is_of_device (S.failures store.old) (S.failures store.new)) }
     ensures rest { global.new.handles ≡ record global.old.handles { heap = global.new.handles.heap } }
     ensures kept { (slot : ℕ) (s : Segment) → All (λ q. q ≢ slot) loaded.now.slots → IsUnfilled global.old.handles slot s → IsUnfilled global.new.handles slot s }
     ensures any { (read : ModuleFile) (place : ℕ) → IsReadAs loaded.now read → HasUnfilled global.old.handles loaded.now
@@ -112,8 +113,8 @@ fn fill_module<S: Store, A: Allocator + Copy>(
     scratch: &mut Scratch<A>,
     handle: u16,
 ) -> Result<(), FetchFault>
-    ensures files { S.files store.new ≡ S.files store.old }
-    ensures failures { S.failures store.old ≤ S.failures store.new }
+    ensures stays { IsLater (S.files store.old) (S.failures store.old) (S.files store.new) (S.failures store.new) }
+    ensures device { IfErr result (RoseIf is_of_device (S.failures store.old) (S.failures store.new)) }
     ensures rest { global.new.handles ≡ record global.old.handles { heap = global.new.handles.heap } }
     ensures kept { (m : Module) (slot : ℕ) (s : Segment) → module_at registry.now handle ≡ Some m → All (λ q. q ≢ slot) m.slots → IsUnfilled global.old.handles slot s → IsUnfilled global.new.handles slot s }
     ensures any { (m : Module) (read : ModuleFile) (place : ℕ) → module_at registry.now handle ≡ Some m → IsReadAs m read → HasUnfilled global.old.handles m
@@ -141,8 +142,8 @@ pub(crate) fn fill_modules<S: Store, A: Allocator + Copy>(
     scratch: &mut Scratch<A>,
     handles: &[u16],
 ) -> Result<(), Failure>
-    ensures files { S.files store.new ≡ S.files store.old }
-    ensures failures { S.failures store.old ≤ S.failures store.new }
+    ensures stays { IsLater (S.files store.old) (S.failures store.old) (S.files store.new) (S.failures store.new) }
+    ensures device { IfErr result (RoseIf (λ failure. is_of_device failure.fault) (S.failures store.old) (S.failures store.new)) }
     ensures rest { global.new.handles ≡ record global.old.handles { heap = global.new.handles.heap } }
     ensures any { (reads : List ModuleFile) → AreReadAs registry.now handles.now reads → AreUnfilled registry.now global.old.handles handles.now
         → InTurn GivesAny global.old.handles.heap (fills_with registry.now 0 handles.now reads) (failure_in result) global.new.handles.heap }

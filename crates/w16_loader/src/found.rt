@@ -1,7 +1,11 @@
 //! New modules of a load, and what it makes of a name and of a file.
-ghost use Rattle.std.specs.Prelude.{◌≡◌, ◌≤◌, List, ℕ, Some, Ok, true, map, option_map, position, IfOk, IfErr, OnOk};
+ghost use Rattle.std.specs.Prelude.{◌≡◌, List, ℕ, Some, Ok, true, map, option_map, position, IfOk, IfErr, OnOk};
 ghost use Rattle.w16_store.specs.Names as names;
 ghost use Rattle.w16_store.specs.Files.{file_of};
+ghost use Rattle.w16_ne.specs.Reading.{is_ne_device};
+ghost use Rattle.w16_reloc.specs.Segments.{is_reloc_device};
+ghost use Rattle.w16_store.specs.Later.{IsLater, RoseIf};
+ghost use Rattle.w16_loader.specs.Devices.{is_file_device};
 ghost use Rattle.w16_ne.specs.Modules.{tables_at};
 ghost use Rattle.w16_loading.specs.Closure as closing;
 ghost use Rattle.w16_loading.specs.Closure.{are_sound};
@@ -80,7 +84,8 @@ pub fn meant<A: Allocator>(
 
 /// What a fault of a file is to a load: 12, 13 or 14 where it is for another target system, 2 where there is no file, else 11.
 fn fault_of(fault: NeFault) -> FileFault
-    ensures { result ≡ loads.fault_of fault }
+    ensures fault { result ≡ loads.fault_of fault }
+    ensures device { is_file_device result ≡ is_ne_device fault }
 {
     match fault {
         NeFault::OutOfMemory => FileFault::OutOfMemory,
@@ -95,7 +100,8 @@ fn fault_of(fault: NeFault) -> FileFault
 
 /// What a fault of a segment's relocations is to a load.
 fn fault_of_check(fault: RelocFault) -> FileFault
-    ensures { result ≡ loads.fault_of_check fault }
+    ensures fault { result ≡ loads.fault_of_check fault }
+    ensures device { is_file_device result ≡ is_reloc_device fault }
 {
     match fault {
         RelocFault::Store(StoreFault::Device) => FileFault::Device,
@@ -109,8 +115,8 @@ pub fn read_file<S: Store, A: Allocator + Copy>(
     store: &mut S,
     name: &[u8],
 ) -> Result<Module<A>, FileFault>
-    ensures files { S.files store.new ≡ S.files store.old }
-    ensures failures { S.failures store.old ≤ S.failures store.new }
+    ensures stays { IsLater (S.files store.old) (S.failures store.old) (S.files store.new) (S.failures store.new) }
+    ensures device { IfErr result (RoseIf is_file_device (S.failures store.old) (S.failures store.new)) }
     ensures small { IfErr result IsSmall }
     ensures read { S.is_honest → IfOk result (IsRead (file_of (S.files store.old) name.now)) }
     ensures err { S.is_honest → IfErr result (IsFault (λ number. said (file_of (S.files store.old) name.now) ≡ Err number) (S.failures store.old) (S.failures store.new)) }
@@ -131,8 +137,8 @@ pub fn check_segments<S: Store, A: Allocator>(
     module_file: &Module<A>,
     scratch: &mut Scratch<A>,
 ) -> Result<(), FileFault>
-    ensures files { S.files store.new ≡ S.files store.old }
-    ensures failures { S.failures store.old ≤ S.failures store.new }
+    ensures stays { IsLater (S.files store.old) (S.failures store.old) (S.files store.new) (S.failures store.new) }
+    ensures device { IfErr result (RoseIf is_file_device (S.failures store.old) (S.failures store.new)) }
     ensures small { IfErr result IsSmall }
     ensures sound { (bytes : List ℕ) → S.is_honest → file_of (S.files store.old) name.now ≡ Some bytes → tables_at (Some bytes) ≡ Ok module_file.now
         → OnOk result (are_sound (ne.module_file bytes module_file.now) ≡ true) }
@@ -166,8 +172,8 @@ fn settle<S: Store, A: Allocator>(
     name: &[u8],
     read: Module<A>,
 ) -> Result<Reading<A>, FileFault>
-    ensures files { S.files store.new ≡ S.files store.old }
-    ensures failures { S.failures store.old ≤ S.failures store.new }
+    ensures stays { IsLater (S.files store.old) (S.failures store.old) (S.files store.new) (S.failures store.new) }
+    ensures device { IfErr result (RoseIf is_file_device (S.failures store.old) (S.failures store.new)) }
     ensures new { IfOk result (IsNewOrMeant registry.now found.now) }
     ensures small { IfErr result IsSmall }
     ensures read { S.is_honest → IsRead (file_of (S.files store.old) name.now) read
@@ -200,8 +206,8 @@ pub fn examine_file<S: Store, A: Allocator + Copy>(
     scratch: &mut Scratch<A>,
     name: &[u8],
 ) -> Result<Reading<A>, FileFault>
-    ensures files { S.files store.new ≡ S.files store.old }
-    ensures failures { S.failures store.old ≤ S.failures store.new }
+    ensures stays { IsLater (S.files store.old) (S.failures store.old) (S.files store.new) (S.failures store.new) }
+    ensures device { IfErr result (RoseIf is_file_device (S.failures store.old) (S.failures store.new)) }
     ensures new { IfOk result (IsNewOrMeant registry.now found.now) }
     ensures there { IfOk result (IsThere registry.now found.now) }
     ensures small { IfErr result IsSmall }

@@ -1,5 +1,8 @@
 //! Loads of modules: `LoadModule` and `LoadLibrary`.
 ghost use Rattle.std.specs.Prelude.{◌≡◌, ◌≤◌, ◌<◌, ℕ, Bool, false, List, [], None, length, fold, All, IfOk, IfErr, OnErr};
+ghost use Rattle.w16_loading.specs.Fill.{is_of_device};
+ghost use Rattle.w16_store.specs.Later.{IsLater, RoseIf};
+ghost use Rattle.w16_loader.specs.Devices.{is_bind_device, is_load_device, is_file_device};
 ghost use Rattle.std.specs.FinMap as finmap;
 ghost use Rattle.w16_model.specs.Handles.{AreHandles};
 ghost use Rattle.w16_loading.specs.AnyStore.{AnyLoadsBy};
@@ -55,7 +58,8 @@ pub enum LoadAnswer {
 
 /// What a load answers where no module is made of its file, or of one that a reference leads to; an error is that there was no memory.
 fn refuse(fault: FileFault) -> Result<LoadAnswer, AllocError>
-    ensures { result ≡ refused_by fault }
+    ensures answer { result ≡ refused_by fault }
+    ensures device { IfOk result (λ answer. is_load_device answer ≡ is_file_device fault) }
 {
     match fault {
         FileFault::Refused(number) => Ok(LoadAnswer::Says(number)),
@@ -66,7 +70,8 @@ fn refuse(fault: FileFault) -> Result<LoadAnswer, AllocError>
 
 /// What a load answers where a module isn't bound, or an object of it got no bytes; an error is that there was no memory.
 fn fail(fault: BindFault) -> Result<LoadAnswer, AllocError>
-    ensures { result ≡ failed_by fault }
+    ensures answer { result ≡ failed_by fault }
+    ensures device { IfOk result (λ answer. is_load_device answer ≡ is_bind_device fault) }
 {
     match fault {
         BindFault::OutOfMemory => Err(AllocError),
@@ -76,7 +81,8 @@ fn fail(fault: BindFault) -> Result<LoadAnswer, AllocError>
 
 /// What a load answers where an object of a module got no bytes: a file that reads otherwise than it did is as one that isn't accepted.
 fn answer_of(failure: Failure) -> LoadAnswer
-    ensures { result ≡ of_fault failure.place failure.fault }
+    ensures answer { result ≡ of_fault failure.place failure.fault }
+    ensures device { is_load_device result ≡ is_of_device failure.fault }
 {
     match failure.fault {
         FetchFault::Store => LoadAnswer::StoreFails,
@@ -129,8 +135,8 @@ fn give<S: Store, A: Allocator + Copy>(
     scratch: &mut Scratch<A>,
     handles: &[u16],
 ) -> Result<(), BindFault>
-    ensures files { S.files store.new ≡ S.files store.old }
-    ensures failures { S.failures store.old ≤ S.failures store.new }
+    ensures stays { IsLater (S.files store.old) (S.failures store.old) (S.files store.new) (S.failures store.new) }
+    ensures device { IfErr result (RoseIf is_bind_device (S.failures store.old) (S.failures store.new)) }
     ensures given { (rest : LoadingWorld) (old : LoadingWorld) (meant : closing.Closure) → S.is_honest → AreHandles old.handles → All (IsOfFile (S.files store.old)) meant.found
         → IsUnbound old meant handles.now (in_world (with_handles rest global.old.handles) registry.old)
         → IsGiven old meant handles.now result (in_world (with_handles rest global.new.handles) registry.new) }
@@ -165,8 +171,8 @@ fn load_closure<S: Store, A: Allocator + Copy>(
 ) -> Result<LoadAnswer, AllocError>
     requires some { 0 < length closure.found.items }
     requires few { length closure.found.items ≤ free_modules registry.old }
-    ensures files { S.files store.new ≡ S.files store.old }
-    ensures failures { S.failures store.old ≤ S.failures store.new }
+    ensures stays { IsLater (S.files store.old) (S.failures store.old) (S.files store.new) (S.failures store.new) }
+    ensures device { IfOk result (RoseIf is_load_device (S.failures store.old) (S.failures store.new)) }
     ensures loads { (rest : LoadingWorld) (meant : closing.Closure) → S.is_honest → IsClosureOf closure meant → All (IsOfFile (S.files store.old)) meant.found
         → IfOk result (λ answer. LoadsClosed (in_world (with_handles rest global.old.handles) registry.old) meant (answer_in answer) (in_world (with_handles rest global.new.handles) registry.new)) }
     ensures any { (rest : LoadingWorld) (meant : closing.Closure) → IsClosureOf closure meant
@@ -201,8 +207,8 @@ fn load_new<S: Store, A: Allocator + Copy>(
     read: Module<A>,
 ) -> Result<LoadAnswer, AllocError>
     requires { 0 < free_modules registry.old }
-    ensures files { S.files store.new ≡ S.files store.old }
-    ensures failures { S.failures store.old ≤ S.failures store.new }
+    ensures stays { IsLater (S.files store.old) (S.failures store.old) (S.files store.new) (S.failures store.new) }
+    ensures device { IfOk result (RoseIf is_load_device (S.failures store.old) (S.failures store.new)) }
     ensures loads { (rest : LoadingWorld) (before : ℕ) → before ≤ S.failures store.old → S.is_honest → closing.reading ne_format (around_in registry.old (S.files store.old)) [] file.now ≡ Read (read_in (S.files store.old) file.now read)
         → IfOk result (λ answer. (is_load_module : Bool) → LoadsCounted ne_format is_load_module (in_store rest registry.old global.old.handles (S.files store.old) before) file.now (answer_in answer)
         (in_store rest registry.new global.new.handles (S.files store.new) (S.failures store.new))) }
@@ -249,8 +255,8 @@ pub fn load<S: Store, A: Allocator + Copy>(
     file: &[u8],
     is_load_module: bool,
 ) -> Result<LoadAnswer, AllocError>
-    ensures files { S.files store.new ≡ S.files store.old }
-    ensures failures { S.failures store.old ≤ S.failures store.new }
+    ensures stays { IsLater (S.files store.old) (S.failures store.old) (S.files store.new) (S.failures store.new) }
+    ensures device { IfOk result (RoseIf is_load_device (S.failures store.old) (S.failures store.new)) }
     ensures loads { (rest : LoadingWorld) → S.is_honest → IfOk result (λ answer. LoadsCounted ne_format is_load_module (in_store rest registry.old global.old.handles (S.files store.old) (S.failures store.old)) file.now (answer_in answer)
         (in_store rest registry.new global.new.handles (S.files store.new) (S.failures store.new))) }
     ensures any { (rest : LoadingWorld) → IfOk result (λ answer. AnyLoadsBy GivesAnyFewest is_load_module (in_world (with_handles rest global.old.handles) registry.old) file.now (answer_in answer)

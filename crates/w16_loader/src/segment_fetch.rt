@@ -2,9 +2,10 @@
 ghost use Rattle.std.specs.Prelude.{◌≡◌, ◌≤◌, ◌<◌, ◌-◌, ◌/◌, ℕ, List, length, IsTrue, IsFalse, IfErr, OnOk, OnErr, IsSomeAnd, MatchResult, Some, Ok, Err, true, false, slice_get};
 ghost use Rattle.w16_model.specs.Owned.{Revives, owned_at};
 ghost use Rattle.w16_store.specs.Files.{file_of};
+ghost use Rattle.w16_store.specs.Later.{IsLater, RoseIf};
 ghost use Rattle.w16_ne.specs.declared.segment_table.Segment.{Segment};
 ghost use Rattle.w16_ne.specs.Modules.{tables_at};
-ghost use Rattle.w16_reloc.specs.Segments.{Held, checked};
+ghost use Rattle.w16_reloc.specs.Segments.{Held, checked, is_reloc_device};
 ghost use Rattle.w16_global.specs.Owned.{LacksBytes};
 ghost use Rattle.w16_loading.specs.declared.FetchFault.TheVariants.{Store as store_fails};
 ghost use Rattle.w16_loading.specs.AnyStore.{AnyFetches};
@@ -40,7 +41,8 @@ pub struct SegmentSource<'a, A: Allocator = Global> {
 
 /// Why a fetch fails whose segment isn't relocated.
 pub fn fault_of(fault: RelocFault) -> FetchFault
-    ensures { result ≡ fault_of fault }
+    ensures fault { result ≡ fault_of fault }
+    ensures device { is_of_device result ≡ is_reloc_device fault }
 {
     match fault {
         RelocFault::Store(StoreFault::Device) => FetchFault::Store,
@@ -56,8 +58,8 @@ fn read<S: Store, A: Allocator>(
 ) -> Result<(), FetchFault>
     requires first { 0 < source.now.number }
     requires last { source.now.number ≤ length source.now.module.now.segments }
-    ensures files { S.files store.new ≡ S.files store.old }
-    ensures failures { S.failures store.old ≤ S.failures store.new }
+    ensures stays { IsLater (S.files store.old) (S.failures store.old) (S.files store.new) (S.failures store.new) }
+    ensures device { IfErr result (RoseIf is_of_device (S.failures store.old) (S.failures store.new)) }
     ensures many { OnOk result (length scratch.new.records ≡ length source.now.values.now) }
     ensures faults { IfErr result (λ fault. is_of_read fault ≡ true) }
     ensures exact { (file : List ℕ) (s : Segment) (held : Held) → S.is_honest → file_of (S.files store.old) source.now.file.now ≡ Some file
@@ -111,8 +113,8 @@ pub fn fetch<S: Store, A: Allocator + Copy>(
 ) -> Result<(), FetchFault>
     requires first { 0 < source.now.number }
     requires last { source.now.number ≤ length source.now.module.now.segments }
-    ensures files { S.files store.new ≡ S.files store.old }
-    ensures failures { S.failures store.old ≤ S.failures store.new }
+    ensures stays { IsLater (S.files store.old) (S.failures store.old) (S.files store.new) (S.failures store.new) }
+    ensures device { IfErr result (RoseIf is_of_device (S.failures store.old) (S.failures store.new)) }
     ensures refused { OnErr result (global.new ≡ global.old) }
     ensures named { OnOk result (LacksBytes global.old.handles handle) }
     ensures any { (rest : LoadingWorld) → LacksBytes global.old.handles handle → AnyFetches (in_parts rest global.old.handles rest.files rest.failures) (handle / 8) (fault_in result)

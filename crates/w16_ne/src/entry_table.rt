@@ -1,7 +1,8 @@
 //! The entry table.
-ghost use Rattle.std.specs.Prelude.{◌≡◌, ℕ, ◌<◌, ◌≤◌, ◌+◌, ◌*◌, ◌||◌, false, length, nat_lt, slice_index, IfOk, vec_len};
+ghost use Rattle.std.specs.Prelude.{◌≡◌, ℕ, ◌<◌, ◌≤◌, ◌+◌, ◌*◌, ◌||◌, false, length, nat_lt, slice_index, IfOk, vec_len, IfErr};
 ghost use Rattle.w16_store.specs.Files.{file_of};
-ghost use Rattle.w16_ne.specs.Reading.{Gives, Tells};
+ghost use Rattle.w16_store.specs.Later.{IsLater, RoseIf};
+ghost use Rattle.w16_ne.specs.Reading.{Gives, Tells, is_ne_device};
 ghost use Rattle.w16_ne.specs.Header.{segment_count};
 ghost use Rattle.w16_ne.specs.Entries.{entry_size, bundle_end, entry_in, sound_entry, bundle_in, entries_in, table_at};
 
@@ -143,8 +144,8 @@ pub fn entries<A: Allocator + Copy, S: Store>(
     header: &[u8],
 ) -> Result<Vec<Option<Entry>, A>, NeFault>
     requires { length header.now ≡ 64 }
-    ensures files { S.files store.new ≡ S.files store.old }
-    ensures failures { S.failures store.old ≤ S.failures store.new }
+    ensures stays { IsLater (S.files store.old) (S.failures store.old) (S.files store.new) (S.failures store.new) }
+    ensures device { IfErr result (RoseIf is_ne_device (S.failures store.old) (S.failures store.new)) }
     ensures exact { S.is_honest → Gives (λ v. v.items) (file_of (S.files store.old) name.now)
         (S.failures store.old) (S.failures store.new) result (table_at (file_of (S.files store.old) name.now) ne header.now) }
     ensures few { IfOk result (λ v. vec_len v ≤ 65535) }

@@ -1,7 +1,8 @@
 //! The header: where it stands, its bytes, and the tests of its fields.
-ghost use Rattle.std.specs.Prelude.{◌≡◌, ℕ, ◌<◌, ◌≤◌, ◌+◌, length, OnOk};
+ghost use Rattle.std.specs.Prelude.{◌≡◌, ℕ, ◌<◌, ◌≤◌, ◌+◌, length, OnOk, IfErr};
 ghost use Rattle.w16_store.specs.Files.{file_of};
-ghost use Rattle.w16_ne.specs.Reading.{Gives, Tells};
+ghost use Rattle.w16_store.specs.Later.{IsLater, RoseIf};
+ghost use Rattle.w16_ne.specs.Reading.{Gives, Tells, is_ne_device};
 ghost use Rattle.w16_ne.specs.Header.{place_at, header_at, fields_of, shift_of, segment_count};
 
 use crate::fault::NeFault;
@@ -11,8 +12,8 @@ use w16_store::Store;
 /// The offset of the header.
 #[tactic(auto, unfolding(crate::specs::Header::place_at))]
 pub fn place<S: Store>(store: &mut S, name: &[u8]) -> Result<u32, NeFault>
-    ensures files { S.files store.new ≡ S.files store.old }
-    ensures failures { S.failures store.old ≤ S.failures store.new }
+    ensures stays { IsLater (S.files store.old) (S.failures store.old) (S.files store.new) (S.failures store.new) }
+    ensures device { IfErr result (RoseIf is_ne_device (S.failures store.old) (S.failures store.new)) }
     ensures exact { S.is_honest → Gives (λ ne. ne) (file_of (S.files store.old) name.now)
         (S.failures store.old) (S.failures store.new) result (place_at (file_of (S.files store.old) name.now)) }
 {
@@ -29,8 +30,8 @@ pub fn place<S: Store>(store: &mut S, name: &[u8]) -> Result<u32, NeFault>
 /// The header's bytes.
 #[tactic(auto, unfolding(crate::specs::Header::header_at))]
 pub fn header<S: Store>(store: &mut S, name: &[u8], ne: u32) -> Result<[u8; 64], NeFault>
-    ensures files { S.files store.new ≡ S.files store.old }
-    ensures failures { S.failures store.old ≤ S.failures store.new }
+    ensures stays { IsLater (S.files store.old) (S.failures store.old) (S.files store.new) (S.failures store.new) }
+    ensures device { IfErr result (RoseIf is_ne_device (S.failures store.old) (S.failures store.new)) }
     ensures exact { S.is_honest → Gives (λ header. header) (file_of (S.files store.old) name.now)
         (S.failures store.old) (S.failures store.new) result (header_at (file_of (S.files store.old) name.now) ne) }
 {

@@ -1,8 +1,9 @@
 //! Imported names.
-ghost use Rattle.std.specs.Prelude.{◌≡◌, ℕ, ◌<◌, ◌≤◌, ◌+◌, ◌^◌, length, take, IfOk};
+ghost use Rattle.std.specs.Prelude.{ℕ, ◌<◌, ◌≤◌, ◌+◌, ◌^◌, length, take, IfOk, IfErr};
 ghost use Rattle.w16_store.specs.Files.{file_of};
+ghost use Rattle.w16_store.specs.Later.{IsLater, RoseIf};
 ghost use Rattle.w16_ne.specs.declared.fault.NeFault.TheVariants.{Truncated};
-ghost use Rattle.w16_ne.specs.Reading.{Gives};
+ghost use Rattle.w16_ne.specs.Reading.{Gives, is_ne_device};
 ghost use Rattle.w16_ne.specs.References.{text_at};
 ghost use Rattle.w16_ne.specs.Modules.{imported_place};
 
@@ -22,8 +23,8 @@ fn read_text<S: Store>(
 ) -> Result<usize, NeFault>
     requires place { at < 2 ^ 63 }
     requires room { 255 ≤ length room.old }
-    ensures files { S.files store.new ≡ S.files store.old }
-    ensures failures { S.failures store.old ≤ S.failures store.new }
+    ensures stays { IsLater (S.files store.old) (S.failures store.old) (S.files store.new) (S.failures store.new) }
+    ensures device { IfErr result (RoseIf is_ne_device (S.failures store.old) (S.failures store.new)) }
     ensures len { IfOk result (λ n. n ≤ 255) }
     ensures exact { S.is_honest → Gives (λ n. take n room.new) (file_of (S.files store.old) name.now)
         (S.failures store.old) (S.failures store.new) result (text_at Truncated (file_of (S.files store.old) name.now) at) }
@@ -47,8 +48,8 @@ pub fn imported_name<A: Allocator, S: Store>(
     room: &mut [u8],
 ) -> Result<usize, NeFault>
     requires { 255 ≤ length room.old }
-    ensures files { S.files store.new ≡ S.files store.old }
-    ensures failures { S.failures store.old ≤ S.failures store.new }
+    ensures stays { IsLater (S.files store.old) (S.failures store.old) (S.files store.new) (S.failures store.new) }
+    ensures device { IfErr result (RoseIf is_ne_device (S.failures store.old) (S.failures store.new)) }
     ensures len { IfOk result (λ n. n ≤ 255) }
     ensures exact { S.is_honest → Gives (λ n. take n room.new) (file_of (S.files store.old) name.now)
         (S.failures store.old) (S.failures store.new) result (text_at Truncated (file_of (S.files store.old) name.now) (imported_place module_file.now + offset)) }

@@ -1,8 +1,9 @@
 //! Pieces of a file, and entries of a table of names that are found in them.
-ghost use Rattle.std.specs.Prelude.{◌≡◌, ℕ, ◌<◌, ◌≤◌, ◌+◌, ◌-◌, length, option_map, slice_index, true, Ok, IfOk, IfSome, OnOk, MatchResult};
+ghost use Rattle.std.specs.Prelude.{◌≡◌, ℕ, ◌<◌, ◌≤◌, ◌+◌, ◌-◌, length, option_map, slice_index, true, Ok, IfOk, IfSome, OnOk, MatchResult, IfErr};
 ghost use Rattle.w16_store.specs.Files.{file_of};
+ghost use Rattle.w16_store.specs.Later.{IsLater, RoseIf};
 ghost use Rattle.w16_ne.specs.declared.fault.NeFault.TheVariants.{Truncated};
-ghost use Rattle.w16_ne.specs.Reading.{Gives, Tells, IsFailure, bytes_or, length_at};
+ghost use Rattle.w16_ne.specs.Reading.{Gives, Tells, IsFailure, bytes_or, length_at, is_ne_device};
 ghost use Rattle.w16_ne.specs.Names.{name_at, piece_at, found_in, IsPiece};
 
 use crate::fault::NeFault;
@@ -41,8 +42,8 @@ impl<A: Allocator + Copy> Piece<A> {
         at: u64,
     ) -> Result<Piece<A>, NeFault>
         requires { at < len }
-        ensures files { S.files store.new ≡ S.files store.old }
-        ensures failures { S.failures store.old ≤ S.failures store.new }
+        ensures stays { IsLater (S.files store.old) (S.failures store.old) (S.files store.new) (S.failures store.new) }
+        ensures device { IfErr result (RoseIf is_ne_device (S.failures store.old) (S.failures store.new)) }
         ensures place { IfOk result (λ p. p.at ≡ at) }
         ensures exact { S.is_honest → length_at (file_of (S.files store.old) name.now) ≡ Ok len
             → MatchResult result (λ p. piece_at (file_of (S.files store.old) name.now) at ≡ Ok p.bytes.items)
@@ -70,8 +71,8 @@ impl<A: Allocator + Copy> Piece<A> {
         at: u64,
     ) -> Result<(), NeFault>
         requires { at < len }
-        ensures files { S.files store.new ≡ S.files store.old }
-        ensures failures { S.failures store.old ≤ S.failures store.new }
+        ensures stays { IsLater (S.files store.old) (S.failures store.old) (S.files store.new) (S.failures store.new) }
+        ensures device { IfErr result (RoseIf is_ne_device (S.failures store.old) (S.failures store.new)) }
         ensures covers { OnOk result ((self.new.at ≤ at) × (at - self.new.at + LONGEST ≤ PIECE)) }
         ensures exact { S.is_honest → length_at (file_of (S.files store.old) name.now) ≡ Ok len
             → piece_at (file_of (S.files store.old) name.now) self.old.at ≡ Ok self.old.bytes.items
@@ -98,8 +99,8 @@ impl<A: Allocator + Copy> Piece<A> {
         requires place { at < len }
         requires some { 0 < length buf.old }
         requires short { length buf.old ≤ LONGEST }
-        ensures files { S.files store.new ≡ S.files store.old }
-        ensures failures { S.failures store.old ≤ S.failures store.new }
+        ensures stays { IsLater (S.files store.old) (S.failures store.old) (S.files store.new) (S.failures store.new) }
+        ensures device { IfErr result (RoseIf is_ne_device (S.failures store.old) (S.failures store.new)) }
         ensures exact { S.is_honest → IsPiece (file_of (S.files store.old) name.now) len self.old
             → Gives (λ _. buf.new) (file_of (S.files store.old) name.now)
             (S.failures store.old) (S.failures store.new) result (bytes_or Truncated (file_of (S.files store.old) name.now) at (length buf.old)) }

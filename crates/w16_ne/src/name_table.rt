@@ -1,7 +1,8 @@
 //! The resident names.
 ghost use Rattle.std.specs.Prelude.{◌≡◌, ℕ, ◌<◌, ◌≤◌, ◌+◌, ◌^◌, List, length, option_map, Ok, [], IfOk, IfSome, IfErr, OnOk};
 ghost use Rattle.w16_store.specs.Files.{file_of};
-ghost use Rattle.w16_ne.specs.Reading.{Gives, GivesSuch, Refuses, length_at};
+ghost use Rattle.w16_store.specs.Later.{IsLater, RoseIf};
+ghost use Rattle.w16_ne.specs.Reading.{Gives, GivesSuch, Refuses, length_at, is_ne_device};
 ghost use Rattle.w16_ne.specs.Listing.{IsListing};
 ghost use Rattle.w16_ne.specs.Names.{Entry, found_in, name_at, names_from, names_at, piece_at, resident_at};
 
@@ -23,8 +24,8 @@ fn name_of<A: Allocator + Copy, S: Store>(
     piece: &mut Piece<A>,
 ) -> Result<Option<Found>, NeFault>
     requires { at < len }
-    ensures files { S.files store.new ≡ S.files store.old }
-    ensures failures { S.failures store.old ≤ S.failures store.new }
+    ensures stays { IsLater (S.files store.old) (S.failures store.old) (S.files store.new) (S.failures store.new) }
+    ensures device { IfErr result (RoseIf is_ne_device (S.failures store.old) (S.failures store.new)) }
     ensures exact { S.is_honest → length_at (file_of (S.files store.old) name.now) ≡ Ok len
         → piece_at (file_of (S.files store.old) name.now) piece.old.at ≡ Ok piece.old.bytes.items →
         Gives (option_map (found_in piece.new.bytes.items)) (file_of (S.files store.old) name.now)
@@ -54,8 +55,8 @@ fn extent_of<A: Allocator + Copy, S: Store>(
     at: u64,
 ) -> Result<Extent, NeFault>
     requires { at < len }
-    ensures files { S.files store.new ≡ S.files store.old }
-    ensures failures { S.failures store.old ≤ S.failures store.new }
+    ensures stays { IsLater (S.files store.old) (S.failures store.old) (S.files store.new) (S.failures store.new) }
+    ensures device { IfErr result (RoseIf is_ne_device (S.failures store.old) (S.failures store.new)) }
     ensures exact { S.is_honest → length_at (file_of (S.files store.old) name.now) ≡ Ok len →
         IfErr result (λ e. Refuses (file_of (S.files store.old) name.now)
         (S.failures store.old) (S.failures store.new) e (names_from (file_of (S.files store.old) name.now) len at)) }
@@ -91,8 +92,8 @@ fn add_names<A: Allocator + Copy, S: Store>(
     listing: &mut Listing<A>,
 ) -> Result<(), NeFault>
     requires { at < len }
-    ensures files { S.files store.new ≡ S.files store.old }
-    ensures failures { S.failures store.old ≤ S.failures store.new }
+    ensures stays { IsLater (S.files store.old) (S.failures store.old) (S.files store.new) (S.failures store.new) }
+    ensures device { IfErr result (RoseIf is_ne_device (S.failures store.old) (S.failures store.new)) }
     ensures exact { (before : List Entry) → S.is_honest → length_at (file_of (S.files store.old) name.now) ≡ Ok len → IsListing before [] listing.old →
         GivesSuch (λ _ listed. IsListing before listed listing.new) (file_of (S.files store.old) name.now)
         (S.failures store.old) (S.failures store.new) result (names_from (file_of (S.files store.old) name.now) len at) }
@@ -126,8 +127,8 @@ fn listing_at<A: Allocator + Copy, S: Store>(
     at: u64,
     others: usize,
 ) -> Result<Listing<A>, NeFault>
-    ensures files { S.files store.new ≡ S.files store.old }
-    ensures failures { S.failures store.old ≤ S.failures store.new }
+    ensures stays { IsLater (S.files store.old) (S.failures store.old) (S.files store.new) (S.failures store.new) }
+    ensures device { IfErr result (RoseIf is_ne_device (S.failures store.old) (S.failures store.new)) }
     ensures exact { S.is_honest → GivesSuch (λ l listed. IsListing [] listed l) (file_of (S.files store.old) name.now)
         (S.failures store.old) (S.failures store.new) result (names_at (file_of (S.files store.old) name.now) at) }
 {
@@ -153,8 +154,8 @@ pub fn resident<A: Allocator + Copy, S: Store>(
     header: &[u8],
 ) -> Result<Listing<A>, NeFault>
     requires { length header.now ≡ 64 }
-    ensures files { S.files store.new ≡ S.files store.old }
-    ensures failures { S.failures store.old ≤ S.failures store.new }
+    ensures stays { IsLater (S.files store.old) (S.failures store.old) (S.files store.new) (S.failures store.new) }
+    ensures device { IfErr result (RoseIf is_ne_device (S.failures store.old) (S.failures store.new)) }
     ensures exact { S.is_honest → GivesSuch (λ l listed. IsListing [] listed l) (file_of (S.files store.old) name.now)
         (S.failures store.old) (S.failures store.new) result (resident_at (file_of (S.files store.old) name.now) ne header.now) }
 {

@@ -1,7 +1,8 @@
 //! The nonresident names.
-ghost use Rattle.std.specs.Prelude.{◌≡◌, ℕ, ◌≤◌, ◌+◌, List, [], length};
+ghost use Rattle.std.specs.Prelude.{◌≡◌, ℕ, ◌≤◌, ◌+◌, List, [], length, IfErr, false};
 ghost use Rattle.w16_store.specs.Files.{file_of};
-ghost use Rattle.w16_ne.specs.Reading.{GivesSuch, TellsSuch};
+ghost use Rattle.w16_store.specs.Later.{IsLater, RoseIf};
+ghost use Rattle.w16_ne.specs.Reading.{GivesSuch, TellsSuch, is_ne_device};
 ghost use Rattle.w16_ne.specs.Listing.{IsListing};
 ghost use Rattle.w16_ne.specs.Names.{Entry, table_names, nonresident_at};
 
@@ -15,7 +16,8 @@ use w16_store::Store;
 #[tactic(auto, unfolding(crate::specs::Names::table_names))]
 fn add_names<A: Allocator + Copy>(table: &[u8], listing: &mut Listing<A>) -> Result<(), NeFault>
     requires { length table.now ≤ 65535 }
-    ensures { (before : List Entry) → IsListing before [] listing.old → TellsSuch (λ _ listed. IsListing before listed listing.new) result (table_names table.now) }
+    ensures own { IfErr result (λ e. is_ne_device e ≡ false) }
+    ensures exact { (before : List Entry) → IsListing before [] listing.old → TellsSuch (λ _ listed. IsListing before listed listing.new) result (table_names table.now) }
 {
     let mut at = 0;
     for _ in 0..table.len() {
@@ -43,8 +45,8 @@ pub fn add_nonresident<A: Allocator + Copy, S: Store>(
     listing: &mut Listing<A>,
 ) -> Result<(), NeFault>
     requires { length header.now ≡ 64 }
-    ensures files { S.files store.new ≡ S.files store.old }
-    ensures failures { S.failures store.old ≤ S.failures store.new }
+    ensures stays { IsLater (S.files store.old) (S.failures store.old) (S.files store.new) (S.failures store.new) }
+    ensures device { IfErr result (RoseIf is_ne_device (S.failures store.old) (S.failures store.new)) }
     ensures exact { (before : List Entry) → S.is_honest → IsListing before [] listing.old →
         GivesSuch (λ _ listed. IsListing before listed listing.new) (file_of (S.files store.old) name.now)
         (S.failures store.old) (S.failures store.new) result (nonresident_at (file_of (S.files store.old) name.now) header.now) }

@@ -1,7 +1,8 @@
 //! The tables of a module, read from its file.
-ghost use Rattle.std.specs.Prelude.{◌≡◌, ◌≤◌, length};
+ghost use Rattle.std.specs.Prelude.{◌≡◌, ◌≤◌, length, IfErr};
 ghost use Rattle.w16_store.specs.Files.{file_of};
-ghost use Rattle.w16_ne.specs.Reading.{Gives};
+ghost use Rattle.w16_store.specs.Later.{IsLater, RoseIf};
+ghost use Rattle.w16_ne.specs.Reading.{Gives, is_ne_device};
 ghost use Rattle.w16_ne.specs.Header.{segment_count, shift_of};
 ghost use Rattle.w16_ne.specs.Modules.{tables_behind, tables_at};
 ghost use Rattle.w16_ne.specs.Parts.{IsTold, parts_behind, parts_at, without_part};
@@ -33,8 +34,8 @@ fn tables<A: Allocator + Copy, S: Store>(
     requires len { length header ≡ 64 }
     requires few { segment_count header ≤ 253 }
     requires shift { shift_of header ≤ 15 }
-    ensures files { S.files store.new ≡ S.files store.old }
-    ensures failures { S.failures store.old ≤ S.failures store.new }
+    ensures stays { IsLater (S.files store.old) (S.failures store.old) (S.files store.new) (S.failures store.new) }
+    ensures device { IfErr result (RoseIf (λ e. is_ne_device e.fault) (S.failures store.old) (S.failures store.new)) }
     ensures exact { S.is_honest → Gives (λ tables. tables) (file_of (S.files store.old) name.now)
         (S.failures store.old) (S.failures store.new) (without_part result) (tables_behind (file_of (S.files store.old) name.now) ne header) }
     ensures part { S.is_honest → IsTold result (parts_behind (file_of (S.files store.old) name.now) ne header) }
@@ -95,8 +96,8 @@ pub fn read_parts<A: Allocator + Copy, S: Store>(
     store: &mut S,
     name: &[u8],
 ) -> Result<Module<A>, PartFault>
-    ensures files { S.files store.new ≡ S.files store.old }
-    ensures failures { S.failures store.old ≤ S.failures store.new }
+    ensures stays { IsLater (S.files store.old) (S.failures store.old) (S.files store.new) (S.failures store.new) }
+    ensures device { IfErr result (RoseIf (λ e. is_ne_device e.fault) (S.failures store.old) (S.failures store.new)) }
     ensures exact { S.is_honest → Gives (λ tables. tables) (file_of (S.files store.old) name.now)
         (S.failures store.old) (S.failures store.new) (without_part result) (tables_at (file_of (S.files store.old) name.now)) }
     ensures part { S.is_honest → IsTold result (parts_at (file_of (S.files store.old) name.now)) }
@@ -113,8 +114,8 @@ pub fn read_module<A: Allocator + Copy, S: Store>(
     store: &mut S,
     name: &[u8],
 ) -> Result<Module<A>, NeFault>
-    ensures files { S.files store.new ≡ S.files store.old }
-    ensures failures { S.failures store.old ≤ S.failures store.new }
+    ensures stays { IsLater (S.files store.old) (S.failures store.old) (S.files store.new) (S.failures store.new) }
+    ensures device { IfErr result (RoseIf is_ne_device (S.failures store.old) (S.failures store.new)) }
     ensures exact { S.is_honest → Gives (λ tables. tables) (file_of (S.files store.old) name.now)
         (S.failures store.old) (S.failures store.new) result (tables_at (file_of (S.files store.old) name.now)) }
 {

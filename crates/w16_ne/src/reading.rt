@@ -1,8 +1,9 @@
 //! Parts of a file, read through a store.
-ghost use Rattle.std.specs.Prelude.{◌≡◌, ℕ, ◌<◌, ◌≤◌, ◌+◌, ◌==◌, ◌||◌, false, length, take, drop, nat_le, slice_index, IfOk};
+ghost use Rattle.std.specs.Prelude.{◌≡◌, ℕ, ◌<◌, ◌≤◌, ◌+◌, ◌==◌, ◌||◌, false, length, take, drop, nat_le, slice_index, IfOk, IfErr};
 ghost use Rattle.w16_ne.specs.declared.fault.NeFault.TheVariants.{Truncated};
 ghost use Rattle.w16_store.specs.Files.{file_of};
-ghost use Rattle.w16_ne.specs.Reading.{Gives, IsOfFile, bytes_or, length_at, reaches, word_of, dword_of};
+ghost use Rattle.w16_store.specs.Later.{IsLater, RoseIf};
+ghost use Rattle.w16_ne.specs.Reading.{Gives, IsOfFile, bytes_or, length_at, reaches, word_of, dword_of, is_ne_device};
 
 use crate::fault::NeFault;
 use byteorder::{ByteOrder, LittleEndian};
@@ -18,8 +19,8 @@ pub fn read_or<S: Store>(
     short: NeFault,
 ) -> Result<(), NeFault>
     requires { IsOfFile short }
-    ensures files { S.files store.new ≡ S.files store.old }
-    ensures failures { S.failures store.old ≤ S.failures store.new }
+    ensures stays { IsLater (S.files store.old) (S.failures store.old) (S.files store.new) (S.failures store.new) }
+    ensures device { IfErr result (RoseIf is_ne_device (S.failures store.old) (S.failures store.new)) }
     ensures exact { S.is_honest → Gives (λ _. buf.new) (file_of (S.files store.old) name.now)
         (S.failures store.old) (S.failures store.new) result (bytes_or short (file_of (S.files store.old) name.now) at (length buf.old)) }
 {
@@ -40,8 +41,8 @@ pub fn table<A: Allocator + Copy, S: Store>(
     short: NeFault,
 ) -> Result<Vec<u8, A>, NeFault>
     requires { IsOfFile short }
-    ensures files { S.files store.new ≡ S.files store.old }
-    ensures failures { S.failures store.old ≤ S.failures store.new }
+    ensures stays { IsLater (S.files store.old) (S.failures store.old) (S.files store.new) (S.failures store.new) }
+    ensures device { IfErr result (RoseIf is_ne_device (S.failures store.old) (S.failures store.new)) }
     ensures exact { S.is_honest → Gives (λ v. v.items) (file_of (S.files store.old) name.now)
         (S.failures store.old) (S.failures store.new) result (bytes_or short (file_of (S.files store.old) name.now) at len) }
     ensures len { IfOk result (λ v. length v.items ≡ len) }
@@ -54,8 +55,8 @@ pub fn table<A: Allocator + Copy, S: Store>(
 /// Tests that the file has so many bytes.
 pub fn reaches<S: Store>(store: &mut S, name: &[u8], end: u64) -> Result<(), NeFault>
     requires { 0 < end }
-    ensures files { S.files store.new ≡ S.files store.old }
-    ensures failures { S.failures store.old ≤ S.failures store.new }
+    ensures stays { IsLater (S.files store.old) (S.failures store.old) (S.files store.new) (S.failures store.new) }
+    ensures device { IfErr result (RoseIf is_ne_device (S.failures store.old) (S.failures store.new)) }
     ensures exact { S.is_honest → Gives (λ _. tt) (file_of (S.files store.old) name.now)
         (S.failures store.old) (S.failures store.new) result (reaches (file_of (S.files store.old) name.now) end) }
 {
@@ -65,8 +66,8 @@ pub fn reaches<S: Store>(store: &mut S, name: &[u8], end: u64) -> Result<(), NeF
 
 /// The file's length.
 pub fn file_len<S: Store>(store: &mut S, name: &[u8]) -> Result<u64, NeFault>
-    ensures files { S.files store.new ≡ S.files store.old }
-    ensures failures { S.failures store.old ≤ S.failures store.new }
+    ensures stays { IsLater (S.files store.old) (S.failures store.old) (S.files store.new) (S.failures store.new) }
+    ensures device { IfErr result (RoseIf is_ne_device (S.failures store.old) (S.failures store.new)) }
     ensures exact { S.is_honest → Gives (λ n. n) (file_of (S.files store.old) name.now)
         (S.failures store.old) (S.failures store.new) result (length_at (file_of (S.files store.old) name.now)) }
 {

@@ -1,8 +1,9 @@
 //! Module references.
-ghost use Rattle.std.specs.Prelude.{◌≡◌, ℕ, ◌<◌, ◌≤◌, ◌+◌, ◌*◌, ◌==◌, [], List, Option, All, IfOk, Ok, Some, length, map, slice_get};
+ghost use Rattle.std.specs.Prelude.{◌≡◌, ℕ, ◌<◌, ◌≤◌, ◌+◌, ◌*◌, ◌==◌, [], List, Option, All, IfOk, Ok, Some, length, map, slice_get, IfErr, false};
 ghost use Rattle.std.specs.List.{list_any};
 ghost use Rattle.w16_store.specs.Files.{file_of};
-ghost use Rattle.w16_ne.specs.Reading.{Gives, Tells};
+ghost use Rattle.w16_store.specs.Later.{IsLater, RoseIf};
+ghost use Rattle.w16_ne.specs.Reading.{Gives, Tells, is_ne_device};
 ghost use Rattle.w16_ne.specs.References.{texts_at, references_at};
 ghost use Rattle.w16_ne.specs.Texts.{HasText, text_in, texts_behind};
 
@@ -73,6 +74,7 @@ fn offsets_of<A: Allocator + Copy>(
     ensures exact { (file : Option (List ℕ)) (names : ℕ) → texts_behind file names ≡ Ok texts.now
         → Tells (λ v. map (text_in texts.now) v.items) result (texts_at file names table.now count) }
     ensures inside { IfOk result (λ v. All (HasText texts.now) v.items) }
+    ensures own { IfErr result (λ e. is_ne_device e ≡ false) }
 {
     let mut offsets = Vec::with_capacity(alloc, usize::from(count))?;
     for i in 0..count {
@@ -106,8 +108,8 @@ pub fn references<A: Allocator + Copy, S: Store>(
     header: &[u8],
 ) -> Result<ReferenceTable<A>, NeFault>
     requires { length header.now ≡ 64 }
-    ensures files { S.files store.new ≡ S.files store.old }
-    ensures failures { S.failures store.old ≤ S.failures store.new }
+    ensures stays { IsLater (S.files store.old) (S.failures store.old) (S.files store.new) (S.failures store.new) }
+    ensures device { IfErr result (RoseIf is_ne_device (S.failures store.old) (S.failures store.new)) }
     ensures exact { S.is_honest → Gives (λ names. names) (file_of (S.files store.old) name.now)
         (S.failures store.old) (S.failures store.new) result (references_at (file_of (S.files store.old) name.now) ne header.now) }
 {

@@ -1,7 +1,8 @@
 //! The blocks of the resource table.
 ghost use Rattle.std.specs.Prelude.{◌≡◌, ℕ, ◌<◌, ◌≤◌, ◌+◌, ◌*◌, Ok, Some, None, All, IfOk, IfErr, IfSome, OnOk, length, nat_le, if◌then◌else◌};
 ghost use Rattle.w16_store.specs.Files.{file_of};
-ghost use Rattle.w16_ne.specs.Reading.{Gives, Refuses, length_at, word_of};
+ghost use Rattle.w16_store.specs.Later.{IsLater, RoseIf};
+ghost use Rattle.w16_ne.specs.Reading.{Gives, Refuses, length_at, word_of, is_ne_device};
 ghost use Rattle.w16_ne.specs.Names.{IsPiece};
 ghost use Rattle.w16_ne.specs.Resources.{block_at, blocks_from, blocks_at};
 
@@ -51,8 +52,8 @@ fn block_of<A: Allocator + Copy, S: Store>(
     piece: &mut Piece<A>,
 ) -> Result<Option<Block>, NeFault>
     requires { at < len }
-    ensures files { S.files store.new ≡ S.files store.old }
-    ensures failures { S.failures store.old ≤ S.failures store.new }
+    ensures stays { IsLater (S.files store.old) (S.failures store.old) (S.files store.new) (S.failures store.new) }
+    ensures device { IfErr result (RoseIf is_ne_device (S.failures store.old) (S.failures store.new)) }
     ensures ends { IfOk result (λ found. IfSome found (λ b. b.at + 12 * b.count ≤ len)) }
     ensures exact { S.is_honest → IsPiece (file_of (S.files store.old) name.now) len piece.old → Gives (λ b. b) (file_of (S.files store.old) name.now)
         (S.failures store.old) (S.failures store.new) result (block_at (file_of (S.files store.old) name.now) at) }
@@ -81,8 +82,8 @@ fn count_of<A: Allocator + Copy, S: Store>(
     at: u64,
 ) -> Result<usize, NeFault>
     requires { at < len }
-    ensures files { S.files store.new ≡ S.files store.old }
-    ensures failures { S.failures store.old ≤ S.failures store.new }
+    ensures stays { IsLater (S.files store.old) (S.failures store.old) (S.files store.new) (S.failures store.new) }
+    ensures device { IfErr result (RoseIf is_ne_device (S.failures store.old) (S.failures store.new)) }
     ensures exact { S.is_honest → length_at (file_of (S.files store.old) name.now) ≡ Ok len →
         IfErr result (λ e. Refuses (file_of (S.files store.old) name.now)
         (S.failures store.old) (S.failures store.new) e (blocks_from (file_of (S.files store.old) name.now) len at)) }
@@ -116,8 +117,8 @@ fn blocks_before<A: Allocator + Copy, S: Store>(
     count: usize,
 ) -> Result<Vec<Block, A>, NeFault>
     requires { at < len }
-    ensures files { S.files store.new ≡ S.files store.old }
-    ensures failures { S.failures store.old ≤ S.failures store.new }
+    ensures stays { IsLater (S.files store.old) (S.failures store.old) (S.files store.new) (S.failures store.new) }
+    ensures device { IfErr result (RoseIf is_ne_device (S.failures store.old) (S.failures store.new)) }
     ensures ends { IfOk result (λ v. All (λ b. b.at + 12 * b.count ≤ len) v.items) }
     ensures exact { S.is_honest → length_at (file_of (S.files store.old) name.now) ≡ Ok len →
         Gives (λ v. v.items) (file_of (S.files store.old) name.now)
@@ -152,8 +153,8 @@ pub fn blocks<A: Allocator + Copy, S: Store>(
     len: u64,
     at: u64,
 ) -> Result<Vec<Block, A>, NeFault>
-    ensures files { S.files store.new ≡ S.files store.old }
-    ensures failures { S.failures store.old ≤ S.failures store.new }
+    ensures stays { IsLater (S.files store.old) (S.failures store.old) (S.files store.new) (S.failures store.new) }
+    ensures device { IfErr result (RoseIf is_ne_device (S.failures store.old) (S.failures store.new)) }
     ensures place { IfOk result (λ _. at < len) }
     ensures ends { IfOk result (λ v. All (λ b. b.at + 12 * b.count ≤ len) v.items) }
     ensures exact { S.is_honest → length_at (file_of (S.files store.old) name.now) ≡ Ok len → Gives (λ v. v.items) (file_of (S.files store.old) name.now)

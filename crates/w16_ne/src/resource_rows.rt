@@ -1,7 +1,9 @@
 //! The rows of the resource table.
-ghost use Rattle.std.specs.Prelude.{◌≡◌, ℕ, ◌<◌, ◌≤◌, ◌+◌, ◌*◌, ◌++◌, ◌∷◌, [], List, Option, All, Ok, OnOk, IfOk};
+ghost use Rattle.std.specs.Prelude.{◌≡◌, ℕ, ◌<◌, ◌≤◌, ◌+◌, ◌*◌, ◌++◌, ◌∷◌, [], List, Option, All, Ok, OnOk, IfOk, IfErr};
 ghost use Rattle.w16_store.specs.Files.{file_of};
-ghost use Rattle.w16_ne.specs.Reading.{Gives, GivesSuch, Tells, length_at};
+ghost use Rattle.w16_ne.specs.declared.fault.NeFault.TheVariants.{BadTable};
+ghost use Rattle.w16_store.specs.Later.{IsLater, RoseIf};
+ghost use Rattle.w16_ne.specs.Reading.{Gives, GivesSuch, Tells, length_at, is_ne_device};
 ghost use Rattle.w16_ne.specs.Names.{IsPiece};
 ghost use Rattle.w16_ne.specs.Texts.{texts_behind};
 ghost use Rattle.w16_ne.specs.Resources.{label_at, resource_at, resources_of, typed_at, all_typed, filled};
@@ -44,6 +46,7 @@ fn test_label(texts: &[u8], word: u16) -> Result<(), NeFault>
     ensures exact { (file : Option (List ℕ)) (table : ℕ) → texts_behind file table ≡ Ok texts.now
         → Tells (λ _. label_in texts.now word) result (label_at file table word) }
     ensures inside { OnOk result (HasLabel texts.now word) }
+    ensures fault { IfErr result (λ e. e ≡ BadTable) }
 {
     if word >= 0x8000 {
         return Ok(());
@@ -63,8 +66,8 @@ fn row_at<A: Allocator + Copy, S: Store>(
     piece: &mut Piece<A>,
 ) -> Result<Row, NeFault>
     requires { at < len }
-    ensures files { S.files store.new ≡ S.files store.old }
-    ensures failures { S.failures store.old ≤ S.failures store.new }
+    ensures stays { IsLater (S.files store.old) (S.failures store.old) (S.files store.new) (S.failures store.new) }
+    ensures device { IfErr result (RoseIf is_ne_device (S.failures store.old) (S.failures store.new)) }
     ensures exact { (table shift : ℕ) → S.is_honest → IsPiece (file_of (S.files store.old) name.now) len piece.old
         → texts_behind (file_of (S.files store.old) name.now) table ≡ Ok texts.now
         → Gives (entry_in texts.now shift) (file_of (S.files store.old) name.now)
@@ -98,8 +101,8 @@ fn add_rows<A: Allocator + Copy, S: Store>(
     rows: &mut Vec<Row, A>,
 ) -> Result<(), NeFault>
     requires { block.at + 12 * block.count ≤ len }
-    ensures files { S.files store.new ≡ S.files store.old }
-    ensures failures { S.failures store.old ≤ S.failures store.new }
+    ensures stays { IsLater (S.files store.old) (S.failures store.old) (S.files store.new) (S.failures store.new) }
+    ensures device { IfErr result (RoseIf is_ne_device (S.failures store.old) (S.failures store.new)) }
     ensures exact { (table shift : ℕ) → S.is_honest → IsPiece (file_of (S.files store.old) name.now) len piece.old
         → texts_behind (file_of (S.files store.old) name.now) table ≡ Ok texts.now
         → GivesSuch (λ _ entries. AreEntries texts.now shift rows.old.items rows.new.items entries) (file_of (S.files store.old) name.now)
@@ -129,8 +132,8 @@ fn add_block<A: Allocator + Copy, S: Store>(
     rows: &mut Rows<A>,
 ) -> Result<(), NeFault>
     requires { block.at + 12 * block.count ≤ len }
-    ensures files { S.files store.new ≡ S.files store.old }
-    ensures failures { S.failures store.old ≤ S.failures store.new }
+    ensures stays { IsLater (S.files store.old) (S.failures store.old) (S.files store.new) (S.failures store.new) }
+    ensures device { IfErr result (RoseIf is_ne_device (S.failures store.old) (S.failures store.new)) }
     ensures exact { (table shift : ℕ) → S.is_honest → IsPiece (file_of (S.files store.old) name.now) len piece.old
         → texts_behind (file_of (S.files store.old) name.now) table ≡ Ok texts.now → AreRows texts.now rows.old
         → GivesSuch (λ _ t. grouped texts.now shift rows.new.groups.items rows.new.rows.items
@@ -161,8 +164,8 @@ pub fn all_rows<A: Allocator + Copy, S: Store>(
 ) -> Result<Rows<A>, NeFault>
     requires place { at < len }
     requires ends { All (λ b. b.at + 12 * b.count ≤ len) blocks.now }
-    ensures files { S.files store.new ≡ S.files store.old }
-    ensures failures { S.failures store.old ≤ S.failures store.new }
+    ensures stays { IsLater (S.files store.old) (S.failures store.old) (S.files store.new) (S.failures store.new) }
+    ensures device { IfErr result (RoseIf is_ne_device (S.failures store.old) (S.failures store.new)) }
     ensures exact { (table shift : ℕ) → S.is_honest → length_at (file_of (S.files store.old) name.now) ≡ Ok len
         → texts_behind (file_of (S.files store.old) name.now) table ≡ Ok texts.now
         → GivesSuch (λ rows types. grouped texts.now shift rows.groups.items rows.rows.items ≡ filled types) (file_of (S.files store.old) name.now)

@@ -1,7 +1,8 @@
 //! The resource table as a whole.
-ghost use Rattle.std.specs.Prelude.{◌≡◌, ℕ, ◌<◌, ◌≤◌, ◌+◌, ◌*◌, ◌^◌, List, Option, All, Ok, length, map, nat_lt};
+ghost use Rattle.std.specs.Prelude.{◌≡◌, ℕ, ◌<◌, ◌≤◌, ◌+◌, ◌*◌, ◌^◌, List, Option, All, Ok, length, map, nat_lt, IfErr, false};
 ghost use Rattle.w16_store.specs.Files.{file_of};
-ghost use Rattle.w16_ne.specs.Reading.{Gives, Tells, length_at};
+ghost use Rattle.w16_store.specs.Later.{IsLater, RoseIf};
+ghost use Rattle.w16_ne.specs.Reading.{Gives, Tells, length_at, is_ne_device};
 ghost use Rattle.w16_ne.specs.Resources.{is_placed, are_placed, typed_in, resources_at};
 ghost use Rattle.w16_ne.specs.Rows.{entry_in};
 
@@ -18,7 +19,8 @@ use w16_store::Store;
 /// Tests that a row's bytes don't end past the end of a file of so many bytes by a unit or more.
 fn test_place(len: u64, shift: u16, row: Row) -> Result<(), NeFault>
     requires { shift ≤ 15 }
-    ensures { (file : Option (List ℕ)) (texts : List ℕ) → length_at file ≡ Ok len
+    ensures own { IfErr result (λ e. is_ne_device e ≡ false) }
+    ensures exact { (file : Option (List ℕ)) (texts : List ℕ) → length_at file ≡ Ok len
         → Tells (λ _. tt) result (is_placed file (2 ^ shift) (entry_in texts shift row)) }
 {
     let unit = unit(shift);
@@ -36,7 +38,8 @@ fn test_place(len: u64, shift: u16, row: Row) -> Result<(), NeFault>
 /// The same of rows, in their order.
 fn test_places(len: u64, shift: u16, rows: &[Row]) -> Result<(), NeFault>
     requires { shift ≤ 15 }
-    ensures { (file : Option (List ℕ)) (texts : List ℕ) → length_at file ≡ Ok len
+    ensures own { IfErr result (λ e. is_ne_device e ≡ false) }
+    ensures exact { (file : Option (List ℕ)) (texts : List ℕ) → length_at file ≡ Ok len
         → Tells (λ _. tt) result (are_placed file (2 ^ shift) (map (entry_in texts shift) rows.now)) }
 {
     for row in rows {
@@ -65,8 +68,8 @@ fn typed_in<A: Allocator + Copy, S: Store>(
 ) -> Result<ResourceTable<A>, NeFault>
     requires place { table < len }
     requires ends { All (λ b. b.at + 12 * b.count ≤ len) blocks.now }
-    ensures files { S.files store.new ≡ S.files store.old }
-    ensures failures { S.failures store.old ≤ S.failures store.new }
+    ensures stays { IsLater (S.files store.old) (S.failures store.old) (S.files store.new) (S.failures store.new) }
+    ensures device { IfErr result (RoseIf is_ne_device (S.failures store.old) (S.failures store.new)) }
     ensures exact { S.is_honest → length_at (file_of (S.files store.old) name.now) ≡ Ok len → Gives (λ types. types) (file_of (S.files store.old) name.now)
         (S.failures store.old) (S.failures store.new) result (typed_in (file_of (S.files store.old) name.now) table shift blocks.now) }
 {
@@ -92,8 +95,8 @@ pub fn resources<A: Allocator + Copy, S: Store>(
     header: &[u8],
 ) -> Result<ResourceTable<A>, NeFault>
     requires { length header.now ≡ 64 }
-    ensures files { S.files store.new ≡ S.files store.old }
-    ensures failures { S.failures store.old ≤ S.failures store.new }
+    ensures stays { IsLater (S.files store.old) (S.failures store.old) (S.files store.new) (S.failures store.new) }
+    ensures device { IfErr result (RoseIf is_ne_device (S.failures store.old) (S.failures store.new)) }
     ensures exact { S.is_honest → Gives (λ types. types) (file_of (S.files store.old) name.now)
         (S.failures store.old) (S.failures store.new) result (resources_at (file_of (S.files store.old) name.now) ne header.now) }
 {

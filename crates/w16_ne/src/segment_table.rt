@@ -1,7 +1,8 @@
 //! The segment table.
-ghost use Rattle.std.specs.Prelude.{◌≡◌, ℕ, ◌%◌, ◌<◌, ◌≤◌, ◌+◌, ◌*◌, ◌^◌, length, max, All, IfOk, vec_len};
+ghost use Rattle.std.specs.Prelude.{◌≡◌, ℕ, ◌%◌, ◌<◌, ◌≤◌, ◌+◌, ◌*◌, ◌^◌, length, max, All, IfOk, vec_len, IfErr};
 ghost use Rattle.w16_store.specs.Files.{file_of};
-ghost use Rattle.w16_ne.specs.Reading.{Gives};
+ghost use Rattle.w16_store.specs.Later.{IsLater, RoseIf};
+ghost use Rattle.w16_ne.specs.Reading.{Gives, is_ne_device};
 ghost use Rattle.w16_ne.specs.Header.{shift_of, segment_count};
 ghost use Rattle.w16_ne.specs.Segments.{IsSized, or_64k, rounded, records_at, data_at, segment_at, entries_at, segments_at};
 
@@ -68,8 +69,8 @@ pub fn unit(shift: u16) -> u32
 #[tactic(auto, unfolding(crate::specs::Segments::records_at))]
 fn records<S: Store>(store: &mut S, name: &[u8], flags: u16, end: u64) -> Result<u16, NeFault>
     requires { end < 2 ^ 48 }
-    ensures files { S.files store.new ≡ S.files store.old }
-    ensures failures { S.failures store.old ≤ S.failures store.new }
+    ensures stays { IsLater (S.files store.old) (S.failures store.old) (S.files store.new) (S.failures store.new) }
+    ensures device { IfErr result (RoseIf is_ne_device (S.failures store.old) (S.failures store.new)) }
     ensures exact { S.is_honest → Gives (λ n. n) (file_of (S.files store.old) name.now)
         (S.failures store.old) (S.failures store.new) result (records_at (file_of (S.files store.old) name.now) flags end) }
 {
@@ -96,8 +97,8 @@ fn data<S: Store>(
     requires small { len ≤ LARGEST_SEGMENT }
     requires some { 0 < least }
     requires least { least ≤ LARGEST_SEGMENT }
-    ensures files { S.files store.new ≡ S.files store.old }
-    ensures failures { S.failures store.old ≤ S.failures store.new }
+    ensures stays { IsLater (S.files store.old) (S.failures store.old) (S.files store.new) (S.failures store.new) }
+    ensures device { IfErr result (RoseIf is_ne_device (S.failures store.old) (S.failures store.new)) }
     ensures exact { S.is_honest → Gives (λ s. s) (file_of (S.files store.old) name.now)
         (S.failures store.old) (S.failures store.new) result (data_at (file_of (S.files store.old) name.now) place len flags least) }
     ensures sized { IfOk result IsSized }
@@ -124,8 +125,8 @@ fn entry<S: Store>(
 ) -> Result<Segment, NeFault>
     requires shift { shift ≤ 15 }
     requires inside { at + 7 < length table.now }
-    ensures files { S.files store.new ≡ S.files store.old }
-    ensures failures { S.failures store.old ≤ S.failures store.new }
+    ensures stays { IsLater (S.files store.old) (S.failures store.old) (S.files store.new) (S.failures store.new) }
+    ensures device { IfErr result (RoseIf is_ne_device (S.failures store.old) (S.failures store.new)) }
     ensures exact { S.is_honest → Gives (λ s. s) (file_of (S.files store.old) name.now)
         (S.failures store.old) (S.failures store.new) result (segment_at (file_of (S.files store.old) name.now) shift table.now at) }
     ensures sized { IfOk result IsSized }
@@ -167,8 +168,8 @@ fn entries<A: Allocator + Copy, S: Store>(
 ) -> Result<Vec<Segment, A>, NeFault>
     requires shift { shift ≤ 15 }
     requires inside { 8 * count ≤ length table.now }
-    ensures files { S.files store.new ≡ S.files store.old }
-    ensures failures { S.failures store.old ≤ S.failures store.new }
+    ensures stays { IsLater (S.files store.old) (S.failures store.old) (S.files store.new) (S.failures store.new) }
+    ensures device { IfErr result (RoseIf is_ne_device (S.failures store.old) (S.failures store.new)) }
     ensures exact { S.is_honest → Gives (λ v. v.items) (file_of (S.files store.old) name.now)
         (S.failures store.old) (S.failures store.new) result (entries_at (file_of (S.files store.old) name.now) shift table.now count) }
     ensures count { IfOk result (λ v. vec_len v ≡ count) }
@@ -194,8 +195,8 @@ pub fn segments<A: Allocator + Copy, S: Store>(
     requires len { length header.now ≡ 64 }
     requires few { segment_count header.now ≤ 253 }
     requires shift { shift_of header.now ≤ 15 }
-    ensures files { S.files store.new ≡ S.files store.old }
-    ensures failures { S.failures store.old ≤ S.failures store.new }
+    ensures stays { IsLater (S.files store.old) (S.failures store.old) (S.files store.new) (S.failures store.new) }
+    ensures device { IfErr result (RoseIf is_ne_device (S.failures store.old) (S.failures store.new)) }
     ensures exact { S.is_honest → Gives (λ v. v.items) (file_of (S.files store.old) name.now)
         (S.failures store.old) (S.failures store.new) result (segments_at (file_of (S.files store.old) name.now) ne header.now) }
     ensures few { IfOk result (λ v. vec_len v ≤ 253) }

@@ -1,7 +1,8 @@
 //! Texts that words lead to: each a length byte and so many bytes, at a word's offset from one place of the file.
-ghost use Rattle.std.specs.Prelude.{◌≡◌, ℕ, ◌<◌, ◌≤◌, ◌+◌, List, Option, Ok, length, slice_index, OnOk, MatchBool};
+ghost use Rattle.std.specs.Prelude.{◌≡◌, ℕ, ◌<◌, ◌+◌, List, Option, Ok, length, slice_index, OnOk, MatchBool, IfErr};
 ghost use Rattle.w16_store.specs.Files.{file_of};
-ghost use Rattle.w16_ne.specs.Reading.{Gives, Tells, IsOfFile};
+ghost use Rattle.w16_store.specs.Later.{IsLater, RoseIf};
+ghost use Rattle.w16_ne.specs.Reading.{Gives, Tells, IsOfFile, is_ne_device};
 ghost use Rattle.w16_ne.specs.References.{text_at};
 ghost use Rattle.w16_ne.specs.Texts.{HasText, text_in, texts_behind};
 
@@ -20,8 +21,8 @@ pub fn texts_behind<A: Allocator + Copy, S: Store>(
     name: &[u8],
     at: u64,
 ) -> Result<Vec<u8, A>, NeFault>
-    ensures files { S.files store.new ≡ S.files store.old }
-    ensures failures { S.failures store.old ≤ S.failures store.new }
+    ensures stays { IsLater (S.files store.old) (S.failures store.old) (S.files store.new) (S.failures store.new) }
+    ensures device { IfErr result (RoseIf is_ne_device (S.failures store.old) (S.failures store.new)) }
     ensures exact { S.is_honest → Gives (λ v. v.items) (file_of (S.files store.old) name.now)
         (S.failures store.old) (S.failures store.new) result (texts_behind (file_of (S.files store.old) name.now) at) }
 {
@@ -46,6 +47,7 @@ pub fn test_text(texts: &[u8], word: u16, short: NeFault) -> Result<(), NeFault>
     ensures exact { (file : Option (List ℕ)) (at : ℕ) → texts_behind file at ≡ Ok texts.now
         → Tells (λ _. text_in texts.now word) result (text_at short file (at + word)) }
     ensures inside { OnOk result (HasText texts.now word) }
+    ensures fault { IfErr result (λ e. e ≡ short) }
 {
     reveal_bytes(texts);
     if !has_text(texts, usize::from(word)) {

@@ -1,6 +1,6 @@
 -- Faults, told further.
 use Rattle.w16_reloc.proofs.Common.{◌≡◌, ℕ, suc, ◌-◌, ◌+◌, ◌*◌, ◌≤◌, ◌<◌, List, [], ◌∷◌, ◌++◌, Result, Ok, Err, refl, sym, ap, ◌∙◌, append_assoc, arith, append-nil, RelocFault, Record, Site}
-use Rattle.w16_reloc.proofs.Common.{OnOk, Segment, Tables, Offer, record_at, ◌>>=◌, IsOfRecords, sites_at, formed, check_from, Held, Refuses, Answers, data_of, records_of, offer_of, checked}
+use Rattle.w16_reloc.proofs.Common.{OnOk, Segment, Tables, is_reloc_device, true, Offer, record_at, ◌>>=◌, IsOfRecords, sites_at, formed, check_from, Held, Refuses, Answers, data_of, records_of, offer_of, checked}
 use Rattle.w16_store.specs.declared.store.StoreFault.TheVariants as stores
 use Rattle.w16_reloc.specs.declared.fault.RelocFault.TheVariants as faults
 
@@ -18,6 +18,12 @@ own_fails before after (faults.Store e) said total own h on = absurd own
 own_fails before after faults.BadRecord said total own h on = on h
 own_fails before after faults.SiteOutside said total own h on = on h
 own_fails before after faults.Overlap said total own h on = on h
+
+pub records_not_device : (e : RelocFault) → IsOfRecords e → is_reloc_device e ≡ true → ⊥
+records_not_device (faults.Store e) own h = own
+records_not_device faults.BadRecord own h = cc
+records_not_device faults.SiteOutside own h = cc
+records_not_device faults.Overlap own h = cc
 
 -- records that were checked before, and those that are checked still
 abbrev pub with_front : List Record → Result (List Record) RelocFault → Result (List Record) RelocFault

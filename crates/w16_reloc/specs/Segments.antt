@@ -1,7 +1,8 @@
 -- A segment of a module's file, and what a check of it answers.
-use Rattle.std.specs.Prelude.{◌≡◌, ℕ, ◌+◌, ◌*◌, ◌<◌, ◌≤◌, List, [], length, take, drop, Some, Result, Ok, Err, nat_lt, ◌&&◌, Bool, slice_index}
+use Rattle.std.specs.Prelude.{◌≡◌, ℕ, ◌+◌, ◌*◌, ◌<◌, ◌≤◌, List, [], length, take, drop, Some, Result, Ok, Err, nat_lt, ◌&&◌, Bool, false, slice_index}
 use Rattle.w16_store.specs.declared.store.StoreFault.{StoreFault}
 use Rattle.w16_store.specs.declared.store.StoreFault.TheVariants as stores
+use Rattle.w16_store.specs.Later.{is_device}
 use Rattle.w16_ne.specs.declared.segment_table.Segment.{Segment}
 use Rattle.w16_ne.specs.Segments.{records_at}
 use Rattle.w16_ne.specs.Modules.{Tables, imported_place}
@@ -43,6 +44,11 @@ unfoldable pub checked : List ℕ → Tables → Segment → Result Held RelocFa
 checked file tables s = do
   records ← check_from (offer_of file tables) (data_of file s) (records_of file s) s.records 0 []
   Ok (record { bytes = data_of file s; records = records })
+
+-- a fault of the store's device
+abbrev pub is_reloc_device : RelocFault → Bool
+is_reloc_device (faults.Store e) = is_device e
+is_reloc_device other = false
 
 -- What a call answered, seen by view, is this. A fault of the store is the device's alone, and then its count of failures rose.
 abbrev pub IsFailure : ℕ → ℕ → StoreFault → Type 0

@@ -1,8 +1,9 @@
 //! Parts of a module's file, read through a store.
-ghost use Rattle.std.specs.Prelude.{◌≡◌, ℕ, ◌<◌, ◌≤◌, ◌+◌, ◌^◌, length, List, take, drop, Some, Ok, Result, None, nat_lt, slice_index, IfOk, if◌then◌else◌};
+ghost use Rattle.std.specs.Prelude.{◌≡◌, ℕ, ◌<◌, ◌≤◌, ◌+◌, ◌^◌, length, List, take, drop, Some, Ok, Result, None, nat_lt, slice_index, IfOk, if◌then◌else◌, IfErr};
 ghost use Rattle.w16_store.specs.Files.{file_of};
+ghost use Rattle.w16_store.specs.Later.{IsLater, RoseIf};
 ghost use Rattle.w16_ne.specs.Segments.{records_at};
-ghost use Rattle.w16_reloc.specs.Segments.{Answers, has_text_at};
+ghost use Rattle.w16_reloc.specs.Segments.{Answers, has_text_at, is_reloc_device};
 
 use crate::chain::word;
 use crate::fault::RelocFault;
@@ -10,8 +11,8 @@ use w16_store::{Store, StoreFault};
 
 /// Fills the buffer from an offset of the file on.
 pub fn read<S: Store>(store: &mut S, name: &[u8], at: u64, buf: &mut [u8]) -> Result<(), RelocFault>
-    ensures files { S.files store.new ≡ S.files store.old }
-    ensures failures { S.failures store.old ≤ S.failures store.new }
+    ensures stays { IsLater (S.files store.old) (S.failures store.old) (S.files store.new) (S.failures store.new) }
+    ensures device { IfErr result (RoseIf is_reloc_device (S.failures store.old) (S.failures store.new)) }
     ensures exact { (file : List ℕ) → S.is_honest → file_of (S.files store.old) name.now ≡ Some file → at + length buf.old ≤ length file
         → Answers (λ _. buf.new) (S.failures store.old) (S.failures store.new) result (Ok (take (length buf.old) (drop at file))) }
 {
@@ -23,8 +24,8 @@ pub fn read<S: Store>(store: &mut S, name: &[u8], at: u64, buf: &mut [u8]) -> Re
 
 /// The file's length.
 pub fn len_of<S: Store>(store: &mut S, name: &[u8]) -> Result<u64, RelocFault>
-    ensures files { S.files store.new ≡ S.files store.old }
-    ensures failures { S.failures store.old ≤ S.failures store.new }
+    ensures stays { IsLater (S.files store.old) (S.failures store.old) (S.files store.new) (S.failures store.new) }
+    ensures device { IfErr result (RoseIf is_reloc_device (S.failures store.old) (S.failures store.new)) }
     ensures exact { (file : List ℕ) → S.is_honest → file_of (S.files store.old) name.now ≡ Some file
         → Answers (λ n. n) (S.failures store.old) (S.failures store.new) result (Ok (length file)) }
 {
@@ -36,8 +37,8 @@ pub fn len_of<S: Store>(store: &mut S, name: &[u8]) -> Result<u64, RelocFault>
 
 /// The byte at an offset, or none where the file ends before.
 fn byte_at<S: Store>(store: &mut S, name: &[u8], at: u64) -> Result<Option<u8>, RelocFault>
-    ensures files { S.files store.new ≡ S.files store.old }
-    ensures failures { S.failures store.old ≤ S.failures store.new }
+    ensures stays { IsLater (S.files store.old) (S.failures store.old) (S.files store.new) (S.failures store.new) }
+    ensures device { IfErr result (RoseIf is_reloc_device (S.failures store.old) (S.failures store.new)) }
     ensures exact { (file : List ℕ) → S.is_honest → file_of (S.files store.old) name.now ≡ Some file
         → Answers (λ b. b) (S.failures store.old) (S.failures store.new) result (Ok (if nat_lt at (length file) then Some (slice_index file at) else None)) }
 {
@@ -52,8 +53,8 @@ fn byte_at<S: Store>(store: &mut S, name: &[u8], at: u64) -> Result<Option<u8>, 
 /// Whether a length byte at an offset, and the text behind it, lie in the file.
 pub fn has_text<S: Store>(store: &mut S, name: &[u8], at: u64) -> Result<bool, RelocFault>
     requires { at + 255 < 2 ^ 64 }
-    ensures files { S.files store.new ≡ S.files store.old }
-    ensures failures { S.failures store.old ≤ S.failures store.new }
+    ensures stays { IsLater (S.files store.old) (S.failures store.old) (S.files store.new) (S.failures store.new) }
+    ensures device { IfErr result (RoseIf is_reloc_device (S.failures store.old) (S.failures store.new)) }
     ensures exact { (file : List ℕ) → S.is_honest → file_of (S.files store.old) name.now ≡ Some file
         → Answers (λ b. b) (S.failures store.old) (S.failures store.new) result (Ok (has_text_at file at)) }
 {
@@ -71,8 +72,8 @@ pub fn count_at<S: Store>(
     flags: u16,
     end: u64,
 ) -> Result<u16, RelocFault>
-    ensures files { S.files store.new ≡ S.files store.old }
-    ensures failures { S.failures store.old ≤ S.failures store.new }
+    ensures stays { IsLater (S.files store.old) (S.failures store.old) (S.files store.new) (S.failures store.new) }
+    ensures device { IfErr result (RoseIf is_reloc_device (S.failures store.old) (S.failures store.new)) }
     ensures exact { (file : List ℕ) (count : ℕ) → S.is_honest → file_of (S.files store.old) name.now ≡ Some file → records_at (Some file) flags end ≡ Ok count
         → Answers (λ n. n) (S.failures store.old) (S.failures store.new) result (Ok count) }
 {

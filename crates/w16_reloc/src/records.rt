@@ -1,9 +1,10 @@
 //! The records of a segment, checked in their order.
-ghost use Rattle.std.specs.Prelude.{◌≡◌, ℕ, ◌<◌, ◌≤◌, ◌+◌, ◌*◌, ◌^◌, length, List, [], Some, Ok, vec_len, vec_capacity};
+ghost use Rattle.std.specs.Prelude.{◌≡◌, ℕ, ◌<◌, ◌≤◌, ◌+◌, ◌*◌, ◌^◌, length, List, [], Some, Ok, vec_len, vec_capacity, IfErr};
 ghost use Rattle.w16_store.specs.Files.{file_of};
+ghost use Rattle.w16_store.specs.Later.{IsLater, RoseIf};
 ghost use Rattle.w16_reloc.specs.Records.{name_in, text_of, record_at};
 ghost use Rattle.w16_reloc.specs.Check.{AreMarks, formed, check_from};
-ghost use Rattle.w16_reloc.specs.Segments.{Answers, offer_at};
+ghost use Rattle.w16_reloc.specs.Segments.{Answers, offer_at, is_reloc_device};
 
 use crate::fault::RelocFault;
 use crate::reading::has_text;
@@ -52,8 +53,8 @@ fn read_record<S: Store>(
 ) -> Result<Record, RelocFault>
     requires inside { at + 7 < length table.now }
     requires small { offered.now.names < 2 ^ 33 }
-    ensures files { S.files store.new ≡ S.files store.old }
-    ensures failures { S.failures store.old ≤ S.failures store.new }
+    ensures stays { IsLater (S.files store.old) (S.failures store.old) (S.files store.new) (S.failures store.new) }
+    ensures device { IfErr result (RoseIf is_reloc_device (S.failures store.old) (S.failures store.new)) }
     ensures exact { (file : List ℕ) → S.is_honest → file_of (S.files store.old) name.now ≡ Some file
         → Answers (λ r. r) (S.failures store.old) (S.failures store.new) result
         (formed (offer_at file offered.now.segments offered.now.references offered.now.names) (record_at offered.now.segments offered.now.references table.now at)) }
@@ -90,8 +91,8 @@ pub fn check_records<A: Allocator, S: Store>(
     requires same { length marks.old ≡ length bytes.now }
     requires none { records.old.items ≡ [] }
     requires room { count ≤ vec_capacity records.old }
-    ensures files { S.files store.new ≡ S.files store.old }
-    ensures failures { S.failures store.old ≤ S.failures store.new }
+    ensures stays { IsLater (S.files store.old) (S.failures store.old) (S.files store.new) (S.failures store.new) }
+    ensures device { IfErr result (RoseIf is_reloc_device (S.failures store.old) (S.failures store.new)) }
     ensures capacity { vec_capacity records.new ≡ vec_capacity records.old }
     ensures exact { (file : List ℕ) → S.is_honest → file_of (S.files store.old) name.now ≡ Some file → AreMarks [] marks.old
         → Answers (λ _. records.new.items) (S.failures store.old) (S.failures store.new) result

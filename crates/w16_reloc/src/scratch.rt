@@ -1,10 +1,11 @@
 //! Room for one segment, and the check of a segment in it.
-ghost use Rattle.std.specs.Prelude.{◌≡◌, ℕ, ◌<◌, ◌≤◌, ◌-◌, length, List, take, drop, [], Some, Ok, slice_get, vec_len, vec_capacity, IfOk, OnOk};
+ghost use Rattle.std.specs.Prelude.{◌≡◌, ℕ, ◌<◌, ◌≤◌, ◌-◌, length, List, take, drop, [], Some, Ok, slice_get, vec_len, vec_capacity, IfOk, OnOk, IfErr};
 ghost use Rattle.w16_store.specs.Files.{file_of};
+ghost use Rattle.w16_store.specs.Later.{IsLater, RoseIf};
 ghost use Rattle.w16_ne.specs.declared.segment_table.Segment.{Segment};
 ghost use Rattle.w16_ne.specs.Modules.{tables_at};
 ghost use Rattle.w16_reloc.specs.Check.{AreMarks};
-ghost use Rattle.w16_reloc.specs.Segments.{Answers, checked};
+ghost use Rattle.w16_reloc.specs.Segments.{Answers, checked, is_reloc_device};
 
 use crate::fault::RelocFault;
 use crate::reading::len_of;
@@ -98,8 +99,8 @@ pub fn check<A: Allocator, S: Store>(
 ) -> Result<(), RelocFault>
     requires first { 0 < segment }
     requires last { segment ≤ length module_file.now.segments }
-    ensures files { S.files store.new ≡ S.files store.old }
-    ensures failures { S.failures store.old ≤ S.failures store.new }
+    ensures stays { IsLater (S.files store.old) (S.failures store.old) (S.files store.new) (S.failures store.new) }
+    ensures device { IfErr result (RoseIf is_reloc_device (S.failures store.old) (S.failures store.new)) }
     ensures len { (s : Segment) → slice_get module_file.now.segments (segment - 1) ≡ Some s → OnOk result (length scratch.new.bytes ≡ s.len) }
     ensures exact { (file : List ℕ) (s : Segment) → S.is_honest → file_of (S.files store.old) name.now ≡ Some file → tables_at (Some file) ≡ Ok module_file.now
         → slice_get module_file.now.segments (segment - 1) ≡ Some s
@@ -138,8 +139,8 @@ pub fn read_part<A: Allocator, S: Store>(
     scratch: &mut Scratch<A>,
 ) -> Result<(), RelocFault>
     requires { len ≤ 65536 }
-    ensures files { S.files store.new ≡ S.files store.old }
-    ensures failures { S.failures store.old ≤ S.failures store.new }
+    ensures stays { IsLater (S.files store.old) (S.failures store.old) (S.files store.new) (S.failures store.new) }
+    ensures device { IfErr result (RoseIf is_reloc_device (S.failures store.old) (S.failures store.new)) }
     ensures len { OnOk result (length scratch.new.bytes ≤ len) }
     ensures exact { (file : List ℕ) → S.is_honest → file_of (S.files store.old) name.now ≡ Some file
         → Answers (λ _. scratch.new) (S.failures store.old) (S.failures store.new) result (Ok (record { bytes = take len (drop at file); records = [] })) }

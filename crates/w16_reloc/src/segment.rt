@@ -1,9 +1,10 @@
 //! A segment's data and records, read from its file.
-ghost use Rattle.std.specs.Prelude.{◌≡◌, ℕ, ◌<◌, ◌≤◌, ◌+◌, ◌*◌, ◌^◌, length, List, take, drop, Some, Ok, vec_len, vec_capacity, IfOk, OnOk};
+ghost use Rattle.std.specs.Prelude.{◌≡◌, ℕ, ◌<◌, ◌≤◌, ◌+◌, ◌*◌, ◌^◌, length, List, take, drop, Some, Ok, vec_len, vec_capacity, IfOk, OnOk, IfErr};
 ghost use Rattle.w16_store.specs.Files.{file_of};
+ghost use Rattle.w16_store.specs.Later.{IsLater, RoseIf};
 ghost use Rattle.w16_ne.specs.Segments.{records_at};
 ghost use Rattle.w16_reloc.specs.Check.{AreMarks};
-ghost use Rattle.w16_reloc.specs.Segments.{Answers, LiesIn, data_of, records_of};
+ghost use Rattle.w16_reloc.specs.Segments.{Answers, LiesIn, data_of, records_of, is_reloc_device};
 
 use crate::fault::RelocFault;
 use crate::reading::{count_at, read};
@@ -31,8 +32,8 @@ pub fn read_bytes<A: Allocator, S: Store>(
     room: &mut Vec<u8, A>,
 ) -> Result<(), RelocFault>
     requires { len ≤ vec_capacity room.old }
-    ensures files { S.files store.new ≡ S.files store.old }
-    ensures failures { S.failures store.old ≤ S.failures store.new }
+    ensures stays { IsLater (S.files store.old) (S.failures store.old) (S.files store.new) (S.failures store.new) }
+    ensures device { IfErr result (RoseIf is_reloc_device (S.failures store.old) (S.failures store.new)) }
     ensures len { vec_len room.new ≡ len }
     ensures capacity { vec_capacity room.old ≤ vec_capacity room.new }
     ensures exact { (file : List ℕ) → S.is_honest → file_of (S.files store.old) name.now ≡ Some file → (0 < len → at + len ≤ length file)
@@ -55,8 +56,8 @@ fn read_table<A: Allocator, S: Store>(
 ) -> Result<u16, RelocFault>
     requires room { 524280 ≤ vec_capacity table.old }
     requires small { end < 2 ^ 48 }
-    ensures files { S.files store.new ≡ S.files store.old }
-    ensures failures { S.failures store.old ≤ S.failures store.new }
+    ensures stays { IsLater (S.files store.old) (S.failures store.old) (S.files store.new) (S.failures store.new) }
+    ensures device { IfErr result (RoseIf is_reloc_device (S.failures store.old) (S.failures store.new)) }
     ensures len { IfOk result (λ n. vec_len table.new ≡ 8 * n) }
     ensures capacity { vec_capacity table.old ≤ vec_capacity table.new }
     ensures exact { (file : List ℕ) (count : ℕ) → S.is_honest → file_of (S.files store.old) name.now ≡ Some file → records_at (Some file) flags end ≡ Ok count
@@ -79,8 +80,8 @@ pub fn read_segment<A: Allocator, S: Store>(
 ) -> Result<u16, RelocFault>
     requires len { segment.now.len ≤ vec_capacity bytes.old }
     requires room { 524280 ≤ vec_capacity table.old }
-    ensures files { S.files store.new ≡ S.files store.old }
-    ensures failures { S.failures store.old ≤ S.failures store.new }
+    ensures stays { IsLater (S.files store.old) (S.failures store.old) (S.files store.new) (S.failures store.new) }
+    ensures device { IfErr result (RoseIf is_reloc_device (S.failures store.old) (S.failures store.new)) }
     ensures len { vec_len bytes.new ≡ segment.now.len }
     ensures many { IfOk result (λ n. 8 * n ≤ vec_len table.new) }
     ensures bytes { vec_capacity bytes.old ≤ vec_capacity bytes.new }

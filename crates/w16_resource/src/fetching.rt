@@ -1,13 +1,14 @@
 //! Fetches of resources: an object that has no bytes gets those of its module's file.
-ghost use Rattle.std.specs.Prelude.{◌≡◌, ◌≤◌, ◌<◌, ◌/◌, ℕ, List, length, take, drop, true, false, IfErr, IfSome, IfNone, OnOk, OnErr, IsSome, IsSomeAnd, MatchResult, None, Some};
+ghost use Rattle.std.specs.Prelude.{◌≡◌, ◌<◌, ◌/◌, ℕ, List, length, take, drop, true, false, IfErr, IfSome, IfNone, OnOk, OnErr, IsSome, IsSomeAnd, MatchResult, None, Some};
 ghost use Rattle.std.specs.FinMap as finmap;
 ghost use Rattle.w16_store.specs.Files.{file_of};
+ghost use Rattle.w16_store.specs.Later.{IsLater, RoseIf};
 ghost use Rattle.w16_ne.specs.Resources.{entry_of};
 ghost use Rattle.w16_global.specs.Owned.{LacksBytes};
 ghost use Rattle.w16_loading.specs.declared.FetchFault.TheVariants.{Store as store_fails};
 ghost use Rattle.w16_loading.specs.AnyStore.{AnyFetches};
 ghost use Rattle.w16_loading.specs.Fewest.{FetchesFewest};
-ghost use Rattle.w16_loading.specs.Fill.{is_of_read};
+ghost use Rattle.w16_loading.specs.Fill.{is_of_read, is_of_device};
 ghost use Rattle.w16_loading.specs.Law.{IsLoadingWorld};
 ghost use Rattle.w16_loading.specs.Modules.{LoadingWorld, with_handles};
 ghost use Rattle.w16_loading.specs.Resource.{resource_at};
@@ -40,8 +41,8 @@ pub(crate) fn read<S: Store, A: Allocator>(
     store: &mut S,
     scratch: &mut Scratch<A>,
 ) -> Result<(), FetchFault>
-    ensures files { S.files store.new ≡ S.files store.old }
-    ensures failures { S.failures store.old ≤ S.failures store.new }
+    ensures stays { IsLater (S.files store.old) (S.failures store.old) (S.files store.new) (S.failures store.new) }
+    ensures device { IfErr result (RoseIf is_of_device (S.failures store.old) (S.failures store.new)) }
     ensures faults { IfErr result (λ fault. is_of_read fault ≡ true) }
     ensures exact { (file : List ℕ) → S.is_honest → file_of (S.files store.old) source.now.file.now ≡ Some file
         → is_long source.now.resource.len ≡ false → source.now.resource.place < length file
@@ -75,8 +76,8 @@ pub(crate) fn fetch_from<S: Store, A: Allocator + Copy>(
     scratch: &mut Scratch<A>,
     handle: u16,
 ) -> Result<(), FetchFault>
-    ensures files { S.files store.new ≡ S.files store.old }
-    ensures failures { S.failures store.old ≤ S.failures store.new }
+    ensures stays { IsLater (S.files store.old) (S.failures store.old) (S.files store.new) (S.failures store.new) }
+    ensures device { IfErr result (RoseIf is_of_device (S.failures store.old) (S.failures store.new)) }
     ensures refused { OnErr result (global.new ≡ global.old) }
     ensures named { OnOk result (LacksBytes global.old.handles handle) }
     ensures any { (rest : LoadingWorld) → LacksBytes global.old.handles handle → AnyFetches (with_handles rest global.old.handles) (handle / 8) (fault_in result) (with_handles rest global.new.handles) }
@@ -122,8 +123,8 @@ impl<A: Allocator + Copy> Resources<A> {
             (loading_of global.new.handles registry.now self.now (S.files store.new) (S.failures store.old)) }
         ensures refused { OnErr result (global.new ≡ global.old) }
         ensures named { OnOk result (LacksBytes global.old.handles handle) }
-        ensures files { S.files store.new ≡ S.files store.old }
-        ensures failures { S.failures store.old ≤ S.failures store.new }
+        ensures stays { IsLater (S.files store.old) (S.failures store.old) (S.files store.new) (S.failures store.new) }
+        ensures device { IfErr result (RoseIf is_of_device (S.failures store.old) (S.failures store.new)) }
     {
         global.reveal_handles();
         match self.source_at(registry, slot_of(handle)) {

@@ -1,5 +1,7 @@
 //! Loads of resources.
-ghost use Rattle.std.specs.Prelude.{◌≡◌, ◌≤◌, ◌<◌, true, false};
+ghost use Rattle.std.specs.Prelude.{◌≡◌, ◌≤◌, ◌<◌, true, false, IfErr};
+ghost use Rattle.w16_store.specs.Later.{IsLater, RoseIf};
+ghost use Rattle.w16_loading.specs.Fill.{is_of_device};
 ghost use Rattle.w16_model.specs.Calls.{rounded_size};
 ghost use Rattle.w16_ne.specs.Resources.{Label, entry_of};
 ghost use Rattle.w16_loading.specs.AnyStore.{AnyStep};
@@ -102,8 +104,8 @@ impl<A: Allocator + Copy> Resources<A> {
         ensures exact { IsLoadingOver S.is_honest (loading_of global.old.handles registry.now self.old (S.files store.old) (S.failures store.old)) → S.is_honest
             → LoadingStep ne_format (loading_of global.old.handles registry.now self.old (S.files store.old) (S.failures store.old)) (OfResources (LoadResource handle place)) (word_in result)
             (loading_of global.new.handles registry.now self.new (S.files store.new) (S.failures store.new)) }
-        ensures files { S.files store.new ≡ S.files store.old }
-        ensures failures { S.failures store.old ≤ S.failures store.new }
+        ensures stays { IsLater (S.files store.old) (S.failures store.old) (S.files store.new) (S.failures store.new) }
+        ensures device { IfErr result (RoseIf is_of_device (S.failures store.old) (S.failures store.new)) }
     {
         let Some(source) = source_of(registry, handle, place) else {
             return Ok(0);
@@ -145,8 +147,8 @@ impl<A: Allocator + Copy> Resources<A> {
         requires { is_long source.now.resource.len ≡ false }
         ensures made { (label : Label) → MakesNew S.is_honest (S.files store.old) source.now.file.now (entry_of source.now.resource) (resource_in (label, entry_of source.now.resource)) handle place
             global.old.handles self.old (S.failures store.old) (word_in result) global.new.handles self.new (S.failures store.new) }
-        ensures files { S.files store.new ≡ S.files store.old }
-        ensures failures { S.failures store.old ≤ S.failures store.new }
+        ensures stays { IsLater (S.files store.old) (S.failures store.old) (S.files store.new) (S.failures store.new) }
+        ensures device { IfErr result (RoseIf is_of_device (S.failures store.old) (S.failures store.new)) }
     {
         global.reveal_handles();
         let kind = kind_of(source.resource.flags);

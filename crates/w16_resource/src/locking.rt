@@ -1,5 +1,7 @@
 //! Locks of resources, which fetch those that have no bytes.
-ghost use Rattle.std.specs.Prelude.{◌≡◌, ◌≤◌, ◌<◌, ℕ, true, Some, option_map, IfSome};
+ghost use Rattle.std.specs.Prelude.{◌≡◌, ◌<◌, ℕ, true, Some, option_map, IfSome, IfErr};
+ghost use Rattle.w16_store.specs.Later.{IsLater, RoseIf};
+ghost use Rattle.w16_loading.specs.Fill.{is_of_device};
 ghost use Rattle.w16_loading.specs.AnyStore.{AnyStep, reads_files};
 ghost use Rattle.w16_loading.specs.Families.{LoadingStep};
 ghost use Rattle.w16_loading.specs.Families.LoadingCommand.{OfResources};
@@ -53,8 +55,8 @@ impl<A: Allocator + Copy> Resources<A> {
             → (reads_files (loading_of global.old.handles registry.now self.now (S.files store.old) (S.failures store.old)) (OfResources (LockResource handle)) ≡ true → S.is_honest)
             → LoadingStep ne_format (loading_of global.old.handles registry.now self.now (S.files store.old) (S.failures store.old)) (OfResources (LockResource handle)) (dword_in result)
             (loading_of global.new.handles registry.now self.now (S.files store.new) (S.failures store.new)) }
-        ensures files { S.files store.new ≡ S.files store.old }
-        ensures failures { S.failures store.old ≤ S.failures store.new }
+        ensures stays { IsLater (S.files store.old) (S.failures store.old) (S.files store.new) (S.failures store.new) }
+        ensures device { IfErr result (RoseIf is_of_device (S.failures store.old) (S.failures store.new)) }
     {
         let Some((slot, _)) = self.named(global, handle) else {
             return Ok(0);

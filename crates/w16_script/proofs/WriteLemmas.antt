@@ -10,8 +10,8 @@ pub Appends-take : (a b c xs ys n m : _) → Appends a b (take n xs) → ys ≡ 
 Appends-take a b c xs ys n m p e q = rw take-add (Appends-trans a b c _ _ p (rw e at q))
 
 -- a front that is not all
-pub AppendsFront-take : {a b xs : _} (n : _) → n < length xs → Appends a b (take n xs) → AppendsFront a b xs
-AppendsFront-take {xs} n h p = record { front = take n xs; back = drop n xs; whole = sym (take-append-drop n xs); left = omega (arith, length-drop n xs); appends = p }
+pub AppendsFront_take : {a b xs : _} (n : _) → n < length xs → Appends a b (take n xs) → AppendsFront a b xs
+AppendsFront_take {xs} n h p = record { front = take n xs; back = drop n xs; whole = sym (take-append-drop n xs); left = omega (arith, length-drop n xs); appends = p }
 
 -- something before it was written whole, and something is left after it
 pub AppendsFront-between : {b bytes : _} (a c before behind : _) → Appends a b before → AppendsFront b c bytes → AppendsFront a c (before ++ (bytes ++ behind))

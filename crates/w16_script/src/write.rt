@@ -22,6 +22,7 @@ fn write_some<W: Write>(writer: &mut W, bytes: &[u8]) -> Result<usize, ErrorKind
 
 /// Writes all the bytes, or fails after a front of them: where the writer failed, or took nothing.
 /// Of the writer's error only the kind is kept: an `io::Error` is large, and each `Result` has room for one.
+#[tactic(auto, using(crate::proofs::WriteLemmas::AppendsFront_take))]
 pub fn write_whole<W: Write>(writer: &mut W, bytes: &[u8]) -> Result<(), ErrorKind>
     ensures ok { OnOk result (Appends (W.contents writer.old) (W.contents writer.new) bytes.now) }
     ensures err { OnErr result (AppendsFront (W.contents writer.old) (W.contents writer.new) bytes.now) }

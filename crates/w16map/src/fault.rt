@@ -1,24 +1,30 @@
 //! Why the program ends before its script does.
 use std::process::ExitCode;
+use std::{fmt, io};
 use thiserror::Error;
 use w16_kernel::SizeFault;
 use w16_store::DirFault;
 
 /// A fault of a run, and of the command line where clap doesn't know it.
-#[derive(Debug, Clone, Copy, PartialEq, Eq, Drop, Error)]
+#[derive(Debug, Clone, Copy, Drop, Error)]
 pub enum Fault {
     #[error("bad argument")]
     Argument,
-    #[error("bad memory size or selector count")]
+    #[error(
+        "--memory has to be a multiple of 32 from 32 to 16777216, --selectors a number from 1 to 8160"
+    )]
     Size,
-    #[error("read fault")]
-    Read,
+    #[error("the folder can't be listed")]
+    Folder,
+    /// The script can't be opened or read.
+    #[error("the script can't be read: {0}")]
+    Script(io::Error),
     #[error("write fault")]
     Write,
     #[error("out of memory")]
     Memory,
     /// A line of the script is longer than 4,096 bytes.
-    #[error("too long")]
+    #[error("a line of the script has more than 4096 bytes")]
     TooLong,
     #[error("more strips than --limit: draw fewer lines by --from and --to, or raise it")]
     Limit,
@@ -33,7 +39,7 @@ impl From<SizeFault> for Fault {
 impl From<DirFault> for Fault {
     fn from(fault: DirFault) -> Fault {
         match fault {
-            DirFault::Folder => Fault::Read,
+            DirFault::Folder => Fault::Folder,
             DirFault::Memory => Fault::Memory,
         }
     }

@@ -124,7 +124,7 @@ fn run_file(
 {
     match File::open(rt, path) {
         Ok(mut file) => run_script(rt, options, store, &mut file),
-        Err(_) => Err(Fault::Read),
+        Err(error) => Err(Fault::Script(error)),
     }
 }
 

@@ -37,7 +37,7 @@ fn next_line(reader: &mut impl BufRead, line: &mut Vec<u8>) -> Result<bool, Faul
     match Read::take(&mut *reader, 4097).read_until(b'\n', line) {
         Ok(0) => return Ok(false),
         Ok(_) => {}
-        Err(_) => return Err(Fault::Read),
+        Err(error) => return Err(Fault::Script(error)),
     }
     if line.last() == Some(&b'\n') {
         line.pop();

@@ -1,8 +1,11 @@
 //! Why calls are refused.
-ghost use Rattle.std.specs.Prelude.{◌≡◌, ◌<◌, IfSome};
+ghost use Rattle.std.specs.Prelude.{◌≡◌, ◌≤◌, ◌<◌, ℕ, None, Some, IfNone, IfSome, IsSome};
 ghost use Rattle.w16_model.specs.Calls.{rounded_size};
+ghost use Rattle.w16_model.specs.Handles.{slot_of_handle};
 ghost use Rattle.w16_model.specs.Request.{most_room};
-ghost use Rattle.w16_kernel.specs.Why.{IsWhy};
+ghost use Rattle.w16_machine.specs.Machine.{Command};
+ghost use Rattle.w16_kernel.specs.Runs.{command_of};
+ghost use Rattle.w16_kernel.specs.Why.{IsWhy, IsAsked, handle_asked, selector_asked};
 
 use crate::call::Call;
 use crate::kernel::Kernel;
@@ -33,7 +36,10 @@ fn why_object<A: Allocator + Copy>(
     call: &Call<'_>,
     handle: u16,
 ) -> Option<Why>
-    ensures { IfSome result (IsWhy global.now.handles) }
+    requires { handle_asked (command_of call.now) ≡ Some handle }
+    ensures holds { IfSome result (IsWhy global.now.handles) }
+    ensures asked { IfSome result (IsAsked (command_of call.now)) }
+    ensures none { IfNone result (IsSome (slot_of_handle global.now.handles handle)) }
 {
     use Call::*;
     let Some(slot) = global.slot_of_handle(handle) else {
@@ -56,7 +62,8 @@ fn why_object<A: Allocator + Copy>(
 
 /// That a selector is bad, or the last byte that it reaches.
 fn why_selector<A: Allocator + Copy>(global: &Global16<A>, selector: u16) -> Why
-    ensures { IsWhy global.now.handles result }
+    ensures holds { IsWhy global.now.handles result }
+    ensures asked { (command : Command) → selector_asked command ≡ Some selector → IsAsked command result }
 {
     if global.global_handle(selector) == 0 {
         Why::BadSelector(selector)
@@ -66,9 +73,12 @@ fn why_selector<A: Allocator + Copy>(global: &Global16<A>, selector: u16) -> Why
 }
 
 impl<S: Store + Drop, A: Allocator + Copy> Kernel<S, A> {
-    /// Why a call is refused, if it is, as far as handles and selectors say.
+    /// Why a call is refused, if it is, as far as the handle or the selector that it names says: always where a handle is bad, and of a selector.
     pub fn why(&self, call: &Call<'_>) -> Option<Why>
-        ensures { IfSome result (IsWhy self.now.loading.handles) }
+        ensures holds { IfSome result (IsWhy self.now.loading.handles) }
+        ensures asked { IfSome result (IsAsked (command_of call.now)) }
+        ensures handle { IfNone result ((handle : ℕ) → handle_asked (command_of call.now) ≡ Some handle → IsSome (slot_of_handle self.now.loading.handles handle)) }
+        ensures selector { IfNone result (selector_asked (command_of call.now) ≡ None) }
     {
         use Call::*;
         match *call {
@@ -94,6 +104,7 @@ impl<S: Store + Drop, A: Allocator + Copy> Kernel<S, A> {
     /// The most bytes that compaction could make free in a row, where these are fewer than this size. None after a call that has moved something.
     pub fn lacks_room(&mut self, size: u32) -> Option<u32>
         ensures most { IfSome result (λ most. (most ≡ most_room self.old.loading.handles.heap) × (most < rounded_size size)) }
+        ensures none { IfNone result (self.old.loading.handles.moved ≡ 0 → size ≤ most_room self.old.loading.handles.heap) }
         ensures same { self.new ≡ self.old }
     {
         if self.global.moved() != 0 {

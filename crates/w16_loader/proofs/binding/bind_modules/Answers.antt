@@ -19,8 +19,8 @@ loop-place-preserved g c =
     let here = drop_more handles place 0 lt in
     let ts = c.in-Ok.ensures.any in
     record {
-      files = c.in-Ok.ensures.files ∙ before.files;
-      failures = omega (arith, c.in-Ok.ensures.failures, before.failures);
+      files = c.in-Ok.ensures.stays.same ∙ before.files;
+      failures = omega (arith, c.in-Ok.ensures.stays.counted, before.failures);
       values = still_alike old now next handles place handle here before.values ts.0 ts.2;
       others = λ q none. others_next old now next handles place handle here before.values ts.0 ts.2 q none (before.others q none);
       any = any_next old now next handles place handle here before.values ts.0 ts.1 ts.2 before.any;

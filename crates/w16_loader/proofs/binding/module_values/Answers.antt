@@ -13,8 +13,8 @@ loop-place-preserved g c =
     let one = c.in-Ok-segment_values.ensures.any in
     let segment = c.in-Ok-segment_values.segment in
     record {
-      files = c.in-Ok-segment_values.ensures.files ∙ before.files;
-      failures = omega (arith, c.in-Ok-segment_values.ensures.failures, before.failures);
+      files = c.in-Ok-segment_values.ensures.stays.same ∙ before.files;
+      failures = omega (arith, c.in-Ok-segment_values.ensures.stays.counted, before.failures);
       many = c.push_reserved.ensures.len ∙ ap (λ n. n + 1) before.many;
       room = c.push_reserved.ensures.capacity ∙ before.room;
       any = (

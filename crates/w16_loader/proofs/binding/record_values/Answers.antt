@@ -14,8 +14,8 @@ loop-relocation-preserved g c =
     let one = c.in-Ok-record_value.ensures.any in
     let far = c.in-Ok-record_value.value in
     record {
-      files = c.in-Ok-record_value.ensures.files ∙ before.files;
-      failures = omega (arith, c.in-Ok-record_value.ensures.failures, before.failures);
+      files = c.in-Ok-record_value.ensures.stays.same ∙ before.files;
+      failures = omega (arith, c.in-Ok-record_value.ensures.stays.counted, before.failures);
       many = c.push_reserved.ensures.len ∙ ap (λ n. n + 1) before.many;
       room = c.push_reserved.ensures.capacity ∙ before.room;
       any = (

@@ -18,7 +18,7 @@ returns-in-Err-clause-exact g c = λ read s honest is at.
     let m = c.args.loaded.now in
     let t = c.module.result.now in
     let stored = stored_as files m read is t c.module.ensures in
-    rw c.fault_of_check.ensures
+    rw c.fault_of_check.ensures.fault
     (segment_refused files m read is t c.module.ensures (c.args.number - 1) s at _ _ c.in-Err.fault
     (c.in-Err.ensures.exact is.file (found files m read is t c.module.ensures (c.args.number - 1) s at).0 honest (stored_there files m is.file t stored c.file.result.now c.file.ensures t c.module.ensures) stored.read (found files m read is t c.module.ensures (c.args.number - 1) s at).1))
 
@@ -35,7 +35,7 @@ returns-in-Ok-clause-exact g c = λ read s honest is at.
     ap (map (target_of is.file t)) c.records.ensures ∙ sym (targets_are files m read is t c.module.ensures (c.args.number - 1) s at c.check.new.scratch passed) in
     let named : All (λ r. is_named (offer_of is.file t) r ≡ true) c.records.result.now =
     subst (All (λ r. is_named (offer_of is.file t) r ≡ true)) (sym c.records.ensures) (all_named is.file t segment.0 c.check.new.scratch passed) in
-    let still : IsStoredAs (g.S.Store.files c.check.new.store) m is.file t = subst (λ fs. IsStoredAs fs m is.file t) (sym c.in-Ok.ensures.files) stored in
-    answer_since (λ values. AreValuesOf (finmap.get c.args.registry.now) m (targets_of s) values.items) (g.S.Store.failures c.args.store.now) (g.S.Store.failures c.check.new.store) _ _ c.in-Ok.ensures.failures
+    let still : IsStoredAs (g.S.Store.files c.check.new.store) m is.file t = subst (λ fs. IsStoredAs fs m is.file t) (sym c.in-Ok.ensures.stays.same) stored in
+    answer_since (λ values. AreValuesOf (finmap.get c.args.registry.now) m (targets_of s) values.items) (g.S.Store.failures c.args.store.now) (g.S.Store.failures c.check.new.store) _ _ c.in-Ok.ensures.stays.counted
     (subst (λ ts. MatchResult c.record_values.result (λ values. AreValuesOf (finmap.get c.args.registry.now) m ts values.items) (IsFailure (g.S.Store.failures c.check.new.store) (g.S.Store.failures c.record_values.new.store))) targets
     (c.record_values.ensures.exact is.file t honest still named))

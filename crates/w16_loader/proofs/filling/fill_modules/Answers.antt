@@ -16,8 +16,8 @@ pub loop-place-preserved : goal.loop-place-preserved
 loop-place-preserved g c =
     let inside : c.loop-place.place < length c.args.handles.now = omega arith in
     record {
-      files = c.in-Ok.ensures.files ∙ c.loop-place.invariant.files;
-      failures = omega (arith, c.in-Ok.ensures.failures, c.loop-place.invariant.failures);
+      files = c.in-Ok.ensures.stays.same ∙ c.loop-place.invariant.files;
+      failures = omega (arith, c.in-Ok.ensures.stays.counted, c.loop-place.invariant.failures);
       rest = rest_then c.args.global.now.handles c.loop-place.global.handles c.fill_module.new.global.handles c.loop-place.invariant.rest c.in-Ok.ensures.rest;
       any = λ reads are empty.
           let h : ℕ = get_or c.args.handles.now c.loop-place.place 0 in

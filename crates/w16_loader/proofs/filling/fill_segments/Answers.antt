@@ -18,8 +18,8 @@ loop-done-preserved g c =
     let same : c.loop-done.done + 1 - 1 ≡ c.loop-done.done = omega arith in
     let inside : c.loop-done.done + 1 - 1 < length c.args.loaded.now.tables.segments = omega (arith, c.segment_count-count.ensures, c.loop-done-test.true) in
     record {
-      files = c.in-Ok.ensures.files ∙ c.loop-done.invariant.files;
-      failures = omega (arith, c.in-Ok.ensures.failures, c.loop-done.invariant.failures);
+      files = c.in-Ok.ensures.stays.same ∙ c.loop-done.invariant.files;
+      failures = omega (arith, c.in-Ok.ensures.stays.counted, c.loop-done.invariant.failures);
       rest = rest_then c.args.global.now.handles c.loop-done.global.handles c.fill_segment.new.global.handles c.loop-done.invariant.rest c.in-Ok.ensures.rest;
       kept = λ slot s out is. c.in-Ok.ensures.kept slot s (out (c.loop-done.done + 1 - 1) (omega arith)) (c.loop-done.invariant.kept slot s (λ i lt. out i (omega (arith, lt))) is);
       any = λ read place is_read empty.

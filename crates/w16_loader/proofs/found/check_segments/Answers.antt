@@ -9,14 +9,14 @@ returns-in-Err-clause-err g c = λ bytes honest has tables.
     let s = there c.args.module_file.now.segments c.loop-place.place lt in
     let place : c.loop-place.place + 1 - 1 ≡ c.loop-place.place = omega arith in
     let here : slice_get c.args.module_file.now.segments (c.loop-place.place + 1 - 1) ≡ Some s.0 = ap (λ k. slice_get c.args.module_file.now.segments k) place ∙ s.1 in
-    rw c.fault_of_check.ensures
+    rw c.fault_of_check.ensures.fault
     (is_unsound bytes c.args.module_file.now c.loop-place.place s.0 s.1 (c.loop-place.invariant.sound bytes honest has tables) _ _ _ c.in-Err.fault c.loop-place.invariant.failures
     (c.in-Err.ensures.exact bytes s.0 honest (rw c.loop-place.invariant.files has) tables here))
 
 pub loop-place-preserved : goal.loop-place-preserved
 loop-place-preserved g c = record {
-  files = c.in-Ok.ensures.files ∙ c.loop-place.invariant.files;
-  failures = omega (arith, c.in-Ok.ensures.failures, c.loop-place.invariant.failures);
+  files = c.in-Ok.ensures.stays.same ∙ c.loop-place.invariant.files;
+  failures = omega (arith, c.in-Ok.ensures.stays.counted, c.loop-place.invariant.failures);
   sound = λ bytes honest has tables.
       let lt : c.loop-place.place < length c.args.module_file.now.segments = omega (arith, c.segment_count-place-end.ensures.count) in
       let s = there c.args.module_file.now.segments c.loop-place.place lt in

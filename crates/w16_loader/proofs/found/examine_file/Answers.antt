@@ -17,12 +17,12 @@ returns-in-Ok-clause-new g c = c.settle.ensures.new
 
 pub returns-in-Ok-clause-read : goal.returns-in-Ok-clause-read
 returns-in-Ok-clause-read g c = λ honest.
-    let read = subst (λ fs. IsRead (file_of fs c.args.name.now) c.in-Ok.read) (sym c.read_file.ensures.files) (c.in-Ok.ensures.read honest) in
+    let read = subst (λ fs. IsRead (file_of fs c.args.name.now) c.in-Ok.read) (sym c.read_file.ensures.stays.same) (c.in-Ok.ensures.read honest) in
     subst (λ fs. IfOk c.settle.result (λ made. reading_in c.args.registry.now fs c.args.found.now c.args.name.now ≡ reading_of fs c.args.name.now made))
-    c.read_file.ensures.files (c.settle.ensures.read honest read)
+    c.read_file.ensures.stays.same (c.settle.ensures.read honest read)
 
 pub returns-in-Ok-clause-err : goal.returns-in-Ok-clause-err
 returns-in-Ok-clause-err g c = λ honest.
-    let read = subst (λ fs. IsRead (file_of fs c.args.name.now) c.in-Ok.read) (sym c.read_file.ensures.files) (c.in-Ok.ensures.read honest) in
+    let read = subst (λ fs. IsRead (file_of fs c.args.name.now) c.in-Ok.read) (sym c.read_file.ensures.stays.same) (c.in-Ok.ensures.read honest) in
     subst (λ fs. IfErr c.settle.result (IsFault (λ number. reading_in c.args.registry.now fs c.args.found.now c.args.name.now ≡ Refused number) (g.S.Store.failures c.args.store.now) (g.S.Store.failures c.settle.new.store)))
-    c.read_file.ensures.files (since _ _ _ _ c.settle.result c.read_file.ensures.failures (c.settle.ensures.err honest read))
+    c.read_file.ensures.stays.same (since _ _ _ _ c.settle.result c.read_file.ensures.stays.counted (c.settle.ensures.err honest read))

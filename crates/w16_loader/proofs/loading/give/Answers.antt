@@ -33,7 +33,7 @@ returns-in-Ok-fill_modules-clause-given g c = λ rest old meant honest is of_fil
     let is_file = are_files old meant handles mid u files of_files in
     subst (λ h. Fulfils (FillsOne is_of_device) old meant (Says (slice_index_or handles 0 0)) (in_world (with_handles rest h) modules)) (sym c.in-Ok-fill_modules.ensures.rest)
     (filled_load old meant handles mid u is_file modules bound (FillsOne is_of_device) c.fill_modules.new.global.handles.heap
-    (c.in-Ok-fill_modules.ensures.filled reads honest (subst (λ fs. AreSaid fs modules handles reads) (sym c.in-Ok.ensures.files) (still_said old meant handles mid u files of_files modules bound))
+    (c.in-Ok-fill_modules.ensures.filled reads honest (subst (λ fs. AreSaid fs modules handles reads) (sym c.in-Ok.ensures.stays.same) (still_said old meant handles mid u files of_files modules bound))
     (are_read old meant handles mid u is_file modules bound) (are_its_files old meant handles mid u files of_files modules bound) (are_unfilled old meant handles mid u is_file modules bound)))
 
 pub returns-in-Err-fill_modules-clause-given : goal.returns-in-Err-fill_modules-clause-given
@@ -48,7 +48,7 @@ returns-in-Err-fill_modules-clause-given g c = λ rest old meant honest is of_fi
     let is_file = are_files old meant handles mid u files of_files in
     subst (λ h. LoadsClosed old meant (answer_in (of_fault failure.place failure.fault)) (fold without_module (in_world (with_handles rest h) modules) handles)) (sym c.in-Err-fill_modules.ensures.rest)
     (inr (inr (unfilled_load old meant handles mid u is_file modules bound (FillsOne is_of_device) is failure.place failure.fault c.fill_modules.new.global.handles.heap
-    (c.in-Err-fill_modules.ensures.filled reads honest (subst (λ fs. AreSaid fs modules handles reads) (sym c.in-Ok.ensures.files) (still_said old meant handles mid u files of_files modules bound))
+    (c.in-Err-fill_modules.ensures.filled reads honest (subst (λ fs. AreSaid fs modules handles reads) (sym c.in-Ok.ensures.stays.same) (still_said old meant handles mid u files of_files modules bound))
     (are_read old meant handles mid u is_file modules bound) (are_its_files old meant handles mid u files of_files modules bound) (are_unfilled old meant handles mid u is_file modules bound)))))
 
 pub returns-in-Err-fill_modules-clause-failed : goal.returns-in-Err-fill_modules-clause-failed
@@ -61,9 +61,9 @@ returns-in-Err-fill_modules-clause-failed g c = λ old meant rest honest of_file
     let modules = c.bind_modules.new.registry in
     let failure = c.in-Err-fill_modules.failure in
     store_alone failure.place failure.fault (g.S.Store.failures c.args.store.now < g.S.Store.failures c.fill_modules.new.store) (λ store.
-    let more = c.in-Err-fill_modules.ensures.failed reads honest (subst (λ fs. AreSaid fs modules handles reads) (sym c.in-Ok.ensures.files) (still_said old meant handles mid u files of_files modules bound))
+    let more = c.in-Err-fill_modules.ensures.failed reads honest (subst (λ fs. AreSaid fs modules handles reads) (sym c.in-Ok.ensures.stays.same) (still_said old meant handles mid u files of_files modules bound))
     (are_its_files old meant handles mid u files of_files modules bound) store in
-    omega (arith, more, c.in-Ok.ensures.failures))
+    omega (arith, more, c.in-Ok.ensures.stays.counted))
 
 -- Over any store.
 

@@ -32,7 +32,7 @@ returns-clause-loads g c = λ rest meant honest is of_files.
     let given = in_world (with_handles rest c.give.new.global.handles) c.give.new.registry in
     let u = subst (λ hs. IsUnbound old meant hs mid) (sym c.as_slice.ensures.value) (c.in-Ok.ensures.named rest meant is) in
     let gone = c.release_modules.ensures.gone rest ∙ ap (λ hs. fold without_module given hs) (c.as_slice-in-Err.ensures.value ∙ sym c.as_slice.ensures.value) in
-    subst (λ r. IfOk r (λ answer. LoadsClosed old meant (answer_in answer) (in_world (with_handles rest c.release_modules.new.global.handles) c.release_modules.new.registry))) (sym c.fail.ensures)
+    subst (λ r. IfOk r (λ answer. LoadsClosed old meant (answer_in answer) (in_world (with_handles rest c.release_modules.new.global.handles) c.release_modules.new.registry))) (sym c.fail.ensures.answer)
     (subst (λ w. IfOk (failed_by c.in-Err.fault) (λ answer. LoadsClosed old meant (answer_in answer) w)) (sym gone) (c.in-Err.ensures.given rest old meant honest c.reveal_handles.ensures of_files u))
 
 pub returns-clause-failed : goal.returns-clause-failed
@@ -40,7 +40,7 @@ returns-clause-failed g c = λ meant honest is of_files.
     let rest : LoadingWorld = record { handles = c.args.global.now.handles; modules = c.args.registry.now; loads = finmap.empty; files = []; failures = 0 } in
     let mid = in_world (with_handles rest c.name_modules.new.global.handles) c.name_modules.new.registry in
     let u = subst (λ hs. IsUnbound rest meant hs mid) (sym c.as_slice.ensures.value) (c.in-Ok.ensures.named rest meant is) in
-    subst (λ r. IfOk r (λ answer. answer_in answer ≡ StoreFails → g.S.Store.failures c.args.store.now < g.S.Store.failures c.give.new.store)) (sym c.fail.ensures)
+    subst (λ r. IfOk r (λ answer. answer_in answer ≡ StoreFails → g.S.Store.failures c.args.store.now < g.S.Store.failures c.give.new.store)) (sym c.fail.ensures.answer)
     (c.in-Err.ensures.failed rest meant rest honest of_files u)
 
 pub returns-clause-err : goal.returns-clause-err
@@ -51,7 +51,7 @@ returns-clause-err g c =
     let meant = closed_in [] c.args.closure in
     let u = subst (λ hs. IsUnbound rest meant hs mid) (sym c.as_slice.ensures.value) (c.in-Ok.ensures.named rest meant (is_closure [] c.args.closure)) in
     let gone = c.release_modules.ensures.gone rest ∙ ap (λ hs. fold without_module given hs) (c.as_slice-in-Err.ensures.value ∙ sym c.as_slice.ensures.value) in
-    subst (λ r. OnErr r ((c.release_modules.new.registry ≡ c.args.registry.now) × (c.release_modules.new.global ≡ c.args.global.now))) (sym c.fail.ensures)
+    subst (λ r. OnErr r ((c.release_modules.new.registry ≡ c.args.registry.now) × (c.release_modules.new.global ≡ c.args.global.now))) (sym c.fail.ensures.answer)
     (err_by c.in-Err.fault ((c.release_modules.new.registry ≡ c.args.registry.now) × (c.release_modules.new.global ≡ c.args.global.now)) (λ none.
     let back = gone ∙ c.in-Err.ensures.undone rest rest meant c.reveal_handles.ensures u none in (
       ap (λ (w : LoadingWorld). w.modules) back,
@@ -78,7 +78,7 @@ returns-clause-any g c = λ rest meant is.
     let us : AreUnbound old meant c.as_slice.result.now mid = λ found alike.
     subst (λ hs. IsUnbound old (record meant { found = found }) hs mid) (sym c.as_slice.ensures.value) (c.in-Ok.ensures.named rest (record meant { found = found }) (closure_alike c.args.closure meant found is alike)) in
     let gone = c.release_modules.ensures.gone rest ∙ ap (λ hs. fold without_module given hs) (c.as_slice-in-Err.ensures.value ∙ sym c.as_slice.ensures.value) in
-    subst (λ r. IfOk r (λ answer. LoadsAny old meant (answer_in answer) (in_world (with_handles rest c.release_modules.new.global.handles) c.release_modules.new.registry))) (sym c.fail.ensures)
+    subst (λ r. IfOk r (λ answer. LoadsAny old meant (answer_in answer) (in_world (with_handles rest c.release_modules.new.global.handles) c.release_modules.new.registry))) (sym c.fail.ensures.answer)
     (subst (λ w. IfOk (failed_by c.in-Err.fault) (λ answer. LoadsAny old meant (answer_in answer) w)) (sym gone) (c.in-Err.ensures.any rest old meant c.reveal_handles.ensures us))
 
 pub returns-in-Err-NoSlot-clause-loads : goal.returns-in-Err-NoSlot-clause-loads

@@ -16,8 +16,8 @@ returns-in-Err-clause-loads g c = λ rest before le honest is.
     let closes = fault_since (λ number. Closes ne_format (around_in modules files) (begun file read) (Err number)) before start after c.in-Err.fault le
     (subst (λ f. IsFault (λ number. Closes ne_format (around_in modules files) (begun f (read_in files f c.args.read)) (Err number)) start after c.in-Err.fault) c.in_ok-name.ensures (c.in-Err.ensures.err honest)) in
     subst (λ r. IfOk r (λ answer. (is_load_module : Bool) → LoadsCounted ne_format is_load_module (in_store rest modules handles files before) file (answer_in answer) (in_store rest modules handles (g.S.Store.files c.close.new.store) after)))
-    (sym c.refuse.ensures)
-    (refused_closure rest modules handles files before file modules handles (g.S.Store.files c.close.new.store) c.in-Err.ensures.files after (omega (arith, le, c.in-Err.ensures.failures)) c.in-Err.fault read refl is closes)
+    (sym c.refuse.ensures.answer)
+    (refused_closure rest modules handles files before file modules handles (g.S.Store.files c.close.new.store) c.in-Err.ensures.stays.same after (omega (arith, le, c.in-Err.ensures.stays.counted)) c.in-Err.fault read refl is closes)
 
 pub returns-in-Ok-clause-loads : goal.returns-in-Ok-clause-loads
 returns-in-Ok-clause-loads g c = λ rest before le honest is.
@@ -30,10 +30,10 @@ returns-in-Ok-clause-loads g c = λ rest before le honest is.
     let read = read_in files file c.args.read in
     let meant = closed_in files c.in-Ok.closure in
     let closes = subst (λ f. Closes ne_format (around_in modules files) (begun f (read_in files f c.args.read)) (Ok meant)) c.in_ok-name.ensures (c.in-Ok.ensures.ok honest) in
-    let all = subst (λ fs. All (IsOfFile fs) meant.found) (sym c.in-Ok.ensures.files) (all_of_files modules files file read meant is closes) in
-    let later : before ≤ mid = omega (arith, le, c.in-Ok.ensures.failures) in
-    closed_load rest modules handles files before file c.load_closure.new.registry c.load_closure.new.global.handles (g.S.Store.files c.load_closure.new.store) (c.load_closure.ensures.files ∙ c.in-Ok.ensures.files)
-    after (omega (arith, later, c.load_closure.ensures.failures)) read meant is closes c.load_closure.result
+    let all = subst (λ fs. All (IsOfFile fs) meant.found) (sym c.in-Ok.ensures.stays.same) (all_of_files modules files file read meant is closes) in
+    let later : before ≤ mid = omega (arith, le, c.in-Ok.ensures.stays.counted) in
+    closed_load rest modules handles files before file c.load_closure.new.registry c.load_closure.new.global.handles (g.S.Store.files c.load_closure.new.store) (c.load_closure.ensures.stays.same ∙ c.in-Ok.ensures.stays.same)
+    after (omega (arith, later, c.load_closure.ensures.stays.counted)) read meant is closes c.load_closure.result
     (failed_since c.load_closure.result before mid after later (c.load_closure.ensures.failed meant honest (is_closure files c.in-Ok.closure) all))
     (c.load_closure.ensures.loads (record rest { files = files; failures = before }) meant honest (is_closure files c.in-Ok.closure) all)
 
@@ -42,7 +42,7 @@ returns-in-Ok-clause-loads g c = λ rest before le honest is.
 pub returns-in-Err-clause-any : goal.returns-in-Err-clause-any
 returns-in-Err-clause-any g c = λ rest unnamed.
     let old = in_world (with_handles rest c.args.global.now.handles) c.args.registry.now in
-    subst (λ r. IfOk r (λ answer. (is_load_module : Bool) → AnyLoadsBy GivesAnyFewest is_load_module old c.args.file.now (answer_in answer) old)) (sym c.refuse.ensures) (refused_any old c.args.file.now c.in-Err.fault c.in-Err.ensures.small)
+    subst (λ r. IfOk r (λ answer. (is_load_module : Bool) → AnyLoadsBy GivesAnyFewest is_load_module old c.args.file.now (answer_in answer) old)) (sym c.refuse.ensures.answer) (refused_any old c.args.file.now c.in-Err.fault c.in-Err.ensures.small)
 
 pub returns-in-Ok-clause-any : goal.returns-in-Ok-clause-any
 returns-in-Ok-clause-any g c = λ rest unnamed.

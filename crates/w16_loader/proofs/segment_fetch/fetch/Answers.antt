@@ -74,7 +74,7 @@ pub returns-in_err-read-clause-fetched : goal.returns-in_err-read-clause-fetched
 returns-in_err-read-clause-fetched g c = λ rest honest lacks is.
     fetched (in_parts rest c.args.global.now.handles (g.S.Store.files c.args.store.now) (g.S.Store.failures c.args.store.now)) (c.args.handle / 8)
     c.args.source.now.number c.args.source.now.file.now c.args.source.now.module.now c.args.source.now.values.now is c.requires.last
-    c.from_residual.result (g.S.Store.files c.read.new.store) c.read.ensures.files (g.S.Store.failures c.read.new.store) c.read.ensures.failures c.args.global.now.handles
+    c.from_residual.result (g.S.Store.files c.read.new.store) c.read.ensures.stays.same (g.S.Store.failures c.read.new.store) c.read.ensures.stays.counted c.args.global.now.handles
     (λ file has sound sized. returns-in_err-read-clause-filled g c file honest has sound lacks sized) (λ file has sound. returns-in_err-read-clause-failed g c file honest has sound) (returns-in_err-read-clause-rest g c)
 
 pub returns-then-give-clause-fetched : goal.returns-then-give-clause-fetched
@@ -82,7 +82,7 @@ returns-then-give-clause-fetched g c = λ rest honest lacks is.
     let result : Result (Unit {0}) FetchFault = Ok tt in
     fetched (in_parts rest c.args.global.now.handles (g.S.Store.files c.args.store.now) (g.S.Store.failures c.args.store.now)) (c.args.handle / 8)
     c.args.source.now.number c.args.source.now.file.now c.args.source.now.module.now c.args.source.now.values.now is c.requires.last
-    result (g.S.Store.files c.read.new.store) c.read.ensures.files (g.S.Store.failures c.read.new.store) c.read.ensures.failures c.give.new.global.handles
+    result (g.S.Store.files c.read.new.store) c.read.ensures.stays.same (g.S.Store.failures c.read.new.store) c.read.ensures.stays.counted c.give.new.global.handles
     (λ file has sound sized. returns-then-give-clause-filled g c file honest has sound lacks sized) (λ file has sound. returns-then-give-clause-failed g c file honest has sound) (returns-then-give-clause-rest g c)
 
 pub returns-else-give-clause-fetched : goal.returns-else-give-clause-fetched
@@ -90,5 +90,5 @@ returns-else-give-clause-fetched g c = λ rest honest lacks is.
     let result : Result (Unit {0}) FetchFault = Err NoRoom in
     fetched (in_parts rest c.args.global.now.handles (g.S.Store.files c.args.store.now) (g.S.Store.failures c.args.store.now)) (c.args.handle / 8)
     c.args.source.now.number c.args.source.now.file.now c.args.source.now.module.now c.args.source.now.values.now is c.requires.last
-    result (g.S.Store.files c.read.new.store) c.read.ensures.files (g.S.Store.failures c.read.new.store) c.read.ensures.failures c.give.new.global.handles
+    result (g.S.Store.files c.read.new.store) c.read.ensures.stays.same (g.S.Store.failures c.read.new.store) c.read.ensures.stays.counted c.give.new.global.handles
     (λ file has sound sized. returns-else-give-clause-filled g c file honest has sound lacks sized) (λ file has sound. returns-else-give-clause-failed g c file honest has sound) (returns-else-give-clause-rest g c)

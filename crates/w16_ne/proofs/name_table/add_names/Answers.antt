@@ -35,8 +35,8 @@ returns-in-None-clause-exact g c = λ before honest known begun.
 
 pub loop-preserved : goal.loop-preserved
 loop-preserved g c = (
-  c.in_ok-name_of.ensures.files ∙ c.loop.invariant.0,
-  omega (arith, c.loop.invariant.1, c.in_ok-name_of.ensures.failures),
+  c.in_ok-name_of.ensures.stays.same ∙ c.loop.invariant.0,
+  omega (arith, c.loop.invariant.1, c.in_ok-name_of.ensures.stays.counted),
   λ honest known. (let kept = rw c.loop.invariant.0 at c.in_ok-name_of.ensures.kept in kept honest known (c.loop.invariant.2 honest known)),
   λ before honest known begun.
       let file = file_of (g.S.Store.files c.args.store.now) c.args.name.now in

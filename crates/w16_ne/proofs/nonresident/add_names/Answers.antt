@@ -3,14 +3,14 @@ use Rattle.w16_ne.proofs.Listed.{here, goes_on, is_refused, is_done}
 use Rattle.w16_ne.proofs.Bounds.{is_past, is_inside}
 use Rattle.w16_ne.proofs.nonresident.add_names.Goals as goal
 
-pub returns-then-is_end : goal.returns-then-is_end
-returns-then-is_end g c = λ before begun.
+pub returns-then-is_end-clause-exact : goal.returns-then-is_end-clause-exact
+returns-then-is_end-clause-exact g c = λ before begun.
     let table = c.args.table.now in
     let l = c.loop.invariant.1 before begun in
     (l.0, is_done table l.0 (length table) c.loop.counter c.loop.at _ c.loop-test.true (sym c.is_end.ensures.end ∙ c.if-is_end.true) l.2, l.1)
 
-pub returns-then-end-table : goal.returns-then-end-table
-returns-then-end-table g c = λ before begun.
+pub returns-then-end-table-clause-exact : goal.returns-then-end-table-clause-exact
+returns-then-end-table-clause-exact g c = λ before begun.
     let table = c.args.table.now in
     let l = c.loop.invariant.1 before begun in
     let past = is_past (length table) (c.loop.at + 3 + slice_index table c.loop.at) (rw c.from-len.ensures at c.if-end-table.true) in

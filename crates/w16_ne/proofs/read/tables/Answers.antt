@@ -11,11 +11,11 @@ returns-in_err-references-clause-part g c = search rules
 pub returns-clause-exact : goal.returns-clause-exact
 unfolding tables_behind
 returns-clause-exact g c = λ honest.
-    let s1 = c.segments.ensures.files in
-    let s2 = c.resident.ensures.files ∙ s1 in
-    let s3 = c.references.ensures.files ∙ s2 in
-    let s4 = c.entries.ensures.files ∙ s3 in
-    let s5 = c.add_nonresident.ensures.files ∙ s4 in
+    let s1 = c.segments.ensures.stays.same in
+    let s2 = c.resident.ensures.stays.same ∙ s1 in
+    let s3 = c.references.ensures.stays.same ∙ s2 in
+    let s4 = c.entries.ensures.stays.same ∙ s3 in
+    let s5 = c.add_nonresident.ensures.stays.same ∙ s4 in
     let exact_segments = rw c.in_ok-segments.ensures.ok at c.segments.ensures.exact in
     let segments = exact_segments honest in
     let exact_resident = rw (s1, c.in_ok-module_name.ensures.ok) at c.resident.ensures.exact in

@@ -18,6 +18,6 @@ returns-in_err-count-clause-exact g c = λ honest known.
 pub returns-clause-exact : goal.returns-clause-exact
 returns-clause-exact g c = λ honest known.
     let file = file_of (g.S.Store.files c.args.store.now) c.args.name.now in
-    let exact = rw c.in_ok-count.ensures.files at c.blocks_before.ensures.exact in
-    gives_on _ file _ _ _ c.blocks_before.result (blocks_from file c.args.len c.args.at) (blocks_at file c.args.at) c.in_ok-count.ensures.failures
+    let exact = rw c.in_ok-count.ensures.stays.same at c.blocks_before.ensures.exact in
+    gives_on _ file _ _ _ c.blocks_before.result (blocks_from file c.args.len c.args.at) (blocks_at file c.args.at) c.in_ok-count.ensures.stays.counted
     (sym (blocks_are file c.args.len c.args.at known)) (exact honest known)

@@ -26,8 +26,8 @@ returns-in_err-block_of-clause-exact g c = λ honest known.
 
 pub loop-preserved : goal.loop-preserved
 loop-preserved g c = (
-  c.in_ok-block_of.ensures.files ∙ c.loop.invariant.0,
-  omega (arith, c.loop.invariant.1, c.in_ok-block_of.ensures.failures),
+  c.in_ok-block_of.ensures.stays.same ∙ c.loop.invariant.0,
+  omega (arith, c.loop.invariant.1, c.in_ok-block_of.ensures.stays.counted),
   λ honest known. rw c.loop.invariant.0 at c.in_ok-block_of.ensures.kept honest (c.loop.invariant.2 honest known),
   λ honest known e later.
       let file = file_of (g.S.Store.files c.args.store.now) c.args.name.now in

@@ -21,8 +21,8 @@ loop-i-preserved g c =
     let texts = c.args.texts.now in
     let l = c.loop-i.invariant.3 in
     let row : Row = c.in_ok-row.row in (
-      c.in_ok-row.ensures.files ∙ c.loop-i.invariant.0,
-      omega (arith, c.loop-i.invariant.1, c.in_ok-row.ensures.failures),
+      c.in_ok-row.ensures.stays.same ∙ c.loop-i.invariant.0,
+      omega (arith, c.loop-i.invariant.1, c.in_ok-row.ensures.stays.counted),
       λ honest piece. (let kept = rw c.loop-i.invariant.0 at c.in_ok-row.ensures.kept in kept honest (c.loop-i.invariant.2 honest piece)),
       (
         l.0 ++ row ∷ [],

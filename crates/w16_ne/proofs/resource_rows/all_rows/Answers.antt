@@ -34,8 +34,8 @@ returns-in_err-add_block-clause-exact g c = λ table shift honest known texts.
 
 pub loop-block-preserved : goal.loop-block-preserved
 loop-block-preserved g c = (
-  c.in_ok-add_block.ensures.files ∙ c.loop-block.invariant.0,
-  omega (arith, c.loop-block.invariant.1, c.in_ok-add_block.ensures.failures),
+  c.in_ok-add_block.ensures.stays.same ∙ c.loop-block.invariant.0,
+  omega (arith, c.loop-block.invariant.1, c.in_ok-add_block.ensures.stays.counted),
   c.in_ok-add_block.ensures.whole c.loop-block.invariant.2,
   λ honest known. (let kept = rw c.loop-block.invariant.0 at c.in_ok-add_block.ensures.kept in kept honest (c.loop-block.invariant.3 honest known)),
   λ table shift honest known texts.

@@ -15,7 +15,7 @@ returns-then-are_too_many-clause-exact g c = λ honest known.
     let rows = c.in_ok-rows.rows.rows.items in
     let fits : nat_lt 15 shift ≡ false = grind (arith, nat_tests, c.if-shift-gt15.false) in
     let there : texts_behind file c.args.table ≡ Ok t = c.in_ok-texts.ensures.exact honest ∙ ap (λ xs. Ok xs) (sym c.as_slice.ensures.value) in
-    let exact = rw c.in_ok-texts.ensures.files at c.in_ok-rows.ensures.exact in
+    let exact = rw c.in_ok-texts.ensures.stays.same at c.in_ok-rows.ensures.exact in
     let l = exact c.args.table shift honest known there in
     let counted : total groups ≡ length rows = c.in_ok-rows.ensures.whole.counted in
     let count : resource_count l.0 ≡ length rows = sym (count_filled l.0) ∙ ap resource_count (sym l.2) ∙ count_grouped t shift groups rows counted in
@@ -33,7 +33,7 @@ returns-in_err-test_places-clause-exact g c = λ honest known.
     let rows = c.in_ok-rows.rows.rows.items in
     let fits : nat_lt 15 shift ≡ false = grind (arith, nat_tests, c.if-shift-gt15.false) in
     let there : texts_behind file c.args.table ≡ Ok t = c.in_ok-texts.ensures.exact honest ∙ ap (λ xs. Ok xs) (sym c.as_slice.ensures.value) in
-    let exact = rw c.in_ok-texts.ensures.files at c.in_ok-rows.ensures.exact in
+    let exact = rw c.in_ok-texts.ensures.stays.same at c.in_ok-rows.ensures.exact in
     let l = exact c.args.table shift honest known there in
     let counted : total groups ≡ length rows = c.in_ok-rows.ensures.whole.counted in
     let count : resource_count l.0 ≡ length rows = sym (count_filled l.0) ∙ ap resource_count (sym l.2) ∙ count_grouped t shift groups rows counted in
@@ -44,7 +44,7 @@ returns-in_err-test_places-clause-exact g c = λ honest known.
     ∙ ap (λ rs. are_placed file (2 ^ shift) (map (entry_in t shift) rs)) (sym c.as_slice-3.ensures.value) in
     let p = err_from_is_err_and c.from_residual-in_err-test_places.result c.from_residual-in_err-test_places.ensures.1 in
     let whole = typed_in file c.args.table shift c.args.blocks.now in
-    rw (p.1, p.2) (refused_is file _ _ c.in_err-test_places.field-0.0 whole (told_on c.in_err-test_places.field-0.0 (are_placed file (2 ^ shift) (map (entry_in t shift) c.as_slice-3.result.now)) whole (c.in_err-test_places.ensures file t known)
+    rw (p.1, p.2) (refused_is file _ _ c.in_err-test_places.field-0.0 whole (told_on c.in_err-test_places.field-0.0 (are_placed file (2 ^ shift) (map (entry_in t shift) c.as_slice-3.result.now)) whole (c.in_err-test_places.ensures.exact file t known)
     (λ e. rw (fits, l.1, few, placed ∙ e) refl)))
 
 pub returns-clause-exact : goal.returns-clause-exact
@@ -57,7 +57,7 @@ returns-clause-exact g c = λ honest known.
     let rows = c.in_ok-rows.rows.rows.items in
     let fits : nat_lt 15 shift ≡ false = grind (arith, nat_tests, c.if-shift-gt15.false) in
     let there : texts_behind file c.args.table ≡ Ok t = c.in_ok-texts.ensures.exact honest ∙ ap (λ xs. Ok xs) (sym c.as_slice.ensures.value) in
-    let exact = rw c.in_ok-texts.ensures.files at c.in_ok-rows.ensures.exact in
+    let exact = rw c.in_ok-texts.ensures.stays.same at c.in_ok-rows.ensures.exact in
     let l = exact c.args.table shift honest known there in
     let counted : total groups ≡ length rows = c.in_ok-rows.ensures.whole.counted in
     let count : resource_count l.0 ≡ length rows = sym (count_filled l.0) ∙ ap resource_count (sym l.2) ∙ count_grouped t shift groups rows counted in
@@ -66,4 +66,4 @@ returns-clause-exact g c = λ honest known.
     let placed : are_all_placed file (2 ^ shift) l.0 ≡ are_placed file (2 ^ shift) (map (entry_in t shift) c.as_slice-3.result.now) =
     sym (placed_filled file (2 ^ shift) l.0) ∙ ap (are_all_placed file (2 ^ shift)) (sym l.2) ∙ placed_grouped t shift file (2 ^ shift) groups rows counted
     ∙ ap (λ rs. are_placed file (2 ^ shift) (map (entry_in t shift) rs)) (sym c.as_slice-3.ensures.value) in
-    rw (fits, l.1, few, placed ∙ c.in_ok-test_places.ensures file t known) (ap (λ ts. Ok ts) (sym l.2 ∙ ap (λ xs. grouped xs shift groups rows) c.as_slice.ensures.value))
+    rw (fits, l.1, few, placed ∙ c.in_ok-test_places.ensures.exact file t known) (ap (λ ts. Ok ts) (sym l.2 ∙ ap (λ xs. grouped xs shift groups rows) c.as_slice.ensures.value))

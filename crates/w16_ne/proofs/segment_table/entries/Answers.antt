@@ -14,8 +14,8 @@ returns-in_err-segment-clause-exact g c = λ honest.
 pub loop-i-preserved : goal.loop-i-preserved
 loop-i-preserved g c =
     let entry : ℕ → Result Segment NeFault = λ i. segment_at (file_of (g.S.Store.files c.args.store.now) c.args.name.now) c.args.shift c.args.table.now (8 * i) in (
-      c.in_ok-segment.ensures.files ∙ c.loop-i.invariant.0,
-      omega (arith, c.loop-i.invariant.1, c.in_ok-segment.ensures.failures),
+      c.in_ok-segment.ensures.stays.same ∙ c.loop-i.invariant.0,
+      omega (arith, c.loop-i.invariant.1, c.in_ok-segment.ensures.stays.counted),
       λ honest.
           let said = rw (c.from.ensures, c.loop-i.invariant.0) at c.in_ok-segment.ensures.exact honest in
           rw c.in_ok-push.ensures.items (goes_on entry c.loop-i.segments.items c.args.count c.loop-i.i c.in_ok-segment.segment (entries_at (file_of (g.S.Store.files c.args.store.now) c.args.name.now) c.args.shift c.args.table.now c.args.count) c.loop-i-test.true said (c.loop-i.invariant.2 honest)),

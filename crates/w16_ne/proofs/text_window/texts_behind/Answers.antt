@@ -8,6 +8,6 @@ pub returns-clause-exact : goal.returns-clause-exact
 returns-clause-exact g c = λ honest.
     let file = file_of (g.S.Store.files c.args.store.now) c.args.name.now in
     let known = c.in_ok-len.ensures.exact honest in
-    let exact = rw c.in_ok-len.ensures.files at c.table.ensures.exact in
-    gives_on _ file _ _ _ c.table.result (bytes_or faults.Truncated file c.args.at c.min-count.result) (texts_behind file c.args.at) c.in_ok-len.ensures.failures
+    let exact = rw c.in_ok-len.ensures.stays.same at c.table.ensures.exact in
+    gives_on _ file _ _ _ c.table.result (bytes_or faults.Truncated file c.args.at c.min-count.result) (texts_behind file c.args.at) c.in_ok-len.ensures.stays.counted
     (front_is 65791 file c.in_ok-len.len c.args.at c.min-count.result known c.if-at-len.false c.min-count.ensures) (exact honest)

@@ -1,5 +1,5 @@
 use Rattle.w16_reloc.proofs.Common.{◌∙◌, [], arith, err_from_is_err_and, Offer, check_from, offer_at}
-use Rattle.w16_reloc.proofs.Refusals.{fails_on, own_fails, goes_on, stops_at_record, stops_at_sites, is_done}
+use Rattle.w16_reloc.proofs.Refusals.{fails_on, own_fails, goes_on, stops_at_record, stops_at_sites, is_done, records_not_device}
 use Rattle.w16_reloc.proofs.records.check_records.Goals as goal
 
 pub returns-in_err-found-clause-exact : goal.returns-in_err-found-clause-exact
@@ -21,10 +21,15 @@ returns-in_err-take_sites-clause-exact g c = λ file honest has none.
     rw (p.1, p.2) (own_fails _ _ c.in_err-take_sites.field-0.0 _ (check_from offer c.args.bytes.now c.args.table.now c.args.count 0 []) c.in_err-take_sites.ensures.own said
     (stops_at_sites offer c.args.bytes.now c.args.table.now c.loop-i.records.items c.args.count c.loop-i.i here.0 c.in_ok-found.found _ _ c.loop-i-test.true read here.2))
 
+pub returns-in_err-take_sites-clause-device : goal.returns-in_err-take_sites-clause-device
+returns-in_err-take_sites-clause-device g c =
+    let p = err_from_is_err_and c.from_residual-in_err-take_sites.result c.from_residual-in_err-take_sites.ensures.1 in
+    rw (p.1, p.2) (λ t. absurd (records_not_device c.in_err-take_sites.field-0.0 c.in_err-take_sites.ensures.own t))
+
 pub loop-i-preserved : goal.loop-i-preserved
 loop-i-preserved g c = (
-  c.in_ok-found.ensures.files ∙ c.loop-i.invariant.0,
-  omega (arith, c.loop-i.invariant.1, c.in_ok-found.ensures.failures),
+  c.in_ok-found.ensures.stays.same ∙ c.loop-i.invariant.0,
+  omega (arith, c.loop-i.invariant.1, c.in_ok-found.ensures.stays.counted),
   c.take_sites.auto.marks ∙ c.loop-i.invariant.2,
   omega (arith, c.push_reserved.ensures.len, c.loop-i.invariant.3),
   c.push_reserved.ensures.capacity ∙ c.loop-i.invariant.4,

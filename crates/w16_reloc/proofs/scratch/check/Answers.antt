@@ -19,6 +19,6 @@ returns-clause-exact g c = λ file s honest has tables found.
     let lies = module_lies file c.args.module_file.now (c.args.segment - 1) c.segment-found.result tables c.segment-found.ensures.found in
     let many = ok_same _ _ (c.in_ok-count.ensures.exact file honest has lies) in
     let held = c.in_ok-count.ensures.held file honest has lies in
-    let said = c.check_records.ensures.exact file honest (rw c.in_ok-count.ensures.files has) (rw c.as_mut_slice.ensures.value c.clear_marks.ensures.clear) in
+    let said = c.check_records.ensures.exact file honest (rw c.in_ok-count.ensures.stays.same has) (rw c.as_mut_slice.ensures.value c.clear_marks.ensures.clear) in
     let offered = rw (c.imported_names.ensures.place, c.segment_count.ensures.count, c.reference_count.ensures, c.as_slice.ensures.value, c.as_slice-2.ensures.value) at said in
-    rw (← same) (checked_told file c.args.module_file.now c.segment-found.result c.check_records.result _ _ _ _ _ _ _ (omega (arith, c.in_ok-count.ensures.failures)) held.0 held.1 (sym many) offered)
+    rw (← same) (checked_told file c.args.module_file.now c.segment-found.result c.check_records.result _ _ _ _ _ _ _ (omega (arith, c.in_ok-count.ensures.stays.counted)) held.0 held.1 (sym many) offered)

@@ -14,4 +14,4 @@ returns-clause-held g c = λ file honest has lies.
     let some : 0 < c.args.segment.now.len = omega (arith, c.if-segment-eq0.false) in
     let inside : 0 < c.args.segment.now.len → c.args.segment.now.place + c.args.segment.now.len ≤ length file = λ lt. (lies.1 lt).0 in
     let said = c.in_ok-read_bytes.ensures.exact file honest has inside in
-    on_ok_both c.read_table.result _ _ (sym (ok_same _ _ said)) (c.read_table.ensures.records file c.args.segment.now.records honest (rw c.in_ok-read_bytes.ensures.files has) (lies.1 some).1)
+    on_ok_both c.read_table.result _ _ (sym (ok_same _ _ said)) (c.read_table.ensures.records file c.args.segment.now.records honest (rw c.in_ok-read_bytes.ensures.stays.same has) (lies.1 some).1)

@@ -9,8 +9,8 @@ returns-in_err-read_bytes-clause-exact g c = λ file count honest has counted.
     let read = c.in_ok-count.ensures.exact file count honest has counted in
     let same : count ≡ c.in_ok-count.count = cc (read) in
     let inside : 0 < 8 * c.in_ok-count.count → c.args.end + 2 + 8 * c.in_ok-count.count ≤ length file = λ some. table_inside file c.args.flags c.args.end c.in_ok-count.count (rw (← same) counted) (omega (arith, some)) in
-    let said = c.in_err-read_bytes.ensures.exact file honest (rw c.in_ok-count.ensures.files has) inside in
-    rw (p.1, p.2) (fails_on _ _ _ c.in_err-read_bytes.field-0.0 _ (Ok count) c.in_ok-count.ensures.failures said (λ e. cc (e)))
+    let said = c.in_err-read_bytes.ensures.exact file honest (rw c.in_ok-count.ensures.stays.same has) inside in
+    rw (p.1, p.2) (fails_on _ _ _ c.in_err-read_bytes.field-0.0 _ (Ok count) c.in_ok-count.ensures.stays.counted said (λ e. cc (e)))
 
 held_of : (x y : List ℕ) → ◌≡◌ {A = Result (List ℕ) RelocFault} (Ok x) (Ok y) → x ≡ y
 held_of x y h = cc
@@ -20,5 +20,5 @@ returns-clause-records g c = λ file count honest has counted.
     let read = c.in_ok-count.ensures.exact file count honest has counted in
     let same : count ≡ c.in_ok-count.count = cc (read) in
     let inside : 0 < 8 * c.in_ok-count.count → c.args.end + 2 + 8 * c.in_ok-count.count ≤ length file = λ some. table_inside file c.args.flags c.args.end c.in_ok-count.count (rw (← same) counted) (omega (arith, some)) in
-    let said = c.in_ok-read_bytes.ensures.exact file honest (rw c.in_ok-count.ensures.files has) inside in
+    let said = c.in_ok-read_bytes.ensures.exact file honest (rw c.in_ok-count.ensures.stays.same has) inside in
     rw same (sym (held_of _ _ said))

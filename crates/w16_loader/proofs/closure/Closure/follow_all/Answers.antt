@@ -13,8 +13,8 @@ returns-in-Err-clause-err g c = λ honest.
 
 pub loop-place-preserved : goal.loop-place-preserved
 loop-place-preserved g c = record {
-  files = c.in-Ok.ensures.files ∙ c.loop-place.invariant.files;
-  failures = omega (arith, c.in-Ok.ensures.failures, c.loop-place.invariant.failures);
+  files = c.in-Ok.ensures.stays.same ∙ c.loop-place.invariant.files;
+  failures = omega (arith, c.in-Ok.ensures.stays.counted, c.loop-place.invariant.failures);
   few = few_through c.args.registry.now c.args.self.now.found.items c.loop-place.self.found.items c.follow_module.new.self.found.items c.loop-place.invariant.few c.in-Ok.ensures.few;
   any = any_through c.args.registry.now c.loop-place.self.found.items c.follow_module.new.self.found.items c.in-Ok.ensures.few.since (reached_of 0 0 c.args.self.now) (reached_of c.loop-place.place 0 c.loop-place.self)
       (reached_of (c.loop-place.place + 1) 0 c.follow_module.new.self) c.in-Ok.ensures.few.kept c.loop-place.invariant.any c.in-Ok.ensures.any;

@@ -19,8 +19,8 @@ returns-in-Err-clause-err g c = λ honest.
 
 pub loop-done-preserved : goal.loop-done-preserved
 loop-done-preserved g c = record {
-  files = c.in-Ok.ensures.files ∙ c.loop-done.invariant.files;
-  failures = omega (arith, c.in-Ok.ensures.failures, c.loop-done.invariant.failures);
+  files = c.in-Ok.ensures.stays.same ∙ c.loop-done.invariant.files;
+  failures = omega (arith, c.in-Ok.ensures.stays.counted, c.loop-done.invariant.failures);
   same = c.in-Ok.ensures.same ∙ c.loop-done.invariant.same;
   few = few_through c.args.registry.now c.args.self.now.found.items c.loop-done.self.found.items c.follow_reference.new.self.found.items c.loop-done.invariant.few c.in-Ok.ensures.few;
   any =

@@ -70,8 +70,8 @@ returns-in-Ok-clause-any g c = λ is.
     let none = absent c.args.global.now.handles c.args.handle c.in-Some.slot c.selector_of.result slotted c.selector_of.ensures c.segment.result c.segment.ensures.none (sym c.is_some.ensures ∙ c.if-is_some.false) in
     fetched_any c.args.global.now.handles c.args.registry.now c.args.self.now (g.S.Store.files c.args.store.now)
     (g.S.Store.failures c.args.store.now) c.args.handle x found none None c.fetch.new.global.handles
-    (g.S.Store.files c.fetch.new.store) (g.S.Store.failures c.fetch.new.store) c.fetch.ensures.files
-    c.fetch.ensures.failures
+    (g.S.Store.files c.fetch.new.store) (g.S.Store.failures c.fetch.new.store) c.fetch.ensures.stays.same
+    c.fetch.ensures.stays.counted
     (Dword c.global_lock-in-Ok.result) c.global_lock-in-Ok.new.self.handles
     (lock_is (loading_of c.fetch.new.global.handles c.args.registry.now c.args.self.now (g.S.Store.files c.fetch.new.store) (g.S.Store.failures c.args.store.now)) c.args.handle c.global_lock-in-Ok.result c.global_lock-in-Ok.new.self.handles c.global_lock-in-Ok.ensures.step)
     (c.in-Ok.ensures.fewest is (lacks (loading_of c.args.global.now.handles c.args.registry.now c.args.self.now
@@ -94,8 +94,8 @@ returns-in-Ok-clause-exact g c = λ is told.
     let none = absent c.args.global.now.handles c.args.handle c.in-Some.slot c.selector_of.result slotted c.selector_of.ensures c.segment.result c.segment.ensures.none (sym c.is_some.ensures ∙ c.if-is_some.false) in
     fetched_exact c.args.global.now.handles c.args.registry.now c.args.self.now (g.S.Store.files c.args.store.now)
     (g.S.Store.failures c.args.store.now) c.args.handle x found none None c.fetch.new.global.handles
-    (g.S.Store.files c.fetch.new.store) (g.S.Store.failures c.fetch.new.store) c.fetch.ensures.files
-    c.fetch.ensures.failures
+    (g.S.Store.files c.fetch.new.store) (g.S.Store.failures c.fetch.new.store) c.fetch.ensures.stays.same
+    c.fetch.ensures.stays.counted
     (Dword c.global_lock-in-Ok.result) c.global_lock-in-Ok.new.self.handles
     (lock_is (loading_of c.fetch.new.global.handles c.args.registry.now c.args.self.now (g.S.Store.files c.fetch.new.store) (g.S.Store.failures c.args.store.now)) c.args.handle c.global_lock-in-Ok.result c.global_lock-in-Ok.new.self.handles c.global_lock-in-Ok.ensures.step)
     ((c.in-Ok.ensures.step is (lacks (loading_of c.args.global.now.handles c.args.registry.now c.args.self.now
@@ -113,8 +113,8 @@ returns-in-Err-clause-any g c = λ is.
     let none = absent c.args.global.now.handles c.args.handle c.in-Some.slot c.selector_of.result slotted c.selector_of.ensures c.segment.result c.segment.ensures.none (sym c.is_some.ensures ∙ c.if-is_some.false) in
     fetched_any c.args.global.now.handles c.args.registry.now c.args.self.now (g.S.Store.files c.args.store.now)
     (g.S.Store.failures c.args.store.now) c.args.handle x found none (Some c.in-Err.fault) c.fetch.new.global.handles
-    (g.S.Store.files c.fetch.new.store) (g.S.Store.failures c.fetch.new.store) c.fetch.ensures.files
-    c.fetch.ensures.failures
+    (g.S.Store.files c.fetch.new.store) (g.S.Store.failures c.fetch.new.store) c.fetch.ensures.stays.same
+    c.fetch.ensures.stays.counted
     (dword_in c.refusal.result) c.fetch.new.global.handles
     (c.refusal.ensures c.args.handle (loading_of c.fetch.new.global.handles c.args.registry.now c.args.self.now (g.S.Store.files c.fetch.new.store) (g.S.Store.failures c.args.store.now)))
     (c.in-Err.ensures.fewest is (lacks (loading_of c.args.global.now.handles c.args.registry.now c.args.self.now
@@ -137,8 +137,8 @@ returns-in-Err-clause-exact g c = λ is told.
     let none = absent c.args.global.now.handles c.args.handle c.in-Some.slot c.selector_of.result slotted c.selector_of.ensures c.segment.result c.segment.ensures.none (sym c.is_some.ensures ∙ c.if-is_some.false) in
     fetched_exact c.args.global.now.handles c.args.registry.now c.args.self.now (g.S.Store.files c.args.store.now)
     (g.S.Store.failures c.args.store.now) c.args.handle x found none (Some c.in-Err.fault) c.fetch.new.global.handles
-    (g.S.Store.files c.fetch.new.store) (g.S.Store.failures c.fetch.new.store) c.fetch.ensures.files
-    c.fetch.ensures.failures
+    (g.S.Store.files c.fetch.new.store) (g.S.Store.failures c.fetch.new.store) c.fetch.ensures.stays.same
+    c.fetch.ensures.stays.counted
     (dword_in c.refusal.result) c.fetch.new.global.handles
     (c.refusal.ensures c.args.handle (loading_of c.fetch.new.global.handles c.args.registry.now c.args.self.now (g.S.Store.files c.fetch.new.store) (g.S.Store.failures c.args.store.now)))
     ((c.in-Err.ensures.step is (lacks (loading_of c.args.global.now.handles c.args.registry.now c.args.self.now

@@ -1,0 +1,27 @@
+-- Which faults of a load, and which answers, tell that the store's device failed.
+use Rattle.std.specs.Prelude.{Bool, true, false}
+use Rattle.w16_loading.specs.Fill.{is_of_device}
+use Rattle.w16_loader.specs.declared.binding.BindFault.{BindFault}
+use Rattle.w16_loader.specs.declared.binding.BindFault.TheVariants as binds
+use Rattle.w16_loader.specs.declared.fault.ValueFault.{ValueFault}
+use Rattle.w16_loader.specs.declared.fault.ValueFault.TheVariants as values
+use Rattle.w16_loader.specs.declared.found.FileFault.{FileFault}
+use Rattle.w16_loader.specs.declared.found.FileFault.TheVariants as files
+use Rattle.w16_loader.specs.declared.loading.LoadAnswer.{LoadAnswer}
+use Rattle.w16_loader.specs.declared.loading.LoadAnswer.TheVariants as answers
+
+abbrev pub is_file_device : FileFault → Bool
+is_file_device files.Device = true
+is_file_device other = false
+
+abbrev pub is_value_device : ValueFault → Bool
+is_value_device values.Device = true
+is_value_device other = false
+
+abbrev pub is_bind_device : BindFault → Bool
+is_bind_device (binds.Failed failure) = is_of_device failure.fault
+is_bind_device other = false
+
+abbrev pub is_load_device : LoadAnswer → Bool
+is_load_device answers.StoreFails = true
+is_load_device other = false
