@@ -1,10 +1,11 @@
 -- What loads and fetches get of an NE file.
 use Rattle.w16_format.proofs.Common.{◌≡◌, ℕ, zero, suc, ◌-◌, Bool, true, false, cond, List, [], ◌∷◌, length, map, Some, Result, Ok, Err, refl, sym, ◌∙◌, ap, subst, arith, All, Option, None, option_map, slice_get}
 use Rattle.w16_format.proofs.Common.{slice_index_or, is_ok, is_some, nat_eq, ◌&&◌, list_all, slice_get-map, Segment, Label, Entry, Tables, listed_resources, resource_at, RelocFault, Held, checked, IsImage, naming, IsFar}
-use Rattle.w16_format.proofs.Common.{ModuleFile, SegmentData, numbered, LoadingWorld, Module, are_sound, read_of, segment_bytes, resource_bytes, targets_in, data_in, contents_in, far_in, far_of, module_file, ne_format}
+use Rattle.w16_format.proofs.Common.{ModuleFile, SegmentData, numbered, content_at, LoadingWorld, Module, are_sound, read_of, segment_bytes, resource_bytes, targets_in, data_in, contents_in, far_in, far_of, module_file, ne_format}
 use Rattle.w16_format.proofs.Common.{IsFileOf}
 use Rattle.w16_reloc.specs.declared.value.Far as words
 use Rattle.w16_format.proofs.Files.{accepted}
+use Rattle.w16_format.proofs.Lookups.{numbered_map}
 use Rattle.w16_format.proofs.Relocated.{is_relocated, words_same}
 
 -- Soundness.
@@ -21,18 +22,9 @@ all_told file t (s ∷ ss) =
 pub sound_law : (file : List ℕ) (t : Tables) → are_sound (module_file file t) ≡ list_all (λ s. is_ok (checked file t s)) t.segments
 sound_law file t = all_told file t t.segments
 
--- Places.
-
-numbered_by : {X Y : Type 0} (b : Bool) (f : X → Y) (xs : List X) (k : ℕ) (x : X) → cond b None (slice_get xs k) ≡ Some x → cond b None (slice_get (map f xs) k) ≡ Some (f x)
-numbered_by true f xs k x h = cc
-numbered_by false f xs k x h = slice_get-map f xs k ∙ ap (option_map f) h
-
-numbered_map : {X Y : Type 0} (f : X → Y) (xs : List X) (number : ℕ) (x : X) → numbered xs number ≡ Some x → numbered (map f xs) number ≡ Some (f x)
-numbered_map f xs number x h = numbered_by (nat_eq number 0) f xs (number - 1) x h
-
 read_is : (world : LoadingWorld) (m : Module) (file : List ℕ) (t : Tables) → IsFileOf world m file t → read_of ne_format world m ≡ Some (module_file file t)
 read_is world m file t is =
-    ap (λ (p : Option (List ℕ)). elim p as (λ _. Option ModuleFile) [ None ↦ None | Some bytes ↦ elim (ne_format bytes) as (λ _. Option ModuleFile) [ Ok read ↦ Some read | Err _ ↦ None ] ]) is.stored
+    ap (λ (p : Option (List ℕ)). elim p as (λ _. Option ModuleFile) [ None ↦ None | Some bytes ↦ elim (ne_format.says bytes) as (λ _. Option ModuleFile) [ Ok read ↦ Some read | Err _ ↦ None ] ]) is.stored
     ∙ ap (λ (r : Result ModuleFile ℕ). elim r as (λ _. Option ModuleFile) [ Ok read ↦ Some read | Err _ ↦ None ]) (accepted file t is.bytes is.tables)
 
 -- Segments.
@@ -42,7 +34,7 @@ pub segment_given : (world : LoadingWorld) (m : Module) (file : List ℕ) (t : T
     → IsImage held.bytes held.records values (naming held.bytes held.records) bytes → length bytes ≡ s.size → segment_bytes ne_format world m number ≡ Some bytes
 segment_given world m file t number s held values bytes is place passed far bound image long =
     let read = read_is world m file t is in
-    let there : numbered (map (data_in file t) t.segments) number ≡ Some (data_in file t s) = numbered_map (data_in file t) t.segments number s place in
+    let there : numbered (map (data_in file t) t.segments) number ≡ Some (data_in file t s) = numbered_map (data_in file t) t.segments number ∙ ap (option_map (data_in file t)) place in
     let relocated = is_relocated file t s held passed in
     let same : map far_in (map far_of values) ≡ values = words_same values far in
     let given : (data_in file t s).image (map far_of values) ≡ bytes =
@@ -54,15 +46,10 @@ segment_given world m file t number s held values bytes is place passed far boun
 
 -- Resources.
 
-resource_place : (types : List (Label × List Entry)) (place : ℕ) (r : Label × Entry) → resource_at types place ≡ Some r → numbered (listed_resources types) place ≡ Some r
-resource_place types zero r h = cc
-resource_place types (suc i) r h =
-    let some : nat_eq (suc i) 0 ≡ false = grind arith in
-    let e : suc i - 1 ≡ i = omega arith in
-    ap (λ b. cond b None (slice_get (listed_resources types) (suc i - 1))) some ∙ ap (λ k. slice_get (listed_resources types) k) e ∙ h
-
 pub resource_given : (world : LoadingWorld) (m : Module) (file : List ℕ) (t : Tables) (place : ℕ) (r : Label × Entry) → IsFileOf world m file t
     → resource_at t.resources place ≡ Some r → resource_bytes ne_format world m place ≡ Some (contents_in file r)
 resource_given world m file t place r is there =
-    ap (λ (p : Option ModuleFile). elim p as (λ _. Option (List ℕ)) [ None ↦ None | Some read ↦ numbered read.contents place ]) (read_is world m file t is)
-    ∙ numbered_map (contents_in file) (listed_resources t.resources) place r (resource_place t.resources place r there)
+    ap (λ (p : Option (List ℕ)). elim p as (λ _. Option (List ℕ)) [ None ↦ None | Some bytes ↦ elim (ne_format.says bytes) as (λ _. Option (List ℕ)) [ Ok _ ↦ ne_format.contents bytes place | Err _ ↦ None ] ]) is.stored
+    ∙ ap (λ (said : Result ModuleFile ℕ). elim said as (λ _. Option (List ℕ)) [ Ok _ ↦ ne_format.contents file place | Err _ ↦ None ]) (accepted file t is.bytes is.tables)
+    ∙ ap (content_at file place) is.tables
+    ∙ ap (option_map (contents_in file)) there

@@ -1,19 +1,15 @@
 -- NE files are a format.
 use Rattle.w16_format.proofs.Common.{◌≡◌, ℕ, ◌+◌, ◌<◌, ◌≤◌, Bool, true, false, cond, List, [], ◌∷◌, length, map, take, drop, Some, Result, Ok, Err, refl, sym, ◌∙◌, ap, arith, get_or, Option, None, IsSomeAnd, All, MatchResult, nat_eq, slice_get, AllZip}
 use Rattle.w16_format.proofs.Common.{All-map, All-take, All-drop, rounded_size, NeFault, Missing, Target, Store, place_at, Segment, data_of, shift_of, segment_table, Tables, tables_at, listed_resources, IsModule, module_format, file_of, IsFormat}
-use Rattle.w16_format.proofs.Common.{IsModuleFile, ModuleFile, Resource, IsItsFiles, IsOfFiles, LoadingWorld, Module, module_at, layout_code, IsFileOf, resource_in, tables_in, contents_in, module_file, number_of, read_as, plain_format, ne_format}
+use Rattle.w16_format.proofs.Common.{IfOk, IfSome, IsContent, numbered, option_map, resource_at, subst, IsModuleFile, ModuleFile, Resource, IsItsFiles, IsOfFiles, LoadingWorld, Module, module_at, layout_code, IsFileOf, resource_in, tables_in, content_at, contents_in, module_file, number_of, read_as, plain_format, ne_format}
 use Rattle.w16_format.proofs.Common.{has_bytes}
 use Rattle.w16_ne.specs.Resources as ne_resources
 use Rattle.w16_loading.specs.File as loading
 use Rattle.w16_format.proofs.Bytes.{AreBytes, padded_length, padded_bytes, passed_bytes, bytes_pass}
+use Rattle.w16_format.proofs.Lookups.{place_law}
 use Rattle.w16_format.proofs.Segments.{segments_fit, room}
 
 -- Resources.
-
-contents_fit : (file : List ℕ) (rs : List (ne_resources.Label × ne_resources.Entry))
-    → AllZip (λ (r : Resource) (bytes : List ℕ). length bytes ≡ rounded_size r.length_in) (map resource_in rs) (map (contents_in file) rs)
-contents_fit file [] = tt
-contents_fit file (r ∷ rs) = (padded_length (take r.1.len (drop r.1.place file)) (rounded_size r.1.len), contents_fit file rs)
 
 contents_bytes : (file : List ℕ) (r : ne_resources.Label × ne_resources.Entry) → AreBytes file → AreBytes (contents_in file r)
 contents_bytes file r all =
@@ -24,9 +20,16 @@ contents_bytes file r all =
 is_module_file : (file : List ℕ) (t : Tables) → AreBytes file → IsModule file t → IsModuleFile (module_file file t)
 is_module_file file t all is = record {
   segments = segments_fit file t (shift_of t.header) (t.place + segment_table t.header) t.segments all is.segments.are;
-  contents = contents_fit file (listed_resources t.resources);
-  bytes = All-map AreBytes (contents_in file) (listed_resources t.resources) (λ k d lt. contents_bytes file (get_or (listed_resources t.resources) k d) all);
 }
+
+are_contents : (file : List ℕ) (number : ℕ) (r : Result Tables NeFault) → AreBytes file
+    → IfOk (read_as file r) (λ read. IfSome (numbered read.tables.resources number) (λ x. IsSomeAnd (content_at file number r) (IsContent x)))
+are_contents file number (Err e) all = tt
+are_contents file number (Ok t) all = subst (λ p. IfSome p (λ x. IsSomeAnd (content_at file number (Ok t)) (IsContent x))) (sym (place_law t number).1) (turn (resource_at t.resources number))
+  where
+    turn : (p : Option (ne_resources.Label × ne_resources.Entry)) → IfSome (option_map resource_in p) (λ x. IsSomeAnd (option_map (contents_in file) p) (IsContent x))
+    turn None = tt
+    turn (Some r) = (padded_length (take r.1.len (drop r.1.place file)) (rounded_size r.1.len), contents_bytes file r all)
 
 numbers_by : (a b : Bool) → (11 ≤ cond a 12 (cond b 13 14)) × (cond a 12 (cond b 13 14) ≤ 14)
 numbers_by true b = (omega arith, omega arith)
@@ -42,13 +45,18 @@ read_fits file (Ok t) all e = is_module_file file t all ((module_format file t).
 read_fits file (Err e) all same = numbers e
 
 pub is_format : IsFormat ne_format
-is_format file = turn (has_bytes file) refl
+is_format = record { files = λ file. files file (has_bytes file) refl; contents = λ file number. contents file number (has_bytes file) refl }
   where
-    turn : (b : Bool) → has_bytes file ≡ b → MatchResult (cond b (plain_format file) (Err 11)) IsModuleFile (λ answer. (11 ≤ answer) × (answer ≤ 14))
-    turn true e = read_fits file (tables_at (Some file)) (passed_bytes file e) refl
-    turn false e = (omega arith, omega arith)
+    files : (file : List ℕ) (b : Bool) → has_bytes file ≡ b → MatchResult (cond b (plain_format file) (Err 11)) IsModuleFile (λ answer. (11 ≤ answer) × (answer ≤ 14))
+    files file true e = read_fits file (tables_at (Some file)) (passed_bytes file e) refl
+    files file false e = (omega arith, omega arith)
 
-pub plain : (file : List ℕ) → All (λ b. b < 256) file → ne_format file ≡ plain_format file
+    contents : (file : List ℕ) (number : ℕ) (b : Bool) → has_bytes file ≡ b
+        → IfOk (cond {A = Result ModuleFile ℕ} b (plain_format file) (Err 11)) (λ read. IfSome (numbered read.tables.resources number) (λ x. IsSomeAnd (ne_format.contents file number) (IsContent x)))
+    contents file number true e = are_contents file number (tables_at (Some file)) (passed_bytes file e)
+    contents file number false e = tt
+
+pub plain : (file : List ℕ) → All (λ b. b < 256) file → ne_format.says file ≡ plain_format file
 plain file all = ap (λ b. cond b (plain_format file) (Err 11)) (bytes_pass file all)
 
 ok_same : {x y : ModuleFile} → ◌≡◌ {A = Result ModuleFile ℕ} (Ok x) (Ok y) → x ≡ y
@@ -61,7 +69,7 @@ pub tables_apart : (t u : Tables) → tables_in t ≡ tables_in u → t ≡ u
 tables_apart t u same = layout_code.inj t u (ap (λ (l : loading.Tables). l.layout) same)
 
 -- what is accepted is a file of bytes, whose tables were read
-pub read_back : (file : List ℕ) (read : ModuleFile) → ne_format file ≡ Ok read → All (λ b. b < 256) file × ((t : Tables) × (tables_at (Some file) ≡ Ok t) × (read ≡ module_file file t))
+pub read_back : (file : List ℕ) (read : ModuleFile) → ne_format.says file ≡ Ok read → All (λ b. b < 256) file × ((t : Tables) × (tables_at (Some file) ≡ Ok t) × (read ≡ module_file file t))
 read_back file read e = turn (has_bytes file) refl (tables_at (Some file)) refl e
   where
     turn : (b : Bool) → has_bytes file ≡ b → (r : Result Tables NeFault) → tables_at (Some file) ≡ r → cond b (read_as file r) (Err 11) ≡ Ok read
@@ -77,9 +85,9 @@ stored_law world handle m t of_files there same = turn (file_of world.files m.fi
   where
     said : Option (List ℕ) → Option ModuleFile
     said None = None
-    said (Some file) = elim (ne_format file) [ Ok read ↦ Some read | Err _ ↦ None ]
+    said (Some file) = elim (ne_format.says file) [ Ok read ↦ Some read | Err _ ↦ None ]
 
-    by : (file : List ℕ) → file_of world.files m.file ≡ Some file → (r : Result ModuleFile ℕ) → ne_format file ≡ r
+    by : (file : List ℕ) → file_of world.files m.file ≡ Some file → (r : Result ModuleFile ℕ) → ne_format.says file ≡ r
         → IsSomeAnd (elim r as (λ _. Option ModuleFile) [ Ok read ↦ Some read | Err _ ↦ None ]) (IsItsFiles m) → (file : List ℕ) × IsFileOf world m file t
     by file stored (Err _) e its = absurd its
     by file stored (Ok read) e its =
@@ -89,17 +97,17 @@ stored_law world handle m t of_files there same = turn (file_of world.files m.fi
 
     turn : (p : Option (List ℕ)) → file_of world.files m.file ≡ p → IsSomeAnd (said p) (IsItsFiles m) → (file : List ℕ) × IsFileOf world m file t
     turn None e its = absurd its
-    turn (Some file) e its = by file e (ne_format file) refl its
+    turn (Some file) e its = by file e (ne_format.says file) refl its
 
 pub has_room : (file : List ℕ) (t : Tables) (k : ℕ) (s : Segment) → tables_at (Some file) ≡ Ok t → slice_get t.segments k ≡ Some s → length (data_of file s) ≤ s.size
 has_room file t k s h found =
     let is = (module_format file t).0 h in
     room file (shift_of t.header) (t.place + segment_table t.header) t.segments k s is.segments.are found
 
-pub accepted : (file : List ℕ) (t : Tables) → All (λ b. b < 256) file → tables_at (Some file) ≡ Ok t → ne_format file ≡ Ok (module_file file t)
+pub accepted : (file : List ℕ) (t : Tables) → All (λ b. b < 256) file → tables_at (Some file) ≡ Ok t → ne_format.says file ≡ Ok (module_file file t)
 accepted file t all h = plain file all ∙ ap (read_as file) h
 
-pub refused : (file : List ℕ) (e : NeFault) → All (λ b. b < 256) file → tables_at (Some file) ≡ Err e → ne_format file ≡ Err (number_of e)
+pub refused : (file : List ℕ) (e : NeFault) → All (λ b. b < 256) file → tables_at (Some file) ≡ Err e → ne_format.says file ≡ Err (number_of e)
 refused file e all h = plain file all ∙ ap (read_as file) h
 
 pub missing : tables_at None ≡ Err (Store Missing)

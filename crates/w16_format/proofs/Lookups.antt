@@ -17,7 +17,7 @@ before i = omega arith
 numbered_suc : {X : Type 0} (xs : List X) (i : ℕ) → numbered xs (suc i) ≡ slice_get xs i
 numbered_suc {X} xs i = ap (λ b. cond {A = Option X} b None (slice_get xs (suc i - 1))) (not_zero i) ∙ ap (λ k. slice_get xs k) (before i)
 
-numbered_map : {X Y : Type 0} (f : X → Y) (xs : List X) (number : ℕ) → numbered (map f xs) number ≡ option_map f (numbered xs number)
+pub numbered_map : {X Y : Type 0} (f : X → Y) (xs : List X) (number : ℕ) → numbered (map f xs) number ≡ option_map f (numbered xs number)
 numbered_map f xs zero = refl
 numbered_map f xs (suc i) = numbered_suc (map f xs) i ∙ slice_get-map f xs i ∙ ap (option_map f) (sym (numbered_suc xs i))
 

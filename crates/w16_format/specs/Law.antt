@@ -29,7 +29,7 @@ abbrev pub FormatLaw : Type 0
 FormatLaw = IsFormat ne_format
 
 abbrev pub PlainLaw : Type 0
-PlainLaw = (file : List ℕ) → All (λ b. b < 256) file → ne_format file ≡ plain_format file
+PlainLaw = (file : List ℕ) → All (λ b. b < 256) file → ne_format.says file ≡ plain_format file
 
 -- A segment that is checked has sound records in its data, and the format gives it their targets. Bytes as many as it has are its image where the
 -- values of these records were written over its data.
@@ -55,10 +55,10 @@ RoomLaw = (file : List ℕ) (t : Tables) (k : ℕ) (s : Segment) → tables_at (
 
 -- accepted or not
 abbrev pub AcceptedLaw : Type 0
-AcceptedLaw = (file : List ℕ) (t : Tables) → All (λ b. b < 256) file → tables_at (Some file) ≡ Ok t → ne_format file ≡ Ok (module_file file t)
+AcceptedLaw = (file : List ℕ) (t : Tables) → All (λ b. b < 256) file → tables_at (Some file) ≡ Ok t → ne_format.says file ≡ Ok (module_file file t)
 
 abbrev pub RefusedLaw : Type 0
-RefusedLaw = (file : List ℕ) (e : NeFault) → All (λ b. b < 256) file → tables_at (Some file) ≡ Err e → ne_format file ≡ Err (number_of e)
+RefusedLaw = (file : List ℕ) (e : NeFault) → All (λ b. b < 256) file → tables_at (Some file) ≡ Err e → ne_format.says file ≡ Err (number_of e)
 
 -- none is accepted where there is no file
 abbrev pub MissingLaw : Type 0

@@ -1,10 +1,10 @@
 -- NE files as a format.
-use Rattle.std.specs.Prelude.{ℕ, Bool, nat_lt, List, map, ◌==◌, if◌then◌else◌, Some, Result, Ok, Err}
+use Rattle.std.specs.Prelude.{ℕ, Bool, nat_lt, List, map, ◌==◌, if◌then◌else◌, Option, Some, None, option_map, Result, Ok, Err}
 use Rattle.std.specs.List.{list_all}
 use Rattle.w16_ne.specs.declared.fault.NeFault.{NeFault}
 use Rattle.w16_ne.specs.declared.fault.NeFault.TheVariants.{Target}
-use Rattle.w16_ne.specs.Modules.{Tables, tables_at, listed_resources}
-use Rattle.w16_loading.specs.File.{Format, ModuleFile}
+use Rattle.w16_ne.specs.Modules.{Tables, tables_at, resource_at}
+use Rattle.w16_loading.specs.File.{Saying, Format, ModuleFile}
 use Rattle.w16_format.specs.Tables.{tables_in}
 use Rattle.w16_format.specs.Data.{data_in, contents_in}
 
@@ -12,8 +12,11 @@ abbrev pub module_file : List ℕ → Tables → ModuleFile
 module_file file t = record {
   tables = tables_in t;
   segments = map (data_in file t) t.segments;
-  contents = map (contents_in file) (listed_resources t.resources);
 }
+
+abbrev pub content_at : List ℕ → ℕ → Result Tables NeFault → Option (List ℕ)
+content_at file number (Ok t) = option_map (contents_in file) (resource_at t.resources number)
+content_at file number (Err e) = None
 
 -- the number that a load answers for a fault (profile)
 abbrev pub number_of : NeFault → ℕ
@@ -25,7 +28,7 @@ abbrev pub read_as : List ℕ → Result Tables NeFault → Result ModuleFile �
 read_as file (Ok t) = Ok (module_file file t)
 read_as file (Err e) = Err (number_of e)
 
-abbrev pub plain_format : Format
+abbrev pub plain_format : Saying
 plain_format file = read_as file (tables_at (Some file))
 
 -- A file has bytes: what has other numbers isn't accepted.
@@ -33,4 +36,7 @@ abbrev pub has_bytes : List ℕ → Bool
 has_bytes file = list_all (λ b. nat_lt b 256) file
 
 abbrev pub ne_format : Format
-ne_format file = if has_bytes file then plain_format file else Err 11
+ne_format = record {
+  says = λ file. if has_bytes file then plain_format file else Err 11;
+  contents = λ file number. content_at file number (tables_at (Some file));
+}

@@ -43,7 +43,7 @@ tres = 77 ∷ 90 ∷ 0 ∷ 0 ∷ 0 ∷ 0 ∷ 0 ∷ 0 ∷ 0 ∷ 0 ∷ 0 ∷ 0 ∷
 
 -- what is seen of a file that is accepted
 abbrev pub seen : {X : Type 0} → (ModuleFile → X) → List ℕ → Option X
-seen view file = elim (ne_format file) [ Ok read ↦ Some (view read) | Err _ ↦ None ]
+seen view file = elim (ne_format.says file) [ Ok read ↦ Some (view read) | Err _ ↦ None ]
 
 abbrev pub images : List Far → ModuleFile → List (List ℕ)
 images values read = map (λ (s : SegmentData). s.image values) read.segments
@@ -71,7 +71,7 @@ pub record IsProgram : Type 0 where
 
 pub record HasResource : Type 0 where
   pub resources : seen (λ read. read.tables.resources) tres ≡ Some (record { kind_of = Label.Number 10; label = Label.Number 1; length_in = 16; kind = Discardable } ∷ [])
-  pub contents : seen (λ read. read.contents) tres ≡ Some ((codes "Hello, resource!" ++ repeated 16 0) ∷ [])
+  pub contents : ne_format.contents tres 1 ≡ Some (codes "Hello, resource!" ++ repeated 16 0)
 
 abbrev pub SamplesLaw : Type 0
 SamplesLaw = IsLibrary × IsProgram × HasResource

@@ -149,6 +149,7 @@ module _ (format : Format) (old : LoadingWorld) where
 pub reads_no_files_law : ReadsNoFilesLaw
 reads_no_files_law format old new command reply none step = record {
   counted = step.counted;
+  failed = step.failed;
   files = files_stay format old new command reply step;
   step = turned (Fetches format) AnyFetches (Loads format) AnyLoads old (record new { failures = old.failures }) reply command (λ t. absurd (no t)) (λ t. absurd (no t)) (λ t. absurd (no t)) step.step;
 }
@@ -182,9 +183,9 @@ module _ (format : Format) (is_format : IsFormat format) (old : LoadingWorld) (i
   small : (number : ℕ) → number ≤ 32 → number < FIRST_MODULE
   small number le = let first : FIRST_MODULE ≡ 33 = refl in omega (arith, first, le)
 
-  expected : (file : List ℕ) → Expected (reading format (around old) [] file)
-  expected file = read_cases format (around old) Expected [] file (λ answer lt. small answer (omega (arith, lt)))
-      (λ bytes answer e. small answer (let le : answer ≤ 14 = (subst (λ r. MatchResult r IsModuleFile (λ answer. (11 ≤ answer) × (answer ≤ 14))) e (is_format bytes)).1 in omega (arith, le)))
+  expected : (file : List ℕ) → Expected (reading format.says (around old) [] file)
+  expected file = read_cases format.says (around old) Expected [] file (λ answer lt. small answer (omega (arith, lt)))
+      (λ bytes answer e. small answer (let le : answer ≤ 14 = (subst (λ r. MatchResult r IsModuleFile (λ answer. (11 ≤ answer) × (answer ≤ 14))) e (is_format.files bytes)).1 in omega (arith, le)))
       (λ read referent e. by_name read referent (handle_named old.modules read.tables.name) refl e) (λ read r. tt)
     where
       by_name : (read : ModuleFile) (referent : Referent) (p : Option ℕ) → handle_named old.modules read.tables.name ≡ p → option_or (option_map There p) None ≡ Some referent → Expected (Meant referent)
@@ -192,9 +193,9 @@ module _ (format : Format) (is_format : IsFormat format) (old : LoadingWorld) (i
       by_name read referent (Some handle) f e = let same : There handle ≡ referent = cc in subst (λ r. Expected (Meant r)) same (there_named old read.tables.name handle f)
 
   -- a reference gives one too
-  after_small : (n : ℕ) (closure : Closure) → MatchResult (after format (around old) n closure) (λ _. Unit {0}) (λ number. number < FIRST_MODULE)
-  after_small n closure = after_keeps format (around old) (λ _. Unit {0}) (λ number. number < FIRST_MODULE)
-      (λ c rest place name h. follow_cases format (around old) (λ r. MatchResult r (λ _. Unit {0}) (λ number. number < FIRST_MODULE)) (record c { pending = rest }) place name (λ referent. tt) by_number (λ read r. tt)) n closure tt
+  after_small : (n : ℕ) (closure : Closure) → MatchResult (after format.says (around old) n closure) (λ _. Unit {0}) (λ number. number < FIRST_MODULE)
+  after_small n closure = after_keeps format.says (around old) (λ _. Unit {0}) (λ number. number < FIRST_MODULE)
+      (λ c rest place name h. follow_cases format.says (around old) (λ r. MatchResult r (λ _. Unit {0}) (λ number. number < FIRST_MODULE)) (record c { pending = rest }) place name (λ referent. tt) by_number (λ read r. tt)) n closure tt
     where
       by_number : (b : Bool) → cond b 0 20 < FIRST_MODULE
       by_number true = small 0 (omega arith)
@@ -202,19 +203,19 @@ module _ (format : Format) (is_format : IsFormat format) (old : LoadingWorld) (i
 
   as_any : (b : Bool) (new : LoadingWorld) (file : List ℕ) (answer : Answer) → Loads format b old file answer new → AnyLoads b old file answer new
   as_any b new file answer (inl f) = inl f
-  as_any b new file answer (inr f) = by_reading (reading format (around old) [] file) refl (expected file) f
+  as_any b new file answer (inr f) = by_reading (reading format.says (around old) [] file) refl (expected file) f
     where
-      by_closure : (read : ModuleFile) (closure : Closure) (n : ℕ) → reading format (around old) [] file ≡ Read read → after format (around old) n (begun file read) ≡ Ok closure → closure.pending ≡ []
+      by_closure : (read : ModuleFile) (closure : Closure) (n : ℕ) → reading format.says (around old) [] file ≡ Read read → after format.says (around old) n (begun file read) ≡ Ok closure → closure.pending ≡ []
           → LoadsNew (FillsOne is_of_device) old closure answer new → AnyLoads b old file answer new
-      by_closure read closure n e d done (inl h) = inr (inr (inr (closure, as_any_closure format is_format (around old) file read closure n e d done, inl h)))
-      by_closure read closure n e d done (inr h) = inr (inr (inr (closure, as_any_closure format is_format (around old) file read closure n e d done, inr (as_any_load old is closure answer new h))))
+      by_closure read closure n e d done (inl h) = inr (inr (inr (closure, as_any_closure format.says is_format.files (around old) file read closure n e d done, inl h)))
+      by_closure read closure n e d done (inr h) = inr (inr (inr (closure, as_any_closure format.says is_format.files (around old) file read closure n e d done, inr (as_any_load old is closure answer new h))))
 
-      by_outcome : (read : ModuleFile) (n : ℕ) → reading format (around old) [] file ≡ Read read → (outcome : Result Closure ℕ) → after format (around old) n (begun file read) ≡ outcome → IfOk outcome (λ c. c.pending ≡ [])
+      by_outcome : (read : ModuleFile) (n : ℕ) → reading format.says (around old) [] file ≡ Read read → (outcome : Result Closure ℕ) → after format.says (around old) n (begun file read) ≡ outcome → IfOk outcome (λ c. c.pending ≡ [])
           → MatchResult outcome (λ closure. LoadsNew (FillsOne is_of_device) old closure answer new) (λ number. Refuses old number answer new) → AnyLoads b old file answer new
       by_outcome read n e (Ok closure) d done h = by_closure read closure n e d done h
       by_outcome read n e (Err number) d done h = inr (inl (number, subst (λ r. MatchResult r (λ _. Unit {0}) (λ number. number < FIRST_MODULE)) d (after_small n (begun file read)), h))
 
-      by_reading : (r : Reading) → reading format (around old) [] file ≡ r → Expected r → LoadsFile (FillsOne is_of_device) format b old file r answer new → AnyLoads b old file answer new
+      by_reading : (r : Reading) → reading format.says (around old) [] file ≡ r → Expected r → LoadsFile (FillsOne is_of_device) format b old file r answer new → AnyLoads b old file answer new
       by_reading (Refused number) e x f = inr (inl (number, x, f))
       by_reading (Meant (There handle)) e x f = inr (inr (inl (handle, x.0, x.1, f ∙ ap (used_again b old handle) x.1)))
       by_reading (Meant (New place)) e x f = absurd f
@@ -223,6 +224,7 @@ module _ (format : Format) (is_format : IsFormat format) (old : LoadingWorld) (i
 pub is_any_step_law : IsAnyStepLaw
 is_any_step_law format old new command reply is_format is of step = record {
   counted = step.counted;
+  failed = step.failed;
   files = files_stay format old new command reply step;
   step = turned (Fetches format) AnyFetches (Loads format) AnyLoads old (record new { failures = old.failures }) reply command
       (λ t slot fault next f. as_any_fetch format is_format old is of.modules slot fault next f)
@@ -257,7 +259,7 @@ exact_both before slot bytes fault after is f = ((f, one_fewest is_of_device bef
 module _ (format : Format) (old : LoadingWorld) (is : IsLoadingWorld old) where
   exact_loads : (b : Bool) (new : LoadingWorld) (file : List ℕ) (answer : Answer) → Loads format b old file answer new → LoadsBy GivesExactFewest format b old file answer new
   exact_loads b new file answer (inl f) = inl f
-  exact_loads b new file answer (inr f) = inr (by_reading (reading format (around old) [] file) f)
+  exact_loads b new file answer (inr f) = inr (by_reading (reading format.says (around old) [] file) f)
     where
       by_outcome : (outcome : Result Closure ℕ) → MatchResult outcome (λ closure. LoadsNew (FillsOne is_of_device) old closure answer new) (λ number. Refuses old number answer new)
           → MatchResult outcome (λ closure. LoadsNew GivesExactFewest old closure answer new) (λ number. Refuses old number answer new)

@@ -14,7 +14,7 @@ module _ (format : Format) (old : LoadingWorld) (is : IsLoadingWorld old) (good 
   abbrev Good : LoadingWorld → Type 0
   Good world = IsOfFiles format world
 
-  fulfilled : (new : LoadingWorld) (closure : Closure) → AreOfFiles format (around old) closure → (answer : Answer) → Fulfils (FillsOne is_of_device) old closure answer new → Good new
+  fulfilled : (new : LoadingWorld) (closure : Closure) → AreOfFiles format.says (around old) closure → (answer : Answer) → Fulfils (FillsOne is_of_device) old closure answer new → Good new
   fulfilled new closure of_files answer f = subst Good (sym f.after) (turn f.failure f.filled)
     where
       turn : (failure : Option Failure) → InTurn (FillsOne is_of_device) (named old closure f.choice).handles.heap (fills old closure f.choice) failure f.heap → Good (left failure (with_heap (named old closure f.choice) f.heap) (undone old f.choice f.heap))
@@ -35,7 +35,7 @@ module _ (format : Format) (old : LoadingWorld) (is : IsLoadingWorld old) (good 
     built = λ name handle none free. code_kept format old _ (built_in_code format old handle name) good;
     loaded = λ b file answer new f. loaded (λ answer. Good) old (λ answer. good) (FillsOne is_of_device) format b new file answer
         (λ handle m there few. code_kept format old (after_use old handle m) (other_uses format old handle m (m.uses + 1) there) good)
-        (λ closure read n e d done h. fulfilled new closure (found_of_files format (around old) file read closure n e d) answer h) f;
+        (λ closure read n e d done h. fulfilled new closure (found_of_files format.says (around old) file read closure n e d) answer h) f;
     freed = λ handle answer new f. by_free format old new handle answer f good;
     counted = λ slot load count there some few. code_kept format old (with_count old slot load count) (loads_kept format old (with_count old slot load count).loads) good;
     made = λ slot handle place r fault next free at none f. made_code format old next is slot handle place r free fault f good;

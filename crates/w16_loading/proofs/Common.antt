@@ -19,7 +19,7 @@ pub use Rattle.w16_loading.specs.Families.ModuleCommand.{Builtin, FreeLibrary, F
 pub use Rattle.w16_loading.specs.Families.ResourceCommand.{FindResource, FreeResource, LoadResource, LockResource, SizeofResource}
 pub use Rattle.w16_loading.specs.Fetch.{Accesses, Fetches, Fetching, IsImage, far_read, far_write, gives, is_code, is_not_present, needs_fetch, read_of, reply_of_far, resource_bytes, segment_bytes}
 pub use Rattle.w16_loading.specs.Fewest.{ExactFetchesFewest, ExactRequestsFewestLaw, FetchFewestLaw, FetchesFewest, GivesAnyFewest, GivesExactFewest, GivesFewest, LoadFewestLaw, RequestsFewestLaw}
-pub use Rattle.w16_loading.specs.File.{Far, Format, IsFormat, IsModuleFile, IsSegmentData, ModuleFile, Resource, Segment, SegmentData, Tables, Target, numbered, targets_of}
+pub use Rattle.w16_loading.specs.File.{AreModuleFiles, Far, Format, IsContent, IsFormat, IsModuleFile, IsSegmentData, ModuleFile, Resource, Saying, Segment, SegmentData, Tables, Target, numbered, targets_of}
 pub use Rattle.w16_loading.specs.File.Entry.{InSegment}
 pub use Rattle.w16_loading.specs.File.Target.{Import, ImportName, Internal, InternalEntry, System}
 pub use Rattle.w16_loading.specs.Fill.{Failure, Filling, Fills, FillsOne, Giving, InTurn, asked_of, is_of_device, is_of_read}

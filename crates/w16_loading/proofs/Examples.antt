@@ -1,12 +1,12 @@
 -- Closures of small files, worked out.
 use base.Stored.Gv.{gnil}
-use Rattle.w16_loading.proofs.Common.{◌≡◌, ℕ, zero, suc, Bool, true, false, List, [], ◌∷◌, codes, Some, None, Result, Ok, Err, if◌then◌else◌, slice_index, replicate, ◌==◌, refl, Format, ModuleFile, is_named, file_of, Moveable}
+use Rattle.w16_loading.proofs.Common.{◌≡◌, ℕ, zero, suc, Bool, true, false, List, [], ◌∷◌, codes, Some, None, Result, Ok, Err, if◌then◌else◌, slice_index, replicate, ◌==◌, refl, Saying, ModuleFile, is_named, file_of, Moveable}
 use Rattle.w16_loading.proofs.Common.{LoadingWorld, Module, usage_with, importers_among, Loaded, BuiltIn, Choice, Given, unbound, used_again, after_use, Says, Found, Around, Closure, reading, begun, after, There, New, Refused}
 use Rattle.w16_loading.proofs.Common.{Meant}
 
 -- a file without segments
 abbrev plain : List ℕ → Bool → List (List ℕ) → ModuleFile
-plain name library references = record { tables = record { name = name; is_library = library; segments = []; references = references; entries = []; names = []; resources = []; layout = gnil }; segments = []; contents = [] }
+plain name library references = record { tables = record { name = name; is_library = library; segments = []; references = references; entries = []; names = []; resources = []; layout = gnil }; segments = [] }
 
 -- A imports B and C; B imports A; the file of C has the module X, which imports b and D; there is no D
 abbrev by_number : ℕ → Result ModuleFile ℕ
@@ -16,7 +16,7 @@ by_number (suc (suc (suc zero))) = Ok (plain (codes "X") true (codes "b" ∷ [])
 by_number (suc (suc (suc (suc n)))) = Ok (plain (codes "E") true (codes "D" ∷ []))
 by_number other = Err 11
 
-abbrev toy : Format
+abbrev toy : Saying
 toy bytes = by_number (slice_index bytes 0)
 
 abbrev files : List (List ℕ × List ℕ)
@@ -75,7 +75,7 @@ abbrev over : List (List ℕ × List ℕ) → Around
 over all = record { named = λ _. None; file = file_of all; free = 200 }
 
 -- two libraries that import each other are found once each
-abbrev paired : Format
+abbrev paired : Saying
 paired bytes = if slice_index bytes 0 == 1 then Ok (plain (codes "ONE") true (codes "TWO" ∷ [])) else Ok (plain (codes "TWO") true (codes "ONE" ∷ []))
 
 abbrev paired_files : List (List ℕ × List ℕ)
@@ -90,7 +90,7 @@ unfolding is_named file_of
 both = refl
 
 -- breadth first: B and C, which A refers to, are found before D, which B refers to
-abbrev tree : Format
+abbrev tree : Saying
 tree bytes = if slice_index bytes 0 == 1 then Ok (plain (codes "B") true (codes "D" ∷ [])) else (if slice_index bytes 0 == 2 then Ok (plain (codes "C") true []) else Ok (plain (codes "D") true []))
 
 abbrev tree_files : List (List ℕ × List ℕ)
@@ -110,7 +110,7 @@ order = refl
 -- The numbers that a load answers, once each.
 
 -- 11 to 14, where the file isn't accepted, as its format says
-abbrev refusing : Format
+abbrev refusing : Saying
 refusing bytes = Err (slice_index bytes 0)
 
 refused_by_format : (n : ℕ) → reading refusing (record { named = λ _. None; file = λ _. Some (n ∷ []); free = 200 }) [] (codes "A.EXE") ≡ Refused n
@@ -121,7 +121,6 @@ abbrev unsound : ModuleFile
 unsound = record {
   tables = record { name = codes "U"; is_library = true; segments = record { kind = Moveable; is_code = false; is_preload = false; size = 32 } ∷ []; references = []; entries = []; names = []; resources = []; layout = gnil };
   segments = record { targets = None; image = λ values. replicate 32 0 } ∷ [];
-  contents = [];
 }
 
 refused_unsound : reading (λ bytes. Ok unsound) (record { named = λ _. None; file = λ _. Some []; free = 0 }) [] (codes "U.DLL") ≡ Refused 11

@@ -1,7 +1,7 @@
 -- A fetch keeps what holds of every world, whatever the store answers: what it gives has the size that the world has of it.
-use Rattle.w16_loading.proofs.Common.{◌≡◌, ◌≢◌, ℕ, ◌-◌, ◌<◌, ◌≤◌, ◌==◌, inl, inr, ◌⊎◌, Bool, true, false, cond, List, [], length, Option, Some, None, IfSome, IsSomeAnd, MatchOption, MatchResult, is_some, option_map, slice_get, slice_index_or}
+use Rattle.w16_loading.proofs.Common.{◌≡◌, ◌≢◌, ℕ, ◌-◌, ◌<◌, ◌≤◌, inl, inr, ◌⊎◌, Bool, true, false, cond, List, [], length, Option, Some, None, IfSome, IsSomeAnd, MatchOption, MatchResult, is_some, option_map, slice_get, slice_index_or}
 use Rattle.w16_loading.proofs.Common.{Result, Ok, Err, refl, sym, ap, ◌∙◌, subst, arith, ne_eqb, cases_eq, AllZip-left, Kind, Owned, Heap, Object, IsHeap, object_at, rounded_size, owned_at, other_handles, file_of, FetchFault, Format}
-use Rattle.w16_loading.proofs.Common.{IsFormat, IsModuleFile, IsSegmentData, ModuleFile, Tables, Segment, SegmentData, Resource, Far, numbered, LoadingWorld, Module, IsSegmentOf, IsResourceOf, Fills, FillsOne, is_of_device, is_of_read}
+use Rattle.w16_loading.proofs.Common.{Saying, AreModuleFiles, IsContent, IsFormat, IsModuleFile, IfOk, IsSegmentData, ModuleFile, Tables, Segment, SegmentData, Resource, Far, numbered, LoadingWorld, Module, IsSegmentOf, IsResourceOf, Fills, FillsOne, is_of_device, is_of_read}
 use Rattle.w16_loading.proofs.Common.{Fetches, IsImage, read_of, segment_bytes, resource_bytes, AnyFetches, IsOwnedSize, IsLoadingWorld, IsObjectOf, IsItsFiles, ModulesAreItsFiles, IsSized, bytes_at, slots_at, slots_for, owned_slots}
 use Rattle.w16_loading.specs.declared.FetchFault.TheVariants as faults
 use Rattle.w16_loading.proofs.Fillings.{SameRange, one_does, one_there, one_range, one_heap, filled_object, filled_other, filled_sized}
@@ -30,10 +30,10 @@ filled_owned old slot bytes new is f q kind size long h = by_id (cases_eq q slot
 
 -- The size of an image.
 
--- what a format reads is a module file
-pub read_file : (format : Format) → IsFormat format → (p : Option (List ℕ)) → IfSome (read_by format p) IsModuleFile
-read_file format is None = tt
-read_file format is (Some file) = turn (format file) (is file)
+-- what a file says is a module file
+pub read_file : (says : Saying) → AreModuleFiles says → (p : Option (List ℕ)) → IfSome (read_by says p) IsModuleFile
+read_file says are None = tt
+read_file says are (Some file) = turn (says file) (are file)
   where
     turn : (r : Result ModuleFile ℕ) → MatchResult r IsModuleFile (λ answer. (11 ≤ answer) × (answer ≤ 14)) → IfSome {T = ModuleFile} (elim r [ Ok read ↦ Some read | Err _ ↦ None ]) IsModuleFile
     turn (Ok read) h = h
@@ -51,7 +51,7 @@ module _ (format : Format) (is_format : IsFormat format) (old : LoadingWorld) (i
   segment_size values bytes (Some g) (Some s) h k e = let same : s.image values ≡ bytes = cc in owned_size g.kind g.size g.is_code h bytes (ap length (sym same) ∙ (k.image values).0)
 
   segment_image_size : (handle number : ℕ) (m : Module) (bytes : List ℕ) → IsSegmentOf old slot handle number m → segment_bytes format old m number ≡ Some bytes → IsOwnedSize old slot bytes
-  segment_image_size handle number m bytes s e = turn (read_of format old m) (read_file format is_format (file_of old.files m.file)) (modules handle m s.loaded) e
+  segment_image_size handle number m bytes s e = turn (read_of format old m) (read_file format.says is_format.files (file_of old.files m.file)) (modules handle m s.loaded) e
     where
       some : number ≢ 0
       some z = let lt : 0 < number = s.has.0 in absurd (omega (arith, lt, z))
@@ -67,28 +67,26 @@ module _ (format : Format) (is_format : IsFormat format) (old : LoadingWorld) (i
           (AllZip-left IsSegmentData read.tables.segments read.segments file.segments (number - 1)))
           (ap (λ b. option_map (λ (s : SegmentData). s.image values) (cond b None (slice_get read.segments (number - 1)))) (sym (ne_eqb number 0 some)) ∙ e)
 
-  resource_size : (bytes : List ℕ) (a : Option Resource) (d : Option (List ℕ)) → IsSomeAnd a (λ r. IsObjectOf old slot r.kind (rounded_size r.length_in) false)
-      → MatchOption a (Unit {0}) (λ r. IsSomeAnd d (λ (b : List ℕ). length b ≡ rounded_size r.length_in)) → d ≡ Some bytes → IsOwnedSize old slot bytes
+  resource_size : (bytes : List ℕ) (a : Option Resource) (d : Option (List ℕ)) → IsSomeAnd a (λ r. IsObjectOf old slot r.kind (rounded_size r.length_in) false) → IfSome a (λ r. IsSomeAnd d (IsContent r))
+      → d ≡ Some bytes → IsOwnedSize old slot bytes
   resource_size bytes None d h k e = absurd h
   resource_size bytes (Some r) None h k e = absurd k
-  resource_size bytes (Some r) (Some b) h k e = let same : b ≡ bytes = cc in owned_size r.kind (rounded_size r.length_in) false h bytes (ap length (sym same) ∙ k)
+  resource_size bytes (Some r) (Some b) h k e = let same : b ≡ bytes = cc in owned_size r.kind (rounded_size r.length_in) false h bytes (ap length (sym same) ∙ k.0)
 
   resource_image_size : (handle place : ℕ) (m : Module) (bytes : List ℕ) → IsResourceOf old slot handle place m → resource_bytes format old m place ≡ Some bytes → IsOwnedSize old slot bytes
-  resource_image_size handle place m bytes r e = turn (read_of format old m) (read_file format is_format (file_of old.files m.file)) (modules handle m r.loaded) e
+  resource_image_size handle place m bytes r e = by_file (file_of old.files m.file) (modules handle m r.loaded) e
     where
-      by_place : (read : ModuleFile) → IsModuleFile read → read.tables ≡ m.tables → (b : Bool)
-          → IsSomeAnd (cond {A = Option Resource} b None (slice_get m.tables.resources (place - 1))) (λ x. IsObjectOf old slot x.kind (rounded_size x.length_in) false)
-          → cond {A = Option (List ℕ)} b None (slice_get read.contents (place - 1)) ≡ Some bytes → IsOwnedSize old slot bytes
-      by_place read file same true h e = absurd h
-      by_place read file same false h e = resource_size bytes (slice_get m.tables.resources (place - 1)) (slice_get read.contents (place - 1)) h
-          (subst (λ (t : Tables). MatchOption (slice_get t.resources (place - 1)) (Unit {0}) (λ x. IsSomeAnd (slice_get read.contents (place - 1)) (λ (b : List ℕ). length b ≡ rounded_size x.length_in))) same
-          (AllZip-left (λ (x : Resource) (b : List ℕ). length b ≡ rounded_size x.length_in) read.tables.resources read.contents file.contents (place - 1)))
-          e
+      by_said : (content : Option (List ℕ)) (said : Result ModuleFile ℕ) → IfOk said (λ read. IfSome (numbered read.tables.resources place) (λ x. IsSomeAnd content (IsContent x)))
+          → IsSomeAnd (elim said as (λ _. Option ModuleFile) [ Ok read ↦ Some read | Err _ ↦ None ]) (IsItsFiles m)
+          → ◌≡◌ {A = Option (List ℕ)} (elim said [ Ok _ ↦ content | Err _ ↦ None ]) (Some bytes) → IsOwnedSize old slot bytes
+      by_said content (Ok read) are its e = resource_size bytes (numbered m.tables.resources place) content (of_resource old is slot handle place m r)
+          (subst (λ (t : Tables). IfSome (numbered t.resources place) (λ x. IsSomeAnd content (IsContent x))) its.tables are) e
+      by_said content (Err answer) are its e = absurd its
 
-      turn : (p : Option ModuleFile) → IfSome p IsModuleFile → IsSomeAnd p (IsItsFiles m)
-          → ◌≡◌ {A = Option (List ℕ)} (elim p [ None ↦ None | Some read ↦ numbered read.contents place ]) (Some bytes) → IsOwnedSize old slot bytes
-      turn None file same e = absurd same
-      turn (Some read) file same e = by_place read file same.tables (place == 0) (of_resource old is slot handle place m r) e
+      by_file : (p : Option (List ℕ)) → IsSomeAnd (read_by format.says p) (IsItsFiles m)
+          → ◌≡◌ {A = Option (List ℕ)} (elim p [ None ↦ None | Some file ↦ elim (format.says file) [ Ok _ ↦ format.contents file place | Err _ ↦ None ] ]) (Some bytes) → IsOwnedSize old slot bytes
+      by_file None its e = absurd its
+      by_file (Some file) its e = by_said (format.contents file place) (format.says file) (is_format.contents file place) its e
 
   -- an image has the size that its owner says
   pub image_size : (bytes : List ℕ) → IsImage format old slot bytes → IsOwnedSize old slot bytes

@@ -24,7 +24,7 @@ pub record KeepsCode (format : Format) (old new : LoadingWorld) : Type 0 where
 abbrev pub read_in : Format → List (List ℕ × List ℕ) → List ℕ → Option ModuleFile
 read_in format files file = elim (file_of files file) [
   | None ↦ None
-  | Some bytes ↦ elim (format bytes) [ Ok read ↦ Some read | Err _ ↦ None ]
+  | Some bytes ↦ elim (format.says bytes) [ Ok read ↦ Some read | Err _ ↦ None ]
 ]
 
 abbrev pub image_of : Format → List (List ℕ × List ℕ) → List ℕ → List (List Far) → ℕ → Option (List ℕ)

@@ -2,7 +2,7 @@
 -- exist. Their bindings are worked out.
 use base.Stored.Gv.{gnil}
 use Rattle.w16_loading.proofs.Common.{◌≡◌, ℕ, ◌+◌, ◌/◌, ◌%◌, ◌==◌, Bool, true, false, if◌then◌else◌, List, [], ◌∷◌, ◌++◌, replicate, codes, slice_index_or, Some, None, Ok, refl, Discardable, is_named}
-use Rattle.w16_loading.proofs.Common.{file_of, Far, Segment, Format, ModuleFile, InSegment, Internal, Import, ImportName, Module, Lookup, address_at, address_named, Loaded, BuiltIn, begun, after, New}
+use Rattle.w16_loading.proofs.Common.{file_of, Far, Segment, Saying, ModuleFile, InSegment, Internal, Import, ImportName, Module, Lookup, address_at, address_named, Loaded, BuiltIn, begun, after, New}
 use Rattle.w16_loading.proofs.Common.{bound_in}
 
 -- the bytes of a word, of a far pointer, and of the first, second and third value of a segment
@@ -38,7 +38,6 @@ library name = record {
       }
       ∷ record { targets = Some []; image = λ values. 1 ∷ 2 ∷ 3 ∷ 4 ∷ 203 ∷ 144 ∷ 144 ∷ 144 ∷ replicate 24 0 }
       ∷ [];
-  contents = [];
 }
 
 -- TAPP: entry 1, the entry GETB, and entry 9 of TLIB
@@ -51,7 +50,6 @@ application = record {
         image = λ values. 154 ∷ far (value values 0) ++ (154 ∷ far (value values 1) ++ (154 ∷ far (value values 2) ++ (203 ∷ replicate 16 0)));
       }
       ∷ [];
-  contents = [];
 }
 
 -- a module of such a file, whose segments have these slots
@@ -117,7 +115,7 @@ app_reads : (slice_index_or application.segments 0 (record { targets = None; ima
 app_reads = refl
 
 -- The file TLIB.DLL may have the module XLIB: the reference means what the file has, and binds alike, whatever is named TLIB later.
-abbrev renamed : Format
+abbrev renamed : Saying
 renamed bytes = Ok (library (codes "XLIB"))
 
 other_name : after renamed (record { named = λ _. None; file = file_of ((codes "TLIB.DLL", []) ∷ []); free = 200 }) 9 (begun (codes "TAPP.EXE") application) ≡ Ok (record {

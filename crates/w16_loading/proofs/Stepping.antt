@@ -73,18 +73,18 @@ module _ (P : Answer → LoadingWorld → Type 0) (old : LoadingWorld) (good : (
   -- loads, of files that stay and of any
   pub loaded : (gives : Giving) (format : Format) (b : Bool) (new : LoadingWorld) (file : List ℕ) (answer : Answer)
       → ((handle : ℕ) (m : Module) → finmap.get old.modules handle ≡ Some (Loaded m) → m.uses < MOST_USES → P (Says handle) (after_use old handle m))
-      → ((closure : Closure) (read : ModuleFile) (n : ℕ) → reading format (around old) [] file ≡ Read read → after format (around old) n (begun file read) ≡ Ok closure → closure.pending ≡ [] → Fulfils gives old closure answer new → P answer new)
+      → ((closure : Closure) (read : ModuleFile) (n : ℕ) → reading format.says (around old) [] file ≡ Read read → after format.says (around old) n (begun file read) ≡ Ok closure → closure.pending ≡ [] → Fulfils gives old closure answer new → P answer new)
       → LoadsBy gives format b old file answer new → P answer new
   loaded gives format b new file answer more fulfil (inl f) = same_world answer new f.1
-  loaded gives format b new file answer more fulfil (inr f) = turn (reading format (around old) [] file) refl f
+  loaded gives format b new file answer more fulfil (inr f) = turn (reading format.says (around old) [] file) refl f
     where
-      turn : (r : Reading) → reading format (around old) [] file ≡ r → LoadsFile gives format b old file r answer new → P answer new
+      turn : (r : Reading) → reading format.says (around old) [] file ≡ r → LoadsFile gives format b old file r answer new → P answer new
       turn (Refused number) e f = same_world answer new f.1
       turn (Meant (There handle)) e f = again b handle (finmap.get old.modules handle) (more handle) answer new f
       turn (Meant (New place)) e f = absurd f
       turn (Read read) e f = by f.0 f.1.1 f.1.2 f.2
         where
-          by : (outcome : Result Closure ℕ) → after format (around old) f.1.0 (begun file read) ≡ outcome → IfOk outcome (λ c. c.pending ≡ [])
+          by : (outcome : Result Closure ℕ) → after format.says (around old) f.1.0 (begun file read) ≡ outcome → IfOk outcome (λ c. c.pending ≡ [])
               → MatchResult outcome (λ closure. LoadsNew gives old closure answer new) (λ number. Refuses old number answer new) → P answer new
           by (Ok closure) d done (inl h) = same_world answer new h.1.1
           by (Ok closure) d done (inr h) = fulfil closure read f.1.0 e d done h

@@ -8,7 +8,7 @@ use Rattle.w16_model.specs.Owned.{owned_at}
 use Rattle.w16_model.specs.Far.{FarCommand}
 use Rattle.w16_model.specs.Far.FarCommand.{Read, Write, Fill}
 use Rattle.w16_loading.specs.declared.TheConstants.{FIRST_MODULE}
-use Rattle.w16_loading.specs.File.{Format, IsFormat, ModuleFile}
+use Rattle.w16_loading.specs.File.{Saying, AreModuleFiles, ModuleFile}
 use Rattle.w16_loading.specs.Modules.{LoadingWorld, Named}
 use Rattle.w16_loading.specs.Fill.{Giving, FillsOne, is_of_read}
 use Rattle.w16_loading.specs.Closure as closing
@@ -18,6 +18,8 @@ use Rattle.w16_loading.specs.Load.Answer.{StoreFails}
 use Rattle.w16_loading.specs.Fetch.{Fetching, FetchesBy, needs_fetch, far_read, far_write}
 use Rattle.w16_loading.specs.Resource.{slot_of_resource}
 use Rattle.w16_loading.specs.Replies.{Reply}
+use Rattle.w16_loading.specs.Replies.Reply.{Failed}
+use Rattle.w16_loading.specs.declared.FetchFault.TheVariants.{Store}
 use Rattle.w16_loading.specs.Families.{LoadingCommand, FamilyStep}
 use Rattle.w16_loading.specs.Families.LoadingCommand.{OfFar, OfModules, OfResources}
 use Rattle.w16_loading.specs.Families.ModuleCommand.{LoadModule, LoadLibrary}
@@ -52,22 +54,22 @@ AnyFetches old slot fault new = FetchesBy is_of_read (IsOwnedSize old slot) old 
 abbrev pub with_files : Around → (List ℕ → Option (List ℕ)) → Around
 with_files a files = record a { file = files }
 
-abbrev pub AnyCloses : Format → Around → ℕ → Closure → Closure → Type 0
-AnyCloses format a zero closure last = (closure.pending ≡ []) × (last ≡ closure)
-AnyCloses format a (suc n) closure last =
+abbrev pub AnyCloses : Saying → Around → ℕ → Closure → Closure → Type 0
+AnyCloses says a zero closure last = (closure.pending ≡ []) × (last ≡ closure)
+AnyCloses says a (suc n) closure last =
     (place : ℕ) × (name : List ℕ) × (rest : List (ℕ × List ℕ)) × (closure.pending ≡ (place, name) ∷ rest)
     × (files : List ℕ → Option (List ℕ)) × (next : Closure)
-    × (followed format (with_files a files) (record closure { pending = rest }) place name ≡ Ok next) × AnyCloses format a n next last
+    × (followed says (with_files a files) (record closure { pending = rest }) place name ≡ Ok next) × AnyCloses says a n next last
 
--- The closure of a file, as some files and some format give it.
+-- The closure of a file, as some files give it that say something.
 pub record IsAnyClosure (a : Around) (file : List ℕ) (closure : Closure) : Type 0 where
-  pub format : Format
-  pub is_format : IsFormat format
+  pub says : Saying
+  pub modules : AreModuleFiles says
   pub files : List ℕ → Option (List ℕ)
   pub read : ModuleFile
-  pub first : reading format (with_files a files) [] file ≡ closing.Reading.Read read
+  pub first : reading says (with_files a files) [] file ≡ closing.Reading.Read read
   pub count : ℕ
-  pub closes : AnyCloses format a count (begun file read) closure
+  pub closes : AnyCloses says a count (begun file read) closure
 
 -- an object gets some bytes, as many as these
 abbrev pub GivesAny : Giving
@@ -84,8 +86,9 @@ AnyLoadsBy gives is_load_module old file answer new =
 abbrev pub AnyLoads : Bool → LoadingWorld → List ℕ → Answer → LoadingWorld → Type 0
 AnyLoads = AnyLoadsBy GivesAny
 
--- One step, whatever the store answers. The count of failures isn't lowered.
+-- One step, whatever the store answers. The count of failures isn't lowered, and a fault of the store comes only where it rose.
 pub record AnyStep (old : LoadingWorld) (command : LoadingCommand) (reply : Reply) (new : LoadingWorld) : Type 0 where
   pub counted : old.failures ≤ new.failures
+  pub failed : reply ≡ Failed Store → old.failures < new.failures
   pub files : new.files ≡ old.files
   pub step : FamilyStep AnyFetches AnyLoads old command reply (record new { failures = old.failures })

@@ -4,7 +4,7 @@ use Rattle.std.specs.List.{list_all}
 use Rattle.std.specs.Option.{option_or}
 use Rattle.w16_store.specs.Names.{is_named}
 use Rattle.w16_store.specs.Files.{file_of}
-use Rattle.w16_loading.specs.File.{Format, ModuleFile}
+use Rattle.w16_loading.specs.File.{Saying, ModuleFile}
 use Rattle.w16_loading.specs.Modules.{LoadingWorld, handle_named, free_modules}
 use Rattle.std.specs.Option.{option_map}
 
@@ -48,10 +48,10 @@ abbrev pub are_sound : ModuleFile → Bool
 are_sound read = list_all (λ s. is_some s.targets) read.segments
 
 -- A name that is there decides before the relocations do, and these before the count of handles, with which each new module is counted.
-abbrev pub reading : Format → Around → List Found → List ℕ → Reading
-reading format a found file = elim (a.file file) [
+abbrev pub reading : Saying → Around → List Found → List ℕ → Reading
+reading says a found file = elim (a.file file) [
   | None ↦ Refused 2
-  | Some bytes ↦ elim (format bytes) [
+  | Some bytes ↦ elim (says bytes) [
     | Err answer ↦ Refused answer
     | Ok read ↦ elim (meant a found read.tables.name) [
       | Some referent ↦ Meant referent
@@ -76,10 +76,10 @@ abbrev pub dll : List ℕ → List ℕ
 dll name = name ++ codes ".DLL"
 
 -- One reference: a name that is there, or else of its file. A referenced file that is refused gives 20, want of a handle 0.
-abbrev pub followed : Format → Around → Closure → ℕ → List ℕ → Result Closure ℕ
-followed format a closure place name = elim (meant a closure.found name) [
+abbrev pub followed : Saying → Around → Closure → ℕ → List ℕ → Result Closure ℕ
+followed says a closure place name = elim (meant a closure.found name) [
   | Some referent ↦ Ok (with_bound closure place referent)
-  | None ↦ elim (reading format a closure.found (dll name)) [
+  | None ↦ elim (reading says a closure.found (dll name)) [
     | Refused answer ↦ Err (if answer == 0 then 0 else 20)
     | Meant referent ↦ Ok (with_bound closure place referent)
     | Read read ↦ Ok (with_bound (with_found closure (dll name) read) place (New (length closure.found)))
@@ -87,19 +87,19 @@ followed format a closure place name = elim (meant a closure.found name) [
 ]
 
 -- the closure after so many references, or the number that refuses the load
-abbrev pub after : Format → Around → ℕ → Closure → Result Closure ℕ
-after format a zero closure = Ok closure
-after format a (suc n) closure = elim closure.pending [
+abbrev pub after : Saying → Around → ℕ → Closure → Result Closure ℕ
+after says a zero closure = Ok closure
+after says a (suc n) closure = elim closure.pending [
   | [] ↦ Ok closure
-  | (x ∷ rest) ↦ elim (followed format a (record closure { pending = rest }) x.0 x.1) [
-    | Ok next ↦ after format a n next
+  | (x ∷ rest) ↦ elim (followed says a (record closure { pending = rest }) x.0 x.1) [
+    | Ok next ↦ after says a n next
     | Err answer ↦ Err answer
   ]
 ]
 
 -- all references followed, or the first refusal
-abbrev pub Closes : Format → Around → Closure → Result Closure ℕ → Type 0
-Closes format a closure outcome = (n : ℕ) × (after format a n closure ≡ outcome) × IfOk outcome (λ c. c.pending ≡ [])
+abbrev pub Closes : Saying → Around → Closure → Result Closure ℕ → Type 0
+Closes says a closure outcome = (n : ℕ) × (after says a n closure ≡ outcome) × IfOk outcome (λ c. c.pending ≡ [])
 
 -- of the module asked for alone
 abbrev pub begun : List ℕ → ModuleFile → Closure

@@ -19,7 +19,7 @@ use Rattle.w16_loading.specs.Fill.{FillsOne, is_of_device}
 abbrev pub read_of : Format → LoadingWorld → Module → Option ModuleFile
 read_of format world m = elim (file_of world.files m.file) [
   | None ↦ None
-  | Some file ↦ elim (format file) [ Ok read ↦ Some read | Err _ ↦ None ]
+  | Some file ↦ elim (format.says file) [ Ok read ↦ Some read | Err _ ↦ None ]
 ]
 
 abbrev pub segment_bytes : Format → LoadingWorld → Module → ℕ → Option (List ℕ)
@@ -29,9 +29,9 @@ segment_bytes format world m number = elim (read_of format world m) [
 ]
 
 abbrev pub resource_bytes : Format → LoadingWorld → Module → ℕ → Option (List ℕ)
-resource_bytes format world m place = elim (read_of format world m) [
+resource_bytes format world m place = elim (file_of world.files m.file) [
   | None ↦ None
-  | Some read ↦ numbered read.contents place
+  | Some file ↦ elim (format.says file) [ Ok _ ↦ format.contents file place | Err _ ↦ None ]
 ]
 
 -- the bytes that an object of a module is given

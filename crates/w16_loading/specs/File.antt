@@ -1,5 +1,5 @@
 -- What a module file says, apart from how it says it: what the formats of files and relocations give to a load.
-use Rattle.std.specs.Prelude.{◌≡◌, ℕ, ◌-◌, ◌<◌, ◌≤◌, Bool, false, ◌==◌, if◌then◌else◌, List, [], length, find, All, MatchResult, Option, None, Result, unwrap_or, option_map, slice_get}
+use Rattle.std.specs.Prelude.{◌≡◌, ℕ, ◌-◌, ◌<◌, ◌≤◌, Bool, false, ◌==◌, if◌then◌else◌, List, [], length, find, All, MatchResult, Option, None, IfSome, IsSomeAnd, Result, IfOk, unwrap_or, option_map, slice_get}
 use Rattle.w16_model.specs.declared.Kind.{Kind}
 use Rattle.w16_model.specs.declared.TheConstants.{GRAIN}
 use Rattle.w16_loading.specs.declared.TheConstants.{LARGEST_OWNED}
@@ -87,17 +87,21 @@ pub record SegmentData : Type 0 where
 pub record ModuleFile : Type 0 where
   pub tables : Tables
   pub segments : List SegmentData
-  -- of each resource, the bytes of its object: those of the file, and zeros after them
-  pub contents : List (List ℕ)
 
 abbrev pub targets_of : SegmentData → List Target
 targets_of s = unwrap_or s.targets []
 
 -- What a file says, or the number that a load answers where it isn't accepted: 12, 13 or 14 by its target system, else 11.
-abbrev pub Format : Type 0
-Format = List ℕ → Result ModuleFile ℕ
+abbrev pub Saying : Type 0
+Saying = List ℕ → Result ModuleFile ℕ
 
--- What a load relies on in a file that is accepted: as many of each as there are segments and resources, sizes and images that go together.
+-- A format: what files say, and the bytes of the object of each resource of a file that is accepted, by its number: those of the file, and zeros
+-- after them. A load doesn't read these.
+pub record Format : Type 0 where
+  pub says : Saying
+  pub contents : List ℕ → ℕ → Option (List ℕ)
+
+-- What a load relies on in a file that is accepted: as much data as there are segments, sizes and images that go together.
 pub record IsSegmentData (segment : Segment) (s : SegmentData) : Type 0 where
   pub some : 0 < segment.size
   pub small : segment.size ≤ LARGEST_OWNED
@@ -106,9 +110,16 @@ pub record IsSegmentData (segment : Segment) (s : SegmentData) : Type 0 where
 
 pub record IsModuleFile (read : ModuleFile) : Type 0 where
   pub segments : AllZip IsSegmentData read.tables.segments read.segments
-  pub contents : AllZip (λ r (bytes : List ℕ). length bytes ≡ rounded_size r.length_in) read.tables.resources read.contents
-  pub bytes : All (All (λ b. b < 256)) read.contents
 
 -- and the numbers of files that aren't
-abbrev pub IsFormat : Format → Type 0
-IsFormat format = (file : List ℕ) → MatchResult (format file) IsModuleFile (λ answer. (11 ≤ answer) × (answer ≤ 14))
+abbrev pub AreModuleFiles : Saying → Type 0
+AreModuleFiles says = (file : List ℕ) → MatchResult (says file) IsModuleFile (λ answer. (11 ≤ answer) × (answer ≤ 14))
+
+-- and a fetch in each resource: bytes, as many as its object has
+abbrev pub IsContent : Resource → List ℕ → Type 0
+IsContent r bytes = (length bytes ≡ rounded_size r.length_in) × All (λ b. b < 256) bytes
+
+pub record IsFormat (format : Format) : Type 0 where
+  pub files : AreModuleFiles format.says
+  pub contents : (file : List ℕ) (number : ℕ)
+      → IfOk (format.says file) (λ read. IfSome (numbered read.tables.resources number) (λ r. IsSomeAnd (format.contents file number) (IsContent r)))

@@ -19,7 +19,7 @@ use Rattle.w16_loading.specs.declared.TheConstants.{FIRST_MODULE, LARGEST_OWNED,
 use Rattle.w16_loading.specs.declared.FetchFault.{FetchFault}
 use Rattle.w16_loading.specs.declared.FetchFault.TheVariants as faults
 use Rattle.w16_store.specs.Names.{is_named}
-use Rattle.w16_loading.specs.File.{Format, IsFormat, ModuleFile, Segment, SegmentData, Far, Target}
+use Rattle.w16_loading.specs.File.{Saying, Format, IsFormat, ModuleFile, Segment, SegmentData, Far, Target}
 use Rattle.w16_loading.specs.Modules.{with_heap, LoadingWorld, Lookup, Module, Load, Named, value_of, IsSegmentOf, IsResourceOf, name_of, module_at, usage, importers}
 use Rattle.w16_loading.specs.Modules.Named.{Loaded}
 use Rattle.w16_loading.specs.Fill.{Fills, FillsOne, Filling, Failure, InTurn}
@@ -160,11 +160,11 @@ BoundOnceLaw = (format : Format) (old new : LoadingWorld) (command : LoadingComm
 
 -- the files decide which modules a load finds: one outcome
 abbrev pub OneClosureLaw : Type 0
-OneClosureLaw = (format : Format) (a : Around) (closure : Closure) (x y : Result Closure ℕ) → Closes format a closure x → Closes format a closure y → x ≡ y
+OneClosureLaw = (says : Saying) (a : Around) (closure : Closure) (x y : Result Closure ℕ) → Closes says a closure x → Closes says a closure y → x ≡ y
 
 -- and there is one, also where each file asks for another without end
 abbrev pub ClosureEndsLaw : Type 0
-ClosureEndsLaw = (format : Format) (a : Around) (closure : Closure) → (outcome : Result Closure ℕ) × Closes format a closure outcome
+ClosureEndsLaw = (says : Saying) (a : Around) (closure : Closure) → (outcome : Result Closure ℕ) × Closes says a closure outcome
 
 -- a load that is refused with no handle taken leaves the same world: every number but 0
 abbrev pub EarlyRefusalLaw : Type 0

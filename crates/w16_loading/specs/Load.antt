@@ -73,12 +73,12 @@ LoadsFile gives format is_load_module old file (Refused number) answer new = Ref
 LoadsFile gives format is_load_module old file (Meant (There handle)) answer new = (answer, new) ≡ used_again is_load_module old handle (finmap.get old.modules handle)
 LoadsFile gives format is_load_module old file (Meant (New place)) answer new = ⊥
 LoadsFile gives format is_load_module old file (Read read) answer new =
-    (outcome : Result Closure ℕ) × Closes format (around old) (begun file read) outcome
+    (outcome : Result Closure ℕ) × Closes format.says (around old) (begun file read) outcome
     × MatchResult outcome (λ closure. LoadsNew gives old closure answer new) (λ number. Refuses old number answer new)
 
 abbrev pub LoadsBy : Giving → Format → Bool → LoadingWorld → List ℕ → Answer → LoadingWorld → Type 0
 LoadsBy gives format is_load_module old file answer new =
-    ((answer ≡ StoreFails) × (new ≡ old)) ⊎ LoadsFile gives format is_load_module old file (reading format (around old) [] file) answer new
+    ((answer ≡ StoreFails) × (new ≡ old)) ⊎ LoadsFile gives format is_load_module old file (reading format.says (around old) [] file) answer new
 
 -- over files that stay
 abbrev pub Loads : Format → Bool → LoadingWorld → List ℕ → Answer → LoadingWorld → Type 0

@@ -1,5 +1,5 @@
 -- No two objects of a world share a byte.
-use Rattle.w16_machine.proofs.Common.{◌≡◌, ℕ, List, length, Some, refl, ap, sym, unwrap_or, Heap, Object, IsHeap, IsBlockOf, bytes_at, object_at, two_placed}
+use Rattle.w16_machine.proofs.Common.{◌≡◌, ℕ, List, length, Some, refl, ap, sym, unwrap_or, Heap, Object, IsHeap, IsBlockOf, object_at, two_placed}
 use Rattle.std.specs.FinMap as finmap
 use Rattle.w16_model.specs.declared.Block.{Block}
 use Rattle.w16_model.specs.Heap.{hold_of_object}

@@ -14,7 +14,7 @@ module _ (old : World) (at : LocalHeap) (options : RoomOptions) (size : ℕ) (l 
   reallocated = after_loading old (with_handles old.loading l.handles)
 
   any_step : AnyStep old.loading (OfResizes (GlobalReAlloc l.handle size (growth_flags options))) (Word l.answer) (with_handles old.loading l.handles)
-  any_step = record { counted = omega arith; files = refl; step = (l.handles, l.reallocated, refl) }
+  any_step = record { counted = omega arith; failed = λ e. cc; files = refl; step = (l.handles, l.reallocated, refl) }
 
   -- this is a step
   pub growth_step : (honest : Type 0) (format : Format) → Step honest format old (OfLoading (OfResizes (GlobalReAlloc l.handle size (growth_flags options)))) (Word l.answer) reallocated

@@ -1,5 +1,5 @@
 -- Steps that each keep what is written read back what they write.
-use Rattle.std.proofs.Common.{◌≡◌, ℕ, List, [], ◌∷◌, ◌++◌, Option, Some, sym, ◌∙◌, subst}
+use Rattle.std.proofs.Common.{◌≡◌, ℕ, List, [], ◌∷◌, ◌++◌, Some, ◌∙◌, subst}
 use Rattle.w16_machine.specs.Machine.{Event}
 use Rattle.w16_machine.specs.World.{World}
 use Rattle.w16_writes.proofs.Bytes.{only}

@@ -1,14 +1,12 @@
 -- Steps of loading: what they leave of the bytes of global objects, and what far accesses put there and read.
-use Rattle.w16_loading.proofs.Common.{◌≡◌, ◌≢◌, ℕ, ◌+◌, ◌*◌, ◌⊎◌, inl, inr, Bool, true, false, MatchBool, MatchOption, IsSomeAnd, List, length, Option, Some, None, is_some, refl, sym, ap, ◌∙◌, subst, arith, drop, ◌<◌, cases_eq, part, repeated, Heap, Object}
+use Rattle.w16_loading.proofs.Common.{◌≡◌, ℕ, ◌+◌, ◌*◌, ◌⊎◌, inl, inr, Bool, true, false, MatchBool, MatchOption, IsSomeAnd, List, length, Option, Some, None, is_some, refl, sym, ap, ◌∙◌, subst, arith, drop, ◌<◌, cases_eq, part, repeated, Heap, Object}
 use Rattle.w16_loading.proofs.Common.{object_at, bytes_at, bytes_in, Handles, AreHandles, selector_in, offset_in, FarAnswer, FarCommand, Write, Fill, far_slot, AnyFetches, FarStep, Accesses, far_read, far_write, gives, needs_fetch, reply_of_far, is_of_read}
 use Rattle.w16_loading.proofs.Common.{IsLoadingWorld, LoadingWorld, LoadingCommand, OfHandles, OfResizes, OfFar, OfModules, OfResources, FindResource, LoadResource, LockResource, FreeResource, SizeofResource, Reply, Failed, Dword, Load, LocksResource}
 use Rattle.w16_loading.proofs.Common.{lock_outcome, locked, slot_of_resource, global_lock, GlobalLock, Calls, CallStep, ResizeCommand, ResizeReplies, ResizeStep, GlobalReAlloc, GlobalDiscard, HandleCommand, answer_in, call_of, call_outcome, contents}
 use Rattle.w16_loading.proofs.Common.{IsStepAbout}
-use Rattle.std.specs.Prelude.{min}
 use Rattle.std.specs.List.{slice_get}
 use Rattle.std.proofs.lemmas.Option.{slice_get_within}
 use Rattle.std.proofs.lemmas.List.{length-take}
-use Rattle.w16_model.specs.declared.FarFault.{FarFault}
 use Rattle.w16_model.specs.Far.{FarStep as HandlesFarStep}
 use Rattle.w16_model.specs.Far.FarAnswer.{Bytes, Done, Fault}
 use Rattle.w16_model.specs.Far.FarCommand.{Read}

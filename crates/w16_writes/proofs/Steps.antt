@@ -1,12 +1,9 @@
 -- Each step keeps what is written, and so does each step of a run.
-use Rattle.w16_machine.proofs.Common.{◌≡◌, ◌≢◌, ℕ, ◌+◌, ◌*◌, ◌<◌, ◌≤◌, ◌⊎◌, inl, inr, Bool, true, false, cond, ◌&&◌, nat_le, nat_lt, IsSomeAnd, List, [], ◌∷◌, length, Option, Some, None, is_some, option_map, refl, sym, ap, ◌∙◌, subst, cases_eq}
-use Rattle.w16_machine.proofs.Common.{false≢true, le-leb, lt-ltb, IfSome, IsLocalIn, Each-from_All, bytes_in, Object, bytes_at, object_at, Table, heap_in, offset_in, LoadingCommand, Format, Reply, World, IsWorld, LocalHeap, current_heap, heap_of}
-use Rattle.w16_machine.proofs.Common.{local_in, segment_bytes, LocalCommand, LocalStep, IsObjectKept, IsRewritten, KeepsRest, Event, IsCommand, Run, Step, OfLoading, OfLocals, arith, take, Discardable, IsLeftByGrowth, IsLengthened, KeepsRestLonger}
+use Rattle.w16_machine.proofs.Common.{◌≡◌, ◌≢◌, ℕ, ◌+◌, ◌<◌, ◌≤◌, ◌⊎◌, inl, inr, Bool, true, false, cond, ◌&&◌, nat_le, nat_lt, IsSomeAnd, List, [], ◌∷◌, length, Option, Some, None, is_some, option_map, refl, sym, ap, ◌∙◌, subst, cases_eq}
+use Rattle.w16_machine.proofs.Common.{false≢true, le-leb, lt-ltb, IfSome, IsLocalIn, Each-from_All, bytes_in, Object, bytes_at, object_at, Table, heap_in, LoadingCommand, Format, Reply, World, IsWorld, LocalHeap, current_heap, heap_of}
+use Rattle.w16_machine.proofs.Common.{local_in, segment_bytes, LocalCommand, LocalStep, IsObjectKept, KeepsRest, Event, IsCommand, Run, Step, OfLoading, OfLocals, arith, IsLeftByGrowth, KeepsRestLonger}
 use Rattle.std.specs.FinMap as finmap
 use Rattle.std.specs.List.{slice_get, AllByRecursion as Each}
-use Rattle.w16_model.specs.declared.TheConstants.{REACH}
-use Rattle.w16_model.specs.Table.{IsSameOutside}
-use Rattle.w16_loading.proofs.Owners.{some_of}
 use Rattle.w16_machine.proofs.Bystanders.{other_same}
 use Rattle.w16_machine.proofs.LocalFacts.{current_there, local_here, local_there, there_local}
 use Rattle.w16_machine.proofs.LocalFrame.{frame_law}
