@@ -1,6 +1,6 @@
 //! Modules that import new modules without an end.
 
-use crate::stores::{Endless, Hostile};
+use crate::stores::{Endless, Harm, Hostile};
 use std::alloc::{AllocError, Global};
 use std::test::Fail;
 use w16_play::files::store_of;
@@ -19,7 +19,7 @@ GlobalAlloc 2 32 -> 010e";
 /// The first wrong line over files without end.
 fn first_wrong(alloc: Global) -> Result<Option<(usize, usize)>, AllocError> {
     let samples = store_of(alloc, "TAPP.EXE")?;
-    Hostile::Endless(Endless { samples }).first_wrong(alloc, &[REFUSED])
+    Hostile::of(Harm::Endless(Endless { samples })).first_wrong(alloc, &[REFUSED])
 }
 
 #[test]

@@ -1,6 +1,6 @@
 //! Devices that fail, and files that change.
 
-use crate::stores::{Hostile, Turning};
+use crate::stores::{Harm, Hostile, Turning};
 use std::alloc::{AllocError, Global};
 use std::test::Fail;
 use w16_play::files::store_of;
@@ -223,7 +223,7 @@ Read 0x01070000 5 -> bytes 48656c6c6f";
 fn turning(alloc: Global, others: &str) -> Result<Hostile, AllocError> {
     let first = store_of(alloc, ALL)?;
     let second = store_of(alloc, others)?;
-    Ok(Hostile::Turning(Turning::new(first, second)))
+    Ok(Hostile::of(Harm::Turning(Turning::new(first, second))))
 }
 
 /// Where files that take others' places aren't answered as a table says, or not all is as before once those come back: the first of the changes,

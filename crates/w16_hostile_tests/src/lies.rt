@@ -1,6 +1,6 @@
 //! Stores that lie: what they brought can be freed, and then all is as on a new machine.
 
-use crate::stores::{Hostile, HostileMachine, Lie, Lying};
+use crate::stores::{Harm, Hostile, HostileMachine, Lie, Lying};
 use std::alloc::{AllocError, Global};
 use std::test::Fail;
 use w16_play::files::store_of;
@@ -83,7 +83,13 @@ fn is_new_after(
 
 /// A machine over the samples that is told that many lies after that many questions.
 fn lying(alloc: Global, lie: Lie, before: u32, lies: u32) -> Result<HostileMachine, AllocError> {
-    Hostile::Lying(Lying::new(store_of(alloc, ALL)?, lie, before, lies)).machine(alloc)
+    Hostile::of(Harm::Lying(Lying::new(
+        store_of(alloc, ALL)?,
+        lie,
+        before,
+        lies,
+    )))
+    .machine(alloc)
 }
 
 /// Whether all is as on a new machine after a row of which that many lies were told after that many questions; none where none was told.

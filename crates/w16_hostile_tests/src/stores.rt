@@ -9,24 +9,36 @@ use std::alloc::{AllocError, Global};
 pub use turning::Turning;
 use w16_play::lines::first_wrong_of;
 use w16_play::machine::Machine;
-use w16_store::{FuseStore, MemStore, Store, StoreFault};
+use w16_store::{FuseStore, MemStore, Store, StoreFault, count_failure};
 
-/// A store that does some harm.
+/// The harm that a store does.
 #[derive(Drop)]
-pub enum Hostile {
+pub enum Harm {
     Failing(FuseStore<MemStore>),
     Turning(Turning),
     Lying(Lying),
     Endless(Endless),
 }
 
+/// A store that does some harm. It counts the failures that it tells.
+#[derive(Drop)]
+pub struct Hostile {
+    harm: Harm,
+    failures: u64,
+}
+
 /// A machine over such a store.
 pub type HostileMachine = Machine<Hostile>;
 
 impl Hostile {
+    /// A store that does this, and has told of no failure yet.
+    pub fn of(harm: Harm) -> Hostile {
+        Hostile { harm, failures: 0 }
+    }
+
     /// Files of which a read fails, counted from 1 on; none does where it is 0.
     pub fn failing(files: MemStore, read: u32) -> Hostile {
-        Hostile::Failing(FuseStore::new(files, read))
+        Hostile::of(Harm::Failing(FuseStore::new(files, read)))
     }
 
     /// The machine of most of these tests: 4,096 bytes and 16 selectors.
@@ -51,25 +63,27 @@ impl Store for Hostile {
 
     ghost files = { λ _. [] };
 
-    ghost failures = { λ _. 0 };
+    ghost failures = { λ s. s.failures };
 
     ghost is_honest = { ⊥ };
 
     fn read_at(&mut self, name: &[u8], at: u64, buf: &mut [u8]) -> Result<(), StoreFault> {
-        match self {
-            Hostile::Failing(store) => store.read_at(name, at, buf),
-            Hostile::Turning(store) => store.read_at(name, at, buf),
-            Hostile::Lying(store) => store.read_at(name, at, buf),
-            Hostile::Endless(store) => store.read_at(name, at, buf),
-        }
+        let read = match &mut self.harm {
+            Harm::Failing(store) => store.read_at(name, at, buf),
+            Harm::Turning(store) => store.read_at(name, at, buf),
+            Harm::Lying(store) => store.read_at(name, at, buf),
+            Harm::Endless(store) => store.read_at(name, at, buf),
+        };
+        count_failure(&mut self.failures, read)
     }
 
     fn len_of(&mut self, name: &[u8]) -> Result<u64, StoreFault> {
-        match self {
-            Hostile::Failing(store) => store.len_of(name),
-            Hostile::Turning(store) => store.len_of(name),
-            Hostile::Lying(store) => store.len_of(name),
-            Hostile::Endless(store) => store.len_of(),
-        }
+        let len = match &mut self.harm {
+            Harm::Failing(store) => store.len_of(name),
+            Harm::Turning(store) => store.len_of(name),
+            Harm::Lying(store) => store.len_of(name),
+            Harm::Endless(store) => store.len_of(),
+        };
+        count_failure(&mut self.failures, len)
     }
 }

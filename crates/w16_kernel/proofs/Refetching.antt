@@ -6,6 +6,7 @@ use Rattle.w16_kernel.proofs.Common.{IsLoadingOver, IsSourceFor, IsAbsent, Store
 use Rattle.w16_kernel.proofs.Common.{Tables}
 use Rattle.std.specs.FinMap as finmap
 use Rattle.w16_loading.specs.Owner.Owner.{OfSegment, Script}
+use Rattle.w16_loading.specs.declared.FetchFault.TheVariants.{Store}
 use Rattle.w16_model.specs.declared.FarFault.TheVariants.{NotPresent}
 use Rattle.w16_loader.specs.declared.table.SegmentOf.{SegmentOf}
 use Rattle.w16_loader.specs.declared.segment_fetch.SegmentSource.{SegmentSource}
@@ -84,12 +85,12 @@ module _ {honest : Type 0} {old : LoadingWorld} (is : IsLoadingOver honest old) 
               let some = s.segment.has.0 in
               omega (arith, inside, as_long, some)
 
-      pub fetched : (fault : Option FetchFault) {next : Handles} {left : List (List ℕ × List ℕ)} {count : ℕ} → left ≡ old.files → old.failures ≤ count
+      pub fetched : (fault : Option FetchFault) {next : Handles} {left : List (List ℕ × List ℕ)} {count : ℕ} → left ≡ old.files → old.failures ≤ count → (fault ≡ Some Store → old.failures < count)
           → (LacksBytes old.handles name → AnyFetches old (name / 8) fault (record old { handles = next }))
           → (honest → LacksBytes old.handles name → IsFetchable old (name / 8) source.number source.file.now source.module.now source.values.now
           → FetchesCounted ne_format old (name / 8) fault (record old { handles = next; files = left; failures = count }))
           → (needs_fetch (FarAnswer.Fault NotPresent) old selector ≡ true) × StoreFetch honest old (far_slot old.handles selector) fault (record old { handles = next; files = left; failures = count })
-      fetched fault same counted any exact =
+      fetched fault same counted rose any exact =
           let s : IsSourceFor old (name / 8) source = subst (λ q. IsSourceFor old q source) at (found unloaded) in
           let owned = ap is_some (segment_owned old is.0 (name / 8) s.handle source.number s.m s.segment).1.owned in
           let l = lacks old.handles is.0.handles selector absent few name named owned in (
@@ -97,6 +98,7 @@ module _ {honest : Type 0} {old : LoadingWorld} (is : IsLoadingOver honest old) 
             rw here (record {
               files = same;
               counted = counted;
+              failed = rose;
               any = rw same (any l);
               exact = λ h. exact h l (record { sound = is.0; of_files = is.1 h; handle = s.handle; m = s.m; segment = s.segment; source = s.source_of; tables = s.tables });
             }),

@@ -1,6 +1,7 @@
 //! A store in memory that takes new files while a machine runs.
-ghost use Rattle.std.specs.Prelude.{◌≡◌, ◌≤◌, [], None, IfErr, IfSome, OnOk, OnErr, option_map, IfOk};
+ghost use Rattle.std.specs.Prelude.{◌≡◌, [], None, IfErr, IfSome, OnOk, OnErr, option_map, IfOk};
 ghost use Rattle.w16_store.specs.Files.{file_of, length_of, AreWith, HasBytes, IsHonestAnswer};
+ghost use Rattle.w16_store.specs.Later.{IsLater, RoseIf, is_device};
 ghost use Rattle.w16_kernel.specs.Growing.{missed_by, IsNotAdded};
 
 use arrayvec::ArrayVec;
@@ -111,8 +112,8 @@ impl Store for GrowingStore {
     }
 
     fn len_of(&mut self, name: &[u8]) -> Result<u64, StoreFault>
-        ensures files { self.new.files ≡ self.old.files }
-        ensures failures { 0 ≤ 0 }
+        ensures stays { IsLater self.old.files 0 self.new.files 0 }
+        ensures device { IfErr result (RoseIf is_device 0 0) }
         ensures honest { Unit {0} → IsHonestAnswer (λ n. n) 0 0 result (length_of (file_of self.old.files name.now)) }
         ensures bytes { Unit {0} → IfOk result (λ _. HasBytes (file_of self.old.files name.now)) }
         ensures missed { self.new.missed ≡ missed_by result name.now }

@@ -1,5 +1,6 @@
 //! Calls on modules that are more than one call of the loader.
-ghost use Rattle.std.specs.Prelude.{◌≡◌, ◌≤◌, IfOk, OnErr};
+ghost use Rattle.std.specs.Prelude.{◌≡◌, IfOk, OnErr};
+ghost use Rattle.w16_store.specs.Later.{IsLater};
 ghost use Rattle.w16_loading.specs.Families.{pointer_to, proc_address};
 ghost use Rattle.w16_loading.specs.Free.{Frees};
 ghost use Rattle.w16_loading.specs.Families.LoadingCommand.{OfModules};
@@ -32,8 +33,7 @@ pub fn load_reply<S: Store + Drop, A: Allocator + Copy>(
         (loading_of global.new.handles library.new.registry library.new.resources (S.files library.new.store) (S.failures library.new.store))) }
     ensures short { IfOk result (λ reply. IsReply reply) }
     ensures refused { OnErr result ((library.new.registry ≡ library.old.registry) × (library.new.resources ≡ library.old.resources) × (global.new ≡ global.old)) }
-    ensures files { S.files library.new.store ≡ S.files library.old.store }
-    ensures failures { S.failures library.old.store ≤ S.failures library.new.store }
+    ensures stays { IsLater (S.files library.old.store) (S.failures library.old.store) (S.files library.new.store) (S.failures library.new.store) }
 {
     match load(
         library.alloc,

@@ -1,6 +1,6 @@
 -- Over any store the code follows references as some files have them.
 use Rattle.w16_loader.proofs.Common.{◌≡◌, ℕ, zero, suc, ◌+◌, ◌-◌, ◌<◌, ◌≤◌, inl, inr, Bool, true, false, nat_lt, List, [], ◌∷◌, ◌++◌, length, map, take, Option, Some, None, option_map, Ok, refl, sym, ap, ◌∙◌, subst, arith}
-use Rattle.w16_loader.proofs.Common.{add-one, ltb-true, ltb-false, slice_get, position, AllZip, option_or, lt-ltb, length-append, length-take-le, map-append, take_all, is_named, Format, ModuleFile, Tables, Modules}
+use Rattle.w16_loader.proofs.Common.{add-one, ltb-true, ltb-false, slice_get, position, AllZip, option_or, lt-ltb, length-append, length-take-le, map-append, take_all, is_named, Saying, ModuleFile, Tables, Modules}
 use Rattle.w16_loader.proofs.Common.{handle_named, free_modules, Around, dll, There, New, Meant, Read, AnyCloses, with_files, Found, Referent, Bound, Followed, Files, around_in, found_in, meant_in, referent_of, references_of}
 use Rattle.w16_loader.proofs.Common.{left_from, bound_in, LeadsSomewhere, references_at, found_after, referent_after, AreGood, said_by, any_format, ClosesAny, IsFoundOf, Begins, reached_of, closed_of, LeadsAny, IsSomeClosure}
 use Rattle.w16_loading.specs.Closure as closing
@@ -77,21 +77,21 @@ module _ {A : Type 0} where
 
 -- What a reference leaves.
 
-module _ (format : Format) (a : Around) (closure : closing.Closure) (place : ℕ) (name : List ℕ) where
-  by_name : (referent : closing.Referent) → closing.meant a closure.found name ≡ Some referent → closing.followed format a closure place name ≡ Ok (closing.with_bound closure place referent)
+module _ (says : Saying) (a : Around) (closure : closing.Closure) (place : ℕ) (name : List ℕ) where
+  by_name : (referent : closing.Referent) → closing.meant a closure.found name ≡ Some referent → closing.followed says a closure place name ≡ Ok (closing.with_bound closure place referent)
   by_name referent e = rw (e, closing.followed) refl
 
   module _ (none : closing.meant a closure.found name ≡ None) where
-    by_file : (referent : closing.Referent) → closing.reading format a closure.found (dll name) ≡ Meant referent → closing.followed format a closure place name ≡ Ok (closing.with_bound closure place referent)
+    by_file : (referent : closing.Referent) → closing.reading says a closure.found (dll name) ≡ Meant referent → closing.followed says a closure place name ≡ Ok (closing.with_bound closure place referent)
     by_file referent e = rw (none, e, closing.followed) refl
 
-    by_module : (read : ModuleFile) → closing.reading format a closure.found (dll name) ≡ Read read
-        → closing.followed format a closure place name ≡ Ok (closing.with_bound (closing.with_found closure (dll name) read) place (New (length closure.found)))
+    by_module : (read : ModuleFile) → closing.reading says a closure.found (dll name) ≡ Read read
+        → closing.followed says a closure place name ≡ Ok (closing.with_bound (closing.with_found closure (dll name) read) place (New (length closure.found)))
     by_module read e = rw (none, e, closing.followed) refl
 
-is_there : (format : Format) (a : Around) (found : List closing.Found) (file bytes : List ℕ) (read : ModuleFile) (referent : closing.Referent) → a.file file ≡ Some bytes → format bytes ≡ Ok read
-    → closing.meant a found read.tables.name ≡ Some referent → closing.reading format a found file ≡ Meant referent
-is_there format a found file bytes read referent there accepted e = rw (there, accepted, e, closing.reading) refl
+is_there : (says : Saying) (a : Around) (found : List closing.Found) (file bytes : List ℕ) (read : ModuleFile) (referent : closing.Referent) → a.file file ≡ Some bytes → says bytes ≡ Ok read
+    → closing.meant a found read.tables.name ≡ Some referent → closing.reading says a found file ≡ Meant referent
+is_there says a found file bytes read referent there accepted e = rw (there, accepted, e, closing.reading) refl
 
 module _ {A : Type 0} (modules : Modules) (files : Files) (all : List closing.Found) (good : AreGood all) (found : List (Found A)) (begins : Begins found all) where
   abbrev a : Around
@@ -250,8 +250,8 @@ module _ {A : Type 0} (modules : Modules) where
         let read = is_new (any_format all) (with_files (around_in modules files) so) [] f.file.items (suc zero ∷ []) n.c.read refl (ap said_by n.at) none (good_at all good 0 n.c n.at).1 (lt-ltb 0 (free_modules modules) left) in
         let c = h all begins good files (closed_of last all) (0, (refl, refl)) in
         record {
-          format = any_format all;
-          is_format = is_format all good;
+          says = any_format all;
+          modules = is_format all good;
           files = so;
           read = n.c.read;
           first = read;

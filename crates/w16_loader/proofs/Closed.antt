@@ -78,7 +78,7 @@ each_long modules first tables place (f ∷ fs) (h ∷ hs) (s ∷ ss) (ts ∷ ta
       each_long modules first tables (place + 1) fs hs ss targets (omega arith) (omega arith) (λ x m. there x (inr m)) are.1,
     )
 
-stored_in : (files : Files) (f : Found) (p : Option (List ℕ)) → file_of files f.file ≡ p → said p ≡ Ok f.read → (file : List ℕ) × (file_of files f.file ≡ Some file) × (ne_format file ≡ Ok f.read)
+stored_in : (files : Files) (f : Found) (p : Option (List ℕ)) → file_of files f.file ≡ p → said p ≡ Ok f.read → (file : List ℕ) × (file_of files f.file ≡ Some file) × (ne_format.says file ≡ Ok f.read)
 stored_in files f None e h = absurd (not_ok h)
   where
     not_ok : ◌≡◌ {A = Result ModuleFile ℕ} (Err 2) (Ok f.read) → ⊥
@@ -292,7 +292,7 @@ module _ (old : LoadingWorld) (meant : Closure) (handles : List ℕ) (mid : Load
         (λ g m. subst (λ p. IsSomeAnd p (λ x. IsSaid files x g.found.read)) (sym (ap (λ ms. module_at ms g.handle) mid_modules ∙ here first g m)) (is_said g m)))
 
     pub are_files : (g : Given) → Member g gs → IsModuleFile g.found.read
-    are_files g m = let is = is_said g m in subst (λ r. MatchResult r IsModuleFile (λ answer. (11 ≤ answer) × (answer ≤ 14))) is.accepted (is_format is.file)
+    are_files g m = let is = is_said g m in subst (λ r. MatchResult r IsModuleFile (λ answer. (11 ≤ answer) × (answer ≤ 14))) is.accepted (is_format.files is.file)
 
     module _ (modules : Modules) (b : modules ≡ all_bound (finmap.get mid.modules) mid.modules handles (map (λ (read : ModuleFile). map targets_of read.segments) reads)) where
       pub still_said : AreSaid files modules handles reads

@@ -53,8 +53,8 @@ pub use Rattle.w16_loading.proofs.Bound.{world_without}
 pub use Rattle.w16_loading.proofs.Cascade.{gone_with, went}
 pub use Rattle.w16_loading.proofs.CodeLoads.{sound_values}
 pub use Rattle.w16_loading.proofs.Common.{All, All-from_Each, All-repeated, AllPairs-from_EachPair, AllZip, AllZip-left, Allocates, Answer, AnyCloses, AnyFetches, AnyLoadsBy, AreHandles, AreNew, AreSlots, Around, Bool, BuiltIn, Choice, Closes, Closure, Each-at}
-pub use Rattle.w16_loading.proofs.Common.{Each-from, Each-from_All, EachPair, EachPair-from_AllPairs, Failure, Far, FetchesFewest, Filling, Fills, FillsOne, FinMap, Format, Fulfils, Given, GivesAny, GivesAnyFewest, Giving, Go, Handles, Heap, IfOk, IfSome, Import}
-pub use Rattle.w16_loading.proofs.Common.{ImportName, InTurn, Internal, InternalEntry, IsChoice, IsFormat, IsFreeModule, IsFreeSlot, IsHeap, IsItsFiles, IsKeptOrDiscarded, IsModuleFile, IsNew, IsObjectOf, IsOwnedSize, IsSegmentData, IsSomeAnd, IsTrue, List, Loaded}
+pub use Rattle.w16_loading.proofs.Common.{Each-from, Each-from_All, EachPair, EachPair-from_AllPairs, Failure, Far, FetchesFewest, Filling, Fills, FillsOne, FinMap, Fulfils, Given, GivesAny, GivesAnyFewest, Giving, Go, Handles, Heap, IfOk, IfSome, Import}
+pub use Rattle.w16_loading.proofs.Common.{ImportName, InTurn, Internal, InternalEntry, IsChoice, IsFreeModule, IsFreeSlot, IsHeap, IsItsFiles, IsKeptOrDiscarded, IsModuleFile, IsNew, IsObjectOf, IsOwnedSize, IsSegmentData, IsSomeAnd, IsTrue, List, Loaded}
 pub use Rattle.w16_loading.proofs.Common.{LoadingWorld, Loads, LoadsBy, LoadsFile, LoadsNew, Lookup, MatchOption, MatchResult, Meant, Member, Module, ModuleFile, Modules, Named, New, Object, Read, Refused, Request, Resource, Says, Segment, SegmentData, Tables}
 pub use Rattle.w16_loading.proofs.Common.{Target, There, [], address_at, after_use, after_write, all_slots, and_parts, ap, append-nil, append_assoc, are_sound, arith, around, attributes_of, begun, bound, bytes_at, cases_Bool, cases_eq, cond, count_by, discarded}
 pub use Rattle.w16_loading.proofs.Common.{discards_needed, dll, drop, drop_all, eq-eqb, false, false≢true, fills, fills_from, fills_of, filter, flat_map, fold, followed, free_slots, get_or, given, given_from, handle_meant, handle_named, handle_of, heap_without}
@@ -97,6 +97,7 @@ pub use Rattle.w16_model.specs.declared.Kind.TheVariants.{Discardable, Fixed, Mo
 pub use Rattle.w16_model.specs.declared.Owned.{Owned}
 pub use Rattle.w16_model.specs.declared.TheConstants.{FIRST_SLOT, GRAIN}
 pub use Rattle.w16_ne.proofs.Common.{IsSized, drop-cons, err_from_is_err_and, filter-append, list_any, text_in}
+pub use Rattle.w16_loading.specs.File.{AreModuleFiles, Saying}
 pub use Rattle.w16_ne.proofs.ReferencesFormat.{text_read}
 pub use Rattle.w16_ne.specs.Modules.{imported_place}
 pub use Rattle.w16_ne.specs.declared.fault.NeFault.{NeFault}

@@ -13,6 +13,11 @@ use Rattle.w16_loading.specs.File as loading
 use Rattle.w16_loading.proofs.Fewest.{one_fewest}
 use Rattle.w16_loader.proofs.Giving.{none_filled}
 
+-- a fault of the device
+pub rises : {A : Type 0} (result : Result A FetchFault) (P : Type 0) → IfErr result (λ fault. is_of_device fault ≡ true → P) → fault_in result ≡ Some Store → P
+rises (Ok done) P h e = cc
+rises (Err fault) P h e = let same : fault ≡ Store = cc in h (ap is_of_device same)
+
 -- Over any store.
 
 there : {A : Type 0} (p : Option A) → is_some p ≡ true → (a : A) × (p ≡ Some a)
@@ -61,7 +66,7 @@ module _ (file : List ℕ) (t : Tables) (number : ℕ) (values : List words.Far)
   data_there = slice_get-map (data_in file t) t.segments (number - 1) ∙ ap (option_map (data_in file t)) sound.there
 
   module_is : IsModuleFile (module_file file t)
-  module_is = subst (λ r. MatchResult r IsModuleFile (λ answer. (11 ≤ answer) × (answer ≤ 14))) (accepted file t sound.are_bytes sound.tables) (is_format file)
+  module_is = subst (λ r. MatchResult r IsModuleFile (λ answer. (11 ≤ answer) × (answer ≤ 14))) (accepted file t sound.are_bytes sound.tables) (is_format.files file)
 
   data_is : IsSegmentData (segment_in s) (data_in file t s)
   data_is = subst (λ p. IsSomeAnd p (IsSegmentData (segment_in s))) data_there
@@ -147,7 +152,7 @@ module _ (world : LoadingWorld) (slot number : ℕ) (name : List ℕ) (t : Table
 
   read_is : read_of ne_format world m ≡ Some (module_file file t)
   read_is =
-      ap (λ (p : Option (List ℕ)). elim p as (λ _. Option ModuleFile) [ None ↦ None | Some bytes ↦ elim (ne_format bytes) as (λ _. Option ModuleFile) [ Ok read ↦ Some read | Err _ ↦ None ] ]) stored.1.stored
+      ap (λ (p : Option (List ℕ)). elim p as (λ _. Option ModuleFile) [ None ↦ None | Some bytes ↦ elim (ne_format.says bytes) as (λ _. Option ModuleFile) [ Ok read ↦ Some read | Err _ ↦ None ] ]) stored.1.stored
       ∙ ap (λ (r : Result ModuleFile ℕ). elim r as (λ _. Option ModuleFile) [ Ok read ↦ Some read | Err _ ↦ None ]) (accepted file t stored.1.bytes stored.1.tables)
 
   its : IsItsFiles m (module_file file t)
@@ -172,10 +177,6 @@ module _ (world : LoadingWorld) (slot number : ℕ) (name : List ℕ) (t : Table
       ap (λ (p : Option ModuleFile). elim p as (λ _. Option (List ℕ)) [ None ↦ None | Some r ↦ option_map (λ (d : SegmentData). d.image (slice_index_or m.values (number - 1) [])) (numbered r.segments number) ]) read_is
       ∙ ap (option_map (λ (d : SegmentData). d.image (slice_index_or m.values (number - 1) []))) (by_number (map (data_in file t) t.segments) ∙ data_there file t number values sound)
       ∙ ap (λ vs. Some ((data_in file t sound.segment).image vs)) is.source.bound
-
-  rises : {A : Type 0} (result : Result A FetchFault) (P : Type 0) → IfErr result (λ fault. is_of_device fault ≡ true → P) → fault_in result ≡ Some Store → P
-  rises (Ok done) P h e = cc
-  rises (Err fault) P h e = let same : fault ≡ Store = cc in h (ap is_of_device same)
 
   -- What a call that keeps the files answers over the file alone, is a fetch in the world.
   pub fetched : {A : Type 0} (result : Result A FetchFault) (files : Files) → files ≡ world.files → (failures : ℕ) → world.failures ≤ failures → (new : Handles)

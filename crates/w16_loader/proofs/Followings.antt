@@ -1,6 +1,6 @@
 -- What the code has reached, reference by reference.
 use Rattle.w16_loader.proofs.Common.{◌≡◌, ℕ, zero, suc, ◌+◌, ◌-◌, ◌<◌, ◌≤◌, Bool, true, false, nat_lt, List, [], ◌∷◌, ◌++◌, length, map, Some, None, option_map, Ok, Err, refl, sym, ap, ◌∙◌, subst, arith, add-one}
-use Rattle.w16_loader.proofs.Common.{ltb-true, ltb-false, slice_get, slice_index_or, length-map, map-append, slice_get-map, Format, Around, Closes, New, Found, Bound, Followed, FileFault, MOST_MODULES, Modules}
+use Rattle.w16_loader.proofs.Common.{ltb-true, ltb-false, slice_get, slice_index_or, length-map, map-append, slice_get-map, Saying, Around, Closes, New, Found, Bound, Followed, FileFault, MOST_MODULES, Modules}
 use Rattle.w16_loader.proofs.Common.{free_modules, Files, around_in, found_in, read_in, IsFault, Leads, references_of, left_from, bound_in, pending_in, closed_in, reached, with_followed, references_at, found_after}
 use Rattle.w16_loader.proofs.Common.{referent_after}
 use Rattle.w16_loading.specs.Closure as closing
@@ -51,7 +51,7 @@ module _ {A : Type 0} (files : Files) (place : ℕ) where
       let b = ap (λ n. map bound_in bound ++ (place, New n) ∷ []) (length-map found (found_in files)) ∙ sym (map-append bound_in bound (record { place = place; referent = referent_after (length found) (leads.New g) } ∷ [])) in
       λ i. record { found = fs i; pending = p i; bound = b i }
 
-  module _ (format : Format) (a : Around) (old : Closure A) (f : Found A) (at : slice_get old.found.items place ≡ Some f) (number : ℕ) (some : 0 < number) (le : number ≤ length f.module.references) (name : List ℕ)
+  module _ (says : Saying) (a : Around) (old : Closure A) (f : Found A) (at : slice_get old.found.items place ≡ Some f) (number : ℕ) (some : 0 < number) (le : number ≤ length f.module.references) (name : List ℕ)
       (is : slice_get f.module.references (number - 1) ≡ Some name) where
     pending_then : left_from place (number - 1) (kept old.found.items) ≡ (place, name) ∷ left_from place number (kept old.found.items)
     pending_then =
@@ -60,18 +60,18 @@ module _ {A : Type 0} (files : Files) (place : ℕ) where
 
     pub follows : (new : Closure A) (followed : Followed A) → new.found.items ≡ found_after old.found.items followed
         → new.bound.items ≡ old.bound.items ++ record { place = place; referent = referent_after (length old.found.items) followed } ∷ []
-        → closing.followed format a (has number old.found.items old.bound.items) place name ≡ Ok (with_followed files (has number old.found.items old.bound.items) place followed)
-        → Leads format a (reached files place (number - 1) old) (reached files place number new)
+        → closing.followed says a (has number old.found.items old.bound.items) place name ≡ Ok (with_followed files (has number old.found.items old.bound.items) place followed)
+        → Leads says a (reached files place (number - 1) old) (reached files place number new)
     follows new followed found bound step =
         let next : with_followed files (has number old.found.items old.bound.items) place followed ≡ has number new.found.items new.bound.items =
         made old.found.items old.bound.items f at number le followed ∙ (λ i. has number (sym found i) (sym bound i)) in
-        leads_on format a (reached files place (number - 1) old) (reached files place number new) place name (left_from place number (kept old.found.items)) pending_then (step ∙ ap Ok next)
+        leads_on says a (reached files place (number - 1) old) (reached files place number new) place name (left_from place number (kept old.found.items)) pending_then (step ∙ ap Ok next)
 
-    refuses_all : (answer : ℕ) → closing.followed format a (has number old.found.items old.bound.items) place name ≡ Err answer → Closes format a (reached files place (number - 1) old) (Err answer)
-    refuses_all answer step = refuses format a (reached files place (number - 1) old) place name (left_from place number (kept old.found.items)) answer pending_then step
+    refuses_all : (answer : ℕ) → closing.followed says a (has number old.found.items old.bound.items) place name ≡ Err answer → Closes says a (reached files place (number - 1) old) (Err answer)
+    refuses_all answer step = refuses says a (reached files place (number - 1) old) place name (left_from place number (kept old.found.items)) answer pending_then step
 
-    pub refused : (before after : ℕ) (fault : FileFault) → IsFault (λ answer. (pending : List (ℕ × List ℕ)) (p : ℕ) → closing.followed format a (pending_in files pending old) p name ≡ Err answer) before after fault
-        → IsFault (λ answer. Closes format a (reached files place (number - 1) old) (Err answer)) before after fault
+    pub refused : (before after : ℕ) (fault : FileFault) → IsFault (λ answer. (pending : List (ℕ × List ℕ)) (p : ℕ) → closing.followed says a (pending_in files pending old) p name ≡ Err answer) before after fault
+        → IsFault (λ answer. Closes says a (reached files place (number - 1) old) (Err answer)) before after fault
     refused before after (faults.Refused answer) h = refuses_all answer (h (left_from place number (kept old.found.items)) place)
     refused before after faults.Device h = h
     refused before after faults.OutOfMemory h = tt
@@ -89,20 +89,20 @@ module _ {A : Type 0} (files : Files) (place : ℕ) where
           let le : length found ≤ place = ltb-false place (length found) t in
           none_left (kept found) place count (omega (arith, le, length-map found (found_in files))) ∙ sym (none_left (kept found) (suc place) 0 (omega (arith, le, length-map found (found_in files))))
 
-  pub module_done : (format : Format) (a : Around) (count : ℕ) (first : closing.Closure) (last : Closure A) → count ≡ length (references_at last.found.items place) → Leads format a first (reached files place count last)
-      → Leads format a first (reached files (place + 1) 0 last)
-  module_done format a count first last e h =
+  pub module_done : (says : Saying) (a : Around) (count : ℕ) (first : closing.Closure) (last : Closure A) → count ≡ length (references_at last.found.items place) → Leads says a first (reached files place count last)
+      → Leads says a first (reached files (place + 1) 0 last)
+  module_done says a count first last e h =
       let next : left_from place count (kept last.found.items) ≡ left_from (place + 1) 0 (kept last.found.items) = ends last.found.items count e ∙ ap (λ n. left_from n 0 (kept last.found.items)) (sym (add-one place)) in
-      subst (λ p. Leads format a first (pending_in files p last)) next h
+      subst (λ p. Leads says a first (pending_in files p last)) next h
 
 module _ {A : Type 0} (files : Files) where
   -- after the last place none is left
-  pub all_done : (format : Format) (a : Around) (most : ℕ) (first last : Closure A) → a.free ≤ most → length first.found.items ≤ most → Leads format a (reached files 0 0 first) (reached files most 0 last)
-      → Closes format a (reached files 0 0 first) (Ok (closed_in files last))
-  all_done format a most first last le few h =
+  pub all_done : (says : Saying) (a : Around) (most : ℕ) (first last : Closure A) → a.free ≤ most → length first.found.items ≤ most → Leads says a (reached files 0 0 first) (reached files most 0 last)
+      → Closes says a (reached files 0 0 first) (Ok (closed_in files last))
+  all_done says a most first last le few h =
       let many : length (map (found_in files) last.found.items) ≤ most = h.few most le (omega (arith, few, length-map first.found.items (found_in files))) in
       let none = none_left (map (found_in files) last.found.items) most 0 many in
-      h.closes (Ok (closed_in files last)) (subst (λ p. Closes format a (pending_in files p last) (Ok (closed_in files last))) (sym none) (closed format a (closed_in files last) refl))
+      h.closes (Ok (closed_in files last)) (subst (λ p. Closes says a (pending_in files p last) (Ok (closed_in files last))) (sym none) (closed says a (closed_in files last) refl))
 
   -- the module asked for alone
   pub begins : (made : Closure A) (first : Found A) → made.found.items ≡ first ∷ [] → made.bound.items ≡ [] → reached files 0 0 made ≡ closing.begun first.file.items (read_in files first.file.items first.module)
@@ -119,13 +119,13 @@ few_free modules = less MOST_MODULES (finmap.len modules)
     less m n = omega arith
 
 -- What a part of a call leads to, over a store whose files are the same.
-module _ (format : Format) (modules : Modules) (files now : Files) (same : now ≡ files) where
-  pub leads_through : (first : closing.Closure) (middle last : Files → closing.Closure) → Leads format (around_in modules files) first (middle files) → Leads format (around_in modules now) (middle now) (last now)
-      → Leads format (around_in modules files) first (last files)
-  leads_through first middle last h k = leads_both format (around_in modules files) first (middle files) (last files) h (subst (λ fs. Leads format (around_in modules fs) (middle fs) (last fs)) same k)
+module _ (says : Saying) (modules : Modules) (files now : Files) (same : now ≡ files) where
+  pub leads_through : (first : closing.Closure) (middle last : Files → closing.Closure) → Leads says (around_in modules files) first (middle files) → Leads says (around_in modules now) (middle now) (last now)
+      → Leads says (around_in modules files) first (last files)
+  leads_through first middle last h k = leads_both says (around_in modules files) first (middle files) (last files) h (subst (λ fs. Leads says (around_in modules fs) (middle fs) (last fs)) same k)
 
-  pub refused_through : (first : closing.Closure) (middle : Files → closing.Closure) → Leads format (around_in modules files) first (middle files) → (start before after : ℕ) → start ≤ before → (fault : FileFault)
-      → IsFault (λ answer. Closes format (around_in modules now) (middle now) (Err answer)) before after fault → IsFault (λ answer. Closes format (around_in modules files) first (Err answer)) start after fault
-  refused_through first middle h start before after le (faults.Refused answer) k = h.closes (Err answer) (subst (λ fs. Closes format (around_in modules fs) (middle fs) (Err answer)) same k)
+  pub refused_through : (first : closing.Closure) (middle : Files → closing.Closure) → Leads says (around_in modules files) first (middle files) → (start before after : ℕ) → start ≤ before → (fault : FileFault)
+      → IsFault (λ answer. Closes says (around_in modules now) (middle now) (Err answer)) before after fault → IsFault (λ answer. Closes says (around_in modules files) first (Err answer)) start after fault
+  refused_through first middle h start before after le (faults.Refused answer) k = h.closes (Err answer) (subst (λ fs. Closes says (around_in modules fs) (middle fs) (Err answer)) same k)
   refused_through first middle h start before after le faults.Device k = omega (arith, le, k)
   refused_through first middle h start before after le faults.OutOfMemory k = tt

@@ -37,7 +37,7 @@ module _ (rest : LoadingWorld) (modules : Modules) (handles : Handles) (files : 
 
     -- a new module, whose closure is refused
     pub unclosed : (is_load_module : Bool) (read : ModuleFile) (number : ℕ) → reading_in {A = Unit {0}} modules files [] file ≡ Read read
-        → Closes ne_format (around_in modules files) (begun file read) (Err number) → in_store rest next others files before ≡ old
+        → Closes ne_format.says (around_in modules files) (begun file read) (Err number) → in_store rest next others files before ≡ old
         → LoadsCounted ne_format is_load_module old file (Says number) (in_store rest next others same after)
     unclosed is_load_module read number is closes nothing = counts is_load_module (Says number) (says_not number) (by_reading is_load_module (Read read) (Says number) (in_store rest next others files before) is (inr (Err number, closes, (refl, nothing))))
 
@@ -46,7 +46,7 @@ module _ (rest : LoadingWorld) (modules : Modules) (handles : Handles) (files : 
 
     -- and one whose closure is known
     pub closed : (is_load_module : Bool) (read : ModuleFile) (closure : closing.Closure) (answer : Answer) → reading_in {A = Unit {0}} modules files [] file ≡ Read read
-        → Closes ne_format (around_in modules files) (begun file read) (Ok closure) → (answer ≡ StoreFails → before < after) → LoadsClosed old closure answer (in_store rest next others files before)
+        → Closes ne_format.says (around_in modules files) (begun file read) (Ok closure) → (answer ≡ StoreFails → before < after) → LoadsClosed old closure answer (in_store rest next others files before)
         → LoadsCounted ne_format is_load_module old file answer (in_store rest next others same after)
     closed is_load_module read closure answer is closes failed (inl fails) = counts is_load_module answer failed (inl fails)
     closed is_load_module read closure answer is closes failed (inr new) = counts is_load_module answer failed (by_reading is_load_module (Read read) answer (in_store rest next others files before) is (inr (Ok closure, closes, new)))
@@ -54,7 +54,7 @@ module _ (rest : LoadingWorld) (modules : Modules) (handles : Handles) (files : 
     -- A load that fails before its closure is known, by the fault.
 
     pub refused_closure : (fault : FileFault) (read : ModuleFile) → in_store rest next others files before ≡ old → reading_in {A = Unit {0}} modules files [] file ≡ Read read
-        → IsFault (λ number. Closes ne_format (around_in modules files) (begun file read) (Err number)) before after fault
+        → IsFault (λ number. Closes ne_format.says (around_in modules files) (begun file read) (Err number)) before after fault
         → IfOk (refused_by fault) (λ answer. (is_load_module : Bool) → LoadsCounted ne_format is_load_module old file (answer_in answer) (in_store rest next others same after))
     refused_closure (faults.Refused number) read nothing is closes = λ is_load_module. unclosed is_load_module read number is closes nothing
     refused_closure faults.Device read nothing is more = λ is_load_module. failed is_load_module more nothing
@@ -62,7 +62,7 @@ module _ (rest : LoadingWorld) (modules : Modules) (handles : Handles) (files : 
 
     -- and one that comes to its end
     pub closed_load : (read : ModuleFile) (closure : closing.Closure) → reading_in {A = Unit {0}} modules files [] file ≡ Read read
-        → Closes ne_format (around_in modules files) (begun file read) (Ok closure) → (result : Result LoadAnswer AllocError)
+        → Closes ne_format.says (around_in modules files) (begun file read) (Ok closure) → (result : Result LoadAnswer AllocError)
         → IfOk result (λ answer. answer_in answer ≡ StoreFails → before < after) → IfOk result (λ answer. LoadsClosed old closure (answer_in answer) (in_store rest next others files before))
         → IfOk result (λ answer. (is_load_module : Bool) → LoadsCounted ne_format is_load_module old file (answer_in answer) (in_store rest next others same after))
     closed_load read closure is closes (Ok answer) fails loads = λ is_load_module. closed is_load_module read closure (answer_in answer) is closes fails loads
@@ -82,17 +82,17 @@ said_by : (r : Result ModuleFile ℕ) (read : ModuleFile) → ◌≡◌ {A = Opt
 said_by (Ok x) read e = let same : x ≡ read = cc in ap Ok same
 said_by (Err number) read e = cc
 
-said_of : (p : Option (List ℕ)) (read : ModuleFile) → read_by ne_format p ≡ Some read → said p ≡ Ok read
+said_of : (p : Option (List ℕ)) (read : ModuleFile) → read_by ne_format.says p ≡ Some read → said p ≡ Ok read
 said_of None read e = cc
-said_of (Some bytes) read e = said_by (ne_format bytes) read e
+said_of (Some bytes) read e = said_by (ne_format.says bytes) read e
 
-each_of_file : (modules : Modules) (files : Files) (fs : List closing.Found) → Each (CodeLoads.IsOfFile ne_format (around_in modules files)) fs → Each (IsOfFile files) fs
+each_of_file : (modules : Modules) (files : Files) (fs : List closing.Found) → Each (CodeLoads.IsOfFile ne_format.says (around_in modules files)) fs → Each (IsOfFile files) fs
 each_of_file modules files [] h = tt
 each_of_file modules files (f ∷ fs) h = ((said_of (file_of files f.file) f.read h.0.0, h.0.1), each_of_file modules files fs h.1)
 
-pub all_of_files : (modules : Modules) (files : Files) (file : List ℕ) (read : ModuleFile) (closure : closing.Closure) → closing.reading ne_format (around_in modules files) [] file ≡ Read read
-    → Closes ne_format (around_in modules files) (begun file read) (Ok closure) → All (IsOfFile files) closure.found
-all_of_files modules files file read closure is closes = All-from_recursion (IsOfFile files) closure.found (each_of_file modules files closure.found (CodeLoads.found_of_files ne_format (around_in modules files) file read closure closes.0 is closes.1))
+pub all_of_files : (modules : Modules) (files : Files) (file : List ℕ) (read : ModuleFile) (closure : closing.Closure) → closing.reading ne_format.says (around_in modules files) [] file ≡ Read read
+    → Closes ne_format.says (around_in modules files) (begun file read) (Ok closure) → All (IsOfFile files) closure.found
+all_of_files modules files file read closure is closes = All-from_recursion (IsOfFile files) closure.found (each_of_file modules files closure.found (CodeLoads.found_of_files ne_format.says (around_in modules files) file read closure closes.0 is closes.1))
 
 -- A failure since a moment is one since an earlier moment.
 pub failed_since : (result : Result LoadAnswer AllocError) (before mid after : ℕ) → before ≤ mid → IfOk result (RoseIf is_load_device mid after) → IfOk result (λ answer. answer_in answer ≡ StoreFails → before < after)

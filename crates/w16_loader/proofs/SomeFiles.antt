@@ -1,6 +1,6 @@
 -- Module files as a load over any store may take them: they have the tables that it read, and the targets that it saw.
 use Rattle.w16_loader.proofs.Common.{◌≡◌, ℕ, ◌<◌, true, List, [], ◌∷◌, length, map, replicate, All, Some, refl, ap, arith, AllZip, list_all, is_some, length-replicate, All-cons, All-head, All-nil, All-tail}
-use Rattle.w16_loader.proofs.Common.{All-map, All-replicate, rounded_size, Segment, SegmentData, Tables, Target, Resource, ModuleFile, IsSegmentData, targets_of, IsGood, AreGood, IsAlike, IsFit, AreFit}
+use Rattle.w16_loader.proofs.Common.{All-replicate, Segment, SegmentData, Tables, Target, ModuleFile, IsSegmentData, targets_of, IsGood, AreGood, IsAlike, IsFit, AreFit}
 use Rattle.w16_loading.specs.Closure.{Found}
 
 -- what segments hold with these targets, and bytes of 0
@@ -10,7 +10,7 @@ data_with (s ∷ ss) [] = record { targets = Some []; image = λ values. replica
 data_with (s ∷ ss) (ts ∷ targets) = record { targets = Some ts; image = λ values. replicate s.size 0 } ∷ data_with ss targets
 
 abbrev pub file_with : Tables → List (List Target) → ModuleFile
-file_with t targets = record { tables = t; segments = data_with t.segments targets; contents = map (λ (r : Resource). replicate (rounded_size r.length_in) 0) t.resources }
+file_with t targets = record { tables = t; segments = data_with t.segments targets }
 
 zeros : (n : ℕ) → All (λ b. b < 256) (replicate n 0)
 zeros n = All-replicate (λ b. b < 256) n 0 (omega arith)
@@ -37,10 +37,6 @@ all_fit [] targets is = tt
 all_fit (s ∷ ss) [] is = (fits s [] (All-head IsFit s ss is), all_fit ss [] (All-tail IsFit s ss is))
 all_fit (s ∷ ss) (ts ∷ targets) is = (fits s ts (All-head IsFit s ss is), all_fit ss targets (All-tail IsFit s ss is))
 
-contents_fit : (rs : List Resource) → AllZip (λ (r : Resource) (bytes : List ℕ). length bytes ≡ rounded_size r.length_in) rs (map (λ (r : Resource). replicate (rounded_size r.length_in) 0) rs)
-contents_fit [] = tt
-contents_fit (r ∷ rs) = (length-replicate (rounded_size r.length_in) 0, contents_fit rs)
-
 -- Modules with such files.
 
 abbrev pub found_with : Found → List (List Target) → Found
@@ -58,11 +54,7 @@ all_alike (f ∷ fs) (ts ∷ targets) = ((refl, refl), all_alike fs targets)
 
 good_with : (f : Found) (targets : List (List Target)) → All IsFit f.read.tables.segments → IsGood (found_with f targets)
 good_with f targets is = (
-  record {
-    segments = all_fit f.read.tables.segments targets is;
-    contents = contents_fit f.read.tables.resources;
-    bytes = All-map (All (λ b. b < 256)) (λ (r : Resource). replicate (rounded_size r.length_in) 0) f.read.tables.resources (λ k r lt. zeros (rounded_size _));
-  },
+  record { segments = all_fit f.read.tables.segments targets is },
   sound_with f.read.tables.segments targets,
 )
 

@@ -2,7 +2,7 @@
 use base.Stored.Gv.{gnil}
 use Rattle.std.specs.Prelude.{◌≡◌, ℕ, zero, suc, true, false, List, [], ◌∷◌, map, take, length, All, slice_get, Option, None, Some, Result, Ok, Err}
 use Rattle.std.specs.List.{AllZip}
-use Rattle.w16_loading.specs.File.{Format, ModuleFile, IsModuleFile}
+use Rattle.w16_loading.specs.File.{Saying, ModuleFile, IsModuleFile}
 use Rattle.w16_loading.specs.Modules.{Modules}
 use Rattle.w16_loading.specs.Closure as closing
 use Rattle.w16_loading.specs.Closure.{are_sound}
@@ -29,7 +29,6 @@ abbrev pub named_file : List ℕ → ModuleFile
 named_file name = record {
   tables = record { name = name; is_library = false; segments = []; references = []; entries = []; names = []; resources = []; layout = gnil };
   segments = [];
-  contents = [];
 }
 
 abbrev pub said_by : Option closing.Found → Result ModuleFile ℕ
@@ -38,7 +37,7 @@ said_by (Some f) = Ok f.read
 
 -- A format in which some file says whatever a load may have read: the file of a number from 1 says what the module of that number does, and 0 with a
 -- name after it says that name alone.
-abbrev pub any_format : List closing.Found → Format
+abbrev pub any_format : List closing.Found → Saying
 any_format all [] = Err 11
 any_format all (zero ∷ name) = Ok (named_file name)
 any_format all (suc place ∷ rest) = said_by (slice_get all place)

@@ -74,7 +74,7 @@ pub record IsStoredAs (files : Files) (m : Module) (file : List ℕ) (t : ne.Tab
 pub record IsSaid (files : Files) (m : Module) (read : ModuleFile) : Type 0 where
   pub file : List ℕ
   pub stored : file_of files m.file ≡ Some file
-  pub accepted : ne_format file ≡ Ok read
+  pub accepted : ne_format.says file ≡ Ok read
   pub tables : read.tables ≡ m.tables
   pub sound : are_sound read ≡ true
 

@@ -47,11 +47,11 @@ module _ {A : Type 0} where
 -- What a file says, or the number that refuses it; 2 where there is no such file.
 abbrev pub said : Option (List ℕ) → Result ModuleFile ℕ
 said None = Err 2
-said (Some bytes) = ne_format bytes
+said (Some bytes) = ne_format.says bytes
 
 -- the tables are those of a file that is there and is accepted
 abbrev pub IsRead : Option (List ℕ) → ne.Tables → Type 0
-IsRead file tables = IsSomeAnd file (λ bytes. (tables_at (Some bytes) ≡ Ok tables) × (ne_format bytes ≡ Ok (module_file bytes tables)))
+IsRead file tables = IsSomeAnd file (λ bytes. (tables_at (Some bytes) ≡ Ok tables) × (ne_format.says bytes ≡ Ok (module_file bytes tables)))
 
 -- Why there is none: this number refuses it; the device failed, and then its count of failures rose; there was no memory, which says nothing.
 abbrev pub IsFault : (ℕ → Type 0) → ℕ → ℕ → FileFault → Type 0
@@ -77,7 +77,7 @@ IsUnsound bytes tables number = (number ≡ 11) × (are_sound (module_file bytes
 module _ {A : Type 0} where
   -- what a load of these modules, which has found others, makes of the file of a name
   abbrev pub reading_in : Modules → Files → List (Found A) → List ℕ → closing.Reading
-  reading_in modules files found name = closing.reading ne_format (around_in modules files) (map (found_in files) found) name
+  reading_in modules files found name = closing.reading ne_format.says (around_in modules files) (map (found_in files) found) name
 
   -- what a name means to a load of these modules that has found others
   abbrev pub meant_in : Modules → List (Found A) → List ℕ → Option closing.Referent

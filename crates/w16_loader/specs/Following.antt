@@ -1,6 +1,6 @@
 -- How a load follows the references of the modules that it finds, as the code keeps it.
 use Rattle.std.specs.Prelude.{◌≡◌, ◌⊎◌, ◌≤◌, ◌<◌, ◌==◌, if◌then◌else◌, ℕ, suc, List, [], ◌∷◌, ◌++◌, map, drop, length, slice_get, None, Some, Result}
-use Rattle.w16_loading.specs.File.{Format}
+use Rattle.w16_loading.specs.File.{Saying}
 use Rattle.w16_loading.specs.Modules.{Modules, free_modules}
 use Rattle.w16_loading.specs.Closure as closing
 use Rattle.w16_loading.specs.Closure.{Around, Closes, dll, with_bound, with_found}
@@ -104,6 +104,6 @@ module _ {A : Type 0} where
 
 -- One closure comes of another while a load follows references: what it closes to, the other does. No more modules are found than handles are free,
 -- or than there were.
-pub record Leads (format : Format) (a : Around) (before after : closing.Closure) : Type 0 where
-  pub closes : (outcome : Result closing.Closure ℕ) → Closes format a after outcome → Closes format a before outcome
+pub record Leads (says : Saying) (a : Around) (before after : closing.Closure) : Type 0 where
+  pub closes : (outcome : Result closing.Closure ℕ) → Closes says a after outcome → Closes says a before outcome
   pub few : (most : ℕ) → a.free ≤ most → length before.found ≤ most → length after.found ≤ most

@@ -130,9 +130,9 @@ impl<A: Allocator + Copy> Closure<A> {
         ensures device { IfErr result (RoseIf is_file_device (S.failures store.old) (S.failures store.new)) }
         ensures any { IfOk result (LeadsSomewhere registry.now self.now.found.items name.now) }
         ensures small { IfErr result IsSmall }
-        ensures ok { S.is_honest → IfOk result (λ made. (pending : List (ℕ × List ℕ)) (place : ℕ) → closing.followed ne_format (around_in registry.now (S.files store.old)) (pending_in (S.files store.old) pending self.now) place name.now
+        ensures ok { S.is_honest → IfOk result (λ made. (pending : List (ℕ × List ℕ)) (place : ℕ) → closing.followed ne_format.says (around_in registry.now (S.files store.old)) (pending_in (S.files store.old) pending self.now) place name.now
             ≡ Ok (with_followed (S.files store.old) (pending_in (S.files store.old) pending self.now) place made)) }
-        ensures err { S.is_honest → IfErr result (IsFault (λ number. (pending : List (ℕ × List ℕ)) (place : ℕ) → closing.followed ne_format (around_in registry.now (S.files store.old)) (pending_in (S.files store.old) pending self.now) place name.now
+        ensures err { S.is_honest → IfErr result (IsFault (λ number. (pending : List (ℕ × List ℕ)) (place : ℕ) → closing.followed ne_format.says (around_in registry.now (S.files store.old)) (pending_in (S.files store.old) pending self.now) place name.now
             ≡ Err number) (S.failures store.old) (S.failures store.new)) }
     {
         let found = self.found.as_slice();
@@ -180,8 +180,8 @@ impl<A: Allocator + Copy> Closure<A> {
         ensures few { OnOk result (FindsFew registry.now self.old.found.items self.new.found.items) }
         ensures any { OnOk result (LeadsAny registry.now self.new.found.items (reached_of place (number - 1) self.old) (reached_of place number self.new)) }
         ensures small { IfErr result IsSmall }
-        ensures ok { S.is_honest → OnOk result (Leads ne_format (around_in registry.now (S.files store.old)) (reached (S.files store.old) place (number - 1) self.old) (reached (S.files store.old) place number self.new)) }
-        ensures err { S.is_honest → IfErr result (IsFault (λ answer. Closes ne_format (around_in registry.now (S.files store.old)) (reached (S.files store.old) place (number - 1) self.old) (Err answer))
+        ensures ok { S.is_honest → OnOk result (Leads ne_format.says (around_in registry.now (S.files store.old)) (reached (S.files store.old) place (number - 1) self.old) (reached (S.files store.old) place number self.new)) }
+        ensures err { S.is_honest → IfErr result (IsFault (λ answer. Closes ne_format.says (around_in registry.now (S.files store.old)) (reached (S.files store.old) place (number - 1) self.old) (Err answer))
             (S.failures store.old) (S.failures store.new)) }
     {
         let name = self.found[place].module.reference(number);
@@ -218,8 +218,8 @@ impl<A: Allocator + Copy> Closure<A> {
         ensures few { OnOk result (FindsFew registry.now self.old.found.items self.new.found.items) }
         ensures any { OnOk result (LeadsAny registry.now self.new.found.items (reached_of place 0 self.old) (reached_of (place + 1) 0 self.new)) }
         ensures small { IfErr result IsSmall }
-        ensures ok { S.is_honest → OnOk result (Leads ne_format (around_in registry.now (S.files store.old)) (reached (S.files store.old) place 0 self.old) (reached (S.files store.old) (place + 1) 0 self.new)) }
-        ensures err { S.is_honest → IfErr result (IsFault (λ number. Closes ne_format (around_in registry.now (S.files store.old)) (reached (S.files store.old) place 0 self.old) (Err number))
+        ensures ok { S.is_honest → OnOk result (Leads ne_format.says (around_in registry.now (S.files store.old)) (reached (S.files store.old) place 0 self.old) (reached (S.files store.old) (place + 1) 0 self.new)) }
+        ensures err { S.is_honest → IfErr result (IsFault (λ number. Closes ne_format.says (around_in registry.now (S.files store.old)) (reached (S.files store.old) place 0 self.old) (Err number))
             (S.failures store.old) (S.failures store.new)) }
     {
         let count = self.reference_count(place);
@@ -246,8 +246,8 @@ impl<A: Allocator + Copy> Closure<A> {
         ensures few { OnOk result (FindsFew registry.now self.old.found.items self.new.found.items) }
         ensures any { OnOk result (LeadsAny registry.now self.new.found.items (reached_of 0 0 self.old) (closed_of self.new)) }
         ensures small { IfErr result IsSmall }
-        ensures ok { S.is_honest → OnOk result (Closes ne_format (around_in registry.now (S.files store.old)) (reached (S.files store.old) 0 0 self.old) (Ok (closed_in (S.files store.old) self.new))) }
-        ensures err { S.is_honest → IfErr result (IsFault (λ number. Closes ne_format (around_in registry.now (S.files store.old)) (reached (S.files store.old) 0 0 self.old) (Err number))
+        ensures ok { S.is_honest → OnOk result (Closes ne_format.says (around_in registry.now (S.files store.old)) (reached (S.files store.old) 0 0 self.old) (Ok (closed_in (S.files store.old) self.new))) }
+        ensures err { S.is_honest → IfErr result (IsFault (λ number. Closes ne_format.says (around_in registry.now (S.files store.old)) (reached (S.files store.old) 0 0 self.old) (Err number))
             (S.failures store.old) (S.failures store.new)) }
     {
         for place in 0..usize::from(MOST_MODULES) {
@@ -280,8 +280,8 @@ pub fn close<S: Store, A: Allocator + Copy>(
     ensures few { 0 < free_modules registry.now → IfOk result (λ made. length made.found.items ≤ free_modules registry.now) }
     ensures any { handle_named registry.now first.module.name ≡ None → 0 < free_modules registry.now → IfOk result (IsSomeClosure registry.now first.file.items) }
     ensures small { IfErr result IsSmall }
-    ensures ok { S.is_honest → IfOk result (λ made. Closes ne_format (around_in registry.now (S.files store.old)) (begun first.file.items (read_in (S.files store.old) first.file.items first.module)) (Ok (closed_in (S.files store.old) made))) }
-    ensures err { S.is_honest → IfErr result (IsFault (λ number. Closes ne_format (around_in registry.now (S.files store.old)) (begun first.file.items (read_in (S.files store.old) first.file.items first.module)) (Err number))
+    ensures ok { S.is_honest → IfOk result (λ made. Closes ne_format.says (around_in registry.now (S.files store.old)) (begun first.file.items (read_in (S.files store.old) first.file.items first.module)) (Ok (closed_in (S.files store.old) made))) }
+    ensures err { S.is_honest → IfErr result (IsFault (λ number. Closes ne_format.says (around_in registry.now (S.files store.old)) (begun first.file.items (read_in (S.files store.old) first.file.items first.module)) (Err number))
         (S.failures store.old) (S.failures store.new)) }
 {
     let Ok(mut closure) = Closure::begin(first) else {

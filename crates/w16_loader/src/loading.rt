@@ -204,7 +204,7 @@ fn load_new<S: Store, A: Allocator + Copy>(
     requires { 0 < free_modules registry.old }
     ensures stays { IsLater (S.files store.old) (S.failures store.old) (S.files store.new) (S.failures store.new) }
     ensures device { IfOk result (RoseIf is_load_device (S.failures store.old) (S.failures store.new)) }
-    ensures loads { (rest : LoadingWorld) (before : ℕ) → before ≤ S.failures store.old → S.is_honest → closing.reading ne_format (around_in registry.old (S.files store.old)) [] file.now ≡ Read (read_in (S.files store.old) file.now read)
+    ensures loads { (rest : LoadingWorld) (before : ℕ) → before ≤ S.failures store.old → S.is_honest → closing.reading ne_format.says (around_in registry.old (S.files store.old)) [] file.now ≡ Read (read_in (S.files store.old) file.now read)
         → IfOk result (λ answer. (is_load_module : Bool) → LoadsCounted ne_format is_load_module (in_store rest registry.old global.old.handles (S.files store.old) before) file.now (answer_in answer)
         (in_store rest registry.new global.new.handles (S.files store.new) (S.failures store.new))) }
     ensures any { (rest : LoadingWorld) → handle_named registry.old read.name ≡ None → IfOk result (λ answer. (is_load_module : Bool) → AnyLoadsBy GivesAnyFewest is_load_module (in_world (with_handles rest global.old.handles) registry.old) file.now

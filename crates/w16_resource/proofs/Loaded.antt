@@ -77,23 +77,3 @@ module _ (honest : Type 0) (h : Handles) (modules : Modules) (loads : FinMap nat
     loads_exact (inr m) = inr (loads_by m (Fetches ne_format)
         (fetches (made m) m.slot handle place 1 name entry s (inserted_here loads m.slot (record { handle = handle; place = place; loads = 1 }) m.slot refl) stored.0
         (record { stored = stored.1.stored; bytes = stored.1.bytes; tables = stored.1.tables }) m.fault before after m.next (fetched m)))
-
-    -- a failure of the device is counted
-    pub failed_new : MakesNew honest files name entry r handle place h loads before reply next left after → reply ≡ Failed faults.Store → before < after
-    failed_new (inl n) e = absurd (word_is (sym n.1 ∙ e))
-      where
-        word_is : Word 0 ≡ Failed faults.Store → ⊥
-        word_is e = cc
-    failed_new (inr m) e = (fetched m).failed (by m.fault m.outcome)
-      where
-        word_not : (n : ℕ) → Word n ≡ Failed faults.Store → ⊥
-        word_not n e = cc
-
-        damaged_not : Failed faults.Damaged ≡ Failed faults.Store → ⊥
-        damaged_not e = cc
-
-        by : (fault : Option FetchFault) → IsMadeOr fault (Word (handle_of r.kind m.slot)) reply h m.next next loads (finmap.insert loads m.slot (record { handle = handle; place = place; loads = 1 })) left → fault ≡ Some faults.Store
-        by None o = absurd (word_not _ (sym o.0 ∙ e))
-        by (Some faults.NoRoom) o = absurd (word_not 0 (sym o.0 ∙ e))
-        by (Some faults.Store) o = refl
-        by (Some faults.Damaged) o = absurd (damaged_not (sym o.0 ∙ e))

@@ -2,27 +2,31 @@
 use Rattle.w16_resource.proofs.Common.{AnyFetches, AnyStep, Dword, Entry, Failed, FetchFault, Fetches, FetchesCounted, Fetching, FinMap, Gives, Handles, IsOfFiles, IsSourceAt, List, LoadResource, LoadingCommand, LoadingStep}
 use Rattle.w16_resource.proofs.Common.{LoadingWorld, LoadsResource, LockResource, LocksResource, MakesNew, Modules, None, OfResources, Option, Reply, Resource, Some, Word, ap, arith, bytes_at, false, global_lock, is_long}
 use Rattle.w16_resource.proofs.Common.{left, load_of, loaded_again, loading_of, lock_outcome, nat_cmp, ne_format, refl, reply_of_call, resource_at, resource_in, slot_of_resource, subst, sym, true, ℕ, ◌/◌, ◌∙◌, ◌≡◌, ◌≤◌}
+use Rattle.std.specs.Prelude.{◌<◌, IfErr, Result, Ok, Err}
 use Rattle.w16_model.specs.Calls as calls
+use Rattle.w16_loading.specs.Fill.{is_of_device}
 use Rattle.w16_loading.specs.declared.FetchFault.TheVariants as faults
 use Rattle.w16_loading.specs.Modules as loading
+use Rattle.w16_resource.specs.Parts.{word_in, dword_in}
 use Rattle.w16_resource.proofs.Fetched.{source_resource}
-use Rattle.w16_resource.proofs.Loaded.{no_resource, long_resource, made_resource, loads_any, loads_exact, failed_new}
+use Rattle.w16_resource.proofs.Loaded.{no_resource, long_resource, made_resource, loads_any, loads_exact}
 use Rattle.w16_resource.proofs.Locked.{none_named, has_bytes, is_fetched, lock_is}
 use Rattle.w16_resource.proofs.Named.{here}
 
 not_failed : (n : ℕ) → Word n ≡ Failed faults.Store → ⊥
 not_failed n e = cc
 
-dword_not_failed : (n : ℕ) → Dword n ≡ Failed faults.Store → ⊥
+pub dword_not_failed : (n : ℕ) → Dword n ≡ Failed faults.Store → ⊥
 dword_not_failed n e = cc
 
-damaged_not : Failed faults.Damaged ≡ Failed faults.Store → ⊥
-damaged_not e = cc
+-- a fault of the device
+pub word_is : (r : Result ℕ FetchFault) (P : Type 0) → IfErr r (λ f. is_of_device f ≡ true → P) → word_in r ≡ Failed faults.Store → P
+word_is (Ok n) P h e = absurd (not_failed n e)
+word_is (Err f) P h e = let same : f ≡ faults.Store = cc in h (ap is_of_device same)
 
-call_not_failed : (a : calls.Answer) → reply_of_call a ≡ Failed faults.Store → ⊥
-call_not_failed (calls.Answer.Word n) e = cc
-call_not_failed (calls.Answer.Dword n) e = cc
-call_not_failed (calls.Answer.Walked n) e = cc
+pub dword_is : (r : Result ℕ FetchFault) (fault : FetchFault) (P : Type 0) → IfErr r (λ f. f ≡ fault) → (is_of_device fault ≡ true → P) → dword_in r ≡ Failed faults.Store → P
+dword_is (Ok n) fault P is h e = absurd (dword_not_failed n e)
+dword_is (Err f) fault P is h e = let same : fault ≡ faults.Store = cc in h (ap is_of_device same)
 
 module _ (h : Handles) (modules : Modules) (loads : FinMap nat_cmp loading.Load) (files : List (List ℕ × List ℕ)) (before : ℕ) where
   abbrev old : LoadingWorld
@@ -35,7 +39,7 @@ module _ (h : Handles) (modules : Modules) (loads : FinMap nat_cmp loading.Load)
     -- Loads that read no file.
     module _ (n : ℕ) (left : FinMap nat_cmp loading.Load) (step : (F : Fetching) → LoadsResource F old handle place (Word n) (loading_of h modules left files before)) where
       pub plain_any : AnyStep old Command (Word n) (loading_of h modules left files before)
-      plain_any = record { counted = omega arith; files = refl; step = step AnyFetches }
+      plain_any = record { counted = omega arith; failed = λ e. absurd (not_failed n e); files = refl; step = step AnyFetches }
 
       pub plain_exact : LoadingStep ne_format old Command (Word n) (loading_of h modules left files before)
       plain_exact = record { counted = omega arith; failed = λ e. absurd (not_failed n e); step = step (Fetches ne_format) }
@@ -56,10 +60,11 @@ module _ (h : Handles) (modules : Modules) (loads : FinMap nat_cmp loading.Load)
         again x e n left more F = made_resource F old handle place (Word n) (loading_of h modules left files before) r (source_resource old handle place name entry s) short (Some x) (sym e) more
 
         module _ (honest : Type 0) (none : None ≡ load_of old handle place) (reply : Reply) (next : Handles) (left : FinMap nat_cmp loading.Load) (now : List (List ℕ × List ℕ)) (after : ℕ) (same : now ≡ files) (counted : before ≤ after)
-            (makes : MakesNew honest files name entry r handle place h loads before reply next left after) where
+            (makes : MakesNew honest files name entry r handle place h loads before reply next left after) (rose : reply ≡ Failed faults.Store → before < after) where
           pub new_any : AnyStep old Command reply (loading_of next modules left now after)
           new_any = record {
             counted = counted;
+            failed = rose;
             files = same;
             step = subst (λ (fs : List (List ℕ × List ℕ)). LoadsResource AnyFetches old handle place reply (loading_of next modules left fs before)) (sym same)
                 (made_resource AnyFetches old handle place reply (loading_of next modules left files before) r (source_resource old handle place name entry s) short None (sym none)
@@ -69,7 +74,7 @@ module _ (h : Handles) (modules : Modules) (loads : FinMap nat_cmp loading.Load)
           pub new_exact : honest → IsOfFiles ne_format old → LoadingStep ne_format old Command reply (loading_of next modules left now after)
           new_exact told is = record {
             counted = counted;
-            failed = failed_new honest h modules loads files before name entry r handle place reply next left after told s short is refl makes;
+            failed = rose;
             step = subst (λ (fs : List (List ℕ × List ℕ)). LoadsResource (Fetches ne_format) old handle place reply (loading_of next modules left fs before)) (sym same)
                 (made_resource (Fetches ne_format) old handle place reply (loading_of next modules left files before) r (source_resource old handle place name entry s) short None (sym none)
                 (loads_exact honest h modules loads files before name entry r handle place reply next left after told s short is refl makes));
@@ -83,7 +88,7 @@ module _ (h : Handles) (modules : Modules) (loads : FinMap nat_cmp loading.Load)
     -- those that read no file
     module _ (n : ℕ) (next : Handles) (step : (F : Fetching) → LocksResource F old handle (Dword n) (loading_of next modules loads files before)) where
       pub lock_any : AnyStep old Locking (Dword n) (loading_of next modules loads files before)
-      lock_any = record { counted = omega arith; files = refl; step = step AnyFetches }
+      lock_any = record { counted = omega arith; failed = λ e. absurd (dword_not_failed n e); files = refl; step = step AnyFetches }
 
       pub lock_exact : LoadingStep ne_format old Locking (Dword n) (loading_of next modules loads files before)
       lock_exact = record { counted = omega arith; failed = λ e. absurd (dword_not_failed n e); step = step (Fetches ne_format) }
@@ -98,25 +103,20 @@ module _ (h : Handles) (modules : Modules) (loads : FinMap nat_cmp loading.Load)
 
       -- one that fetches
       module _ (absent : bytes_at h.heap x.0 ≡ None) (fault : Option FetchFault) (mid : Handles) (now : List (List ℕ × List ℕ)) (after : ℕ) (same : now ≡ files) (counted : before ≤ after) (reply : Reply) (next : Handles)
-          (outcome : ◌≡◌ {A = Reply × LoadingWorld} (reply, loading_of next modules loads now before) (lock_outcome fault handle (loading_of mid modules loads now before))) where
+          (outcome : ◌≡◌ {A = Reply × LoadingWorld} (reply, loading_of next modules loads now before) (lock_outcome fault handle (loading_of mid modules loads now before))) (rose : reply ≡ Failed faults.Store → before < after) where
         pub fetched_any : AnyFetches old (handle / 8) fault (loading_of mid modules loads now before) → AnyStep old Locking reply (loading_of next modules loads now after)
         fetched_any f = record {
           counted = counted;
+          failed = rose;
           files = same;
           step = is_fetched AnyFetches old handle reply (loading_of next modules loads now before) x found absent fault (loading_of mid modules loads now before)
               (subst (λ q. AnyFetches old q fault (loading_of mid modules loads now before)) (here old handle x found) f) outcome;
         }
 
-        fault_told : (fault : Option FetchFault) → ◌≡◌ {A = Reply × LoadingWorld} (reply, loading_of next modules loads now before) (lock_outcome fault handle (loading_of mid modules loads now before)) → reply ≡ Failed faults.Store → fault ≡ Some faults.Store
-        fault_told None e f = absurd (call_not_failed (global_lock mid handle).0 (sym (ap (λ (y : Reply × LoadingWorld). y.0) e) ∙ f))
-        fault_told (Some faults.NoRoom) e f = absurd (dword_not_failed 0 (sym (ap (λ (y : Reply × LoadingWorld). y.0) e) ∙ f))
-        fault_told (Some faults.Store) e f = refl
-        fault_told (Some faults.Damaged) e f = absurd (damaged_not (sym (ap (λ (y : Reply × LoadingWorld). y.0) e) ∙ f))
-
         pub fetched_exact : FetchesCounted ne_format old (handle / 8) fault (loading_of mid modules loads now after) → LoadingStep ne_format old Locking reply (loading_of next modules loads now after)
         fetched_exact f = record {
           counted = counted;
-          failed = λ e. f.failed (fault_told fault outcome e);
+          failed = rose;
           step = is_fetched (Fetches ne_format) old handle reply (loading_of next modules loads now before) x found absent fault (loading_of mid modules loads now before)
               (subst (λ q. Fetches ne_format old q fault (loading_of mid modules loads now before)) (here old handle x found) f.fetched) outcome;
         }

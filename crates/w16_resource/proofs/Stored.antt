@@ -1,8 +1,12 @@
 -- Fetches of resources that are loaded, in a world over a store.
 use Rattle.w16_resource.proofs.Common.{AnyFetches, Entry, FetchFault, FetchesCounted, FetchesFrom, Handles, IfSome, IsLoadingOver, IsLoadingWorld, IsSome, IsSomeAnd, IsSourceAt, IsSourceOf, List, LoadingWorld}
 use Rattle.w16_resource.proofs.Common.{None, Option, Result, Some, StoreFetch, ap, counted, false≢true, fault_in, file_of, in_world, ne_format, refl, resource_at, subst, sym, with_handles, ℕ, ◌∙◌, ◌≡◌, ◌≤◌}
+use Rattle.std.specs.Prelude.{IfErr}
 use Rattle.std.specs.FinMap as finmap
+use Rattle.w16_store.specs.Later.{RoseIf}
+use Rattle.w16_loading.specs.Fill.{is_of_device}
 use Rattle.w16_loading.specs.Modules as loading
+use Rattle.w16_loader.proofs.Fetches.{rises}
 use Rattle.w16_resource.proofs.Fetched.{there, sized, short, file_there, source_in, fetches}
 
 module _ (world : LoadingWorld) (slot : ℕ) where
@@ -22,12 +26,14 @@ module _ (world : LoadingWorld) (slot : ℕ) where
 module _ (honest : Type 0) (world : LoadingWorld) (slot : ℕ) (is : IsLoadingOver honest world) (name : List ℕ) (entry : Entry)
     (source : IsSomeAnd (finmap.get world.loads slot) (λ load. IsSourceAt world.modules load.handle load.place name entry)) where
   pub store_fetch : {A : Type 0} (result : Result A FetchFault) (new : Handles) (files : List (List ℕ × List ℕ)) (failures : ℕ) → files ≡ world.files → world.failures ≤ failures
+      → IfErr result (RoseIf is_of_device world.failures failures)
       → ((rest : LoadingWorld) → AnyFetches (with_handles rest world.handles) slot (fault_in result) (with_handles rest new))
       → ((file : List ℕ) → honest → file_of world.files name ≡ Some file → IsSourceOf file world.handles slot entry → FetchesFrom file world.handles slot entry world.failures (fault_in result) failures new)
       → StoreFetch honest world slot (fault_in result) (record world { handles = new; files = files; failures = failures })
-  store_fetch result new files failures same counted any exact = record {
+  store_fetch result new files failures same counted rose any exact = record {
     files = same;
     counted = counted;
+    failed = rises result _ rose;
     any = any_fetch world slot (fault_in result) new files same any;
     exact = λ h. by h (finmap.get world.loads slot) refl source;
   }

@@ -1,9 +1,10 @@
 -- The world of modules over the parts of the machine that keep it, and what a call over a store answers.
-use Rattle.std.specs.Prelude.{◌≡◌, ℕ, ◌≤◌, List, Option, Result, Ok, Err}
+use Rattle.std.specs.Prelude.{◌≡◌, ℕ, ◌<◌, ◌≤◌, List, Option, Some, Result, Ok, Err}
 use Rattle.std.specs.Ordering.{nat_cmp}
 use Rattle.std.specs.FinMap.{FinMap}
 use Rattle.w16_model.specs.Handles.{Handles}
 use Rattle.w16_loading.specs.declared.FetchFault.{FetchFault}
+use Rattle.w16_loading.specs.declared.FetchFault.TheVariants.{Store}
 use Rattle.w16_loading.specs.AnyStore.{AnyFetches}
 use Rattle.w16_loading.specs.Fetch.{FetchesCounted}
 use Rattle.w16_loading.specs.Law.{IsLoadingWorld, IsOfFiles}
@@ -24,6 +25,7 @@ IsLoadingOver honest world = IsLoadingWorld world × (honest → IsOfFiles ne_fo
 pub record StoreFetch (honest : Type 0) (old : LoadingWorld) (slot : ℕ) (fault : Option FetchFault) (new : LoadingWorld) : Type 0 where
   pub files : new.files ≡ old.files
   pub counted : old.failures ≤ new.failures
+  pub failed : fault ≡ Some Store → old.failures < new.failures
   pub any : AnyFetches old slot fault (record new { failures = old.failures })
   pub exact : honest → FetchesCounted ne_format old slot fault new
 

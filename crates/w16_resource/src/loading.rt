@@ -70,7 +70,8 @@ fn owned_for(len: u32) -> Owned
 
 /// What a load answers where its object got no bytes.
 fn refusal(fault: FetchFault) -> Result<u16, FetchFault>
-    ensures { word_in result ≡ refusal fault }
+    ensures answer { word_in result ≡ refusal fault }
+    ensures told { IfErr result (λ f. f ≡ fault) }
 {
     match fault {
         FetchFault::NoRoom => Ok(0),

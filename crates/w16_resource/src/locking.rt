@@ -26,7 +26,8 @@ use w16_store::Store;
 
 /// What a lock answers where the object got no bytes.
 fn refusal(fault: FetchFault) -> Result<u32, FetchFault>
-    ensures { (handle : ℕ) (world : LoadingWorld) → (dword_in result, world) ≡ lock_outcome (Some fault) handle world }
+    ensures told { IfErr result (λ f. f ≡ fault) }
+    ensures answer { (handle : ℕ) (world : LoadingWorld) → (dword_in result, world) ≡ lock_outcome (Some fault) handle world }
 {
     match fault {
         FetchFault::NoRoom => Ok(0),

@@ -1,6 +1,7 @@
 //! Module files by name, from memory or from a folder.
 #![tactic(auto)]
 
+mod count;
 mod disk;
 mod folder;
 mod fuse;
@@ -10,6 +11,7 @@ mod part;
 mod store;
 mod system;
 
+pub use count::count_failure;
 pub use disk::{Disk, DiskFailure};
 pub use folder::{DirFault, DirStore};
 pub use fuse::FuseStore;

@@ -10,6 +10,7 @@ use w16_store::{DirFault, Disk, DiskFailure};
 #[derive(Drop)]
 pub struct OneFile {
     pub fails: bool,
+    pub failures: u64,
 }
 
 impl Disk for OneFile {
@@ -17,7 +18,7 @@ impl Disk for OneFile {
 
     ghost files = { λ _. [] };
 
-    ghost failures = { λ _. 0 };
+    ghost failures = { λ s. s.failures };
 
     ghost is_honest = { ⊥ };
 
@@ -32,6 +33,10 @@ impl Disk for OneFile {
 
     fn read(&mut self, _name: &str, at: u64, buf: &mut [u8]) -> Result<u64, DiskFailure> {
         if at == 1 {
+            let Some(failures) = self.failures.checked_add(1) else {
+                return Ok(0);
+            };
+            self.failures = failures;
             return Err(DiskFailure);
         }
         buf.fill(7);

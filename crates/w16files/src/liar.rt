@@ -1,5 +1,5 @@
 //! A store that lies.
-use w16_store::{MemStore, Store, StoreFault};
+use w16_store::{MemStore, Store, StoreFault, count_failure};
 
 /// What is told in place of the truth, each byte this one or a fault, and at which read, counted from 1; 0 is at each.
 #[derive(Clone, Copy)]
@@ -14,6 +14,7 @@ pub struct Liar {
     inner: MemStore,
     lie: Option<Lie>,
     reads: u64,
+    failures: u64,
 }
 
 impl Liar {
@@ -23,6 +24,7 @@ impl Liar {
             inner,
             lie: None,
             reads: 0,
+            failures: 0,
         }
     }
 
@@ -41,7 +43,7 @@ impl Liar {
 impl Store for Liar {
     ghost files = { λ s. s.inner };
 
-    ghost failures = { λ _. 0 };
+    ghost failures = { λ s. s.failures };
 
     ghost is_honest = { ⊥ };
 
@@ -49,7 +51,8 @@ impl Store for Liar {
         self.reads = self.reads.saturating_add(1);
         match self.lie {
             Some(lie) if lie.read == 0 || lie.read == self.reads => {
-                buf.fill(lie.told?);
+                let told = count_failure(&mut self.failures, lie.told);
+                buf.fill(told?);
                 Ok(())
             }
             _ => self.inner.read_at(name, at, buf),

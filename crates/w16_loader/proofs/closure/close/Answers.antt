@@ -6,12 +6,12 @@ use Rattle.w16_loader.proofs.closure.close.Goals as goal
 
 pub returns-in-Err-clause-err : goal.returns-in-Err-clause-err
 returns-in-Err-clause-err g c = λ honest.
-    subst (λ closure. IsFault (λ number. Closes ne_format (around_in c.args.registry.now (g.S.Store.files c.args.store.now)) closure (Err number)) (g.S.Store.failures c.args.store.now) (g.S.Store.failures c.follow_all.new.store) c.in-Err.fault)
+    subst (λ closure. IsFault (λ number. Closes ne_format.says (around_in c.args.registry.now (g.S.Store.files c.args.store.now)) closure (Err number)) (g.S.Store.failures c.args.store.now) (g.S.Store.failures c.follow_all.new.store) c.in-Err.fault)
     (begins (g.S.Store.files c.args.store.now) c.in-Ok.closure c.args.first c.in-Ok.ensures.found c.in-Ok.ensures.bound) (c.in-Err.ensures.err honest)
 
 pub returns-in-Ok-follow_all-clause-ok : goal.returns-in-Ok-follow_all-clause-ok
 returns-in-Ok-follow_all-clause-ok g c = λ honest.
-    subst (λ closure. Closes ne_format (around_in c.args.registry.now (g.S.Store.files c.args.store.now)) closure (Ok (closed_in (g.S.Store.files c.args.store.now) c.follow_all.new.self)))
+    subst (λ closure. Closes ne_format.says (around_in c.args.registry.now (g.S.Store.files c.args.store.now)) closure (Ok (closed_in (g.S.Store.files c.args.store.now) c.follow_all.new.self)))
     (begins (g.S.Store.files c.args.store.now) c.in-Ok.closure c.args.first c.in-Ok.ensures.found c.in-Ok.ensures.bound) (c.in-Ok-follow_all.ensures.ok honest)
 
 pub returns-in-Ok-follow_all-clause-any : goal.returns-in-Ok-follow_all-clause-any

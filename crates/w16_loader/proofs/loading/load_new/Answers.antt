@@ -13,8 +13,8 @@ returns-in-Err-clause-loads g c = λ rest before le honest is.
     let after = g.S.Store.failures c.close.new.store in
     let file = c.args.file.now in
     let read = read_in files file c.args.read in
-    let closes = fault_since (λ number. Closes ne_format (around_in modules files) (begun file read) (Err number)) before start after c.in-Err.fault le
-    (subst (λ f. IsFault (λ number. Closes ne_format (around_in modules files) (begun f (read_in files f c.args.read)) (Err number)) start after c.in-Err.fault) c.in_ok-name.ensures (c.in-Err.ensures.err honest)) in
+    let closes = fault_since (λ number. Closes ne_format.says (around_in modules files) (begun file read) (Err number)) before start after c.in-Err.fault le
+    (subst (λ f. IsFault (λ number. Closes ne_format.says (around_in modules files) (begun f (read_in files f c.args.read)) (Err number)) start after c.in-Err.fault) c.in_ok-name.ensures (c.in-Err.ensures.err honest)) in
     subst (λ r. IfOk r (λ answer. (is_load_module : Bool) → LoadsCounted ne_format is_load_module (in_store rest modules handles files before) file (answer_in answer) (in_store rest modules handles (g.S.Store.files c.close.new.store) after)))
     (sym c.refuse.ensures.answer)
     (refused_closure rest modules handles files before file modules handles (g.S.Store.files c.close.new.store) c.in-Err.ensures.stays.same after (omega (arith, le, c.in-Err.ensures.stays.counted)) c.in-Err.fault read refl is closes)
@@ -29,7 +29,7 @@ returns-in-Ok-clause-loads g c = λ rest before le honest is.
     let file = c.args.file.now in
     let read = read_in files file c.args.read in
     let meant = closed_in files c.in-Ok.closure in
-    let closes = subst (λ f. Closes ne_format (around_in modules files) (begun f (read_in files f c.args.read)) (Ok meant)) c.in_ok-name.ensures (c.in-Ok.ensures.ok honest) in
+    let closes = subst (λ f. Closes ne_format.says (around_in modules files) (begun f (read_in files f c.args.read)) (Ok meant)) c.in_ok-name.ensures (c.in-Ok.ensures.ok honest) in
     let all = subst (λ fs. All (IsOfFile fs) meant.found) (sym c.in-Ok.ensures.stays.same) (all_of_files modules files file read meant is closes) in
     let later : before ≤ mid = omega (arith, le, c.in-Ok.ensures.stays.counted) in
     closed_load rest modules handles files before file c.load_closure.new.registry c.load_closure.new.global.handles (g.S.Store.files c.load_closure.new.store) (c.load_closure.ensures.stays.same ∙ c.in-Ok.ensures.stays.same)

@@ -12,7 +12,7 @@ returns-in-Err-clause-first c = λ file has tables.
 
 pub loop-i-preserved : goal.loop-i-preserved
 loop-i-preserved c = (
-  c.in_default.ensures.files ∙ c.loop-i.invariant.0,
+  c.in_default.ensures.stays.same ∙ c.loop-i.invariant.0,
   λ file has tables.
       let s = got-some c.args.module.now.segments c.loop-i.i (omega (arith, c.loop-i-test.true, c.segment_count-i-end.ensures.count)) in
       let said = c.check.ensures.exact file s.0 tt (rw c.loop-i.invariant.0 has) tables (less-got c.args.module.now.segments c.loop-i.i s.0 s.1) in

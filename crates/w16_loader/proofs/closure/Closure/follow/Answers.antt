@@ -12,12 +12,12 @@ use Rattle.w16_loader.proofs.closure.Closure.follow.Goals as goal
 
 module _ {A : Type 0} (modules : Modules) (files : Files) (old : Closure A) (name : List ℕ) (none : closing.meant (around_in modules files) (map (found_in files) old.found.items) name ≡ None) where
   led : (made : Followed A) → IsReadOf files (dll name) (reading_in modules files old.found.items (dll name)) made
-      → (pending : List (ℕ × List ℕ)) (place : ℕ) → followed ne_format (around_in modules files) (pending_in files pending old) place name ≡ Ok (with_followed files (pending_in files pending old) place made)
+      → (pending : List (ℕ × List ℕ)) (place : ℕ) → followed ne_format.says (around_in modules files) (pending_in files pending old) place name ≡ Ok (with_followed files (pending_in files pending old) place made)
   led (leads.Meant referent) h pending place = rw (closing.followed, none, h) refl
   led (leads.New f) h pending place = rw (closing.followed, none, h.0, h.1) refl
 
   refused : (before after : ℕ) (fault : FileFault) → IsFault (IsRefusedReference (reading_in modules files old.found.items (dll name))) before after fault
-      → IsFault (λ number. (pending : List (ℕ × List ℕ)) (place : ℕ) → followed ne_format (around_in modules files) (pending_in files pending old) place name ≡ Err number) before after fault
+      → IsFault (λ number. (pending : List (ℕ × List ℕ)) (place : ℕ) → followed ne_format.says (around_in modules files) (pending_in files pending old) place name ≡ Err number) before after fault
   refused before after (faults.Refused number) h = λ pending place. rw (closing.followed, none, h.1) (ap Err (sym h.2))
   refused before after faults.Device h = h
   refused before after faults.OutOfMemory h = h

@@ -8,7 +8,7 @@ use Rattle.w16_loader.proofs.closure.Closure.follow_all.Goals as goal
 
 pub returns-in-Err-clause-err : goal.returns-in-Err-clause-err
 returns-in-Err-clause-err g c = λ honest.
-    refused_through ne_format c.args.registry.now (g.S.Store.files c.args.store.now) (g.S.Store.files c.loop-place.store) c.loop-place.invariant.files (reached (g.S.Store.files c.args.store.now) 0 0 c.args.self.now)
+    refused_through ne_format.says c.args.registry.now (g.S.Store.files c.args.store.now) (g.S.Store.files c.loop-place.store) c.loop-place.invariant.files (reached (g.S.Store.files c.args.store.now) 0 0 c.args.self.now)
     (λ fs. reached fs c.loop-place.place 0 c.loop-place.self) (c.loop-place.invariant.leads honest) _ _ _ c.loop-place.invariant.failures c.in-Err.fault (c.in-Err.ensures.err honest)
 
 pub loop-place-preserved : goal.loop-place-preserved
@@ -18,7 +18,7 @@ loop-place-preserved g c = record {
   few = few_through c.args.registry.now c.args.self.now.found.items c.loop-place.self.found.items c.follow_module.new.self.found.items c.loop-place.invariant.few c.in-Ok.ensures.few;
   any = any_through c.args.registry.now c.loop-place.self.found.items c.follow_module.new.self.found.items c.in-Ok.ensures.few.since (reached_of 0 0 c.args.self.now) (reached_of c.loop-place.place 0 c.loop-place.self)
       (reached_of (c.loop-place.place + 1) 0 c.follow_module.new.self) c.in-Ok.ensures.few.kept c.loop-place.invariant.any c.in-Ok.ensures.any;
-  leads = λ honest. leads_through ne_format c.args.registry.now (g.S.Store.files c.args.store.now) (g.S.Store.files c.loop-place.store) c.loop-place.invariant.files (reached (g.S.Store.files c.args.store.now) 0 0 c.args.self.now)
+  leads = λ honest. leads_through ne_format.says c.args.registry.now (g.S.Store.files c.args.store.now) (g.S.Store.files c.loop-place.store) c.loop-place.invariant.files (reached (g.S.Store.files c.args.store.now) 0 0 c.args.self.now)
       (λ fs. reached fs c.loop-place.place 0 c.loop-place.self) (λ fs. reached fs (c.loop-place.place + 1) 0 c.follow_module.new.self) (c.loop-place.invariant.leads honest) (c.in-Ok.ensures.ok honest);
 }
 
@@ -26,7 +26,7 @@ pub returns-clause-ok : goal.returns-clause-ok
 returns-clause-ok g c = λ honest.
     let most : MOST_MODULES ≤ c.loop-place.place = omega (arith, c.from-place-end.ensures, c.loop-place-test.false) in
     let free : free_modules c.args.registry.now ≤ MOST_MODULES = few_free c.args.registry.now in
-    all_done (g.S.Store.files c.args.store.now) ne_format (around_in c.args.registry.now (g.S.Store.files c.args.store.now)) c.loop-place.place c.args.self.now c.loop-place.self
+    all_done (g.S.Store.files c.args.store.now) ne_format.says (around_in c.args.registry.now (g.S.Store.files c.args.store.now)) c.loop-place.place c.args.self.now c.loop-place.self
     (omega (arith, most, free)) (omega (arith, most, c.requires)) (c.loop-place.invariant.leads honest)
 
 pub returns-clause-any : goal.returns-clause-any
@@ -44,5 +44,5 @@ loop-place-init g c = record {
   failures = omega arith;
   few = few_same c.args.registry.now c.args.self.now.found.items;
   any = any_nowhere c.args.registry.now c.args.self.now.found.items (reached_of 0 0 c.args.self.now);
-  leads = λ honest. leads_nowhere ne_format (around_in c.args.registry.now (g.S.Store.files c.args.store.now)) (reached (g.S.Store.files c.args.store.now) 0 0 c.args.self.now);
+  leads = λ honest. leads_nowhere ne_format.says (around_in c.args.registry.now (g.S.Store.files c.args.store.now)) (reached (g.S.Store.files c.args.store.now) 0 0 c.args.self.now);
 }

@@ -8,5 +8,5 @@ invariant-loop-place g l = record {
   failures : g.S.Store.failures l.fn.store ≤ g.S.Store.failures l.store;
   few : FindsFew l.registry l.fn.self.found.items l.self.found.items;
   any : LeadsAny l.registry l.self.found.items (reached_of 0 0 l.fn.self) (reached_of l.place 0 l.self);
-  leads : g.S.Store.is_honest → Leads ne_format (around_in l.registry (g.S.Store.files l.fn.store)) (reached (g.S.Store.files l.fn.store) 0 0 l.fn.self) (reached (g.S.Store.files l.fn.store) l.place 0 l.self);
+  leads : g.S.Store.is_honest → Leads ne_format.says (around_in l.registry (g.S.Store.files l.fn.store)) (reached (g.S.Store.files l.fn.store) 0 0 l.fn.self) (reached (g.S.Store.files l.fn.store) l.place 0 l.self);
 }

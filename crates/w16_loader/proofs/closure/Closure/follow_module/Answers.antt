@@ -10,8 +10,8 @@ pub returns-in-Err-clause-err : goal.returns-in-Err-clause-err
 returns-in-Err-clause-err g c = λ honest.
     let first = reached (g.S.Store.files c.args.store.now) c.args.place 0 c.args.self.now in
     let back : c.loop-done.done + 1 - 1 ≡ c.loop-done.done = omega arith in
-    refused_through ne_format c.args.registry.now (g.S.Store.files c.args.store.now) (g.S.Store.files c.loop-done.store) c.loop-done.invariant.files first (λ fs. reached fs c.args.place (c.loop-done.done + 1 - 1) c.loop-done.self)
-    (subst (λ n. Leads ne_format (around_in c.args.registry.now (g.S.Store.files c.args.store.now))
+    refused_through ne_format.says c.args.registry.now (g.S.Store.files c.args.store.now) (g.S.Store.files c.loop-done.store) c.loop-done.invariant.files first (λ fs. reached fs c.args.place (c.loop-done.done + 1 - 1) c.loop-done.self)
+    (subst (λ n. Leads ne_format.says (around_in c.args.registry.now (g.S.Store.files c.args.store.now))
     (reached (g.S.Store.files c.args.store.now) c.args.place 0 c.args.self.now)
     (reached (g.S.Store.files c.args.store.now) c.args.place n c.loop-done.self)) (sym back)
     (c.loop-done.invariant.leads honest))
@@ -30,9 +30,9 @@ loop-done-preserved g c = record {
       (subst (λ n. LeadsAny c.args.registry.now c.follow_reference.new.self.found.items (reached_of c.args.place n c.loop-done.self) (reached_of c.args.place (c.loop-done.done + 1) c.follow_reference.new.self)) back c.in-Ok.ensures.any);
   leads = λ honest.
       let back : c.loop-done.done + 1 - 1 ≡ c.loop-done.done = omega arith in
-      leads_through ne_format c.args.registry.now (g.S.Store.files c.args.store.now) (g.S.Store.files c.loop-done.store) c.loop-done.invariant.files (reached (g.S.Store.files c.args.store.now) c.args.place 0 c.args.self.now)
+      leads_through ne_format.says c.args.registry.now (g.S.Store.files c.args.store.now) (g.S.Store.files c.loop-done.store) c.loop-done.invariant.files (reached (g.S.Store.files c.args.store.now) c.args.place 0 c.args.self.now)
       (λ fs. reached fs c.args.place (c.loop-done.done + 1 - 1) c.loop-done.self) (λ fs. reached fs c.args.place (c.loop-done.done + 1) c.follow_reference.new.self)
-      (subst (λ n. Leads ne_format (around_in c.args.registry.now (g.S.Store.files c.args.store.now))
+      (subst (λ n. Leads ne_format.says (around_in c.args.registry.now (g.S.Store.files c.args.store.now))
       (reached (g.S.Store.files c.args.store.now) c.args.place 0 c.args.self.now)
       (reached (g.S.Store.files c.args.store.now) c.args.place n c.loop-done.self)) (sym back)
       (c.loop-done.invariant.leads honest))
@@ -42,7 +42,7 @@ loop-done-preserved g c = record {
 pub returns-clause-ok : goal.returns-clause-ok
 returns-clause-ok g c = λ honest.
     let end : c.loop-done.done ≡ c.reference_count-count.result = omega arith in
-    module_done (g.S.Store.files c.args.store.now) c.args.place ne_format (around_in c.args.registry.now (g.S.Store.files c.args.store.now)) c.loop-done.done (reached (g.S.Store.files c.args.store.now) c.args.place 0 c.args.self.now) c.loop-done.self
+    module_done (g.S.Store.files c.args.store.now) c.args.place ne_format.says (around_in c.args.registry.now (g.S.Store.files c.args.store.now)) c.loop-done.done (reached (g.S.Store.files c.args.store.now) c.args.place 0 c.args.self.now) c.loop-done.self
     (end ∙ c.reference_count-count.ensures ∙ ap length (sym c.loop-done.invariant.same)) (c.loop-done.invariant.leads honest)
 
 pub returns-clause-any : goal.returns-clause-any
@@ -60,5 +60,5 @@ loop-done-init g c = record {
   same = refl;
   few = few_same c.args.registry.now c.args.self.now.found.items;
   any = any_nowhere c.args.registry.now c.args.self.now.found.items (reached_of c.args.place 0 c.args.self.now);
-  leads = λ honest. leads_nowhere ne_format (around_in c.args.registry.now (g.S.Store.files c.args.store.now)) (reached (g.S.Store.files c.args.store.now) c.args.place 0 c.args.self.now);
+  leads = λ honest. leads_nowhere ne_format.says (around_in c.args.registry.now (g.S.Store.files c.args.store.now)) (reached (g.S.Store.files c.args.store.now) c.args.place 0 c.args.self.now);
 }

@@ -9,5 +9,5 @@ invariant-loop-done g l = record {
   same : references_at l.self.found.items l.place ≡ references_at l.fn.self.found.items l.place;
   few : FindsFew l.registry l.fn.self.found.items l.self.found.items;
   any : LeadsAny l.registry l.self.found.items (reached_of l.place 0 l.fn.self) (reached_of l.place l.done l.self);
-  leads : g.S.Store.is_honest → Leads ne_format (around_in l.registry (g.S.Store.files l.fn.store)) (reached (g.S.Store.files l.fn.store) l.place 0 l.fn.self) (reached (g.S.Store.files l.fn.store) l.place l.done l.self);
+  leads : g.S.Store.is_honest → Leads ne_format.says (around_in l.registry (g.S.Store.files l.fn.store)) (reached (g.S.Store.files l.fn.store) l.place 0 l.fn.self) (reached (g.S.Store.files l.fn.store) l.place l.done l.self);
 }

@@ -8,7 +8,7 @@ use Rattle.w16_loader.proofs.closure.Closure.follow_reference.Goals as goal
 pub returns-in-Err-clause-err : goal.returns-in-Err-clause-err
 returns-in-Err-clause-err g c = λ honest.
     let at = indexed c.args.self.now.found.items c.args.place c.args.number c.index.result.now c.requires.first c.requires.last c.index.ensures in
-    refused (g.S.Store.files c.args.store.now) c.args.place ne_format (around_in c.args.registry.now (g.S.Store.files c.args.store.now)) c.args.self.now c.index.result.now at.0 c.args.number c.requires.first at.1
+    refused (g.S.Store.files c.args.store.now) c.args.place ne_format.says (around_in c.args.registry.now (g.S.Store.files c.args.store.now)) c.args.self.now c.index.result.now at.0 c.args.number c.requires.first at.1
     c.reference-name.result.now c.reference-name.ensures _ _ c.in-Err.fault (c.in-Err.ensures.err honest)
 
 pub returns-in-Ok-bind-clause-same : goal.returns-in-Ok-bind-clause-same
@@ -19,7 +19,7 @@ returns-in-Ok-bind-clause-same g c =
 pub returns-in-Ok-bind-clause-ok : goal.returns-in-Ok-bind-clause-ok
 returns-in-Ok-bind-clause-ok g c = λ honest.
     let at = indexed c.args.self.now.found.items c.args.place c.args.number c.index.result.now c.requires.first c.requires.last c.index.ensures in
-    follows (g.S.Store.files c.args.store.now) c.args.place ne_format (around_in c.args.registry.now (g.S.Store.files c.args.store.now)) c.args.self.now c.index.result.now at.0 c.args.number c.requires.first at.1
+    follows (g.S.Store.files c.args.store.now) c.args.place ne_format.says (around_in c.args.registry.now (g.S.Store.files c.args.store.now)) c.args.self.now c.index.result.now at.0 c.args.number c.requires.first at.1
     c.reference-name.result.now c.reference-name.ensures c.bind.new.self c.in-Ok.followed c.in-Ok-bind.ensures.found c.in-Ok-bind.ensures.bound
     (c.in-Ok.ensures.ok honest (left_from c.args.place c.args.number (map (found_in (g.S.Store.files c.args.store.now)) c.args.self.now.found.items)) c.args.place)
 

@@ -17,7 +17,7 @@ pub returns-in-Some-clause-step : goal.returns-in-Some-clause-step
 returns-in-Some-clause-step g c = λ is lacks some.
     store_fetch g.S.Store.is_honest (loading_of c.args.global.now.handles c.args.registry.now c.args.self.now (g.S.Store.files c.args.store.now) (g.S.Store.failures c.args.store.now)) (c.args.handle / 8) is
     c.in-Some.source.file.now (entry_of c.in-Some.source.resource) (rw c.slot_of.ensures.value at c.in-Some.ensures.found)
-    c.fetch_from.result c.fetch_from.new.global.handles (g.S.Store.files c.fetch_from.new.store) (g.S.Store.failures c.fetch_from.new.store) c.fetch_from.ensures.stays.same c.fetch_from.ensures.stays.counted
+    c.fetch_from.result c.fetch_from.new.global.handles (g.S.Store.files c.fetch_from.new.store) (g.S.Store.failures c.fetch_from.new.store) c.fetch_from.ensures.stays.same c.fetch_from.ensures.stays.counted c.fetch_from.ensures.device
     (λ rest. c.fetch_from.ensures.any rest lacks) (λ file honest has source. c.fetch_from.ensures.exact file honest has lacks source)
 
 pub returns-in-Some-clause-fewest : goal.returns-in-Some-clause-fewest

@@ -1,6 +1,6 @@
 -- A load is refused, counted, or makes an object; and each such step is one over any store.
 use Rattle.w16_resource.proofs.Common.{LoadResource, OfResources, entry_of, load_in, loading_of, requests_fewest_law, resource_in, sym, word_in, ◌∙◌}
-use Rattle.w16_resource.proofs.Steps.{plain_any, plain_exact, no_source, long_source, again, new_any, new_exact}
+use Rattle.w16_resource.proofs.Steps.{plain_any, plain_exact, no_source, long_source, again, new_any, new_exact, word_is}
 use Rattle.w16_resource.proofs.resources.Resources.load.Goals as goal
 
 pub returns-in_default-clause-any : goal.returns-in_default-clause-any
@@ -82,7 +82,7 @@ returns-in-None-clause-any g c = λ is.
     (g.S.Store.failures c.args.store.now) c.args.handle c.args.place c.in-Some.source.file.now
     (entry_of c.in-Some.source.resource) c.in-Some.ensures.found (sym c.is_too_long.ensures ∙ c.if-is_too_long.false)
     g.S.Store.is_honest c.in-None.ensures.first
-    (word_in c.load_new.result) c.load_new.new.global.handles c.load_new.new.self (g.S.Store.files c.load_new.new.store) (g.S.Store.failures c.load_new.new.store) c.load_new.ensures.stays.same c.load_new.ensures.stays.counted (c.load_new.ensures.made c.in-Some.ensures.found.kind)
+    (word_in c.load_new.result) c.load_new.new.global.handles c.load_new.new.self (g.S.Store.files c.load_new.new.store) (g.S.Store.failures c.load_new.new.store) c.load_new.ensures.stays.same c.load_new.ensures.stays.counted (c.load_new.ensures.made c.in-Some.ensures.found.kind) (word_is c.load_new.result _ c.load_new.ensures.device)
 
 pub returns-in-None-clause-fewest : goal.returns-in-None-clause-fewest
 returns-in-None-clause-fewest g c = λ is. requests_fewest_law
@@ -97,4 +97,4 @@ returns-in-None-clause-exact g c = λ is told.
     (g.S.Store.failures c.args.store.now) c.args.handle c.args.place c.in-Some.source.file.now
     (entry_of c.in-Some.source.resource) c.in-Some.ensures.found (sym c.is_too_long.ensures ∙ c.if-is_too_long.false)
     g.S.Store.is_honest c.in-None.ensures.first
-    (word_in c.load_new.result) c.load_new.new.global.handles c.load_new.new.self (g.S.Store.files c.load_new.new.store) (g.S.Store.failures c.load_new.new.store) c.load_new.ensures.stays.same c.load_new.ensures.stays.counted (c.load_new.ensures.made c.in-Some.ensures.found.kind) told (is.1 told)
+    (word_in c.load_new.result) c.load_new.new.global.handles c.load_new.new.self (g.S.Store.files c.load_new.new.store) (g.S.Store.failures c.load_new.new.store) c.load_new.ensures.stays.same c.load_new.ensures.stays.counted (c.load_new.ensures.made c.in-Some.ensures.found.kind) (word_is c.load_new.result _ c.load_new.ensures.device) told (is.1 told)

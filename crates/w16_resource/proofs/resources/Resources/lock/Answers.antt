@@ -3,7 +3,7 @@ use Rattle.w16_resource.proofs.Common.{Dword, LockResource, None, OfResources, S
 use Rattle.w16_loading.specs.Modules as loading
 use Rattle.w16_resource.proofs.Locked.{lock_is, reads}
 use Rattle.w16_resource.proofs.Named.{named_slot, is_loaded, lacks, present, absent}
-use Rattle.w16_resource.proofs.Steps.{lock_any, lock_exact, unnamed, at_once, fetched_any, fetched_exact}
+use Rattle.w16_resource.proofs.Steps.{lock_any, lock_exact, unnamed, at_once, fetched_any, fetched_exact, dword_is, dword_not_failed}
 use Rattle.w16_resource.proofs.resources.Resources.lock.Goals as goal
 
 pub returns-in_default-clause-any : goal.returns-in_default-clause-any
@@ -74,6 +74,7 @@ returns-in-Ok-clause-any g c = λ is.
     c.fetch.ensures.stays.counted
     (Dword c.global_lock-in-Ok.result) c.global_lock-in-Ok.new.self.handles
     (lock_is (loading_of c.fetch.new.global.handles c.args.registry.now c.args.self.now (g.S.Store.files c.fetch.new.store) (g.S.Store.failures c.args.store.now)) c.args.handle c.global_lock-in-Ok.result c.global_lock-in-Ok.new.self.handles c.global_lock-in-Ok.ensures.step)
+    (λ e. absurd (dword_not_failed c.global_lock-in-Ok.result e))
     (c.in-Ok.ensures.fewest is (lacks (loading_of c.args.global.now.handles c.args.registry.now c.args.self.now
     (g.S.Store.files c.args.store.now) (g.S.Store.failures c.args.store.now)) c.args.handle x found is none)
     (ap is_some (is_loaded (loading_of c.args.global.now.handles c.args.registry.now c.args.self.now
@@ -98,6 +99,7 @@ returns-in-Ok-clause-exact g c = λ is told.
     c.fetch.ensures.stays.counted
     (Dword c.global_lock-in-Ok.result) c.global_lock-in-Ok.new.self.handles
     (lock_is (loading_of c.fetch.new.global.handles c.args.registry.now c.args.self.now (g.S.Store.files c.fetch.new.store) (g.S.Store.failures c.args.store.now)) c.args.handle c.global_lock-in-Ok.result c.global_lock-in-Ok.new.self.handles c.global_lock-in-Ok.ensures.step)
+    (λ e. absurd (dword_not_failed c.global_lock-in-Ok.result e))
     ((c.in-Ok.ensures.step is (lacks (loading_of c.args.global.now.handles c.args.registry.now c.args.self.now
     (g.S.Store.files c.args.store.now) (g.S.Store.failures c.args.store.now)) c.args.handle x found is.0 none)
     (ap is_some (is_loaded (loading_of c.args.global.now.handles c.args.registry.now c.args.self.now
@@ -116,7 +118,8 @@ returns-in-Err-clause-any g c = λ is.
     (g.S.Store.files c.fetch.new.store) (g.S.Store.failures c.fetch.new.store) c.fetch.ensures.stays.same
     c.fetch.ensures.stays.counted
     (dword_in c.refusal.result) c.fetch.new.global.handles
-    (c.refusal.ensures c.args.handle (loading_of c.fetch.new.global.handles c.args.registry.now c.args.self.now (g.S.Store.files c.fetch.new.store) (g.S.Store.failures c.args.store.now)))
+    (c.refusal.ensures.answer c.args.handle (loading_of c.fetch.new.global.handles c.args.registry.now c.args.self.now (g.S.Store.files c.fetch.new.store) (g.S.Store.failures c.args.store.now)))
+    (dword_is c.refusal.result c.in-Err.fault _ c.refusal.ensures.told c.in-Err.ensures.device)
     (c.in-Err.ensures.fewest is (lacks (loading_of c.args.global.now.handles c.args.registry.now c.args.self.now
     (g.S.Store.files c.args.store.now) (g.S.Store.failures c.args.store.now)) c.args.handle x found is none)
     (ap is_some (is_loaded (loading_of c.args.global.now.handles c.args.registry.now c.args.self.now
@@ -140,7 +143,8 @@ returns-in-Err-clause-exact g c = λ is told.
     (g.S.Store.files c.fetch.new.store) (g.S.Store.failures c.fetch.new.store) c.fetch.ensures.stays.same
     c.fetch.ensures.stays.counted
     (dword_in c.refusal.result) c.fetch.new.global.handles
-    (c.refusal.ensures c.args.handle (loading_of c.fetch.new.global.handles c.args.registry.now c.args.self.now (g.S.Store.files c.fetch.new.store) (g.S.Store.failures c.args.store.now)))
+    (c.refusal.ensures.answer c.args.handle (loading_of c.fetch.new.global.handles c.args.registry.now c.args.self.now (g.S.Store.files c.fetch.new.store) (g.S.Store.failures c.args.store.now)))
+    (dword_is c.refusal.result c.in-Err.fault _ c.refusal.ensures.told c.in-Err.ensures.device)
     ((c.in-Err.ensures.step is (lacks (loading_of c.args.global.now.handles c.args.registry.now c.args.self.now
     (g.S.Store.files c.args.store.now) (g.S.Store.failures c.args.store.now)) c.args.handle x found is.0 none)
     (ap is_some (is_loaded (loading_of c.args.global.now.handles c.args.registry.now c.args.self.now
