@@ -1,10 +1,7 @@
 -- Bytes by their number, in parts of lists; and bytes of one object at two times.
-use Rattle.std.proofs.Common.{◌≡◌, ℕ, zero, suc, ◌+◌, ◌-◌, ◌<◌, ◌≤◌, ◌⊎◌, inl, inr, Bool, true, List, [], ◌∷◌, length, take, drop, Option, Some, None, get_or, unwrap_or, is_some, IsSomeAnd, refl, sym, ap, ◌∙◌, arith}
-use Rattle.std.specs.List.{slice_get, slice_range}
+use Rattle.w16_model.proofs.Common.{◌≡◌, ℕ, zero, suc, ◌+◌, ◌-◌, ◌<◌, ◌≤◌, ◌⊎◌, inl, inr, Bool, true, false, List, [], ◌∷◌, length, take, drop, Option, Some, None, get_or, unwrap_or, is_some, IsSomeAnd, refl, sym, ap, ◌∙◌, arith, slice_get, slice_range, false≢true, part, MatchBool, MatchOption}
+use Rattle.w16_model.proofs.Common.{IsWritten, AreResized}
 use Rattle.std.proofs.lemmas.Option.{slice_get_within, slice_get-get_or}
-use Rattle.w16_loading.proofs.Common.{false≢true, part}
-use Rattle.w16_model.specs.CallLaws.{IsWritten}
-use Rattle.w16_model.specs.Reallocation.{AreResized}
 use Rattle.w16_model.specs.Table.{IsSameOutside}
 use Rattle.w16_writes.specs.LastWrite.{byte_in}
 
@@ -69,6 +66,23 @@ module _ (before : List ℕ) (at : ℕ) (slice after : List ℕ) (w : IsWritten 
       | inr above ↦ get-above (at + length slice) before after i w.above above
     ]
   ]
+
+-- what holds by cases
+pub some_such : {A : Type 0} {P : A → Type 0} (p : Option A) → IsSomeAnd p P → (a : A) × (p ≡ Some a) × P a
+some_such None h = absurd h
+some_such (Some a) h = (a, refl, h)
+
+pub either : {P Q : Type 0} (b : Bool) → MatchBool b P Q → P ⊎ Q
+either true h = inl h
+either false h = inr h
+
+pub none_or : {A N : Type 0} {S : A → Type 0} (p : Option A) → MatchOption p N S → N ⊎ ((a : A) × S a)
+none_or None h = inl h
+none_or (Some a) h = inr (a, h)
+
+pub which : {A : Type 0} (p : Option A) → (p ≡ None) ⊎ ((a : A) × (p ≡ Some a))
+which None = inl refl
+which (Some a) = inr (a, refl)
 
 -- an option has one value
 pub only : {A : Type 0} {o : Option A} {a b : A} → o ≡ Some a → o ≡ Some b → a ≡ b

@@ -1,20 +1,10 @@
 -- Calls on handles: each object's bytes before and after agree, wherever it went.
-use Rattle.w16_model.proofs.Common.{◌≡◌, ◌≢◌, ℕ, ◌⊎◌, inl, inr, true, false, Bool, IsSomeAnd, List, [], option_map, absent, may_change, Option, Some, None, is_some, unwrap_or, refl, sym, ap, ◌∙◌, subst, cases_eq}
-use Rattle.w16_model.proofs.Common.{Heap, Object, object_at, bytes_at, with_newest, Handles, AreHandles, Answer, rounded_size, kind_asked, alloc_options, KeepsRest, realloc_options, Call, CallStep, Outcome, Resized}
-use Rattle.w16_model.proofs.Common.{next_slot, IsSame, IsUnmoved, IsLocked, IsUnlocked, IsFreed, IsNewest, IsOldest, IsEntered, IsAllocated, IsCompacted, IsModified, IsDiscarded, IsResized, IsKeptOrDiscarded}
-use Rattle.w16_model.specs.declared.Kind.TheVariants.{Discardable}
+use Rattle.w16_model.proofs.Common.{◌≡◌, ◌≢◌, ℕ, ◌⊎◌, inl, inr, false, Bool, IsSomeAnd, List, [], option_map, absent, may_change, Option, Some, None, is_some, unwrap_or, refl, sym, ap, ◌∙◌, subst, cases_eq, Heap, Object, object_at, bytes_at, with_newest, Handles, AreHandles, Answer, rounded_size}
+use Rattle.w16_model.proofs.Common.{kind_asked, alloc_options, KeepsRest, realloc_options, Call, CallStep, Outcome, Resized, next_slot, IsSame, IsUnmoved, IsLocked, IsUnlocked, IsFreed, IsNewest, IsOldest, IsEntered, IsAllocated, IsCompacted, IsModified, IsDiscarded, IsResized, IsKeptOrDiscarded}
 use Rattle.w16_model.specs.Reallocation.{AreResized, IsResized as IsObjectResized}
-use Rattle.w16_model.proofs.Bystanders.{kept_or_discarded}
+use Rattle.w16_loading.proofs.Common.{kept_or_discarded, outcome, get-update_same, get-update_other, was_free, inserted_other, taken_here, taken_other, bytes_in, IsFreeRun, slots_for, KeepsOthers, others_law, some_slots, unused}
 use Rattle.w16_model.proofs.CallLaws.{contents, followed, next_other, next_own, object_beside, object_first, rest_of}
-use Rattle.w16_model.proofs.CallOutcomes.{outcome}
-use Rattle.w16_model.proofs.Heaps.{get-update_same, get-update_other}
-use Rattle.w16_model.proofs.Housed.{was_free}
-use Rattle.w16_model.proofs.KeptHeaps.{inserted_other, taken_here, taken_other, bytes_in}
-use Rattle.w16_model.specs.Handles.{IsFreeRun, slots_for}
-use Rattle.w16_model.specs.Law.{KeepsOthers}
-use Rattle.w16_model.proofs.Others.{others_law}
-use Rattle.w16_model.proofs.Runs.{some_slots, unused}
-use Rattle.w16_writes.proofs.Bytes.{Agree, agree_same, agree_gone, agree_new, agree_resized}
+use Rattle.w16_writes.proofs.Bytes.{some_such, which, Agree, agree_same, agree_gone, agree_new, agree_resized}
 
 pub same_object : {o p : Option Object} → p ≡ o → Agree (bytes_in o) (bytes_in p)
 same_object e = agree_same (ap bytes_in e)
@@ -31,19 +21,16 @@ HeapsAgree old new q = Agree (bytes_at old q) (bytes_at new q)
 
 pub kept_agrees : (old new : Heap) (q : ℕ) → IsKeptOrDiscarded old new q → HeapsAgree old new q
 kept_agrees old new q (inl e) = same_object e
-kept_agrees old new q (inr h) = turn (object_at old q) h
-  where
-    turn : (p : Option Object) → IsSomeAnd p (λ o. (o.kind ≡ Discardable) × (o.locks ≡ 0) × (is_some o.bytes ≡ true) × (object_at new q ≡ Some (record o { bytes = None }))) → HeapsAgree old new q
-    turn None h = absurd h
-    turn (Some o) h = agree_gone (ap bytes_in h.3)
+kept_agrees old new q (inr h) = agree_gone (ap bytes_in (some_such (object_at old q) h).2.3)
+
+pub kept : {old new : Heap} {slot : Option ℕ} {count : ℕ} (q : ℕ) → KeepsOthers old slot count new → (slot ≡ Some q → ⊥) → HeapsAgree old new q
+kept {old} {new} {slot} {count} q others d = kept_agrees old new q (kept_or_discarded old new slot count q others d)
 
 -- of the object that gets another size
 pub object_resized : (n : ℕ) (zero : Bool) {o : Object} (old new : Heap) (id q : ℕ) → q ≡ id → object_at old id ≡ Some o → IsSomeAnd (object_at new id) (IsObjectResized zero n o) → HeapsAgree old new q
-object_resized n zero {o} old new id q e there r = subst (HeapsAgree old new) (sym e) (subst (λ b. Agree b (bytes_at new id)) (sym (ap bytes_in there)) (agree_resized zero n o.bytes _ (turn (object_at new id) r)))
-  where
-    turn : (p : Option Object) → IsSomeAnd p (IsObjectResized zero n o) → IsSomeAnd (bytes_in p) (AreResized zero n (unwrap_or o.bytes []))
-    turn None r = absurd r
-    turn (Some p) r = r.bytes
+object_resized n zero {o} old new id q e there r =
+    let (p, f, r) = some_such (object_at new id) r in
+    subst (HeapsAgree old new) (sym e) (subst (λ b. Agree b (bytes_at new id)) (sym (ap bytes_in there)) (agree_resized zero n o.bytes _ (subst (λ p. IsSomeAnd (bytes_in p) (AreResized zero n (unwrap_or o.bytes []))) (sym f) r.bytes)))
 
 -- of one that loses its bytes
 pub object_absent : (old : Heap) (id q : ℕ) → HeapsAgree old (absent old id) q
@@ -73,21 +60,17 @@ module _ (old new : Handles) (is : AreHandles old) (call : Call) (answer : Answe
 
   resized_agrees : Resized old call answer new → (q : ℕ) → FollowedAgree q
   resized_agrees r q = elim (cases_eq q r.slot) [
-    | inl e ↦ at_slot (ap (λ q. bytes_at new.heap (goes q)) e ∙ ap (bytes_at new.heap) (next_own old new is call answer r) ∙ ap bytes_in (object_first old new is call answer r) ∙ ap (bytes_at r.heap) (sym e))
+    | inl e ↦ subst (Agree (bytes_at old.heap q)) (sym (ap (λ q. bytes_at new.heap (goes q)) e ∙ ap (bytes_at new.heap) (next_own old new is call answer r) ∙ ap bytes_in (object_first old new is call answer r) ∙ ap (bytes_at r.heap) (sym e)))
         (object_resized _ _ old.heap r.heap r.slot q e r.named.there k.object)
-    | inr d ↦ beside d (object_at old.heap q) refl
+    | inr d ↦ elim (which (object_at old.heap q)) [
+      | inl e ↦ had_no_object e
+      | inr (o, e) ↦ subst (Agree (bytes_at old.heap q)) (sym (ap (bytes_at new.heap) (next_other old new is call answer r q d) ∙ ap bytes_in (object_beside old new is call answer r q (ap is_some e) d)))
+          (kept q k.others (apart d))
+    ]
   ]
     where
       k : KeepsRest old.heap r.slot (rounded_size r.size) r.object (realloc_options r.flags) r.heap
       k = rest_of old new is call answer r
-
-      at_slot : {b : Option (List ℕ)} → b ≡ bytes_at r.heap q → HeapsAgree old.heap r.heap q → Agree (bytes_at old.heap q) b
-      at_slot e agree = subst (Agree (bytes_at old.heap q)) (sym e) agree
-
-      beside : q ≢ r.slot → (p : Option Object) → object_at old.heap q ≡ p → FollowedAgree q
-      beside d None e = had_no_object e
-      beside d (Some o) e = at_slot (ap (bytes_at new.heap) (next_other old new is call answer r q d) ∙ ap bytes_in (object_beside old new is call answer r q (ap is_some e) d))
-          (kept_agrees old.heap r.heap q (kept_or_discarded old.heap r.heap (Some r.slot) k.count q k.others (apart d)))
 
   call_agrees_at : (q : ℕ) → ((s : ℕ) → goes s ≡ s) → Outcome old call answer new → HeapsAgree old.heap new.heap q
   call_agrees_at q stays made = by made
@@ -103,9 +86,6 @@ module _ (old new : Handles) (is : AreHandles old) (call : Call) (answer : Answe
 
       fresh : (slot size : ℕ) → q ≡ slot → IsFreeRun old slot (slots_for (rounded_size size)) → Agrees
       fresh slot size e free = had_no_object (ap (object_at old.heap) e ∙ unused old is slot (slots_for (rounded_size size)) (some_slots (rounded_size size)) free)
-
-      kept : (slot : Option ℕ) (count : ℕ) → KeepsOthers old.heap slot count new.heap → (slot ≡ Some q → ⊥) → Agrees
-      kept slot count others d = kept_agrees old.heap new.heap q (kept_or_discarded old.heap new.heap slot count q others d)
 
       by : Outcome old call answer new → Agrees
       by (IsSame s e) = same e refl
@@ -124,9 +104,9 @@ module _ (old new : Handles) (is : AreHandles old) (call : Call) (answer : Answe
       ]
       by (IsAllocated a) = elim (cases_eq q a.slot) [
         | inl same ↦ fresh a.slot a.size same a.free
-        | inr d ↦ kept (Some a.slot) a.count ((others_law old.heap new.heap is.heap a.count).0 a.slot (alloc_options a.flags) a.object (with_newest a.slot a.object) a.settled) (apart d)
+        | inr d ↦ kept q ((others_law old.heap new.heap is.heap a.count).0 a.slot (alloc_options a.flags) a.object (with_newest a.slot a.object) a.settled) (apart d)
       ]
-      by (IsCompacted c) = kept None c.count ((others_law old.heap new.heap is.heap c.count).1 c.settled) none_apart
+      by (IsCompacted c) = kept q ((others_law old.heap new.heap is.heap c.count).1 c.settled) none_apart
       by (IsModified m) = elim (cases_eq q m.slot) [
         | inl e ↦ agree_same (ap (bytes_at new.heap) e ∙ ap bytes_in m.changes.object ∙ sym (ap (bytes_at old.heap) e ∙ ap bytes_in m.named.there))
         | inr d ↦ same_object (m.changes.others q d)

@@ -1,12 +1,8 @@
 -- What every run promises: of no step, of one, and of runs that go on.
 use Rattle.std.proofs.Common.{List, [], ◌∷◌, ◌++◌, refl}
 use Rattle.std.specs.List.{AllByRecursion as Each}
-use Rattle.w16_loading.specs.File.{Format}
-use Rattle.w16_loading.specs.Replies.{Reply}
-use Rattle.w16_machine.specs.World.{World}
-use Rattle.w16_machine.specs.Law.{IsWorld}
+use Rattle.w16_machine.proofs.Common.{Format, Reply, World, IsWorld, Each-from_All}
 use Rattle.w16_machine.specs.Machine.{Command, EachStep, Event, IsCommand, Run, Step, Steps}
-use Rattle.w16_machine.proofs.Common.{Each-from_All}
 use Rattle.w16_machine.proofs.Apart.{apart_law}
 use Rattle.w16_machine.proofs.Bystanders.{step_spares_law}
 use Rattle.w16_machine.proofs.Discards.{step_fewest}

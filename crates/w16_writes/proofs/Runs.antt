@@ -1,7 +1,6 @@
 -- Steps that each keep what is written read back what they write.
 use Rattle.std.proofs.Common.{◌≡◌, ℕ, List, [], ◌∷◌, ◌++◌, Some, ◌∙◌, subst}
-use Rattle.w16_machine.specs.Machine.{Event}
-use Rattle.w16_machine.specs.World.{World}
+use Rattle.w16_machine.proofs.Common.{Event, World}
 use Rattle.w16_writes.proofs.Bytes.{only}
 use Rattle.w16_writes.specs.LastWrite.{Position, AllKeepWritten, IsThere, IsUndisturbed, Reads, ReadsBackLaw, Writes, byte_at, position_after, position_after_all, world_after}
 

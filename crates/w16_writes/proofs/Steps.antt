@@ -1,23 +1,19 @@
--- Each step keeps what is written, and so does each step of a run.
-use Rattle.w16_machine.proofs.Common.{◌≡◌, ◌≢◌, ℕ, ◌+◌, ◌<◌, ◌≤◌, ◌⊎◌, inl, inr, Bool, true, false, cond, ◌&&◌, nat_le, nat_lt, IsSomeAnd, List, [], ◌∷◌, length, Option, Some, None, is_some, option_map, refl, sym, ap, ◌∙◌, subst, cases_eq}
-use Rattle.w16_machine.proofs.Common.{false≢true, le-leb, lt-ltb, IfSome, IsLocalIn, Each-from_All, bytes_in, Object, bytes_at, object_at, Table, heap_in, LoadingCommand, Format, Reply, World, IsWorld, LocalHeap, current_heap, heap_of}
-use Rattle.w16_machine.proofs.Common.{local_in, segment_bytes, LocalCommand, LocalStep, IsObjectKept, KeepsRest, Event, IsCommand, Run, Step, OfLoading, OfLocals, arith, IsLeftByGrowth, KeepsRestLonger}
-use Rattle.std.specs.FinMap as finmap
-use Rattle.std.specs.List.{slice_get, AllByRecursion as Each}
+-- Each step keeps what is written.
+use Rattle.w16_machine.proofs.Common.{◌≡◌, ◌≢◌, ℕ, ◌+◌, ◌<◌, ◌≤◌, ◌⊎◌, inl, inr, Bool, true, false, cond, ◌&&◌, nat_le, nat_lt, IsSomeAnd, List, [], length, Option, Some, None, is_some, option_map, refl, sym, ap, ◌∙◌, subst, cases_eq, false≢true, IfSome, IsLocalIn}
+use Rattle.w16_machine.proofs.Common.{bytes_in, Object, bytes_at, object_at, Table, heap_in, LoadingCommand, Format, Reply, World, IsWorld, LocalHeap, current_heap, heap_of, local_in, segment_bytes, LocalCommand, LocalStep, IsObjectKept, KeepsRest, Event, Step}
+use Rattle.w16_machine.proofs.Common.{OfLoading, OfLocals, arith, IsLeftByGrowth, KeepsRestLonger}
+use Rattle.std.specs.List.{slice_get}
 use Rattle.w16_machine.proofs.Bystanders.{other_same}
 use Rattle.w16_machine.proofs.LocalFacts.{current_there, local_here, local_there, there_local}
 use Rattle.w16_machine.proofs.LocalFrame.{frame_law}
 use Rattle.w16_machine.proofs.LocalGoes.{goes_law}
 use Rattle.w16_machine.proofs.LocalLonger.{leaves_longer}
 use Rattle.w16_machine.proofs.Worlds.{world_law}
-use Rattle.w16_writes.specs.LastWrite.{Access, AllKeepWritten, Has, IsThere, KeepsWritten, Position, RunLaw, StepLaw, byte_at, byte_in, is_in_range, place_at, position_after, read, slot_after_step, written}
-use Rattle.w16_writes.proofs.Bytes.{only, get-below, get-outside, inside, split}
+use Rattle.w16_writes.specs.LastWrite.{Access, Has, IsThere, KeepsWritten, Position, StepLaw, byte_at, byte_in, is_in_range, place_at, position_after, read, slot_after_step, written}
+use Rattle.w16_writes.proofs.Bytes.{which, some_such, only, get-below, get-outside, inside}
 use Rattle.w16_writes.proofs.Locals.{local_agrees, segment_byte}
 use Rattle.w16_writes.proofs.Segments.{get, HasIn, KeepsSegments, loading_keeps}
-
-some_such : {A : Type 0} {P : A → Type 0} (p : Option A) → IsSomeAnd p P → (a : A) × (p ≡ Some a) × P a
-some_such None h = absurd h
-some_such (Some a) h = (a, refl, h)
+use Rattle.std.specs.FinMap as finmap
 
 abbrev position : ℕ → Option ℕ → ℕ → Position
 position slot entry offset = record { slot = slot; entry = entry; offset = offset }
@@ -28,6 +24,10 @@ byte_of entry offset l = elim l [ None ↦ None | Some at ↦ byte_in (bytes_at 
 
 abbrev place_of : ℕ → ℕ → Option LocalHeap → Option ℕ
 place_of entry offset l = elim l [ None ↦ None | Some at ↦ option_map (λ begin. begin + offset) (finmap.get (heap_of at).places entry) ]
+
+there_in : (entry offset : ℕ) (l : Option LocalHeap) → is_some (byte_of entry offset l) ≡ true → (at : LocalHeap) × (l ≡ Some at) × (is_some (byte_of entry offset (Some at)) ≡ true)
+there_in entry offset None t = absurd (false≢true t)
+there_in entry offset (Some at) t = (at, refl, t)
 
 -- A position that is there lies at a place of its segment, and has the byte there.
 record IsLocated (w : World) (p : Position) : Type 0 where
@@ -49,19 +49,16 @@ module _ (w : World) (is : IsWorld w) where
 
   located : (slot : ℕ) (entry : Option ℕ) (offset : ℕ) → IsThere w (position slot entry offset) → IsLocated w (position slot entry offset)
   located slot None offset there = record { at = offset; place = refl; byte = byte_outside slot offset there }
-  located slot (Some entry) offset there = turn (local_in w slot) refl there
-    where
-      turn : (l : Option LocalHeap) → local_in w slot ≡ l → is_some (byte_of entry offset l) ≡ true → IsLocated w (position slot (Some entry) offset)
-      turn None e t = absurd (false≢true t)
-      turn (Some at) e t =
-          let here = local_there w slot at e in
-          let table = local_here w is.heaps at here.0 in
-          let (begin, place, byte) = segment_byte at.table table.0.sound.table at.bytes table.1 entry offset t in
-          record {
-            at = begin + offset;
-            place = ap (place_of entry offset) e ∙ ap (option_map (λ begin. begin + offset)) place;
-            byte = ap (byte_of entry offset) e ∙ byte ∙ sym (ap (λ b. byte_in b (begin + offset)) (ap (segment_bytes w) (sym here.1) ∙ here.0.bytes));
-          }
+  located slot (Some entry) offset there =
+      let (at, e, t) = there_in entry offset (local_in w slot) there in
+      let here = local_there w slot at e in
+      let table = local_here w is.heaps at here.0 in
+      let (begin, place, byte) = segment_byte at.table table.0.sound.table at.bytes table.1 entry offset t in
+      record {
+        at = begin + offset;
+        place = ap (place_of entry offset) e ∙ ap (option_map (λ begin. begin + offset)) place;
+        byte = ap (byte_of entry offset) e ∙ byte ∙ sym (ap (λ b. byte_in b (begin + offset)) (ap (segment_bytes w) (sym here.1) ∙ here.0.bytes));
+      }
 
   lies : (p : Position) → IsThere w p → IsLocated w p
   lies p there = located p.slot p.entry p.offset there
@@ -107,31 +104,35 @@ module _ (format : Format) (old new : World) (command : LoadingCommand) (reply :
 
   one_place : (slot : ℕ) (entry : Option ℕ) (offset : ℕ) → IsThere old (position slot entry offset) → IsThere new (position (next slot) entry offset) → place_at new (position (next slot) entry offset) ≡ place_at old (position slot entry offset)
   one_place slot None offset t u = refl
-  one_place slot (Some entry) offset t u = in_heaps (local_in old slot) (local_in new (next slot)) refl refl t u
-    where
-      in_heaps : (l m : Option LocalHeap) → local_in old slot ≡ l → local_in new (next slot) ≡ m → is_some (byte_of entry offset l) ≡ true → is_some (byte_of entry offset m) ≡ true → place_of entry offset m ≡ place_of entry offset l
-      in_heaps None m e f t u = absurd (false≢true t)
-      in_heaps (Some at) None e f t u = absurd (false≢true u)
-      in_heaps (Some at) (Some after) e f t u =
-          let had = local_there old slot at e in
-          let has = local_there new (next slot) after f in
-          let stood : finmap.get old.heaps after.slot ≡ Some after.table = ((goes_law format old new command reply step after.slot after.table).0 has.0.table).0 in
-          let home : next slot ≡ slot = keeps_slot slot after.table (ap (finmap.get old.heaps) (sym has.1) ∙ stood) in
-          ap (λ (t : Table). option_map (λ begin. begin + offset) (finmap.get (heap_in t []).places entry)) (only stood (ap (finmap.get old.heaps) (has.1 ∙ home ∙ sym had.1) ∙ had.0.table))
+  one_place slot (Some entry) offset t u =
+      let (at, e, t) = there_in entry offset (local_in old slot) t in
+      let (after, f, u) = there_in entry offset (local_in new (next slot)) u in
+      let had = local_there old slot at e in
+      let has = local_there new (next slot) after f in
+      let stood : finmap.get old.heaps after.slot ≡ Some after.table = ((goes_law format old new command reply step after.slot after.table).0 has.0.table).0 in
+      let home : next slot ≡ slot = keeps_slot slot after.table (ap (finmap.get old.heaps) (sym has.1) ∙ stood) in
+      ap (place_of entry offset) f
+      ∙ ap (λ (t : Table). option_map (λ begin. begin + offset) (finmap.get (heap_in t []).places entry)) (only stood (ap (finmap.get old.heaps) (has.1 ∙ home ∙ sym had.1) ∙ had.0.table))
+      ∙ sym (ap (place_of entry offset) e)
 
   -- so what it leaves of segments it leaves of positions
   loading_kept : KeepsWritten old event
-  loading_kept = record { written = placed new now (written (OfLoading command) reply) segments.put; read = placed old is (read (OfLoading command) reply) segments.got; kept = kept }
-    where
-      kept : (p : Position) → IsThere old p → IsThere new (position_after old event p) → ((byte : ℕ) → IsSomeAnd (written (OfLoading command) reply) (Has new (position_after old event p) byte) → ⊥) → byte_at new (position_after old event p) ≡ byte_at old p
-      kept p was there out =
-          let l = lies old is p was in
-          let m = lies new now (position_after old event p) there in
-          let same : m.at ≡ l.at = only m.place (one_place p.slot p.entry p.offset was there ∙ l.place) in
-          let still : byte_in (segment_bytes old p.slot) m.at ≡ byte_at old p = ap (byte_in (segment_bytes old p.slot)) same ∙ sym l.byte in
-          m.byte ∙ segments.kept p.slot m.at (ap is_some still ∙ was) (ap is_some (sym m.byte) ∙ there)
-          (λ byte h. out byte (some_as (written (OfLoading command) reply) (from_place new (position_after old event p) m byte there) h))
-          ∙ still
+  loading_kept = record {
+    written = placed new now (written (OfLoading command) reply) segments.put;
+    read = placed old is (read (OfLoading command) reply) segments.got;
+    kept = λ p was there out.
+        let l = lies old is p was in
+        let q = position_after old event p in
+        let m = lies new now q there in
+        let same : m.at ≡ l.at = only m.place (one_place p.slot p.entry p.offset was there ∙ l.place) in
+        let still : byte_in (segment_bytes old p.slot) m.at ≡ byte_at old p = ap (byte_in (segment_bytes old p.slot)) same ∙ sym l.byte in
+        m.byte ∙ segments.kept p.slot m.at (ap is_some still ∙ was) (ap is_some (sym m.byte) ∙ there)
+        (λ byte h. out byte (some_as (written (OfLoading command) reply) (from_place new q m byte there) h))
+        ∙ still;
+  }
+
+side : (lo hi offset : ℕ) → (nat_le lo offset && nat_lt offset hi) ≡ false → (offset < lo) ⊎ (hi ≤ offset)
+side lo hi offset e = grind arith
 
 -- A local call.
 module _ (old new : World) (command : LocalCommand) (reply : Reply) (is : IsWorld old) (now : IsWorld new) (step : LocalStep old command reply new) where
@@ -140,18 +141,9 @@ module _ (old new : World) (command : LocalCommand) (reply : Reply) (is : IsWorl
     abbrev IsStill : Type 0
     IsStill = byte_in (segment_bytes new slot) offset ≡ byte_in (segment_bytes old slot) offset
 
-    side : (t : Table) → (nat_le t.lo offset && nat_lt offset t.hi) ≡ false → (offset < t.lo) ⊎ (t.hi ≤ offset)
-    side t e = elim (split offset t.lo) [
-      | inl lt ↦ inl lt
-      | inr le ↦ elim (split offset t.hi) [
-        | inl lt ↦ absurd (false≢true (sym e ∙ (λ i. le-leb t.lo offset le i && lt-ltb offset t.hi lt i)))
-        | inr high ↦ inr high
-      ]
-    ]
-
     -- it lies below the current heap or above it
     beside : (at : LocalHeap) → current_heap old ≡ Some at → at.slot ≡ slot → (offset < at.table.lo) ⊎ (at.table.hi ≤ offset)
-    beside at c mine = side at.table (ap (λ t. is_in_range t offset) (sym (ap (finmap.get old.heaps) (sym mine) ∙ (current_there old at c).table)) ∙ out)
+    beside at c mine = side at.table.lo at.table.hi offset (ap (λ t. is_in_range t offset) (sym (ap (finmap.get old.heaps) (sym mine) ∙ (current_there old at c).table)) ∙ out)
 
     becomes : {before after : List ℕ} → segment_bytes old slot ≡ Some before → segment_bytes new slot ≡ Some after → slice_get after offset ≡ slice_get before offset → IsStill
     becomes e f same = ap (λ b. byte_in b offset) f ∙ same ∙ sym (ap (λ b. byte_in b offset) e)
@@ -192,22 +184,18 @@ module _ (old new : World) (command : LocalCommand) (reply : Reply) (is : IsWorl
       let was = byte_outside old is slot offset t in
       let there = byte_outside new now slot offset u in
       there ∙ same_outside slot offset (outside old is slot offset t) (ap is_some (sym was) ∙ t) (ap is_some (sym there) ∙ u) (frame_law old new command reply is.heaps step) ∙ sym was
-  local_kept slot (Some entry) offset t u = in_heaps (local_in old slot) (local_in new slot) refl refl t u
-    where
-      in_heap : (at after : LocalHeap) → local_in old slot ≡ Some at → local_in new slot ≡ Some after → is_some (byte_of entry offset (Some at)) ≡ true → is_some (byte_of entry offset (Some after)) ≡ true → (c : Option LocalHeap) → current_heap old ≡ c
-          → byte_of entry offset (Some after) ≡ byte_of entry offset (Some at)
-      in_heap at after e f t u None d = ap (λ h. byte_of entry offset (Some h)) (other_same old new command reply is step slot at after e f (λ c g. let never : ◌≡◌ {A = Option LocalHeap} None (Some c) = sym d ∙ g in cc))
-      in_heap at after e f t u (Some c) d = elim (cases_eq c.slot slot) [
-        | inl s ↦
-            let mine : current_heap old ≡ Some at = d ∙ sym (there_local old c (current_there old c d)) ∙ ap (local_in old) s ∙ e in
-            (local_agrees old new is.heaps command reply step at after mine (ap (local_in new) (local_there old slot at e).1 ∙ f) entry).one offset t u
-        | inr s ↦ ap (λ h. byte_of entry offset (Some h)) (other_same old new command reply is step slot at after e f (λ b g. subst (λ (h : LocalHeap). h.slot ≢ slot) (only d g) s))
-      ]
-
-      in_heaps : (l m : Option LocalHeap) → local_in old slot ≡ l → local_in new slot ≡ m → is_some (byte_of entry offset l) ≡ true → is_some (byte_of entry offset m) ≡ true → byte_of entry offset m ≡ byte_of entry offset l
-      in_heaps None m e f t u = absurd (false≢true t)
-      in_heaps (Some at) None e f t u = absurd (false≢true u)
-      in_heaps (Some at) (Some after) e f t u = in_heap at after e f t u (current_heap old) refl
+  local_kept slot (Some entry) offset t u =
+      let (at, e, t) = there_in entry offset (local_in old slot) t in
+      let (after, f, u) = there_in entry offset (local_in new slot) u in
+      let stays : ((c : LocalHeap) → current_heap old ≡ Some c → c.slot ≢ slot) → byte_of entry offset (Some after) ≡ byte_of entry offset (Some at) = λ g. ap (λ h. byte_of entry offset (Some h)) (other_same old new command reply is step slot at after e f g) in
+      let same : byte_of entry offset (Some after) ≡ byte_of entry offset (Some at) = elim (which (current_heap old)) [
+        | inl d ↦ stays (λ c g. let never : ◌≡◌ {A = Option LocalHeap} None (Some c) = sym d ∙ g in cc)
+        | inr (c, d) ↦ elim (cases_eq c.slot slot) [
+          | inl s ↦ (local_agrees old new is.heaps command reply step at after (d ∙ sym (there_local old c (current_there old c d)) ∙ ap (local_in old) s ∙ e) (ap (local_in new) (local_there old slot at e).1 ∙ f) entry).one offset t u
+          | inr s ↦ stays (λ b g. subst (λ (h : LocalHeap). h.slot ≢ slot) (only d g) s)
+        ]
+      ] in
+      ap (byte_of entry offset) f ∙ same ∙ sym (ap (byte_of entry offset) e)
 
 pub step_law : StepLaw
 step_law format old new (OfLoading command) reply is known step = loading_kept format old new command reply is (world_law format old new (OfLoading command) reply is known step) step
@@ -216,10 +204,3 @@ step_law format old new (OfLocals command) reply is known step = record {
   read = λ p byte h. absurd h;
   kept = λ p was there out. local_kept old new command reply is (world_law format old new (OfLocals command) reply is known step) step p.slot p.entry p.offset was there;
 }
-
-pub run_law : RunLaw
-run_law format old new events is known run = each old events (Each-from_All (λ (e : Event). IsCommand e.command) events known) is run
-  where
-    each : (now : World) (events : List Event) → Each (λ (e : Event). IsCommand e.command) events → IsWorld now → Run (Step ⊥ format) now events new → AllKeepWritten now events
-    each now [] known is run = tt
-    each now (event ∷ events) known is run = (step_law format now event.after event.command event.reply is known.0 run.0, each event.after events known.1 (world_law format now event.after event.command event.reply is known.0 run.0) run.1)
