@@ -11,7 +11,7 @@ pub use Rattle.w16_format.specs.Ne.{content_at, has_bytes, module_file, ne_forma
 pub use Rattle.w16_format.specs.Samples.{HasResource, IsLibrary, IsProgram, SamplesLaw}
 unfoldable pub use Rattle.w16_format.specs.Samples.{tapp, tlib, tres}
 pub use Rattle.w16_format.specs.Tables.{entry_in, resource_in, segment_in, tables_in}
-pub use Rattle.w16_loading.proofs.Common.{AllZip, Far, IfOk, IfSome, IsContent, IsFormat, IsItsFiles, IsModuleFile, IsOfFiles, IsSegmentData, IsSomeAnd, LoadingWorld, MatchResult, Module, ModuleFile, Resource}
+pub use Rattle.w16_loading.proofs.Common.{AllZip, Far, IfOk, IfSome, IsContent, IsFormat, IsItsFiles, IsModuleFile, IsOfFiles, IsSegmentData, IsSomeAnd, LoadingWorld, MatchResult, Module, ModuleFile}
 pub use Rattle.w16_loading.proofs.Common.{SegmentData, and_parts, are_sound, list_all, module_at, numbered, read_of, resource_bytes, rounded_size, segment_bytes, slice_index_or}
 unfoldable pub use Rattle.w16_loading.proofs.Common.{repeated}
 pub use Rattle.w16_loading.specs.declared.TheConstants.{LARGEST_OWNED}

@@ -1,6 +1,6 @@
 -- What loads and fetches get of an NE file.
-use Rattle.w16_format.proofs.Common.{◌≡◌, ℕ, zero, suc, ◌-◌, Bool, true, false, cond, List, [], ◌∷◌, length, map, Some, Result, Ok, Err, refl, sym, ◌∙◌, ap, subst, arith, All, Option, None, option_map, slice_get}
-use Rattle.w16_format.proofs.Common.{slice_index_or, is_ok, is_some, nat_eq, ◌&&◌, list_all, slice_get-map, Segment, Label, Entry, Tables, listed_resources, resource_at, RelocFault, Held, checked, IsImage, naming, IsFar}
+use Rattle.w16_format.proofs.Common.{◌≡◌, ℕ, ◌-◌, List, [], ◌∷◌, length, map, Some, Result, Ok, Err, refl, sym, ◌∙◌, ap, subst, All, Option, None, option_map}
+use Rattle.w16_format.proofs.Common.{slice_index_or, is_ok, is_some, ◌&&◌, list_all, Segment, Label, Entry, Tables, resource_at, RelocFault, Held, checked, IsImage, naming, IsFar}
 use Rattle.w16_format.proofs.Common.{ModuleFile, SegmentData, numbered, content_at, LoadingWorld, Module, are_sound, read_of, segment_bytes, resource_bytes, targets_in, data_in, contents_in, far_in, far_of, module_file, ne_format}
 use Rattle.w16_format.proofs.Common.{IsFileOf}
 use Rattle.w16_reloc.specs.declared.value.Far as words

@@ -1,8 +1,8 @@
 -- NE files are a format.
-use Rattle.w16_format.proofs.Common.{◌≡◌, ℕ, ◌+◌, ◌<◌, ◌≤◌, Bool, true, false, cond, List, [], ◌∷◌, length, map, take, drop, Some, Result, Ok, Err, refl, sym, ◌∙◌, ap, arith, get_or, Option, None, IsSomeAnd, All, MatchResult, nat_eq, slice_get, AllZip}
-use Rattle.w16_format.proofs.Common.{All-map, All-take, All-drop, rounded_size, NeFault, Missing, Target, Store, place_at, Segment, data_of, shift_of, segment_table, Tables, tables_at, listed_resources, IsModule, module_format, file_of, IsFormat}
-use Rattle.w16_format.proofs.Common.{IfOk, IfSome, IsContent, numbered, option_map, resource_at, subst, IsModuleFile, ModuleFile, Resource, IsItsFiles, IsOfFiles, LoadingWorld, Module, module_at, layout_code, IsFileOf, resource_in, tables_in, content_at, contents_in, module_file, number_of, read_as, plain_format, ne_format}
-use Rattle.w16_format.proofs.Common.{has_bytes}
+use Rattle.w16_format.proofs.Common.{◌≡◌, ℕ, ◌+◌, ◌<◌, ◌≤◌, Bool, true, false, cond, List, length, take, drop, Some, Result, Ok, Err, refl, sym, ◌∙◌, ap, arith, Option, None, IsSomeAnd, All, MatchResult, nat_eq, slice_get}
+use Rattle.w16_format.proofs.Common.{All-take, All-drop, rounded_size, NeFault, Missing, Target, Store, place_at, Segment, data_of, shift_of, segment_table, Tables, tables_at, IsModule, module_format, file_of, IsFormat}
+use Rattle.w16_format.proofs.Common.{IfOk, IfSome, IsContent, numbered, option_map, resource_at, subst, IsModuleFile, ModuleFile, IsItsFiles, IsOfFiles, LoadingWorld, Module, module_at, layout_code, IsFileOf, resource_in, tables_in}
+use Rattle.w16_format.proofs.Common.{content_at, contents_in, has_bytes, module_file, ne_format, number_of, plain_format, read_as}
 use Rattle.w16_ne.specs.Resources as ne_resources
 use Rattle.w16_loading.specs.File as loading
 use Rattle.w16_format.proofs.Bytes.{AreBytes, padded_length, padded_bytes, passed_bytes, bytes_pass}
