@@ -19,7 +19,7 @@ pub use Rattle.w16_kernel.specs.declared.call.Answer.{Answer}
 pub use Rattle.w16_kernel.specs.declared.call.Call.{Call}
 pub use Rattle.w16_kernel.specs.declared.call.Call.TheVariants.{GlobalAlloc}
 pub use Rattle.w16_loader.proofs.AnyLoads.{as_any}
-pub use Rattle.w16_loader.proofs.Common.{IsFetchable, IsSourceOf, LacksBytes, LoadsCounted, fault_in, in_parts, in_store, in_world}
+pub use Rattle.w16_loader.proofs.Common.{IsFetchable, IsSourceOf, LacksBytes, fault_in, in_parts, in_store, in_world}
 pub use Rattle.w16_loader.specs.Registry.{owner_in}
 pub use Rattle.w16_loading.proofs.AnySteps.{reads_no_files_law}
 pub use Rattle.w16_loading.proofs.CodeReads.{code_reads_law}
@@ -28,7 +28,7 @@ pub use Rattle.w16_loading.proofs.Owners.{loaded_of, of_segment, owner_law, reso
 pub use Rattle.w16_loading.specs.AnyStore.{AnyFetches, AnyLoads, AnyLoadsBy}
 pub use Rattle.w16_loading.specs.Fewest.{GivesAnyFewest}
 pub use Rattle.w16_loading.specs.Families.{FamilyStep}
-pub use Rattle.w16_loading.specs.Fetch.{FetchesCounted, Fetching}
+pub use Rattle.w16_loading.specs.Fetch.{Fetching}
 pub use Rattle.w16_loading.specs.Load.Answer.{StoreFails}
 pub use Rattle.w16_loading.specs.Owner.{Owner, owner_of}
 pub use Rattle.w16_loading.specs.Release.{without_objects}

@@ -84,7 +84,7 @@ module _ (honest : Type 0) (old : World) (is : IsWorldOver honest old) (command 
       let g = given m next command reply s in (
         record {
           any = record { counted = f.counted; failed = λ e. absurd (rw e at s); files = f.files; step = again _ _ _ needed AnyFetches m _ f.any g };
-          exact = λ asked. let fetched = f.exact (asked (reads_are old.loading command ∙ needed)) in record { counted = f.counted; failed = λ e. absurd (rw e at s); step = again _ _ _ needed (Fetches ne_format) m _ fetched.fetched g };
+          exact = λ asked. record { counted = f.counted; failed = λ e. absurd (rw e at s); step = again _ _ _ needed (Fetches ne_format) m _ (f.exact (asked (reads_are old.loading command ∙ needed))) g };
         },
         refl,
       )
@@ -96,7 +96,7 @@ module _ (honest : Type 0) (old : World) (is : IsWorldOver honest old) (command 
   not_made fault new needed f e same = (
     record {
       any = record { counted = f.counted; failed = λ r. f.failed (cc); files = f.files; step = failed _ _ _ needed AnyFetches fault _ f.any e };
-      exact = λ asked. let fetched = f.exact (asked (reads_are old.loading command ∙ needed)) in record { counted = f.counted; failed = λ r. f.failed (cc); step = failed _ _ _ needed (Fetches ne_format) fault _ fetched.fetched e };
+      exact = λ asked. record { counted = f.counted; failed = λ r. f.failed (cc); step = failed _ _ _ needed (Fetches ne_format) fault _ (f.exact (asked (reads_are old.loading command ∙ needed))) e };
     },
     (λ i. record { loading = new; heaps = (sym still ∙ ap (λ (h : Handles). left_in h.heap old.heaps) (sym same)) i; ds = old.ds }),
   )

@@ -1,5 +1,5 @@
 -- Calls on modules and resources.
-use Rattle.w16_kernel.proofs.Common.{◌≡◌, ℕ, ◌<◌, ◌≤◌, Bool, true, false, List, refl, sym, ◌∙◌, Handles, Store, StoreFails, AnyLoadsBy, GivesAnyFewest, LoadsCounted, as_any, reads_files}
+use Rattle.w16_kernel.proofs.Common.{◌≡◌, ℕ, ◌<◌, ◌≤◌, Bool, true, false, List, refl, sym, ◌∙◌, Handles, Store, StoreFails, AnyLoadsBy, GivesAnyFewest, as_any, reads_files}
 use Rattle.w16_kernel.proofs.Common.{LoadingCommand, FamilyStep, Fetches, OfModules, Loads, Failed, Word, Dword, LoadingWorld, Modules, StoreStep, ne_format, load_command}
 use Rattle.w16_loading.specs.Families as families
 use Rattle.w16_loading.specs.Load.{Answer}
@@ -23,13 +23,13 @@ fails StoreFails e = refl
 module _ {honest : Type 0} {old : LoadingWorld} {next : Handles} {loaded : Modules} {left : List (List ℕ × List ℕ)} {count : ℕ} where
   pub load_told : (is_load_module : Bool) {file : List ℕ} {answer : Answer} {reply : printed.Reply} → reply ≡ families.reply_of answer → left ≡ old.files → old.failures ≤ count → (answer ≡ StoreFails → old.failures < count)
       → ((rest : LoadingWorld) → AnyLoadsBy GivesAnyFewest is_load_module (record rest { handles = old.handles; modules = old.modules }) file answer (record rest { handles = next; modules = loaded }))
-      → ((rest : LoadingWorld) → honest → LoadsCounted ne_format is_load_module (record old { loads = rest.loads }) file answer (record { handles = next; modules = loaded; loads = rest.loads; files = left; failures = count }))
+      → ((rest : LoadingWorld) → honest → Loads ne_format is_load_module (record old { loads = rest.loads; failures = rest.failures }) file answer (record { handles = next; modules = loaded; loads = rest.loads; files = left; failures = rest.failures }))
       → StoreStep honest ne_format old (OfModules (load_command is_load_module file)) reply (record old { handles = next; modules = loaded; files = left; failures = count })
   load_told true {answer = answer} e same counted rose any exact = record {
     any = record { counted = counted; failed = λ f. rose (fails answer (sym e ∙ f)); files = same; step = (answer, e, as_any true _ _ _ _ (rw same (any old))) };
-    exact = λ asked. let l = exact old (asked refl) in record { counted = l.counted; failed = λ f. rose (fails answer (sym e ∙ f)); step = (answer, e, l.loads) };
+    exact = λ asked. record { counted = counted; failed = λ f. rose (fails answer (sym e ∙ f)); step = (answer, e, exact old (asked refl)) };
   }
   load_told false {answer = answer} e same counted rose any exact = record {
     any = record { counted = counted; failed = λ f. rose (fails answer (sym e ∙ f)); files = same; step = (answer, e, as_any false _ _ _ _ (rw same (any old))) };
-    exact = λ asked. let l = exact old (asked refl) in record { counted = l.counted; failed = λ f. rose (fails answer (sym e ∙ f)); step = (answer, e, l.loads) };
+    exact = λ asked. record { counted = counted; failed = λ f. rose (fails answer (sym e ∙ f)); step = (answer, e, exact old (asked refl)) };
   }

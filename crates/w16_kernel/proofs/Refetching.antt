@@ -1,7 +1,7 @@
 -- What becomes of an access that met a fault: what the kernel fetches is the object that the access asked for.
 use Rattle.w16_kernel.proofs.Common.{◌≡◌, ℕ, ◌-◌, ◌/◌, ◌<◌, ◌≤◌, true, false, length, List, Option, Some, None, IfNone, IsSomeAnd, is_some, slice_get, refl, sym, ap, ◌∙◌, subst, arith, length-map, slice_get_within}
 use Rattle.w16_kernel.proofs.Common.{FarAnswer, FetchFault, Bool, Handles, far_slot, needs_fetch, owned_at, is_owned, LoadingWorld, Module, IsSegmentOf, IsLoadingWorld}
-use Rattle.w16_kernel.proofs.Common.{Segment, module_at, AnyFetches, FetchesCounted, owner_of, segment_among, IsFetchable, IsSourceOf, owner_in, tables_in, ne_format}
+use Rattle.w16_kernel.proofs.Common.{Segment, module_at, AnyFetches, Fetches, owner_of, segment_among, IsFetchable, IsSourceOf, owner_in, tables_in, ne_format}
 use Rattle.w16_kernel.proofs.Common.{IsLoadingOver, IsSourceFor, IsAbsent, StoreFetch, LacksBytes, owner_law, of_segment, segment_owned, global_handle, offset_in, segment_in}
 use Rattle.w16_kernel.proofs.Common.{Tables}
 use Rattle.std.specs.FinMap as finmap
@@ -88,7 +88,7 @@ module _ {honest : Type 0} {old : LoadingWorld} (is : IsLoadingOver honest old) 
       pub fetched : (fault : Option FetchFault) {next : Handles} {left : List (List ℕ × List ℕ)} {count : ℕ} → left ≡ old.files → old.failures ≤ count → (fault ≡ Some Store → old.failures < count)
           → (LacksBytes old.handles name → AnyFetches old (name / 8) fault (record old { handles = next }))
           → (honest → LacksBytes old.handles name → IsFetchable old (name / 8) source.number source.file.now source.module.now source.values.now
-          → FetchesCounted ne_format old (name / 8) fault (record old { handles = next; files = left; failures = count }))
+          → Fetches ne_format old (name / 8) fault (record old { handles = next; files = left }))
           → (needs_fetch (FarAnswer.Fault NotPresent) old selector ≡ true) × StoreFetch honest old (far_slot old.handles selector) fault (record old { handles = next; files = left; failures = count })
       fetched fault same counted rose any exact =
           let s : IsSourceFor old (name / 8) source = subst (λ q. IsSourceFor old q source) at (found unloaded) in

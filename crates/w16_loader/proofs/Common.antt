@@ -34,7 +34,7 @@ pub use Rattle.w16_loader.specs.Fetching.{GivesBytes, IsFetchable, IsSoundIn, Is
 pub use Rattle.w16_loader.specs.Filling.{AreItsFiles, AreReadAs, AreUnfilled, HasUnfilled, IsReadAs, IsUnfilled, Part, failure_at, fills_in, fills_of_part, fills_with, slots_at}
 pub use Rattle.w16_loader.specs.Following.{FindsFew, Leads, LeadsByFile, LeadsByName, LeadsSomewhere, bound_in, closed_in, found_after, left_from, pending_in, reached, references_at, references_from, references_of, referent_after, with_followed}
 pub use Rattle.w16_loader.specs.Idle.{first_unused, imports_in, is_imported, is_unused}
-pub use Rattle.w16_loader.specs.Loading.{IsGivenAny, IsOfFile, LoadsAny, LoadsClosed, LoadsCounted, answer_in, failed_by, in_store, is_application, of_fault, refused_by}
+pub use Rattle.w16_loader.specs.Loading.{IsGivenAny, IsOfFile, LoadsAny, LoadsClosed, answer_in, failed_by, in_store, is_application, of_fault, refused_by}
 pub use Rattle.w16_loader.specs.Naming.{AreFit, AreUnbound, GetNames, GetsName, IsClosureOf, IsFit, IsUnbound, Takes, free_handles, imports_among, unbound_by}
 pub use Rattle.w16_loader.specs.Registry.{IsTable, first_named, in_world, listed, registered}
 pub use Rattle.w16_loader.specs.declared.binding.BindFault.{BindFault}
@@ -75,7 +75,6 @@ pub use Rattle.w16_loading.proofs.Owners.{of_segment}
 pub use Rattle.w16_loading.proofs.Readings.{follow_cases, from_list, from_next, read_by, read_cases}
 pub use Rattle.w16_loading.proofs.Undone.{chosen, fold_named, in_first, in_second, retained, taken_away, taken_back_law, undone_law, zipped}
 pub use Rattle.w16_loading.proofs.Values.{values_law}
-pub use Rattle.w16_loading.specs.Fetch.{FetchesCounted}
 pub use Rattle.w16_loading.specs.Free.{EndsUse}
 pub use Rattle.w16_loading.specs.Law.{empty_loading_world}
 pub use Rattle.w16_loading.specs.Load.Answer.{StoreFails}

@@ -1,11 +1,11 @@
 -- What a fetch of a segment comes to: over any store, over a file that says what it said at load, and in a world of its files.
 use Rattle.w16_loader.proofs.Common.{◌≡◌, ℕ, ◌-◌, ◌<◌, ◌≤◌, inl, inr, true, false, cond, List, [], length, map, All, Option, Some, None, IsSomeAnd, MatchOption, MatchResult, is_some, option_map, slice_get, slice_index_or, Result, Ok, Err, refl, sym}
 use Rattle.w16_loader.proofs.Common.{ap, ◌∙◌, subst, arith, ne_eqb, lit<, false≢true, length-map, slice_get-map, slice_get_cases, get_or_from_slice_get, AllZip-left, repeated, Owned, Handles, bytes_at, Revives, owned_at, is_owned, length-repeated}
-use Rattle.w16_loader.proofs.Common.{All-repeated, tables_at, RelocFault, Record, Held, checked, data_of, IsImage, naming, FetchFault, Store, Damaged, NoRoom, AnyFetches, FetchesFewest, AreHandles, IsOwnedSize, FetchesCounted, read_of, segment_bytes}
+use Rattle.w16_loader.proofs.Common.{All-repeated, tables_at, RelocFault, Record, Held, checked, data_of, IsImage, naming, FetchFault, Store, Damaged, NoRoom, AnyFetches, FetchesFewest, AreHandles, IsOwnedSize, read_of, segment_bytes}
 use Rattle.w16_loader.proofs.Common.{Far, ModuleFile, SegmentData, IsModuleFile, IsSegmentData, numbered, Fills, FillsOne, is_of_device, is_of_read, IsItsFiles, IsObjectOf, LoadingWorld, Module, of_segment, data_in, target_of, targets_in, far_of}
 use Rattle.w16_loader.proofs.Common.{IsFileOf, IsRelocated, ne_format, module_file, segment_in, accepted, has_room, is_format, stored_law, is_relocated, words_same, file_of, Files, GivesBytes, IsFetchable, IsSoundIn, IsWritten, fault_in, image_in}
 use Rattle.std.specs.Prelude.{IfErr}
-use Rattle.w16_store.specs.Later.{RoseIf}
+use Rattle.w16_loading.specs.Fetch.{Fetches}
 use Rattle.w16_ne.specs.declared.segment_table.Segment.{Segment}
 use Rattle.w16_ne.specs.Modules.{Tables}
 use Rattle.w16_reloc.specs.declared.value.Far as words
@@ -179,22 +179,16 @@ module _ (world : LoadingWorld) (slot number : ℕ) (name : List ℕ) (t : Table
       ∙ ap (λ vs. Some ((data_in file t sound.segment).image vs)) is.source.bound
 
   -- What a call that keeps the files answers over the file alone, is a fetch in the world.
-  pub fetched : {A : Type 0} (result : Result A FetchFault) (files : Files) → files ≡ world.files → (failures : ℕ) → world.failures ≤ failures → (new : Handles)
+  pub fetched : {A : Type 0} (result : Result A FetchFault) (files : Files) → files ≡ world.files → (new : Handles)
       → ((bytes : List ℕ) → file_of world.files name ≡ Some bytes → (in_file : IsSoundIn bytes t number values) → IsSomeAnd (owned_at world.handles slot) (λ (w : Owned). w.size ≡ in_file.segment.size)
       → FillsOne is_of_device world.handles.heap slot (image_in bytes t in_file.segment values) (fault_in result) new.heap)
-      → IfErr result (RoseIf is_of_device world.failures failures)
-      → new ≡ record world.handles { heap = new.heap }
-      → FetchesCounted ne_format world slot (fault_in result) (record world { handles = new; files = files; failures = failures })
-  fetched result files same failures counted new filled failed rest =
-      subst (λ (fs : Files). FetchesCounted ne_format world slot (fault_in result) (record world { handles = new; files = fs; failures = failures })) (sym same) (record {
-        counted = counted;
-        failed = rises result (world.failures < failures) failed;
-        fetched = record {
-          bytes = image_in file t sound.segment values;
-          image = inl (is.handle, number, m, is.segment, bytes_are);
-          filled = filled file has sound owned_size;
-          rest = ap (λ (h : Handles). record world { handles = h }) rest;
-        };
+      → new ≡ record world.handles { heap = new.heap } → Fetches ne_format world slot (fault_in result) (record world { handles = new; files = files })
+  fetched result files same new filled rest =
+      subst (λ (fs : Files). Fetches ne_format world slot (fault_in result) (record world { handles = new; files = fs })) (sym same) (record {
+        bytes = image_in file t sound.segment values;
+        image = inl (is.handle, number, m, is.segment, bytes_are);
+        filled = filled file has sound owned_size;
+        rest = ap (λ (h : Handles). record world { handles = h }) rest;
       })
     where
       has : file_of world.files name ≡ Some file

@@ -1,20 +1,17 @@
 -- What a load comes to, by what its file says and by what its closure is.
-use Rattle.w16_loader.proofs.Common.{◌≡◌, ℕ, ◌<◌, ◌≤◌, inl, inr, Bool, List, [], ◌∷◌, map, All, Option, Some, None, IfOk, Result, Ok, Err, ◌⊎◌, refl, sym, ap, subst, arith, AllZip, AllocError, All-from_recursion}
+use Rattle.w16_loader.proofs.Common.{◌≡◌, ℕ, ◌≤◌, inl, inr, Bool, List, [], ◌∷◌, map, All, Option, Some, None, IfOk, Result, Ok, Err, ◌⊎◌, refl, sym, ap, subst, arith, AllZip, AllocError, All-from_recursion}
 use Rattle.w16_loader.proofs.Common.{file_of, Handles, ModuleFile, FillsOne, is_of_device, LoadingWorld, Modules, Closes, begun, Read, Answer, Loads, LoadsFile, Says, StoreFails, read_by, ne_format, Found, FileFault}
-use Rattle.w16_loader.proofs.Common.{LoadAnswer, Files, IsFault, around_in, found_in, reading_in, said, closed_in, IsFoundOf, IsClosureOf, LoadsCounted, LoadsClosed, IsOfFile, answer_in, in_store, refused_by}
+use Rattle.w16_loader.proofs.Common.{LoadAnswer, Files, IsFault, around_in, found_in, reading_in, said, closed_in, IsFoundOf, IsClosureOf, LoadsClosed, IsOfFile, answer_in, in_store, refused_by}
 use Rattle.std.specs.List.{AllByRecursion as Each}
 use Rattle.w16_loading.specs.Closure as closing
 use Rattle.w16_loading.proofs.CodeLoads as CodeLoads
-use Rattle.w16_store.specs.Later.{RoseIf}
-use Rattle.w16_loader.specs.Devices.{is_load_device}
 use Rattle.w16_loader.specs.declared.found.FileFault.TheVariants as faults
-use Rattle.w16_loader.specs.declared.loading.LoadAnswer.TheVariants as answers
 use Rattle.w16_loader.specs.declared.closure.Closure.{Closure}
 
 -- A load by what its file says.
-module _ (rest : LoadingWorld) (modules : Modules) (handles : Handles) (files : Files) (before : ℕ) (file : List ℕ) where
+module _ (rest : LoadingWorld) (modules : Modules) (handles : Handles) (files : Files) (failures : ℕ) (file : List ℕ) where
   abbrev old : LoadingWorld
-  old = in_store rest modules handles files before
+  old = in_store rest modules handles files failures
 
   abbrev LoadsAs : Bool → closing.Reading → Answer → LoadingWorld → Type 0
   LoadsAs is_load_module reading answer new = ((answer ≡ StoreFails) × (new ≡ old)) ⊎ LoadsFile (FillsOne is_of_device) ne_format is_load_module old file reading answer new
@@ -23,50 +20,34 @@ module _ (rest : LoadingWorld) (modules : Modules) (handles : Handles) (files : 
       → Loads ne_format is_load_module old file answer new
   by_reading is_load_module reading answer new is loads = subst (λ r. LoadsAs is_load_module r answer new) (sym is) loads
 
-  module _ (next : Modules) (others : Handles) (same : Files) (unchanged : same ≡ files) (after : ℕ) (counted : before ≤ after) where
-    pub counts : (is_load_module : Bool) (answer : Answer) → (answer ≡ StoreFails → before < after) → Loads ne_format is_load_module old file answer (in_store rest next others files before)
-        → LoadsCounted ne_format is_load_module old file answer (in_store rest next others same after)
-    counts is_load_module answer failed loads = record {
-      counted = counted;
-      failed = failed;
-      loads = subst (λ fs. Loads ne_format is_load_module old file answer (in_store rest next others fs before)) (sym unchanged) loads;
-    }
+  module _ (next : Modules) (others : Handles) (same : Files) (unchanged : same ≡ files) where
+    abbrev LoadsTo : Bool → Answer → Files → Type 0
+    LoadsTo is_load_module answer left = Loads ne_format is_load_module old file answer (in_store rest next others left failures)
 
-    says_not : (word : ℕ) → Says word ≡ StoreFails → before < after
-    says_not word e = cc
-
-    -- a new module, whose closure is refused
-    pub unclosed : (is_load_module : Bool) (read : ModuleFile) (number : ℕ) → reading_in {A = Unit {0}} modules files [] file ≡ Read read
-        → Closes ne_format.says (around_in modules files) (begun file read) (Err number) → in_store rest next others files before ≡ old
-        → LoadsCounted ne_format is_load_module old file (Says number) (in_store rest next others same after)
-    unclosed is_load_module read number is closes nothing = counts is_load_module (Says number) (says_not number) (by_reading is_load_module (Read read) (Says number) (in_store rest next others files before) is (inr (Err number, closes, (refl, nothing))))
-
-    pub failed : (is_load_module : Bool) → before < after → in_store rest next others files before ≡ old → LoadsCounted ne_format is_load_module old file StoreFails (in_store rest next others same after)
-    failed is_load_module more nothing = counts is_load_module StoreFails (λ _. more) (inl (refl, nothing))
-
-    -- and one whose closure is known
-    pub closed : (is_load_module : Bool) (read : ModuleFile) (closure : closing.Closure) (answer : Answer) → reading_in {A = Unit {0}} modules files [] file ≡ Read read
-        → Closes ne_format.says (around_in modules files) (begun file read) (Ok closure) → (answer ≡ StoreFails → before < after) → LoadsClosed old closure answer (in_store rest next others files before)
-        → LoadsCounted ne_format is_load_module old file answer (in_store rest next others same after)
-    closed is_load_module read closure answer is closes failed (inl fails) = counts is_load_module answer failed (inl fails)
-    closed is_load_module read closure answer is closes failed (inr new) = counts is_load_module answer failed (by_reading is_load_module (Read read) answer (in_store rest next others files before) is (inr (Ok closure, closes, new)))
+    kept : (is_load_module : Bool) (answer : Answer) → LoadsTo is_load_module answer files → LoadsTo is_load_module answer same
+    kept is_load_module answer loads = subst (LoadsTo is_load_module answer) (sym unchanged) loads
 
     -- A load that fails before its closure is known, by the fault.
-
-    pub refused_closure : (fault : FileFault) (read : ModuleFile) → in_store rest next others files before ≡ old → reading_in {A = Unit {0}} modules files [] file ≡ Read read
+    pub refused_closure : (fault : FileFault) (read : ModuleFile) (before after : ℕ) → in_store rest next others files failures ≡ old → reading_in {A = Unit {0}} modules files [] file ≡ Read read
         → IsFault (λ number. Closes ne_format.says (around_in modules files) (begun file read) (Err number)) before after fault
-        → IfOk (refused_by fault) (λ answer. (is_load_module : Bool) → LoadsCounted ne_format is_load_module old file (answer_in answer) (in_store rest next others same after))
-    refused_closure (faults.Refused number) read nothing is closes = λ is_load_module. unclosed is_load_module read number is closes nothing
-    refused_closure faults.Device read nothing is more = λ is_load_module. failed is_load_module more nothing
-    refused_closure faults.OutOfMemory read nothing is none = tt
+        → IfOk (refused_by fault) (λ answer. (is_load_module : Bool) → LoadsTo is_load_module (answer_in answer) same)
+    refused_closure (faults.Refused number) read before after nothing is closes = λ is_load_module.
+        kept is_load_module (Says number) (by_reading is_load_module (Read read) (Says number) _ is (inr (Err number, closes, (refl, nothing))))
+    refused_closure faults.Device read before after nothing is more = λ is_load_module. kept is_load_module StoreFails (inl (refl, nothing))
+    refused_closure faults.OutOfMemory read before after nothing is none = tt
 
     -- and one that comes to its end
+    closed : (is_load_module : Bool) (read : ModuleFile) (closure : closing.Closure) (answer : Answer) → reading_in {A = Unit {0}} modules files [] file ≡ Read read
+        → Closes ne_format.says (around_in modules files) (begun file read) (Ok closure) → LoadsClosed old closure answer (in_store rest next others files failures) → LoadsTo is_load_module answer same
+    closed is_load_module read closure answer is closes (inl fails) = kept is_load_module answer (inl fails)
+    closed is_load_module read closure answer is closes (inr new) = kept is_load_module answer (by_reading is_load_module (Read read) answer _ is (inr (Ok closure, closes, new)))
+
     pub closed_load : (read : ModuleFile) (closure : closing.Closure) → reading_in {A = Unit {0}} modules files [] file ≡ Read read
         → Closes ne_format.says (around_in modules files) (begun file read) (Ok closure) → (result : Result LoadAnswer AllocError)
-        → IfOk result (λ answer. answer_in answer ≡ StoreFails → before < after) → IfOk result (λ answer. LoadsClosed old closure (answer_in answer) (in_store rest next others files before))
-        → IfOk result (λ answer. (is_load_module : Bool) → LoadsCounted ne_format is_load_module old file (answer_in answer) (in_store rest next others same after))
-    closed_load read closure is closes (Ok answer) fails loads = λ is_load_module. closed is_load_module read closure (answer_in answer) is closes fails loads
-    closed_load read closure is closes (Err e) fails loads = tt
+        → IfOk result (λ answer. LoadsClosed old closure (answer_in answer) (in_store rest next others files failures))
+        → IfOk result (λ answer. (is_load_module : Bool) → LoadsTo is_load_module (answer_in answer) same)
+    closed_load read closure is closes (Ok answer) loads = λ is_load_module. closed is_load_module read closure (answer_in answer) is closes loads
+    closed_load read closure is closes (Err e) loads = tt
 
 -- The closure that the code made, as loading has it.
 module _ {A : Type 0} (files : Files) (made : Closure A) where
@@ -95,11 +76,6 @@ pub all_of_files : (modules : Modules) (files : Files) (file : List ℕ) (read :
 all_of_files modules files file read closure is closes = All-from_recursion (IsOfFile files) closure.found (each_of_file modules files closure.found (CodeLoads.found_of_files ne_format.says (around_in modules files) file read closure closes.0 is closes.1))
 
 -- A failure since a moment is one since an earlier moment.
-pub failed_since : (result : Result LoadAnswer AllocError) (before mid after : ℕ) → before ≤ mid → IfOk result (RoseIf is_load_device mid after) → IfOk result (λ answer. answer_in answer ≡ StoreFails → before < after)
-failed_since (Ok (answers.Says word)) before mid after le rose = λ e. cc
-failed_since (Ok answers.StoreFails) before mid after le rose = λ e. let lt = rose refl in omega (arith, lt, le)
-failed_since (Err e) before mid after le rose = tt
-
 pub fault_since : (IsRefused : ℕ → Type 0) (before mid after : ℕ) (fault : FileFault) → before ≤ mid → IsFault IsRefused mid after fault → IsFault IsRefused before after fault
 fault_since IsRefused before mid after (faults.Refused number) le is = is
 fault_since IsRefused before mid after faults.Device le more = omega (arith, le, more)

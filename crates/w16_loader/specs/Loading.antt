@@ -56,12 +56,6 @@ is_application (Some m) = not m.tables.is_library
 abbrev pub in_store : LoadingWorld → Modules → Handles → Files → ℕ → LoadingWorld
 in_store rest modules handles files failures = in_world (in_parts rest handles files failures) modules
 
--- A load, where the store may fail: the count of failures isn't lowered, and the store fails the load only where it rose.
-pub record LoadsCounted (format : Format) (is_load_module : Bool) (old : LoadingWorld) (file : List ℕ) (answer : Answer) (new : LoadingWorld) : Type 0 where
-  pub counted : old.failures ≤ new.failures
-  pub failed : answer ≡ StoreFails → old.failures < new.failures
-  pub loads : Loads format is_load_module old file answer (record new { failures = old.failures })
-
 -- a new module is what its file says, and its relocations are sound
 abbrev pub IsOfFile : Files → closing.Found → Type 0
 IsOfFile files f = (said (file_of files f.file) ≡ Ok f.read) × (are_sound f.read ≡ true)

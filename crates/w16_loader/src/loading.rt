@@ -18,7 +18,7 @@ ghost use Rattle.w16_loader.specs.Closing.{around_in, read_in};
 ghost use Rattle.w16_loader.specs.Naming.{AreUnbound, IsClosureOf, IsUnbound};
 ghost use Rattle.w16_loader.specs.declared.binding.BindFault.TheVariants.{OutOfMemory};
 ghost use Rattle.w16_loader.specs.Registry.{in_world};
-ghost use Rattle.w16_loader.specs.Loading.{LoadsAny, LoadsCounted, LoadsClosed, IsOfFile, IsGiven, IsGivenAny, answer_in, is_application, in_store, refused_by, of_fault, failed_by};
+ghost use Rattle.w16_loader.specs.Loading.{LoadsAny, LoadsClosed, IsOfFile, IsGiven, IsGivenAny, answer_in, is_application, in_store, refused_by, of_fault, failed_by};
 
 use crate::binding::{BindFault, bind_modules};
 use crate::closure::{Closure, close};
@@ -204,9 +204,9 @@ fn load_new<S: Store, A: Allocator + Copy>(
     requires { 0 < free_modules registry.old }
     ensures stays { IsLater (S.files store.old) (S.failures store.old) (S.files store.new) (S.failures store.new) }
     ensures device { IfOk result (RoseIf is_load_device (S.failures store.old) (S.failures store.new)) }
-    ensures loads { (rest : LoadingWorld) (before : ℕ) → before ≤ S.failures store.old → S.is_honest → closing.reading ne_format.says (around_in registry.old (S.files store.old)) [] file.now ≡ Read (read_in (S.files store.old) file.now read)
-        → IfOk result (λ answer. (is_load_module : Bool) → LoadsCounted ne_format is_load_module (in_store rest registry.old global.old.handles (S.files store.old) before) file.now (answer_in answer)
-        (in_store rest registry.new global.new.handles (S.files store.new) (S.failures store.new))) }
+    ensures loads { (rest : LoadingWorld) → S.is_honest → closing.reading ne_format.says (around_in registry.old (S.files store.old)) [] file.now ≡ Read (read_in (S.files store.old) file.now read)
+        → IfOk result (λ answer. (is_load_module : Bool) → loading.Loads ne_format is_load_module (in_store rest registry.old global.old.handles (S.files store.old) rest.failures) file.now (answer_in answer)
+        (in_store rest registry.new global.new.handles (S.files store.new) rest.failures)) }
     ensures any { (rest : LoadingWorld) → handle_named registry.old read.name ≡ None → IfOk result (λ answer. (is_load_module : Bool) → AnyLoadsBy GivesAnyFewest is_load_module (in_world (with_handles rest global.old.handles) registry.old) file.now
         (answer_in answer) (in_world (with_handles rest global.new.handles) registry.new)) }
     ensures err { OnErr result ((registry.new ≡ registry.old) × (global.new ≡ global.old)) }
@@ -252,8 +252,8 @@ pub fn load<S: Store, A: Allocator + Copy>(
 ) -> Result<LoadAnswer, AllocError>
     ensures stays { IsLater (S.files store.old) (S.failures store.old) (S.files store.new) (S.failures store.new) }
     ensures device { IfOk result (RoseIf is_load_device (S.failures store.old) (S.failures store.new)) }
-    ensures loads { (rest : LoadingWorld) → S.is_honest → IfOk result (λ answer. LoadsCounted ne_format is_load_module (in_store rest registry.old global.old.handles (S.files store.old) (S.failures store.old)) file.now (answer_in answer)
-        (in_store rest registry.new global.new.handles (S.files store.new) (S.failures store.new))) }
+    ensures loads { (rest : LoadingWorld) → S.is_honest → IfOk result (λ answer. loading.Loads ne_format is_load_module (in_store rest registry.old global.old.handles (S.files store.old) rest.failures) file.now (answer_in answer)
+        (in_store rest registry.new global.new.handles (S.files store.new) rest.failures)) }
     ensures any { (rest : LoadingWorld) → IfOk result (λ answer. AnyLoadsBy GivesAnyFewest is_load_module (in_world (with_handles rest global.old.handles) registry.old) file.now (answer_in answer)
         (in_world (with_handles rest global.new.handles) registry.new)) }
     ensures err { OnErr result ((registry.new ≡ registry.old) × (global.new ≡ global.old)) }

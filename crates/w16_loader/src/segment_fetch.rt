@@ -10,7 +10,7 @@ ghost use Rattle.w16_global.specs.Owned.{LacksBytes};
 ghost use Rattle.w16_loading.specs.declared.FetchFault.TheVariants.{Store as store_fails};
 ghost use Rattle.w16_loading.specs.AnyStore.{AnyFetches};
 ghost use Rattle.w16_loading.specs.Fewest.{FetchesFewest};
-ghost use Rattle.w16_loading.specs.Fetch.{FetchesCounted};
+ghost use Rattle.w16_loading.specs.Fetch.{Fetches};
 ghost use Rattle.w16_loading.specs.Fill.{FillsOne, is_of_device, is_of_read};
 ghost use Rattle.w16_loading.specs.Modules.{LoadingWorld};
 ghost use Rattle.w16_format.specs.Ne.{ne_format};
@@ -65,7 +65,7 @@ fn read<S: Store, A: Allocator>(
     ensures exact { (file : List ℕ) (s : Segment) (held : Held) → S.is_honest → file_of (S.files store.old) source.now.file.now ≡ Some file
         → tables_at (Some file) ≡ Ok source.now.module.now → slice_get source.now.module.now.segments (source.now.number - 1) ≡ Some s
         → checked file source.now.module.now s ≡ Ok held → length held.records ≡ length source.now.values.now
-        → MatchResult result (λ _. scratch.new ≡ held) (λ fault. (fault ≡ store_fails) × (S.failures store.old < S.failures store.new)) }
+        → MatchResult result (λ _. scratch.new ≡ held) (λ fault. fault ≡ store_fails) }
 {
     if let Err(fault) = check(store, source.file, source.module, source.number, scratch) {
         return Err(fault_of(fault));
@@ -129,8 +129,8 @@ pub fn fetch<S: Store, A: Allocator + Copy>(
     ensures fetched { (rest : LoadingWorld) → S.is_honest → LacksBytes global.old.handles handle
         → IsFetchable (in_parts rest global.old.handles (S.files store.old) (S.failures store.old)) (handle / 8)
         source.now.number source.now.file.now source.now.module.now source.now.values.now
-        → FetchesCounted ne_format (in_parts rest global.old.handles (S.files store.old) (S.failures store.old)) (handle / 8) (fault_in result)
-        (in_parts rest global.new.handles (S.files store.new) (S.failures store.new)) }
+        → Fetches ne_format (in_parts rest global.old.handles (S.files store.old) (S.failures store.old)) (handle / 8) (fault_in result)
+        (in_parts rest global.new.handles (S.files store.new) (S.failures store.old)) }
 {
     global.reveal_handles();
     read(source, store, scratch)?;

@@ -56,12 +56,6 @@ pub record FetchesBy (may_fail : FetchFault → Bool) (IsBytes : List ℕ → Ty
 abbrev pub Fetches : Format → Fetching
 Fetches format old slot fault new = FetchesBy is_of_device (IsImage format old slot) old slot fault new
 
--- a fetch, where the store may fail: the count of failures isn't lowered, and a fault of the store comes only where it rose
-pub record FetchesCounted (format : Format) (old : LoadingWorld) (slot : ℕ) (fault : Option FetchFault) (new : LoadingWorld) : Type 0 where
-  pub counted : old.failures ≤ new.failures
-  pub failed : fault ≡ Some Store → old.failures < new.failures
-  pub fetched : Fetches format old slot fault (record new { failures = old.failures })
-
 -- Far access.
 
 abbrev pub is_code : LoadingWorld → ℕ → Bool

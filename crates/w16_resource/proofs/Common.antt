@@ -34,7 +34,7 @@ pub use Rattle.w16_loading.specs.AnyStore.{AnyStep, lock_reads_file}
 pub use Rattle.w16_loading.specs.Families.{LoadingCommand, LoadingStep}
 pub use Rattle.w16_loading.specs.Families.LoadingCommand.{OfResources}
 pub use Rattle.w16_loading.specs.Families.ResourceCommand.{LoadResource, LockResource}
-pub use Rattle.w16_loading.specs.Fetch.{Fetches, FetchesCounted, Fetching}
+pub use Rattle.w16_loading.specs.Fetch.{Fetches, Fetching}
 pub use Rattle.w16_loading.specs.File.{Resource}
 pub use Rattle.w16_loading.specs.Free.{is_left_over, without_orphans}
 pub use Rattle.w16_loading.specs.Law.{IsLoad, IsLoadingWorld, IsOfFiles}

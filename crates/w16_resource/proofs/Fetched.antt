@@ -31,8 +31,8 @@ source_resource world handle place name entry s = ap (λ p. resource_of p place)
 -- what a file of bytes gives the object is what a fetch gives it in a world of its files
 module _ (world : LoadingWorld) (slot handle place loads : ℕ) (name : List ℕ) (entry : Entry) (s : IsSourceAt world.modules handle place name entry)
     (has : finmap.get world.loads slot ≡ Some (record { handle = handle; place = place; loads = loads })) (bytes : List ℕ) (is : IsFileOf world s.m bytes s.t) where
-  pub fetches : (fault : Option FetchFault) (before after : ℕ) (new : Handles) → FetchesFrom bytes world.handles slot entry before fault after new → Fetches ne_format world slot fault (with_handles world new)
-  fetches fault before after new f = record {
+  pub fetches : (fault : Option FetchFault) (new : Handles) → FetchesFrom bytes world.handles slot entry fault new → Fetches ne_format world slot fault (with_handles world new)
+  fetches fault new f = record {
     bytes = bytes_in bytes entry;
     image = inr (handle, place, s.m, record { loaded = s.loaded; loads = loads; has = has }, resource_given world s.m bytes s.t place (s.kind, entry) is s.there);
     filled = f.filled;

@@ -44,31 +44,25 @@ module _ (file : List ℕ) (old : Handles) (slot : ℕ) (entry : Entry) (is : Is
   bytes = bytes_in file entry
 
   -- the device failed
-  pub unread : (before after : ℕ) (fault : FetchFault) → fault ≡ Store → before < after → FetchesFrom file old slot entry before (Some fault) after old
-  unread before after fault same rose = record {
+  pub unread : (fault : FetchFault) → fault ≡ Store → FetchesFrom file old slot entry (Some fault) old
+  unread fault same = record {
     filled = subst (λ f. FillsOne is_of_device old.heap slot bytes (Some f) old.heap) (sym same) (refl, refl);
-    failed = λ _. rose;
     rest = refl;
   }
 
-  pub full : (before after : ℕ) → bytes_at old.heap slot ≡ None → Revives old slot false old → FetchesFrom file old slot entry before (Some NoRoom) after old
-  full before after absent refused = record {
+  pub full : bytes_at old.heap slot ≡ None → Revives old slot false old → FetchesFrom file old slot entry (Some NoRoom) old
+  full absent refused = record {
     filled = none_filled old slot absent refused bytes (subst (λ p. IsSomeAnd p (λ (w : Owned). length bytes ≡ w.size)) (sym is.sized) (padded_length (take entry.len (drop entry.place file)) (rounded_size entry.len)))
         (padded_bytes (take entry.len (drop entry.place file)) (rounded_size entry.len) (All-take (λ b. b < 256) entry.len (drop entry.place file) (All-drop (λ b. b < 256) entry.place file is.are_bytes)));
-    failed = other;
     rest = refl;
   }
-    where
-      other : Some NoRoom ≡ Some Store → before < after
-      other e = cc
 
   abbrev source : List ℕ
   source = take entry.len (drop entry.place file)
 
-  pub filled : (before after : ℕ) (read : List ℕ) → read ≡ source → (new : Handles) → GivesBytes old slot (IsWritten read [] []) new → FetchesFrom file old slot entry before None after new
-  filled before after read same new given = record {
+  pub filled : (read : List ℕ) → read ≡ source → (new : Handles) → GivesBytes old slot (IsWritten read [] []) new → FetchesFrom file old slot entry None new
+  filled read same new given = record {
     filled = subst (λ bs. Fills old.heap slot bs true new.heap) (sym (plain_image source given.bytes (rounded_size entry.len) room long (subst (λ bs. IsWritten bs [] [] given.bytes) same given.are))) given.filled;
-    failed = other;
     rest = given.rest;
   }
     where
@@ -78,12 +72,9 @@ module _ (file : List ℕ) (old : Handles) (slot : ℕ) (entry : Entry) (is : Is
       room : length source ≤ length given.bytes
       room = let cut = length-take entry.len (drop entry.place file) in let up = rounded_up entry.len in omega (arith, cut, up, long)
 
-      other : ◌≡◌ {A = Option FetchFault} None (Some Store) → before < after
-      other e = cc
-
 -- a failed read of what is there is the device's
-pub failed : {Y : Type 0} (before after : ℕ) (y : Y) (fault : RelocFault) → Refuses before after fault (Ok y) → (fault_of fault ≡ Store) × (before < after)
-failed before after y (relocs.Store stores.Device) h = (refl, h)
+pub failed : {Y : Type 0} (before after : ℕ) (y : Y) (fault : RelocFault) → Refuses before after fault (Ok y) → fault_of fault ≡ Store
+failed before after y (relocs.Store stores.Device) h = refl
 failed before after y (relocs.Store stores.Missing) h = absurd h
 failed before after y (relocs.Store stores.Short) h = absurd h
 failed before after y relocs.BadRecord h = cc

@@ -27,7 +27,7 @@ module _ (F : Fetching) (old : LoadingWorld) (handle place : ℕ) (reply : Reply
 
 -- A first load.
 module _ (honest : Type 0) (h : Handles) (modules : Modules) (loads : FinMap nat_cmp loading.Load) (files : List (List ℕ × List ℕ)) (before : ℕ)
-    (name : List ℕ) (entry : Entry) (r : Resource) (handle place : ℕ) (reply : Reply) (next : Handles) (left : FinMap nat_cmp loading.Load) (after : ℕ) where
+    (name : List ℕ) (entry : Entry) (r : Resource) (handle place : ℕ) (reply : Reply) (next : Handles) (left : FinMap nat_cmp loading.Load) where
   abbrev old : LoadingWorld
   old = loading_of h modules loads files before
 
@@ -37,7 +37,7 @@ module _ (honest : Type 0) (h : Handles) (modules : Modules) (loads : FinMap nat
   none_new : HasNoSlot h × (reply ≡ Word 0) × (next ≡ h) × (left ≡ loads) → ((slot : ℕ) → IsFreeSlot h slot → ⊥) × AnswersNone old reply new
   none_new n = (n.0, (n.1, λ i. loading_of (n.2 i) modules (n.3 i) files before))
 
-  module _ (m : MakesOne honest files name entry r handle place h loads before reply next left after) where
+  module _ (m : MakesOne honest files name entry r handle place h loads reply next left) where
     abbrev made : LoadingWorld
     made = with_resource old m.slot handle place r
 
@@ -57,7 +57,7 @@ module _ (honest : Type 0) (h : Handles) (modules : Modules) (loads : FinMap nat
     loads_by : (F : Fetching) → F made m.slot m.fault (with_handles made m.next) → LoadsNewResource F old handle place r reply new
     loads_by F f = record { slot = m.slot; free = m.free; fault = m.fault; next = with_handles made m.next; fetched = f; outcome = outcome }
 
-  pub loads_any : MakesNew honest files name entry r handle place h loads before reply next left after
+  pub loads_any : MakesNew honest files name entry r handle place h loads reply next left
       → (((slot : ℕ) → IsFreeSlot h slot → ⊥) × AnswersNone old reply new) ⊎ LoadsNewResource AnyFetches old handle place r reply new
   loads_any (inl n) = inl (none_new n)
   loads_any (inr m) = inr (loads_by m AnyFetches (m.any (made m)))
@@ -67,13 +67,13 @@ module _ (honest : Type 0) (h : Handles) (modules : Modules) (loads : FinMap nat
     stored : (file : List ℕ) × IsFileOf old s.m file s.t
     stored = file_there old is handle place name entry s
 
-    fetched : (m : MakesOne honest files name entry r handle place h loads before reply next left after) → FetchesFrom stored.0 (with_new h m.slot r) m.slot entry before m.fault after m.next
+    fetched : (m : MakesOne honest files name entry r handle place h loads reply next left) → FetchesFrom stored.0 (with_new h m.slot r) m.slot entry m.fault m.next
     fetched m = m.exact stored.0 yes (ap (file_of files) (sym s.named) ∙ stored.1.stored)
         (source_in old handle place name entry s stored.0 stored.1 short (with_new h m.slot r) m.slot (owned_new h m.slot r ∙ ap (λ n. Some (record { size = rounded_size n; code = false })) long))
 
-    pub loads_exact : MakesNew honest files name entry r handle place h loads before reply next left after
+    pub loads_exact : MakesNew honest files name entry r handle place h loads reply next left
         → (((slot : ℕ) → IsFreeSlot h slot → ⊥) × AnswersNone old reply new) ⊎ LoadsNewResource (Fetches ne_format) old handle place r reply new
     loads_exact (inl n) = inl (none_new n)
     loads_exact (inr m) = inr (loads_by m (Fetches ne_format)
         (fetches (made m) m.slot handle place 1 name entry s (inserted_here loads m.slot (record { handle = handle; place = place; loads = 1 }) m.slot refl) stored.0
-        (record { stored = stored.1.stored; bytes = stored.1.bytes; tables = stored.1.tables }) m.fault before after m.next (fetched m)))
+        (record { stored = stored.1.stored; bytes = stored.1.bytes; tables = stored.1.tables }) m.fault m.next (fetched m)))

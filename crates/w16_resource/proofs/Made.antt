@@ -18,19 +18,19 @@ module _ (old mid : Handles) (kind : Kind) (owned : Owned) (object : ℕ) (t : T
   lacks : LacksBytes mid object
   lacks = subst (λ h. LacksBytes h object) (sym mid_is) (lacks_new old t.slot r object object_is)
 
-  pub makes_one : (honest : Type 0) (files : List (List ℕ × List ℕ)) (name : List ℕ) (entry : Entry) (handle place : ℕ) (loads : FinMap nat_cmp loading.Load) (before : ℕ) (reply : Reply) (new : Handles) (left : FinMap nat_cmp loading.Load) (after : ℕ)
+  pub makes_one : (honest : Type 0) (files : List (List ℕ × List ℕ)) (name : List ℕ) (entry : Entry) (handle place : ℕ) (loads : FinMap nat_cmp loading.Load) (reply : Reply) (new : Handles) (left : FinMap nat_cmp loading.Load)
       → (fault : Option FetchFault) (next : Handles)
       → ((rest : LoadingWorld) → LacksBytes mid object → AnyFetches (with_handles rest mid) (object / 8) fault (with_handles rest next))
-      → ((file : List ℕ) → honest → file_of files name ≡ Some file → LacksBytes mid object → IsSourceOf file mid (object / 8) entry → FetchesFrom file mid (object / 8) entry before fault after next)
+      → ((file : List ℕ) → honest → file_of files name ≡ Some file → LacksBytes mid object → IsSourceOf file mid (object / 8) entry → FetchesFrom file mid (object / 8) entry fault next)
       → IsMadeOr fault (Word (handle_of r.kind t.slot)) reply old next new loads (finmap.insert loads t.slot (record { handle = handle; place = place; loads = 1 })) left
-      → MakesOne honest files name entry r handle place old loads before reply new left after
-  makes_one honest files name entry handle place loads before reply new left after fault next any exact outcome = record {
+      → MakesOne honest files name entry r handle place old loads reply new left
+  makes_one honest files name entry handle place loads reply new left fault next any exact outcome = record {
     slot = t.slot;
     free = t.free;
     fault = fault;
     next = next;
     any = λ rest. subst (λ (h : Handles). AnyFetches (with_handles rest h) t.slot fault (with_handles rest next)) mid_is (subst (λ q. AnyFetches (with_handles rest mid) q fault (with_handles rest next)) at (any rest lacks));
-    exact = λ file h has source. subst (λ (x : Handles). FetchesFrom file x t.slot entry before fault after next) mid_is (subst (λ q. FetchesFrom file mid q entry before fault after next) at
+    exact = λ file h has source. subst (λ (x : Handles). FetchesFrom file x t.slot entry fault next) mid_is (subst (λ q. FetchesFrom file mid q entry fault next) at
         (exact file h has lacks (subst (λ q. IsSourceOf file mid q entry) (sym at) (subst (λ (x : Handles). IsSourceOf file x t.slot entry) (sym mid_is) source))));
     outcome = outcome;
   }

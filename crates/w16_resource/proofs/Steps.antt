@@ -1,5 +1,5 @@
 -- Calls on resources as steps.
-use Rattle.w16_resource.proofs.Common.{AnyFetches, AnyStep, Dword, Entry, Failed, FetchFault, Fetches, FetchesCounted, Fetching, FinMap, Gives, Handles, IsOfFiles, IsSourceAt, List, LoadResource, LoadingCommand, LoadingStep}
+use Rattle.w16_resource.proofs.Common.{AnyFetches, AnyStep, Dword, Entry, Failed, FetchFault, Fetches, Fetching, FinMap, Gives, Handles, IsOfFiles, IsSourceAt, List, LoadResource, LoadingCommand, LoadingStep}
 use Rattle.w16_resource.proofs.Common.{LoadingWorld, LoadsResource, LockResource, LocksResource, MakesNew, Modules, None, OfResources, Option, Reply, Resource, Some, Word, ap, arith, bytes_at, false, global_lock, is_long}
 use Rattle.w16_resource.proofs.Common.{left, load_of, loaded_again, loading_of, lock_outcome, nat_cmp, ne_format, refl, reply_of_call, resource_at, resource_in, slot_of_resource, subst, sym, true, ℕ, ◌/◌, ◌∙◌, ◌≡◌, ◌≤◌}
 use Rattle.std.specs.Prelude.{◌<◌, IfErr, Result, Ok, Err}
@@ -60,7 +60,7 @@ module _ (h : Handles) (modules : Modules) (loads : FinMap nat_cmp loading.Load)
         again x e n left more F = made_resource F old handle place (Word n) (loading_of h modules left files before) r (source_resource old handle place name entry s) short (Some x) (sym e) more
 
         module _ (honest : Type 0) (none : None ≡ load_of old handle place) (reply : Reply) (next : Handles) (left : FinMap nat_cmp loading.Load) (now : List (List ℕ × List ℕ)) (after : ℕ) (same : now ≡ files) (counted : before ≤ after)
-            (makes : MakesNew honest files name entry r handle place h loads before reply next left after) (rose : reply ≡ Failed faults.Store → before < after) where
+            (makes : MakesNew honest files name entry r handle place h loads reply next left) (rose : reply ≡ Failed faults.Store → before < after) where
           pub new_any : AnyStep old Command reply (loading_of next modules left now after)
           new_any = record {
             counted = counted;
@@ -68,7 +68,7 @@ module _ (h : Handles) (modules : Modules) (loads : FinMap nat_cmp loading.Load)
             files = same;
             step = subst (λ (fs : List (List ℕ × List ℕ)). LoadsResource AnyFetches old handle place reply (loading_of next modules left fs before)) (sym same)
                 (made_resource AnyFetches old handle place reply (loading_of next modules left files before) r (source_resource old handle place name entry s) short None (sym none)
-                (loads_any honest h modules loads files before name entry r handle place reply next left after makes));
+                (loads_any honest h modules loads files before name entry r handle place reply next left makes));
           }
 
           pub new_exact : honest → IsOfFiles ne_format old → LoadingStep ne_format old Command reply (loading_of next modules left now after)
@@ -77,7 +77,7 @@ module _ (h : Handles) (modules : Modules) (loads : FinMap nat_cmp loading.Load)
             failed = rose;
             step = subst (λ (fs : List (List ℕ × List ℕ)). LoadsResource (Fetches ne_format) old handle place reply (loading_of next modules left fs before)) (sym same)
                 (made_resource (Fetches ne_format) old handle place reply (loading_of next modules left files before) r (source_resource old handle place name entry s) short None (sym none)
-                (loads_exact honest h modules loads files before name entry r handle place reply next left after told s short is refl makes));
+                (loads_exact honest h modules loads files before name entry r handle place reply next left told s short is refl makes));
           }
 
   -- Locks.
@@ -113,10 +113,10 @@ module _ (h : Handles) (modules : Modules) (loads : FinMap nat_cmp loading.Load)
               (subst (λ q. AnyFetches old q fault (loading_of mid modules loads now before)) (here old handle x found) f) outcome;
         }
 
-        pub fetched_exact : FetchesCounted ne_format old (handle / 8) fault (loading_of mid modules loads now after) → LoadingStep ne_format old Locking reply (loading_of next modules loads now after)
+        pub fetched_exact : Fetches ne_format old (handle / 8) fault (loading_of mid modules loads now before) → LoadingStep ne_format old Locking reply (loading_of next modules loads now after)
         fetched_exact f = record {
           counted = counted;
           failed = rose;
           step = is_fetched (Fetches ne_format) old handle reply (loading_of next modules loads now before) x found absent fault (loading_of mid modules loads now before)
-              (subst (λ q. Fetches ne_format old q fault (loading_of mid modules loads now before)) (here old handle x found) f.fetched) outcome;
+              (subst (λ q. Fetches ne_format old q fault (loading_of mid modules loads now before)) (here old handle x found) f) outcome;
         }

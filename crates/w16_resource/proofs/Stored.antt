@@ -1,5 +1,5 @@
 -- Fetches of resources that are loaded, in a world over a store.
-use Rattle.w16_resource.proofs.Common.{AnyFetches, Entry, FetchFault, FetchesCounted, FetchesFrom, Handles, IfSome, IsLoadingOver, IsLoadingWorld, IsSome, IsSomeAnd, IsSourceAt, IsSourceOf, List, LoadingWorld}
+use Rattle.w16_resource.proofs.Common.{AnyFetches, Entry, FetchFault, Fetches, FetchesFrom, Handles, IfSome, IsLoadingOver, IsLoadingWorld, IsSome, IsSomeAnd, IsSourceAt, IsSourceOf, List, LoadingWorld}
 use Rattle.w16_resource.proofs.Common.{None, Option, Result, Some, StoreFetch, ap, counted, false≢true, fault_in, file_of, in_world, ne_format, refl, resource_at, subst, sym, with_handles, ℕ, ◌∙◌, ◌≡◌, ◌≤◌}
 use Rattle.std.specs.Prelude.{IfErr}
 use Rattle.std.specs.FinMap as finmap
@@ -28,7 +28,7 @@ module _ (honest : Type 0) (world : LoadingWorld) (slot : ℕ) (is : IsLoadingOv
   pub store_fetch : {A : Type 0} (result : Result A FetchFault) (new : Handles) (files : List (List ℕ × List ℕ)) (failures : ℕ) → files ≡ world.files → world.failures ≤ failures
       → IfErr result (RoseIf is_of_device world.failures failures)
       → ((rest : LoadingWorld) → AnyFetches (with_handles rest world.handles) slot (fault_in result) (with_handles rest new))
-      → ((file : List ℕ) → honest → file_of world.files name ≡ Some file → IsSourceOf file world.handles slot entry → FetchesFrom file world.handles slot entry world.failures (fault_in result) failures new)
+      → ((file : List ℕ) → honest → file_of world.files name ≡ Some file → IsSourceOf file world.handles slot entry → FetchesFrom file world.handles slot entry (fault_in result) new)
       → StoreFetch honest world slot (fault_in result) (record world { handles = new; files = files; failures = failures })
   store_fetch result new files failures same counted rose any exact = record {
     files = same;
@@ -39,14 +39,11 @@ module _ (honest : Type 0) (world : LoadingWorld) (slot : ℕ) (is : IsLoadingOv
   }
     where
       by : honest → (p : Option loading.Load) → finmap.get world.loads slot ≡ p → IsSomeAnd p (λ load. IsSourceAt world.modules load.handle load.place name entry)
-          → FetchesCounted ne_format world slot (fault_in result) (record world { handles = new; files = files; failures = failures })
+          → Fetches ne_format world slot (fault_in result) (record world { handles = new; files = files })
       by h None e s = absurd s
       by h (Some load) e s =
           let f = file_there world (is.1 h) load.handle load.place name entry s in
           let from = source_in world load.handle load.place name entry s f.0 f.1 (short world slot load e name entry s is.0) world.handles slot (sized world slot load e name entry s is.0) in
           let got = exact f.0 h (ap (file_of world.files) (sym s.named) ∙ f.1.stored) from in
-          subst (λ (fs : List (List ℕ × List ℕ)). FetchesCounted ne_format world slot (fault_in result) (record world { handles = new; files = fs; failures = failures })) (sym same) (record {
-            counted = counted;
-            failed = got.failed;
-            fetched = fetches world slot load.handle load.place load.loads name entry s e f.0 f.1 (fault_in result) world.failures failures new got;
-          })
+          subst (λ (fs : List (List ℕ × List ℕ)). Fetches ne_format world slot (fault_in result) (record world { handles = new; files = fs })) (sym same)
+          (fetches world slot load.handle load.place load.loads name entry s e f.0 f.1 (fault_in result) new got)

@@ -6,7 +6,7 @@ use Rattle.w16_model.specs.Handles.{Handles}
 use Rattle.w16_loading.specs.declared.FetchFault.{FetchFault}
 use Rattle.w16_loading.specs.declared.FetchFault.TheVariants.{Store}
 use Rattle.w16_loading.specs.AnyStore.{AnyFetches}
-use Rattle.w16_loading.specs.Fetch.{FetchesCounted}
+use Rattle.w16_loading.specs.Fetch.{Fetches}
 use Rattle.w16_loading.specs.Law.{IsLoadingWorld, IsOfFiles}
 use Rattle.w16_loading.specs.Modules.{Load, LoadingWorld, Modules}
 use Rattle.w16_loading.specs.Replies.{Reply}
@@ -27,7 +27,7 @@ pub record StoreFetch (honest : Type 0) (old : LoadingWorld) (slot : ℕ) (fault
   pub counted : old.failures ≤ new.failures
   pub failed : fault ≡ Some Store → old.failures < new.failures
   pub any : AnyFetches old slot fault (record new { failures = old.failures })
-  pub exact : honest → FetchesCounted ne_format old slot fault new
+  pub exact : honest → Fetches ne_format old slot fault (record new { failures = old.failures })
 
 -- the reply of a call that answers a word, or why an object got no bytes
 abbrev pub word_in : Result ℕ FetchFault → Reply

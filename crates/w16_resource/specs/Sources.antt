@@ -51,10 +51,9 @@ pub record IsSourceOf (file : List ℕ) (handles : Handles) (slot : ℕ) (entry 
   pub inside : entry.place < length file
   pub sized : owned_at handles slot ≡ Some (record { size = rounded_size entry.len; code = false })
 
--- A slot's object gets these bytes, or the device failed, and its count of failures rose, or there is no room.
-pub record FetchesFrom (file : List ℕ) (old : Handles) (slot : ℕ) (entry : Entry) (before : ℕ) (fault : Option FetchFault) (after : ℕ) (new : Handles) : Type 0 where
+-- A slot's object gets these bytes, or the device failed, or there is no room.
+pub record FetchesFrom (file : List ℕ) (old : Handles) (slot : ℕ) (entry : Entry) (fault : Option FetchFault) (new : Handles) : Type 0 where
   pub filled : FillsOne is_of_device old.heap slot (bytes_in file entry) fault new.heap
-  pub failed : fault ≡ Some Store → before < after
   pub rest : new ≡ record old { heap = new.heap }
 
 -- the handles with a new object for a resource
@@ -76,17 +75,17 @@ IsMadeOr (Some fault) made reply old next new loads more left = (reply ≡ refus
 
 -- A new object for a resource is fetched, in a free slot.
 pub record MakesOne (honest : Type 0) (files : List (List ℕ × List ℕ)) (name : List ℕ) (entry : Entry) (r : Resource) (handle place : ℕ)
-    (old : Handles) (loads : FinMap nat_cmp Load) (before : ℕ) (reply : Reply) (new : Handles) (left : FinMap nat_cmp Load) (after : ℕ) : Type 0 where
+    (old : Handles) (loads : FinMap nat_cmp Load) (reply : Reply) (new : Handles) (left : FinMap nat_cmp Load) : Type 0 where
   pub slot : ℕ
   pub free : IsFreeSlot old slot
   pub fault : Option FetchFault
   pub next : Handles
   pub any : (rest : LoadingWorld) → AnyFetches (with_handles rest (with_new old slot r)) slot fault (with_handles rest next)
   pub exact : (file : List ℕ) → honest → file_of files name ≡ Some file → IsSourceOf file (with_new old slot r) slot entry
-      → FetchesFrom file (with_new old slot r) slot entry before fault after next
+      → FetchesFrom file (with_new old slot r) slot entry fault next
   pub outcome : IsMadeOr fault (Word (handle_of r.kind slot)) reply old next new loads (finmap.insert loads slot (record { handle = handle; place = place; loads = 1 })) left
 
 -- A first load: so, or 0 where no slot is free.
-abbrev pub MakesNew : Type 0 → List (List ℕ × List ℕ) → List ℕ → Entry → Resource → ℕ → ℕ → Handles → FinMap nat_cmp Load → ℕ → Reply → Handles → FinMap nat_cmp Load → ℕ → Type 0
-MakesNew honest files name entry r handle place old loads before reply new left after =
-    (HasNoSlot old × (reply ≡ Word 0) × (new ≡ old) × (left ≡ loads)) ⊎ MakesOne honest files name entry r handle place old loads before reply new left after
+abbrev pub MakesNew : Type 0 → List (List ℕ × List ℕ) → List ℕ → Entry → Resource → ℕ → ℕ → Handles → FinMap nat_cmp Load → Reply → Handles → FinMap nat_cmp Load → Type 0
+MakesNew honest files name entry r handle place old loads reply new left =
+    (HasNoSlot old × (reply ≡ Word 0) × (new ≡ old) × (left ≡ loads)) ⊎ MakesOne honest files name entry r handle place old loads reply new left

@@ -47,7 +47,7 @@ pub(crate) fn read<S: Store, A: Allocator>(
     ensures exact { (file : List ℕ) → S.is_honest → file_of (S.files store.old) source.now.file.now ≡ Some file
         → is_long source.now.resource.len ≡ false → source.now.resource.place < length file
         → MatchResult result (λ _. scratch.new.bytes ≡ take source.now.resource.len (drop source.now.resource.place file))
-        (λ fault. (fault ≡ store_fails) × (S.failures store.old < S.failures store.new)) }
+        (λ fault. fault ≡ store_fails) }
 {
     let resource = source.resource;
     if is_too_long(resource.len) {
@@ -83,7 +83,7 @@ pub(crate) fn fetch_from<S: Store, A: Allocator + Copy>(
     ensures any { (rest : LoadingWorld) → LacksBytes global.old.handles handle → AnyFetches (with_handles rest global.old.handles) (handle / 8) (fault_in result) (with_handles rest global.new.handles) }
     ensures exact { (file : List ℕ) → S.is_honest → file_of (S.files store.old) source.now.file.now ≡ Some file → LacksBytes global.old.handles handle
         → IsSourceOf file global.old.handles (handle / 8) (entry_of source.now.resource)
-        → FetchesFrom file global.old.handles (handle / 8) (entry_of source.now.resource) (S.failures store.old) (fault_in result) (S.failures store.new) global.new.handles }
+        → FetchesFrom file global.old.handles (handle / 8) (entry_of source.now.resource) (fault_in result) global.new.handles }
 {
     read(source, store, scratch)?;
     let work = SegmentWork {

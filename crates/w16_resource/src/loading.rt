@@ -147,7 +147,7 @@ impl<A: Allocator + Copy> Resources<A> {
     ) -> Result<u16, FetchFault>
         requires { is_long source.now.resource.len ≡ false }
         ensures made { (label : Label) → MakesNew S.is_honest (S.files store.old) source.now.file.now (entry_of source.now.resource) (resource_in (label, entry_of source.now.resource)) handle place
-            global.old.handles self.old (S.failures store.old) (word_in result) global.new.handles self.new (S.failures store.new) }
+            global.old.handles self.old (word_in result) global.new.handles self.new }
         ensures stays { IsLater (S.files store.old) (S.failures store.old) (S.files store.new) (S.failures store.new) }
         ensures device { IfErr result (RoseIf is_of_device (S.failures store.old) (S.failures store.new)) }
     {

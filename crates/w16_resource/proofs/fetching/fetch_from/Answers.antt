@@ -22,14 +22,14 @@ pub returns-in_err-read-clause-exact : goal.returns-in_err-read-clause-exact
 returns-in_err-read-clause-exact g c = λ file honest has lacks is.
     let p = err_from_is_err_and c.from_residual.result c.from_residual.ensures.1 in
     let said = c.in_err-read.ensures.exact file honest has is.short is.inside in
-    rw (p.1, p.2) (unread file c.args.global.now.handles (c.args.handle / 8) _ is _ _ c.in_err-read.field-0.0 said.0 said.1)
+    rw (p.1, p.2) (unread file c.args.global.now.handles (c.args.handle / 8) _ is c.in_err-read.field-0.0 said)
 
 pub returns-then-give-clause-exact : goal.returns-then-give-clause-exact
 returns-then-give-clause-exact g c = λ file honest has lacks is.
     let read = c.in_ok-read.ensures.exact file honest has is.short is.inside in
-    filled file c.args.global.now.handles (c.args.handle / 8) _ is _ _ c.bytes.result.now (c.bytes.ensures ∙ read) c.give.new.global.handles (c.if-give.ensures.given refl)
+    filled file c.args.global.now.handles (c.args.handle / 8) _ is c.bytes.result.now (c.bytes.ensures ∙ read) c.give.new.global.handles (c.if-give.ensures.given refl)
 
 pub returns-else-give-clause-exact : goal.returns-else-give-clause-exact
 returns-else-give-clause-exact g c = λ file honest has lacks is.
-    subst (λ (x : Global). FetchesFrom file c.args.global.now.handles (c.args.handle / 8) (entry_of c.args.source.now.resource) (g.S.Store.failures c.args.store.now) (Some NoRoom) (g.S.Store.failures c.read.new.store) x.handles) (sym (c.if-give.ensures.refused refl))
-    (full file c.args.global.now.handles (c.args.handle / 8) _ is _ _ lacks.without_bytes (c.if-give.ensures.lacks refl lacks))
+    subst (λ (x : Global). FetchesFrom file c.args.global.now.handles (c.args.handle / 8) (entry_of c.args.source.now.resource) (Some NoRoom) x.handles) (sym (c.if-give.ensures.refused refl))
+    (full file c.args.global.now.handles (c.args.handle / 8) _ is lacks.without_bytes (c.if-give.ensures.lacks refl lacks))

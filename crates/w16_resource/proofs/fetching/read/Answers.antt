@@ -5,8 +5,7 @@ use Rattle.w16_resource.proofs.fetching.read.Goals as goal
 
 pub returns-in-Err-clause-exact : goal.returns-in-Err-clause-exact
 returns-in-Err-clause-exact g c = λ file honest has short inside.
-    let said = failed _ _ _ c.in-Err.fault (c.in-Err.ensures.exact file honest has) in
-    (c.fault_of.ensures.fault ∙ said.0, said.1)
+    c.fault_of.ensures.fault ∙ failed _ _ _ c.in-Err.fault (c.in-Err.ensures.exact file honest has)
 
 pub returns-then-is_empty-clause-exact : goal.returns-then-is_empty-clause-exact
 returns-then-is_empty-clause-exact g c = λ file honest has short inside.
