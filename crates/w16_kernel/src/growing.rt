@@ -7,6 +7,7 @@ ghost use Rattle.w16_kernel.specs.Growing.{missed_by, IsNotAdded};
 use arrayvec::ArrayVec;
 use std::alloc::Global;
 use std::marker::Model;
+use thiserror::Error;
 use w16_store::{MemStore, Store, StoreFault};
 
 /// The longest name that is kept, in bytes: that of the file of a reference, which has at most 255 and `.DLL` after them.
@@ -16,11 +17,13 @@ pub const MOST_NAME: usize = 259;
 type Name = ArrayVec<u8, MOST_NAME>;
 
 /// Why a file isn't added.
-#[derive(Debug, Clone, Copy, PartialEq, Eq, Drop)]
+#[derive(Debug, Clone, Copy, PartialEq, Eq, Drop, Error)]
 pub enum AddFault {
     /// There is a file of that name.
+    #[error("there is a file of that name")]
     Exists,
     /// There was no memory.
+    #[error("out of memory")]
     Memory,
 }
 

@@ -3,14 +3,19 @@
 
 pub mod laws;
 
+use thiserror::Error;
+
 /// Why a module's object doesn't get its bytes. Then nothing has changed.
-#[derive(Clone, Copy, Debug, PartialEq, Eq)]
+#[derive(Debug, Clone, Copy, PartialEq, Eq, Drop, Error)]
 pub enum FetchFault {
     /// No gap could hold it.
+    #[error("no room")]
     NoRoom,
     /// The store's device failed.
+    #[error("the store's device failed")]
     Store,
     /// The file reads otherwise than it did when the module was loaded.
+    #[error("the module's file isn't what it was at load")]
     Damaged,
 }
 
