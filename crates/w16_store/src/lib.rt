@@ -6,9 +6,11 @@ mod folder;
 mod fuse;
 mod memory;
 mod name;
+mod opened;
 mod part;
 mod store;
 mod system;
+mod window;
 
 pub use disk::{Disk, DiskFailure};
 pub use folder::{DirFault, DirStore};
