@@ -62,10 +62,14 @@ impl<F: OpenFile + Read + Seek + Drop> Opened<F> {
         }
     }
 
-    /// The file's length when it was opened. Fills the buffer from an offset on, where the file has bytes for all of it.
-    pub fn read(&mut self, at: u64, buf: &mut [u8]) -> io::Result<u64> {
+    /// The file's length when it was opened. Fills the buffer from an offset on, where the file has bytes for all of it. With an empty one what was read ahead is forgotten.
+    pub fn read(&mut self, at: u64, buf: &mut [u8]) -> io::Result<u64>
+        ensures { IfOk result (λ len. len ≡ self.old.stamp.len) }
+    {
         let len = self.stamp.len;
-        if has_part(len, at, buf.len()) && !self.window.copy(at, buf) {
+        if buf.is_empty() {
+            self.window.clear();
+        } else if has_part(len, at, buf.len()) && !self.window.copy(at, buf) {
             self.window.read(&mut self.file, at, len, buf)?;
         }
         Ok(len)

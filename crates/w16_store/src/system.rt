@@ -52,24 +52,24 @@ impl<R: Files + Drop> SystemDisk<R> {
         Opened::new(self.alloc, name, path, file)
     }
 
-    /// A file as it is now: the one that was read last, where it is that and didn't change. It is opened anew in any case where it is asked for so. No file is the last one then.
-    fn take_file(&mut self, name: &str, anew: bool) -> io::Result<Opened<R::File>>
+    /// A file as it is now: the one that was read last, where it is that and didn't change. No file is the last one then.
+    fn take_file(&mut self, name: &str) -> io::Result<Opened<R::File>>
         ensures name { IfOk result (λ file. string_bytes file.name ≡ name.now) }
         ensures failures { self.new.failures ≡ self.old.failures }
     {
         if let Some(last) = self.last.take() {
-            if !anew && last.is_still(&self.runtime, name) {
+            if last.is_still(&self.runtime, name) {
                 return Ok(last);
             }
         }
         self.open(name)
     }
 
-    /// A file's length. Fills the buffer from an offset on, where the file has bytes for all of it. For an empty buffer, which asks for the length, the file is opened anew. After an error no file is open.
+    /// A file's length. Fills the buffer from an offset on, where the file has bytes for all of it. After an error no file is open.
     fn read_part(&mut self, name: &str, at: u64, buf: &mut [u8]) -> io::Result<u64>
         ensures { self.new.failures ≡ self.old.failures }
     {
-        let mut file = self.take_file(name, buf.is_empty())?;
+        let mut file = self.take_file(name)?;
         let len = file.read(at, buf)?;
         self.last = Some(file);
         Ok(len)

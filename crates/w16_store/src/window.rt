@@ -27,6 +27,13 @@ impl Window {
         }
     }
 
+    /// No bytes any more.
+    pub fn clear(&mut self)
+        ensures { self.new.bytes.items ≡ [] }
+    {
+        self.bytes.clear();
+    }
+
     /// Fills the buffer with the bytes at an offset of the file. It answers whether the window has them all.
     pub fn copy(&self, at: u64, buf: &mut [u8]) -> bool
         ensures { IsTrue result → (self.now.from ≤ at) × (at + length buf.old ≤ self.now.from + length self.now.bytes.items)
