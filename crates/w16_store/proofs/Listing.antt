@@ -1,14 +1,13 @@
 -- Names that are found by places in their order.
-use Rattle.std.proofs.Common.{◌≡◌, ℕ, zero, suc, ◌+◌, ◌-◌, ◌<◌, ◌≤◌, Bool, true, false, cond, List, [], ◌∷◌, Some, None, length, get_or, drop, ◌++◌, min, refl, sym, ap, ◌∙◌, subst, arith, add-one, drop-cons, length-drop, eqb-true, ◌||◌, map, Global, String}
+use Rattle.std.proofs.Common.{◌≡◌, ℕ, zero, suc, ◌+◌, ◌-◌, ◌<◌, ◌≤◌, Bool, true, false, List, [], ◌∷◌, Some, None, length, get_or, drop, ◌++◌, min, refl, sym, ap, ◌∙◌, subst, arith, add-one, drop-cons, length-drop, eqb-true, ◌||◌, map, Global, String}
 use Rattle.std.specs.String.{string_bytes}
 use Rattle.std.specs.Prelude.{nat_eq}
-use Rattle.std.specs.List.{find, list_any, Any}
+use Rattle.std.specs.List.{find, list_any}
 use Rattle.std.specs.List.Sorted.{IsPartitionedBy, IsSortedBy}
 use Rattle.std.specs.Cmp.{IsTotalOrder}
 use Rattle.std.specs.declared.cmp.Ordering.{Ordering}
 use Rattle.std.specs.declared.cmp.Ordering.TheVariants.{Less, Equal, Greater}
-use Rattle.std.specs.Ordering.{nat_cmp, on, then_cmp, is_lt, is_eq, ordering_then, ordering_reverse, ordering_index}
-use Rattle.std.specs.Cmp.Lexicographic.{slice_cmp}
+use Rattle.std.specs.Ordering.{nat_cmp, is_lt, is_eq, ordering_then, ordering_reverse, ordering_index}
 use Rattle.std.specs.Str.{str_to_ascii_uppercase}
 use Rattle.std.specs.Char.{to_ascii_uppercase}
 use Rattle.std.proofs.lemmas.Bool.Decides.{nat_tests}

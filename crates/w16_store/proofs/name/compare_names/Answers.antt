@@ -1,4 +1,4 @@
-use Rattle.std.proofs.Common.{◌≡◌, sym, ◌∙◌, arith}
+use Rattle.std.proofs.Common.{sym, ◌∙◌, arith}
 use Rattle.w16_store.proofs.Listing.{name_cmp-end}
 use Rattle.w16_store.proofs.name.compare_names.Goals as goal
 

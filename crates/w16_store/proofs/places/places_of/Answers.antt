@@ -1,4 +1,4 @@
-use Rattle.std.proofs.Common.{◌≡◌, ℕ, Global, map, sym, ◌∙◌, ap, arith, rules}
+use Rattle.std.proofs.Common.{Global, map, sym, ◌∙◌, arith, rules}
 use Rattle.std.proofs.lemmas.List.{length-map}
 use Rattle.std.specs.Prelude.{nat_eq}
 use Rattle.std.specs.Ordering.{is_lt}
@@ -6,7 +6,7 @@ use Rattle.std.specs.String.{string_bytes}
 use Rattle.std.proofs.lemmas.List.Sorted.{ranks_by, list_any-IsPermutation}
 use Rattle.std.proofs.lemmas.Fn.{always_returns_same}
 use Rattle.w16_store.specs.Places.{place_cmp}
-use Rattle.w16_store.proofs.Listing.{place_cmp_total, counted_more}
+use Rattle.w16_store.proofs.Listing.{place_cmp_total}
 use Rattle.w16_store.proofs.places.places_of.Goals as goal
 
 pub returns-clause-rising : goal.returns-clause-rising
