@@ -1,5 +1,5 @@
 -- Names that are found by places in their order.
-use Rattle.std.proofs.Common.{◌≡◌, ℕ, zero, suc, ◌+◌, ◌-◌, ◌<◌, ◌≤◌, Bool, true, false, List, [], ◌∷◌, Some, None, length, get_or, drop, ◌++◌, min, refl, sym, ap, ◌∙◌, subst, arith, add-one, drop-cons, length-drop, eqb-true, ◌||◌, map, Global, String}
+use Rattle.std.proofs.Common.{◌≡◌, ℕ, zero, suc, ◌+◌, ◌-◌, ◌<◌, ◌≤◌, Bool, true, false, List, [], ◌∷◌, Some, None, length, get_or, drop, ◌++◌, min, refl, sym, ap, ◌∙◌, subst, arith, length-drop, eqb-true, ◌||◌, map, Global, String}
 use Rattle.std.specs.String.{string_bytes}
 use Rattle.std.specs.Prelude.{nat_eq}
 use Rattle.std.specs.List.{find, list_any}
@@ -9,9 +9,8 @@ use Rattle.std.specs.declared.cmp.Ordering.{Ordering}
 use Rattle.std.specs.declared.cmp.Ordering.TheVariants.{Less, Equal, Greater}
 use Rattle.std.specs.Ordering.{nat_cmp, is_lt, is_eq, ordering_then, ordering_reverse, ordering_index}
 use Rattle.std.specs.Str.{str_to_ascii_uppercase}
-use Rattle.std.specs.Char.{to_ascii_uppercase}
 use Rattle.std.proofs.lemmas.Bool.Decides.{nat_tests}
-use Rattle.std.proofs.lemmas.Cmp.{on_total, then_total, nat_cmp_total, nat_list_cmp_total}
+use Rattle.std.proofs.lemmas.Cmp.{is_lt_index, on_total, then_total, nat_cmp_total, nat_list_cmp_total}
 use Rattle.std.proofs.lemmas.Map.Text.{is_eq-slice_cmp}
 use Rattle.std.proofs.lemmas.List.Sorted.{ranks_by, sorted_far, searchable_from_sorted}
 use Rattle.std.proofs.lemmas.List.Folds.{Any-from_list_any, list_any-append}
@@ -56,10 +55,6 @@ find-none (n ∷ ns) name none =
 
 -- names are compared byte by byte
 
-pub name_cmp-drop : (a b : List ℕ) (i : ℕ) → i < length a → i < length b
-    → name_cmp (drop i a) (drop i b) ≡ ordering_then (nat_cmp (to_ascii_uppercase (get_or a i 0)) (to_ascii_uppercase (get_or b i 0))) (name_cmp (drop (i + 1) a) (drop (i + 1) b))
-name_cmp-drop a b i h k = rw (add-one, drop-cons a i 0 h, drop-cons b i 0 k) refl
-
 pub name_cmp-end : (a b : List ℕ) (i : ℕ) → i ≡ min (length a) (length b) → name_cmp (drop i a) (drop i b) ≡ nat_cmp (length a) (length b)
 name_cmp-end a b i h = by (drop i a) (drop i b) (length a) (length b) i (length-drop i a) (length-drop i b) h
   where
@@ -78,43 +73,9 @@ same_rank Greater o h k = cc
 not_below : (a b : ℕ) → is_lt (nat_cmp a b) ≡ false → b ≤ a
 not_below a b h = grind (arith, nat_tests)
 
--- Where places stand in order, with those of lesser names than this one before `at`, a place with this name is no less than the one at `at`, and that has the name too.
-pub record IsFirst (names : List (List ℕ)) (places : List ℕ) (name : List ℕ) (at j d : ℕ) : Type 0 where
-  pub within : at < length places
-  pub named : is_named (name_at names (get_or places at d)) name ≡ true
-  pub least : get_or places at d ≤ j
-
-pub first_at : (names : List (List ℕ)) (places : List ℕ) (name : List ℕ) (at j d : ℕ) → AreInOrder names places → list_any (nat_eq j) places ≡ true
-    → ((k : ℕ) (e : ℕ) → k < at → is_lt (name_cmp (name_at names (get_or places k e)) name) ≡ true)
-    → ((k : ℕ) (e : ℕ) → at ≤ k → k < length places → is_lt (name_cmp (name_at names (get_or places k e)) name) ≡ false)
-    → is_named (name_at names j) name ≡ true → IsFirst names places name at j d
-first_at names places name at j d order whole before after here =
-    let any = Any-from_list_any (nat_eq j) places whole in
-    let q = any.0 in
-    let q_within : q < length places = any.2 in
-    let x_is : j ≡ any.1 = eqb-true j any.1 any.4 in
-    let is : get_or places q d ≡ j = get_or_default places q d any.1 q_within ∙ any.3 ∙ sym x_is in
-    let equal = equal_where_named (name_at names j) name here in
-    let not_before : q < at → ⊥ = λ h. (cc (before q d h)) in
-    let within : at ≤ q = omega (arith, not_before) in
-    let at_within : at < length places = omega arith in
-    let a = get_or places at d in
-    let far = sorted_far (λ x y. is_lt (place_cmp names x y)) (ranks_by (place_cmp_total names) (λ x. x)) places order at q d within q_within in
-    let turned : name_cmp (name_at names j) (name_at names a) ≡ ordering_reverse (name_cmp (name_at names a) name) =
-    name_cmp_total.congr (name_at names j) name (name_at names a) equal ∙ name_cmp_total.antisymm name (name_at names a) in
-    let ranked = same_rank (name_cmp (name_at names a) name) (nat_cmp j a) (after at d (omega arith) at_within)
-    (subst (λ (r : Ordering). is_lt (ordering_then r (nat_cmp j a)) ≡ false) turned (subst (λ (x : ℕ). is_lt (place_cmp names x a) ≡ false) is far)) in
-    record {
-      within = at_within;
-      named = sym (is_named-name_cmp (name_at names a) name) ∙ ap is_eq ranked.0;
-      least = not_below j a ranked.1;
-    }
-
--- what the search for a name knows of the places
-pub record IsSplit (names : List (List ℕ)) (places : List ℕ) (name : List ℕ) (at : ℕ) : Type 0 where
-  pub rising : AreInOrder names places
-  pub whole : (place : ℕ) → place < length names → list_any (nat_eq place) places ≡ true
-  pub parts : IsSplitAt names places name at
+not_true : (b : Bool) → (b ≡ true → ⊥) → b ≡ false
+not_true true h = absurd (h refl)
+not_true false h = refl
 
 first_is_no_less : (r o : Ordering) → is_lt (ordering_then r o) ≡ false → is_lt r ≡ false
 first_is_no_less Less o h = h
@@ -122,13 +83,7 @@ first_is_no_less Equal o h = refl
 first_is_no_less Greater o h = refl
 
 less_below : (r s : Ordering) → ordering_index r ≤ ordering_index s → is_lt s ≡ true → is_lt r ≡ true
-less_below Less s h k = refl
-less_below Equal Less h k = absurd (omega arith)
-less_below Equal Equal h k = k
-less_below Equal Greater h k = k
-less_below Greater Less h k = absurd (omega arith)
-less_below Greater Equal h k = k
-less_below Greater Greater h k = k
+less_below r s h k = grind (arith, nat_tests, is_lt_index)
 
 pub is_partitioned : (names : List (List ℕ)) (places : List ℕ) (name : List ℕ) → AreInOrder names places → IsPartitionedBy (λ p. is_lt (name_cmp (name_at names p) name)) places
 is_partitioned names places name rising i j d le within here =
@@ -137,25 +92,48 @@ is_partitioned names places name rising i j d le within here =
     let up = searchable_from_sorted name_cmp_total (name_at names) places name by_name i j d le within in
     less_below (name_cmp (name_at names (get_or places i d)) name) (name_cmp (name_at names (get_or places j d)) name) up here
 
-first_named : (names : List (List ℕ)) (places : List ℕ) (name : List ℕ) (at j d : ℕ) → IsSplit names places name at → j < length names → is_named (name_at names j) name ≡ true → IsFirst names places name at j d
-first_named names places name at j d split lt here =
-    first_at names places name at j d split.rising (split.whole j lt) (λ k e h. split.parts.0 k e (omega arith) h) split.parts.1 here
+-- What a search for a name among strings finds, by the place p that it answers.
+module _ (strings : List (String Global)) (places name : List ℕ) (at d p : ℕ) (rising : AreInOrder (map string_bytes strings) places) (whole : AreWhole (map string_bytes strings) places)
+    (long : length places ≡ length strings) (parts : IsSplitAt (map string_bytes strings) places name at) (is : p ≡ get_or places at d) where
+  abbrev names : List (List ℕ)
+  names = map string_bytes strings
 
-pub split-found : (names : List (List ℕ)) (places : List ℕ) (name : List ℕ) (at d : ℕ) → IsSplit names places name at → get_or places at d < length names → is_named (name_at names (get_or places at d)) name ≡ true
-    → find (λ n. is_named n name) names ≡ Some (name_at names (get_or places at d))
-split-found names places name at d split lt here = find-first names name (get_or places at d) lt here (λ k h. by k h (is_named (name_at names k) name) refl)
-  where
-    by : (k : ℕ) → k < get_or places at d → (b : Bool) → is_named (name_at names k) name ≡ b → is_named (name_at names k) name ≡ false
-    by k h true e = (let first = first_named names places name at k d split (omega arith) e in absurd (omega arith))
-    by k h false e = e
+  as_long : length names ≡ length strings
+  as_long = length-map strings (string_bytes {Z = Global})
 
-pub split-none : (names : List (List ℕ)) (places : List ℕ) (name : List ℕ) (at d : ℕ) → IsSplit names places name at
-    → (at < length places → get_or places at d < length names → is_named (name_at names (get_or places at d)) name ≡ true → ⊥) → find (λ n. is_named n name) names ≡ None
-split-none names places name at d split other = find-none names name (λ k h. by k h (is_named (name_at names k) name) refl)
-  where
-    by : (k : ℕ) → k < length names → (b : Bool) → is_named (name_at names k) name ≡ b → is_named (name_at names k) name ≡ false
-    by k h true e = (let first = first_named names places name at k d split h e in absurd (other first.within (omega arith) first.named))
-    by k h false e = e
+  -- a place with the name is no less than p, which has the name too
+  first : (j : ℕ) → j < length strings → is_named (name_at names j) name ≡ true → (is_named (name_at names p) name ≡ true) × (p ≤ j)
+  first j lt here =
+      let any = Any-from_list_any (nat_eq j) places (whole (long ∙ sym as_long) j (omega (arith, as_long))) in
+      let within : any.0 < length places = any.2 in
+      let here_is : get_or places any.0 d ≡ j = get_or_default places any.0 d any.1 within ∙ any.3 ∙ sym (eqb-true j any.1 any.4) in
+      let equal = equal_where_named (name_at names j) name here in
+      let not_before : any.0 < at → ⊥ = λ h. (cc (parts.0 any.0 d (omega arith) h)) in
+      let from : at ≤ any.0 = omega (arith, not_before) in
+      let a = get_or places at d in
+      let far = sorted_far (λ x y. is_lt (place_cmp names x y)) (ranks_by (place_cmp_total names) (λ x. x)) places rising at any.0 d from within in
+      let turned : name_cmp (name_at names j) (name_at names a) ≡ ordering_reverse (name_cmp (name_at names a) name) =
+      name_cmp_total.congr (name_at names j) name (name_at names a) equal ∙ name_cmp_total.antisymm name (name_at names a) in
+      let ranked = same_rank (name_cmp (name_at names a) name) (nat_cmp j a) (parts.1 at d (omega arith) (omega arith))
+      (subst (λ (r : Ordering). is_lt (ordering_then r (nat_cmp j a)) ≡ false) turned (subst (λ (x : ℕ). is_lt (place_cmp names x a) ≡ false) here_is far)) in
+      rw is (sym (is_named-name_cmp (name_at names a) name) ∙ ap is_eq ranked.0, not_below j a ranked.1)
+
+  name_is : (s : String Global) → p < length strings → s ≡ get_or strings p s → name_at names p ≡ string_bytes s
+  name_is s lt e = get_or-map (string_bytes {Z = Global}) strings p s [] lt ∙ ap (string_bytes {Z = Global}) (sym e)
+
+  no_other : ((k : ℕ) → k < length strings → is_named (name_at names k) name ≡ true → ⊥) → find (λ n. is_named n name) names ≡ None
+  no_other none = find-none names name (λ k h. not_true (is_named (name_at names k) name) (none k (omega (arith, as_long))))
+
+  pub string-found : (s : String Global) → p < length strings → s ≡ get_or strings p s → is_named (string_bytes s) name ≡ true → find (λ n. is_named n name) names ≡ Some (string_bytes s)
+  string-found s lt e here =
+      let before = λ (k : ℕ) (h : k < p). not_true (is_named (name_at names k) name) (λ t. (let f = (first k (omega arith) t).1 in omega arith)) in
+      find-first names name p (omega (arith, as_long)) (ap (λ n. is_named n name) (name_is s lt e) ∙ here) before ∙ ap (λ n. Some n) (name_is s lt e)
+
+  pub string-other : (s : String Global) → p < length strings → s ≡ get_or strings p s → is_named (string_bytes s) name ≡ false → find (λ n. is_named n name) names ≡ None
+  string-other s lt e other = no_other (λ k h t. (let same = name_is s lt e in cc (first k h t).0))
+
+  pub string-none : length strings ≤ p → find (λ n. is_named n name) names ≡ None
+  string-none le = no_other (λ k h t. (let f = (first k h t).1 in omega arith))
 
 -- all places below n
 pub record AreCounted (places : List ℕ) (n : ℕ) : Type 0 where
@@ -169,26 +147,3 @@ counted_more places n all = record { holds = λ k h. rw (list_any-append (nat_eq
       | true ↦ λ t. grind arith
       | false ↦ λ t. (let less : k < n = grind (arith, nat_tests) in rw (all.holds k less) refl)
     ] refl
-
--- The same of strings, by what is found at the place that the search answers.
-module _ (strings : List (String Global)) (places : List ℕ) (name : List ℕ) (at d p : ℕ) (rising : AreInOrder (map string_bytes strings) places) (whole : AreWhole (map string_bytes strings) places)
-    (long : length places ≡ length strings) (parts : IsSplitAt (map string_bytes strings) places name at) (is : p ≡ get_or places at d) where
-  as_long : length (map string_bytes strings) ≡ length strings
-  as_long = length-map strings (string_bytes {Z = Global})
-
-  split : IsSplit (map string_bytes strings) places name at
-  split = record { rising = rising; whole = whole (long ∙ sym as_long); parts = parts }
-
-  name_is : (s : String Global) → p < length strings → s ≡ get_or strings p s → name_at (map string_bytes strings) (get_or places at d) ≡ string_bytes s
-  name_is s lt e = rw (← is) (get_or-map (string_bytes {Z = Global}) strings p s [] lt ∙ ap (string_bytes {Z = Global}) (sym e))
-
-  pub string-found : (s : String Global) → p < length strings → s ≡ get_or strings p s → is_named (string_bytes s) name ≡ true → find (λ n. is_named n name) (map string_bytes strings) ≡ Some (string_bytes s)
-  string-found s lt e here =
-      split-found (map string_bytes strings) places name at d split (omega (arith, as_long, is)) (ap (λ n. is_named n name) (name_is s lt e) ∙ here) ∙ ap (λ n. Some n) (name_is s lt e)
-
-  pub string-other : (s : String Global) → p < length strings → s ≡ get_or strings p s → is_named (string_bytes s) name ≡ false → find (λ n. is_named n name) (map string_bytes strings) ≡ None
-  string-other s lt e other =
-      split-none (map string_bytes strings) places name at d split (λ h k named. (let same = name_is s lt e in cc))
-
-  pub string-none : length strings ≤ p → find (λ n. is_named n name) (map string_bytes strings) ≡ None
-  string-none le = split-none (map string_bytes strings) places name at d split (λ h k named. (let l = as_long in let q = is in omega arith))

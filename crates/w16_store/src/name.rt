@@ -1,4 +1,4 @@
-//! When two names are one.
+//! When two names are one, and which is the first.
 ghost use Rattle.std.specs.Prelude.{◌≡◌};
 ghost use Rattle.w16_store.specs.Names.{is_named, name_cmp};
 

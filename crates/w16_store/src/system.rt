@@ -52,7 +52,7 @@ impl<R: Files + Drop> SystemDisk<R> {
         Opened::new(self.alloc, name, path, file)
     }
 
-    /// A file as it is now: the one that was read last, where it is that and didn't change. No file is the last one then.
+    /// A file as it is now: the one that was read last, where it is that one and didn't change. Afterwards there is none that was read last.
     fn take_file(&mut self, name: &str) -> io::Result<Opened<R::File>>
         ensures name { IfOk result (λ file. string_bytes file.name ≡ name.now) }
         ensures failures { self.new.failures ≡ self.old.failures }
