@@ -7,9 +7,12 @@ mod folder;
 mod fuse;
 mod memory;
 mod name;
+mod opened;
 mod part;
+mod places;
 mod store;
 mod system;
+mod window;
 
 pub use count::count_failure;
 pub use disk::{Disk, DiskFailure};

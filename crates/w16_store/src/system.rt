@@ -1,25 +1,26 @@
 //! A folder of the system.
-ghost use Rattle.std.specs.Prelude.{◌≡◌, ◌<◌, ◌≤◌, ◌↔◌, ℕ, [], IfOk, OnOk, OnErr, IsOkUnless};
-ghost use Rattle.std.specs.Fs.{IsFile, file_type, metadata_len};
+ghost use Rattle.std.specs.Prelude.{◌≡◌, ◌<◌, ◌≤◌, ◌↔◌, ℕ, [], IfOk, OnErr, IsOkUnless};
 ghost use Rattle.std.specs.IoError.{error_kind};
 ghost use Rattle.std.specs.String.{string_bytes};
 ghost use Rattle.w16_store.specs.declared.folder.DirFault.TheVariants.{Memory};
 
 use crate::disk::{Disk, DiskFailure};
 use crate::folder::DirFault;
-use crate::part::has_part;
+use crate::opened::{Opened, regular_len};
 use std::alloc::Global;
-use std::fs::{DirEntry, Metadata, OpenFile};
-use std::io::{Error, ErrorKind, Read, Seek, SeekFrom};
+use std::fs::DirEntry;
+use std::io::{Error, ErrorKind};
 use std::rt::Files;
 use std::{fs, io};
 
-/// A folder of the system, by its path. A file is opened at each read, once it was seen that it is a regular one, so that no read waits.
+/// A folder of the system, by its path. A file is opened once it was seen that it is a regular one, so that no read waits, and stays open until another is read.
 #[derive(Drop)]
 pub struct SystemDisk<R: Files + Drop> {
     runtime: R,
     alloc: Global,
     folder: String,
+    /// The file that was read last, where no read failed since.
+    last: Option<Opened<R::File>>,
     failures: u64,
 }
 
@@ -34,6 +35,7 @@ impl<R: Files + AllocGlobal + Clone + Drop> SystemDisk<R> {
             runtime: rt.clone()?,
             alloc,
             folder: String::from_str(alloc, folder)?,
+            last: None,
             failures: 0,
         })
     }
@@ -41,10 +43,36 @@ impl<R: Files + AllocGlobal + Clone + Drop> SystemDisk<R> {
 
 impl<R: Files + Drop> SystemDisk<R> {
     /// Opens a file for reading. What it is is looked at before, since to open a FIFO waits for one that writes to it.
-    fn open(&self, name: &str) -> io::Result<R::File> {
+    fn open(&self, name: &str) -> io::Result<Opened<R::File>>
+        ensures { IfOk result (λ file. string_bytes file.name ≡ name.now) }
+    {
         let path = format!(in self.alloc; "{}/{name}", self.folder)?;
         regular_len(&fs::metadata(&self.runtime, path.as_str())?)?;
-        fs::open(&self.runtime, path.as_str())
+        let file = fs::open(&self.runtime, path.as_str())?;
+        Opened::new(self.alloc, name, path, file)
+    }
+
+    /// A file as it is now: the one that was read last, where it is that one and didn't change. Afterwards there is none that was read last.
+    fn take_file(&mut self, name: &str) -> io::Result<Opened<R::File>>
+        ensures name { IfOk result (λ file. string_bytes file.name ≡ name.now) }
+        ensures failures { self.new.failures ≡ self.old.failures }
+    {
+        if let Some(last) = self.last.take() {
+            if last.is_still(&self.runtime, name) {
+                return Ok(last);
+            }
+        }
+        self.open(name)
+    }
+
+    /// A file's length. Fills the buffer from an offset on, where the file has bytes for all of it. After an error no file is open.
+    fn read_part(&mut self, name: &str, at: u64, buf: &mut [u8]) -> io::Result<u64>
+        ensures { self.new.failures ≡ self.old.failures }
+    {
+        let mut file = self.take_file(name)?;
+        let len = file.read(at, buf)?;
+        self.last = Some(file);
+        Ok(len)
     }
 
     /// Adds an entry's name to the list, where it is a regular file.
@@ -77,11 +105,6 @@ impl<R: Files + Drop> SystemDisk<R> {
         }
     }
 
-    fn read_part(&self, name: &str, at: u64, buf: &mut [u8]) -> io::Result<u64> {
-        let mut file = self.open(name)?;
-        read_regular(&mut file, at, buf)
-    }
-
     /// Counts a failure. Where the count is full, which takes 500 years at one failure a nanosecond, the file is as one without bytes.
     fn fail(&mut self) -> Result<u64, DiskFailure>
         ensures counted { self.old.failures ≤ self.new.failures }
@@ -93,33 +116,6 @@ impl<R: Files + Drop> SystemDisk<R> {
         self.failures = failures;
         Err(DiskFailure)
     }
-}
-
-/// The length of a regular file, by what the system says of it. An error is that it is a folder, a device, a FIFO or the like.
-fn regular_len(metadata: &Metadata) -> io::Result<u64>
-    ensures ok { OnOk result (IsFile (file_type metadata.now)) }
-    ensures len { IfOk result (λ len. len ≡ metadata_len metadata.now) }
-    ensures err { OnErr result (IsFile (file_type metadata.now) → ⊥) }
-{
-    if metadata.is_file() {
-        Ok(metadata.len())
-    } else {
-        Err(Error::from(ErrorKind::InvalidInput))
-    }
-}
-
-/// The length of a regular file. Fills the buffer from an offset on, where the file has bytes for all of it.
-fn read_regular<F: OpenFile + Read + Seek>(
-    file: &mut F,
-    at: u64,
-    buf: &mut [u8],
-) -> io::Result<u64> {
-    let len = regular_len(&file.metadata()?)?;
-    if has_part(len, at, buf.len()) {
-        file.seek(SeekFrom::Start(at))?;
-        file.read_exact(buf)?;
-    }
-    Ok(len)
 }
 
 /// Why a folder wasn't listed.
