@@ -9,7 +9,6 @@ mod memory;
 mod name;
 mod opened;
 mod part;
-mod places;
 mod store;
 mod system;
 mod window;

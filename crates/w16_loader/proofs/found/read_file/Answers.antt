@@ -4,7 +4,7 @@ use Rattle.w16_loader.proofs.Files.{is_read, is_refused}
 use Rattle.w16_loader.proofs.found.read_file.Goals as goal
 
 pub returns-in-Err-read_module-clause-err : goal.returns-in-Err-read_module-clause-err
-returns-in-Err-read_module-clause-err g c = λ honest. rw c.fault_of-in-Err-read_module.ensures
+returns-in-Err-read_module-clause-err g c = λ honest. rw c.fault_of-in-Err-read_module.ensures.fault
     (is_refused (file_of (g.S.Store.files c.args.store.now) c.args.name.now) c.in-Ok.field-0 _ _ _ c.in-Err-read_module.fault c.in-Ok.ensures.stays.counted
     (c.in-Ok.ensures.honest honest) (c.in-Ok.ensures.bytes honest) (rw c.in-Ok.ensures.stays.same at c.in-Err-read_module.ensures.exact honest))
 
