@@ -137,7 +137,7 @@ pub fn run_script<'a, R: Read + Drop, W: Write + Drop, S: Store + Drop, E: Eprin
     }
 }
 
-/// Runs the script of a reader, whose replies go to standard output, which doesn't tell what it holds.
+/// Runs the script of a reader, whose replies go to standard output, of which no contract says what it holds.
 fn run_printed<'a, R: Read + Drop, S: Store + Drop>(
     rt: &HostRuntime,
     options: &Options<'a>,
