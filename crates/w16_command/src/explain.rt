@@ -21,7 +21,9 @@ pub struct Source<'a, R: Read + Drop, E: Eprint> {
 }
 
 impl<'a, R: Read + Drop, E: Eprint> Source<'a, R, E> {
-    pub fn new(rt: &'a E, reader: R, lines: Option<&'a RefCell<Lines>>) -> Self {
+    pub fn new(rt: &'a E, reader: R, lines: Option<&'a RefCell<Lines>>) -> Self
+        ensures { result.reader ≡ reader }
+    {
         let fault = Error::other("can't be read");
         Source {
             rt,

@@ -7,7 +7,5 @@ mod lines;
 mod playing;
 mod reason;
 
-pub use explain::{NotedMachine, Source};
 pub use fault::{Fault, report};
-pub use lines::Lines;
-pub use playing::play;
+pub use playing::{play, run_script};

@@ -1,9 +1,12 @@
 //! Runs of a script on a new machine.
-ghost use Rattle.std.specs.Prelude.{◌≡◌, IfOk, IfErr, Err};
+ghost use Rattle.std.specs.Prelude.{◌≡◌, [], None, IfOk, IfErr, Err};
 ghost use Rattle.std.specs.String.{string_bytes};
+ghost use Rattle.std.specs.Io.Buffered.{writer_buffer, writer_contents};
 ghost use Rattle.w16_machine.specs.World.{empty_world};
+ghost use Rattle.w16_kernel.specs.Parts.{KernelStep};
 ghost use Rattle.w16_kernel.specs.Sizes.{IsMemorySize, IsSelectorCount};
 ghost use Rattle.w16_command.specs.Faults.{IsOfFiles};
+ghost use Rattle.w16_command.specs.Playing.{Plays, HasPlayed};
 
 use crate::explain::{NotedMachine, Source};
 use crate::fault::Fault;
@@ -56,14 +59,19 @@ fn machine<'a, S: Store + Drop>(
     Kernel::new(alloc, options.memory, options.selectors, store).map_err(|_| Fault::Memory)
 }
 
-/// Runs a script, and flushes what was replied before the run's own fault is told: a failure there is the write fault.
-fn run_flushed<'a, R: Read + Drop>(
+/// Runs a script, and flushes what was replied before the run's own fault is told: a failure there is the write fault. Unless that is told,
+/// nothing is left in the buffer.
+fn run_flushed<'a, R: Read + Drop, W: Write + Drop, K: Machine, E: Eprint>(
     alloc: Global,
     path: &'a str,
-    source: &mut Source<'_, R, HostRuntime>,
-    writer: &mut impl Write,
-    kernel: &mut impl Machine,
-) -> Result<(), Fault<'a>> {
+    source: &mut Source<'_, R, E>,
+    writer: &mut BufWriter<W>,
+    kernel: &mut K,
+) -> Result<(), Fault<'a>>
+    ensures plays { Plays K.steps (R.remaining source.old.reader) (R.remaining source.new.reader) (writer_contents W.contents writer.old) (K.world kernel.old)
+        path.entry result (writer_contents W.contents writer.new) (K.world kernel.new) }
+    ensures flushed { (result ≡ Err Fault.Write → ⊥) → writer_buffer writer.new ≡ [] }
+{
     let ended = run(alloc, source, writer, kernel);
     if writer.flush().is_err() {
         return Err(Fault::Write);
@@ -74,53 +82,75 @@ fn run_flushed<'a, R: Read + Drop>(
     }
 }
 
-/// Runs a script, whose replies go to standard output.
-fn run_printed<'a, R: Read + Drop>(
-    rt: &HostRuntime,
-    path: &'a str,
-    source: &mut Source<'_, R, HostRuntime>,
-    kernel: &mut impl Machine,
-) -> Result<(), Fault<'a>> {
-    match BufWriter::new(rt.alloc(), io::writer(rt)) {
-        Ok(mut writer) => run_flushed(rt.alloc(), path, source, &mut writer, kernel),
-        Err(_) => Err(Fault::Memory),
-    }
-}
-
-/// The same, and explains.
-fn run_explained<'a, S: Store + Drop, R: Read + Drop>(
-    rt: &HostRuntime,
+/// Runs a script, and explains.
+fn run_explained<'a, R: Read + Drop, W: Write + Drop, S: Store + Drop, E: Eprint>(
+    rt: &E,
+    alloc: Global,
     path: &'a str,
     reader: R,
+    writer: &mut BufWriter<W>,
     kernel: Kernel<S>,
-) -> Result<(), Fault<'a>> {
-    let Ok(lines) = Lines::new(rt.alloc()) else {
+) -> Result<(), Fault<'a>>
+    ensures plays { HasPlayed (KernelStep S.is_honest) (R.remaining reader) (writer_contents W.contents writer.old) kernel path.entry result (writer_contents W.contents writer.new) }
+    ensures flushed { writer_buffer writer.old ≡ [] → (result ≡ Err Fault.Write → ⊥) → writer_buffer writer.new ≡ [] }
+{
+    let Ok(lines) = Lines::new(alloc) else {
         return Err(Fault::Memory);
     };
     let lines = &RefCell::new(lines);
-    let mut source = Source::new(rt, reader, Some(lines));
-    run_printed(
-        rt,
+    run_flushed(
+        alloc,
         path,
-        &mut source,
+        &mut Source::new(rt, reader, Some(lines)),
+        writer,
         &mut NotedMachine { kernel, lines, rt },
     )
 }
 
-/// Runs the script of a reader, which is called as its path, on a new machine over a store.
-fn run_script<'a, R: Read + Drop>(
+/// Runs the script of a reader, which is called as its path, on a new machine over a store, and writes its replies and nothing else. At its
+/// end, and after each fault, what was replied is flushed; unless that fails, nothing of it is left in the buffer. What is said on standard
+/// error changes nothing of this.
+pub fn run_script<'a, R: Read + Drop, W: Write + Drop, S: Store + Drop, E: Eprint>(
+    rt: &E,
+    alloc: Global,
+    options: &Options<'a>,
+    store: S,
+    path: &'a str,
+    reader: R,
+    writer: &mut BufWriter<W>,
+) -> Result<(), Fault<'a>>
+    requires { IsMemorySize options.now.memory × IsSelectorCount options.now.selectors }
+    ensures plays { HasPlayed (KernelStep S.is_honest) (R.remaining reader) (writer_contents W.contents writer.old)
+        (empty_world options.now.memory options.now.selectors (S.files store) (S.failures store)) path.entry result (writer_contents W.contents writer.new) }
+    ensures flushed { writer_buffer writer.old ≡ [] → (result ≡ Err Fault.Write → ⊥) → writer_buffer writer.new ≡ [] }
+{
+    match machine(alloc, options, store) {
+        Ok(kernel) if options.explain => run_explained(rt, alloc, path, reader, writer, kernel),
+        Ok(mut kernel) => run_flushed(
+            alloc,
+            path,
+            &mut Source::new(rt, reader, None),
+            writer,
+            &mut kernel,
+        ),
+        Err(fault) => Err(fault),
+    }
+}
+
+/// Runs the script of a reader, whose replies go to standard output, of which no contract says what it holds.
+fn run_printed<'a, R: Read + Drop, S: Store + Drop>(
     rt: &HostRuntime,
     options: &Options<'a>,
-    store: impl Store + Drop,
+    store: S,
     path: &'a str,
     reader: R,
 ) -> Result<(), Fault<'a>>
     requires { IsMemorySize options.now.memory × IsSelectorCount options.now.selectors }
+    ensures { HasPlayed (KernelStep S.is_honest) (R.remaining reader) None (empty_world options.now.memory options.now.selectors (S.files store) (S.failures store)) path.entry result None }
 {
-    match machine(rt.alloc(), options, store) {
-        Ok(kernel) if options.explain => run_explained(rt, path, reader, kernel),
-        Ok(mut kernel) => run_printed(rt, path, &mut Source::new(rt, reader, None), &mut kernel),
-        Err(fault) => Err(fault),
+    match BufWriter::new(rt.alloc(), io::writer(rt)) {
+        Ok(mut writer) => run_script(rt, rt.alloc(), options, store, path, reader, &mut writer),
+        Err(_) => Err(Fault::Memory),
     }
 }
 
@@ -134,7 +164,7 @@ fn run_file<'a>(
     requires { IsMemorySize options.now.memory × IsSelectorCount options.now.selectors }
 {
     match File::open(rt, path) {
-        Ok(file) => run_script(rt, options, store, path, file),
+        Ok(file) => run_printed(rt, options, store, path, file),
         Err(error) => Err(Fault::of_files(path, error)),
     }
 }
@@ -146,7 +176,7 @@ fn play_sized<'a>(rt: &HostRuntime, options: &Options<'a>) -> Result<(), Fault<'
     match module_files(rt, options) {
         Ok(store) => match options.script {
             Some(path) => run_file(rt, options, store, path),
-            None => run_script(rt, options, store, "standard input", rt.reader()),
+            None => run_printed(rt, options, store, "standard input", rt.reader()),
         },
         Err(fault) => Err(fault),
     }

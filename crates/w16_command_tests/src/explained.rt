@@ -1,12 +1,10 @@
-//! What is said of bad lines and of refused calls.
+//! The program's own run of a script, over a store, a reader and a writer in memory: what is replied, and said of bad lines and refused calls.
 use crate::said::Said;
-use std::alloc::{AllocError, Global};
-use std::cell::RefCell;
-use std::io::{Read, Result as IoResult};
+use std::alloc::Global;
+use std::io::{BufWriter, Read, Result as IoResult};
 use std::test::Fail;
-use w16_command::{Lines, NotedMachine, Source};
-use w16_kernel::Kernel;
-use w16_script::run;
+use w16_command::run_script;
+use w16_options::Options;
 use w16_store::MemStore;
 
 /// For a heap of 512 bytes and two selectors. Line 10 is bad by what its register has.
@@ -62,28 +60,41 @@ impl Read for Pieces {
     }
 }
 
-/// Whether the script is explained so, read at most that many bytes at once, and answered as ever.
-fn is_explained(
-    alloc: Global,
-    kernel: Kernel<MemStore>,
-    at_once: usize,
-) -> Result<bool, AllocError> {
+/// Whether a run, which reads at most that many bytes at once, ends well where there is room for all replies, and explains where it is asked
+/// to; else it ends by the write fault.
+fn ends_so(alloc: Global, explain: bool, at_once: usize, room: &mut [u8]) -> Result<bool, Fail> {
+    let is_whole = room.len() == REPLIES.len();
     let said = Said::new(alloc);
-    let (lines, rt) = (&RefCell::new(Lines::new(alloc)?), &said);
-    let reader = Pieces(SCRIPT.as_bytes(), at_once);
-    let mut reader = Source::new(rt, reader, Some(lines));
-    let mut machine = NotedMachine { kernel, lines, rt };
-    let mut replies = Vec::new(alloc);
-    let ended = run(alloc, &mut reader, &mut replies, &mut machine);
-    Ok(ended.is_ok() && replies.as_slice() == REPLIES.as_bytes() && said.is(EXPLAINED))
+    let options = Options {
+        memory: 512,
+        selectors: 2,
+        dir: ".",
+        script: None,
+        explain,
+    };
+    let (store, reader) = (MemStore::new(alloc), Pieces(SCRIPT.as_bytes(), at_once));
+    let writer = &mut BufWriter::new(alloc, room)?;
+    match run_script(&said, alloc, &options, store, "script", reader, writer) {
+        Ok(()) => Ok(is_whole && said.is(if explain { EXPLAINED } else { "" })),
+        Err(fault) => Ok(!is_whole && fault.status() == 1),
+    }
 }
 
+/// With room for all replies; for all except a part of the last one, which is written at the end alone; and for less.
 #[test]
-fn refusals_are_explained(rt: HostRuntime) -> Result<(), Fail> {
-    for at_once in [1, 7, 100_000] {
-        let kernel = Kernel::new(rt.alloc(), 512, 2, MemStore::new(rt.alloc()))?;
-        let explained = is_explained(rt.alloc(), kernel, at_once)?;
-        assert!(rt; explained, "{at_once} bytes at once");
+fn replies_are_written_and_refusals_explained(rt: HostRuntime) -> Result<(), Fail> {
+    for (explain, at_once, count) in [
+        (true, 1, 155),
+        (true, 7, 155),
+        (true, 100_000, 155),
+        (false, 100_000, 155),
+        (false, 100_000, 150),
+        (true, 7, 20),
+    ] {
+        let mut room = vec![in rt.alloc(); 0u8; count]?;
+        let ends = ends_so(rt.alloc(), explain, at_once, room.as_mut_slice())?;
+        let written = REPLIES.as_bytes().starts_with(room.as_slice());
+        assert!(rt; ends && written, "{at_once} at once, into {count} bytes");
     }
     Ok(())
 }
