@@ -14,12 +14,12 @@ fetch-requires-clause-last g c = omega (arith, c.requires.last, c.source-source.
 pub returns-then-not-is_filled-clause-any : goal.returns-then-not-is_filled-clause-any
 returns-then-not-is_filled-clause-any g c = λ read place part is_read is.
     unfilled c.args.loaded.now read c.args.number part place GivesAny c.args.global.now.handles.heap
-    (is_filled_by c.args.loaded.now read c.args.number part c.source-source.result.module.now c.segment-segment.result c.source-source.ensures.tables c.segment-segment.ensures.found c.is_filled.result false c.is_filled.ensures c.if-not-is_filled.true)
+    (is_filled_by _ _ c.args.number part _ _ c.source-source.ensures.tables c.segment-segment.ensures.found _ false c.is_filled.ensures c.if-not-is_filled.true)
 
 pub returns-then-not-is_filled-clause-filled : goal.returns-then-not-is_filled-clause-filled
 returns-then-not-is_filled-clause-filled g c = λ read place part honest said its is.
     unfilled c.args.loaded.now read c.args.number part place (FillsOne is_of_device) c.args.global.now.handles.heap
-    (is_filled_by c.args.loaded.now read c.args.number part c.source-source.result.module.now c.segment-segment.result c.source-source.ensures.tables c.segment-segment.ensures.found c.is_filled.result false c.is_filled.ensures c.if-not-is_filled.true)
+    (is_filled_by _ _ c.args.number part _ _ c.source-source.ensures.tables c.segment-segment.ensures.found _ false c.is_filled.ensures c.if-not-is_filled.true)
 
 -- There is no slot.
 
@@ -39,9 +39,9 @@ returns-in-Some-clause-kept g c = λ slot s out is.
 pub returns-in-Some-clause-any : goal.returns-in-Some-clause-any
 returns-in-Some-clause-any g c = λ read place part is_read is.
     filled c.args.loaded.now read c.args.number part place GivesAny c.args.global.now.handles.heap c.fetch.new.global.handles.heap c.fetch.result
-    (is_filled_by c.args.loaded.now read c.args.number part c.source-source.result.module.now c.segment-segment.result c.source-source.ensures.tables c.segment-segment.ensures.found c.is_filled.result true c.is_filled.ensures c.if-not-is_filled.false)
+    (is_filled_by _ _ c.args.number part _ _ c.source-source.ensures.tables c.segment-segment.ensures.found _ true c.is_filled.ensures c.if-not-is_filled.false)
     (gives_any c.args.global.now c.fetch.new.global c.handle_of-handle.result c.fetch.result c.fetch.ensures.rest c.fetch.ensures.any part.slot (part.its_data.image part.its_values) part.segment
-    (is_named c.args.loaded.now read c.args.number part c.source-source.result.module.now c.segment-segment.result c.source-source.ensures.tables c.segment-segment.ensures.found c.slots.result.now c.slots.ensures.slots c.in-Some.slot c.in-Some.ensures.slot
+    (is_named _ _ c.args.number part _ _ c.source-source.ensures.tables c.segment-segment.ensures.found c.slots.result.now c.slots.ensures.slots c.in-Some.slot c.in-Some.ensures.slot
     c.segment_kind.result c.segment_kind.ensures c.handle_of-handle.result c.handle_of-handle.ensures)
     is (part_long c.args.loaded.now read c.args.number part is_read))
 
@@ -49,9 +49,9 @@ pub returns-in-Some-clause-filled : goal.returns-in-Some-clause-filled
 returns-in-Some-clause-filled g c = λ read place part honest said its is.
     let last : c.args.number ≤ length c.source-source.result.module.now.segments = omega (arith, c.requires.last, many_segments c.source-source.result.module.now c.args.loaded.now c.source-source.ensures.tables) in
     filled c.args.loaded.now read c.args.number part place (FillsOne is_of_device) c.args.global.now.handles.heap c.fetch.new.global.handles.heap c.fetch.result
-    (is_filled_by c.args.loaded.now read c.args.number part c.source-source.result.module.now c.segment-segment.result c.source-source.ensures.tables c.segment-segment.ensures.found c.is_filled.result true c.is_filled.ensures c.if-not-is_filled.false)
-    (gives_image (g.S.Store.files c.args.store.now) c.args.loaded.now read said its c.source-source.result.module.now c.source-source.ensures.tables c.args.number c.requires.first last c.source-source.result.file.now c.source-source.result.values.now c.source-source.ensures.source
+    (is_filled_by _ _ c.args.number part _ _ c.source-source.ensures.tables c.segment-segment.ensures.found _ true c.is_filled.ensures c.if-not-is_filled.false)
+    (gives_image _ _ _ said its _ c.source-source.ensures.tables c.args.number c.requires.first last c.source-source.result.file.now c.source-source.result.values.now c.source-source.ensures.source
     part c.args.global.now.handles c.fetch.new.global.handles.heap c.handle_of-handle.result c.fetch.result
-    (is_named c.args.loaded.now read c.args.number part c.source-source.result.module.now c.segment-segment.result c.source-source.ensures.tables c.segment-segment.ensures.found c.slots.result.now c.slots.ensures.slots c.in-Some.slot c.in-Some.ensures.slot
+    (is_named _ _ c.args.number part _ _ c.source-source.ensures.tables c.segment-segment.ensures.found c.slots.result.now c.slots.ensures.slots c.in-Some.slot c.in-Some.ensures.slot
     c.segment_kind.result c.segment_kind.ensures c.handle_of-handle.result c.handle_of-handle.ensures)
     is c.source-source.result.number c.source-source.ensures.number (λ file has in_file lacks sized. c.fetch.ensures.filled file honest has in_file lacks sized))

@@ -45,41 +45,38 @@ pub returns-in_err-read-clause-filled : goal.returns-in_err-read-clause-filled
 returns-in_err-read-clause-filled g c = λ file honest has sound lacks sized.
     let p = err_from_is_err_and c.from_residual.result c.from_residual.ensures.1 in
     let said = c.in_err-read.ensures.exact file sound.segment sound.held honest has sound.tables sound.there sound.passed sound.many in
-    rw (p.1, p.2) (device_failed file c.args.source.now.module.now c.args.source.now.number c.args.source.now.values.now sound c.args.global.now.handles (c.args.handle / 8) sized c.in_err-read.field-0.0 said)
+    rw (p.1, p.2) (device_failed _ _ _ _ sound c.args.global.now.handles _ sized c.in_err-read.field-0.0 said)
 
 pub returns-then-give-clause-filled : goal.returns-then-give-clause-filled
 returns-then-give-clause-filled g c = λ file honest has sound lacks sized.
     let read = c.in_ok-read.ensures.exact file sound.segment sound.held honest has sound.tables sound.there sound.passed sound.many in
-    has_bytes file c.args.source.now.module.now c.args.source.now.number c.args.source.now.values.now sound c.args.global.now.handles (c.args.handle / 8) sized
+    has_bytes _ _ _ _ sound _ _ sized
     c.give.new.global.handles c.bytes.result.now c.records.result.now (c.bytes.ensures ∙ (λ i. (read i).bytes)) (c.records.ensures ∙ (λ i. (read i).records)) (c.if-give.ensures.given refl)
 
 pub returns-else-give-clause-filled : goal.returns-else-give-clause-filled
 returns-else-give-clause-filled g c = λ file honest has sound lacks sized.
     let same = c.if-give.ensures.refused refl in
     subst (λ (x : Global). FillsOne is_of_device c.args.global.now.handles.heap (c.args.handle / 8) (image_in file c.args.source.now.module.now sound.segment c.args.source.now.values.now) (Some NoRoom) x.handles.heap) (sym same)
-    (no_room file c.args.source.now.module.now c.args.source.now.number c.args.source.now.values.now sound c.args.global.now.handles (c.args.handle / 8) sized lacks.without_bytes (c.if-give.ensures.lacks refl lacks))
+    (no_room _ _ _ _ sound _ _ sized lacks.without_bytes (c.if-give.ensures.lacks refl lacks))
 
 -- In a world of its files.
 
 pub returns-in_err-read-clause-fetched : goal.returns-in_err-read-clause-fetched
 returns-in_err-read-clause-fetched g c = λ rest honest lacks is.
-    fetched (in_parts rest c.args.global.now.handles (g.S.Store.files c.args.store.now) (g.S.Store.failures c.args.store.now)) (c.args.handle / 8)
-    c.args.source.now.number c.args.source.now.file.now c.args.source.now.module.now c.args.source.now.values.now is c.requires.last
+    fetched _ _ _ _ _ _ is c.requires.last
     c.from_residual.result (g.S.Store.files c.read.new.store) c.read.ensures.stays.same c.args.global.now.handles
     (λ file has sound sized. returns-in_err-read-clause-filled g c file honest has sound lacks sized) (returns-in_err-read-clause-rest g c)
 
 pub returns-then-give-clause-fetched : goal.returns-then-give-clause-fetched
 returns-then-give-clause-fetched g c = λ rest honest lacks is.
     let result : Result (Unit {0}) FetchFault = Ok tt in
-    fetched (in_parts rest c.args.global.now.handles (g.S.Store.files c.args.store.now) (g.S.Store.failures c.args.store.now)) (c.args.handle / 8)
-    c.args.source.now.number c.args.source.now.file.now c.args.source.now.module.now c.args.source.now.values.now is c.requires.last
+    fetched _ _ _ _ _ _ is c.requires.last
     result (g.S.Store.files c.read.new.store) c.read.ensures.stays.same c.give.new.global.handles
     (λ file has sound sized. returns-then-give-clause-filled g c file honest has sound lacks sized) (returns-then-give-clause-rest g c)
 
 pub returns-else-give-clause-fetched : goal.returns-else-give-clause-fetched
 returns-else-give-clause-fetched g c = λ rest honest lacks is.
     let result : Result (Unit {0}) FetchFault = Err NoRoom in
-    fetched (in_parts rest c.args.global.now.handles (g.S.Store.files c.args.store.now) (g.S.Store.failures c.args.store.now)) (c.args.handle / 8)
-    c.args.source.now.number c.args.source.now.file.now c.args.source.now.module.now c.args.source.now.values.now is c.requires.last
+    fetched _ _ _ _ _ _ is c.requires.last
     result (g.S.Store.files c.read.new.store) c.read.ensures.stays.same c.give.new.global.handles
     (λ file has sound sized. returns-else-give-clause-filled g c file honest has sound lacks sized) (returns-else-give-clause-rest g c)
