@@ -27,7 +27,7 @@ module _ (honest : Type 0) (old : World) (is : IsWorldOver honest old) (name byt
       turn true e = absurd (false≢true (ap is_some (sym (sym (file_alike old.loading.files name file e) ∙ unnamed)) ∙ there))
       turn false e = added file ∙ ap (λ b. cond b (Some bytes) (file_of old.loading.files file)) e
 
-  was_there : (P : ModuleFile → Type 0) (p : Option (List ℕ)) → IsSomeAnd (elim p as (λ _. Option ModuleFile) [ None ↦ None | Some file ↦ elim (ne_format file) as (λ _. Option ModuleFile) [ Ok read ↦ Some read | Err _ ↦ None ] ]) P → is_some p ≡ true
+  was_there : (P : ModuleFile → Type 0) (p : Option (List ℕ)) → IsSomeAnd (elim p as (λ _. Option ModuleFile) [ None ↦ None | Some file ↦ elim (ne_format.says file) as (λ _. Option ModuleFile) [ Ok read ↦ Some read | Err _ ↦ None ] ]) P → is_some p ≡ true
   was_there P None h = absurd h
   was_there P (Some file) h = refl
 

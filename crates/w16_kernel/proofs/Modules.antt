@@ -1,6 +1,10 @@
 -- Calls on modules and resources.
 use Rattle.w16_kernel.proofs.Common.{◌≡◌, ℕ, ◌<◌, ◌≤◌, Bool, true, false, List, refl, sym, ◌∙◌, Handles, Store, StoreFails, AnyLoadsBy, GivesAnyFewest, as_any, reads_files}
 use Rattle.w16_kernel.proofs.Common.{LoadingCommand, FamilyStep, Fetches, OfModules, Loads, Failed, Word, Dword, LoadingWorld, Modules, StoreStep, ne_format, load_command}
+use Rattle.w16_loader.specs.declared.loading.LoadAnswer.{LoadAnswer}
+use Rattle.w16_loader.specs.declared.loading.LoadAnswer.TheVariants as answers
+use Rattle.w16_loader.specs.Devices.{is_load_device}
+use Rattle.w16_loader.specs.Loading.{answer_in}
 use Rattle.w16_loading.specs.Families as families
 use Rattle.w16_loading.specs.Load.{Answer}
 use Rattle.w16_loading.specs.Load.Answer.{Says}
@@ -19,6 +23,10 @@ module _ (honest : Type 0) (old new : LoadingWorld) (command : LoadingCommand) (
 fails : (answer : Answer) → families.reply_of answer ≡ Failed Store → answer ≡ StoreFails
 fails (Says word) e = cc
 fails StoreFails e = refl
+
+pub fails_device : (answer : LoadAnswer) → answer_in answer ≡ StoreFails → is_load_device answer ≡ true
+fails_device (answers.Says word) e = cc
+fails_device answers.StoreFails e = refl
 
 module _ {honest : Type 0} {old : LoadingWorld} {next : Handles} {loaded : Modules} {left : List (List ℕ × List ℕ)} {count : ℕ} where
   pub load_told : (is_load_module : Bool) {file : List ℕ} {answer : Answer} {reply : printed.Reply} → reply ≡ families.reply_of answer → left ≡ old.files → old.failures ≤ count → (answer ≡ StoreFails → old.failures < count)

@@ -1,7 +1,7 @@
 -- Why calls are refused, by what the world answers to questions.
 use Rattle.std.specs.Prelude.{◌≡◌, ℕ, ◌%◌, ◌<◌, true, false, Option, None, Some}
 use Rattle.w16_model.specs.Calls.{global_flags, global_handle, global_size, has_flag, selector_limit}
-use Rattle.w16_model.specs.Calls.HandleCommand as calls
+use Rattle.w16_model.specs.Calls.HandleCommand.{GlobalFree, GlobalLock, GlobalUnlock, GlobalSize, GlobalFlags, GlobalHandle, GetSelectorBase, GetSelectorLimit, GlobalLRUNewest, GlobalLRUOldest}
 use Rattle.w16_model.specs.Far.FarCommand.{Read, Write, Fill}
 use Rattle.w16_model.specs.Handles.{Handles, selector_in, slot_of_handle}
 use Rattle.w16_model.specs.Owned.{owns}
@@ -25,22 +25,22 @@ IsWhy handles (why.Limit selector last) = selector_limit handles selector ≡ la
 
 -- the handle by which a command names a global object, if it names one so
 abbrev pub handle_asked : Command → Option ℕ
-handle_asked (OfLoading (OfHandles (calls.GlobalFree handle))) = Some handle
-handle_asked (OfLoading (OfHandles (calls.GlobalLock handle))) = Some handle
-handle_asked (OfLoading (OfHandles (calls.GlobalUnlock handle))) = Some handle
-handle_asked (OfLoading (OfHandles (calls.GlobalSize handle))) = Some handle
-handle_asked (OfLoading (OfHandles (calls.GlobalFlags handle))) = Some handle
-handle_asked (OfLoading (OfHandles (calls.GlobalLRUNewest handle))) = Some handle
-handle_asked (OfLoading (OfHandles (calls.GlobalLRUOldest handle))) = Some handle
+handle_asked (OfLoading (OfHandles (GlobalFree handle))) = Some handle
+handle_asked (OfLoading (OfHandles (GlobalLock handle))) = Some handle
+handle_asked (OfLoading (OfHandles (GlobalUnlock handle))) = Some handle
+handle_asked (OfLoading (OfHandles (GlobalSize handle))) = Some handle
+handle_asked (OfLoading (OfHandles (GlobalFlags handle))) = Some handle
+handle_asked (OfLoading (OfHandles (GlobalLRUNewest handle))) = Some handle
+handle_asked (OfLoading (OfHandles (GlobalLRUOldest handle))) = Some handle
 handle_asked (OfLoading (OfResizes (GlobalReAlloc handle size flags))) = Some handle
 handle_asked (OfLoading (OfResizes (GlobalDiscard handle))) = Some handle
 handle_asked command = None
 
 -- the selector by which it names one
 abbrev pub selector_asked : Command → Option ℕ
-selector_asked (OfLoading (OfHandles (calls.GlobalHandle selector))) = Some selector
-selector_asked (OfLoading (OfHandles (calls.GetSelectorBase selector))) = Some selector
-selector_asked (OfLoading (OfHandles (calls.GetSelectorLimit selector))) = Some selector
+selector_asked (OfLoading (OfHandles (GlobalHandle selector))) = Some selector
+selector_asked (OfLoading (OfHandles (GetSelectorBase selector))) = Some selector
+selector_asked (OfLoading (OfHandles (GetSelectorLimit selector))) = Some selector
 selector_asked (OfLoading (OfFar (Read pointer count))) = Some (selector_in pointer)
 selector_asked (OfLoading (OfFar (Write pointer bytes))) = Some (selector_in pointer)
 selector_asked (OfLoading (OfFar (Fill pointer count byte))) = Some (selector_in pointer)
