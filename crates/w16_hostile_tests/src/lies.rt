@@ -83,13 +83,7 @@ fn is_new_after(
 
 /// A machine over the samples that is told that many lies after that many questions.
 fn lying(alloc: Global, lie: Lie, before: u32, lies: u32) -> Result<HostileMachine, AllocError> {
-    Hostile::of(Harm::Lying(Lying::new(
-        store_of(alloc, ALL)?,
-        lie,
-        before,
-        lies,
-    )))
-    .machine(alloc)
+    Hostile::of(Harm::Lying(Lying::new(store_of(alloc, ALL)?, lie, before, lies))).machine(alloc)
 }
 
 /// Whether all is as on a new machine after a row of which that many lies were told after that many questions; none where none was told.

@@ -125,7 +125,11 @@ fn put_of(out: &mut String, row: &Row<'_>, kind: &str) -> io::Result<()> {
     match kind {
         "memory" => put_all(out, row, &mut memory(alloc, row.made)?),
         "fuse" => put_all(out, row, &mut FuseStore::new(memory(alloc, row.made)?, 0)),
-        "one" | "failing" => put_opened(out, row, DirStore::new(alloc, OneFile { fails, failures: 0 })),
+        "one" | "failing" => put_opened(
+            out,
+            row,
+            DirStore::new(alloc, OneFile { fails, failures: 0 }),
+        ),
         "odd" => {
             let system = OddNames(rt.clone()?);
             put_opened(

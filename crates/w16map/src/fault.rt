@@ -10,9 +10,7 @@ use w16_store::DirFault;
 pub enum Fault {
     #[error("bad argument")]
     Argument,
-    #[error(
-        "--memory has to be a multiple of 32 from 32 to 16777216, --selectors a number from 1 to 8160"
-    )]
+    #[error("--memory has to be a multiple of 32 from 32 to 16777216, --selectors a number from 1 to 8160")]
     Size,
     #[error("the folder can't be listed")]
     Folder,
