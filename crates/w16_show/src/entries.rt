@@ -32,11 +32,11 @@ fn push_entry(out: &mut String, ordinal: u16, entry: Option<Entry>) -> Result<()
 }
 
 /// Puts the lines of all entries behind a text.
-pub fn push_entries(out: &mut String, module: &Module) -> Result<(), AllocError>
-    ensures { Adds result (string_bytes out.old) (string_bytes out.new) (numbered entry_text 1 module.now.entries) }
+pub fn push_entries(out: &mut String, tables: &Module) -> Result<(), AllocError>
+    ensures { Adds result (string_bytes out.old) (string_bytes out.new) (numbered entry_text 1 tables.now.entries) }
 {
-    for i in 0..module.entry_count() as u16 {
-        push_entry(out, i + 1, module.entry(i + 1))?;
+    for i in 0..tables.entry_count() as u16 {
+        push_entry(out, i + 1, tables.entry(i + 1))?;
     }
     Ok(())
 }
@@ -70,12 +70,12 @@ fn push_name(
 }
 
 /// Puts the lines of all names of entries behind a text.
-pub fn push_names(out: &mut String, module: &Module) -> Result<(), AllocError>
-    ensures { Adds result (string_bytes out.old) (string_bytes out.new) (numbered (name_text module.now.resident) 0 module.now.names) }
+pub fn push_names(out: &mut String, tables: &Module) -> Result<(), AllocError>
+    ensures { Adds result (string_bytes out.old) (string_bytes out.new) (numbered (name_text tables.now.resident) 0 tables.now.names) }
 {
-    for i in 0..module.name_count() {
-        let (text, ordinal) = module.entry_name(i);
-        push_name(out, module.resident_count(), i, text, ordinal)?;
+    for i in 0..tables.name_count() {
+        let (text, ordinal) = tables.entry_name(i);
+        push_name(out, tables.resident_count(), i, text, ordinal)?;
     }
     Ok(())
 }

@@ -16,7 +16,7 @@ use w16_ne::{Module, Resource, ResourceName};
 /// The resources of a module file, to be taken out.
 #[derive(Drop)]
 pub struct Resources {
-    module: Module,
+    tables: Module,
 }
 
 impl Model for Resources {
@@ -24,7 +24,7 @@ impl Model for Resources {
 
     ghost Value = { Tables };
 
-    ghost view = { λ s. s.module };
+    ghost view = { λ s. s.tables };
 }
 
 /// Puts a byte behind a file's name.
@@ -90,7 +90,7 @@ impl Resources {
     {
         let mut store = store_of(alloc, file)?;
         match module_of(alloc, &mut store, FILE)? {
-            Ok(module) => Ok(Some(Resources { module })),
+            Ok(tables) => Ok(Some(Resources { tables })),
             Err(_) => Ok(None),
         }
     }
@@ -99,14 +99,14 @@ impl Resources {
     pub fn len(&self) -> usize
         ensures { result ≡ resource_count self.now.resources }
     {
-        self.module.resource_count()
+        self.tables.resource_count()
     }
 
     /// The name of the file for a resource, by its number from 1; none where there are fewer. No two resources have one name.
     pub fn file_name(&self, alloc: Global, number: usize) -> Result<Option<String>, AllocError>
         ensures { IfOk result (λ name. option_map string_bytes name ≡ option_map (file_name number) (resource_at self.now.resources number)) }
     {
-        let Some((kind, resource)) = self.module.resource(number) else {
+        let Some((kind, resource)) = self.tables.resource(number) else {
             return Ok(None);
         };
         let mut name = String::new(alloc);
@@ -126,7 +126,7 @@ impl Resources {
     ) -> Result<Option<Vec<u8>>, AllocError>
         ensures { IfOk result (λ bytes. option_map (λ b. b.items) bytes ≡ option_map (λ r. resource_bytes file.now r.1) (resource_at self.now.resources number)) }
     {
-        match self.module.resource(number) {
+        match self.tables.resource(number) {
             None => Ok(None),
             Some((_, resource)) => {
                 let (place, len) = (resource.place as usize, resource.len as usize);

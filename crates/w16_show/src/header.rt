@@ -33,12 +33,12 @@ fn push_description(out: &mut String, text: &[u8]) -> Result<(), AllocError>
 }
 
 /// Puts a module's title behind a text: the file's name, what the module is, its name and its description.
-pub fn push_title(out: &mut String, name: &str, module: &Module) -> Result<(), AllocError>
-    ensures { Adds result (string_bytes out.old) (string_bytes out.new) (title_text name.now module.now) }
+pub fn push_title(out: &mut String, name: &str, tables: &Module) -> Result<(), AllocError>
+    ensures { Adds result (string_bytes out.old) (string_bytes out.new) (title_text name.now tables.now) }
 {
-    push_front(out, name, module.library())?;
-    push_escaped(out, module.name())?;
-    push_description(out, module.description())?;
+    push_front(out, name, tables.library())?;
+    push_escaped(out, tables.name())?;
+    push_description(out, tables.description())?;
     out.push_str("\n")
 }
 
@@ -146,11 +146,11 @@ fn push_flags(out: &mut String, flags: u16) -> Result<(), AllocError>
 }
 
 /// Puts the line of a module's header behind a text.
-pub fn push_header(out: &mut String, module: &Module) -> Result<(), AllocError>
-    ensures { Adds result (string_bytes out.old) (string_bytes out.new) (header_text module.now.place module.now.header) }
+pub fn push_header(out: &mut String, tables: &Module) -> Result<(), AllocError>
+    ensures { Adds result (string_bytes out.old) (string_bytes out.new) (header_text tables.now.place tables.now.header) }
 {
-    let header = module.header();
-    push_linker(out, module.place(), header)?;
+    let header = tables.header();
+    push_linker(out, tables.place(), header)?;
     push_words(out, header)?;
     push_versions(out, header)?;
     push_flags(out, word(header, 0x0c))

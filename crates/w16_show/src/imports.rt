@@ -36,10 +36,10 @@ fn add_target(imports: &mut BTreeMap<u64, Target>, target: Target) -> Result<(),
 }
 
 /// Adds what a record imports.
-fn add_record(imports: &mut BTreeMap<u64, Target>, record: &Record) -> Result<(), AllocError>
-    ensures { OnOk result (imports.new.entries ≡ fold with_import imports.old.entries (targets_of record.now)) }
+fn add_record(imports: &mut BTreeMap<u64, Target>, found: &Record) -> Result<(), AllocError>
+    ensures { OnOk result (imports.new.entries ≡ fold with_import imports.old.entries (targets_of found.now)) }
 {
-    match record {
+    match found {
         Record::Stored(fixup) => add_target(imports, fixup.target),
         Record::Added(fixup) => add_target(imports, fixup.target),
         Record::System => Ok(()),
@@ -61,18 +61,18 @@ fn add_segment(
     imports: &mut BTreeMap<u64, Target>,
     store: &mut MemStore,
     name: &[u8],
-    module: &Module,
+    tables: &Module,
     number: usize,
     scratch: &mut Scratch,
 ) -> Result<(), AllocError>
     requires first { 0 < number }
-    requires last { number ≤ length module.now.segments }
+    requires last { number ≤ length tables.now.segments }
     ensures same { store.new ≡ store.old }
-    ensures imports { (file : List ℕ) (s : Segment) → file_of store.old name.now ≡ Some file → tables_at (Some file) ≡ Ok module.now
-        → slice_get module.now.segments (number - 1) ≡ Some s
-        → OnOk result (imports.new.entries ≡ fold with_import imports.old.entries (targets_in (checked file module.now s))) }
+    ensures imports { (file : List ℕ) (s : Segment) → file_of store.old name.now ≡ Some file → tables_at (Some file) ≡ Ok tables.now
+        → slice_get tables.now.segments (number - 1) ≡ Some s
+        → OnOk result (imports.new.entries ≡ fold with_import imports.old.entries (targets_in (checked file tables.now s))) }
 {
-    match check(store, name, module, number, scratch) {
+    match check(store, name, tables, number, scratch) {
         Ok(()) => add_records(imports, scratch.records()),
         Err(_) => Ok(()),
     }
@@ -83,16 +83,16 @@ pub fn imports(
     alloc: Global,
     store: &mut MemStore,
     name: &[u8],
-    module: &Module,
+    tables: &Module,
     scratch: &mut Scratch,
 ) -> Result<BTreeMap<u64, Target>, AllocError>
     ensures same { store.new ≡ store.old }
-    ensures imports { (file : List ℕ) → file_of store.old name.now ≡ Some file → tables_at (Some file) ≡ Ok module.now
-        → IfOk result (λ imports. imports.entries ≡ ranked_imports file module.now) }
+    ensures imports { (file : List ℕ) → file_of store.old name.now ≡ Some file → tables_at (Some file) ≡ Ok tables.now
+        → IfOk result (λ imports. imports.entries ≡ ranked_imports file tables.now) }
 {
     let mut imports = BTreeMap::new(alloc);
-    for i in 0..module.segment_count() {
-        add_segment(&mut imports, store, name, module, i + 1, scratch)?;
+    for i in 0..tables.segment_count() {
+        add_segment(&mut imports, store, name, tables, i + 1, scratch)?;
     }
     Ok(imports)
 }
@@ -102,15 +102,15 @@ fn push_import(
     out: &mut String,
     store: &mut MemStore,
     name: &[u8],
-    module: &Module,
+    tables: &Module,
     import: Target,
 ) -> Result<(), AllocError>
     ensures same { store.new ≡ store.old }
-    ensures text { (file : List ℕ) → file_of store.old name.now ≡ Some file → tables_at (Some file) ≡ Ok module.now
-        → Adds result (string_bytes out.old) (string_bytes out.new) (import_text file module.now import) }
+    ensures text { (file : List ℕ) → file_of store.old name.now ≡ Some file → tables_at (Some file) ≡ Ok tables.now
+        → Adds result (string_bytes out.old) (string_bytes out.new) (import_text file tables.now import) }
 {
     out.push_str("import ")?;
-    push_target(out, store, name, module, import)?;
+    push_target(out, store, name, tables, import)?;
     out.push_str("\n")
 }
 
@@ -119,15 +119,15 @@ pub fn push_imports(
     out: &mut String,
     store: &mut MemStore,
     name: &[u8],
-    module: &Module,
+    tables: &Module,
     imports: &BTreeMap<u64, Target>,
 ) -> Result<(), AllocError>
     ensures same { store.new ≡ store.old }
-    ensures text { (file : List ℕ) → file_of store.old name.now ≡ Some file → tables_at (Some file) ≡ Ok module.now
-        → Adds result (string_bytes out.old) (string_bytes out.new) (flat_map (import_text file module.now) (values imports.now)) }
+    ensures text { (file : List ℕ) → file_of store.old name.now ≡ Some file → tables_at (Some file) ≡ Ok tables.now
+        → Adds result (string_bytes out.old) (string_bytes out.new) (flat_map (import_text file tables.now) (values imports.now)) }
 {
     for import in imports.values() {
-        push_import(out, store, name, module, *import)?;
+        push_import(out, store, name, tables, *import)?;
     }
     Ok(())
 }

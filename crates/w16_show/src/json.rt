@@ -34,19 +34,19 @@ fn is_sound(verdict: &Verdict) -> bool
 fn module_value(
     alloc: Global,
     store: &mut MemStore,
-    module: &Module,
+    tables: &Module,
     scratch: &mut Scratch,
 ) -> Result<Value, AllocError>
-    ensures { (file : List ℕ) → file_of store.old FILE.now ≡ Some file → tables_at (Some file) ≡ Ok module.now
-        → IfOk result (λ v. view v ≡ module_json file module.now) }
+    ensures { (file : List ℕ) → file_of store.old FILE.now ≡ Some file → tables_at (Some file) ≡ Ok tables.now
+        → IfOk result (λ v. view v ≡ module_json file tables.now) }
 {
-    let entries = entries_value(alloc, module)?;
-    let header = header_value(alloc, module)?;
-    let imports = imports_value(alloc, store, FILE, module, scratch)?;
-    let names = names_value(alloc, module)?;
-    let references = references_value(alloc, module)?;
-    let resources = resources_value(alloc, module)?;
-    let segments = segments_value(alloc, store, FILE, module, scratch)?;
+    let entries = entries_value(alloc, tables)?;
+    let header = header_value(alloc, tables)?;
+    let imports = imports_value(alloc, store, FILE, tables, scratch)?;
+    let names = names_value(alloc, tables)?;
+    let references = references_value(alloc, tables)?;
+    let resources = resources_value(alloc, tables)?;
+    let segments = segments_value(alloc, store, FILE, tables, scratch)?;
     json!(in alloc; {
         "entries": entries,
         "header": header,
@@ -83,18 +83,18 @@ fn module_shown(
     alloc: Global,
     name: &str,
     store: &mut MemStore,
-    module: &Module,
+    tables: &Module,
 ) -> Result<Shown, AllocError>
-    ensures text { (file : List ℕ) → file_of store.old FILE.now ≡ Some file → tables_at (Some file) ≡ Ok module.now
-        → IfOk result (λ shown. read (string_bytes shown.text) ≡ Some (json_of name.now file (Ok module.now))) }
-    ensures verdict { (file : List ℕ) → file_of store.old FILE.now ≡ Some file → tables_at (Some file) ≡ Ok module.now
-        → IfOk result (λ shown. shown.verdict ≡ verdict_of file (Ok module.now)) }
+    ensures text { (file : List ℕ) → file_of store.old FILE.now ≡ Some file → tables_at (Some file) ≡ Ok tables.now
+        → IfOk result (λ shown. read (string_bytes shown.text) ≡ Some (json_of name.now file (Ok tables.now))) }
+    ensures verdict { (file : List ℕ) → file_of store.old FILE.now ≡ Some file → tables_at (Some file) ≡ Ok tables.now
+        → IfOk result (λ shown. shown.verdict ≡ verdict_of file (Ok tables.now)) }
 {
     let mut scratch = Scratch::new(alloc)?;
-    let verdict = verdict(store, FILE, module, &mut scratch);
+    let verdict = verdict(store, FILE, tables, &mut scratch);
     let sound = is_sound(&verdict);
-    let module = module_value(alloc, store, module, &mut scratch)?;
-    let value = whole_value(alloc, name, module, sound)?;
+    let tables = module_value(alloc, store, tables, &mut scratch)?;
+    let value = whole_value(alloc, name, tables, sound)?;
     let text = value.to_string(alloc)?;
     Ok(Shown { text, verdict })
 }
@@ -118,7 +118,7 @@ pub fn show_json(alloc: Global, name: &str, file: &[u8]) -> Result<Shown, AllocE
 {
     let mut store = store_of(alloc, file)?;
     match module_of(alloc, &mut store, FILE)? {
-        Ok(module) => module_shown(alloc, name, &mut store, &module),
+        Ok(tables) => module_shown(alloc, name, &mut store, &tables),
         Err(e) => fault_shown(alloc, name, e),
     }
 }

@@ -70,13 +70,13 @@ fn fields_value(alloc: Global, header: &[u8]) -> Result<Value, AllocError>
 
 /// What a module is, and the fields of its header.
 #[tactic(auto, unfolding(crate::specs::Json::header_json))]
-pub fn header_value(alloc: Global, module: &Module) -> Result<Value, AllocError>
-    ensures { IfOk result (λ v. view v ≡ header_json module.now) }
+pub fn header_value(alloc: Global, tables: &Module) -> Result<Value, AllocError>
+    ensures { IfOk result (λ v. view v ≡ header_json tables.now) }
 {
-    let description = text_value(alloc, module.description())?;
-    let fields = fields_value(alloc, module.header())?;
-    let name = text_value(alloc, module.name())?;
-    let (library, place) = (module.library(), module.place());
+    let description = text_value(alloc, tables.description())?;
+    let fields = fields_value(alloc, tables.header())?;
+    let name = text_value(alloc, tables.name())?;
+    let (library, place) = (tables.library(), tables.place());
     json!(in alloc; {
         "description": description,
         "fields": fields,

@@ -28,15 +28,15 @@ fn name_value(
     alloc: Global,
     store: &mut MemStore,
     name: &[u8],
-    module: &Module,
+    tables: &Module,
     offset: u16,
 ) -> Result<Value, AllocError>
     ensures same { store.new ≡ store.old }
-    ensures value { (file : List ℕ) → file_of store.old name.now ≡ Some file → tables_at (Some file) ≡ Ok module.now
-        → IfOk result (λ v. view v ≡ text (imported_name file module.now offset)) }
+    ensures value { (file : List ℕ) → file_of store.old name.now ≡ Some file → tables_at (Some file) ≡ Ok tables.now
+        → IfOk result (λ v. view v ≡ text (imported_name file tables.now offset)) }
 {
     let mut room = [0; NAME_ROOM];
-    let len = read_name(store, name, module, offset, &mut room)?;
+    let len = read_name(store, name, tables, offset, &mut room)?;
     text_value(alloc, &room[..len])
 }
 
@@ -45,12 +45,12 @@ fn target_value(
     alloc: Global,
     store: &mut MemStore,
     name: &[u8],
-    module: &Module,
+    tables: &Module,
     target: Target,
 ) -> Result<Value, AllocError>
     ensures same { store.new ≡ store.old }
-    ensures value { (file : List ℕ) → file_of store.old name.now ≡ Some file → tables_at (Some file) ≡ Ok module.now
-        → IfOk result (λ v. view v ≡ target_json file module.now target) }
+    ensures value { (file : List ℕ) → file_of store.old name.now ≡ Some file → tables_at (Some file) ≡ Ok tables.now
+        → IfOk result (λ v. view v ≡ target_json file tables.now target) }
 {
     match target {
         Target::Internal { segment, offset } => {
@@ -58,15 +58,15 @@ fn target_value(
         }
         Target::Entry { ordinal } => json!(in alloc; {"ordinal": ordinal}),
         Target::ByOrdinal { reference, ordinal } => {
-            let from = text_value(alloc, reference_name(module, reference))?;
+            let from = text_value(alloc, reference_name(tables, reference))?;
             json!(in alloc; {"module": from, "ordinal": ordinal})
         }
         Target::ByName {
             reference,
             name: text,
         } => {
-            let from = text_value(alloc, reference_name(module, reference))?;
-            let imported = name_value(alloc, store, name, module, text)?;
+            let from = text_value(alloc, reference_name(tables, reference))?;
+            let imported = name_value(alloc, store, name, tables, text)?;
             json!(in alloc; {"module": from, "name": imported})
         }
     }
@@ -77,16 +77,16 @@ fn targets_value(
     alloc: Global,
     store: &mut MemStore,
     name: &[u8],
-    module: &Module,
+    tables: &Module,
     imports: &BTreeMap<u64, Target>,
 ) -> Result<Value, AllocError>
     ensures same { store.new ≡ store.old }
-    ensures value { (file : List ℕ) → file_of store.old name.now ≡ Some file → tables_at (Some file) ≡ Ok module.now
-        → IfOk result (λ v. view v ≡ list (map (target_json file module.now) (values imports.now))) }
+    ensures value { (file : List ℕ) → file_of store.old name.now ≡ Some file → tables_at (Some file) ≡ Ok tables.now
+        → IfOk result (λ v. view v ≡ list (map (target_json file tables.now) (values imports.now))) }
 {
     let mut targets = Vec::with_capacity(alloc, imports.len())?;
     for target in imports.values() {
-        targets.push(target_value(alloc, store, name, module, *target)?)?;
+        targets.push(target_value(alloc, store, name, tables, *target)?)?;
     }
     Ok(Value::Array(targets))
 }
@@ -96,15 +96,15 @@ pub fn imports_value(
     alloc: Global,
     store: &mut MemStore,
     name: &[u8],
-    module: &Module,
+    tables: &Module,
     scratch: &mut Scratch,
 ) -> Result<Value, AllocError>
     ensures same { store.new ≡ store.old }
-    ensures value { (file : List ℕ) → file_of store.old name.now ≡ Some file → tables_at (Some file) ≡ Ok module.now
-        → IfOk result (λ v. view v ≡ list (map (target_json file module.now) (imports file module.now))) }
+    ensures value { (file : List ℕ) → file_of store.old name.now ≡ Some file → tables_at (Some file) ≡ Ok tables.now
+        → IfOk result (λ v. view v ≡ list (map (target_json file tables.now) (imports file tables.now))) }
 {
-    let imports = imports(alloc, store, name, module, scratch)?;
-    targets_value(alloc, store, name, module, &imports)
+    let imports = imports(alloc, store, name, tables, scratch)?;
+    targets_value(alloc, store, name, tables, &imports)
 }
 
 /// A fixup, with its sites, and whether its value is added.
@@ -112,18 +112,18 @@ fn fixup_value(
     alloc: Global,
     store: &mut MemStore,
     name: &[u8],
-    module: &Module,
+    tables: &Module,
     sites: &[u16],
     add: bool,
     fixup: &Fixup,
 ) -> Result<Value, AllocError>
     ensures same { store.new ≡ store.old }
-    ensures value { (file : List ℕ) → file_of store.old name.now ≡ Some file → tables_at (Some file) ≡ Ok module.now
-        → IfOk result (λ v. view v ≡ fixup_json file module.now sites.now add fixup.now) }
+    ensures value { (file : List ℕ) → file_of store.old name.now ≡ Some file → tables_at (Some file) ≡ Ok tables.now
+        → IfOk result (λ v. view v ≡ fixup_json file tables.now sites.now add fixup.now) }
 {
     let part = word_value(alloc, part_word(fixup.part))?;
     let sites = offsets_value(alloc, sites)?;
-    let target = target_value(alloc, store, name, module, fixup.target)?;
+    let target = target_value(alloc, store, name, tables, fixup.target)?;
     json!(in alloc; {"add": add, "part": part, "sites": sites, "target": target})
 }
 
@@ -132,19 +132,19 @@ fn relocation_value(
     alloc: Global,
     store: &mut MemStore,
     name: &[u8],
-    module: &Module,
+    tables: &Module,
     bytes: &[u8],
     relocation: &Record,
     sites: &mut Vec<u16>,
 ) -> Result<Value, AllocError>
     ensures same { store.new ≡ store.old }
-    ensures value { (file : List ℕ) → file_of store.old name.now ≡ Some file → tables_at (Some file) ≡ Ok module.now
-        → IfOk result (λ v. view v ≡ relocation_json file module.now bytes.now relocation.now) }
+    ensures value { (file : List ℕ) → file_of store.old name.now ≡ Some file → tables_at (Some file) ≡ Ok tables.now
+        → IfOk result (λ v. view v ≡ relocation_json file tables.now bytes.now relocation.now) }
 {
     sites_of(bytes, relocation, sites)?;
     match relocation {
-        Record::Stored(fixup) => fixup_value(alloc, store, name, module, sites, false, fixup),
-        Record::Added(fixup) => fixup_value(alloc, store, name, module, sites, true, fixup),
+        Record::Stored(fixup) => fixup_value(alloc, store, name, tables, sites, false, fixup),
+        Record::Added(fixup) => fixup_value(alloc, store, name, tables, sites, true, fixup),
         Record::System => json!(in alloc; {"system": true}),
     }
 }
@@ -154,12 +154,12 @@ fn relocations_value(
     alloc: Global,
     store: &mut MemStore,
     name: &[u8],
-    module: &Module,
+    tables: &Module,
     scratch: &Scratch,
 ) -> Result<Value, AllocError>
     ensures same { store.new ≡ store.old }
-    ensures value { (file : List ℕ) → file_of store.old name.now ≡ Some file → tables_at (Some file) ≡ Ok module.now
-        → IfOk result (λ v. view v ≡ list (map (relocation_json file module.now scratch.now.bytes) scratch.now.records)) }
+    ensures value { (file : List ℕ) → file_of store.old name.now ≡ Some file → tables_at (Some file) ≡ Ok tables.now
+        → IfOk result (λ v. view v ≡ list (map (relocation_json file tables.now scratch.now.bytes) scratch.now.records)) }
 {
     let mut sites = Vec::new(alloc);
     let mut values = Vec::new(alloc);
@@ -168,7 +168,7 @@ fn relocations_value(
             alloc,
             store,
             name,
-            module,
+            tables,
             scratch.bytes(),
             relocation,
             &mut sites,
@@ -204,20 +204,20 @@ fn segment_value(
     alloc: Global,
     store: &mut MemStore,
     name: &[u8],
-    module: &Module,
+    tables: &Module,
     number: usize,
     scratch: &mut Scratch,
 ) -> Result<Value, AllocError>
     requires first { 0 < number }
-    requires last { number ≤ length module.now.segments }
+    requires last { number ≤ length tables.now.segments }
     ensures same { store.new ≡ store.old }
-    ensures value { (file : List ℕ) (s : Segment) → file_of store.old name.now ≡ Some file → tables_at (Some file) ≡ Ok module.now
-        → slice_get module.now.segments (number - 1) ≡ Some s → IfOk result (λ v. view v ≡ segment_said file module.now number s (checked file module.now s)) }
+    ensures value { (file : List ℕ) (s : Segment) → file_of store.old name.now ≡ Some file → tables_at (Some file) ≡ Ok tables.now
+        → slice_get tables.now.segments (number - 1) ≡ Some s → IfOk result (λ v. view v ≡ segment_said file tables.now number s (checked file tables.now s)) }
 {
-    let segment = module.segment(number);
-    match check(store, name, module, number, scratch) {
+    let segment = tables.segment(number);
+    match check(store, name, tables, number, scratch) {
         Ok(()) => {
-            let records = relocations_value(alloc, store, name, module, scratch)?;
+            let records = relocations_value(alloc, store, name, tables, scratch)?;
             segment_object(alloc, number, &segment, Value::Null, records)
         }
         Err(fault) => {
@@ -232,16 +232,16 @@ pub fn segments_value(
     alloc: Global,
     store: &mut MemStore,
     name: &[u8],
-    module: &Module,
+    tables: &Module,
     scratch: &mut Scratch,
 ) -> Result<Value, AllocError>
     ensures same { store.new ≡ store.old }
-    ensures value { (file : List ℕ) → file_of store.old name.now ≡ Some file → tables_at (Some file) ≡ Ok module.now
-        → IfOk result (λ v. view v ≡ list (numbered (segment_json file module.now) 1 module.now.segments)) }
+    ensures value { (file : List ℕ) → file_of store.old name.now ≡ Some file → tables_at (Some file) ≡ Ok tables.now
+        → IfOk result (λ v. view v ≡ list (numbered (segment_json file tables.now) 1 tables.now.segments)) }
 {
     let mut values = Vec::new(alloc);
-    for i in 0..module.segment_count() {
-        values.push(segment_value(alloc, store, name, module, i + 1, scratch)?)?;
+    for i in 0..tables.segment_count() {
+        values.push(segment_value(alloc, store, name, tables, i + 1, scratch)?)?;
     }
     Ok(Value::Array(values))
 }

@@ -40,12 +40,12 @@ fn push_entry(
 }
 
 /// All entries.
-pub fn entries_value(alloc: Global, module: &Module) -> Result<Value, AllocError>
-    ensures { IfOk result (λ v. view v ≡ list (numbered entry_json 1 module.now.entries)) }
+pub fn entries_value(alloc: Global, tables: &Module) -> Result<Value, AllocError>
+    ensures { IfOk result (λ v. view v ≡ list (numbered entry_json 1 tables.now.entries)) }
 {
     let mut values = Vec::new(alloc);
-    for i in 0..module.entry_count() as u16 {
-        push_entry(alloc, &mut values, i + 1, module.entry(i + 1))?;
+    for i in 0..tables.entry_count() as u16 {
+        push_entry(alloc, &mut values, i + 1, tables.entry(i + 1))?;
     }
     Ok(Value::Array(values))
 }
@@ -66,24 +66,24 @@ fn name_value(
 }
 
 /// All names of entries.
-pub fn names_value(alloc: Global, module: &Module) -> Result<Value, AllocError>
-    ensures { IfOk result (λ v. view v ≡ list (numbered (name_json module.now.resident) 0 module.now.names)) }
+pub fn names_value(alloc: Global, tables: &Module) -> Result<Value, AllocError>
+    ensures { IfOk result (λ v. view v ≡ list (numbered (name_json tables.now.resident) 0 tables.now.names)) }
 {
     let mut values = Vec::new(alloc);
-    for i in 0..module.name_count() {
-        let (bytes, ordinal) = module.entry_name(i);
-        values.push(name_value(alloc, module.resident_count(), i, bytes, ordinal)?)?;
+    for i in 0..tables.name_count() {
+        let (bytes, ordinal) = tables.entry_name(i);
+        values.push(name_value(alloc, tables.resident_count(), i, bytes, ordinal)?)?;
     }
     Ok(Value::Array(values))
 }
 
 /// All modules that are referred to.
-pub fn references_value(alloc: Global, module: &Module) -> Result<Value, AllocError>
-    ensures { IfOk result (λ v. view v ≡ list (numbered reference_json 1 module.now.references)) }
+pub fn references_value(alloc: Global, tables: &Module) -> Result<Value, AllocError>
+    ensures { IfOk result (λ v. view v ≡ list (numbered reference_json 1 tables.now.references)) }
 {
     let mut values = Vec::new(alloc);
-    for i in 0..module.reference_count() {
-        values.push(text_value(alloc, module.reference(i + 1))?)?;
+    for i in 0..tables.reference_count() {
+        values.push(text_value(alloc, tables.reference(i + 1))?)?;
     }
     Ok(Value::Array(values))
 }
@@ -110,22 +110,22 @@ fn resource_value(
 }
 
 /// The resource of a number, from 1.
-fn numbered_value(alloc: Global, module: &Module, number: usize) -> Result<Value, AllocError>
-    ensures { (r : Label × resources.Entry) → resource_at module.now.resources number ≡ Some r → IfOk result (λ v. view v ≡ resource_object r) }
+fn numbered_value(alloc: Global, tables: &Module, number: usize) -> Result<Value, AllocError>
+    ensures { (r : Label × resources.Entry) → resource_at tables.now.resources number ≡ Some r → IfOk result (λ v. view v ≡ resource_object r) }
 {
-    match module.resource(number) {
+    match tables.resource(number) {
         Some((kind, resource)) => resource_value(alloc, kind, resource),
         None => Ok(Value::Null),
     }
 }
 
 /// All resources.
-pub fn resources_value(alloc: Global, module: &Module) -> Result<Value, AllocError>
-    ensures { IfOk result (λ v. view v ≡ list (numbered resource_json 1 (listed_resources module.now.resources))) }
+pub fn resources_value(alloc: Global, tables: &Module) -> Result<Value, AllocError>
+    ensures { IfOk result (λ v. view v ≡ list (numbered resource_json 1 (listed_resources tables.now.resources))) }
 {
     let mut values = Vec::new(alloc);
-    for i in 0..module.resource_count() {
-        values.push(numbered_value(alloc, module, i + 1)?)?;
+    for i in 0..tables.resource_count() {
+        values.push(numbered_value(alloc, tables, i + 1)?)?;
     }
     Ok(Value::Array(values))
 }

@@ -34,7 +34,7 @@ pub fn module_of(
     ensures tables { (file : List ℕ) → file_of store.old name.now ≡ Some file → IfOk result (λ read. without_part read ≡ tables_at (Some file)) }
 {
     match read_parts(alloc, store, name) {
-        Ok(module) => Ok(Ok(module)),
+        Ok(tables) => Ok(Ok(tables)),
         Err(e) if e.fault == NeFault::OutOfMemory => Err(AllocError),
         Err(e) => Ok(Err(e)),
     }
@@ -44,16 +44,16 @@ pub fn module_of(
 fn first_unsound(
     store: &mut MemStore,
     name: &[u8],
-    module: &Module,
+    tables: &Module,
     scratch: &mut Scratch,
 ) -> Option<Unsound>
     ensures same { store.new ≡ store.old }
-    ensures first { (file : List ℕ) → file_of store.old name.now ≡ Some file → tables_at (Some file) ≡ Ok module.now
-        → result ≡ first_unsound file module.now 1 module.now.segments }
+    ensures first { (file : List ℕ) → file_of store.old name.now ≡ Some file → tables_at (Some file) ≡ Ok tables.now
+        → result ≡ first_unsound file tables.now 1 tables.now.segments }
 {
-    for i in 0..module.segment_count() {
+    for i in 0..tables.segment_count() {
         let segment = i + 1;
-        if let Err(fault) = check(store, name, module, segment, scratch) {
+        if let Err(fault) = check(store, name, tables, segment, scratch) {
             return Some(Unsound { segment, fault });
         }
     }
@@ -61,12 +61,12 @@ fn first_unsound(
 }
 
 /// The verdict on a file whose module is accepted.
-pub fn verdict(store: &mut MemStore, name: &[u8], module: &Module, scratch: &mut Scratch) -> Verdict
+pub fn verdict(store: &mut MemStore, name: &[u8], tables: &Module, scratch: &mut Scratch) -> Verdict
     ensures same { store.new ≡ store.old }
-    ensures verdict { (file : List ℕ) → file_of store.old name.now ≡ Some file → tables_at (Some file) ≡ Ok module.now
-        → result ≡ verdict_of file (Ok module.now) }
+    ensures verdict { (file : List ℕ) → file_of store.old name.now ≡ Some file → tables_at (Some file) ≡ Ok tables.now
+        → result ≡ verdict_of file (Ok tables.now) }
 {
-    match first_unsound(store, name, module, scratch) {
+    match first_unsound(store, name, tables, scratch) {
         None => Verdict::Sound,
         Some(unsound) => Verdict::NotSound(unsound),
     }

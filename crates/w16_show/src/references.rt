@@ -19,11 +19,11 @@ fn push_reference(out: &mut String, number: usize, name: &[u8]) -> Result<(), Al
 }
 
 /// Puts the lines of all references behind a text.
-pub fn push_references(out: &mut String, module: &Module) -> Result<(), AllocError>
-    ensures { Adds result (string_bytes out.old) (string_bytes out.new) (numbered reference_text 1 module.now.references) }
+pub fn push_references(out: &mut String, tables: &Module) -> Result<(), AllocError>
+    ensures { Adds result (string_bytes out.old) (string_bytes out.new) (numbered reference_text 1 tables.now.references) }
 {
-    for i in 0..module.reference_count() {
-        push_reference(out, i + 1, module.reference(i + 1))?;
+    for i in 0..tables.reference_count() {
+        push_reference(out, i + 1, tables.reference(i + 1))?;
     }
     Ok(())
 }

@@ -15,14 +15,14 @@ use w16_reloc::{Fixup, Record, Scratch, Target};
 use w16_store::MemStore;
 
 /// The name of a module that is referred to, by its number from 1; none where there is no such reference.
-pub fn reference_name(module: &Module, number: u16) -> &[u8]
-    ensures { result.now ≡ reference_name module.now number }
+pub fn reference_name(tables: &Module, number: u16) -> &[u8]
+    ensures { result.now ≡ reference_name tables.now number }
 {
     let number = usize::from(number);
-    if number == 0 || module.reference_count() < number {
+    if number == 0 || tables.reference_count() < number {
         return &[];
     }
-    module.reference(number)
+    tables.reference(number)
 }
 
 /// The most bytes of an imported name.
@@ -32,16 +32,16 @@ pub const NAME_ROOM: usize = 255;
 pub fn read_name(
     store: &mut MemStore,
     name: &[u8],
-    module: &Module,
+    tables: &Module,
     offset: u16,
     room: &mut [u8; NAME_ROOM],
 ) -> Result<usize, AllocError>
     ensures same { store.new ≡ store.old }
     ensures few { IfOk result (λ n. n ≤ NAME_ROOM) }
-    ensures text { (file : List ℕ) → file_of store.old name.now ≡ Some file → tables_at (Some file) ≡ Ok module.now
-        → IfOk result (λ n. take n room.new ≡ imported_name file module.now offset) }
+    ensures text { (file : List ℕ) → file_of store.old name.now ≡ Some file → tables_at (Some file) ≡ Ok tables.now
+        → IfOk result (λ n. take n room.new ≡ imported_name file tables.now offset) }
 {
-    match imported_name(store, name, module, offset, room) {
+    match imported_name(store, name, tables, offset, room) {
         Ok(len) => Ok(len),
         Err(NeFault::OutOfMemory) => Err(AllocError),
         Err(_) => Ok(0),
@@ -53,15 +53,15 @@ fn push_name(
     out: &mut String,
     store: &mut MemStore,
     name: &[u8],
-    module: &Module,
+    tables: &Module,
     offset: u16,
 ) -> Result<(), AllocError>
     ensures same { store.new ≡ store.old }
-    ensures text { (file : List ℕ) → file_of store.old name.now ≡ Some file → tables_at (Some file) ≡ Ok module.now
-        → Adds result (string_bytes out.old) (string_bytes out.new) (escaped (imported_name file module.now offset)) }
+    ensures text { (file : List ℕ) → file_of store.old name.now ≡ Some file → tables_at (Some file) ≡ Ok tables.now
+        → Adds result (string_bytes out.old) (string_bytes out.new) (escaped (imported_name file tables.now offset)) }
 {
     let mut room = [0; NAME_ROOM];
-    let len = read_name(store, name, module, offset, &mut room)?;
+    let len = read_name(store, name, tables, offset, &mut room)?;
     push_escaped(out, &room[..len])
 }
 
@@ -71,27 +71,27 @@ pub fn push_target(
     out: &mut String,
     store: &mut MemStore,
     name: &[u8],
-    module: &Module,
+    tables: &Module,
     target: Target,
 ) -> Result<(), AllocError>
     ensures same { store.new ≡ store.old }
-    ensures text { (file : List ℕ) → file_of store.old name.now ≡ Some file → tables_at (Some file) ≡ Ok module.now
-        → Adds result (string_bytes out.old) (string_bytes out.new) (target_text file module.now target) }
+    ensures text { (file : List ℕ) → file_of store.old name.now ≡ Some file → tables_at (Some file) ≡ Ok tables.now
+        → Adds result (string_bytes out.old) (string_bytes out.new) (target_text file tables.now target) }
 {
     match target {
         Target::Internal { segment, offset } => write!(out, "{segment}:{offset:04x}"),
         Target::Entry { ordinal } => write!(out, "entry {ordinal}"),
         Target::ByOrdinal { reference, ordinal } => {
-            push_escaped(out, reference_name(module, reference))?;
+            push_escaped(out, reference_name(tables, reference))?;
             write!(out, " #{ordinal}")
         }
         Target::ByName {
             reference,
             name: text,
         } => {
-            push_escaped(out, reference_name(module, reference))?;
+            push_escaped(out, reference_name(tables, reference))?;
             out.push_str(" ")?;
-            push_name(out, store, name, module, text)
+            push_name(out, store, name, tables, text)
         }
     }
 }
@@ -112,20 +112,20 @@ fn push_fixup(
     out: &mut String,
     store: &mut MemStore,
     name: &[u8],
-    module: &Module,
+    tables: &Module,
     sites: &[u16],
     sign: &str,
     fixup: &Fixup,
 ) -> Result<(), AllocError>
     ensures same { store.new ≡ store.old }
-    ensures text { (file : List ℕ) → file_of store.old name.now ≡ Some file → tables_at (Some file) ≡ Ok module.now
-        → Adds result (string_bytes out.old) (string_bytes out.new) (fixup_text file module.now sites.now sign.now fixup.now) }
+    ensures text { (file : List ℕ) → file_of store.old name.now ≡ Some file → tables_at (Some file) ≡ Ok tables.now
+        → Adds result (string_bytes out.old) (string_bytes out.new) (fixup_text file tables.now sites.now sign.now fixup.now) }
 {
     out.push_str(" ")?;
     push_sites(out, sites)?;
     let part = part_word(fixup.part);
     write!(out, " {part}{sign}")?;
-    push_target(out, store, name, module, fixup.target)?;
+    push_target(out, store, name, tables, fixup.target)?;
     out.push_str("\n")
 }
 
@@ -134,19 +134,19 @@ fn push_relocation(
     out: &mut String,
     store: &mut MemStore,
     name: &[u8],
-    module: &Module,
+    tables: &Module,
     bytes: &[u8],
     relocation: &Record,
     sites: &mut Vec<u16>,
 ) -> Result<(), AllocError>
     ensures same { store.new ≡ store.old }
-    ensures text { (file : List ℕ) → file_of store.old name.now ≡ Some file → tables_at (Some file) ≡ Ok module.now
-        → Adds result (string_bytes out.old) (string_bytes out.new) (relocation_text file module.now bytes.now relocation.now) }
+    ensures text { (file : List ℕ) → file_of store.old name.now ≡ Some file → tables_at (Some file) ≡ Ok tables.now
+        → Adds result (string_bytes out.old) (string_bytes out.new) (relocation_text file tables.now bytes.now relocation.now) }
 {
     sites_of(bytes, relocation, sites)?;
     match relocation {
-        Record::Stored(fixup) => push_fixup(out, store, name, module, sites, " = ", fixup),
-        Record::Added(fixup) => push_fixup(out, store, name, module, sites, " + ", fixup),
+        Record::Stored(fixup) => push_fixup(out, store, name, tables, sites, " = ", fixup),
+        Record::Added(fixup) => push_fixup(out, store, name, tables, sites, " + ", fixup),
         Record::System => out.push_str("  system\n"),
     }
 }
@@ -156,12 +156,12 @@ pub fn push_relocations(
     out: &mut String,
     store: &mut MemStore,
     name: &[u8],
-    module: &Module,
+    tables: &Module,
     scratch: &Scratch,
 ) -> Result<(), AllocError>
     ensures same { store.new ≡ store.old }
-    ensures text { (file : List ℕ) → file_of store.old name.now ≡ Some file → tables_at (Some file) ≡ Ok module.now
-        → Adds result (string_bytes out.old) (string_bytes out.new) (relocations_text file module.now (Ok scratch.now)) }
+    ensures text { (file : List ℕ) → file_of store.old name.now ≡ Some file → tables_at (Some file) ≡ Ok tables.now
+        → Adds result (string_bytes out.old) (string_bytes out.new) (relocations_text file tables.now (Ok scratch.now)) }
 {
     let mut sites = Vec::new(*out.allocator());
     for relocation in scratch.records() {
@@ -169,7 +169,7 @@ pub fn push_relocations(
             out,
             store,
             name,
-            module,
+            tables,
             scratch.bytes(),
             relocation,
             &mut sites,

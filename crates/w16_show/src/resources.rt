@@ -94,21 +94,21 @@ fn push_resource(
 }
 
 /// Puts the line of the resource of a number, from 1, behind a text.
-fn push_numbered(out: &mut String, module: &Module, number: usize) -> Result<(), AllocError>
-    ensures { (r : Label × Entry) → resource_at module.now.resources number ≡ Some r → Adds result (string_bytes out.old) (string_bytes out.new) (resource_text number r) }
+fn push_numbered(out: &mut String, tables: &Module, number: usize) -> Result<(), AllocError>
+    ensures { (r : Label × Entry) → resource_at tables.now.resources number ≡ Some r → Adds result (string_bytes out.old) (string_bytes out.new) (resource_text number r) }
 {
-    match module.resource(number) {
+    match tables.resource(number) {
         Some((kind, resource)) => push_resource(out, number, kind, resource),
         None => Ok(()),
     }
 }
 
 /// Puts the lines of all resources behind a text.
-pub fn push_resources(out: &mut String, module: &Module) -> Result<(), AllocError>
-    ensures { Adds result (string_bytes out.old) (string_bytes out.new) (numbered resource_text 1 (listed_resources module.now.resources)) }
+pub fn push_resources(out: &mut String, tables: &Module) -> Result<(), AllocError>
+    ensures { Adds result (string_bytes out.old) (string_bytes out.new) (numbered resource_text 1 (listed_resources tables.now.resources)) }
 {
-    for i in 0..module.resource_count() {
-        push_numbered(out, module, i + 1)?;
+    for i in 0..tables.resource_count() {
+        push_numbered(out, tables, i + 1)?;
     }
     Ok(())
 }

@@ -71,19 +71,19 @@ fn push_records(
     out: &mut String,
     store: &mut MemStore,
     name: &[u8],
-    module: &Module,
+    tables: &Module,
     number: usize,
     scratch: &mut Scratch,
 ) -> Result<(), AllocError>
     requires first { 0 < number }
-    requires last { number ≤ length module.now.segments }
+    requires last { number ≤ length tables.now.segments }
     ensures same { store.new ≡ store.old }
-    ensures text { (file : List ℕ) (s : Segment) → file_of store.old name.now ≡ Some file → tables_at (Some file) ≡ Ok module.now
-        → slice_get module.now.segments (number - 1) ≡ Some s
-        → Adds result (string_bytes out.old) (string_bytes out.new) (relocations_text file module.now (checked file module.now s)) }
+    ensures text { (file : List ℕ) (s : Segment) → file_of store.old name.now ≡ Some file → tables_at (Some file) ≡ Ok tables.now
+        → slice_get tables.now.segments (number - 1) ≡ Some s
+        → Adds result (string_bytes out.old) (string_bytes out.new) (relocations_text file tables.now (checked file tables.now s)) }
 {
-    match check(store, name, module, number, scratch) {
-        Ok(()) => push_relocations(out, store, name, module, scratch),
+    match check(store, name, tables, number, scratch) {
+        Ok(()) => push_relocations(out, store, name, tables, scratch),
         Err(fault) => {
             let word = unsound_word(fault);
             writeln!(out, "  {word}")
@@ -96,16 +96,16 @@ pub fn push_segments(
     out: &mut String,
     store: &mut MemStore,
     name: &[u8],
-    module: &Module,
+    tables: &Module,
     scratch: &mut Scratch,
 ) -> Result<(), AllocError>
     ensures same { store.new ≡ store.old }
-    ensures text { (file : List ℕ) → file_of store.old name.now ≡ Some file → tables_at (Some file) ≡ Ok module.now
-        → Adds result (string_bytes out.old) (string_bytes out.new) (numbered (whole_segment file module.now) 1 module.now.segments) }
+    ensures text { (file : List ℕ) → file_of store.old name.now ≡ Some file → tables_at (Some file) ≡ Ok tables.now
+        → Adds result (string_bytes out.old) (string_bytes out.new) (numbered (whole_segment file tables.now) 1 tables.now.segments) }
 {
-    for i in 0..module.segment_count() {
-        push_line(out, i + 1, &module.segment(i + 1))?;
-        push_records(out, store, name, module, i + 1, scratch)?;
+    for i in 0..tables.segment_count() {
+        push_line(out, i + 1, &tables.segment(i + 1))?;
+        push_records(out, store, name, tables, i + 1, scratch)?;
     }
     Ok(())
 }

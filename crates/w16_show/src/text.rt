@@ -55,13 +55,13 @@ fn push_verdict(out: &mut String, verdict: &Verdict) -> Result<(), AllocError>
 
 /// Puts the header behind a text, where it is asked for.
 #[tactic(auto, unfolding(crate::specs::Report::part))]
-fn push_header_part(out: &mut String, asked: bool, module: &Module) -> Result<(), AllocError>
-    ensures { Adds result (string_bytes out.old) (string_bytes out.new) (part asked (header_text module.now.place module.now.header)) }
+fn push_header_part(out: &mut String, asked: bool, tables: &Module) -> Result<(), AllocError>
+    ensures { Adds result (string_bytes out.old) (string_bytes out.new) (part asked (header_text tables.now.place tables.now.header)) }
 {
     if !asked {
         return Ok(());
     }
-    push_header(out, module)
+    push_header(out, tables)
 }
 
 /// Puts the segments behind a text, where they are asked for.
@@ -70,29 +70,29 @@ fn push_segments_part(
     out: &mut String,
     asked: bool,
     store: &mut MemStore,
-    module: &Module,
+    tables: &Module,
     scratch: &mut Scratch,
 ) -> Result<(), AllocError>
     ensures same { store.new ≡ store.old }
-    ensures text { (file : List ℕ) → file_of store.old FILE.now ≡ Some file → tables_at (Some file) ≡ Ok module.now
-        → Adds result (string_bytes out.old) (string_bytes out.new) (part asked (numbered (whole_segment file module.now) 1 module.now.segments)) }
+    ensures text { (file : List ℕ) → file_of store.old FILE.now ≡ Some file → tables_at (Some file) ≡ Ok tables.now
+        → Adds result (string_bytes out.old) (string_bytes out.new) (part asked (numbered (whole_segment file tables.now) 1 tables.now.segments)) }
 {
     if !asked {
         return Ok(());
     }
-    push_segments(out, store, FILE, module, scratch)
+    push_segments(out, store, FILE, tables, scratch)
 }
 
 /// Puts the entries and their names behind a text, where they are asked for.
 #[tactic(auto, unfolding(crate::specs::Report::part))]
-fn push_entries_part(out: &mut String, asked: bool, module: &Module) -> Result<(), AllocError>
-    ensures { Adds result (string_bytes out.old) (string_bytes out.new) (part asked (numbered entry_text 1 module.now.entries ++ numbered (name_text module.now.resident) 0 module.now.names)) }
+fn push_entries_part(out: &mut String, asked: bool, tables: &Module) -> Result<(), AllocError>
+    ensures { Adds result (string_bytes out.old) (string_bytes out.new) (part asked (numbered entry_text 1 tables.now.entries ++ numbered (name_text tables.now.resident) 0 tables.now.names)) }
 {
     if !asked {
         return Ok(());
     }
-    push_entries(out, module)?;
-    push_names(out, module)
+    push_entries(out, tables)?;
+    push_names(out, tables)
 }
 
 /// Puts the references and what is imported from them behind a text, where they are asked for.
@@ -101,30 +101,30 @@ fn push_references_part(
     out: &mut String,
     asked: bool,
     store: &mut MemStore,
-    module: &Module,
+    tables: &Module,
     scratch: &mut Scratch,
 ) -> Result<(), AllocError>
     ensures same { store.new ≡ store.old }
-    ensures text { (file : List ℕ) → file_of store.old FILE.now ≡ Some file → tables_at (Some file) ≡ Ok module.now
-        → Adds result (string_bytes out.old) (string_bytes out.new) (part asked (numbered reference_text 1 module.now.references ++ flat_map (import_text file module.now) (imports file module.now))) }
+    ensures text { (file : List ℕ) → file_of store.old FILE.now ≡ Some file → tables_at (Some file) ≡ Ok tables.now
+        → Adds result (string_bytes out.old) (string_bytes out.new) (part asked (numbered reference_text 1 tables.now.references ++ flat_map (import_text file tables.now) (imports file tables.now))) }
 {
     if !asked {
         return Ok(());
     }
-    push_references(out, module)?;
-    let imports = imports(*out.allocator(), store, FILE, module, scratch)?;
-    push_imports(out, store, FILE, module, &imports)
+    push_references(out, tables)?;
+    let imports = imports(*out.allocator(), store, FILE, tables, scratch)?;
+    push_imports(out, store, FILE, tables, &imports)
 }
 
 /// Puts the resources behind a text, where they are asked for.
 #[tactic(auto, unfolding(crate::specs::Report::part))]
-fn push_resources_part(out: &mut String, asked: bool, module: &Module) -> Result<(), AllocError>
-    ensures { Adds result (string_bytes out.old) (string_bytes out.new) (part asked (numbered resource_text 1 (listed_resources module.now.resources))) }
+fn push_resources_part(out: &mut String, asked: bool, tables: &Module) -> Result<(), AllocError>
+    ensures { Adds result (string_bytes out.old) (string_bytes out.new) (part asked (numbered resource_text 1 (listed_resources tables.now.resources))) }
 {
     if !asked {
         return Ok(());
     }
-    push_resources(out, module)
+    push_resources(out, tables)
 }
 
 /// Puts the parts of a module that are asked for behind a text.
@@ -132,18 +132,18 @@ fn push_module(
     out: &mut String,
     store: &mut MemStore,
     parts: Parts,
-    module: &Module,
+    tables: &Module,
     scratch: &mut Scratch,
 ) -> Result<(), AllocError>
     ensures same { store.new ≡ store.old }
-    ensures text { (file : List ℕ) → file_of store.old FILE.now ≡ Some file → tables_at (Some file) ≡ Ok module.now
-        → Adds result (string_bytes out.old) (string_bytes out.new) (module_text parts file module.now) }
+    ensures text { (file : List ℕ) → file_of store.old FILE.now ≡ Some file → tables_at (Some file) ≡ Ok tables.now
+        → Adds result (string_bytes out.old) (string_bytes out.new) (module_text parts file tables.now) }
 {
-    push_header_part(out, parts.header, module)?;
-    push_segments_part(out, parts.segments, store, module, scratch)?;
-    push_entries_part(out, parts.entries, module)?;
-    push_references_part(out, parts.references, store, module, scratch)?;
-    push_resources_part(out, parts.resources, module)
+    push_header_part(out, parts.header, tables)?;
+    push_segments_part(out, parts.segments, store, tables, scratch)?;
+    push_entries_part(out, parts.entries, tables)?;
+    push_references_part(out, parts.references, store, tables, scratch)?;
+    push_resources_part(out, parts.resources, tables)
 }
 
 /// What is printed of a file whose module is accepted.
@@ -152,18 +152,18 @@ fn module_shown(
     name: &str,
     store: &mut MemStore,
     parts: Parts,
-    module: &Module,
+    tables: &Module,
 ) -> Result<Shown, AllocError>
-    ensures text { (file : List ℕ) → file_of store.old FILE.now ≡ Some file → tables_at (Some file) ≡ Ok module.now
-        → IfOk result (λ shown. string_bytes shown.text ≡ text_of parts name.now file (Ok module.now)) }
-    ensures verdict { (file : List ℕ) → file_of store.old FILE.now ≡ Some file → tables_at (Some file) ≡ Ok module.now
-        → IfOk result (λ shown. shown.verdict ≡ verdict_of file (Ok module.now)) }
+    ensures text { (file : List ℕ) → file_of store.old FILE.now ≡ Some file → tables_at (Some file) ≡ Ok tables.now
+        → IfOk result (λ shown. string_bytes shown.text ≡ text_of parts name.now file (Ok tables.now)) }
+    ensures verdict { (file : List ℕ) → file_of store.old FILE.now ≡ Some file → tables_at (Some file) ≡ Ok tables.now
+        → IfOk result (λ shown. shown.verdict ≡ verdict_of file (Ok tables.now)) }
 {
     let mut scratch = Scratch::new(alloc)?;
-    let verdict = verdict(store, FILE, module, &mut scratch);
+    let verdict = verdict(store, FILE, tables, &mut scratch);
     let mut text = String::new(alloc);
-    push_title(&mut text, name, module)?;
-    push_module(&mut text, store, parts, module, &mut scratch)?;
+    push_title(&mut text, name, tables)?;
+    push_module(&mut text, store, parts, tables, &mut scratch)?;
     push_verdict(&mut text, &verdict)?;
     Ok(Shown { text, verdict })
 }
@@ -188,7 +188,7 @@ pub fn show_text(alloc: Global, name: &str, file: &[u8], parts: Parts) -> Result
 {
     let mut store = store_of(alloc, file)?;
     match module_of(alloc, &mut store, FILE)? {
-        Ok(module) => module_shown(alloc, name, &mut store, parts, &module),
+        Ok(tables) => module_shown(alloc, name, &mut store, parts, &tables),
         Err(e) => fault_shown(alloc, name, e),
     }
 }

@@ -5,6 +5,6 @@ use Rattle.w16_show.proofs.entries.push_entries.Goals as goal
 
 pub loop-i-preserved : goal.loop-i-preserved
 loop-i-preserved c =
-    numbered-step entry_text (string_bytes c.loop-i.out) _ _ (c.loop-i.i + 1) c.args.module.now.entries c.loop-i.i _
-    (got-entry c.args.module.now.entries c.loop-i.i (omega (arith, c.loop-i-test.true)))
+    numbered-step entry_text (string_bytes c.loop-i.out) _ _ (c.loop-i.i + 1) c.args.tables.now.entries c.loop-i.i _
+    (got-entry c.args.tables.now.entries c.loop-i.i (omega (arith, c.loop-i-test.true)))
     (rw c.entry.ensures at c.in_ok-push_entry.ensures) c.loop-i.invariant

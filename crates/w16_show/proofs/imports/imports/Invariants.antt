@@ -8,5 +8,5 @@ use Rattle.w16_show.proofs.imports.imports.Given as goal
 
 abbrev pub invariant-loop-i : goal.invariant-loop-i
 invariant-loop-i l =
-    (l.store ≡ l.initial.store) × ((file : List ℕ) → file_of l.initial.store l.name ≡ Some file → tables_at (Some file) ≡ Ok l.module
-    → fold with_import l.imports.entries (flat_map (λ s. targets_in (checked file l.module s)) (drop l.i l.module.segments)) ≡ ranked_imports file l.module)
+    (l.store ≡ l.initial.store) × ((file : List ℕ) → file_of l.initial.store l.name ≡ Some file → tables_at (Some file) ≡ Ok l.tables
+    → fold with_import l.imports.entries (flat_map (λ s. targets_in (checked file l.tables s)) (drop l.i l.tables.segments)) ≡ ranked_imports file l.tables)

@@ -8,5 +8,5 @@ use Rattle.w16_show.proofs.imports.push_imports.Given as goal
 
 abbrev pub invariant-loop-import : goal.invariant-loop-import
 invariant-loop-import l =
-    (l.store ≡ l.initial.store) × ((file : List ℕ) → file_of l.initial.store l.name ≡ Some file → tables_at (Some file) ≡ Ok l.module
-    → string_bytes l.out ++ flat_map (import_text file l.module) l.import-iterator ≡ string_bytes l.initial.out ++ flat_map (import_text file l.module) (values l.imports))
+    (l.store ≡ l.initial.store) × ((file : List ℕ) → file_of l.initial.store l.name ≡ Some file → tables_at (Some file) ≡ Ok l.tables
+    → string_bytes l.out ++ flat_map (import_text file l.tables) l.import-iterator ≡ string_bytes l.initial.out ++ flat_map (import_text file l.tables) (values l.imports))

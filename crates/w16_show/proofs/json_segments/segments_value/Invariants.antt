@@ -8,5 +8,5 @@ use Rattle.w16_show.proofs.json_segments.segments_value.Given as goal
 
 abbrev pub invariant-loop-i : goal.invariant-loop-i
 invariant-loop-i l =
-    (l.store ≡ l.initial.store) × ((file : List ℕ) → file_of l.initial.store l.name ≡ Some file → tables_at (Some file) ≡ Ok l.module
-    → map view l.values.items ++ numbered (segment_json file l.module) (l.i + 1) (drop l.i l.module.segments) ≡ numbered (segment_json file l.module) 1 l.module.segments)
+    (l.store ≡ l.initial.store) × ((file : List ℕ) → file_of l.initial.store l.name ≡ Some file → tables_at (Some file) ≡ Ok l.tables
+    → map view l.values.items ++ numbered (segment_json file l.tables) (l.i + 1) (drop l.i l.tables.segments) ≡ numbered (segment_json file l.tables) 1 l.tables.segments)

@@ -8,5 +8,5 @@ use Rattle.w16_show.proofs.json_segments.targets_value.Given as goal
 
 abbrev pub invariant-loop-target : goal.invariant-loop-target
 invariant-loop-target l =
-    (l.store ≡ l.initial.store) × ((file : List ℕ) → file_of l.initial.store l.name ≡ Some file → tables_at (Some file) ≡ Ok l.module
-    → map view l.targets.items ++ map (target_json file l.module) l.target-iterator ≡ map (target_json file l.module) (values l.imports))
+    (l.store ≡ l.initial.store) × ((file : List ℕ) → file_of l.initial.store l.name ≡ Some file → tables_at (Some file) ≡ Ok l.tables
+    → map view l.targets.items ++ map (target_json file l.tables) l.target-iterator ≡ map (target_json file l.tables) (values l.imports))

@@ -6,4 +6,4 @@ use Rattle.w16_show.proofs.json_tables.entries_value.Given as goal
 
 abbrev pub invariant-loop-i : goal.invariant-loop-i
 invariant-loop-i l =
-    map view l.values.items ++ numbered entry_json (l.i + 1) (drop l.i l.module.entries) ≡ numbered entry_json 1 l.module.entries
+    map view l.values.items ++ numbered entry_json (l.i + 1) (drop l.i l.tables.entries) ≡ numbered entry_json 1 l.tables.entries

@@ -6,4 +6,4 @@ use Rattle.w16_show.proofs.json_tables.names_value.Given as goal
 
 abbrev pub invariant-loop-i : goal.invariant-loop-i
 invariant-loop-i l =
-    map view l.values.items ++ numbered (name_json l.module.resident) l.i (drop l.i l.module.names) ≡ numbered (name_json l.module.resident) 0 l.module.names
+    map view l.values.items ++ numbered (name_json l.tables.resident) l.i (drop l.i l.tables.names) ≡ numbered (name_json l.tables.resident) 0 l.tables.names

@@ -6,4 +6,4 @@ use Rattle.w16_show.proofs.json_tables.references_value.Given as goal
 
 abbrev pub invariant-loop-i : goal.invariant-loop-i
 invariant-loop-i l =
-    map view l.values.items ++ numbered reference_json (l.i + 1) (drop l.i l.module.references) ≡ numbered reference_json 1 l.module.references
+    map view l.values.items ++ numbered reference_json (l.i + 1) (drop l.i l.tables.references) ≡ numbered reference_json 1 l.tables.references

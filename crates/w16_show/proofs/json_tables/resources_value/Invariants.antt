@@ -7,4 +7,4 @@ use Rattle.w16_show.proofs.json_tables.resources_value.Given as goal
 
 abbrev pub invariant-loop-i : goal.invariant-loop-i
 invariant-loop-i l =
-    map view l.values.items ++ numbered resource_json (l.i + 1) (drop l.i (listed_resources l.module.resources)) ≡ numbered resource_json 1 (listed_resources l.module.resources)
+    map view l.values.items ++ numbered resource_json (l.i + 1) (drop l.i (listed_resources l.tables.resources)) ≡ numbered resource_json 1 (listed_resources l.tables.resources)

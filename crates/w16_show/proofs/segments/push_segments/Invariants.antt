@@ -7,5 +7,5 @@ use Rattle.w16_show.proofs.segments.push_segments.Given as goal
 
 abbrev pub invariant-loop-i : goal.invariant-loop-i
 invariant-loop-i l =
-    (l.store ≡ l.initial.store) × ((file : List ℕ) → file_of l.initial.store l.name ≡ Some file → tables_at (Some file) ≡ Ok l.module
-    → string_bytes l.out ++ numbered (whole_segment file l.module) (l.i + 1) (drop l.i l.module.segments) ≡ string_bytes l.initial.out ++ numbered (whole_segment file l.module) 1 l.module.segments)
+    (l.store ≡ l.initial.store) × ((file : List ℕ) → file_of l.initial.store l.name ≡ Some file → tables_at (Some file) ≡ Ok l.tables
+    → string_bytes l.out ++ numbered (whole_segment file l.tables) (l.i + 1) (drop l.i l.tables.segments) ≡ string_bytes l.initial.out ++ numbered (whole_segment file l.tables) 1 l.tables.segments)
