@@ -1,9 +1,10 @@
 -- What becomes of a heap while objects get bytes: of one, and of several, one after another.
 use Rattle.w16_loading.proofs.Common.{◌≡◌, ◌≢◌, ℕ, inl, inr, ◌⊎◌, Bool, true, false, List, [], ◌∷◌, length, fold, take, Option, Some, None, IsSomeAnd, is_some, refl, sym, ap, ◌∙◌, subst, false≢true, cases_eq, Discardable, eligible, Heap}
 use Rattle.w16_loading.proofs.Common.{Object, IsHeap, blocks, object_at, with_newest, with_ordered, absent, Request, Asked, Settles, discarded, discards_needed, stays_for, KeepsOthers, IsKeptOrDiscarded, revival_options, Member, Each-at}
-use Rattle.w16_loading.proofs.Common.{inserted_here, settled, others_law, kept_or_discarded, FetchFault, Giving, Fills, FillsOne, Filling, Failure, InTurn, asked_of, is_of_read, GivesAny, FillsLaw, IsSized, bytes_at, bytes_in, sized_is}
+use Rattle.w16_loading.proofs.Common.{inserted_here, settled, others_law, kept_or_discarded, FetchFault, Giving, Fills, FillsOne, Filling, Failure, InTurn, asked_of, is_of_read, GivesAny, IsSized, bytes_at, bytes_in, sized_is}
 use Rattle.w16_loading.proofs.Common.{slots_for}
 use Rattle.std.specs.List.{AllByRecursion as Each}
+use Rattle.w16_loading.specs.Answers.{GivesRead}
 use Rattle.w16_loading.specs.declared.FetchFault.TheVariants as faults
 
 -- a request that is refused leaves the same heap
@@ -21,6 +22,14 @@ module _ (old : Heap) (slot : ℕ) (bytes : List ℕ) (new : Heap) where
   one_outcome may_fail (Some faults.NoRoom) f = let e : new ≡ old = refused old slot (asked_of old slot f.before bytes) new f.request in (λ t. e, inl e)
   one_outcome may_fail (Some faults.Store) f = (λ t. f.1, inl f.1)
   one_outcome may_fail (Some faults.Damaged) f = (λ t. f.1, inl f.1)
+
+  -- also where the bytes were read for it
+  pub read_outcome : (May : FetchFault → Type 0) (IsSized IsRead : List ℕ → Type 0) (fault : Option FetchFault) → GivesRead Fills May IsSized IsRead old slot fault new
+      → (is_some fault ≡ true → new ≡ old) × ((new ≡ old) ⊎ ((read : List ℕ) × IsRead read × Fills old slot read true new))
+  read_outcome May IsSized IsRead None (read, sized, is, f) = (λ t. absurd (false≢true t), inr (read, is, f))
+  read_outcome May IsSized IsRead (Some faults.NoRoom) (read, sized, f) = let e : new ≡ old = refused old slot (asked_of old slot f.before read) new f.request in (λ t. e, inl e)
+  read_outcome May IsSized IsRead (Some faults.Store) g = (λ t. g.1, inl g.1)
+  read_outcome May IsSized IsRead (Some faults.Damaged) g = (λ t. g.1, inl g.1)
 
   -- whichever reads may fail, that is as over any store
   as_any : (may_fail : FetchFault → Bool) (fault : Option FetchFault) → FillsOne may_fail old slot bytes fault new → GivesAny old slot bytes fault new
@@ -76,13 +85,17 @@ module _ (P : Heap → Heap → Type 0) (same : (h : Heap) → P h h) (then : (a
       → ((x : Filling) → Member x xs → (a b : Heap) (bytes : List ℕ) → IsHeap a → length bytes ≡ length x.bytes → Fills a x.slot bytes true b → P a b) → InTurn GivesAny old xs failure new → P old new × IsHeap new
   any_do old new xs failure is does f = all_do GivesAny old new xs failure is (λ x m a b fault h g. one_does is_of_read a x.slot g.0 fault b h (λ filled. does x m a b g.0 h g.1 filled) g.2) f
 
--- One way to give bytes as another.
+-- One way to give bytes as another, in such heaps.
+pub in_turn_so : (f g : Giving) (Is : Heap → Type 0) → ((old : Heap) (slot : ℕ) (bytes : List ℕ) (fault : Option FetchFault) (new : Heap) → Is old → f old slot bytes fault new → g old slot bytes fault new × Is new)
+    → (old new : Heap) (xs : List Filling) (failure : Option Failure) → Is old → InTurn f old xs failure new → InTurn g old xs failure new
+in_turn_so f g Is turns old new [] failure is h = h
+in_turn_so f g Is turns old new (x ∷ xs) failure is (None, next, one, rest) =
+    let r : g old x.slot x.bytes None next × Is next = turns old x.slot x.bytes None next is one in (None, next, r.0, in_turn_so f g Is turns next new xs failure r.1 rest)
+in_turn_so f g Is turns old new (x ∷ xs) failure is (Some fault, next, one, rest) = (Some fault, next, (turns old x.slot x.bytes (Some fault) next is one).0, rest)
+
 pub in_turn_as : (f g : Giving) → ((old : Heap) (slot : ℕ) (bytes : List ℕ) (fault : Option FetchFault) (new : Heap) → IsHeap old → f old slot bytes fault new → g old slot bytes fault new × IsHeap new)
     → (old new : Heap) (xs : List Filling) (failure : Option Failure) → IsHeap old → InTurn f old xs failure new → InTurn g old xs failure new
-in_turn_as f g turns old new [] failure is h = h
-in_turn_as f g turns old new (x ∷ xs) failure is (None, next, one, rest) =
-    let r : g old x.slot x.bytes None next × IsHeap next = turns old x.slot x.bytes None next is one in (None, next, r.0, in_turn_as f g turns next new xs failure r.1 rest)
-in_turn_as f g turns old new (x ∷ xs) failure is (Some fault, next, one, rest) = (Some fault, next, (turns old x.slot x.bytes (Some fault) next is one).0, rest)
+in_turn_as f g = in_turn_so f g IsHeap
 
 -- the heap that is left
 pub one_heap : (may_fail : FetchFault → Bool) (old : Heap) (slot : ℕ) (bytes : List ℕ) (fault : Option FetchFault) (new : Heap) → IsHeap old → FillsOne may_fail old slot bytes fault new → IsHeap new
@@ -118,9 +131,6 @@ any_kept old new xs failure is f = (
   (any_do (λ a b. Unit {0}) (λ h. tt) (λ a b c x y. tt) old new xs failure is (λ x m a b bytes h long g. tt) f).1,
   λ q out. (any_do (λ a b. IsKeptOrDiscarded a b q) (λ h. inl refl) (λ a b c. kept_then a b c q) old new xs failure is (λ x m a b bytes h long g. filled_other a x.slot bytes b g h q (Each-at (λ (x : Filling). q ≢ x.slot) xs out x m)) f).0,
 )
-
-pub fills_law : FillsLaw
-fills_law may_fail old new xs failure is f = any_kept old new xs failure is (all_as_any may_fail old new xs failure is f)
 
 -- Each object is still there.
 

@@ -4,6 +4,9 @@ use Rattle.w16_loading.proofs.Common.{false≢true, and_parts, IsTrue, Heap, Obj
 use Rattle.w16_loading.proofs.Common.{with_ordered, FetchFault, NoRoom, Store, Damaged, numbered, Resource, Load, LoadingWorld, Module, module_at, with_heap, Reply, Word, Dword, Failed, MOST_USES, IsLoad, IsLoadingWorld, IsObjectOf, AnyFetches, is_of_read}
 use Rattle.w16_loading.proofs.Common.{AnswersNone, LoadsNewResource, LoadsResource, LocksResource, attributes_for, is_too_long, load_of, loaded_again, lock_outcome, locked, resource_at, resource_outcome, slot_of_resource, with_resource}
 use Rattle.std.proofs.Common.{Result, Ok, Err}
+use Rattle.w16_loading.proofs.Answered.{any_step}
+use Rattle.w16_loading.specs.Families.LoadingCommand.{OfResources}
+use Rattle.w16_loading.specs.Families.ResourceCommand.{LoadResource, LockResource}
 use Rattle.std.specs.FinMap as finmap
 use Rattle.w16_model.specs.Changes.{touched}
 use Rattle.w16_model.specs.Calls as calls
@@ -179,8 +182,8 @@ module _ (old : LoadingWorld) (is : IsLoadingWorld old) (handle place answer : �
       by_resource None e f = none f
       by_resource (Some r) e f = by_size r e (is_too_long r) refl f
 
-pub load_resource_law : LoadResourceLaw
-load_resource_law old new handle place answer is step = loads old is handle place answer (record new { failures = old.failures }) step.step
+pub load_resource_law : (honest : Type 0) → LoadResourceLaw honest
+load_resource_law honest format old new handle place answer is step = loads old is handle place answer (record new { failures = old.failures }) (any_step honest format old new (OfResources (LoadResource handle place)) (Word answer) is step)
 
 -- Locks.
 
@@ -352,7 +355,8 @@ module _ (old : LoadingWorld) (is : IsLoadingWorld old) (handle answer : ℕ) (n
         | inr l ↦ some_pointer slot (sym l.0 ∙ zero)
       ]
 
-pub lock_resource_law : LockResourceLaw
-lock_resource_law old new handle answer is step =
-    let l = locks old is handle answer (record new { failures = old.failures }) step.step in
-    (l.0, l.1, l.2, l.3, λ slot load o found loaded there bytes few. answers old is handle answer (record new { failures = old.failures }) slot load o found loaded there bytes few step.step)
+pub lock_resource_law : (honest : Type 0) → LockResourceLaw honest
+lock_resource_law honest format old new handle answer is step =
+    let weak : LocksResource AnyFetches old handle (Dword answer) (record new { failures = old.failures }) = any_step honest format old new (OfResources (LockResource handle)) (Dword answer) is step in
+    let l = locks old is handle answer (record new { failures = old.failures }) weak in
+    (l.0, l.1, l.2, l.3, λ slot load o found loaded there bytes few. answers old is handle answer (record new { failures = old.failures }) slot load o found loaded there bytes few weak)

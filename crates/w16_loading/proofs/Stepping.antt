@@ -1,13 +1,14 @@
 -- What the parts of a step do to a world, the step does: fetches, loads, and changes of what is kept beside them.
-use Rattle.w16_loading.proofs.Common.{◌≡◌, ℕ, ◌+◌, ◌-◌, ◌<◌, ◌≤◌, inl, inr, ◌⊎◌, Bool, true, false, cond, ◌&&◌, ◌==◌, not, nat_lt, List, [], ◌∷◌, Option, Some, None, MatchOption, MatchBool, MatchResult, option_map, Result, Ok, Err, IfOk, refl}
+use Rattle.w16_loading.proofs.Common.{◌≡◌, ℕ, ◌+◌, ◌-◌, ◌<◌, ◌≤◌, inl, inr, ◌⊎◌, Bool, true, false, cond, ◌&&◌, ◌==◌, not, nat_lt, List, [], ◌∷◌, Option, Some, None, MatchOption, MatchBool, option_map, refl}
 use Rattle.w16_loading.proofs.Common.{sym, ap, ◌∙◌, subst, arith, ltb-true, find, bytes_at, Handles, IsFreeSlot, handle_of, slot_of_handle, selector_in, offset_in, repeated, HandleCommand, locks_at, FarAnswer, FarCommand, far_slot, Member}
-use Rattle.w16_loading.proofs.Common.{MOST_USES, FetchFault, Format, ModuleFile, Resource, LoadingWorld, Load, Module, Named, IsFreeModule, handle_named, Loaded, BuiltIn, Giving, without_objects, Closure, Reading, reading, around, begun, after}
-use Rattle.w16_loading.proofs.Common.{Refused, Meant, Read, There, New, Answer, Refuses, LoadsBy, LoadsFile, LoadsNew, Fulfils, used_again, after_use, Says, Reply, HandleReplies, ResizeReplies, Word, Dword, Failed, ResizeCommand, Fetching, Accesses}
+use Rattle.w16_loading.proofs.Common.{MOST_USES, FetchFault, Resource, LoadingWorld, Load, Module, Named, IsFreeModule, handle_named, Loaded, BuiltIn, Giving, without_objects, Closure, around}
+use Rattle.w16_loading.proofs.Common.{Answer, Fulfils, used_again, after_use, Says, Reply, HandleReplies, ResizeReplies, Word, Dword, Failed, ResizeCommand, Fetching, Accesses}
 use Rattle.w16_loading.proofs.Common.{needs_fetch, far_read, far_write, gives, Frees, LoadsResource, LoadsNewResource, LocksResource, AnswersNone, is_too_long, resource_at, load_of, loaded_again, with_resource, resource_outcome, locked, lock_outcome}
-use Rattle.w16_loading.proofs.Common.{slot_of_resource, free_resource, LoadingCommand, ModuleCommand, ResourceCommand, Loading, FamilyStep, ModuleStep, ResourceStep, FarStep, AddsBuiltIn, GivesBuiltIn, built_in, GivesAny, AnyLoads, IsAnyClosure}
+use Rattle.w16_loading.proofs.Common.{slot_of_resource, free_resource, LoadingCommand, ModuleCommand, ResourceCommand, Loading, FamilyStep, ModuleStep, ResourceStep, FarStep, AddsBuiltIn, GivesBuiltIn, built_in, GivesAny, IsRefusal}
 use Rattle.std.specs.FinMap as finmap
 use Rattle.w16_loading.specs.declared.FetchFault.TheVariants as faults
 use Rattle.w16_loading.proofs.Importers.{entry_there}
+use Rattle.w16_loading.proofs.ClosureFacts.{IsClosure}
 
 -- what is found among entries is there
 pub found_load : (old : LoadingWorld) (handle place : ℕ) (x : ℕ × Load) → load_of old handle place ≡ Some x → finmap.get old.loads x.0 ≡ Some x.1
@@ -49,6 +50,16 @@ freed_by old p = elim p [
   | Some x ↦ cond {A = ℕ × LoadingWorld} (nat_lt 1 x.1.loads) (0, with_count old x.0 x.1 (x.1.loads - 1)) (cond {A = ℕ × LoadingWorld} (nat_lt 0 (locks_at old.handles.heap x.0)) (1, old) (0, without_load old x.0))
 ]
 
+-- A load is refused in the same world; or of a module that is there; or of a closure of new modules that is so.
+abbrev pub LoadsOf : Giving → (Closure → Type 0) → Bool → LoadingWorld → List ℕ → Answer → LoadingWorld → Type 0
+LoadsOf gives Is b old file answer new =
+    (IsRefusal answer × (new ≡ old))
+    ⊎ ((handle : ℕ) × (n : Named) × (finmap.get old.modules handle ≡ Some n) × ((answer, new) ≡ used_again b old handle (Some n)))
+    ⊎ ((closure : Closure) × Is closure × Fulfils gives old closure answer new)
+
+abbrev pub AnyLoading : Loading
+AnyLoading b old file answer new = LoadsOf GivesAny (IsClosure (around old).named) b old file answer new
+
 module _ (P : Answer → LoadingWorld → Type 0) (old : LoadingWorld) (good : (answer : Answer) → P answer old) where
   same_world : (answer : Answer) (new : LoadingWorld) → new ≡ old → P answer new
   same_world answer new e = subst (P answer) (sym e) (good answer)
@@ -70,35 +81,19 @@ module _ (P : Answer → LoadingWorld → Type 0) (old : LoadingWorld) (good : (
           turn false true f = more m refl (ltb-true m.uses MOST_USES f)
           turn false false f = good (Says 0)
 
-  -- loads, of files that stay and of any
-  pub loaded : (gives : Giving) (format : Format) (b : Bool) (new : LoadingWorld) (file : List ℕ) (answer : Answer)
+  pub loaded : (gives : Giving) (Is : Closure → Type 0) (b : Bool) (new : LoadingWorld) (file : List ℕ) (answer : Answer)
       → ((handle : ℕ) (m : Module) → finmap.get old.modules handle ≡ Some (Loaded m) → m.uses < MOST_USES → P (Says handle) (after_use old handle m))
-      → ((closure : Closure) (read : ModuleFile) (n : ℕ) → reading format.says (around old) [] file ≡ Read read → after format.says (around old) n (begun file read) ≡ Ok closure → closure.pending ≡ [] → Fulfils gives old closure answer new → P answer new)
-      → LoadsBy gives format b old file answer new → P answer new
-  loaded gives format b new file answer more fulfil (inl f) = same_world answer new f.1
-  loaded gives format b new file answer more fulfil (inr f) = turn (reading format.says (around old) [] file) refl f
-    where
-      turn : (r : Reading) → reading format.says (around old) [] file ≡ r → LoadsFile gives format b old file r answer new → P answer new
-      turn (Refused number) e f = same_world answer new f.1
-      turn (Meant (There handle)) e f = again b handle (finmap.get old.modules handle) (more handle) answer new f
-      turn (Meant (New place)) e f = absurd f
-      turn (Read read) e f = by f.0 f.1.1 f.1.2 f.2
-        where
-          by : (outcome : Result Closure ℕ) → after format.says (around old) f.1.0 (begun file read) ≡ outcome → IfOk outcome (λ c. c.pending ≡ [])
-              → MatchResult outcome (λ closure. LoadsNew gives old closure answer new) (λ number. Refuses old number answer new) → P answer new
-          by (Ok closure) d done (inl h) = same_world answer new h.1.1
-          by (Ok closure) d done (inr h) = fulfil closure read f.1.0 e d done h
-          by (Err number) d done h = same_world answer new h.1
+      → ((closure : Closure) → Is closure → Fulfils gives old closure answer new → P answer new)
+      → LoadsOf gives Is b old file answer new → P answer new
+  loaded gives Is b new file answer more fulfil (inl f) = same_world answer new f.1
+  loaded gives Is b new file answer more fulfil (inr (inl f)) = again b f.0 (Some f.1) (λ m e. more f.0 m (f.2 ∙ e)) answer new f.3
+  loaded gives Is b new file answer more fulfil (inr (inr (closure, is, f))) = fulfil closure is f
 
   pub any_loaded : (b : Bool) (new : LoadingWorld) (file : List ℕ) (answer : Answer)
       → ((handle : ℕ) (m : Module) → finmap.get old.modules handle ≡ Some (Loaded m) → m.uses < MOST_USES → P (Says handle) (after_use old handle m))
-      → ((closure : Closure) → IsAnyClosure (around old) file closure → Fulfils GivesAny old closure answer new → P answer new)
-      → AnyLoads b old file answer new → P answer new
-  any_loaded b new file answer more fulfil (inl f) = same_world answer new f.1
-  any_loaded b new file answer more fulfil (inr (inl f)) = same_world answer new f.2.1
-  any_loaded b new file answer more fulfil (inr (inr (inl f))) = again b f.0 (Some f.1) (λ m e. more f.0 m (f.2 ∙ e)) answer new f.3
-  any_loaded b new file answer more fulfil (inr (inr (inr (closure, any, inl f)))) = same_world answer new f.1.1
-  any_loaded b new file answer more fulfil (inr (inr (inr (closure, any, inr f)))) = fulfil closure any f
+      → ((closure : Closure) → IsClosure (around old).named closure → Fulfils GivesAny old closure answer new → P answer new)
+      → AnyLoading b old file answer new → P answer new
+  any_loaded = loaded GivesAny (IsClosure (around old).named)
 
 -- a resource of a place that may be loaded
 abbrev pub IsLoadable : LoadingWorld → ℕ → ℕ → Resource → Type 0

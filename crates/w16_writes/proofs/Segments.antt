@@ -6,7 +6,9 @@ use Rattle.w16_loading.proofs.Common.{answer_in, call_of, call_outcome, contents
 use Rattle.w16_model.proofs.Common.{slice_get, length-take, Done, FarEffect, IsWritten, Reaches, next_slot, Part, part_of_selector, Word}
 use Rattle.std.proofs.lemmas.Option.{slice_get_within}
 use Rattle.w16_model.specs.Far.{FarStep as HandlesFarStep}
-use Rattle.w16_machine.proofs.Common.{Bytes, Fault, Read, FetchFault, Answer, AnyStep, bystanders_law, OfLoading}
+use Rattle.w16_loading.specs.Answers.{StepOver}
+use Rattle.w16_loading.proofs.Answered.{any_step}
+use Rattle.w16_machine.proofs.Common.{Bytes, Fault, Read, FetchFault, Answer, Format, bystanders_law, OfLoading}
 use Rattle.w16_model.proofs.FarLaws.{far_effect_law}
 use Rattle.w16_loading.proofs.CallsKept.{answered}
 use Rattle.w16_loading.proofs.FetchWorlds.{fetched_world}
@@ -222,7 +224,7 @@ resizes_keep old new is command reply step =
     by (GlobalDiscard handle) (Word answer) step = step
     by command answer step = absurd step
 
-module _ (old new : LoadingWorld) (is : IsLoadingWorld old) (reply : Reply) (q : ℕ) where
+module _ (honest : Type 0) (format : Format) (old new : LoadingWorld) (is : IsLoadingWorld old) (reply : Reply) (q : ℕ) where
   abbrev Agrees : LoadingWorld → Type 0
   Agrees w = HeapsAgree old.handles.heap w.handles.heap q
 
@@ -253,22 +255,22 @@ module _ (old new : LoadingWorld) (is : IsLoadingWorld old) (reply : Reply) (q :
       after (Some faults.Damaged) next a = a
 
   -- a step that is about no object
-  stands_by : (command : LoadingCommand) → AnyStep old command reply new → (IsStepAbout old.handles command q → ⊥) → Agrees new
+  stands_by : (command : LoadingCommand) → StepOver honest format old command reply new → (IsStepAbout old.handles command q → ⊥) → Agrees new
   stands_by command step out = elim (which (object_at old.handles.heap q)) [
     | inl e ↦ had_no_object e
-    | inr (o, e) ↦ elim (bystanders_law old new command reply q is step (ap is_some e) out) [ inl kept ↦ kept_agrees old.handles.heap new.handles.heap q kept | inr gone ↦ no_object gone.0 ]
+    | inr (o, e) ↦ elim (bystanders_law honest format old new command reply q is step (ap is_some e) out) [ inl kept ↦ kept_agrees old.handles.heap new.handles.heap q kept | inr gone ↦ no_object gone.0 ]
   ]
 
-module _ (old new : LoadingWorld) (is : IsLoadingWorld old) where
-  idle : {command : LoadingCommand} {reply : Reply} → AnyStep old command reply new → ((q : ℕ) → IsStepAbout old.handles command q → ⊥) → HandlesAgree old.handles new.handles
-  idle {command} {reply} step out q = stands_by old new is reply q command step (out q)
+module _ (honest : Type 0) (format : Format) (old new : LoadingWorld) (is : IsLoadingWorld old) where
+  idle : {command : LoadingCommand} {reply : Reply} → StepOver honest format old command reply new → ((q : ℕ) → IsStepAbout old.handles command q → ⊥) → HandlesAgree old.handles new.handles
+  idle {command} {reply} step out q = stands_by honest format old new is reply q command step (out q)
 
-  pub loading_keeps : (command : LoadingCommand) (reply : Reply) → AnyStep old command reply new → KeepsSegments old.handles new.handles command reply
-  loading_keeps (OfHandles command) reply step = calm (λ q. let f = step.step in let c = answered old is command reply f.0 f.1 in called old new is reply q command c.0 f.0 c.1 (ap handles_of f.2))
+  pub loading_keeps : (command : LoadingCommand) (reply : Reply) → StepOver honest format old command reply new → KeepsSegments old.handles new.handles command reply
+  loading_keeps (OfHandles command) reply step = calm (λ q. let f = step.step in let c = answered old is command reply f.0 f.1 in called honest format old new is reply q command c.0 f.0 c.1 (ap handles_of f.2))
   loading_keeps (OfResizes command) reply step = let f = step.step in subst (λ (h : Handles). KeepsSegments old.handles h (OfResizes command) reply) (sym (ap handles_of f.2)) (resizes_keep old.handles f.0 is.handles command reply f.1)
-  loading_keeps (OfFar command) reply step = far_keeps_by (far_made old is command reply (record new { failures = old.failures }) step.step)
+  loading_keeps (OfFar command) reply step = far_keeps_by (far_made old is command reply (record new { failures = old.failures }) (any_step honest format old new (OfFar command) reply is step))
   loading_keeps (OfModules command) reply step = calm (idle step (λ q about. about))
-  loading_keeps (OfResources (LockResource handle)) reply step = calm (λ q. lock_agrees old (record new { failures = old.failures }) is reply q handle step.step)
+  loading_keeps (OfResources (LockResource handle)) reply step = calm (λ q. lock_agrees honest format old (record new { failures = old.failures }) is reply q handle (any_step honest format old new (OfResources (LockResource handle)) reply is step))
   loading_keeps (OfResources (FindResource handle name kind)) reply step = calm (idle step (λ q about. about))
   loading_keeps (OfResources (LoadResource handle place)) reply step = calm (idle step (λ q about. about))
   loading_keeps (OfResources (FreeResource handle)) reply step = calm (idle step (λ q about. about))
