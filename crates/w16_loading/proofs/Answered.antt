@@ -9,7 +9,7 @@ use Rattle.std.specs.FinMap as finmap
 use Rattle.std.specs.List.{AllByRecursion as Each}
 use Rattle.w16_model.proofs.Parts.{length-repeated}
 use Rattle.w16_loading.specs.Modules.{is_owned}
-use Rattle.w16_loading.specs.Answers.{Answers, ClosesFrom, FetchesFrom, GivesFrom, GivesRead, IsOwnedSize, LoadsFileFrom, LoadsFrom, ReadsFile, RefusesFile, StepOver, follow, told}
+use Rattle.w16_loading.specs.Answers.{Answers, ClosesFrom, Ending, FetchesFrom, GivesFrom, GivesRead, IsOwnedSize, LoadsFileFrom, LoadsFrom, ReadsFile, RefusesFile, StepOver, follow, told}
 use Rattle.w16_loading.proofs.Importers.{entry_there}
 use Rattle.w16_loading.proofs.Fillings.{one_heap, in_turn_so}
 use Rattle.w16_loading.proofs.Named.{named_heap}
@@ -165,7 +165,7 @@ module _ (answers : Answers) (are : AreAnswers answers) (old : LoadingWorld) whe
   small_follow closure place name (Read read) = tt
 
   -- A load is of a closure in which all that was found is as it was told.
-  module _ (gives : Giving) (C : Closure → Type 0) (In : ℕ → Closure → Type 0) (file : List ℕ)
+  module _ (ends : Ending) (C : Closure → Type 0) (In : ℕ → Closure → Type 0) (file : List ℕ)
       (first : (read : ModuleFile) → ReadsFile answers (around old) [] file (Read read) → C (begun file read))
       (rest_of : (closure : Closure) (place : ℕ) (name : List ℕ) (rest : List (ℕ × List ℕ)) → closure.pending ≡ (place, name) ∷ rest → C closure → In place (record closure { pending = rest }) × C (record closure { pending = rest }))
       (bound : (closure : Closure) (place : ℕ) (referent : Referent) → In place closure → C closure → C (with_bound closure place referent))
@@ -197,18 +197,18 @@ module _ (answers : Answers) (are : AreAnswers answers) (old : LoadingWorld) whe
         by_name go None (r, reads, f) = by_reading go r reads f
         by_name go (Some referent) f = go (with_bound here place referent) (bound here place referent left.0 left.1) f
 
-    pub loads_of : (b : Bool) (answer : Answer) (new : LoadingWorld) → LoadsFrom gives answers b old file answer new → LoadsOf gives C b old file answer new
+    pub loads_of : (b : Bool) (answer : Answer) (new : LoadingWorld) → LoadsFrom ends answers b old file answer new → LoadsOf (GivesFrom ends answers) C b old file answer new
     loads_of b answer new (inl f) = inl (subst IsRefusal (sym f.1) tt, f.2)
     loads_of b answer new (inr (r, reads, f)) = turn r reads f
       where
-        refused : (number : ℕ) → number < FIRST_MODULE → Refuses old number answer new → LoadsOf gives C b old file answer new
+        refused : (number : ℕ) → number < FIRST_MODULE → Refuses old number answer new → LoadsOf (GivesFrom ends answers) C b old file answer new
         refused number few f = inl (subst IsRefusal (sym f.0) few, f.1)
 
-        turn : (r : Reading) → ReadsFile answers (around old) [] file r → LoadsFileFrom gives answers b old file r answer new → LoadsOf gives C b old file answer new
+        turn : (r : Reading) → ReadsFile answers (around old) [] file r → LoadsFileFrom ends answers b old file r answer new → LoadsOf (GivesFrom ends answers) C b old file answer new
         turn (Refused number) e f = refused number (small_number [] file number e) f
         turn (Meant (There handle)) (t, says, e) f = by_name (handle_named old.modules t.name) refl e
           where
-            by_name : (p : Option ℕ) → handle_named old.modules t.name ≡ p → option_or (option_map There p) None ≡ Some (There handle) → LoadsOf gives C b old file answer new
+            by_name : (p : Option ℕ) → handle_named old.modules t.name ≡ p → option_or (option_map There p) None ≡ Some (There handle) → LoadsOf (GivesFrom ends answers) C b old file answer new
             by_name None g e = cc
             by_name (Some k) g e =
                 let same : k ≡ handle = cc in
@@ -218,16 +218,16 @@ module _ (answers : Answers) (are : AreAnswers answers) (old : LoadingWorld) whe
         turn (Read read) e (count, outcome, closes, f) = ended outcome (closed count (begun file read) outcome (first read e) closes) f
           where
             ended : (outcome : Result Closure ℕ) → IsEnd outcome
-                → MatchResult outcome (λ closure. LoadsNew gives old closure answer new ⊎ ((place : ℕ) × (fault : FetchFault) × answers.fails fault × (answer ≡ refusal_of place fault) × (new ≡ old))) (λ number. Refuses old number answer new)
-                → LoadsOf gives C b old file answer new
+                → MatchResult outcome (λ closure. LoadsNew (GivesFrom ends answers) old closure answer new ⊎ ((place : ℕ) × (fault : FetchFault) × answers.fails fault × (answer ≡ refusal_of place fault) × (new ≡ old))) (λ number. Refuses old number answer new)
+                → LoadsOf (GivesFrom ends answers) C b old file answer new
             ended (Ok closure) h (inl (inl f)) = refused 0 (small 0 (omega arith)) f.1
             ended (Ok closure) h (inl (inr f)) = inr (inr (closure, h, f))
             ended (Ok closure) h (inr (place, fault, may, says, same)) = inl (subst IsRefusal (sym says) (small_refusal place fault), same)
             ended (Err number) h f = refused number h f
 
   -- of whichever closure
-  pub some_loads : (gives : Giving) (b : Bool) (file : List ℕ) (answer : Answer) (new : LoadingWorld) → LoadsFrom gives answers b old file answer new → LoadsOf gives (λ closure. Unit {0}) b old file answer new
-  some_loads gives b file = loads_of gives (λ closure. Unit {0}) (λ place closure. Unit {0}) file (λ read e. tt) (λ closure place name rest e h. (tt, tt)) (λ closure place referent lt h. tt) (λ closure place name read lt h e. tt) b
+  pub some_loads : (ends : Ending) (b : Bool) (file : List ℕ) (answer : Answer) (new : LoadingWorld) → LoadsFrom ends answers b old file answer new → LoadsOf (GivesFrom ends answers) (λ closure. Unit {0}) b old file answer new
+  some_loads ends b file = loads_of ends (λ closure. Unit {0}) (λ place closure. Unit {0}) file (λ read e. tt) (λ closure place name rest e h. (tt, tt)) (λ closure place referent lt h. tt) (λ closure place name read lt h e. tt) b
 
   -- as many bytes as the owner says, or none that are known
   any_fetch : (slot : ℕ) → is_some (owned_at old.handles slot) ≡ true → (fault : Option FetchFault) (new : LoadingWorld) → FetchesFrom Fills answers old slot fault new → AnyFetches old slot fault new
@@ -257,8 +257,8 @@ module _ (answers : Answers) (are : AreAnswers answers) (old : LoadingWorld) (is
   any_fulfils closure answer new h = fulfils_as (GivesFrom Fills answers) GivesAny IsHeap (given_any answers) old closure answer new h (named_heap old closure h.choice is.handles h.is_choice)
 
   -- the load of new modules of new names
-  pub closure_loads : (gives : Giving) (b : Bool) (file : List ℕ) (answer : Answer) (new : LoadingWorld) → LoadsFrom gives answers b old file answer new → LoadsOf gives (IsClosure (around old).named) b old file answer new
-  closure_loads gives b file = loads_of answers are old gives (IsClosure (around old).named) (λ place c. place < length c.found) file
+  closure_loads : (ends : Ending) (b : Bool) (file : List ℕ) (answer : Answer) (new : LoadingWorld) → LoadsFrom ends answers b old file answer new → LoadsOf (GivesFrom ends answers) (IsClosure (around old).named) b old file answer new
+  closure_loads ends b file = loads_of answers are old ends (IsClosure (around old).named) (λ place c. place < length c.found) file
       (λ read (says, none, sound, held, few). began (around old) file read (are.holds file read held) none) rests (bound_more (around old))
       (λ closure place name read lt is (says, none, sound, held, few). found_more (around old) closure place (dll name) read lt is (are.holds (dll name) read held) none) b
     where
@@ -267,8 +267,8 @@ module _ (answers : Answers) (are : AreAnswers answers) (old : LoadingWorld) (is
           let few : Each (λ (y : ℕ × List ℕ). y.0 < length closure.found) ((place, name) ∷ rest) = subst (Each (λ (y : ℕ × List ℕ). y.0 < length closure.found)) e is.pending in
           (few.0, record { files = is.files; new = is.new; apart = is.apart; pending = few.1; bound = is.bound; asked = is.asked })
 
-  pub any_load : (b : Bool) (file : List ℕ) (answer : Answer) (new : LoadingWorld) → LoadsFrom (GivesFrom Fills answers) answers b old file answer new → AnyLoading b old file answer new
-  any_load b file answer new f = elim (closure_loads (GivesFrom Fills answers) b file answer new f) [
+  pub any_load : (b : Bool) (file : List ℕ) (answer : Answer) (new : LoadingWorld) → LoadsFrom Fills answers b old file answer new → AnyLoading b old file answer new
+  any_load b file answer new f = elim (closure_loads Fills b file answer new f) [
     | inl h ↦ inl h
     | inr (inl h) ↦ inr (inl h)
     | inr (inr h) ↦ inr (inr (h.0, h.1, any_fulfils h.0 answer new h.2))
@@ -278,8 +278,8 @@ module _ (answers : Answers) (are : AreAnswers answers) (old : LoadingWorld) (is
   fetchable_owned slot (inl owned) = owned
   fetchable_owned slot (inr (load, there)) = let r = resource_owned old is slot load.handle load.place _ (loaded_of old is slot load there).1 in ap is_some r.1.owned
 
-  any_family : (command : LoadingCommand) (reply : Reply) (new : LoadingWorld) → FamilyStep (FetchesFrom Fills answers) (LoadsFrom (GivesFrom Fills answers) answers) old command reply new → FamilyStep AnyFetches AnyLoading old command reply new
-  any_family command reply new = turned (FetchesFrom Fills answers) AnyFetches (LoadsFrom (GivesFrom Fills answers) answers) AnyLoading old new reply
+  any_family : (command : LoadingCommand) (reply : Reply) (new : LoadingWorld) → FamilyStep (FetchesFrom Fills answers) (LoadsFrom Fills answers) old command reply new → FamilyStep AnyFetches AnyLoading old command reply new
+  any_family command reply new = turned (FetchesFrom Fills answers) AnyFetches (LoadsFrom Fills answers) AnyLoading old new reply
       (λ slot fault next may f. any_fetch answers are old slot (fetchable_owned slot may) fault next f)
       (λ handle place slot r free at none fault next f. any_fetch answers are (with_resource old slot handle place r) slot (ap (λ p. is_some (owned_in p)) (inserted_here old.handles.attributes slot (attributes_for r) slot refl)) fault next f)
       (λ b file answer f. any_load b file answer new f) command

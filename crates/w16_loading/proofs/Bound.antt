@@ -109,7 +109,7 @@ freed old k answer new f = subst (λ (w : LoadingWorld). Good old.modules w.modu
 -- Steps.
 
 pub bound_law : (honest : Type 0) → BoundOnceLaw honest
-bound_law honest format old new command reply step = family (FetchesFrom Fills answers) (LoadsFrom (GivesFrom Fills answers) answers) (λ slice. Unit {0}) old Bound parts (record new { failures = old.failures }) reply command (nothing_asked command) step.step
+bound_law honest format old new command reply step = family (FetchesFrom Fills answers) (LoadsFrom Fills answers) (λ slice. Unit {0}) old Bound parts (record new { failures = old.failures }) reply command (nothing_asked command) step.step
   where
     answers : Answers
     answers = told honest format old.files old.failures new.failures
@@ -120,7 +120,7 @@ bound_law honest format old new command reply step = family (FetchesFrom Fills a
     same : Good old.modules old.modules
     same = unchanged old.modules old.modules refl
 
-    parts : Parts (FetchesFrom Fills answers) (LoadsFrom (GivesFrom Fills answers) answers) (λ slice. Unit {0}) old Bound
+    parts : Parts (FetchesFrom Fills answers) (LoadsFrom Fills answers) (λ slice. Unit {0}) old Bound
     parts = record {
       start = same;
       handles = λ command reply next step. same;
@@ -131,7 +131,7 @@ bound_law honest format old new command reply step = family (FetchesFrom Fills a
       built = λ name handle none free. put_new old.modules handle (BuiltIn name) free.2;
       loaded = λ b file answer next f. loaded (λ answer. Bound) old (λ answer. same) (GivesFrom Fills answers) (λ closure. Unit {0}) b next file answer
           (λ handle m there few. put_uses old.modules handle m (m.uses + 1) (ap module_in there)) (λ closure any h. fulfilled (GivesFrom Fills answers) old closure answer next h)
-          (some_loads answers (told_answers honest format old.files old.failures new.failures) old (GivesFrom Fills answers) b file answer next f);
+          (some_loads answers (told_answers honest format old.files old.failures new.failures) old Fills b file answer next f);
       freed = λ handle answer new f. freed old handle answer new f;
       counted = λ slot load count there some few. same;
       made = λ slot handle place r fault next free at none f. unchanged old.modules next.modules (ap (λ (w : LoadingWorld). w.modules) f.rest);

@@ -51,7 +51,7 @@ module _ (honest : Type 0) (truly : honest) (format : Format) (old : LoadingWorl
       turn (inl e) = inr (f.rest ∙ ap (with_heap world) e)
       turn (inr (bytes, read, filled)) = inl (record { bytes = bytes; image = read truly; filled = filled; rest = f.rest })
 
-  parts : Parts (FetchesFrom Fills answers) (LoadsFrom (GivesFrom Fills answers) answers) (λ slice. Unit {0}) old Good
+  parts : Parts (FetchesFrom Fills answers) (LoadsFrom Fills answers) (λ slice. Unit {0}) old Good
   parts = record {
     start = good;
     handles = λ command reply next step. code_kept format old (record old { handles = next }) (handles_code old is command reply next step format) good;
@@ -63,7 +63,7 @@ module _ (honest : Type 0) (truly : honest) (format : Format) (old : LoadingWorl
     loaded = λ b file answer new f. loaded (λ answer. Good) old (λ answer. good) (GivesFrom Fills answers) (AreOfFiles format.says (around old)) b new file answer
         (λ handle m there few. code_kept format old (after_use old handle m) (other_uses format old handle m (m.uses + 1) there) good)
         (λ closure of_files h. fulfilled new closure of_files answer h)
-        (loads_of answers (told_answers honest format old.files before after) old (GivesFrom Fills answers) (AreOfFiles format.says (around old)) (λ place closure. Unit {0}) file
+        (loads_of answers (told_answers honest format old.files before after) old Fills (AreOfFiles format.says (around old)) (λ place closure. Unit {0}) file
         (λ read (says, none, sound, here, few). (held file read here, tt)) (λ closure place name rest e h. (tt, h)) (λ closure place referent lt h. h)
         (λ closure place name read lt h (says, none, sound, here, few). each_more format.says (around old) closure.found (record { file = dll name; read = read } ∷ []) h (held (dll name) read here, tt)) b answer new f);
     freed = λ handle answer new f. by_free format old new handle answer f good;
@@ -89,5 +89,5 @@ counted format world failures good = record { code = λ slot handle number m s c
 pub code_law : (honest : Type 0) → CodeLaw honest
 code_law honest format old new command reply truly is good step =
     let answers : Answers = told honest format old.files old.failures new.failures in
-    counted format new old.failures (family (FetchesFrom Fills answers) (LoadsFrom (GivesFrom Fills answers) answers) (λ slice. Unit {0}) old (IsOfFiles format)
+    counted format new old.failures (family (FetchesFrom Fills answers) (LoadsFrom Fills answers) (λ slice. Unit {0}) old (IsOfFiles format)
     (parts honest truly format old is good old.failures new.failures) (record new { failures = old.failures }) reply command (nothing_asked command) step.step)

@@ -31,13 +31,6 @@ module _ (old : Heap) (slot : ℕ) (bytes : List ℕ) (new : Heap) where
   read_outcome May IsSized IsRead (Some faults.Store) g = (λ t. g.1, inl g.1)
   read_outcome May IsSized IsRead (Some faults.Damaged) g = (λ t. g.1, inl g.1)
 
-  -- whichever reads may fail, that is as over any store
-  as_any : (may_fail : FetchFault → Bool) (fault : Option FetchFault) → FillsOne may_fail old slot bytes fault new → GivesAny old slot bytes fault new
-  as_any may_fail None f = (bytes, refl, f)
-  as_any may_fail (Some faults.NoRoom) f = (bytes, refl, f)
-  as_any may_fail (Some faults.Store) f = (bytes, refl, (refl, f.1))
-  as_any may_fail (Some faults.Damaged) f = (bytes, refl, (refl, f.1))
-
   module _ (f : Fills old slot bytes true new) where
     pub settled_so : (k : ℕ) × (o : Object) × Settles old (stays_for slot revival_options) (with_ordered (discarded old k (Some slot)) slot o (with_newest slot o)) new
     settled_so = settled old slot revival_options (discards_needed old (length bytes) (Some slot) revival_options) (λ o. o ≡ record f.before { bytes = Some bytes }) (with_newest slot) new f.request
@@ -100,12 +93,6 @@ in_turn_as f g = in_turn_so f g IsHeap
 -- the heap that is left
 pub one_heap : (may_fail : FetchFault → Bool) (old : Heap) (slot : ℕ) (bytes : List ℕ) (fault : Option FetchFault) (new : Heap) → IsHeap old → FillsOne may_fail old slot bytes fault new → IsHeap new
 one_heap may_fail old slot bytes fault new is f = (one_does (λ a b. Unit {0}) (λ h. tt) (λ a b c x y. tt) may_fail old slot bytes fault new is (λ filled. tt) f).1
-
-pub to_any : (may_fail : FetchFault → Bool) (old : Heap) (slot : ℕ) (bytes : List ℕ) (fault : Option FetchFault) (new : Heap) → IsHeap old → FillsOne may_fail old slot bytes fault new → GivesAny old slot bytes fault new × IsHeap new
-to_any may_fail old slot bytes fault new is f = (as_any old slot bytes new may_fail fault f, one_heap may_fail old slot bytes fault new is f)
-
-pub all_as_any : (may_fail : FetchFault → Bool) (old new : Heap) (xs : List Filling) (failure : Option Failure) → IsHeap old → InTurn (FillsOne may_fail) old xs failure new → InTurn GivesAny old xs failure new
-all_as_any may_fail = in_turn_as (FillsOne may_fail) GivesAny (to_any may_fail)
 
 -- Objects that get none are kept, or discarded.
 

@@ -175,7 +175,7 @@ pub early_refusal_law : (honest : Type 0) → EarlyRefusalLaw honest
 early_refusal_law honest format before after b old new file number truly is f some few = loaded (Early old) old (λ answer n e x y. refl) (GivesFrom Fills answers) (λ closure. Unit {0}) b new file (Says number)
     (λ handle m e less n same x y. absurd (not_refused old is handle (Loaded m) e (small handle n same y)))
     (λ closure any h. fulfilled_late old answers (λ fails. let e : Damaged ≡ Store = fails.2 truly in cc) closure (Says number) new h)
-    (some_loads answers (told_answers honest format old.files before after) old (GivesFrom Fills answers) b file (Says number) new f) number refl some few
+    (some_loads answers (told_answers honest format old.files before after) old Fills b file (Says number) new f) number refl some few
   where
     answers : Answers
     answers = told honest format old.files before after

@@ -49,21 +49,21 @@ module _ (a b : Answers) (within : IsWithin a b) where
       by_name go (Some referent) f = go (with_bound here place referent) f
 
   -- a load, by how its objects get bytes
-  loads_as : (f g : Giving) (old : LoadingWorld) → ((closure : Closure) (answer : Answer) (new : LoadingWorld) → Fulfils f old closure answer new → Fulfils g old closure answer new)
-      → (load : Bool) (file : List ℕ) (answer : Answer) (new : LoadingWorld) → LoadsFrom f a load old file answer new → LoadsFrom g b load old file answer new
-  loads_as f g old fulfil load file answer new (inl h) = inl (within.fails Store h.0, h.1, h.2)
-  loads_as f g old fulfil load file answer new (inr (r, reads, h)) = inr (r, reads_as (around old) [] file r reads, turn r h)
+  loads_as : (E F : Ending) (old : LoadingWorld) → ((closure : Closure) (answer : Answer) (new : LoadingWorld) → Fulfils (GivesFrom E a) old closure answer new → Fulfils (GivesFrom F b) old closure answer new)
+      → (load : Bool) (file : List ℕ) (answer : Answer) (new : LoadingWorld) → LoadsFrom E a load old file answer new → LoadsFrom F b load old file answer new
+  loads_as E F old fulfil load file answer new (inl h) = inl (within.fails Store h.0, h.1, h.2)
+  loads_as E F old fulfil load file answer new (inr (r, reads, h)) = inr (r, reads_as (around old) [] file r reads, turn r h)
     where
-      Ends : Giving → Answers → Closure → Type 0
-      Ends gives answers closure = LoadsNew gives old closure answer new ⊎ ((place : ℕ) × (fault : FetchFault) × answers.fails fault × (answer ≡ refusal_of place fault) × (new ≡ old))
+      Ends : Ending → Answers → Closure → Type 0
+      Ends ends answers closure = LoadsNew (GivesFrom ends answers) old closure answer new ⊎ ((place : ℕ) × (fault : FetchFault) × answers.fails fault × (answer ≡ refusal_of place fault) × (new ≡ old))
 
-      ended : (outcome : Result Closure ℕ) → MatchResult outcome (Ends f a) (λ number. Refuses old number answer new) → MatchResult outcome (Ends g b) (λ number. Refuses old number answer new)
+      ended : (outcome : Result Closure ℕ) → MatchResult outcome (Ends E a) (λ number. Refuses old number answer new) → MatchResult outcome (Ends F b) (λ number. Refuses old number answer new)
       ended (Ok closure) (inl (inl h)) = inl (inl h)
       ended (Ok closure) (inl (inr h)) = inl (inr (fulfil closure answer new h))
       ended (Ok closure) (inr (place, fault, may, says, same)) = inr (place, fault, within.fails fault may, says, same)
       ended (Err number) h = h
 
-      turn : (r : Reading) → LoadsFileFrom f a load old file r answer new → LoadsFileFrom g b load old file r answer new
+      turn : (r : Reading) → LoadsFileFrom E a load old file r answer new → LoadsFileFrom F b load old file r answer new
       turn (Refused number) h = h
       turn (Meant (There handle)) h = h
       turn (Meant (New place)) h = h
@@ -104,10 +104,10 @@ any_step_law honest format other old new command reply step =
     record {
       counted = step.counted;
       files = step.files;
-      step = turned (FetchesFrom Fills a) (FetchesFrom Fills b) (LoadsFrom (GivesFrom Fills a) a) (LoadsFrom (GivesFrom Fills b) b) old (record new { failures = old.failures }) reply
+      step = turned (FetchesFrom Fills a) (FetchesFrom Fills b) (LoadsFrom Fills a) (LoadsFrom Fills b) old (record new { failures = old.failures }) reply
           (λ slot fault next may f. fetch_as Fills Fills Any ends a b within old tt slot fault next f)
           (λ handle place slot r free at none fault next f. fetch_as Fills Fills Any ends a b within (with_resource old slot handle place r) tt slot fault next f)
-          (λ load file answer f. loads_as a b within (GivesFrom Fills a) (GivesFrom Fills b) old
+          (λ load file answer f. loads_as a b within Fills Fills old
           (λ closure answer new h. fulfils_as (GivesFrom Fills a) (GivesFrom Fills b) Any (given_as Fills Fills Any ends a b within (λ old slot held fault new is f. tt)) old closure answer new h tt)
           load file answer (record new { failures = old.failures }) f) command step.step;
     }
@@ -124,10 +124,10 @@ requests_fewest_law honest format old new command reply is step =
     record {
       counted = step.counted;
       files = step.files;
-      step = turned (FetchesFrom Fills a) (FetchesFrom FillsFewest a) (LoadsFrom (GivesFrom Fills a) a) (LoadsFrom (GivesFrom FillsFewest a) a) old (record new { failures = old.failures }) reply
+      step = turned (FetchesFrom Fills a) (FetchesFrom FillsFewest a) (LoadsFrom Fills a) (LoadsFrom FillsFewest a) old (record new { failures = old.failures }) reply
           (λ slot fault next may f. fetch_as Fills FillsFewest IsHeap fewest a a (same_answers a) old is.handles.heap slot fault next f)
           (λ handle place slot r free at none fault next f. fetch_as Fills FillsFewest IsHeap fewest a a (same_answers a) (with_resource old slot handle place r) (made_world old is slot free handle place r at.0 at.1 none).handles.heap slot fault next f)
-          (λ load file answer f. loads_as a a (same_answers a) (GivesFrom Fills a) (GivesFrom FillsFewest a) old
+          (λ load file answer f. loads_as a a (same_answers a) Fills FillsFewest old
           (λ closure answer new h. fulfils_as (GivesFrom Fills a) (GivesFrom FillsFewest a) IsHeap
           (given_as Fills FillsFewest IsHeap fewest a a (same_answers a) (λ old slot held fault new is f. (given_any a old slot held fault new is f).1)) old closure answer new h (named_heap old closure h.choice is.handles h.is_choice))
           load file answer (record new { failures = old.failures }) f) command step.step;

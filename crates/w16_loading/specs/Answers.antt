@@ -94,27 +94,27 @@ ClosesFrom answers a (suc n) closure outcome =
 
 -- A load by the file that it opens. When the records of new modules are bound, one of their files may read otherwise, or not at all: then it is
 -- the same world.
-abbrev pub LoadsFileFrom : Giving → Answers → Bool → LoadingWorld → List ℕ → Reading → Answer → LoadingWorld → Type 0
-LoadsFileFrom gives answers is_load_module old file (Refused number) answer new = Refuses old number answer new
-LoadsFileFrom gives answers is_load_module old file (Meant (There handle)) answer new = (answer, new) ≡ used_again is_load_module old handle (finmap.get old.modules handle)
-LoadsFileFrom gives answers is_load_module old file (Meant (New place)) answer new = ⊥
-LoadsFileFrom gives answers is_load_module old file (Read read) answer new =
+abbrev pub LoadsFileFrom : Ending → Answers → Bool → LoadingWorld → List ℕ → Reading → Answer → LoadingWorld → Type 0
+LoadsFileFrom ends answers is_load_module old file (Refused number) answer new = Refuses old number answer new
+LoadsFileFrom ends answers is_load_module old file (Meant (There handle)) answer new = (answer, new) ≡ used_again is_load_module old handle (finmap.get old.modules handle)
+LoadsFileFrom ends answers is_load_module old file (Meant (New place)) answer new = ⊥
+LoadsFileFrom ends answers is_load_module old file (Read read) answer new =
     (count : ℕ) × (outcome : Result Closure ℕ) × ClosesFrom answers (around old) count (begun file read) outcome
     × MatchResult outcome
-    (λ closure. LoadsNew gives old closure answer new ⊎ ((place : ℕ) × (fault : FetchFault) × answers.fails fault × (answer ≡ refusal_of place fault) × (new ≡ old)))
+    (λ closure. LoadsNew (GivesFrom ends answers) old closure answer new ⊎ ((place : ℕ) × (fault : FetchFault) × answers.fails fault × (answer ≡ refusal_of place fault) × (new ≡ old)))
     (λ number. Refuses old number answer new)
 
 -- the store may fail while files are read
-abbrev pub LoadsFrom : Giving → Answers → Bool → LoadingWorld → List ℕ → Answer → LoadingWorld → Type 0
-LoadsFrom gives answers is_load_module old file answer new =
+abbrev pub LoadsFrom : Ending → Answers → Bool → LoadingWorld → List ℕ → Answer → LoadingWorld → Type 0
+LoadsFrom ends answers is_load_module old file answer new =
     (answers.fails Store × (answer ≡ StoreFails) × (new ≡ old))
-    ⊎ ((r : Reading) × ReadsFile answers (around old) [] file r × LoadsFileFrom gives answers is_load_module old file r answer new)
+    ⊎ ((r : Reading) × ReadsFile answers (around old) [] file r × LoadsFileFrom ends answers is_load_module old file r answer new)
 
 -- One step by the answers that it got. What a family's definition says is of worlds with one count of failures.
 pub record StepFrom (ends : Ending) (answers : Answers) (old : LoadingWorld) (command : LoadingCommand) (reply : Reply) (new : LoadingWorld) : Type 0 where
   pub counted : old.failures ≤ new.failures
   pub files : new.files ≡ old.files
-  pub step : FamilyStep (FetchesFrom ends answers) (LoadsFrom (GivesFrom ends answers) answers) old command reply (record new { failures = old.failures })
+  pub step : FamilyStep (FetchesFrom ends answers) (LoadsFrom ends answers) old command reply (record new { failures = old.failures })
 
 -- The answers of a store.
 
@@ -161,4 +161,4 @@ abbrev pub FetchesOver : (honest : Type 0) → Format → (before after : ℕ) �
 FetchesOver honest format before after old slot fault new = FetchesFrom Fills (told honest format old.files before after) old slot fault new
 
 abbrev pub LoadsOver : (honest : Type 0) → Format → (before after : ℕ) → Bool → LoadingWorld → List ℕ → Answer → LoadingWorld → Type 0
-LoadsOver honest format before after is_load_module old file answer new = (let answers : Answers = told honest format old.files before after in LoadsFrom (GivesFrom Fills answers) answers is_load_module old file answer new)
+LoadsOver honest format before after is_load_module old file answer new = LoadsFrom Fills (told honest format old.files before after) is_load_module old file answer new

@@ -11,7 +11,7 @@ use Rattle.w16_loading.specs.Families.{Loading, far_reads_file}
 use Rattle.w16_loading.specs.Fetch.{Fetching}
 use Rattle.w16_machine.proofs.LocalFrame.{frame_law}
 use Rattle.w16_machine.proofs.LocalFar.{read_same, write_same, tables_stay}
-use Rattle.w16_machine.proofs.Stepped.{call_replies, once}
+use Rattle.w16_machine.proofs.Stepped.{call_replies, fetching, loading, once}
 
 reply_same : (old new : Handles) (command : HandleCommand) (answer : Option Answer) → call_may_take command ≡ false → IsSomeAnd answer (λ answer. HandleStep old command answer new) → HasSameSizes old new
 reply_same old new command None m step = absurd step
@@ -54,9 +54,9 @@ module _ (fetches : Fetching) (loads : Loading) (old new : LoadingWorld) (reply 
 pub sizes_law : (honest : Type 0) → SizesLaw honest
 sizes_law honest format old new (OfHandles command) reply m step = reply_same old.handles new.handles command (answer_in reply) m (call_replies honest format old new command reply step)
 sizes_law honest format old new (OfResizes command) reply m step = absurd (false≢true (sym m))
-sizes_law honest format old new (OfFar command) reply m step = far_sizes _ (λ b w file answer next. ⊥) old (record new { failures = old.failures }) reply command m step.step
-sizes_law honest format old new (OfModules command) reply m step = modules_sizes (λ w slot fault next. ⊥) _ old (record new { failures = old.failures }) reply command m step.step
-sizes_law honest format old new (OfResources command) reply m step = resources_sizes _ (λ b w file answer next. ⊥) old (record new { failures = old.failures }) reply command m step.step
+sizes_law honest format old new (OfFar command) reply m step = far_sizes (fetching honest format old new) (loading honest format old new) old (record new { failures = old.failures }) reply command m step.step
+sizes_law honest format old new (OfModules command) reply m step = modules_sizes (fetching honest format old new) (loading honest format old new) old (record new { failures = old.failures }) reply command m step.step
+sizes_law honest format old new (OfResources command) reply m step = resources_sizes (fetching honest format old new) (loading honest format old new) old (record new { failures = old.failures }) reply command m step.step
 
 pub heaps_law : (honest : Type 0) → HeapsLaw honest
 heaps_law honest format old new command reply is m step = tables_stay old new is step.1 (sizes_law honest format old.loading new.loading command reply m step.0)

@@ -6,8 +6,15 @@ use Rattle.w16_model.specs.Far as far
 use Rattle.w16_loading.specs.Families.{HandleStep, FarStep, Loading, far_reads_file}
 use Rattle.w16_loading.specs.Fetch.{Fetching}
 use Rattle.w16_loading.specs.Fill.{Fills}
-use Rattle.w16_loading.specs.Answers.{FetchesFrom, GivesFrom, LoadsFrom, StepOver, told}
+use Rattle.w16_loading.specs.Answers.{FetchesFrom, LoadsFrom, StepOver, told}
 use Rattle.w16_loading.specs.Replies.Reply.{Bytes, Fault}
+
+-- the fetches and loads of a step over a store
+abbrev pub fetching : Type 0 → Format → LoadingWorld → LoadingWorld → Fetching
+fetching honest format old new = FetchesFrom Fills (told honest format old.files old.failures new.failures)
+
+abbrev pub loading : Type 0 → Format → LoadingWorld → LoadingWorld → Loading
+loading honest format old new = LoadsFrom Fills (told honest format old.files old.failures new.failures)
 
 handles_of : (old new : LoadingWorld) (next : Handles) → new ≡ record old { handles = next } → next ≡ new.handles
 handles_of old new next e = sym (ap (λ (w : LoadingWorld). w.handles) e)
@@ -64,15 +71,9 @@ FetchesNothing old command = Unit {0}
 pub handles_step : (honest : Type 0) (format : Format) (old : LoadingWorld) (next : Handles) (command : LoadingCommand) (reply : Reply) → FetchesNothing old command → OnHandles old.handles command reply next → StepOver honest format old command reply (with_handles old next)
 handles_step honest format old next command reply none s = record { counted = omega arith; files = refl; step = turn command none s }
   where
-    fetches : Fetching
-    fetches = FetchesFrom Fills (told honest format old.files old.failures old.failures)
-
-    loads : Loading
-    loads = LoadsFrom (GivesFrom Fills (told honest format old.files old.failures old.failures)) (told honest format old.files old.failures old.failures)
-
-    turn : (command : LoadingCommand) → FetchesNothing old command → OnHandles old.handles command reply next → FamilyStep fetches loads old command reply (with_handles old next)
+    turn : (command : LoadingCommand) → FetchesNothing old command → OnHandles old.handles command reply next → FamilyStep (fetching honest format old old) (loading honest format old old) old command reply (with_handles old next)
     turn (OfHandles command) none s = (next, s, refl)
     turn (OfResizes command) none s = (next, s, refl)
-    turn (OfFar command) none s = far_step fetches old next command reply none s
+    turn (OfFar command) none s = far_step (fetching honest format old old) old next command reply none s
     turn (OfModules command) none s = absurd s
     turn (OfResources command) none s = absurd s

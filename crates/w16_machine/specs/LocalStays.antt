@@ -56,7 +56,7 @@ HasSameSizes old new = (slot : ℕ) → size_at new slot ≡ size_at old slot
 
 -- The laws. A step of any other command leaves each object as many bytes,
 abbrev pub SizesLaw : (honest : Type 0) → Type 0
-SizesLaw honest = (format : Format) (old new : LoadingWorld) (command : LoadingCommand) (reply : Reply) → step_may_take old command ≡ false → StoreStep honest format old command reply new → HasSameSizes old.handles new.handles
+SizesLaw honest = (format : Format) (old new : LoadingWorld) (command : LoadingCommand) (reply : Reply) → step_may_take old command ≡ false → StepOver honest format old command reply new → HasSameSizes old.handles new.handles
 
 -- and so it keeps each local heap.
 abbrev pub HeapsLaw : (honest : Type 0) → Type 0

@@ -8,4 +8,4 @@ pub returns-clause-heaps : goal.returns-clause-heaps
 returns-clause-heaps g c = heaps_law g.S.Store.is_honest
 
 pub returns-clause-locals : goal.returns-clause-locals
-returns-clause-locals c = local_sizes_law
+returns-clause-locals g c = local_sizes_law
