@@ -1,10 +1,10 @@
 -- Steps by answers: what they are by other answers, and over any store.
-use Rattle.w16_loading.proofs.Common.{◌≡◌, ℕ, zero, suc, ◌<◌, ◌≤◌, inl, inr, ◌⊎◌, Bool, true, false, cond, ◌==◌, List, [], ◌∷◌, length, Option, Some, None, MatchOption, MatchBool, MatchResult, IsSomeAnd, is_some, option_map, Result, Ok, Err, refl, sym}
+use Rattle.w16_loading.proofs.Common.{◌≡◌, ℕ, zero, suc, ◌<◌, ◌≤◌, inl, inr, ◌⊎◌, Bool, true, false, cond, ◌==◌, List, [], ◌∷◌, length, Option, Some, None, MatchOption, MatchResult, IsSomeAnd, is_some, option_map, Result, Ok, Err, refl, sym}
 use Rattle.w16_loading.proofs.Common.{ap, ◌∙◌, subst, arith, and_parts, find, option_or, repeated, inserted_here, Heap, IsHeap, bytes_at, IsFreeSlot, Owned, owned_at, owned_in, selector_in, offset_in, FarAnswer, FarCommand, far_slot, Member, is_named, FIRST_MODULE}
-use Rattle.w16_loading.proofs.Common.{FetchFault, Store, Damaged, NoRoom, Format, IsModuleFile, ModuleFile, Resource, LoadingWorld, Load, Named, name_of, handle_named, Reply, Dword, Failed, Giving, Fills}
+use Rattle.w16_loading.proofs.Common.{FetchFault, Store, Damaged, NoRoom, Format, IsModuleFile, ModuleFile, Resource, LoadingWorld, Load, Named, name_of, handle_named, Reply, Giving, Fills}
 use Rattle.w16_loading.proofs.Common.{is_of_read, Closure, Reading, Referent, Found, around, begun, dll, with_bound, with_found, meant, Refused, Meant, Read, There, New, named, fills, Answer, LoadsNew, Fulfils, Refuses, refusal_of, used_again}
-use Rattle.w16_loading.proofs.Common.{Fetching, Accesses, is_not_present, needs_fetch, far_read, far_write, gives, LoadsResource, LoadsNewResource, LocksResource, AnswersNone, is_too_long, resource_at, load_of, attributes_for, loaded_again, with_resource}
-use Rattle.w16_loading.proofs.Common.{locked, lock_outcome, slot_of_resource, LoadingCommand, ModuleCommand, ResourceCommand, Loading, FamilyStep, FarStep, OfHandles, OfResizes, OfFar, OfModules, OfResources, AnyFetches, GivesAny, IsLoadingWorld, IsRefusal}
+use Rattle.w16_loading.proofs.Common.{Fetching, Accesses, is_not_present, needs_fetch, far_read, far_write, LoadsResource, LoadsNewResource, LocksResource, AnswersNone, is_too_long, resource_at, load_of, attributes_for, loaded_again, with_resource}
+use Rattle.w16_loading.proofs.Common.{slot_of_resource, LoadingCommand, ModuleCommand, ResourceCommand, Loading, FamilyStep, FarStep, OfHandles, OfResizes, OfFar, OfModules, OfResources, AnyFetches, GivesAny, IsLoadingWorld, IsRefusal}
 use Rattle.std.specs.FinMap as finmap
 use Rattle.std.specs.List.{AllByRecursion as Each}
 use Rattle.w16_model.proofs.Parts.{length-repeated}
@@ -15,7 +15,8 @@ use Rattle.w16_loading.proofs.Fillings.{one_heap, in_turn_so}
 use Rattle.w16_loading.proofs.Named.{named_heap}
 use Rattle.w16_loading.proofs.Owners.{resource_owned, loaded_of}
 use Rattle.w16_loading.proofs.ClosureFacts.{IsClosure, began, bound_more, found_more}
-use Rattle.w16_loading.proofs.Stepping.{AnyLoading, IsLoadable, LoadsOf, resource_load}
+use Rattle.w16_loading.proofs.Stepping.{AnyLoading, LoadsOf, resource_load}
+use Rattle.w16_loading.proofs.Cases.{IsLoadable, bool_as, option_as}
 
 -- A family's step by some fetches and loads is one by others, where these are those.
 
@@ -25,34 +26,12 @@ IsFetchable old slot = (is_owned old slot ≡ true) ⊎ ((load : Load) × (finma
 
 module _ (F G : Fetching) (L M : Loading) (old new : LoadingWorld) (reply : Reply) (fetch : (slot : ℕ) (fault : Option FetchFault) (next : LoadingWorld) → IsFetchable old slot → F old slot fault next → G old slot fault next) where
   accesses : (access : LoadingWorld → FarAnswer × LoadingWorld) (selector : ℕ) → Accesses F access old selector reply new → Accesses G access old selector reply new
-  accesses access selector step = turn (needs_fetch (access old).0 old selector) refl step
-    where
-      FarOutcome : Fetching → Bool → Type 0
-      FarOutcome fetches b = MatchBool b
-          ((fault : Option FetchFault) × (next : LoadingWorld) × fetches old (far_slot old.handles selector) fault next × MatchOption fault (gives (access next) reply new) (λ f. (reply ≡ Failed f) × (new ≡ next)))
-          (gives (access old) reply new)
-
-      turn : (b : Bool) → needs_fetch (access old).0 old selector ≡ b → FarOutcome F b → FarOutcome G b
-      turn true e h = (h.0, h.1, fetch (far_slot old.handles selector) h.0 h.1 (inl (and_parts (is_not_present (access old).0) (is_owned old (far_slot old.handles selector)) e).1) h.2, h.3)
-      turn false e h = h
+  accesses access selector = bool_as (needs_fetch (access old).0 old selector)
+      (λ e h. (h.0, h.1, fetch (far_slot old.handles selector) h.0 h.1 (inl (and_parts (is_not_present (access old).0) (is_owned old (far_slot old.handles selector)) e).1) h.2, h.3)) (λ e h. h)
 
   locks : (handle : ℕ) → LocksResource F old handle reply new → LocksResource G old handle reply new
-  locks handle step = by_slot (slot_of_resource old handle) refl step
-    where
-      Locked : Fetching → ℕ → Option (List ℕ) → Type 0
-      Locked fetches slot p = MatchOption p ((fault : Option FetchFault) × (next : LoadingWorld) × fetches old slot fault next × ((reply, new) ≡ lock_outcome fault handle next)) (λ _. (reply, new) ≡ locked old handle)
-
-      by_bytes : (slot : ℕ) (p : Option (List ℕ)) → IsFetchable old slot → Locked F slot p → Locked G slot p
-      by_bytes slot None may f = (f.0, f.1, fetch slot f.0 f.1 may f.2, f.3)
-      by_bytes slot (Some bytes) may f = f
-
-      by_slot : (p : Option (ℕ × Load)) → slot_of_resource old handle ≡ p → MatchOption p ((reply ≡ Dword 0) × (new ≡ old)) (λ x. Locked F x.0 (bytes_at old.handles.heap x.0))
-          → MatchOption p ((reply ≡ Dword 0) × (new ≡ old)) (λ x. Locked G x.0 (bytes_at old.handles.heap x.0))
-      by_slot None e f = f
-      by_slot (Some x) e f = by_bytes x.0 (bytes_at old.handles.heap x.0) (inr (x.1, resource_load old handle x e)) f
-
-  abbrev Made : Fetching → ℕ → ℕ → Resource → Option (ℕ × Load) → Type 0
-  Made fetches handle place r p = MatchOption p ((((slot : ℕ) → IsFreeSlot old.handles slot → ⊥) × AnswersNone old reply new) ⊎ LoadsNewResource fetches old handle place r reply new) (λ x. (reply, new) ≡ loaded_again old r x)
+  locks handle = option_as (slot_of_resource old handle) (λ f. f)
+      (λ x e. option_as (bytes_at old.handles.heap x.0) (λ f. (f.0, f.1, fetch x.0 f.0 f.1 (inr (x.1, resource_load old handle x e)) f.2, f.3)) (λ bytes some f. f))
 
   far : (command : FarCommand) → FarStep F old command reply new → FarStep G old command reply new
   far (FarCommand.Read pointer count) step = accesses (far_read (selector_in pointer) (offset_in pointer) count) (selector_in pointer) step
@@ -62,21 +41,15 @@ module _ (F G : Fetching) (L M : Loading) (old new : LoadingWorld) (reply : Repl
   module _ (made : (handle place slot : ℕ) (r : Resource) → IsFreeSlot old.handles slot → IsLoadable old handle place r → load_of old handle place ≡ None → (fault : Option FetchFault) (next : LoadingWorld)
       → F (with_resource old slot handle place r) slot fault next → G (with_resource old slot handle place r) slot fault next) (load : (b : Bool) (file : List ℕ) (answer : Answer) → L b old file answer new → M b old file answer new) where
     makes : (handle place : ℕ) → LoadsResource F old handle place reply new → LoadsResource G old handle place reply new
-    makes handle place step = by_resource (resource_at old handle place) refl step
+    makes handle place = option_as (resource_at old handle place) (λ f. f) (λ r at. bool_as (is_too_long r) (λ long f. f) (λ short f. by_load r (at, short) (load_of old handle place) refl f))
       where
-        by_load : (r : Resource) → IsLoadable old handle place r → (p : Option (ℕ × Load)) → load_of old handle place ≡ p → Made F handle place r p → Made G handle place r p
+        Made : Fetching → Resource → Option (ℕ × Load) → Type 0
+        Made fetches r p = MatchOption p ((((slot : ℕ) → IsFreeSlot old.handles slot → ⊥) × AnswersNone old reply new) ⊎ LoadsNewResource fetches old handle place r reply new) (λ x. (reply, new) ≡ loaded_again old r x)
+
+        by_load : (r : Resource) → IsLoadable old handle place r → (p : Option (ℕ × Load)) → load_of old handle place ≡ p → Made F r p → Made G r p
         by_load r at None e (inl f) = inl f
         by_load r at None e (inr f) = inr (record { slot = f.slot; free = f.free; fault = f.fault; next = f.next; fetched = made handle place f.slot r f.free at e f.fault f.next f.fetched; outcome = f.outcome })
         by_load r at (Some x) e f = f
-
-        by_size : (r : Resource) → resource_at old handle place ≡ Some r → (b : Bool) → is_too_long r ≡ b → MatchBool b (AnswersNone old reply new) (Made F handle place r (load_of old handle place)) → MatchBool b (AnswersNone old reply new) (Made G handle place r (load_of old handle place))
-        by_size r at true e f = f
-        by_size r at false e f = by_load r (at, e) (load_of old handle place) refl f
-
-        by_resource : (p : Option Resource) → resource_at old handle place ≡ p → MatchOption p (AnswersNone old reply new) (λ r. MatchBool (is_too_long r) (AnswersNone old reply new) (Made F handle place r (load_of old handle place)))
-            → MatchOption p (AnswersNone old reply new) (λ r. MatchBool (is_too_long r) (AnswersNone old reply new) (Made G handle place r (load_of old handle place)))
-        by_resource None e f = f
-        by_resource (Some r) e f = by_size r e (is_too_long r) refl f
 
     pub turned : (command : LoadingCommand) → FamilyStep F L old command reply new → FamilyStep G M old command reply new
     turned (OfHandles command) f = f

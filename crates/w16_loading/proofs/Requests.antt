@@ -1,14 +1,19 @@
 -- Steps over an honest store are steps over any, and the requests of each discard as few objects as they can.
-use Rattle.w16_loading.proofs.Common.{◌≡◌, ℕ, zero, suc, inl, inr, Bool, List, [], length, Option, Some, None, MatchOption, MatchResult, Result, Ok, Err, Heap, IsHeap, FetchFault, Store, Damaged, NoRoom, Format, ModuleFile, Tables, LoadingWorld}
-use Rattle.w16_loading.proofs.Common.{Fills, Giving, Closure, Reading, Referent, Around, Found, around, begun, dll, meant, with_bound, with_found, Refused, Meant, Read, There, New, Answer, LoadsNew, Fulfils, Refuses, refusal_of, LoadingCommand, Reply}
+use Rattle.w16_loading.proofs.Common.{◌≡◌, ℕ, zero, suc, inl, inr, Bool, List, [], Option, Some, None, MatchResult, Result, Ok, Err, Heap, IsHeap, FetchFault, Store, Damaged, NoRoom, Format, ModuleFile, Tables, LoadingWorld}
+use Rattle.w16_loading.proofs.Common.{Fills, Closure, Reading, Around, Found, around, begun, dll, meant, with_bound, Refused, Meant, Read, There, New, Answer, LoadsNew, Fulfils, Refuses, refusal_of, LoadingCommand, Reply}
 use Rattle.w16_loading.proofs.Common.{with_resource, IsLoadingWorld, AnyStepLaw, RequestsFewestLaw, ◌⊎◌, GivesAny, true, false, FillsLaw}
 use Rattle.w16_loading.specs.Answers.{Answers, ClosesFrom, Ending, FetchesFrom, FillsFewest, GivesFrom, GivesRead, LoadsFileFrom, LoadsFrom, ReadsFile, StepOver, follow, told}
 use Rattle.w16_loading.specs.Fewest.{RequestsFewest}
 use Rattle.w16_loading.proofs.Fillings.{any_kept, in_turn_as}
+use Rattle.w16_loading.proofs.Cases.{option_as}
 use Rattle.w16_loading.proofs.Fewest.{fill_fewest}
 use Rattle.w16_loading.proofs.Named.{named_heap}
 use Rattle.w16_loading.proofs.ResourceWorlds.{made_world}
 use Rattle.w16_loading.proofs.Answered.{fulfils_as, given_any, turned}
+
+result_as : (E : ℕ → Type 0) {X Y : Closure → Type 0} (r : Result Closure ℕ) → ((c : Closure) → X c → Y c) → MatchResult r X E → MatchResult r Y E
+result_as E (Ok c) go f = go c f
+result_as E (Err number) go f = f
 
 -- each answer of one is an answer of the other
 record IsWithin (a b : Answers) : Type 0 where
@@ -29,24 +34,14 @@ module _ (a b : Answers) (within : IsWithin a b) where
 
   closes_as : (x : Around) (n : ℕ) (closure : Closure) (outcome : Result Closure ℕ) → ClosesFrom a x n closure outcome → ClosesFrom b x n closure outcome
   closes_as x zero closure outcome f = f
-  closes_as x (suc n) closure outcome (place, name, rest, e, more) = (place, name, rest, e, by_name (λ c f. closes_as x n c outcome f) (meant x closure.found name) more)
-    where
-      here : Closure
-      here = record closure { pending = rest }
-
-      Next : Answers → Reading → Type 0
-      Next answers r = MatchResult (follow here place name r) (λ c. ClosesFrom answers x n c outcome) (λ number. outcome ≡ Err number)
-
-      by_reading : ((c : Closure) → ClosesFrom a x n c outcome → ClosesFrom b x n c outcome) → (r : Reading) → Next a r → Next b r
-      by_reading go (Refused answer) f = f
-      by_reading go (Meant referent) f = go (with_bound here place referent) f
-      by_reading go (Read read) f = go (with_bound (with_found here (dll name) read) place (New (length closure.found))) f
-
-      by_name : ((c : Closure) → ClosesFrom a x n c outcome → ClosesFrom b x n c outcome) → (p : Option Referent)
-          → MatchOption p ((r : Reading) × ReadsFile a x closure.found (dll name) r × Next a r) (λ referent. ClosesFrom a x n (with_bound here place referent) outcome)
-          → MatchOption p ((r : Reading) × ReadsFile b x closure.found (dll name) r × Next b r) (λ referent. ClosesFrom b x n (with_bound here place referent) outcome)
-      by_name go None (r, reads, f) = (r, reads_as x closure.found (dll name) r reads, by_reading go r f)
-      by_name go (Some referent) f = go (with_bound here place referent) f
+  closes_as x (suc n) closure outcome (place, name, rest, e, more) = (
+    place,
+    name,
+    rest,
+    e,
+    option_as (meant x closure.found name) (λ f. (f.0, reads_as x closure.found (dll name) f.0 f.1, result_as (λ number. outcome ≡ Err number) (follow (record closure { pending = rest }) place name f.0) (λ c. closes_as x n c outcome) f.2))
+        (λ referent e. closes_as x n (with_bound (record closure { pending = rest }) place referent) outcome) more,
+  )
 
   -- a load, by how its objects get bytes
   loads_as : (E F : Ending) (old : LoadingWorld) → ((closure : Closure) (answer : Answer) (new : LoadingWorld) → Fulfils (GivesFrom E a) old closure answer new → Fulfils (GivesFrom F b) old closure answer new)

@@ -1,14 +1,15 @@
 -- What the parts of a step do to a world, the step does: fetches, loads, and changes of what is kept beside them.
-use Rattle.w16_loading.proofs.Common.{◌≡◌, ℕ, ◌+◌, ◌-◌, ◌<◌, ◌≤◌, inl, inr, ◌⊎◌, Bool, true, false, cond, ◌&&◌, ◌==◌, not, nat_lt, List, [], ◌∷◌, Option, Some, None, MatchOption, MatchBool, option_map, refl}
-use Rattle.w16_loading.proofs.Common.{sym, ap, ◌∙◌, subst, arith, ltb-true, find, bytes_at, Handles, IsFreeSlot, handle_of, slot_of_handle, selector_in, offset_in, repeated, HandleCommand, locks_at, FarAnswer, FarCommand, far_slot, Member}
+use Rattle.w16_loading.proofs.Common.{◌≡◌, ℕ, ◌+◌, ◌-◌, ◌<◌, ◌≤◌, inl, inr, ◌⊎◌, Bool, true, false, cond, ◌&&◌, ◌==◌, not, nat_lt, List, [], ◌∷◌, Option, Some, None, MatchOption, option_map, refl}
+use Rattle.w16_loading.proofs.Common.{sym, ap, ◌∙◌, subst, arith, ltb-true, find, Handles, IsFreeSlot, handle_of, slot_of_handle, selector_in, offset_in, repeated, HandleCommand, locks_at, FarAnswer, FarCommand, far_slot, Member}
 use Rattle.w16_loading.proofs.Common.{MOST_USES, FetchFault, Resource, LoadingWorld, Load, Module, Named, IsFreeModule, handle_named, Loaded, BuiltIn, Giving, without_objects, Closure, around}
-use Rattle.w16_loading.proofs.Common.{Answer, Fulfils, used_again, after_use, Says, Reply, HandleReplies, ResizeReplies, Word, Dword, Failed, ResizeCommand, Fetching, Accesses}
-use Rattle.w16_loading.proofs.Common.{needs_fetch, far_read, far_write, gives, Frees, LoadsResource, LoadsNewResource, LocksResource, AnswersNone, is_too_long, resource_at, load_of, loaded_again, with_resource, resource_outcome, locked, lock_outcome}
-use Rattle.w16_loading.proofs.Common.{slot_of_resource, free_resource, LoadingCommand, ModuleCommand, ResourceCommand, Loading, FamilyStep, ModuleStep, ResourceStep, FarStep, AddsBuiltIn, GivesBuiltIn, built_in, GivesAny, IsRefusal}
+use Rattle.w16_loading.proofs.Common.{Answer, Fulfils, used_again, after_use, Says, Reply, HandleReplies, ResizeReplies, Word, Failed, ResizeCommand, Fetching, Accesses}
+use Rattle.w16_loading.proofs.Common.{far_read, far_write, gives, Frees, LoadsResource, LoadsNewResource, LocksResource, load_of, loaded_again, with_resource, resource_outcome, locked, lock_outcome}
+use Rattle.w16_loading.proofs.Common.{slot_of_resource, free_resource, LoadingCommand, ModuleCommand, ResourceCommand, Loading, FamilyStep, ModuleStep, ResourceStep, FarStep, GivesBuiltIn, GivesAny, IsRefusal}
 use Rattle.std.specs.FinMap as finmap
 use Rattle.w16_loading.specs.declared.FetchFault.TheVariants as faults
 use Rattle.w16_loading.proofs.Importers.{entry_there}
 use Rattle.w16_loading.proofs.ClosureFacts.{IsClosure}
+use Rattle.w16_loading.proofs.Cases.{IsLoadable, access_cases, by_option, lock_cases, resource_cases}
 
 -- what is found among entries is there
 pub found_load : (old : LoadingWorld) (handle place : ℕ) (x : ℕ × Load) → load_of old handle place ≡ Some x → finmap.get old.loads x.0 ≡ Some x.1
@@ -95,10 +96,6 @@ module _ (P : Answer → LoadingWorld → Type 0) (old : LoadingWorld) (good : (
       → AnyLoading b old file answer new → P answer new
   any_loaded = loaded GivesAny (IsClosure (around old).named)
 
--- a resource of a place that may be loaded
-abbrev pub IsLoadable : LoadingWorld → ℕ → ℕ → Resource → Type 0
-IsLoadable world handle place r = (resource_at world handle place ≡ Some r) × (is_too_long r ≡ false)
-
 -- What is to hold of the parts of a step from this world: fetches and loads by these definitions, and bytes that are written.
 pub record Parts (fetches : Fetching) (loads : Loading) (Ours : List ℕ → Type 0) (old : LoadingWorld) (P : LoadingWorld → Type 0) : Type 0 where
   pub start : P old
@@ -138,17 +135,14 @@ module _ (fetches : Fetching) (loads : Loading) (Ours : List ℕ → Type 0) (ol
 
   -- an access, and the fetch that it may ask for
   accessed : (access : LoadingWorld → FarAnswer × LoadingWorld) → ((world : LoadingWorld) → P world → P (access world).1) → (selector : ℕ) → Accesses fetches access old selector reply new → P new
-  accessed access keeps selector step = turn (needs_fetch (access old).0 old selector) step
+  accessed access keeps selector step = elim (access_cases fetches old reply new access selector step) [
+    | inl (fault, next, f, g) ↦ after next fault (parts.fetched (far_slot old.handles selector) fault next f) g
+    | inr g ↦ subst P (sym g.1) (keeps old parts.start)
+  ]
     where
       after : (next : LoadingWorld) (fault : Option FetchFault) → P next → MatchOption fault (gives (access next) reply new) (λ f. (reply ≡ Failed f) × (new ≡ next)) → P new
       after next None good g = subst P (sym g.1) (keeps next good)
       after next (Some f) good g = subst P (sym g.1) good
-
-      turn : (b : Bool) → MatchBool b
-          ((fault : Option FetchFault) × (next : LoadingWorld) × fetches old (far_slot old.handles selector) fault next × MatchOption fault (gives (access next) reply new) (λ f. (reply ≡ Failed f) × (new ≡ next)))
-          (gives (access old) reply new) → P new
-      turn true h = after h.1 h.0 (parts.fetched (far_slot old.handles selector) h.0 h.1 h.2) h.3
-      turn false g = subst P (sym g.1) (keeps old parts.start)
 
   far : (command : FarCommand) → Writes Ours (LoadingCommand.OfFar command) → FarStep fetches old command reply new → P new
   far (FarCommand.Read pointer count) ours step = accessed (far_read (selector_in pointer) (offset_in pointer) count) (parts.reads (selector_in pointer) (offset_in pointer) count) (selector_in pointer) step
@@ -157,12 +151,11 @@ module _ (fetches : Fetching) (loads : Loading) (Ours : List ℕ → Type 0) (ol
       accessed (far_write (selector_in pointer) (offset_in pointer) (repeated count byte)) (λ w. parts.writes (selector_in pointer) (offset_in pointer) (repeated count byte) w ours) (selector_in pointer) step
 
   gives_built_in : (name : List ℕ) (answer : ℕ) → GivesBuiltIn old name answer new → P new
-  gives_built_in name answer step = turn (handle_named old.modules name) refl step
-    where
-      turn : (p : Option ℕ) → handle_named old.modules name ≡ p → MatchOption p (AddsBuiltIn old name answer new) (λ handle. (answer ≡ built_in (finmap.get old.modules handle) handle) × (new ≡ old)) → P new
-      turn None e (inl f) = as_it_was f.2
-      turn None e (inr f) = subst P (sym f.1) (parts.built name answer e f.0)
-      turn (Some handle) e f = as_it_was f.1
+  gives_built_in name answer step = elim (by_option (handle_named old.modules name) step) [
+    | inl (e, inl f) ↦ as_it_was f.2
+    | inl (e, inr f) ↦ subst P (sym f.1) (parts.built name answer e f.0)
+    | inr (handle, e, f) ↦ as_it_was f.1
+  ]
 
   modules : (command : ModuleCommand) → ModuleStep loads old command reply new → P new
   modules (ModuleCommand.Builtin name) f = gives_built_in name f.0 f.2
@@ -178,7 +171,11 @@ module _ (fetches : Fetching) (loads : Loading) (Ours : List ℕ → Type 0) (ol
   outcome_is outcome e good = subst (λ (p : Reply × LoadingWorld). P p.1) (sym e) good
 
   resource_loaded : (handle place : ℕ) → LoadsResource fetches old handle place reply new → P new
-  resource_loaded handle place step = by_resource (resource_at old handle place) refl step
+  resource_loaded handle place step = elim (resource_cases fetches old reply new handle place step) [
+    | inl f ↦ as_it_was f.1
+    | inr (r, at, inl (x, e, f)) ↦ outcome_is (loaded_again old r x) f (more r x (found_load old handle place x e) (nat_lt x.1.loads MOST_USES) refl)
+    | inr (r, at, inr (none, f)) ↦ fresh r at none f
+  ]
     where
       more : (r : Resource) (x : ℕ × Load) → finmap.get old.loads x.0 ≡ Some x.1 → (b : Bool) → nat_lt x.1.loads MOST_USES ≡ b
           → P (cond {A = Reply × LoadingWorld} b (Word (handle_of r.kind x.0), with_count old x.0 x.1 (x.1.loads + 1)) (Word 0, old)).1
@@ -194,39 +191,18 @@ module _ (fetches : Fetching) (loads : Loading) (Ours : List ℕ → Type 0) (ol
           turn (Some faults.NoRoom) next = parts.start
           turn (Some faults.Damaged) next = parts.start
 
-      by_load : (r : Resource) → IsLoadable old handle place r → (p : Option (ℕ × Load)) → load_of old handle place ≡ p
-          → MatchOption p ((((slot : ℕ) → IsFreeSlot old.handles slot → ⊥) × AnswersNone old reply new) ⊎ LoadsNewResource fetches old handle place r reply new) (λ x. (reply, new) ≡ loaded_again old r x) → P new
-      by_load r at None e (inl f) = as_it_was f.1.1
-      by_load r at None e (inr f) = fresh r at e f
-      by_load r at (Some x) e f = outcome_is (loaded_again old r x) f (more r x (found_load old handle place x e) (nat_lt x.1.loads MOST_USES) refl)
-
-      by_size : (r : Resource) → resource_at old handle place ≡ Some r → (b : Bool) → is_too_long r ≡ b → MatchBool b (AnswersNone old reply new)
-          (MatchOption (load_of old handle place) ((((slot : ℕ) → IsFreeSlot old.handles slot → ⊥) × AnswersNone old reply new) ⊎ LoadsNewResource fetches old handle place r reply new) (λ x. (reply, new) ≡ loaded_again old r x)) → P new
-      by_size r at true e f = as_it_was f.1
-      by_size r at false e f = by_load r (at, e) (load_of old handle place) refl f
-
-      by_resource : (p : Option Resource) → resource_at old handle place ≡ p → MatchOption p (AnswersNone old reply new) (λ r. MatchBool (is_too_long r) (AnswersNone old reply new)
-          (MatchOption (load_of old handle place) ((((slot : ℕ) → IsFreeSlot old.handles slot → ⊥) × AnswersNone old reply new) ⊎ LoadsNewResource fetches old handle place r reply new) (λ x. (reply, new) ≡ loaded_again old r x))) → P new
-      by_resource None e f = as_it_was f.1
-      by_resource (Some r) e f = by_size r e (is_too_long r) refl f
-
   resource_locked : (handle : ℕ) → LocksResource fetches old handle reply new → P new
-  resource_locked handle step = by_slot (slot_of_resource old handle) step
+  resource_locked handle step = elim (lock_cases fetches old reply new handle step) [
+    | inl f ↦ as_it_was f.1
+    | inr (x, e, inl (fault, next, f, g)) ↦ outcome_is (lock_outcome fault handle next) g (after fault next (parts.fetched x.0 fault next f))
+    | inr (x, e, inr f) ↦ outcome_is (locked old handle) f (parts.locks handle old parts.start)
+  ]
     where
       after : (fault : Option FetchFault) (next : LoadingWorld) → P next → P (lock_outcome fault handle next).1
       after None next h = parts.locks handle next h
       after (Some faults.NoRoom) next h = h
       after (Some faults.Store) next h = h
       after (Some faults.Damaged) next h = h
-
-      by_bytes : (slot : ℕ) (p : Option (List ℕ)) → MatchOption p ((fault : Option FetchFault) × (next : LoadingWorld) × fetches old slot fault next × ((reply, new) ≡ lock_outcome fault handle next)) (λ _. (reply, new) ≡ locked old handle) → P new
-      by_bytes slot None f = outcome_is (lock_outcome f.0 handle f.1) f.3 (after f.0 f.1 (parts.fetched slot f.0 f.1 f.2))
-      by_bytes slot (Some bytes) f = outcome_is (locked old handle) f (parts.locks handle old parts.start)
-
-      by_slot : (p : Option (ℕ × Load)) → MatchOption p ((reply ≡ Dword 0) × (new ≡ old)) (λ x. MatchOption (bytes_at old.handles.heap x.0)
-          ((fault : Option FetchFault) × (next : LoadingWorld) × fetches old x.0 fault next × ((reply, new) ≡ lock_outcome fault handle next)) (λ _. (reply, new) ≡ locked old handle)) → P new
-      by_slot None f = as_it_was f.1
-      by_slot (Some x) f = by_bytes x.0 (bytes_at old.handles.heap x.0) f
 
   resource_freed : (handle : ℕ) → P (free_resource old handle).1
   resource_freed handle = turn (slot_of_resource old handle) refl
