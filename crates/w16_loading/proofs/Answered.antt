@@ -4,7 +4,7 @@ use Rattle.w16_loading.proofs.Common.{ap, ◌∙◌, subst, arith, and_parts, fi
 use Rattle.w16_loading.proofs.Common.{FetchFault, Store, Damaged, NoRoom, Format, IsModuleFile, ModuleFile, Resource, LoadingWorld, Load, Named, name_of, handle_named, Reply, Giving, Fills}
 use Rattle.w16_loading.proofs.Common.{is_of_read, Closure, Reading, Referent, Found, around, begun, dll, with_bound, with_found, meant, Refused, Meant, Read, There, New, named, fills, Answer, LoadsNew, Fulfils, Refuses, refusal_of, used_again}
 use Rattle.w16_loading.proofs.Common.{Fetching, Accesses, is_not_present, needs_fetch, far_read, far_write, LoadsResource, LoadsNewResource, LocksResource, AnswersNone, is_too_long, resource_at, load_of, attributes_for, loaded_again, with_resource}
-use Rattle.w16_loading.proofs.Common.{slot_of_resource, LoadingCommand, ModuleCommand, ResourceCommand, Loading, FamilyStep, FarStep, OfHandles, OfResizes, OfFar, OfModules, OfResources, AnyFetches, GivesAny, IsLoadingWorld, IsRefusal}
+use Rattle.w16_loading.proofs.Common.{slot_of_resource, LoadingCommand, ModuleCommand, ResourceCommand, Loading, FamilyStep, FarStep, OfFar, OfModules, OfResources, AnyFetches, GivesAny, IsLoadingWorld, IsRefusal}
 use Rattle.std.specs.FinMap as finmap
 use Rattle.std.specs.List.{AllByRecursion as Each}
 use Rattle.w16_model.proofs.Parts.{length-repeated}
@@ -52,22 +52,12 @@ module _ (F G : Fetching) (L M : Loading) (old new : LoadingWorld) (reply : Repl
         by_load r at (Some x) e f = f
 
     pub turned : (command : LoadingCommand) → FamilyStep F L old command reply new → FamilyStep G M old command reply new
-    turned (OfHandles command) f = f
-    turned (OfResizes command) f = f
     turned (OfFar command) f = far command f
-    turned (OfModules (ModuleCommand.Builtin name)) f = f
     turned (OfModules (ModuleCommand.LoadModule file)) f = (f.0, f.1, load true file f.0 f.2)
     turned (OfModules (ModuleCommand.LoadLibrary file)) f = (f.0, f.1, load false file f.0 f.2)
-    turned (OfModules (ModuleCommand.FreeLibrary handle)) f = f
-    turned (OfModules (ModuleCommand.FreeModule handle)) f = f
-    turned (OfModules (ModuleCommand.GetModuleHandle name)) f = f
-    turned (OfModules (ModuleCommand.GetModuleUsage handle)) f = f
-    turned (OfModules (ModuleCommand.GetProcAddress handle label)) f = f
-    turned (OfResources (ResourceCommand.FindResource handle name kind)) f = f
     turned (OfResources (ResourceCommand.LoadResource handle place)) f = makes handle place f
     turned (OfResources (ResourceCommand.LockResource handle)) f = locks handle f
-    turned (OfResources (ResourceCommand.FreeResource handle)) f = f
-    turned (OfResources (ResourceCommand.SizeofResource handle place)) f = f
+    turned other f = f
 
 -- One way to give bytes as another, in a load.
 pub fulfils_as : (f g : Giving) (Is : Heap → Type 0) → ((old : Heap) (slot : ℕ) (bytes : List ℕ) (fault : Option FetchFault) (new : Heap) → Is old → f old slot bytes fault new → g old slot bytes fault new × Is new)

@@ -121,13 +121,9 @@ Writes Ours (LoadingCommand.OfFar (FarCommand.Fill pointer count byte)) = Ours (
 Writes Ours other = Unit {0}
 
 pub nothing_asked : (command : LoadingCommand) → Writes (λ slice. Unit {0}) command
-nothing_asked (LoadingCommand.OfFar (FarCommand.Read pointer count)) = tt
 nothing_asked (LoadingCommand.OfFar (FarCommand.Write pointer bytes)) = tt
 nothing_asked (LoadingCommand.OfFar (FarCommand.Fill pointer count byte)) = tt
-nothing_asked (LoadingCommand.OfHandles command) = tt
-nothing_asked (LoadingCommand.OfResizes command) = tt
-nothing_asked (LoadingCommand.OfModules command) = tt
-nothing_asked (LoadingCommand.OfResources command) = tt
+nothing_asked command = tt
 
 module _ (fetches : Fetching) (loads : Loading) (Ours : List ℕ → Type 0) (old : LoadingWorld) (P : LoadingWorld → Type 0) (parts : Parts fetches loads Ours old P) (new : LoadingWorld) (reply : Reply) where
   as_it_was : new ≡ old → P new
@@ -163,9 +159,7 @@ module _ (fetches : Fetching) (loads : Loading) (Ours : List ℕ → Type 0) (ol
   modules (ModuleCommand.LoadLibrary file) f = parts.loaded false file f.0 new f.2
   modules (ModuleCommand.FreeLibrary handle) f = parts.freed handle f.0 new f.2
   modules (ModuleCommand.FreeModule handle) f = parts.freed handle f.0 new f.2
-  modules (ModuleCommand.GetModuleHandle name) f = as_it_was f.1
-  modules (ModuleCommand.GetModuleUsage handle) f = as_it_was f.1
-  modules (ModuleCommand.GetProcAddress handle label) f = as_it_was f.1
+  modules other f = as_it_was f.1
 
   outcome_is : (outcome : Reply × LoadingWorld) → ◌≡◌ {A = Reply × LoadingWorld} (reply, new) outcome → P outcome.1 → P new
   outcome_is outcome e good = subst (λ (p : Reply × LoadingWorld). P p.1) (sym e) good
@@ -218,11 +212,10 @@ module _ (fetches : Fetching) (loads : Loading) (Ours : List ℕ → Type 0) (ol
       turn (Some x) e = by_test x (resource_load old handle x e) (nat_lt 1 x.1.loads) (nat_lt 0 (locks_at old.handles.heap x.0)) refl
 
   resources : (command : ResourceCommand) → ResourceStep fetches old command reply new → P new
-  resources (ResourceCommand.FindResource handle name kind) f = as_it_was f.1
   resources (ResourceCommand.LoadResource handle place) f = resource_loaded handle place f
   resources (ResourceCommand.LockResource handle) f = resource_locked handle f
   resources (ResourceCommand.FreeResource handle) f = subst P (sym f.1) (resource_freed handle)
-  resources (ResourceCommand.SizeofResource handle place) f = as_it_was f.1
+  resources other f = as_it_was f.1
 
   pub family : (command : LoadingCommand) → Writes Ours command → FamilyStep fetches loads old command reply new → P new
   family (LoadingCommand.OfHandles command) ours f = subst P (sym f.2) (parts.handles command reply f.0 f.1)

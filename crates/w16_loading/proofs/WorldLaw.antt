@@ -50,13 +50,9 @@ module _ (old : LoadingWorld) (is : IsLoadingWorld old) where
   }
 
 ours : (command : LoadingCommand) → IsLoadingCommand command → Writes (λ slice. All (λ b. b < 256) slice) command
-ours (LoadingCommand.OfFar (FarCommand.Read pointer count)) known = tt
 ours (LoadingCommand.OfFar (FarCommand.Write pointer bytes)) known = known
 ours (LoadingCommand.OfFar (FarCommand.Fill pointer count byte)) known = All-repeated count byte known
-ours (LoadingCommand.OfHandles command) known = tt
-ours (LoadingCommand.OfResizes command) known = tt
-ours (LoadingCommand.OfModules command) known = tt
-ours (LoadingCommand.OfResources command) known = tt
+ours command known = tt
 
 pub keeps_worlds_law : (honest : Type 0) → KeepsWorldsLaw honest
 keeps_worlds_law honest format old new command reply is known step = recounted (record new { failures = old.failures })

@@ -15,6 +15,8 @@ use Rattle.w16_machine.proofs.LocalLeft.{left_is}
 use Rattle.w16_machine.proofs.LocalLonger.{leaves_longer}
 use Rattle.w16_machine.proofs.LocalOthers.{local_others_law, local_pinned_law, stands_same}
 use Rattle.w16_machine.proofs.LocalOutcomes.{Outcome, outcome}
+use Rattle.w16_machine.specs.Bystanders.{Spares}
+use Rattle.w16_machine.proofs.Runs.{run_each}
 use Rattle.w16_machine.proofs.Worlds.{world_law}
 
 -- DS.
@@ -182,8 +184,5 @@ step_spares_law honest format old new (OfLocals command) reply is step = record 
 }
 
 pub run_spares_law : (honest : Type 0) → RunSparesLaw honest
-run_spares_law honest format old new events is known run = each old events (Each-from_All (λ (e : Event). IsCommand e.command) events known) is run
-  where
-    each : (now : World) (events : List Event) → Each (λ (e : Event). IsCommand e.command) events → IsWorld now → Run (Step honest format) now events new → AllSpare now events
-    each now [] known is run = tt
-    each now (event ∷ events) known is run = (step_spares_law honest format now event.after event.command event.reply is run.0, each event.after events known.1 (world_law honest format now event.after event.command event.reply is known.0 run.0) run.1)
+run_spares_law honest format old new events is known run = (run_each (Step honest format) IsWorld (λ now event. Spares now event.command event.after)
+    (λ now event is known step. (step_spares_law honest format now event.after event.command event.reply is step, world_law honest format now event.after event.command event.reply is known step)) old new events is known run).0

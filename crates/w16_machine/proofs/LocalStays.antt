@@ -9,6 +9,7 @@ use Rattle.std.specs.FinMap as finmap
 use Rattle.w16_loading.specs.Families as families
 use Rattle.w16_loading.specs.Families.{Loading, far_reads_file}
 use Rattle.w16_loading.specs.Fetch.{Fetching}
+use Rattle.w16_loading.proofs.Cases.{by_option}
 use Rattle.w16_machine.proofs.LocalFrame.{frame_law}
 use Rattle.w16_machine.proofs.LocalFar.{read_same, write_same, tables_stay}
 use Rattle.w16_machine.proofs.Stepped.{call_replies, fetching, loading, once}
@@ -34,13 +35,15 @@ module _ (fetches : Fetching) (loads : Loading) (old new : LoadingWorld) (reply 
   far_sizes (Fill pointer count byte) none step = same_world (far_write (selector_in pointer) (offset_in pointer) (repeated count byte) old).1 (write_same old.handles (selector_in pointer) (offset_in pointer) (repeated count byte))
       (once fetches (far_write (selector_in pointer) (offset_in pointer) (repeated count byte)) old new (selector_in pointer) reply none step)
 
-  built_in_sizes : (name : List ℕ) (answer : ℕ) (named : Option ℕ) → MatchOption named (AddsBuiltIn old name answer new) (λ handle. (answer ≡ built_in (finmap.get old.modules handle) handle) × (new ≡ old)) → HasSameSizes old.handles new.handles
-  built_in_sizes name answer None (inl none) = unchanged none.2
-  built_in_sizes name answer None (inr added) = same_world (record old { modules = finmap.insert old.modules answer (BuiltIn name) }) (λ q. refl) added.1
-  built_in_sizes name answer (Some handle) there = unchanged there.1
+  built_in_sizes : (name : List ℕ) (answer : ℕ) → families.GivesBuiltIn old name answer new → HasSameSizes old.handles new.handles
+  built_in_sizes name answer step = elim (by_option (handle_named old.modules name) step) [
+    | inl (e, inl f) ↦ unchanged f.2
+    | inl (e, inr f) ↦ same_world (record old { modules = finmap.insert old.modules answer (BuiltIn name) }) (λ q. refl) f.1
+    | inr (handle, e, f) ↦ unchanged f.1
+  ]
 
   modules_sizes : (command : ModuleCommand) → modules_may_take command ≡ false → ModuleStep loads old command reply new → HasSameSizes old.handles new.handles
-  modules_sizes (Builtin name) m step = built_in_sizes name step.0 (handle_named old.modules name) step.2
+  modules_sizes (Builtin name) m step = built_in_sizes name step.0 step.2
   modules_sizes (GetModuleHandle name) m step = unchanged step.1
   modules_sizes (GetModuleUsage handle) m step = unchanged step.1
   modules_sizes (GetProcAddress handle label) m step = unchanged step.1

@@ -2,6 +2,7 @@
 use Rattle.w16_machine.proofs.Common.{◌≡◌, ℕ, Bool, false, MatchBool, MatchOption, Option, refl, sym, ap, ◌∙◌, subst, arith, repeated, HandleCommand, FarAnswer, FarCommand, far_slot, Read, Write, Fill, Handles, selector_in}
 use Rattle.w16_machine.proofs.Common.{offset_in, FetchFault, ResizesStep, FamilyStep, LoadingCommand, OfHandles, OfResizes, OfFar, OfModules, OfResources, Accesses, needs_fetch}
 use Rattle.w16_machine.proofs.Common.{far_read, far_write, gives, reply_of_far, Format, LoadingWorld, with_handles, Reply, HandleReplies, ResizeReplies, FarReplies, Done, Failed, ResizeCommand, OnHandles}
+use Rattle.w16_loading.proofs.Cases.{by_bool}
 use Rattle.w16_model.specs.Far as far
 use Rattle.w16_loading.specs.Families.{HandleStep, FarStep, Loading, far_reads_file}
 use Rattle.w16_loading.specs.Fetch.{Fetching}
@@ -30,20 +31,12 @@ resize_replies honest format old new command reply s =
     subst (ResizeReplies old.handles command reply) (handles_of old (record new { failures = old.failures }) step.0 step.2) step.1
 
 -- A far access that fetches nothing is made once.
-module _ (fetches : Fetching) (access : LoadingWorld → FarAnswer × LoadingWorld) (old new : LoadingWorld) (selector : ℕ) (reply : Reply) where
-  -- an access that may fetch, by whether it does
-  abbrev By : Bool → Type 0
-  By b = MatchBool b ((fault : Option FetchFault) × (next : LoadingWorld) × fetches old (far_slot old.handles selector) fault next
-      × MatchOption fault (gives (access next) reply new) (λ f. (reply ≡ Failed f) × (new ≡ next))) (gives (access old) reply new)
+module _ (fetches : Fetching) (access : LoadingWorld → FarAnswer × LoadingWorld) (old new : LoadingWorld) (selector : ℕ) (reply : Reply) (none : needs_fetch (access old).0 old selector ≡ false) where
+  pub once : Accesses fetches access old selector reply new → new ≡ (access old).1
+  once a = elim (by_bool (needs_fetch (access old).0 old selector) a) [ inl (e, f) ↦ absurd (false≢true (sym none ∙ e)) | inr (e, g) ↦ g.1 ]
 
-  pub once : needs_fetch (access old).0 old selector ≡ false → Accesses fetches access old selector reply new → new ≡ (access old).1
-  once none a = turn (subst By none a)
-    where
-      turn : gives (access old) reply new → new ≡ (access old).1
-      turn g = g.1
-
-  pub accessed : needs_fetch (access old).0 old selector ≡ false → gives (access old) reply new → Accesses fetches access old selector reply new
-  accessed none g = subst By (sym none) g
+  pub accessed : gives (access old) reply new → Accesses fetches access old selector reply new
+  accessed g = rw none g
 
 -- what a reply prints
 replied : (h next : Handles) (command : FarCommand) (reply : Reply) → FarReplies h command reply next → (answer : FarAnswer) × (reply ≡ reply_of_far answer) × far.FarStep h command answer next

@@ -4,6 +4,8 @@ use Rattle.w16_machine.proofs.Common.{IsLocalIn, segment_bytes, IsCommand, Event
 use Rattle.std.specs.List.{AllByRecursion as Each}
 use Rattle.w16_loading.proofs.Begun.{empty_law as empty_loading_law}
 use Rattle.w16_machine.proofs.Discards.{step_fewest}
+use Rattle.w16_machine.specs.Fewest.{IsFewest}
+use Rattle.w16_machine.proofs.Runs.{run_each}
 use Rattle.w16_machine.proofs.Loaded.{loading_world_kept}
 use Rattle.w16_machine.proofs.LocalModules.{local_files_kept, local_world_kept}
 
@@ -37,22 +39,12 @@ files_law honest format old new (OfLocals command) reply truly is known step = (
 -- Runs.
 
 pub run_world_law : (honest : Type 0) → RunWorldLaw honest
-run_world_law honest format old new events is known run = each old events (Each-from_All (λ (e : Event). IsCommand e.command) events known) is run
-  where
-    each : (now : World) (events : List Event) → Each (λ (e : Event). IsCommand e.command) events → IsWorld now → Run (Step honest format) now events new → IsWorld new
-    each now [] known is run = subst IsWorld (sym run) is
-    each now (event ∷ events) known is run = each event.after events known.1 (world_law honest format now event.after event.command event.reply is known.0 run.0) run.1
+run_world_law honest format old new events is known run = (run_each (Step honest format) IsWorld (λ now event. Unit {0}) (λ now event is known step. (tt, world_law honest format now event.after event.command event.reply is known step)) old new events is known run).1
 
 pub run_files_law : (honest : Type 0) → RunFilesLaw honest
-run_files_law honest format old new events truly is known run = each old events (Each-from_All (λ (e : Event). IsCommand e.command) events known) is run
-  where
-    each : (now : World) (events : List Event) → Each (λ (e : Event). IsCommand e.command) events → IsWorldOfFiles format now → Run (Step honest format) now events new → IsWorldOfFiles format new
-    each now [] known is run = subst (IsWorldOfFiles format) (sym run) is
-    each now (event ∷ events) known is run = each event.after events known.1 (files_law honest format now event.after event.command event.reply truly is known.0 run.0) run.1
+run_files_law honest format old new events truly is known run =
+    (run_each (Step honest format) (IsWorldOfFiles format) (λ now event. Unit {0}) (λ now event is known step. (tt, files_law honest format now event.after event.command event.reply truly is known step)) old new events is known run).1
 
 pub fewest_law : (honest : Type 0) → FewestLaw honest
-fewest_law honest format old new events is known run = each old events (Each-from_All (λ (e : Event). IsCommand e.command) events known) is run
-  where
-    each : (now : World) (events : List Event) → Each (λ (e : Event). IsCommand e.command) events → IsWorld now → Run (Step honest format) now events new → AreFewest now events
-    each now [] known is run = tt
-    each now (event ∷ events) known is run = (step_fewest honest format now event is run.0, each event.after events known.1 (world_law honest format now event.after event.command event.reply is known.0 run.0) run.1)
+fewest_law honest format old new events is known run =
+    (run_each (Step honest format) IsWorld IsFewest (λ now event is known step. (step_fewest honest format now event is step, world_law honest format now event.after event.command event.reply is known step)) old new events is known run).0

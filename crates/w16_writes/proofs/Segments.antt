@@ -271,7 +271,4 @@ module _ (honest : Type 0) (format : Format) (old new : LoadingWorld) (is : IsLo
   loading_keeps (OfFar command) reply step = far_keeps_by (far_made old is command reply (record new { failures = old.failures }) (any_step honest format old new (OfFar command) reply is step))
   loading_keeps (OfModules command) reply step = calm (idle step (λ q about. about))
   loading_keeps (OfResources (LockResource handle)) reply step = calm (λ q. lock_agrees honest format old (record new { failures = old.failures }) is reply q handle (any_step honest format old new (OfResources (LockResource handle)) reply is step))
-  loading_keeps (OfResources (FindResource handle name kind)) reply step = calm (idle step (λ q about. about))
-  loading_keeps (OfResources (LoadResource handle place)) reply step = calm (idle step (λ q about. about))
-  loading_keeps (OfResources (FreeResource handle)) reply step = calm (idle step (λ q about. about))
-  loading_keeps (OfResources (SizeofResource handle place)) reply step = calm (idle step (λ q about. about))
+  loading_keeps (OfResources other) reply step = calm (idle step (λ q about. about))
