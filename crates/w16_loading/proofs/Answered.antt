@@ -9,9 +9,10 @@ use Rattle.std.specs.FinMap as finmap
 use Rattle.std.specs.List.{AllByRecursion as Each}
 use Rattle.w16_model.proofs.Parts.{length-repeated}
 use Rattle.w16_loading.specs.Modules.{is_owned}
-use Rattle.w16_loading.specs.Answers.{Answers, ClosesFrom, Ending, FetchesFrom, GivesFrom, GivesRead, IsOwnedSize, LoadsFileFrom, LoadsFrom, ReadsFile, RefusesFile, StepOver, follow, told}
+use Rattle.w16_loading.specs.Answers.{Answers, ClosesFrom, Ending, FetchesFrom, FetchesOver, GivesFrom, GivesRead, IsOwnedSize, LoadsFileFrom, LoadsFrom, MayFail, ReadsFile, RefusesFile, StepOver, follow, told}
+use Rattle.w16_loading.proofs.Common.{bytes_in, Fetches, FillsOne, is_of_device, IsImage, false≢true}
 use Rattle.w16_loading.proofs.Importers.{entry_there}
-use Rattle.w16_loading.proofs.Fillings.{one_heap, in_turn_so}
+use Rattle.w16_loading.proofs.Fillings.{filled_object, one_heap, in_turn_so}
 use Rattle.w16_loading.proofs.Named.{named_heap}
 use Rattle.w16_loading.proofs.Owners.{resource_owned, loaded_of}
 use Rattle.w16_loading.proofs.ClosureFacts.{IsClosure, began, bound_more, found_more}
@@ -252,3 +253,18 @@ pub any_step : (honest : Type 0) (format : Format) (old new : LoadingWorld) (com
     → FamilyStep AnyFetches AnyLoading old command reply (record new { failures = old.failures })
 any_step honest format old new command reply is step =
     any_family (told honest format old.files old.failures new.failures) (told_answers honest format old.files old.failures new.failures) old is command reply (record new { failures = old.failures }) step.step
+
+-- A fetch that was told twice, over any store and over an honest one, is one over a store.
+pub fetches_over : (honest : Type 0) (format : Format) (before after : ℕ) (old : LoadingWorld) (slot : ℕ) (fault : Option FetchFault) (new : LoadingWorld) → AnyFetches old slot fault new → (honest → Fetches format old slot fault new)
+    → (fault ≡ Some Store → before < after) → FetchesOver honest format before after old slot fault new
+fetches_over honest format before after old slot fault new any exact rose = record { given = turn fault any.filled (λ h. (exact h).filled) rose; rest = any.rest }
+  where
+    turn : (fault : Option FetchFault) → FillsOne is_of_read old.handles.heap slot any.bytes fault new.handles.heap → ((h : honest) → FillsOne is_of_device old.handles.heap slot (exact h).bytes fault new.handles.heap) → (fault ≡ Some Store → before < after)
+        → GivesRead Fills (MayFail honest before after) (IsOwnedSize old slot) (λ bytes. honest → IsImage format old slot bytes) old.handles.heap slot fault new.handles.heap
+    turn None f e rose = (any.bytes, any.image, (λ h. subst (IsImage format old slot) (same h) (exact h).image), f)
+      where
+        same : (h : honest) → (exact h).bytes ≡ any.bytes
+        same h = let both : ◌≡◌ {A = Option (List ℕ)} (Some (exact h).bytes) (Some any.bytes) = sym (ap bytes_in (filled_object old.handles.heap slot (exact h).bytes new.handles.heap (e h))) ∙ ap bytes_in (filled_object old.handles.heap slot any.bytes new.handles.heap f) in cc
+    turn (Some NoRoom) f e rose = (any.bytes, any.image, f)
+    turn (Some Store) f e rose = ((refl, (λ s. rose refl), λ h. refl), f.1)
+    turn (Some Damaged) f e rose = ((refl, (λ s. let d : Damaged ≡ Store = s in cc), λ h. absurd (false≢true (e h).0)), f.1)

@@ -99,10 +99,12 @@ may_go old new failures q (OfResources (FreeResource handle)) g = g
 may_go old new failures q command g = absurd g
 
 pub bystanders_law : (honest : Type 0) → StepBystandersLaw honest
-bystanders_law honest format old new command reply q is step there out = elim (family_spares old is q there (record new { failures = old.failures }) reply command (any_step honest format old new command reply is step) out) [ inl s ↦ inl s.0 | inr r ↦ inr (r.0, may_go old new old.failures q command r.1) ]
+bystanders_law honest format old new command reply q is step there out =
+    elim (family_spares old is q there (record new { failures = old.failures }) reply command (any_step honest format old new command reply is step) out) [ inl s ↦ inl s.0 | inr r ↦ inr (r.0, may_go old new old.failures q command r.1) ]
 
 pub pinned_law : (honest : Type 0) → StepPinnedLaw honest
-pinned_law honest format old new command reply q is step pinned out = elim (family_stands old is q (some (object_at old.handles.heap q) pinned) (record new { failures = old.failures }) reply pinned command (any_step honest format old new command reply is step) out) [ inl s ↦ inl s | inr r ↦ inr (r.0, may_go old new old.failures q command r.1) ]
+pinned_law honest format old new command reply q is step pinned out =
+    elim (family_stands old is q (some (object_at old.handles.heap q) pinned) (record new { failures = old.failures }) reply pinned command (any_step honest format old new command reply is step) out) [ inl s ↦ inl s | inr r ↦ inr (r.0, may_go old new old.failures q command r.1) ]
   where
     some : (p : Option Object) → IsSomeAnd p (λ o. is_pinned_object o ≡ true) → is_some p ≡ true
     some None h = absurd h

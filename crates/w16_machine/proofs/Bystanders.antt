@@ -1,10 +1,9 @@
 -- What each step spares, and so each step of a run.
-use Rattle.w16_machine.proofs.Common.{◌≡◌, ◌≢◌, ℕ, ◌⊎◌, inl, inr, true, List, [], ◌∷◌, Option, Some, None, IsSomeAnd, option_map, refl, sym, ap, ◌∙◌, subst, cases_Bool, cases_eq, Object, object_at, is_pinned_object}
-use Rattle.w16_machine.proofs.Common.{StandsStill, Table, Each-from_All, bytes_in, LoadingCommand, Format, Reply, Word, Done, bystanders_law, pinned_law, World, IsWorld, LocalHeap, heap_of, local_in, current_heap, segment_bytes}
-use Rattle.w16_machine.proofs.Common.{LocalCommand, LocalStep, DS, HasSameObjects, IsHeapKept, IsLocalKept, IsObjectKept, IsRewritten, KeepsRest, asks_for_room, but_bytes, may_move_named, IsCommand, Event, Step, Run}
-use Rattle.w16_machine.proofs.Common.{OfLoading, OfLocals, IsLocalAbout, IsLocalSpared, AllSpare, StepSparesLaw, RunSparesLaw, ◌<◌, is_some, bytes_at, Discardable, IsHeapLeft, IsLeftByGrowth, IsLengthened, KeepsRestLonger}
+use Rattle.w16_machine.proofs.Common.{◌≡◌, ◌≢◌, ℕ, ◌⊎◌, inl, inr, true, List, Option, Some, None, IsSomeAnd, option_map, refl, sym, ap, ◌∙◌, subst, cases_Bool, cases_eq, Object, object_at, is_pinned_object}
+use Rattle.w16_machine.proofs.Common.{StandsStill, Table, bytes_in, LoadingCommand, Format, Reply, Word, Done, bystanders_law, pinned_law, World, IsWorld, LocalHeap, heap_of, local_in, current_heap, segment_bytes}
+use Rattle.w16_machine.proofs.Common.{LocalCommand, LocalStep, DS, HasSameObjects, IsHeapKept, IsLocalKept, IsObjectKept, IsRewritten, KeepsRest, asks_for_room, but_bytes, may_move_named, Step}
+use Rattle.w16_machine.proofs.Common.{OfLoading, OfLocals, IsLocalAbout, IsLocalSpared, StepSparesLaw, RunSparesLaw, ◌<◌, is_some, bytes_at, Discardable, IsHeapLeft, IsLeftByGrowth, IsLengthened, KeepsRestLonger}
 use Rattle.w16_machine.proofs.Common.{length}
-use Rattle.std.specs.List.{AllByRecursion as Each}
 use Rattle.std.specs.FinMap as finmap
 use Rattle.w16_machine.specs.Bystanders.{IsSpared}
 use Rattle.w16_machine.proofs.LocalFacts.{IsThere, current_there, local_there, object_of, there_local, found}

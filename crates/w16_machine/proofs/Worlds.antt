@@ -1,7 +1,6 @@
 -- Each step, and so each run, keeps what holds of every world of the machine.
-use Rattle.w16_machine.proofs.Common.{◌≡◌, false, IfSome, IsSomeAnd, List, [], ◌∷◌, Option, sym, subst, nat_cmp, get-empty, is_code, Table, empty_law, Each-from_All, empty_of_files_law, code_law, World, empty_world}
-use Rattle.w16_machine.proofs.Common.{IsLocalIn, segment_bytes, IsCommand, Event, Step, Run, OfLoading, OfLocals, AreFewest, IsWorld, IsWorldOfFiles, EmptyLaw, WorldLaw, FilesLaw, RunWorldLaw, RunFilesLaw, FewestLaw}
-use Rattle.std.specs.List.{AllByRecursion as Each}
+use Rattle.w16_machine.proofs.Common.{◌≡◌, false, IfSome, IsSomeAnd, Option, sym, subst, nat_cmp, get-empty, is_code, Table, empty_law, empty_of_files_law, code_law, World, empty_world}
+use Rattle.w16_machine.proofs.Common.{IsLocalIn, segment_bytes, Step, OfLoading, OfLocals, IsWorld, IsWorldOfFiles, EmptyLaw, WorldLaw, FilesLaw, RunWorldLaw, RunFilesLaw, FewestLaw}
 use Rattle.w16_loading.proofs.Begun.{empty_law as empty_loading_law}
 use Rattle.w16_machine.proofs.Discards.{step_fewest}
 use Rattle.w16_machine.specs.Fewest.{IsFewest}
