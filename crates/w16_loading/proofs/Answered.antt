@@ -1,14 +1,16 @@
 -- Steps by answers: what they are by other answers, and over any store.
 use Rattle.w16_loading.proofs.Common.{◌≡◌, ℕ, zero, suc, ◌<◌, ◌≤◌, inl, inr, ◌⊎◌, Bool, true, false, cond, ◌==◌, List, [], ◌∷◌, length, Option, Some, None, MatchOption, MatchResult, IsSomeAnd, is_some, option_map, Result, Ok, Err, refl, sym}
-use Rattle.w16_loading.proofs.Common.{ap, ◌∙◌, subst, arith, and_parts, find, option_or, repeated, inserted_here, Heap, IsHeap, bytes_at, IsFreeSlot, Owned, owned_at, owned_in, selector_in, offset_in, FarAnswer, FarCommand, far_slot, Member, is_named, FIRST_MODULE}
+use Rattle.w16_loading.proofs.Common.{ap, ◌∙◌, subst, arith, and_parts, find, option_or, repeated, inserted_here, Heap, IsHeap, bytes_at, IsFreeSlot, Owned, owned_at, owned_in, selector_in, FarAnswer, far_slot, Member, is_named, FIRST_MODULE}
 use Rattle.w16_loading.proofs.Common.{FetchFault, Store, Damaged, NoRoom, Format, IsModuleFile, ModuleFile, Resource, LoadingWorld, Load, Named, name_of, handle_named, Reply, Giving, Fills}
 use Rattle.w16_loading.proofs.Common.{is_of_read, Closure, Reading, Referent, Found, around, begun, dll, with_bound, with_found, meant, Refused, Meant, Read, There, New, named, fills, Answer, LoadsNew, Fulfils, Refuses, refusal_of, used_again}
-use Rattle.w16_loading.proofs.Common.{Fetching, Accesses, is_not_present, needs_fetch, far_read, far_write, LoadsResource, LoadsNewResource, LocksResource, AnswersNone, is_too_long, resource_at, load_of, attributes_for, loaded_again, with_resource}
-use Rattle.w16_loading.proofs.Common.{slot_of_resource, LoadingCommand, ModuleCommand, ResourceCommand, Loading, FamilyStep, FarStep, OfFar, OfModules, OfResources, AnyFetches, GivesAny, IsLoadingWorld, IsRefusal}
+use Rattle.w16_loading.proofs.Common.{Fetching, Accesses, is_not_present, needs_fetch, LoadsResource, LoadsNewResource, LocksResource, AnswersNone, is_too_long, resource_at, load_of, attributes_for, loaded_again, with_resource}
+use Rattle.w16_loading.proofs.Common.{slot_of_resource, LoadingCommand, ModuleCommand, ResourceCommand, Loading, FamilyStep, OfFar, OfModules, OfResources, AnyFetches, GivesAny, IsLoadingWorld, IsRefusal}
 use Rattle.std.specs.FinMap as finmap
 use Rattle.std.specs.List.{AllByRecursion as Each}
 use Rattle.w16_model.proofs.Parts.{length-repeated}
 use Rattle.w16_loading.specs.Modules.{is_owned}
+use Rattle.w16_loading.specs.Families.{access_of}
+use Rattle.w16_loading.proofs.Common.{pointer_in}
 use Rattle.w16_loading.specs.Answers.{Answers, ClosesFrom, Ending, FetchesFrom, FetchesOver, GivesFrom, GivesRead, IsOwnedSize, LoadsFileFrom, LoadsFrom, MayFail, ReadsFile, RefusesFile, StepOver, follow, told}
 use Rattle.w16_loading.proofs.Common.{bytes_in, Fetches, FillsOne, is_of_device, IsImage, false≢true}
 use Rattle.w16_loading.proofs.Importers.{entry_there}
@@ -34,11 +36,6 @@ module _ (F G : Fetching) (L M : Loading) (old new : LoadingWorld) (reply : Repl
   locks handle = option_as (slot_of_resource old handle) (λ f. f)
       (λ x e. option_as (bytes_at old.handles.heap x.0) (λ f. (f.0, f.1, fetch x.0 f.0 f.1 (inr (x.1, resource_load old handle x e)) f.2, f.3)) (λ bytes some f. f))
 
-  far : (command : FarCommand) → FarStep F old command reply new → FarStep G old command reply new
-  far (FarCommand.Read pointer count) step = accesses (far_read (selector_in pointer) (offset_in pointer) count) (selector_in pointer) step
-  far (FarCommand.Write pointer bytes) step = accesses (far_write (selector_in pointer) (offset_in pointer) bytes) (selector_in pointer) step
-  far (FarCommand.Fill pointer count byte) step = accesses (far_write (selector_in pointer) (offset_in pointer) (repeated count byte)) (selector_in pointer) step
-
   module _ (made : (handle place slot : ℕ) (r : Resource) → IsFreeSlot old.handles slot → IsLoadable old handle place r → load_of old handle place ≡ None → (fault : Option FetchFault) (next : LoadingWorld)
       → F (with_resource old slot handle place r) slot fault next → G (with_resource old slot handle place r) slot fault next) (load : (b : Bool) (file : List ℕ) (answer : Answer) → L b old file answer new → M b old file answer new) where
     makes : (handle place : ℕ) → LoadsResource F old handle place reply new → LoadsResource G old handle place reply new
@@ -53,7 +50,7 @@ module _ (F G : Fetching) (L M : Loading) (old new : LoadingWorld) (reply : Repl
         by_load r at (Some x) e f = f
 
     pub turned : (command : LoadingCommand) → FamilyStep F L old command reply new → FamilyStep G M old command reply new
-    turned (OfFar command) f = far command f
+    turned (OfFar command) f = accesses (access_of command) (selector_in (pointer_in command)) f
     turned (OfModules (ModuleCommand.LoadModule file)) f = (f.0, f.1, load true file f.0 f.2)
     turned (OfModules (ModuleCommand.LoadLibrary file)) f = (f.0, f.1, load false file f.0 f.2)
     turned (OfResources (ResourceCommand.LoadResource handle place)) f = makes handle place f

@@ -1,8 +1,8 @@
 -- Over an honest store the code that a script reads is always its file's, relocated: after each step of each family.
-use Rattle.w16_loading.proofs.Common.{◌≡◌, ℕ, ◌+◌, inl, inr, List, [], ◌∷◌, Option, Some, None, Result, Ok, Err, sym, ap, ◌∙◌, subst, Heap, FetchFault, Format, Saying, ModuleFile, LoadingWorld, with_heap, Fills, FillsOne, Filling, Failure, InTurn}
-use Rattle.w16_loading.proofs.Common.{true, ◌⊎◌, is_of_device, GivesAny, IsOwnedSize, Fetches, Closure, around, dll, named, fills, Answer, Fulfils, after_use, undone, left, IsLoadingWorld, IsOfFiles, CodeLaw, file_of, with_resource}
+use Rattle.w16_loading.proofs.Common.{◌≡◌, ℕ, ◌+◌, inl, inr, List, [], ◌∷◌, Option, Some, None, Result, Ok, Err, sym, ap, subst, Heap, FetchFault, Format, Saying, ModuleFile, LoadingWorld, with_heap, Fills, FillsOne, Filling, Failure, InTurn}
+use Rattle.w16_loading.proofs.Common.{true, ◌⊎◌, is_of_device, GivesAny, Fetches, Closure, around, dll, named, fills, Answer, Fulfils, after_use, undone, left, IsLoadingWorld, IsOfFiles, CodeLaw, file_of, with_resource}
 use Rattle.w16_loading.specs.Answers.{Answers, FetchesFrom, GivesFrom, LoadsFrom, said_by, told}
-use Rattle.w16_loading.proofs.Fillings.{in_turn_as, read_outcome}
+use Rattle.w16_loading.proofs.Fillings.{in_turn_as, fetch_outcome}
 use Rattle.w16_loading.proofs.Readings.{read_by}
 use Rattle.w16_loading.proofs.Named.{named_heap}
 use Rattle.w16_loading.proofs.Answered.{given_any, loads_of, told_answers}
@@ -45,11 +45,10 @@ module _ (honest : Type 0) (truly : honest) (format : Format) (old : LoadingWorl
 
   -- a fetch is of the file's bytes, or nothing has changed
   pub file_fetch : (world : LoadingWorld) (slot : ℕ) (fault : Option FetchFault) (new : LoadingWorld) → FetchesFrom Fills answers world slot fault new → Fetches format world slot None new ⊎ (new ≡ world)
-  file_fetch world slot fault new f = turn (read_outcome world.handles.heap slot [] new.handles.heap answers.fails (IsOwnedSize world slot) (answers.gives world slot) fault f.given).1
-    where
-      turn : (new.handles.heap ≡ world.handles.heap) ⊎ ((read : List ℕ) × answers.gives world slot read × Fills world.handles.heap slot read true new.handles.heap) → Fetches format world slot None new ⊎ (new ≡ world)
-      turn (inl e) = inr (f.rest ∙ ap (with_heap world) e)
-      turn (inr (bytes, read, filled)) = inl (record { bytes = bytes; image = read truly; filled = filled; rest = f.rest })
+  file_fetch world slot fault new f = elim (fetch_outcome answers world slot fault new f).1 [
+    | inl e ↦ inr e
+    | inr (bytes, read, filled) ↦ inl (record { bytes = bytes; image = read truly; filled = filled; rest = f.rest })
+  ]
 
   parts : Parts (FetchesFrom Fills answers) (LoadsFrom Fills answers) (λ slice. Unit {0}) old Good
   parts = record {

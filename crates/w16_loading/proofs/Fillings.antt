@@ -4,7 +4,8 @@ use Rattle.w16_loading.proofs.Common.{Object, IsHeap, blocks, object_at, with_ne
 use Rattle.w16_loading.proofs.Common.{inserted_here, settled, others_law, kept_or_discarded, FetchFault, Giving, Fills, FillsOne, Filling, Failure, InTurn, asked_of, is_of_read, GivesAny, IsSized, bytes_at, bytes_in, sized_is}
 use Rattle.w16_loading.proofs.Common.{slots_for}
 use Rattle.std.specs.List.{AllByRecursion as Each}
-use Rattle.w16_loading.specs.Answers.{GivesRead}
+use Rattle.w16_loading.specs.Answers.{Answers, FetchesFrom, GivesRead, IsOwnedSize}
+use Rattle.w16_loading.proofs.Common.{LoadingWorld, with_heap}
 use Rattle.w16_loading.specs.declared.FetchFault.TheVariants as faults
 
 -- a request that is refused leaves the same heap
@@ -22,14 +23,6 @@ module _ (old : Heap) (slot : ℕ) (bytes : List ℕ) (new : Heap) where
   one_outcome may_fail (Some faults.NoRoom) f = let e : new ≡ old = refused old slot (asked_of old slot f.before bytes) new f.request in (λ t. e, inl e)
   one_outcome may_fail (Some faults.Store) f = (λ t. f.1, inl f.1)
   one_outcome may_fail (Some faults.Damaged) f = (λ t. f.1, inl f.1)
-
-  -- also where the bytes were read for it
-  pub read_outcome : (May : FetchFault → Type 0) (IsSized IsRead : List ℕ → Type 0) (fault : Option FetchFault) → GivesRead Fills May IsSized IsRead old slot fault new
-      → (is_some fault ≡ true → new ≡ old) × ((new ≡ old) ⊎ ((read : List ℕ) × IsRead read × Fills old slot read true new))
-  read_outcome May IsSized IsRead None (read, sized, is, f) = (λ t. absurd (false≢true t), inr (read, is, f))
-  read_outcome May IsSized IsRead (Some faults.NoRoom) (read, sized, f) = let e : new ≡ old = refused old slot (asked_of old slot f.before read) new f.request in (λ t. e, inl e)
-  read_outcome May IsSized IsRead (Some faults.Store) g = (λ t. g.1, inl g.1)
-  read_outcome May IsSized IsRead (Some faults.Damaged) g = (λ t. g.1, inl g.1)
 
   module _ (f : Fills old slot bytes true new) where
     pub settled_so : (k : ℕ) × (o : Object) × Settles old (stays_for slot revival_options) (with_ordered (discarded old k (Some slot)) slot o (with_newest slot o)) new
@@ -55,6 +48,21 @@ module _ (old : Heap) (slot : ℕ) (bytes : List ℕ) (new : Heap) where
       where
         same : Some slot ≡ Some q → q ≡ slot
         same e = let i : slot ≡ q = cc in sym i
+
+-- a fetch gives it bytes that were read for it, or nothing changes
+pub fetch_outcome : (answers : Answers) (old : LoadingWorld) (slot : ℕ) (fault : Option FetchFault) (new : LoadingWorld) → FetchesFrom Fills answers old slot fault new
+    → (is_some fault ≡ true → new ≡ old) × ((new ≡ old) ⊎ ((read : List ℕ) × answers.gives old slot read × Fills old.handles.heap slot read true new.handles.heap))
+fetch_outcome answers old slot fault new f = turn fault f.given
+  where
+    same : new.handles.heap ≡ old.handles.heap → new ≡ old
+    same e = f.rest ∙ ap (with_heap old) e
+
+    turn : (fault : Option FetchFault) → GivesRead Fills answers.fails (IsOwnedSize old slot) (answers.gives old slot) old.handles.heap slot fault new.handles.heap
+        → (is_some fault ≡ true → new ≡ old) × ((new ≡ old) ⊎ ((read : List ℕ) × answers.gives old slot read × Fills old.handles.heap slot read true new.handles.heap))
+    turn None (read, sized, is, g) = (λ t. absurd (false≢true t), inr (read, is, g))
+    turn (Some faults.NoRoom) (read, sized, g) = let e : new ≡ old = same (refused old.handles.heap slot (asked_of old.handles.heap slot g.before read) new.handles.heap g.request) in (λ t. e, inl e)
+    turn (Some faults.Store) g = (λ t. same g.1, inl (same g.1))
+    turn (Some faults.Damaged) g = (λ t. same g.1, inl (same g.1))
 
 -- What holds of one heap and the next where an object was filled, and of each heap and itself, holds of the first heap and the last.
 module _ (P : Heap → Heap → Type 0) (same : (h : Heap) → P h h) (then : (a b c : Heap) → P a b → P b c → P a c) where

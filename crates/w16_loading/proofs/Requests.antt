@@ -5,7 +5,9 @@ use Rattle.w16_loading.proofs.Common.{with_resource, IsLoadingWorld, AnyStepLaw,
 use Rattle.w16_loading.specs.Answers.{Answers, ClosesFrom, Ending, FetchesFrom, FillsFewest, GivesFrom, GivesRead, LoadsFileFrom, LoadsFrom, ReadsFile, StepOver, follow, told}
 use Rattle.w16_loading.specs.Fewest.{RequestsFewest}
 use Rattle.w16_loading.proofs.Fillings.{any_kept, in_turn_as}
-use Rattle.w16_loading.proofs.Cases.{option_as}
+use Rattle.w16_loading.proofs.Cases.{IsLoadable, option_as}
+use Rattle.w16_loading.proofs.Common.{named, Choice, IsChoice, IsFreeSlot, Resource, load_of}
+use Rattle.w16_loading.specs.Answers.{StepFrom}
 use Rattle.w16_loading.proofs.Fewest.{fill_fewest}
 use Rattle.w16_loading.proofs.Named.{named_heap}
 use Rattle.w16_loading.proofs.ResourceWorlds.{made_world}
@@ -64,8 +66,9 @@ module _ (a b : Answers) (within : IsWithin a b) where
       turn (Meant (New place)) h = h
       turn (Read read) (count, outcome, closes, h) = (count, outcome, closes_as (around old) count (begun file read) outcome closes, ended outcome h)
 
+-- Steps by such answers, whose requests end otherwise where heaps are so.
 module _ (E F : Ending) (Is : Heap → Type 0) (ends : (old : Heap) (slot : ℕ) (bytes : List ℕ) (answered : Bool) (new : Heap) → Is old → E old slot bytes answered new → F old slot bytes answered new) (a b : Answers) (within : IsWithin a b) where
-  gives_as : (Sized : List ℕ → Type 0) (P Q : List ℕ → Type 0) → ((bytes : List ℕ) → P bytes → Q bytes) → (old : Heap) (slot : ℕ) (fault : Option FetchFault) (new : Heap) → Is old → GivesRead E a.fails Sized P old slot fault new → GivesRead F b.fails Sized Q old slot fault new
+  gives_as : (Sized P Q : List ℕ → Type 0) → ((bytes : List ℕ) → P bytes → Q bytes) → (old : Heap) (slot : ℕ) (fault : Option FetchFault) (new : Heap) → Is old → GivesRead E a.fails Sized P old slot fault new → GivesRead F b.fails Sized Q old slot fault new
   gives_as Sized P Q read old slot None new is (bytes, sized, p, f) = (bytes, sized, read bytes p, ends old slot bytes true new is f)
   gives_as Sized P Q read old slot (Some NoRoom) new is (bytes, sized, f) = (bytes, sized, ends old slot bytes false new is f)
   gives_as Sized P Q read old slot (Some Store) new is g = (within.fails Store g.0, g.1)
@@ -74,9 +77,21 @@ module _ (E F : Ending) (Is : Heap → Type 0) (ends : (old : Heap) (slot : ℕ)
   fetch_as : (old : LoadingWorld) → Is old.handles.heap → (slot : ℕ) (fault : Option FetchFault) (new : LoadingWorld) → FetchesFrom E a old slot fault new → FetchesFrom F b old slot fault new
   fetch_as old is slot fault new f = record { given = gives_as _ (a.gives old slot) (b.gives old slot) (within.gives old slot) old.handles.heap slot fault new.handles.heap is f.given; rest = f.rest }
 
-  given_as : ((old : Heap) (slot : ℕ) (held : List ℕ) (fault : Option FetchFault) (new : Heap) → Is old → GivesFrom E a old slot held fault new → Is new)
-      → (old : Heap) (slot : ℕ) (held : List ℕ) (fault : Option FetchFault) (new : Heap) → Is old → GivesFrom E a old slot held fault new → GivesFrom F b old slot held fault new × Is new
-  given_as next old slot held fault new is f = (gives_as _ (a.again held) (b.again held) (within.again held) old slot fault new is f, next old slot held fault new is f)
+  step_as : ((old : Heap) (slot : ℕ) (held : List ℕ) (fault : Option FetchFault) (new : Heap) → Is old → GivesFrom E a old slot held fault new → Is new)
+      → (old new : LoadingWorld) (command : LoadingCommand) (reply : Reply) → Is old.handles.heap
+      → ((slot handle place : ℕ) (r : Resource) → IsFreeSlot old.handles slot → IsLoadable old handle place r → load_of old handle place ≡ None → Is (with_resource old slot handle place r).handles.heap)
+      → ((closure : Closure) (choice : Choice) → IsChoice old closure.found choice → Is (named old closure choice).handles.heap)
+      → StepFrom E a old command reply new → StepFrom F b old command reply new
+  step_as next old new command reply is made chosen step = record {
+    counted = step.counted;
+    files = step.files;
+    step = turned (FetchesFrom E a) (FetchesFrom F b) (LoadsFrom E a) (LoadsFrom F b) old (record new { failures = old.failures }) reply
+        (λ slot fault next may f. fetch_as old is slot fault next f)
+        (λ handle place slot r free at none fault next f. fetch_as (with_resource old slot handle place r) (made slot handle place r free at none) slot fault next f)
+        (λ load file answer f. loads_as a b within E F old (λ closure answer new h. fulfils_as (GivesFrom E a) (GivesFrom F b) Is
+        (λ old slot held fault new is f. (gives_as _ (a.again held) (b.again held) (within.again held) old slot fault new is f, next old slot held fault new is f)) old closure answer new h (chosen closure h.choice h.is_choice))
+        load file answer (record new { failures = old.failures }) f) command step.step;
+  }
 
 -- what is told where the store is honest is told where nothing is known of it
 told_within : (honest : Type 0) (format other : Format) (files : List (List ℕ × List ℕ)) (before after : ℕ) → IsWithin (told honest format files before after) (told ⊥ other files before after)
@@ -90,43 +105,16 @@ told_within honest format other files before after = record {
 }
 
 pub any_step_law : (honest : Type 0) → AnyStepLaw honest
-any_step_law honest format other old new command reply step =
-    let a : Answers = told honest format old.files old.failures new.failures in
-    let b : Answers = told ⊥ other old.files old.failures new.failures in
-    let within : IsWithin a b = told_within honest format other old.files old.failures new.failures in
-    let Any : Heap → Type 0 = λ heap. Unit {0} in
-    let ends : (old : Heap) (slot : ℕ) (bytes : List ℕ) (answered : Bool) (new : Heap) → Any old → Fills old slot bytes answered new → Fills old slot bytes answered new = λ old slot bytes answered new is f. f in
-    record {
-      counted = step.counted;
-      files = step.files;
-      step = turned (FetchesFrom Fills a) (FetchesFrom Fills b) (LoadsFrom Fills a) (LoadsFrom Fills b) old (record new { failures = old.failures }) reply
-          (λ slot fault next may f. fetch_as Fills Fills Any ends a b within old tt slot fault next f)
-          (λ handle place slot r free at none fault next f. fetch_as Fills Fills Any ends a b within (with_resource old slot handle place r) tt slot fault next f)
-          (λ load file answer f. loads_as a b within Fills Fills old
-          (λ closure answer new h. fulfils_as (GivesFrom Fills a) (GivesFrom Fills b) Any (given_as Fills Fills Any ends a b within (λ old slot held fault new is f. tt)) old closure answer new h tt)
-          load file answer (record new { failures = old.failures }) f) command step.step;
-    }
-
-fewest : (old : Heap) (slot : ℕ) (bytes : List ℕ) (answered : Bool) (new : Heap) → IsHeap old → Fills old slot bytes answered new → FillsFewest old slot bytes answered new
-fewest old slot bytes answered new is f = (f, fill_fewest old slot bytes answered new is f)
-
-same_answers : (a : Answers) → IsWithin a a
-same_answers a = record { says = λ name said s. s; sound = λ name t sound s. s; holds = λ name read h. h; again = λ held read h. h; gives = λ world slot bytes h. h; fails = λ fault h. h }
+any_step_law honest format other old new command reply = step_as Fills Fills (λ heap. Unit {0}) (λ old slot bytes answered new is f. f) (told honest format old.files old.failures new.failures) (told ⊥ other old.files old.failures new.failures)
+    (told_within honest format other old.files old.failures new.failures) (λ old slot held fault new is f. tt) old new command reply tt (λ slot handle place r free at none. tt) (λ closure choice is. tt)
 
 pub requests_fewest_law : (honest : Type 0) → RequestsFewestLaw honest
-requests_fewest_law honest format old new command reply is step =
+requests_fewest_law honest format old new command reply is =
     let a : Answers = told honest format old.files old.failures new.failures in
-    record {
-      counted = step.counted;
-      files = step.files;
-      step = turned (FetchesFrom Fills a) (FetchesFrom FillsFewest a) (LoadsFrom Fills a) (LoadsFrom FillsFewest a) old (record new { failures = old.failures }) reply
-          (λ slot fault next may f. fetch_as Fills FillsFewest IsHeap fewest a a (same_answers a) old is.handles.heap slot fault next f)
-          (λ handle place slot r free at none fault next f. fetch_as Fills FillsFewest IsHeap fewest a a (same_answers a) (with_resource old slot handle place r) (made_world old is slot free handle place r at.0 at.1 none).handles.heap slot fault next f)
-          (λ load file answer f. loads_as a a (same_answers a) Fills FillsFewest old
-          (λ closure answer new h. fulfils_as (GivesFrom Fills a) (GivesFrom FillsFewest a) IsHeap
-          (given_as Fills FillsFewest IsHeap fewest a a (same_answers a) (λ old slot held fault new is f. (given_any a old slot held fault new is f).1)) old closure answer new h (named_heap old closure h.choice is.handles h.is_choice))
-          load file answer (record new { failures = old.failures }) f) command step.step;
-    }
+    step_as Fills FillsFewest IsHeap (λ old slot bytes answered new is f. (f, fill_fewest old slot bytes answered new is f)) a a
+    (record { says = λ name said s. s; sound = λ name t sound s. s; holds = λ name read h. h; again = λ held read h. h; gives = λ world slot bytes h. h; fails = λ fault h. h })
+    (λ old slot held fault new is f. (given_any a old slot held fault new is f).1) old new command reply is.handles.heap
+    (λ slot handle place r free at none. (made_world old is slot free handle place r at.0 at.1 none).handles.heap) (λ closure choice good. named_heap old closure choice is.handles good)
 
 pub any_requests_fewest : (honest : Type 0) (format : Format) (old new : LoadingWorld) (command : LoadingCommand) (reply : Reply) → IsLoadingWorld old → StepOver honest format old command reply new → RequestsFewest old command reply new
 any_requests_fewest honest format old new command reply is step other = requests_fewest_law ⊥ other old new command reply is (any_step_law honest format other old new command reply step)

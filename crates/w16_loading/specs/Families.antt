@@ -4,7 +4,8 @@ use Rattle.std.specs.FinMap as finmap
 use Rattle.w16_model.specs.Handles.{Handles, selector_in, offset_in, dword_of}
 use Rattle.w16_model.specs.Bytes.{repeated}
 use Rattle.w16_model.specs.Calls.{HandleCommand}
-use Rattle.w16_model.specs.Far.{FarCommand, IsFarCommand}
+use Rattle.w16_model.specs.Effects.{pointer_in}
+use Rattle.w16_model.specs.Far.{FarAnswer, FarCommand, IsFarCommand}
 use Rattle.w16_model.specs.Far.FarCommand.{Read, Write, Fill}
 use Rattle.w16_loading.specs.Replies as replies
 use Rattle.w16_loading.specs.Replies.{HandleReplies, ResizeReplies}
@@ -67,16 +68,17 @@ HandleStep old command reply new = (next : Handles) × HandleReplies old.handles
 abbrev pub ResizesStep : LoadingWorld → ResizeCommand → Reply → LoadingWorld → Type 0
 ResizesStep old command reply new = (next : Handles) × ResizeReplies old.handles command reply next × (new ≡ record old { handles = next })
 
+abbrev pub access_of : FarCommand → LoadingWorld → FarAnswer × LoadingWorld
+access_of (Read pointer count) old = far_read (selector_in pointer) (offset_in pointer) count old
+access_of (Write pointer bytes) old = far_write (selector_in pointer) (offset_in pointer) bytes old
+access_of (Fill pointer count byte) old = far_write (selector_in pointer) (offset_in pointer) (repeated count byte) old
+
 abbrev pub FarStep : Fetching → LoadingWorld → FarCommand → Reply → LoadingWorld → Type 0
-FarStep fetches old (Read pointer count) reply new = Accesses fetches (far_read (selector_in pointer) (offset_in pointer) count) old (selector_in pointer) reply new
-FarStep fetches old (Write pointer bytes) reply new = Accesses fetches (far_write (selector_in pointer) (offset_in pointer) bytes) old (selector_in pointer) reply new
-FarStep fetches old (Fill pointer count byte) reply new = Accesses fetches (far_write (selector_in pointer) (offset_in pointer) (repeated count byte)) old (selector_in pointer) reply new
+FarStep fetches old command reply new = Accesses fetches (access_of command) old (selector_in (pointer_in command)) reply new
 
 -- whether it meets a module's object without bytes, and fetches it
 abbrev pub far_reads_file : LoadingWorld → FarCommand → Bool
-far_reads_file old (Read pointer count) = needs_fetch (far_read (selector_in pointer) (offset_in pointer) count old).0 old (selector_in pointer)
-far_reads_file old (Write pointer bytes) = needs_fetch (far_write (selector_in pointer) (offset_in pointer) bytes old).0 old (selector_in pointer)
-far_reads_file old (Fill pointer count byte) = needs_fetch (far_write (selector_in pointer) (offset_in pointer) (repeated count byte) old).0 old (selector_in pointer)
+far_reads_file old command = needs_fetch (access_of command old).0 old (selector_in (pointer_in command))
 
 -- Builtin: the handle of a built-in, the same for the same name; 0 where a loaded module has the name or no handle is free
 abbrev pub AddsBuiltIn : LoadingWorld → List ℕ → ℕ → LoadingWorld → Type 0

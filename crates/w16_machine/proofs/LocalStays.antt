@@ -7,7 +7,8 @@ use Rattle.w16_machine.proofs.Common.{modules_may_take, resources_may_take, ◌�
 use Rattle.w16_machine.proofs.Common.{size_at}
 use Rattle.std.specs.FinMap as finmap
 use Rattle.w16_loading.specs.Families as families
-use Rattle.w16_loading.specs.Families.{Loading, far_reads_file}
+use Rattle.w16_loading.specs.Families.{Loading, access_of, far_reads_file}
+use Rattle.w16_model.specs.Effects.{pointer_in}
 use Rattle.w16_loading.specs.Fetch.{Fetching}
 use Rattle.w16_loading.proofs.Cases.{by_option}
 use Rattle.w16_machine.proofs.LocalFrame.{frame_law}
@@ -28,12 +29,12 @@ module _ (fetches : Fetching) (loads : Loading) (old new : LoadingWorld) (reply 
   unchanged e = same_world old (λ q. refl) e
 
   far_sizes : (command : FarCommand) → far_reads_file old command ≡ false → families.FarStep fetches old command reply new → HasSameSizes old.handles new.handles
-  far_sizes (Read pointer count) none step = same_world (far_read (selector_in pointer) (offset_in pointer) count old).1 (read_same old.handles (selector_in pointer) (offset_in pointer) count)
-      (once fetches (far_read (selector_in pointer) (offset_in pointer) count) old new (selector_in pointer) reply none step)
-  far_sizes (Write pointer bytes) none step = same_world (far_write (selector_in pointer) (offset_in pointer) bytes old).1 (write_same old.handles (selector_in pointer) (offset_in pointer) bytes)
-      (once fetches (far_write (selector_in pointer) (offset_in pointer) bytes) old new (selector_in pointer) reply none step)
-  far_sizes (Fill pointer count byte) none step = same_world (far_write (selector_in pointer) (offset_in pointer) (repeated count byte) old).1 (write_same old.handles (selector_in pointer) (offset_in pointer) (repeated count byte))
-      (once fetches (far_write (selector_in pointer) (offset_in pointer) (repeated count byte)) old new (selector_in pointer) reply none step)
+  far_sizes command none step = same_world (access_of command old).1 (by command) (once fetches (access_of command) old new (selector_in (pointer_in command)) reply none step)
+    where
+      by : (command : FarCommand) → HasSameSizes old.handles (access_of command old).1.handles
+      by (Read pointer count) = read_same old.handles (selector_in pointer) (offset_in pointer) count
+      by (Write pointer bytes) = write_same old.handles (selector_in pointer) (offset_in pointer) bytes
+      by (Fill pointer count byte) = write_same old.handles (selector_in pointer) (offset_in pointer) (repeated count byte)
 
   built_in_sizes : (name : List ℕ) (answer : ℕ) → families.GivesBuiltIn old name answer new → HasSameSizes old.handles new.handles
   built_in_sizes name answer step = elim (by_option (handle_named old.modules name) step) [

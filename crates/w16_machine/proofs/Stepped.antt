@@ -4,7 +4,8 @@ use Rattle.w16_machine.proofs.Common.{offset_in, ResizesStep, FamilyStep, Loadin
 use Rattle.w16_machine.proofs.Common.{far_read, far_write, gives, reply_of_far, Format, LoadingWorld, with_handles, Reply, HandleReplies, ResizeReplies, FarReplies, Done, ResizeCommand, OnHandles}
 use Rattle.w16_loading.proofs.Cases.{by_bool}
 use Rattle.w16_model.specs.Far as far
-use Rattle.w16_loading.specs.Families.{HandleStep, FarStep, Loading, far_reads_file}
+use Rattle.w16_loading.specs.Families.{HandleStep, FarStep, Loading, access_of, far_reads_file}
+use Rattle.w16_model.specs.Effects.{pointer_in}
 use Rattle.w16_loading.specs.Fetch.{Fetching}
 use Rattle.w16_loading.specs.Fill.{Fills}
 use Rattle.w16_loading.specs.Answers.{FetchesFrom, LoadsFrom, StepOver, told}
@@ -46,15 +47,14 @@ replied h next command (Fault fault) s = (FarAnswer.Fault fault, refl, s)
 replied h next command reply s = absurd s
 
 far_step : (fetches : Fetching) (old : LoadingWorld) (next : Handles) (command : FarCommand) (reply : Reply) → far_reads_file old command ≡ false → FarReplies old.handles command reply next → FarStep fetches old command reply (with_handles old next)
-far_step fetches old next (Read pointer count) reply none s =
-    let r : (answer : FarAnswer) × (reply ≡ reply_of_far answer) × far.FarStep old.handles (Read pointer count) answer next = replied old.handles next (Read pointer count) reply s in
-    accessed fetches (far_read (selector_in pointer) (offset_in pointer) count) old (with_handles old next) (selector_in pointer) reply none (r.1 ∙ ap reply_of_far r.2.0, ap (with_handles old) r.2.1)
-far_step fetches old next (Write pointer bytes) reply none s =
-    let r : (answer : FarAnswer) × (reply ≡ reply_of_far answer) × far.FarStep old.handles (Write pointer bytes) answer next = replied old.handles next (Write pointer bytes) reply s in
-    accessed fetches (far_write (selector_in pointer) (offset_in pointer) bytes) old (with_handles old next) (selector_in pointer) reply none (r.1 ∙ ap reply_of_far r.2.0, ap (with_handles old) r.2.1)
-far_step fetches old next (Fill pointer count byte) reply none s =
-    let r : (answer : FarAnswer) × (reply ≡ reply_of_far answer) × far.FarStep old.handles (Fill pointer count byte) answer next = replied old.handles next (Fill pointer count byte) reply s in
-    accessed fetches (far_write (selector_in pointer) (offset_in pointer) (repeated count byte)) old (with_handles old next) (selector_in pointer) reply none (r.1 ∙ ap reply_of_far r.2.0, ap (with_handles old) r.2.1)
+far_step fetches old next command reply none s =
+    let r : (answer : FarAnswer) × (reply ≡ reply_of_far answer) × far.FarStep old.handles command answer next = replied old.handles next command reply s in
+    accessed fetches (access_of command) old (with_handles old next) (selector_in (pointer_in command)) reply none (by command r.0 r.1 r.2)
+  where
+    by : (command : FarCommand) (answer : FarAnswer) → reply ≡ reply_of_far answer → far.FarStep old.handles command answer next → gives (access_of command old) reply (with_handles old next)
+    by (Read pointer count) answer e s = (e ∙ ap reply_of_far s.0, ap (with_handles old) s.1)
+    by (Write pointer bytes) answer e s = (e ∙ ap reply_of_far s.0, ap (with_handles old) s.1)
+    by (Fill pointer count byte) answer e s = (e ∙ ap reply_of_far s.0, ap (with_handles old) s.1)
 
 -- what is done on handles alone, and fetches nothing, is a step
 abbrev pub FetchesNothing : LoadingWorld → LoadingCommand → Type 0
