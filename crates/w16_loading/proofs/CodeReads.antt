@@ -56,9 +56,9 @@ read_bytes format world selector offset n slot handle number m bytes code segmen
 pub code_reads_law : (honest : Type 0) → CodeReadsLaw honest
 code_reads_law honest format old later pointer count bytes slot handle number m truly is of over named segment coded =
     elim (access_cases (FetchesFrom Fills answers) old (replies.Reply.Bytes bytes) new (far_read (selector_in pointer) (offset_in pointer) count) (selector_in pointer) over.step) [
-  | inl (fault, next, f, g) ↦ fetched fault next f g
-  | inr g ↦ read_bytes format old (selector_in pointer) (offset_in pointer) count slot handle number m bytes of.code segment coded (first_part old.handles is.handles (selector_in pointer) slot named) g.0
-]
+      | inl (fault, next, f, g) ↦ fetched fault next f g
+      | inr g ↦ read_bytes format old (selector_in pointer) (offset_in pointer) count slot handle number m bytes of.code segment coded (first_part old.handles is.handles (selector_in pointer) slot named) g.0
+    ]
   where
     new : LoadingWorld
     new = record later { failures = old.failures }

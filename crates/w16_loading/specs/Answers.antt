@@ -82,7 +82,7 @@ follow closure place name (Refused answer) = Err (if answer == 0 then 0 else 20)
 follow closure place name (Meant referent) = Ok (with_bound closure place referent)
 follow closure place name (Read read) = Ok (with_bound (with_found closure (dll name) read) place (New (length closure.found)))
 
--- So many references are followed, each by what is there or by what its file says then, and none is left; or the last is refused.
+-- That many references are followed, each by what is there or by what its file says then, and none is left; or the last is refused.
 abbrev pub ClosesFrom : Answers → Around → ℕ → Closure → Result Closure ℕ → Type 0
 ClosesFrom answers a zero closure outcome = (closure.pending ≡ []) × (outcome ≡ Ok closure)
 ClosesFrom answers a (suc n) closure outcome =

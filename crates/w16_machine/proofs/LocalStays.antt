@@ -2,7 +2,7 @@
 use Rattle.w16_machine.proofs.Common.{◌≡◌, ℕ, false, inl, inr, List, length, Option, Some, None, option_map, IsSomeAnd, refl, sym, ap, subst, false≢true, repeated, Handles, selector_in, offset_in, HandleCommand}
 use Rattle.w16_machine.proofs.Common.{Answer, HandleStep, KeepsContents, FarCommand, Read, Write, Fill, Calls, contents, call_outcome, ModuleCommand, ResourceCommand, ModuleStep, ResourceStep}
 use Rattle.w16_machine.proofs.Common.{OfHandles, OfResizes, OfFar, OfModules, OfResources, Builtin, GetModuleHandle, GetModuleUsage, GetProcAddress, FindResource}
-use Rattle.w16_machine.proofs.Common.{SizeofResource, far_read, far_write, LoadingWorld, handle_named, BuiltIn, Reply, answer_in, HasSameSizes, SizesLaw, HeapsLaw, call_may_take}
+use Rattle.w16_machine.proofs.Common.{SizeofResource, LoadingWorld, handle_named, BuiltIn, Reply, answer_in, HasSameSizes, SizesLaw, HeapsLaw, call_may_take}
 use Rattle.w16_machine.proofs.Common.{modules_may_take, resources_may_take, ◌⊎◌, ◌∙◌, Object, bytes_in, object_at, LocalHeap, current_heap, IsObjectKept, IsRewritten, IsSameOutside, KeepsRest, KeepsRestLonger, LocalSizesLaw}
 use Rattle.w16_machine.proofs.Common.{size_at}
 use Rattle.std.specs.FinMap as finmap

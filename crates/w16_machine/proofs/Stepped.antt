@@ -1,7 +1,7 @@
 -- Steps that read no file: calls on handles, which leave the rest of the world, and far accesses that fetch nothing.
-use Rattle.w16_machine.proofs.Common.{false≢true, inl, inr, ◌≡◌, ℕ, false, refl, sym, ap, ◌∙◌, subst, arith, repeated, HandleCommand, FarAnswer, FarCommand, Read, Write, Fill, Handles, selector_in}
-use Rattle.w16_machine.proofs.Common.{offset_in, ResizesStep, FamilyStep, LoadingCommand, OfHandles, OfResizes, OfFar, OfModules, OfResources, Accesses, needs_fetch}
-use Rattle.w16_machine.proofs.Common.{far_read, far_write, gives, reply_of_far, Format, LoadingWorld, with_handles, Reply, HandleReplies, ResizeReplies, FarReplies, Done, ResizeCommand, OnHandles}
+use Rattle.w16_machine.proofs.Common.{false≢true, inl, inr, ◌≡◌, ℕ, false, refl, sym, ap, ◌∙◌, subst, arith, HandleCommand, FarAnswer, FarCommand, Read, Write, Fill, Handles, selector_in}
+use Rattle.w16_machine.proofs.Common.{ResizesStep, FamilyStep, LoadingCommand, OfHandles, OfResizes, OfFar, OfModules, OfResources, Accesses, needs_fetch}
+use Rattle.w16_machine.proofs.Common.{gives, reply_of_far, Format, LoadingWorld, with_handles, Reply, HandleReplies, ResizeReplies, FarReplies, Done, ResizeCommand, OnHandles}
 use Rattle.w16_loading.proofs.Cases.{by_bool}
 use Rattle.w16_model.specs.Far as far
 use Rattle.w16_loading.specs.Families.{HandleStep, FarStep, Loading, access_of, far_reads_file}
