@@ -1,13 +1,13 @@
 -- A load gives code the bytes that its files say, and leaves all other code as it was.
-use Rattle.w16_loading.proofs.Common.{◌≡◌, ◌≢◌, ℕ, ◌-◌, ◌<◌, inl, inr, ◌⊎◌, true, false, cond, ◌&&◌, List, [], ◌∷◌, ◌++◌, length, fold, map, slice_get, slice_index_or, Option, Some, None, IfSome, IsSomeAnd, is_some, option_map, unwrap_or, refl}
+use Rattle.w16_loading.proofs.Common.{◌≡◌, ◌≢◌, ℕ, ◌-◌, ◌<◌, inl, inr, ◌⊎◌, true, false, cond, ◌&&◌, List, [], ◌∷◌, ◌++◌, length, fold, map, slice_get, slice_index_or, Option, Some, None, IfSome, IsSomeAnd, is_some, option_map, unwrap_or, Ok, MatchResult, refl}
 use Rattle.w16_loading.proofs.Common.{sym, ap, ◌∙◌, subst, arith, ne_eqb, AllZip, list_all, false≢true, cases_eq, length-map, Heap, bytes_at, Member, EachPair, Each-at, EachPair-from_AllPairs, inserted_here, inserted_other, bytes_in, Saying, Format, ModuleFile, Segment}
-use Rattle.w16_loading.proofs.Common.{SegmentData, Far, Target, targets_of, numbered, Owned, LoadingWorld, Module, IsSegmentOf, module_at, with_heap, FillsOne, Filling, InTurn, is_of_device, Around, Closure, Found, are_sound}
-use Rattle.w16_loading.proofs.Common.{around, Choice, IsChoice, Given, all_slots, given, segments_of, with_segment, bound, named, fills, read_of, segment_bytes, is_code, IsLoadingWorld, CodeIsItsFiles, IsItsFiles, ModulesAreItsFiles, IsOfFiles, unused_slot}
+use Rattle.w16_loading.proofs.Common.{SegmentData, Far, Target, targets_of, numbered, Owned, LoadingWorld, Module, IsSegmentOf, module_at, with_heap, FillsOne, Filling, InTurn, is_of_device, Around, Closure, Found, reading, are_sound, followed, after, begun, dll}
+use Rattle.w16_loading.proofs.Common.{around, Read, Choice, IsChoice, Given, all_slots, given, segments_of, with_segment, bound, named, fills, read_of, segment_bytes, is_code, IsLoadingWorld, CodeIsItsFiles, IsItsFiles, ModulesAreItsFiles, IsOfFiles, unused_slot}
 use Rattle.std.specs.List.{AllByRecursion as Each}
 use Rattle.w16_loading.proofs.Undone.{chosen, fold_named, same_owned}
 use Rattle.w16_loading.proofs.Named.{named_heap, free_slot}
 use Rattle.w16_loading.proofs.Given.{place_member, one_place, index_place, given_found, given_slot, given_slots_differ, one_given, new_or_old, IsFilledBy, filled_by, filled_chosen}
-use Rattle.w16_loading.proofs.Readings.{read_by}
+use Rattle.w16_loading.proofs.Readings.{read_by, IsRead, reading_is, follow_cases, after_keeps}
 use Rattle.w16_loading.proofs.KeptCode.{IsFilled, image_of, read_in, fills_bytes}
 use Rattle.w16_loading.proofs.Owners.{segment_object}
 
@@ -23,6 +23,18 @@ module _ (says : Saying) (a : Around) where
   pub each_more : (xs ys : List Found) → Each IsOfFile xs → Each IsOfFile ys → Each IsOfFile (xs ++ ys)
   each_more [] ys h k = k
   each_more (x ∷ xs) ys h k = (h.0, each_more xs ys h.1 k)
+
+  next_of : (closure : Closure) (rest : List (ℕ × List ℕ)) (place : ℕ) (name : List ℕ) → AreOfFiles closure → MatchResult (followed says a (record closure { pending = rest }) place name) AreOfFiles (λ _. Unit {0})
+  next_of closure rest place name h = follow_cases says a (λ r. MatchResult r AreOfFiles (λ _. Unit {0})) (record closure { pending = rest }) place name (λ referent. h) (λ b. tt)
+      (λ read r. each_more closure.found (record { file = dll name; read = read } ∷ []) h ((r.is_file, r.sound), tt))
+
+  -- the file asked for
+  of_file : (file : List ℕ) (read : ModuleFile) → reading says a [] file ≡ Read read → IsOfFile (record { file = file; read = read })
+  of_file file read e = let r : IsRead says a [] file read = reading_is says a [] file read e in (r.is_file, r.sound)
+
+  -- and so is each that a closure found
+  pub found_of_files : (file : List ℕ) (read : ModuleFile) (closure : Closure) (n : ℕ) → reading says a [] file ≡ Read read → after says a n (begun file read) ≡ Ok closure → AreOfFiles closure
+  found_of_files file read closure n e f = subst (λ r. MatchResult r AreOfFiles (λ _. Unit {0})) f (after_keeps says a AreOfFiles (λ _. Unit {0}) next_of n (begun file read) (of_file file read e, tt))
 
 -- What names leave.
 

@@ -1,5 +1,5 @@
 -- What a load reads and follows, by cases.
-use Rattle.w16_loading.proofs.Common.{◌≡◌, ℕ, ◌<◌, ◌==◌, Bool, true, false, cond, nat_lt, List, [], ◌∷◌, length, Option, Some, None, Result, Ok, Err, refl, ap, ◌∙◌, arith}
+use Rattle.w16_loading.proofs.Common.{◌≡◌, ℕ, zero, suc, ◌<◌, ◌==◌, Bool, true, false, cond, nat_lt, List, [], ◌∷◌, length, Option, Some, None, MatchResult, Result, Ok, Err, refl, ap, ◌∙◌, subst, arith}
 use Rattle.w16_loading.proofs.Common.{ltb-true, Saying, ModuleFile, Around, Closure, Found, Reading, Referent, reading, meant, are_sound, followed, after, dll, with_bound, with_found, Refused, Meant, Read}
 use Rattle.w16_loading.proofs.Common.{New}
 
@@ -55,6 +55,19 @@ module _ (says : Saying) (a : Around) where
         by_file None at = refused 2 (omega arith)
         by_file (Some bytes) at = by_format bytes at (says bytes) refl
 
+  pub reading_is : (found : List Found) (file : List ℕ) (read : ModuleFile) → reading says a found file ≡ Read read → IsRead found file read
+  reading_is found file read = read_cases (λ r. r ≡ Read read → IsRead found file read) found file (λ answer lt e. not_refused answer e) (λ bytes answer f e. not_refused answer e) (λ x referent f e. not_meant referent e)
+      (λ x r e. subst (IsRead found file) (same x e) r)
+    where
+      same : (x : ModuleFile) → Read x ≡ Read read → x ≡ read
+      same x e = cc
+
+      not_refused : {A : Type 0} (answer : ℕ) → Refused answer ≡ Read read → A
+      not_refused answer e = cc
+
+      not_meant : {A : Type 0} (referent : Referent) → Meant referent ≡ Read read → A
+      not_meant referent e = cc
+
   -- what a reference leaves: it means what is there, or it is refused, or a module is new
   module _ (P : Result Closure ℕ → Type 0) (closure : Closure) (place : ℕ) (name : List ℕ) (there : (referent : Referent) → P (Ok (with_bound closure place referent))) (refused : (b : Bool) → P (Err (cond b 0 20)))
       (new : (read : ModuleFile) → IsRead closure.found (dll name) read → P (Ok (with_bound (with_found closure (dll name) read) place (New (length closure.found))))) where
@@ -81,3 +94,17 @@ module _ (says : Saying) (a : Around) where
 
   abbrev pub from_list : ℕ → Closure → List (ℕ × List ℕ) → Result Closure ℕ
   from_list n closure p = elim p [ [] ↦ Ok closure | (x ∷ rest) ↦ from_next n (followed says a (record closure { pending = rest }) x.0 x.1) ]
+
+  -- what each reference keeps, all keep
+  pub after_keeps : (P : Closure → Type 0) (E : ℕ → Type 0) → ((closure : Closure) (rest : List (ℕ × List ℕ)) (place : ℕ) (name : List ℕ) → P closure → MatchResult (followed says a (record closure { pending = rest }) place name) P E)
+      → (n : ℕ) (closure : Closure) → P closure → MatchResult (after says a n closure) P E
+  after_keeps P E step zero closure h = h
+  after_keeps P E step (suc n) closure h = by_list (λ next k. after_keeps P E step n next k) closure.pending
+    where
+      by_next : ((next : Closure) → P next → MatchResult (after says a n next) P E) → (r : Result Closure ℕ) → MatchResult r P E → MatchResult (from_next n r) P E
+      by_next more (Ok next) k = more next k
+      by_next more (Err answer) k = k
+
+      by_list : ((next : Closure) → P next → MatchResult (after says a n next) P E) → (p : List (ℕ × List ℕ)) → MatchResult (from_list n closure p) P E
+      by_list more [] = h
+      by_list more (x ∷ rest) = by_next more (followed says a (record closure { pending = rest }) x.0 x.1) (step closure rest x.0 x.1 h)
