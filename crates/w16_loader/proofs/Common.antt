@@ -26,6 +26,7 @@ pub use Rattle.w16_format.proofs.Relocated.{is_relocated, words_same}
 pub use Rattle.w16_format.specs.Data.{target_of}
 pub use Rattle.w16_global.proofs.Common.{Global, IfNone, Lends, OnOk, cases_lt, common_steps, get-by_id, le-ltb, length-repeated, without_slot}
 pub use Rattle.w16_global.specs.Owned.{HasNoSlot, LacksBytes}
+pub use Rattle.w16_loader.specs.Answering.{AreAccepted, AreHeld, ClosesOf, ClosesTo, IsAccepted, IsClosureBy, IsNewIn, IsRefusedFile, IsRefusedName, LeadsBy, LeadsByAnswer, LeadsTo, MakesOf, ReadsIn, RefusesBy, answers_of}
 pub use Rattle.w16_loader.specs.AnyClosing.{AreGood, Begins, ClosesAny, IsAlike, IsFoundOf, IsGood, IsSomeClosure, LeadsAny, any_format, closed_of, reached_of, said_by}
 pub use Rattle.w16_loader.specs.Binding.{AreSaid, AreTargets, AreValuesOf, IsBindFailure, IsFailure, IsForEach, IsSaid, IsStoredAs, all_bound, bound_as, fault_of_name, values_for, with_values}
 pub use Rattle.w16_loader.specs.Closing.{Files, IsFault, IsNewOrMeant, IsRead, IsSmall, IsThere, IsUnsound, around_in, fault_of, fault_of_check, found_in, meant_in, read_in, reading_in, reading_of, referent_of, said}

@@ -13,6 +13,9 @@ pub mod Steps
 pub mod Followings
 pub mod Meanings
 pub mod Few
+pub mod Tellings
+pub mod Holdings
+pub mod Closings
 pub mod AnyFormats
 pub mod AnyFollowings
 pub mod SomeFiles
