@@ -139,6 +139,12 @@ said_is (Some bytes) = turn (ne_format.says bytes) (is_format.files bytes)
     turn (Ok read) is = is
     turn (Err number) is = tt
 
+first_same : {X : Type 0} (x y : X) (xs ys : List X) → x ∷ xs ≡ y ∷ ys → x ≡ y
+first_same x y xs ys e = cc
+
+rest_same : {X : Type 0} (x y : X) (xs ys : List X) → x ∷ xs ≡ y ∷ ys → xs ≡ ys
+rest_same x y xs ys e = cc
+
 module _ (honest : Type 0) (files : Files) where
   -- A module whose records were bound to these targets, which are its file's where the store is honest.
   module _ (name : List ℕ) (t : Tables) (accepted : IsAccepted (answers_of honest files) name t) where
@@ -181,3 +187,22 @@ module _ (honest : Type 0) (files : Files) where
       let one = some_held f.file f.read.tables h.0 in
       let rest = held_alike fs h.1 in
       (record { file = f.file; read = one.0 } ∷ rest.0, ((refl, one.1), rest.1), (one.2, rest.2))
+
+  -- new modules that were bound to targets, which are what the files of some say, where the store is honest
+  pub bound_found : (fs some : List closing.Found) (targets : List (List (List Target))) → AreAccepted (answers_of honest files) fs → AllZip IsAlike fs some → AreHeld (answers_of honest files) some
+      → AllZip (λ (f : closing.Found) (ts : List (List Target)). length ts ≡ length f.read.tables.segments) fs targets → (honest → targets ≡ map (λ (read : ModuleFile). map targets_of read.segments) (map (λ (f : closing.Found). f.read) some))
+      → (found : List closing.Found) × AllZip IsAlike fs found × AreHeld (answers_of honest files) found × (map (λ (read : ModuleFile). map targets_of read.segments) (map (λ (f : closing.Found). f.read) found) ≡ targets)
+  bound_found [] some [] accepted alike held long keeps = ([], tt, tt, refl)
+  bound_found [] some (ts ∷ targets) accepted alike held long keeps = absurd long
+  bound_found (f ∷ fs) some [] accepted alike held long keeps = absurd long
+  bound_found (f ∷ fs) [] (ts ∷ targets) accepted alike held long keeps = absurd alike
+  bound_found (f ∷ fs) (x ∷ some) (ts ∷ targets) accepted alike held long keeps =
+      let said : honest → said_by ne_format.says (file_of files f.file) ≡ Ok x.read = λ h. ap (λ name. said_by ne_format.says (file_of files name)) (sym alike.0.0) ∙ held.0.2 h in
+      let one = bound_held f.file f.read.tables accepted.0 ts long.0
+      (λ h. subst (λ r. MatchResult r (λ read. ts ≡ map targets_of read.segments) (λ number. ⊥)) (sym (said h)) (first_same ts (map targets_of x.read.segments) targets _ (keeps h))) in
+      let rest = bound_found fs some targets accepted.1 alike.1 held.1 long.1 (λ h. rest_same ts (map targets_of x.read.segments) targets _ (keeps h)) in (
+        record { file = f.file; read = one.0 } ∷ rest.0,
+        ((refl, one.1), rest.1),
+        (one.2, rest.2),
+        λ i. one.3 i ∷ rest.3 i,
+      )

@@ -14,6 +14,7 @@ pub mod Followings
 pub mod Meanings
 pub mod Few
 pub mod Tellings
+pub mod Givings
 pub mod Holdings
 pub mod Closings
 pub mod AnyFormats
@@ -32,5 +33,6 @@ pub mod NameSteps
 pub mod Imports
 pub mod Closed
 pub mod Loads
+pub mod HeldLoads
 pub mod AnyLoads
 pub mod UsedAgain
