@@ -165,26 +165,28 @@ module _ (honest : Type 0) (files : Files) (start after : ℕ) (rest : LoadingWo
 
   closes_over : (n : ℕ) (closure : closing.Closure) (outcome : Result closing.Closure ℕ) → ClosesFrom (answers_of honest files) (around_in modules []) n closure outcome → ClosesFrom over (around world) n closure outcome
   closes_over zero closure outcome h = h
-  closes_over (suc n) closure outcome (place, name, left, e, more) = (place, name, left, e, by_name (closing.meant (around_in modules []) closure.found name) more)
+  closes_over (suc n) closure outcome (place, name, left, e, more) = (place, name, left, e, by_name (λ c h. closes_over n c outcome h) (closing.meant (around_in modules []) closure.found name) more)
     where
       here : closing.Closure
       here = record closure { pending = left }
 
-      ends : (r : closing.Reading) → MatchResult (follow here place name r) (λ next. ClosesFrom (answers_of honest files) (around_in modules []) n next outcome) (λ number. outcome ≡ Err number)
+      ends : ((c : closing.Closure) → ClosesFrom (answers_of honest files) (around_in modules []) n c outcome → ClosesFrom over (around world) n c outcome)
+          → (r : closing.Reading) → MatchResult (follow here place name r) (λ next. ClosesFrom (answers_of honest files) (around_in modules []) n next outcome) (λ number. outcome ≡ Err number)
           → MatchResult (follow here place name r) (λ next. ClosesFrom over (around world) n next outcome) (λ number. outcome ≡ Err number)
-      ends (Refused answer) h = h
-      ends (Meant referent) h = closes_over n (closing.with_bound here place referent) outcome h
-      ends (Read read) h = closes_over n (closing.with_bound (closing.with_found here (dll name) read) place (New (length closure.found))) outcome h
+      ends go (Refused answer) h = h
+      ends go (Meant referent) h = go (closing.with_bound here place referent) h
+      ends go (Read read) h = go (closing.with_bound (closing.with_found here (dll name) read) place (New (length closure.found))) h
 
-      by_name : (p : Option closing.Referent)
+      by_name : ((c : closing.Closure) → ClosesFrom (answers_of honest files) (around_in modules []) n c outcome → ClosesFrom over (around world) n c outcome)
+          → (p : Option closing.Referent)
           → MatchOption p ((r : closing.Reading) × ReadsFile (answers_of honest files) (around_in modules []) closure.found (dll name) r
           × MatchResult (follow here place name r) (λ next. ClosesFrom (answers_of honest files) (around_in modules []) n next outcome) (λ number. outcome ≡ Err number))
           (λ referent. ClosesFrom (answers_of honest files) (around_in modules []) n (closing.with_bound here place referent) outcome)
           → MatchOption p ((r : closing.Reading) × ReadsFile over (around world) closure.found (dll name) r
           × MatchResult (follow here place name r) (λ next. ClosesFrom over (around world) n next outcome) (λ number. outcome ≡ Err number))
           (λ referent. ClosesFrom over (around world) n (closing.with_bound here place referent) outcome)
-      by_name None (r, reads, h) = (r, reads_over closure.found (dll name) r reads, ends r h)
-      by_name (Some referent) h = closes_over n (closing.with_bound here place referent) outcome h
+      by_name go None (r, reads, h) = (r, reads_over closure.found (dll name) r reads, ends go r h)
+      by_name go (Some referent) h = go (closing.with_bound here place referent) h
 
   -- A load by its file.
 
