@@ -1,5 +1,5 @@
 -- Modules that get values, one after another.
-use Rattle.w16_loader.proofs.Common.{[], ◌≡◌, ◌≢◌, ℕ, zero, suc, ◌+◌, ◌<◌, inl, inr, Bool, true, false, ◌||◌, List, ◌∷◌, length, map, drop, Option, Some, None, IsSomeAnd, refl, sym, ap, ◌∙◌, subst, arith, add-one, eq-eqb, ◌==◌, IfSome}
+use Rattle.w16_loader.proofs.Common.{[], ◌≡◌, ◌≢◌, ℕ, zero, suc, ◌+◌, ◌<◌, ◌≤◌, inl, inr, Bool, true, false, ◌||◌, List, ◌∷◌, length, map, drop, Option, Some, None, IsSomeAnd, refl, sym, ap, ◌∙◌, subst, arith, add-one, eq-eqb, ◌==◌, IfSome}
 use Rattle.w16_loader.proofs.Common.{AllZip, cases_eq, false≢true, is_member, inserted_here, inserted_other, Far, ModuleFile, Target, targets_of}
 use Rattle.w16_loader.proofs.Common.{without_values, Lookup, Module, Modules, Named, module_at, module_in, Loaded, BuiltIn, loaded_is, values_law, Files, AreSaid, AreTargets, IsForEach, IsSaid, all_bound, bound_as, values_for}
 use Rattle.w16_loader.proofs.Common.{with_values}
@@ -109,7 +109,7 @@ targets_in_all reads = map (λ (read : ModuleFile). map targets_of read.segments
 -- One handle more of several: old are the modules before all, now those before it, and next those after it.
 module _ (old now next : Modules) (handles : List ℕ) (place handle : ℕ) (here : drop place handles ≡ handle ∷ drop (place + 1) handles)
     (alike : AreAlike (finmap.get now) (finmap.get old)) where
-  step : (ts : List (List Target)) → next ≡ bound_as (finmap.get now) now handle ts → (more : List (List (List Target)))
+  pub step : (ts : List (List Target)) → next ≡ bound_as (finmap.get now) now handle ts → (more : List (List (List Target)))
       → all_bound (finmap.get old) now (drop place handles) (ts ∷ more) ≡ all_bound (finmap.get old) next (drop (place + 1) handles) more
   step ts put more =
       ap (λ hs. all_bound (finmap.get old) now hs (ts ∷ more)) here
@@ -123,12 +123,8 @@ module _ (old now next : Modules) (handles : List ℕ) (place handle : ℕ) (her
       ap (λ (modules : Modules). finmap.get modules q) put
       ∙ bound_others now handle ts (finmap.get now) q (λ e. false≢true (sym none ∙ ap (λ k. is_member k handles) e ∙ member_there handle handles place (drop (place + 1) handles) here)) ∙ same
 
-  pub any_next : (ts : List (List Target)) → IsForEach now handle ts → next ≡ bound_as (finmap.get now) now handle ts
-      → ((more : List (List (List Target))) → AreTargets old (drop place handles) more → (targets : List (List (List Target))) × AreTargets old handles targets × (all_bound (finmap.get old) old handles targets ≡ all_bound (finmap.get old) now (drop place handles) more))
-      → (more : List (List (List Target))) → AreTargets old (drop (place + 1) handles) more → (targets : List (List (List Target))) × AreTargets old handles targets × (all_bound (finmap.get old) old handles targets ≡ all_bound (finmap.get old) next (drop (place + 1) handles) more)
-  any_next ts each put before more are =
-      let b = before (ts ∷ more) (subst (λ hs. AreTargets old hs (ts ∷ more)) (sym here) (each_alike ts (finmap.get now handle) (finmap.get old handle) (alike handle) each, are)) in
-      (b.0, b.1, b.2 ∙ step ts put more)
+  pub targets_left : (ts : List (List Target)) → IsForEach now handle ts → (more : List (List (List Target))) → AreTargets old (drop (place + 1) handles) more → AreTargets old (drop place handles) (ts ∷ more)
+  targets_left ts each more are = subst (λ hs. AreTargets old hs (ts ∷ more)) (sym here) (each_alike ts (finmap.get now handle) (finmap.get old handle) (alike handle) each, are)
 
   module _ (files : Files) (reads : List ModuleFile) (said : AreSaid files old handles reads) (lt : place < length handles) where
     abbrev at : (h : ℕ) × (read : ModuleFile) × (drop place handles ≡ h ∷ drop (suc place) handles) × (drop place reads ≡ read ∷ drop (suc place) reads) × IsSomeAnd (module_at old h) (λ m. IsSaid files m read)
@@ -143,14 +139,16 @@ module _ (old now next : Modules) (handles : List ℕ) (place handle : ℕ) (her
         let same : at.0 ≡ handle = first_same at.0 handle (drop (suc place) handles) (drop (place + 1) handles) (sym at.2 ∙ here) in
         said_alike files at.1 (finmap.get old handle) (finmap.get now handle) (sym (alike handle)) (subst (λ h. said_in files at.1 (finmap.get old h)) same at.4)
 
-    pub bound_next : (total : Modules) → next ≡ bound_as (finmap.get now) now handle (map targets_of read_here.segments)
-        → all_bound (finmap.get old) now (drop place handles) (targets_in_all (drop place reads)) ≡ total
-        → all_bound (finmap.get old) next (drop (place + 1) handles) (targets_in_all (drop (place + 1) reads)) ≡ total
+    pub targets_next : (ts : List (List Target)) (more : List (List (List Target))) → ts ≡ map targets_of read_here.segments → more ≡ targets_in_all (drop (place + 1) reads) → ts ∷ more ≡ targets_in_all (drop place reads)
     unfolding read_here
-    bound_next total put before =
-        sym (step (map targets_of at.1.segments) put (targets_in_all (drop (place + 1) reads)))
-        ∙ ap (λ n. all_bound (finmap.get old) now (drop place handles) (targets_in_all (at.1 ∷ drop n reads))) (add-one place)
-        ∙ ap (λ rs. all_bound (finmap.get old) now (drop place handles) (targets_in_all rs)) (sym at.3) ∙ before
+    targets_next ts more one rest = (λ i. one i ∷ rest i) ∙ ap (λ n. targets_in_all (at.1 ∷ drop n reads)) (add-one place) ∙ ap targets_in_all (sym at.3)
+
+pub no_more : {Y : Type 0} (hs : List ℕ) (ys : List Y) (R : ℕ → Y → Type 0) → AllZip R hs ys → (place : ℕ) → length hs ≤ place → length ys ≤ place
+no_more [] [] R all place le = le
+no_more [] (y ∷ ys) R all place le = absurd all
+no_more (h ∷ hs) [] R all place le = omega arith
+no_more (h ∷ hs) (y ∷ ys) R all zero le = absurd (omega (arith, le))
+no_more (h ∷ hs) (y ∷ ys) R all (suc place) le = (let rest = no_more hs ys R all.1 place (omega (arith, le)) in omega (arith, rest))
 
 -- with no handle left all are bound
 pub none_left : (named : Lookup) (modules : Modules) (handles : List ℕ) (more : List (List (List Target))) → handles ≡ [] → all_bound named modules handles more ≡ modules

@@ -13,6 +13,10 @@ pub mod Steps
 pub mod Followings
 pub mod Meanings
 pub mod Few
+pub mod Tellings
+pub mod Givings
+pub mod Holdings
+pub mod Closings
 pub mod AnyFormats
 pub mod AnyFollowings
 pub mod SomeFiles
@@ -29,5 +33,6 @@ pub mod NameSteps
 pub mod Imports
 pub mod Closed
 pub mod Loads
+pub mod HeldLoads
 pub mod AnyLoads
 pub mod UsedAgain

@@ -7,7 +7,9 @@ use Rattle.w16_model.specs.Owned.{owned_at}
 use Rattle.w16_loading.specs.declared.FetchFault.{FetchFault}
 use Rattle.w16_loading.specs.File.{Far, ModuleFile, Segment, SegmentData, IsModuleFile}
 use Rattle.w16_loading.specs.Fill as loading
-use Rattle.w16_loading.specs.Fill.{Filling}
+use Rattle.w16_loading.specs.Answers.{GivesFrom, told}
+use Rattle.w16_loading.specs.Fill.{Filling, Fills, Giving}
+use Rattle.w16_format.specs.Ne.{ne_format}
 use Rattle.w16_loading.specs.Law.{IsItsFiles}
 use Rattle.w16_loading.specs.Modules.{Module, Modules, module_at}
 use Rattle.w16_loading.specs.Naming.{fills_from}
@@ -21,6 +23,10 @@ failure_at place (Err fault) = Some (record { place = place; fault = fault })
 abbrev pub failure_in : {A : Type 0} → Result A Failure → Option loading.Failure
 failure_in (Ok done) = None
 failure_in (Err failure) = Some (record { place = failure.place; fault = failure.fault })
+
+-- How a load's object gets its bytes over a store, whose count of failures went from one number to another; its files are no matter.
+abbrev pub gives_over : (honest : Type 0) → (before after : ℕ) → Giving
+gives_over honest before after = GivesFrom Fills (told honest ne_format [] before after)
 
 -- what gets bytes of a module, whose file says this
 abbrev pub fills_in : ℕ → Module → ModuleFile → List Filling

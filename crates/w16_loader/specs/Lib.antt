@@ -8,5 +8,6 @@ pub mod Fetching
 pub mod Binding
 pub mod Filling
 pub mod Naming
+pub mod Answering
 pub mod Loading
 pub mod Devices

@@ -1,17 +1,15 @@
 -- Loads of modules, as the code answers them.
-use Rattle.std.specs.Prelude.{◌≡◌, ℕ, ◌<◌, ◌≤◌, ◌⊎◌, Bool, true, false, not, ◌==◌, if◌then◌else◌, List, fold, slice_index_or, IfOk, Option, None, Some, Result, Ok, Err, alloc_error}
+use Rattle.std.specs.Prelude.{◌≡◌, ℕ, ◌⊎◌, Bool, true, false, not, ◌==◌, if◌then◌else◌, List, fold, slice_index_or, IfOk, Option, None, Some, Result, Ok, Err, alloc_error}
 use Rattle.std.specs.List.{AllZip}
 use Rattle.std.specs.declared.alloc.AllocError.{AllocError}
 use Rattle.w16_store.specs.Files.{file_of}
 use Rattle.w16_model.specs.Handles.{Handles}
-use Rattle.w16_loading.specs.declared.TheConstants.{FIRST_MODULE}
-use Rattle.w16_loading.specs.File.{Format}
-use Rattle.w16_loading.specs.Fill.{FillsOne, is_of_device}
+use Rattle.w16_format.specs.Ne.{ne_format}
+use Rattle.w16_loading.specs.Answers.{FillsFewest, GivesFrom, MayFail, told}
 use Rattle.w16_loading.specs.Closure as closing
 use Rattle.w16_loading.specs.Closure.{are_sound}
 use Rattle.w16_loading.specs.Free.{without_module}
-use Rattle.w16_loading.specs.Fewest.{GivesAnyFewest}
-use Rattle.w16_loading.specs.Load.{Answer, Fulfils, Loads, LoadsNew, Refuses}
+use Rattle.w16_loading.specs.Load.{Answer, LoadsNew, refusal_of}
 use Rattle.w16_loading.specs.Load.Answer.{Says, StoreFails}
 use Rattle.w16_loading.specs.Modules.{LoadingWorld, Module, Modules}
 use Rattle.w16_loader.specs.declared.loading.LoadAnswer.{LoadAnswer}
@@ -23,7 +21,8 @@ use Rattle.w16_loader.specs.declared.binding.BindFault.TheVariants as binds
 use Rattle.w16_loading.specs.declared.FetchFault.{FetchFault}
 use Rattle.w16_loading.specs.declared.FetchFault.TheVariants as fetches
 use Rattle.w16_loader.specs.Closing.{Files, said}
-use Rattle.w16_loader.specs.AnyClosing.{AreGood, IsAlike}
+use Rattle.w16_loader.specs.AnyClosing.{IsAlike}
+use Rattle.w16_loader.specs.Answering.{AreHeld, answers_of}
 use Rattle.w16_loader.specs.Fetching.{in_parts}
 use Rattle.w16_loader.specs.Registry.{in_world}
 
@@ -60,24 +59,16 @@ in_store rest modules handles files failures = in_world (in_parts rest handles f
 abbrev pub IsOfFile : Files → closing.Found → Type 0
 IsOfFile files f = (said (file_of files f.file) ≡ Ok f.read) × (are_sound f.read ≡ true)
 
--- a load whose modules are known: the store fails it, and then it is the same world; or it is of these
-abbrev pub LoadsClosed : LoadingWorld → closing.Closure → Answer → LoadingWorld → Type 0
-LoadsClosed old closure answer new = ((answer ≡ StoreFails) × (new ≡ old)) ⊎ LoadsNew (FillsOne is_of_device) old closure answer new
+-- A load whose closure is known, over a store whose count of failures went from one number to another: it is of modules that are those, whatever
+-- their files hold beside their tables; or one of them couldn't be bound.
+abbrev pub LoadsHeld : (honest : Type 0) → Files → (before after : ℕ) → LoadingWorld → closing.Closure → Answer → LoadingWorld → Type 0
+LoadsHeld honest files before after old closure answer new =
+    (found : List closing.Found) × AllZip IsAlike closure.found found × AreHeld (answers_of honest files) found
+    × (LoadsNew (GivesFrom FillsFewest (told honest ne_format files before after)) old (record closure { found = found }) answer new
+    ⊎ ((place : ℕ) × (fault : FetchFault) × MayFail honest before after fault × (answer ≡ refusal_of place fault) × (new ≡ old)))
 
 -- New modules that have names were bound and filled, and their load is done; or that failed, and then it is once they are gone again. Want of memory
 -- says nothing.
-abbrev pub IsGiven : LoadingWorld → closing.Closure → List ℕ → Result (Unit {0}) BindFault → LoadingWorld → Type 0
-IsGiven old closure handles (Ok done) new = Fulfils (FillsOne is_of_device) old closure (Says (slice_index_or handles 0 0)) new
-IsGiven old closure handles (Err fault) new = IfOk (failed_by fault) (λ answer. LoadsClosed old closure (answer_in answer) (fold without_module new handles))
-
--- The same over any store. The load is refused in the same world; or it is of a closure whose modules are those, whatever their files say beside
--- their tables, and its requests discard as few as they can.
-abbrev pub LoadsAny : LoadingWorld → closing.Closure → Answer → LoadingWorld → Type 0
-LoadsAny old closure answer new =
-    ((answer ≡ StoreFails) × (new ≡ old))
-    ⊎ ((number : ℕ) × (number < FIRST_MODULE) × Refuses old number answer new)
-    ⊎ ((found : List closing.Found) × AllZip IsAlike closure.found found × AreGood found × Fulfils GivesAnyFewest old (record closure { found = found }) answer new)
-
-abbrev pub IsGivenAny : LoadingWorld → closing.Closure → List ℕ → Result (Unit {0}) BindFault → LoadingWorld → Type 0
-IsGivenAny old closure handles (Ok done) new = LoadsAny old closure (Says (slice_index_or handles 0 0)) new
-IsGivenAny old closure handles (Err fault) new = IfOk (failed_by fault) (λ answer. LoadsAny old closure (answer_in answer) (fold without_module new handles))
+abbrev pub IsGivenHeld : (honest : Type 0) → Files → (before after : ℕ) → LoadingWorld → closing.Closure → List ℕ → Result (Unit {0}) BindFault → LoadingWorld → Type 0
+IsGivenHeld honest files before after old closure handles (Ok done) new = LoadsHeld honest files before after old closure (Says (slice_index_or handles 0 0)) new
+IsGivenHeld honest files before after old closure handles (Err fault) new = IfOk (failed_by fault) (λ answer. LoadsHeld honest files before after old closure (answer_in answer) (fold without_module new handles))

@@ -16,7 +16,7 @@ ghost use Rattle.w16_loading.specs.Law.{without_values};
 ghost use Rattle.w16_loading.specs.Modules.{imported, module_at, value_of};
 ghost use Rattle.w16_format.specs.Data.{far_of, target_in, target_of};
 ghost use Rattle.w16_loader.specs.Binding as binding;
-ghost use Rattle.w16_loader.specs.Binding.{IsValue, AreValuesOf, IsForEach, AreTargets, IsStoredAs, IsSaid, AreSaid, IsFailure, IsBindFailure, IsUnread, values_for, bound_as, all_bound};
+ghost use Rattle.w16_loader.specs.Binding.{AreValuesOf, IsForEach, AreTargets, IsStoredAs, IsSaid, AreSaid, IsFailure, IsBindFailure, IsUnread, values_for, bound_as, all_bound};
 
 use crate::entry::{Loaded, NOWHERE};
 use crate::fault::{Failure, ValueFault};
@@ -107,9 +107,9 @@ fn address_named<S: Store, A: Allocator>(
 ) -> Result<Far, ValueFault>
     ensures stays { IsLater (S.files store.old) (S.failures store.old) (S.files store.new) (S.failures store.new) }
     ensures device { IfErr result (RoseIf is_value_device (S.failures store.old) (S.failures store.new)) }
-    ensures any { IfOk result (IsValue (finmap.get registry.now) loaded.now) }
-    ensures exact { (file : List ℕ) (t : Tables) → S.is_honest → IsStoredAs (S.files store.old) loaded.now file t → has_text_at file (imported_place t + name) ≡ true
-        → MatchResult result (λ far. far_of far ≡ value_of (finmap.get registry.now) loaded.now (ImportName reference (text_in file (imported_place t + name)))) (IsFailure (S.failures store.old) (S.failures store.new)) }
+    ensures any { IfOk result (λ far. (target : loading.Target) × (far_of far ≡ value_of (finmap.get registry.now) loaded.now target)
+        × ((file : List ℕ) (t : Tables) → S.is_honest → IsStoredAs (S.files store.old) loaded.now file t → has_text_at file (imported_place t + name) ≡ true → target ≡ ImportName reference (text_in file (imported_place t + name)))) }
+    ensures failed { (file : List ℕ) (t : Tables) → S.is_honest → IsStoredAs (S.files store.old) loaded.now file t → has_text_at file (imported_place t + name) ≡ true → IfErr result (IsFailure (S.failures store.old) (S.failures store.new)) }
 {
     let mut text = [0u8; MOST_NAME];
     match imported_name(store, loaded.file(), loaded.module(), name, &mut text) {
@@ -127,9 +127,9 @@ fn target_value<S: Store, A: Allocator>(
 ) -> Result<Far, ValueFault>
     ensures stays { IsLater (S.files store.old) (S.failures store.old) (S.files store.new) (S.failures store.new) }
     ensures device { IfErr result (RoseIf is_value_device (S.failures store.old) (S.failures store.new)) }
-    ensures any { IfOk result (IsValue (finmap.get registry.now) loaded.now) }
-    ensures exact { (file : List ℕ) (t : Tables) → S.is_honest → IsStoredAs (S.files store.old) loaded.now file t → has_text (offer_of file t) (text_of target) ≡ true
-        → MatchResult result (λ far. far_of far ≡ value_of (finmap.get registry.now) loaded.now (target_in file t target)) (IsFailure (S.failures store.old) (S.failures store.new)) }
+    ensures any { IfOk result (λ far. (meant : loading.Target) × (far_of far ≡ value_of (finmap.get registry.now) loaded.now meant)
+        × ((file : List ℕ) (t : Tables) → S.is_honest → IsStoredAs (S.files store.old) loaded.now file t → has_text (offer_of file t) (text_of target) ≡ true → meant ≡ target_in file t target)) }
+    ensures failed { (file : List ℕ) (t : Tables) → S.is_honest → IsStoredAs (S.files store.old) loaded.now file t → has_text (offer_of file t) (text_of target) ≡ true → IfErr result (IsFailure (S.failures store.old) (S.failures store.new)) }
 {
     match target {
         Target::Internal { segment, offset } => Ok(loaded.address_in_segment(segment, offset)),
@@ -153,9 +153,9 @@ fn record_value<S: Store, A: Allocator>(
 ) -> Result<Far, ValueFault>
     ensures stays { IsLater (S.files store.old) (S.failures store.old) (S.files store.new) (S.failures store.new) }
     ensures device { IfErr result (RoseIf is_value_device (S.failures store.old) (S.failures store.new)) }
-    ensures any { IfOk result (IsValue (finmap.get registry.now) loaded.now) }
-    ensures exact { (file : List ℕ) (t : Tables) → S.is_honest → IsStoredAs (S.files store.old) loaded.now file t → is_named (offer_of file t) relocation ≡ true
-        → MatchResult result (λ far. far_of far ≡ value_of (finmap.get registry.now) loaded.now (target_of file t relocation)) (IsFailure (S.failures store.old) (S.failures store.new)) }
+    ensures any { IfOk result (λ far. (target : loading.Target) × (far_of far ≡ value_of (finmap.get registry.now) loaded.now target)
+        × ((file : List ℕ) (t : Tables) → S.is_honest → IsStoredAs (S.files store.old) loaded.now file t → is_named (offer_of file t) relocation ≡ true → target ≡ target_of file t relocation)) }
+    ensures failed { (file : List ℕ) (t : Tables) → S.is_honest → IsStoredAs (S.files store.old) loaded.now file t → is_named (offer_of file t) relocation ≡ true → IfErr result (IsFailure (S.failures store.old) (S.failures store.new)) }
 {
     match relocation {
         Record::Stored(fixup) | Record::Added(fixup) => {
@@ -174,9 +174,9 @@ fn record_values<S: Store, A: Allocator + Clone>(
 ) -> Result<Vec<Far, A>, ValueFault>
     ensures stays { IsLater (S.files store.old) (S.failures store.old) (S.files store.new) (S.failures store.new) }
     ensures device { IfErr result (RoseIf is_value_device (S.failures store.old) (S.failures store.new)) }
-    ensures any { IfOk result (λ values. (targets : List loading.Target) × AreValuesOf (finmap.get registry.now) loaded.now targets values.items) }
-    ensures exact { (file : List ℕ) (t : Tables) → S.is_honest → IsStoredAs (S.files store.old) loaded.now file t → All (λ r. is_named (offer_of file t) r ≡ true) records.now
-        → MatchResult result (λ values. AreValuesOf (finmap.get registry.now) loaded.now (map (target_of file t) records.now) values.items) (IsFailure (S.failures store.old) (S.failures store.new)) }
+    ensures any { IfOk result (λ values. (targets : List loading.Target) × AreValuesOf (finmap.get registry.now) loaded.now targets values.items
+        × ((file : List ℕ) (t : Tables) → S.is_honest → IsStoredAs (S.files store.old) loaded.now file t → All (λ r. is_named (offer_of file t) r ≡ true) records.now → targets ≡ map (target_of file t) records.now)) }
+    ensures failed { (file : List ℕ) (t : Tables) → S.is_honest → IsStoredAs (S.files store.old) loaded.now file t → All (λ r. is_named (offer_of file t) r ≡ true) records.now → IfErr result (IsFailure (S.failures store.old) (S.failures store.new)) }
 {
     let Ok(mut values) = room_for(registry.allocator(), records.len()) else {
         return Err(ValueFault::OutOfMemory);
@@ -202,9 +202,9 @@ fn segment_values<S: Store, A: Allocator + Clone>(
     requires last { number ≤ length loaded.now.tables.segments }
     ensures stays { IsLater (S.files store.old) (S.failures store.old) (S.files store.new) (S.failures store.new) }
     ensures device { IfErr result (RoseIf is_value_device (S.failures store.old) (S.failures store.new)) }
-    ensures any { IfOk result (λ values. (targets : List loading.Target) × AreValuesOf (finmap.get registry.now) loaded.now targets values.items) }
-    ensures exact { (read : ModuleFile) (s : SegmentData) → S.is_honest → IsSaid (S.files store.old) loaded.now read → slice_get read.segments (number - 1) ≡ Some s
-        → MatchResult result (λ values. AreValuesOf (finmap.get registry.now) loaded.now (targets_of s) values.items) (IsFailure (S.failures store.old) (S.failures store.new)) }
+    ensures any { IfOk result (λ values. (targets : List loading.Target) × AreValuesOf (finmap.get registry.now) loaded.now targets values.items
+        × ((read : ModuleFile) (s : SegmentData) → S.is_honest → IsSaid (S.files store.old) loaded.now read → slice_get read.segments (number - 1) ≡ Some s → targets ≡ targets_of s)) }
+    ensures failed { (read : ModuleFile) (s : SegmentData) → S.is_honest → IsSaid (S.files store.old) loaded.now read → slice_get read.segments (number - 1) ≡ Some s → IfErr result (IsFailure (S.failures store.old) (S.failures store.new)) }
 {
     match check(store, loaded.file(), loaded.module(), number, scratch) {
         Err(fault) => Err(fault_of_check(fault)),
@@ -222,9 +222,9 @@ fn module_values<S: Store, A: Allocator + Clone>(
     ensures stays { IsLater (S.files store.old) (S.failures store.old) (S.files store.new) (S.failures store.new) }
     ensures device { IfErr result (RoseIf is_value_device (S.failures store.old) (S.failures store.new)) }
     ensures any { IfOk result (λ values. (targets : List (List loading.Target)) × (length targets ≡ length loaded.now.tables.segments)
-        × (map (λ v. map far_of v.items) values.items ≡ values_for (finmap.get registry.now) loaded.now targets)) }
-    ensures exact { (read : ModuleFile) → S.is_honest → IsSaid (S.files store.old) loaded.now read
-        → MatchResult result (λ values. map (λ v. map far_of v.items) values.items ≡ values_for (finmap.get registry.now) loaded.now (map targets_of read.segments)) (IsFailure (S.failures store.old) (S.failures store.new)) }
+        × (map (λ v. map far_of v.items) values.items ≡ values_for (finmap.get registry.now) loaded.now targets)
+        × ((read : ModuleFile) → S.is_honest → IsSaid (S.files store.old) loaded.now read → targets ≡ map targets_of read.segments)) }
+    ensures failed { (read : ModuleFile) → S.is_honest → IsSaid (S.files store.old) loaded.now read → IfErr result (IsFailure (S.failures store.old) (S.failures store.new)) }
 {
     let count = loaded.module().segment_count();
     let Ok(mut values) = room_for(registry.allocator(), count) else {
@@ -248,9 +248,9 @@ fn bind_module<S: Store, A: Allocator + Clone>(
 ) -> Result<(), ValueFault>
     ensures stays { IsLater (S.files store.old) (S.failures store.old) (S.files store.new) (S.failures store.new) }
     ensures device { IfErr result (RoseIf is_value_device (S.failures store.old) (S.failures store.new)) }
-    ensures any { OnOk result ((targets : List (List loading.Target)) × IsForEach registry.old handle targets × (registry.new ≡ bound_as (finmap.get registry.old) registry.old handle targets)) }
-    ensures exact { (read : ModuleFile) → S.is_honest → IsSomeAnd (module_at registry.old handle) (λ m. IsSaid (S.files store.old) m read)
-        → MatchResult result (λ _. registry.new ≡ bound_as (finmap.get registry.old) registry.old handle (map targets_of read.segments)) (IsFailure (S.failures store.old) (S.failures store.new)) }
+    ensures any { OnOk result ((targets : List (List loading.Target)) × IsForEach registry.old handle targets × (registry.new ≡ bound_as (finmap.get registry.old) registry.old handle targets)
+        × ((read : ModuleFile) → S.is_honest → IsSomeAnd (module_at registry.old handle) (λ m. IsSaid (S.files store.old) m read) → targets ≡ map targets_of read.segments)) }
+    ensures failed { (read : ModuleFile) → S.is_honest → IsSomeAnd (module_at registry.old handle) (λ m. IsSaid (S.files store.old) m read) → IfErr result (IsFailure (S.failures store.old) (S.failures store.new)) }
     ensures err { OnErr result (registry.new ≡ registry.old) }
 {
     let Some(loaded) = registry.module(handle) else {
@@ -281,7 +281,8 @@ pub(crate) fn bind_modules<S: Store, A: Allocator + Clone>(
     ensures values { (handle : ℕ) → without_values (finmap.get registry.new handle) ≡ without_values (finmap.get registry.old handle) }
     ensures others { (handle : ℕ) → is_member handle handles.now ≡ false → finmap.get registry.new handle ≡ finmap.get registry.old handle }
     ensures any { OnOk result ((targets : List (List (List loading.Target))) × AreTargets registry.old handles.now targets
-        × (registry.new ≡ all_bound (finmap.get registry.old) registry.old handles.now targets)) }
+        × (registry.new ≡ all_bound (finmap.get registry.old) registry.old handles.now targets)
+        × ((reads : List ModuleFile) → S.is_honest → AreSaid (S.files store.old) registry.old handles.now reads → targets ≡ map (λ read. map targets_of read.segments) reads)) }
     ensures bound { (reads : List ModuleFile) → S.is_honest → AreSaid (S.files store.old) registry.old handles.now reads
         → OnOk result (registry.new ≡ all_bound (finmap.get registry.old) registry.old handles.now (map (λ read. map targets_of read.segments) reads)) }
     ensures faults { (reads : List ModuleFile) → S.is_honest → AreSaid (S.files store.old) registry.old handles.now reads

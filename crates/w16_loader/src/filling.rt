@@ -2,13 +2,12 @@
 ghost use Rattle.std.specs.Prelude.{◌≡◌, ◌≢◌, ◌-◌, ◌<◌, ◌≤◌, ℕ, List, length, All, Some, Err, IfErr, IfSome, slice_get};
 ghost use Rattle.w16_store.specs.Later.{IsLater, RoseIf};
 ghost use Rattle.w16_loading.specs.declared.FetchFault.TheVariants.{Store as store_fails};
-ghost use Rattle.w16_loading.specs.AnyStore.{GivesAny};
 ghost use Rattle.w16_loading.specs.File.{ModuleFile, Segment};
-ghost use Rattle.w16_loading.specs.Fill.{FillsOne, InTurn, is_of_device};
+ghost use Rattle.w16_loading.specs.Fill.{InTurn, is_of_device};
 ghost use Rattle.w16_loading.specs.Law.{IsItsFiles};
 ghost use Rattle.w16_loading.specs.Modules.{Module, module_at};
 ghost use Rattle.w16_loader.specs.Binding.{IsSaid, AreSaid};
-ghost use Rattle.w16_loader.specs.Filling.{Part, AreItsFiles, AreReadAs, AreUnfilled, HasUnfilled, IsReadAs, IsUnfilled, failure_at, failure_in, fills_in, fills_of_part, fills_with};
+ghost use Rattle.w16_loader.specs.Filling.{Part, AreItsFiles, AreReadAs, AreUnfilled, HasUnfilled, IsReadAs, IsUnfilled, failure_at, failure_in, fills_in, fills_of_part, fills_with, gives_over};
 
 use crate::entry::Loaded;
 use crate::fault::Failure;
@@ -53,11 +52,9 @@ fn fill_segment<S: Store, A: Allocator + Copy>(
     ensures device { IfErr result (RoseIf is_of_device (S.failures store.old) (S.failures store.new)) }
     ensures rest { global.new.handles ≡ record global.old.handles { heap = global.new.handles.heap } }
     ensures kept { (slot : ℕ) (s : Segment) → slice_get loaded.now.slots (number - 1) ≢ Some slot → IsUnfilled global.old.handles slot s → IsUnfilled global.new.handles slot s }
-    ensures any { (read : ModuleFile) (place : ℕ) (part : Part loaded.now read (number - 1)) → IsReadAs loaded.now read → IsUnfilled global.old.handles part.slot part.segment
-        → InTurn GivesAny global.old.handles.heap (fills_of_part place part) (failure_at place result) global.new.handles.heap }
-    ensures filled { (read : ModuleFile) (place : ℕ) (part : Part loaded.now read (number - 1)) → S.is_honest → IsSaid (S.files store.old) loaded.now read → IsItsFiles loaded.now read
+    ensures given { (read : ModuleFile) (place : ℕ) (part : Part loaded.now read (number - 1)) → IsReadAs loaded.now read → (S.is_honest → IsSaid (S.files store.old) loaded.now read × IsItsFiles loaded.now read)
         → IsUnfilled global.old.handles part.slot part.segment
-        → InTurn (FillsOne is_of_device) global.old.handles.heap (fills_of_part place part) (failure_at place result) global.new.handles.heap }
+        → InTurn (gives_over S.is_honest (S.failures store.old) (S.failures store.new)) global.old.handles.heap (fills_of_part place part) (failure_at place result) global.new.handles.heap }
 {
     let source = loaded.source(number);
     let segment = source.module.segment(number);
@@ -85,11 +82,8 @@ fn fill_segments<S: Store, A: Allocator + Copy>(
     ensures device { IfErr result (RoseIf is_of_device (S.failures store.old) (S.failures store.new)) }
     ensures rest { global.new.handles ≡ record global.old.handles { heap = global.new.handles.heap } }
     ensures kept { (slot : ℕ) (s : Segment) → All (λ q. q ≢ slot) loaded.now.slots → IsUnfilled global.old.handles slot s → IsUnfilled global.new.handles slot s }
-    ensures any { (read : ModuleFile) (place : ℕ) → IsReadAs loaded.now read → HasUnfilled global.old.handles loaded.now
-        → InTurn GivesAny global.old.handles.heap (fills_in place loaded.now read) (failure_at place result) global.new.handles.heap }
-    ensures filled { (read : ModuleFile) (place : ℕ) → S.is_honest → IsSaid (S.files store.old) loaded.now read → IsReadAs loaded.now read → IsItsFiles loaded.now read
-        → HasUnfilled global.old.handles loaded.now
-        → InTurn (FillsOne is_of_device) global.old.handles.heap (fills_in place loaded.now read) (failure_at place result) global.new.handles.heap }
+    ensures given { (read : ModuleFile) (place : ℕ) → IsReadAs loaded.now read → (S.is_honest → IsSaid (S.files store.old) loaded.now read × IsItsFiles loaded.now read) → HasUnfilled global.old.handles loaded.now
+        → InTurn (gives_over S.is_honest (S.failures store.old) (S.failures store.new)) global.old.handles.heap (fills_in place loaded.now read) (failure_at place result) global.new.handles.heap }
 {
     let count = segment_count(loaded);
     for done in 0..count {
@@ -113,11 +107,9 @@ fn fill_module<S: Store, A: Allocator + Copy>(
     ensures device { IfErr result (RoseIf is_of_device (S.failures store.old) (S.failures store.new)) }
     ensures rest { global.new.handles ≡ record global.old.handles { heap = global.new.handles.heap } }
     ensures kept { (m : Module) (slot : ℕ) (s : Segment) → module_at registry.now handle ≡ Some m → All (λ q. q ≢ slot) m.slots → IsUnfilled global.old.handles slot s → IsUnfilled global.new.handles slot s }
-    ensures any { (m : Module) (read : ModuleFile) (place : ℕ) → module_at registry.now handle ≡ Some m → IsReadAs m read → HasUnfilled global.old.handles m
-        → InTurn GivesAny global.old.handles.heap (fills_in place m read) (failure_at place result) global.new.handles.heap }
-    ensures filled { (m : Module) (read : ModuleFile) (place : ℕ) → module_at registry.now handle ≡ Some m → S.is_honest → IsSaid (S.files store.old) m read → IsReadAs m read → IsItsFiles m read
+    ensures given { (m : Module) (read : ModuleFile) (place : ℕ) → module_at registry.now handle ≡ Some m → IsReadAs m read → (S.is_honest → IsSaid (S.files store.old) m read × IsItsFiles m read)
         → HasUnfilled global.old.handles m
-        → InTurn (FillsOne is_of_device) global.old.handles.heap (fills_in place m read) (failure_at place result) global.new.handles.heap }
+        → InTurn (gives_over S.is_honest (S.failures store.old) (S.failures store.new)) global.old.handles.heap (fills_in place m read) (failure_at place result) global.new.handles.heap }
 {
     match registry.module(handle) {
         None => Ok(()),
@@ -139,11 +131,9 @@ pub(crate) fn fill_modules<S: Store, A: Allocator + Copy>(
     ensures stays { IsLater (S.files store.old) (S.failures store.old) (S.files store.new) (S.failures store.new) }
     ensures device { IfErr result (RoseIf (λ failure. is_of_device failure.fault) (S.failures store.old) (S.failures store.new)) }
     ensures rest { global.new.handles ≡ record global.old.handles { heap = global.new.handles.heap } }
-    ensures any { (reads : List ModuleFile) → AreReadAs registry.now handles.now reads → AreUnfilled registry.now global.old.handles handles.now
-        → InTurn GivesAny global.old.handles.heap (fills_with registry.now 0 handles.now reads) (failure_in result) global.new.handles.heap }
-    ensures filled { (reads : List ModuleFile) → S.is_honest → AreSaid (S.files store.old) registry.now handles.now reads → AreReadAs registry.now handles.now reads
-        → AreItsFiles registry.now handles.now reads → AreUnfilled registry.now global.old.handles handles.now
-        → InTurn (FillsOne is_of_device) global.old.handles.heap (fills_with registry.now 0 handles.now reads) (failure_in result) global.new.handles.heap }
+    ensures given { (reads : List ModuleFile) → AreReadAs registry.now handles.now reads
+        → (S.is_honest → AreSaid (S.files store.old) registry.now handles.now reads × AreItsFiles registry.now handles.now reads) → AreUnfilled registry.now global.old.handles handles.now
+        → InTurn (gives_over S.is_honest (S.failures store.old) (S.failures store.new)) global.old.handles.heap (fills_with registry.now 0 handles.now reads) (failure_in result) global.new.handles.heap }
 {
     for (place, handle) in handles.iter().enumerate() {
         match fill_module(registry, global, store, scratch, *handle) {

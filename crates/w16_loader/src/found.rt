@@ -1,5 +1,5 @@
 //! New modules of a load, and what it makes of a name and of a file.
-ghost use Rattle.std.specs.Prelude.{◌≡◌, List, ℕ, Some, Ok, true, map, option_map, position, IfOk, IfErr, OnOk};
+ghost use Rattle.std.specs.Prelude.{◌≡◌, List, ℕ, Some, Ok, Err, true, false, map, option_map, position, IfOk, IfErr, OnOk, All, MatchResult};
 ghost use Rattle.w16_store.specs.Names as names;
 ghost use Rattle.w16_store.specs.Files.{file_of};
 ghost use Rattle.w16_ne.specs.Reading.{is_ne_device};
@@ -11,6 +11,10 @@ ghost use Rattle.w16_loading.specs.Closure as closing;
 ghost use Rattle.w16_loading.specs.Closure.{are_sound};
 ghost use Rattle.w16_loading.specs.Closure.Reading.{Refused};
 ghost use Rattle.w16_format.specs.Ne as ne;
+ghost use Rattle.w16_loading.specs.Answers.{RefusesFile};
+ghost use Rattle.w16_format.specs.Tables.{segment_in, tables_in};
+ghost use Rattle.w16_loader.specs.Answering.{IsAccepted, MakesOf, ReadsIn, answers_of};
+ghost use Rattle.w16_loader.specs.Naming.{IsFit};
 ghost use Rattle.w16_loader.specs.Closing as loads;
 ghost use Rattle.w16_loader.specs.Closing.{Files, around_in, referent_of, found_in, reading_in, reading_of, said, IsRead, IsFault, IsSmall, IsUnsound, IsNewOrMeant, IsThere};
 
@@ -85,6 +89,7 @@ pub fn meant<A: Allocator>(
 /// What a fault of a file is to a load: 12, 13 or 14 where it is for another target system, 2 where there is no file, else 11.
 fn fault_of(fault: NeFault) -> FileFault
     ensures fault { result ≡ loads.fault_of fault }
+    ensures refuses { IsFault RefusesFile 0 1 result }
     ensures device { is_file_device result ≡ is_ne_device fault }
 {
     match fault {
@@ -101,6 +106,7 @@ fn fault_of(fault: NeFault) -> FileFault
 /// What a fault of a segment's relocations is to a load.
 fn fault_of_check(fault: RelocFault) -> FileFault
     ensures fault { result ≡ loads.fault_of_check fault }
+    ensures number { IsFault (λ number. number ≡ 11) 0 1 result }
     ensures device { is_file_device result ≡ is_reloc_device fault }
 {
     match fault {
@@ -118,6 +124,7 @@ pub fn read_file<S: Store, A: Allocator + Copy>(
     ensures stays { IsLater (S.files store.old) (S.failures store.old) (S.files store.new) (S.failures store.new) }
     ensures device { IfErr result (RoseIf is_file_device (S.failures store.old) (S.failures store.new)) }
     ensures small { IfErr result IsSmall }
+    ensures says { MatchResult result (λ read. (answers_of S.is_honest (S.files store.old)).says name.now (Ok (tables_in read))) (IsFault (λ number. (answers_of S.is_honest (S.files store.old)).says name.now (Err number)) (S.failures store.old) (S.failures store.new)) }
     ensures read { S.is_honest → IfOk result (IsRead (file_of (S.files store.old) name.now)) }
     ensures err { S.is_honest → IfErr result (IsFault (λ number. said (file_of (S.files store.old) name.now) ≡ Err number) (S.failures store.old) (S.failures store.new)) }
 {
@@ -140,12 +147,18 @@ pub fn check_segments<S: Store, A: Allocator>(
     ensures stays { IsLater (S.files store.old) (S.failures store.old) (S.files store.new) (S.failures store.new) }
     ensures device { IfErr result (RoseIf is_file_device (S.failures store.old) (S.failures store.new)) }
     ensures small { IfErr result IsSmall }
+    ensures fit { OnOk result (All IsFit (map segment_in module_file.now.segments)) }
+    ensures number { IfErr result (IsFault (λ number. number ≡ 11) 0 1) }
+    ensures checked { (answers_of S.is_honest (S.files store.old)).says name.now (Ok (tables_in module_file.now)) → MatchResult result (λ _. IsAccepted (answers_of S.is_honest (S.files store.old)) name.now (tables_in module_file.now))
+        (IsFault (λ number. (answers_of S.is_honest (S.files store.old)).sound name.now (tables_in module_file.now) false × (number ≡ 11)) (S.failures store.old) (S.failures store.new)) }
     ensures sound { (bytes : List ℕ) → S.is_honest → file_of (S.files store.old) name.now ≡ Some bytes → tables_at (Some bytes) ≡ Ok module_file.now
         → OnOk result (are_sound (ne.module_file bytes module_file.now) ≡ true) }
     ensures err { (bytes : List ℕ) → S.is_honest → file_of (S.files store.old) name.now ≡ Some bytes → tables_at (Some bytes) ≡ Ok module_file.now
         → IfErr result (IsFault (IsUnsound bytes module_file.now) (S.failures store.old) (S.failures store.new)) }
 {
     for place in 0..module_file.segment_count() {
+        // Its size is one that an object may have.
+        let _ = module_file.segment(place + 1);
         match check(store, name, module_file, place + 1, scratch) {
             Err(fault) => return Err(fault_of_check(fault)),
             Ok(()) => {}
@@ -174,6 +187,7 @@ fn settle<S: Store, A: Allocator>(
 ) -> Result<Reading<A>, FileFault>
     ensures stays { IsLater (S.files store.old) (S.failures store.old) (S.files store.new) (S.failures store.new) }
     ensures device { IfErr result (RoseIf is_file_device (S.failures store.old) (S.failures store.new)) }
+    ensures makes { (answers_of S.is_honest (S.files store.old)).says name.now (Ok (tables_in read)) → MatchResult result (MakesOf (answers_of S.is_honest (S.files store.old)) registry.now found.now name.now) (IsFault (λ number. ReadsIn (answers_of S.is_honest (S.files store.old)) registry.now found.now name.now (Refused number)) (S.failures store.old) (S.failures store.new)) }
     ensures new { IfOk result (IsNewOrMeant registry.now found.now) }
     ensures small { IfErr result IsSmall }
     ensures read { S.is_honest → IsRead (file_of (S.files store.old) name.now) read
@@ -208,6 +222,7 @@ pub fn examine_file<S: Store, A: Allocator + Copy>(
 ) -> Result<Reading<A>, FileFault>
     ensures stays { IsLater (S.files store.old) (S.failures store.old) (S.files store.new) (S.failures store.new) }
     ensures device { IfErr result (RoseIf is_file_device (S.failures store.old) (S.failures store.new)) }
+    ensures makes { MatchResult result (MakesOf (answers_of S.is_honest (S.files store.old)) registry.now found.now name.now) (IsFault (λ number. ReadsIn (answers_of S.is_honest (S.files store.old)) registry.now found.now name.now (Refused number)) (S.failures store.old) (S.failures store.new)) }
     ensures new { IfOk result (IsNewOrMeant registry.now found.now) }
     ensures there { IfOk result (IsThere registry.now found.now) }
     ensures small { IfErr result IsSmall }

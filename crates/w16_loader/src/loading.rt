@@ -5,20 +5,19 @@ ghost use Rattle.w16_store.specs.Later.{IsLater, RoseIf};
 ghost use Rattle.w16_loader.specs.Devices.{is_bind_device, is_load_device, is_file_device};
 ghost use Rattle.std.specs.FinMap as finmap;
 ghost use Rattle.w16_model.specs.Handles.{AreHandles};
-ghost use Rattle.w16_loading.specs.AnyStore.{AnyLoadsBy};
 ghost use Rattle.w16_loading.specs.Closure as closing;
-ghost use Rattle.w16_loading.specs.Fewest.{GivesAnyFewest};
+ghost use Rattle.w16_loading.specs.Answers.{FillsFewest, LoadsFrom, told};
 ghost use Rattle.w16_loading.specs.Free.{without_module};
-ghost use Rattle.w16_loading.specs.Closure.Reading.{Read};
 ghost use Rattle.w16_loading.specs.Load as loading;
 ghost use Rattle.w16_loading.specs.Load.Answer.{Says, StoreFails};
 ghost use Rattle.w16_loading.specs.Modules.{LoadingWorld, free_modules, handle_named, module_at, with_handles};
 ghost use Rattle.w16_format.specs.Ne.{ne_format};
-ghost use Rattle.w16_loader.specs.Closing.{around_in, read_in};
+ghost use Rattle.w16_loader.specs.Answering.{AreAccepted, IsAccepted, answers_of};
+ghost use Rattle.w16_format.specs.Tables.{tables_in};
 ghost use Rattle.w16_loader.specs.Naming.{AreUnbound, IsClosureOf, IsUnbound};
 ghost use Rattle.w16_loader.specs.declared.binding.BindFault.TheVariants.{OutOfMemory};
 ghost use Rattle.w16_loader.specs.Registry.{in_world};
-ghost use Rattle.w16_loader.specs.Loading.{LoadsAny, LoadsClosed, IsOfFile, IsGiven, IsGivenAny, answer_in, is_application, in_store, refused_by, of_fault, failed_by};
+ghost use Rattle.w16_loader.specs.Loading.{LoadsHeld, IsGivenHeld, answer_in, is_application, in_store, refused_by, of_fault, failed_by};
 
 use crate::binding::{BindFault, bind_modules};
 use crate::closure::{Closure, close};
@@ -137,12 +136,9 @@ fn give<S: Store, A: Allocator + Copy>(
 ) -> Result<(), BindFault>
     ensures stays { IsLater (S.files store.old) (S.failures store.old) (S.files store.new) (S.failures store.new) }
     ensures device { IfErr result (RoseIf is_bind_device (S.failures store.old) (S.failures store.new)) }
-    ensures given { (rest : LoadingWorld) (old : LoadingWorld) (meant : closing.Closure) → S.is_honest → AreHandles old.handles → All (IsOfFile (S.files store.old)) meant.found
-        → IsUnbound old meant handles.now (in_world (with_handles rest global.old.handles) registry.old)
-        → IsGiven old meant handles.now result (in_world (with_handles rest global.new.handles) registry.new) }
-    ensures any { (rest : LoadingWorld) (old : LoadingWorld) (meant : closing.Closure) → AreHandles old.handles
+    ensures given { (rest : LoadingWorld) (old : LoadingWorld) (meant : closing.Closure) (start : ℕ) → start ≤ S.failures store.old → AreHandles old.handles → AreAccepted (answers_of S.is_honest (S.files store.old)) meant.found
         → AreUnbound old meant handles.now (in_world (with_handles rest global.old.handles) registry.old)
-        → IsGivenAny old meant handles.now result (in_world (with_handles rest global.new.handles) registry.new) }
+        → IsGivenHeld S.is_honest (S.files store.old) start (S.failures store.new) old meant handles.now result (in_world (with_handles rest global.new.handles) registry.new) }
     ensures undone { (rest : LoadingWorld) (old : LoadingWorld) (meant : closing.Closure) → AreHandles old.handles
         → IsUnbound old meant handles.now (in_world (with_handles rest global.old.handles) registry.old)
         → IfErr result (λ fault. fault ≡ OutOfMemory → fold without_module (in_world (with_handles rest global.new.handles) registry.new) handles.now ≡ old) }
@@ -170,10 +166,8 @@ fn load_closure<S: Store, A: Allocator + Copy>(
     requires few { length closure.found.items ≤ free_modules registry.old }
     ensures stays { IsLater (S.files store.old) (S.failures store.old) (S.files store.new) (S.failures store.new) }
     ensures device { IfOk result (RoseIf is_load_device (S.failures store.old) (S.failures store.new)) }
-    ensures loads { (rest : LoadingWorld) (meant : closing.Closure) → S.is_honest → IsClosureOf closure meant → All (IsOfFile (S.files store.old)) meant.found
-        → IfOk result (λ answer. LoadsClosed (in_world (with_handles rest global.old.handles) registry.old) meant (answer_in answer) (in_world (with_handles rest global.new.handles) registry.new)) }
-    ensures any { (rest : LoadingWorld) (meant : closing.Closure) → IsClosureOf closure meant
-        → IfOk result (λ answer. LoadsAny (in_world (with_handles rest global.old.handles) registry.old) meant (answer_in answer) (in_world (with_handles rest global.new.handles) registry.new)) }
+    ensures loads { (rest : LoadingWorld) (meant : closing.Closure) (start : ℕ) → start ≤ S.failures store.old → IsClosureOf closure meant → AreAccepted (answers_of S.is_honest (S.files store.old)) meant.found
+        → IfOk result (λ answer. LoadsHeld S.is_honest (S.files store.old) start (S.failures store.new) (in_world (with_handles rest global.old.handles) registry.old) meant (answer_in answer) (in_world (with_handles rest global.new.handles) registry.new)) }
     ensures err { OnErr result ((registry.new ≡ registry.old) × (global.new ≡ global.old)) }
 {
     global.reveal_handles();
@@ -204,11 +198,9 @@ fn load_new<S: Store, A: Allocator + Copy>(
     requires { 0 < free_modules registry.old }
     ensures stays { IsLater (S.files store.old) (S.failures store.old) (S.files store.new) (S.failures store.new) }
     ensures device { IfOk result (RoseIf is_load_device (S.failures store.old) (S.failures store.new)) }
-    ensures loads { (rest : LoadingWorld) → S.is_honest → closing.reading ne_format.says (around_in registry.old (S.files store.old)) [] file.now ≡ Read (read_in (S.files store.old) file.now read)
-        → IfOk result (λ answer. (is_load_module : Bool) → loading.Loads ne_format is_load_module (in_store rest registry.old global.old.handles (S.files store.old) rest.failures) file.now (answer_in answer)
-        (in_store rest registry.new global.new.handles (S.files store.new) rest.failures)) }
-    ensures any { (rest : LoadingWorld) → handle_named registry.old read.name ≡ None → IfOk result (λ answer. (is_load_module : Bool) → AnyLoadsBy GivesAnyFewest is_load_module (in_world (with_handles rest global.old.handles) registry.old) file.now
-        (answer_in answer) (in_world (with_handles rest global.new.handles) registry.new)) }
+    ensures loads { (rest : LoadingWorld) (start : ℕ) → start ≤ S.failures store.old → IsAccepted (answers_of S.is_honest (S.files store.old)) file.now (tables_in read) → handle_named registry.old read.name ≡ None
+        → IfOk result (λ answer. (is_load_module : Bool) → LoadsFrom FillsFewest (told S.is_honest ne_format (S.files store.old) start (S.failures store.new)) is_load_module (in_store rest registry.old global.old.handles (S.files store.old) start) file.now (answer_in answer)
+        (in_store rest registry.new global.new.handles (S.files store.old) start)) }
     ensures err { OnErr result ((registry.new ≡ registry.old) × (global.new ≡ global.old)) }
 {
     let name = registry.copy_of(file)?;
@@ -252,10 +244,9 @@ pub fn load<S: Store, A: Allocator + Copy>(
 ) -> Result<LoadAnswer, AllocError>
     ensures stays { IsLater (S.files store.old) (S.failures store.old) (S.files store.new) (S.failures store.new) }
     ensures device { IfOk result (RoseIf is_load_device (S.failures store.old) (S.failures store.new)) }
-    ensures loads { (rest : LoadingWorld) → S.is_honest → IfOk result (λ answer. loading.Loads ne_format is_load_module (in_store rest registry.old global.old.handles (S.files store.old) rest.failures) file.now (answer_in answer)
-        (in_store rest registry.new global.new.handles (S.files store.new) rest.failures)) }
-    ensures any { (rest : LoadingWorld) → IfOk result (λ answer. AnyLoadsBy GivesAnyFewest is_load_module (in_world (with_handles rest global.old.handles) registry.old) file.now (answer_in answer)
-        (in_world (with_handles rest global.new.handles) registry.new)) }
+    ensures over { (rest : LoadingWorld) → IfOk result (λ answer. LoadsFrom FillsFewest (told S.is_honest ne_format (S.files store.old) (S.failures store.old) (S.failures store.new)) is_load_module
+        (in_store rest registry.old global.old.handles (S.files store.old) (S.failures store.old)) file.now (answer_in answer)
+        (in_store rest registry.new global.new.handles (S.files store.old) (S.failures store.old))) }
     ensures err { OnErr result ((registry.new ≡ registry.old) × (global.new ≡ global.old)) }
 {
     let found = Vec::new(alloc);

@@ -1,7 +1,7 @@
 -- Code that is fetched has the bytes that it had.
-use Rattle.w16_loading.proofs.Common.{◌≡◌, ◌⊎◌, ℕ, inl, inr, List, Option, Some, IfSome, refl, sym, ap, ◌∙◌, subst, false≢true, bytes_in, FetchFault, Format, LoadingWorld}
-use Rattle.w16_loading.proofs.Common.{Module, Modules, IsSegmentOf, module_at, FillsOne, is_of_device, IsImage, segment_bytes, IsLoadingWorld, FetchAgainLaw, FetchFaultsLaw}
-use Rattle.w16_loading.specs.declared.FetchFault.TheVariants as faults
+use Rattle.w16_loading.proofs.Common.{◌≡◌, ℕ, inl, inr, List, Option, Some, IfSome, refl, sym, ap, ◌∙◌, subst, bytes_in, Format, LoadingWorld}
+use Rattle.w16_loading.proofs.Common.{Module, Modules, IsSegmentOf, module_at, IsImage, segment_bytes, IsLoadingWorld, FetchAgainLaw, FetchFaultsLaw}
+use Rattle.w16_loading.specs.declared.FetchFault.TheVariants.{Store, NoRoom, Damaged}
 use Rattle.w16_loading.proofs.Fillings.{filled_object}
 
 -- two modules of one handle are one
@@ -17,9 +17,10 @@ segment_image format world slot handle number m bytes is s (inl i) =
     ap (segment_bytes format world m) one.1 ∙ ap (λ (n : Module). segment_bytes format world n i.1) (sym same) ∙ i.4
 segment_image format world slot handle number m bytes is s (inr i) = absurd (is.no_resource slot handle number i.0 i.1 m i.2 s i.3)
 
-pub fetch_again_law : FetchAgainLaw
-fetch_again_law format before absent after slot handle number m bytes is code segment coded has modules files f =
-    ap bytes_in (filled_object absent.handles.heap slot f.bytes after.handles.heap f.filled) ∙ sym (segment_image format absent slot handle number m f.bytes is here f.image) ∙ same_bytes ∙ had
+pub fetch_again_law : (honest : Type 0) → FetchAgainLaw honest
+fetch_again_law honest format from to before absent after slot handle number m bytes truly is code segment coded has modules files f =
+    let read : List ℕ = f.given.0 in
+    ap bytes_in (filled_object absent.handles.heap slot read after.handles.heap f.given.3) ∙ sym (segment_image format absent slot handle number m read is here (f.given.2 truly)) ∙ same_bytes ∙ had
   where
     here : IsSegmentOf absent slot handle number m
     here = record { loaded = ap (λ (all : Modules). module_at all handle) modules ∙ segment.loaded; has = segment.has }
@@ -31,10 +32,7 @@ fetch_again_law format before absent after slot handle number m bytes is code se
     had = subst (λ p. IfSome p (λ b. segment_bytes format before m number ≡ Some b)) has (code slot handle number m segment coded)
 
 -- what refuses a fetch
-pub fetch_faults_law : FetchFaultsLaw
-fetch_faults_law format old new slot fault f = turn fault f.filled
-  where
-    turn : (fault : FetchFault) → FillsOne is_of_device old.handles.heap slot f.bytes (Some fault) new.handles.heap → (fault ≡ faults.Store) ⊎ (fault ≡ faults.NoRoom)
-    turn faults.NoRoom h = inr refl
-    turn faults.Store h = inl refl
-    turn faults.Damaged h = absurd (false≢true h.0)
+pub fetch_faults_law : (honest : Type 0) → FetchFaultsLaw honest
+fetch_faults_law honest format before after old new slot Store truly f = inl refl
+fetch_faults_law honest format before after old new slot NoRoom truly f = inr refl
+fetch_faults_law honest format before after old new slot Damaged truly f = inl (f.given.0.2 truly)

@@ -1,10 +1,12 @@
 -- What was bound at load stays until the module goes.
-use Rattle.w16_loading.proofs.Common.{◌≡◌, ◌≢◌, ℕ, ◌+◌, ◌-◌, inl, inr, ◌⊎◌, List, [], ◌∷◌, Option, Some, None, refl, sym, ap, ◌∙◌, subst, cases_eq, is_member, Member, Each-at, Each-from_All, inserted_here, inserted_other}
-use Rattle.w16_loading.proofs.Common.{taken_here, taken_other, LoadingWorld, Module, Modules, Named, IsFreeModule, module_at, module_in, with_heap, Loaded, BuiltIn, Giving, FillsOne, Failure, is_of_device, Closure}
-use Rattle.w16_loading.proofs.Common.{Found, Given, given_from, with_modules, bound, named, Answer, Loads, Fulfils, undone, left, Fetches, without_objects, Go, Frees, used_less, without_module, BoundOnceLaw}
+use Rattle.w16_loading.proofs.Common.{Fills, ◌≡◌, ◌≢◌, ℕ, ◌+◌, ◌-◌, inl, inr, ◌⊎◌, List, [], ◌∷◌, Option, Some, None, refl, sym, ap, ◌∙◌, subst, cases_eq, is_member, Member, Each-at, Each-from_All, inserted_here, inserted_other}
+use Rattle.w16_loading.proofs.Common.{taken_here, taken_other, LoadingWorld, Module, Modules, Named, IsFreeModule, module_at, module_in, with_heap, Loaded, BuiltIn, Giving, Failure, Closure}
+use Rattle.w16_loading.proofs.Common.{Found, Given, given_from, with_modules, bound, named, Answer, Fulfils, undone, left, without_objects, Go, Frees, used_less, without_module, BoundOnceLaw}
 use Rattle.std.specs.FinMap as finmap
 use Rattle.w16_loading.proofs.Given.{given_handle, put_all}
 use Rattle.w16_loading.proofs.Stepping.{Parts, nothing_asked, family, loaded}
+use Rattle.w16_loading.specs.Answers.{Answers, FetchesFrom, GivesFrom, LoadsFrom, told}
+use Rattle.w16_loading.proofs.Answered.{some_loads, told_answers}
 
 abbrev pub Same : Module → Module → Type 0
 Same m n = (n.values ≡ m.values) × (n.slots ≡ m.slots) × (n.imports ≡ m.imports)
@@ -106,16 +108,19 @@ freed old k answer new f = subst (λ (w : LoadingWorld). Good old.modules w.modu
 
 -- Steps.
 
-pub bound_law : BoundOnceLaw
-bound_law format old new command reply step = family (Fetches format) (Loads format) (λ slice. Unit {0}) old Bound parts (record new { failures = old.failures }) reply command (nothing_asked command) step.step
+pub bound_law : (honest : Type 0) → BoundOnceLaw honest
+bound_law honest format old new command reply step = family (FetchesFrom Fills answers) (LoadsFrom Fills answers) (λ slice. Unit {0}) old Bound parts (record new { failures = old.failures }) reply command (nothing_asked command) step.step
   where
+    answers : Answers
+    answers = told honest format old.files old.failures new.failures
+
     Bound : LoadingWorld → Type 0
     Bound world = Good old.modules world.modules
 
     same : Good old.modules old.modules
     same = unchanged old.modules old.modules refl
 
-    parts : Parts (Fetches format) (Loads format) (λ slice. Unit {0}) old Bound
+    parts : Parts (FetchesFrom Fills answers) (LoadsFrom Fills answers) (λ slice. Unit {0}) old Bound
     parts = record {
       start = same;
       handles = λ command reply next step. same;
@@ -124,8 +129,9 @@ bound_law format old new command reply step = family (Fetches format) (Loads for
       writes = λ selector offset slice world ours good. good;
       fetched = λ slot fault next f. unchanged old.modules next.modules (ap (λ (w : LoadingWorld). w.modules) f.rest);
       built = λ name handle none free. put_new old.modules handle (BuiltIn name) free.2;
-      loaded = λ b file answer new f. loaded (λ answer. Bound) old (λ answer. same) (FillsOne is_of_device) format b new file answer
-          (λ handle m there few. put_uses old.modules handle m (m.uses + 1) (ap module_in there)) (λ closure read n e d done h. fulfilled (FillsOne is_of_device) old closure answer new h) f;
+      loaded = λ b file answer next f. loaded (λ answer. Bound) old (λ answer. same) (GivesFrom Fills answers) (λ closure. Unit {0}) b next file answer
+          (λ handle m there few. put_uses old.modules handle m (m.uses + 1) (ap module_in there)) (λ closure any h. fulfilled (GivesFrom Fills answers) old closure answer next h)
+          (some_loads answers (told_answers honest format old.files old.failures new.failures) old Fills b file answer next f);
       freed = λ handle answer new f. freed old handle answer new f;
       counted = λ slot load count there some few. same;
       made = λ slot handle place r fault next free at none f. unchanged old.modules next.modules (ap (λ (w : LoadingWorld). w.modules) f.rest);

@@ -1,11 +1,13 @@
 -- What each step leaves of objects that it isn't about, and of pinned ones, whatever the store answers.
-use Rattle.w16_loading.proofs.Common.{◌≡◌, ℕ, inl, inr, ◌⊎◌, true, false, List, Option, Some, None, MatchOption, IsSomeAnd, is_some, refl, sym, subst, IsAbout, Handles, Object, object_at, is_pinned_object, StandsStill, Call, CallStep, Calls}
-use Rattle.w16_loading.proofs.Common.{AnyFetches, AnyLoads, IsReleased, IsStepAbout, MayGo, StepBystandersLaw, StepPinnedLaw, call_of, step_may_move_own, AddsBuiltIn, FamilyStep, GivesBuiltIn, LoadingCommand, ModuleCommand, ModuleStep}
-use Rattle.w16_loading.proofs.Common.{ResourceCommand, ResourceStep, built_in, OfHandles, OfResizes, OfFar, OfModules, OfResources, Builtin, LoadModule, LoadLibrary, FreeLibrary, FreeModule, GetModuleHandle, GetModuleUsage, GetProcAddress}
-use Rattle.w16_loading.proofs.Common.{FindResource, LoadResource, LockResource, FreeResource, SizeofResource, IsLoadingWorld, LoadingWorld, handle_named, Reply, ResizeReplies, answer_in, ResizeCommand, ResizeStep, GlobalReAlloc, GlobalDiscard}
-use Rattle.std.specs.FinMap as finmap
+use Rattle.w16_loading.proofs.Common.{◌≡◌, ℕ, inl, inr, ◌⊎◌, true, false, List, Option, Some, None, IsSomeAnd, is_some, refl, sym, subst, IsAbout, Handles, Object, object_at, is_pinned_object, StandsStill, Call, CallStep, Calls}
+use Rattle.w16_loading.proofs.Common.{AnyFetches, IsReleased, IsStepAbout, MayGo, StepBystandersLaw, StepPinnedLaw, call_of, step_may_move_own, FamilyStep, GivesBuiltIn, LoadingCommand, ModuleCommand, ModuleStep}
+use Rattle.w16_loading.proofs.Common.{ResourceCommand, ResourceStep, OfHandles, OfResizes, OfFar, OfModules, OfResources, Builtin, LoadModule, LoadLibrary, FreeLibrary, FreeModule}
+use Rattle.w16_loading.proofs.Common.{LoadResource, LockResource, FreeResource, IsLoadingWorld, LoadingWorld, handle_named, Reply, ResizeReplies, answer_in, ResizeCommand, ResizeStep, GlobalReAlloc, GlobalDiscard}
 use Rattle.w16_model.specs.Calls as calls
 use Rattle.w16_model.proofs.Bystanders as calls_proofs
+use Rattle.w16_loading.proofs.Answered.{any_step}
+use Rattle.w16_loading.proofs.Cases.{by_option}
+use Rattle.w16_loading.proofs.Stepping.{AnyLoading}
 use Rattle.w16_loading.proofs.CallsKept.{answered}
 use Rattle.w16_loading.proofs.Owners.{some_of}
 use Rattle.w16_loading.proofs.Spared.{HasPinned, IsSpared, same_spared}
@@ -40,31 +42,23 @@ module _ (old : LoadingWorld) (is : IsLoadingWorld old) (q : ℕ) (there : is_so
   call_spares call answer next step out = (calls_proofs.bystanders_law old.handles next call answer q is.handles step there out, λ pinned. calls_proofs.pinned_law old.handles next call answer q is.handles step pinned (λ m. out))
 
   built : (name : List ℕ) (handle : ℕ) → GivesBuiltIn old name handle new → Spared new
-  built name handle step = turn (handle_named old.modules name) step
-    where
-      turn : (p : Option ℕ) → MatchOption p (AddsBuiltIn old name handle new) (λ there. (handle ≡ built_in (finmap.get old.modules there) there) × (new ≡ old)) → Spared new
-      turn None (inl f) = same_world f.2
-      turn None (inr f) = subst Spared (sym f.1) (same_spared old.handles.heap q)
-      turn (Some there) f = same_world f.1
+  built name handle step = elim (by_option (handle_named old.modules name) step) [ inl (e, inl f) ↦ same_world f.2 | inl (e, inr f) ↦ subst Spared (sym f.1) (same_spared old.handles.heap q) | inr (there, e, f) ↦ same_world f.1 ]
 
-  modules : (command : ModuleCommand) → ModuleStep AnyLoads old command reply new → SparedOrReleased (OfModules command)
+  modules : (command : ModuleCommand) → ModuleStep AnyLoading old command reply new → SparedOrReleased (OfModules command)
   modules (Builtin name) f = inl (built name f.0 f.2)
   modules (LoadModule file) f = inl (modules_loaded old is q there true file f.0 new f.2)
   modules (LoadLibrary file) f = inl (modules_loaded old is q there false file f.0 new f.2)
   modules (FreeLibrary handle) f = uses_ended old is q handle f.0 new f.2
   modules (FreeModule handle) f = uses_ended old is q handle f.0 new f.2
-  modules (GetModuleHandle name) f = inl (same_world f.1)
-  modules (GetModuleUsage handle) f = inl (same_world f.1)
-  modules (GetProcAddress handle label) f = inl (same_world f.1)
+  modules other f = inl (same_world f.1)
 
   resources : (command : ResourceCommand) → ResourceStep AnyFetches old command reply new → (IsStepAbout old.handles (OfResources command) q → ⊥) → SparedOrReleased (OfResources command)
-  resources (FindResource handle name kind) f out = inl (same_world f.1)
   resources (LoadResource handle place) f out = inl (resource_loaded old is q there new reply handle place f)
   resources (LockResource handle) f out = inl (lock_spares old is q there new reply handle out f)
   resources (FreeResource handle) f out = subst (λ w. IsSpared old.handles.heap w.handles.heap q ⊎ IsReleased (OfResources (FreeResource handle)) old w q) (sym f.1) (resource_ended old is q handle)
-  resources (SizeofResource handle place) f out = inl (same_world f.1)
+  resources other f out = inl (same_world f.1)
 
-  family_spares : (command : LoadingCommand) → FamilyStep AnyFetches AnyLoads old command reply new → (IsStepAbout old.handles command q → ⊥) → SparedOrReleased command
+  family_spares : (command : LoadingCommand) → FamilyStep AnyFetches AnyLoading old command reply new → (IsStepAbout old.handles command q → ⊥) → SparedOrReleased command
   family_spares (OfHandles command) f out = let c : (answer : calls.Answer) × CallStep old.handles (Calls command) answer f.0 = answered old is command reply f.0 f.1 in inl (subst Spared (sym f.2) (call_spares (Calls command) c.0 f.0 c.1 out))
   family_spares (OfResizes command) f out = let c : (answer : calls.Answer) × CallStep old.handles (call_of command) answer f.0 = resize_call old.handles command reply f.0 f.1 in inl (subst Spared (sym f.2) (call_spares (call_of command) c.0 f.0 c.1 out))
   family_spares (OfFar command) f out = inl (access_spares old is q there new reply command out f)
@@ -84,13 +78,10 @@ module _ (old : LoadingWorld) (is : IsLoadingWorld old) (q : ℕ) (there : is_so
     spared_stands command (inr r) = inr r
 
     resource_stands : (command : ResourceCommand) → ResourceStep AnyFetches old command reply new → StandsOrReleased (OfResources command)
-    resource_stands (FindResource handle name kind) f = spared_stands (OfResources (FindResource handle name kind)) (resources (FindResource handle name kind) f (λ about. about))
-    resource_stands (LoadResource handle place) f = spared_stands (OfResources (LoadResource handle place)) (resources (LoadResource handle place) f (λ about. about))
     resource_stands (LockResource handle) f = inl (lock_stands old is q there new reply pinned handle f)
-    resource_stands (FreeResource handle) f = spared_stands (OfResources (FreeResource handle)) (resources (FreeResource handle) f (λ about. about))
-    resource_stands (SizeofResource handle place) f = spared_stands (OfResources (SizeofResource handle place)) (resources (SizeofResource handle place) f (λ about. about))
+    resource_stands other f = spared_stands (OfResources other) (resources other f (λ about. about))
 
-    family_stands : (command : LoadingCommand) → FamilyStep AnyFetches AnyLoads old command reply new → (step_may_move_own command ≡ true → IsStepAbout old.handles command q → ⊥) → StandsOrReleased command
+    family_stands : (command : LoadingCommand) → FamilyStep AnyFetches AnyLoading old command reply new → (step_may_move_own command ≡ true → IsStepAbout old.handles command q → ⊥) → StandsOrReleased command
     family_stands (OfHandles command) f out = let c : (answer : calls.Answer) × CallStep old.handles (Calls command) answer f.0 = answered old is command reply f.0 f.1 in inl (subst Stands (sym f.2) (calls_proofs.pinned_law old.handles f.0 (Calls command) c.0 q is.handles c.1 pinned out))
     family_stands (OfResizes command) f out = let c : (answer : calls.Answer) × CallStep old.handles (call_of command)
         answer f.0 = resize_call old.handles command reply f.0 f.1 in inl
@@ -107,11 +98,13 @@ may_go old new failures q (OfModules (FreeModule handle)) g = g
 may_go old new failures q (OfResources (FreeResource handle)) g = g
 may_go old new failures q command g = absurd g
 
-pub bystanders_law : StepBystandersLaw
-bystanders_law old new command reply q is step there out = elim (family_spares old is q there (record new { failures = old.failures }) reply command step.step out) [ inl s ↦ inl s.0 | inr r ↦ inr (r.0, may_go old new old.failures q command r.1) ]
+pub bystanders_law : (honest : Type 0) → StepBystandersLaw honest
+bystanders_law honest format old new command reply q is step there out =
+    elim (family_spares old is q there (record new { failures = old.failures }) reply command (any_step honest format old new command reply is step) out) [ inl s ↦ inl s.0 | inr r ↦ inr (r.0, may_go old new old.failures q command r.1) ]
 
-pub pinned_law : StepPinnedLaw
-pinned_law old new command reply q is step pinned out = elim (family_stands old is q (some (object_at old.handles.heap q) pinned) (record new { failures = old.failures }) reply pinned command step.step out) [ inl s ↦ inl s | inr r ↦ inr (r.0, may_go old new old.failures q command r.1) ]
+pub pinned_law : (honest : Type 0) → StepPinnedLaw honest
+pinned_law honest format old new command reply q is step pinned out =
+    elim (family_stands old is q (some (object_at old.handles.heap q) pinned) (record new { failures = old.failures }) reply pinned command (any_step honest format old new command reply is step) out) [ inl s ↦ inl s | inr r ↦ inr (r.0, may_go old new old.failures q command r.1) ]
   where
     some : (p : Option Object) → IsSomeAnd p (λ o. is_pinned_object o ≡ true) → is_some p ≡ true
     some None h = absurd h

@@ -1,13 +1,10 @@
 -- What a closure has found: modules of names that nothing had, each but the first asked for by another.
-use Rattle.w16_loading.proofs.Common.{◌≡◌, ◌≢◌, ℕ, zero, suc, ◌+◌, ◌<◌, ◌≤◌, inl, inr, Bool, true, false, nat_lt, List, [], ◌∷◌, ◌++◌, length, map, position, Option, Some, None, IfSome, Result, Ok, Err}
-use Rattle.w16_loading.proofs.Common.{IfOk, option_map, refl, sym, ap, ◌∙◌, subst, arith, ltb-true, ltb-false, length-append, option_or, Member, EachPair, is_named, Saying, AreModuleFiles, IsModuleFile}
-use Rattle.w16_loading.proofs.Common.{ModuleFile, Around, Closure, Found, Referent, reading, meant, followed, after, begun, dll, with_bound, with_found, Read, There, New, AnyCloses, IsAnyClosure}
-use Rattle.w16_loading.proofs.Common.{with_files}
+use Rattle.w16_loading.proofs.Common.{◌≡◌, ◌≢◌, ℕ, ◌+◌, ◌<◌, ◌≤◌, inl, inr, Bool, true, false, nat_lt, List, [], ◌∷◌, ◌++◌, length, map, position, Option, Some, None}
+use Rattle.w16_loading.proofs.Common.{option_map, refl, sym, ap, ◌∙◌, subst, arith, ltb-true, ltb-false, length-append, option_or, Member, EachPair, is_named, IsModuleFile}
+use Rattle.w16_loading.proofs.Common.{ModuleFile, Around, Closure, Found, Referent, meant, begun, with_bound, with_found, There, New}
 use Rattle.std.specs.List.{AllByRecursion as Each}
 use Rattle.w16_loading.proofs.Undone.{in_first, in_second, parted}
 use Rattle.w16_loading.proofs.Given.{no_place}
-use Rattle.w16_loading.proofs.Readings.{read_by, IsRead, reading_is, follow_cases, from_next, from_list}
-use Rattle.w16_loading.proofs.FetchWorlds.{read_file}
 
 abbrev name_of : Found → List ℕ
 name_of f = f.read.tables.name
@@ -25,7 +22,7 @@ pub record IsClosure (named : List ℕ → Option ℕ) (closure : Closure) : Typ
   -- each new module but the first is meant by another
   pub asked : (place : ℕ) → 0 < place → place < length closure.found → (by : ℕ) × Member {X = ℕ × Referent} (by, New place) closure.bound × (by ≢ place)
 
-module _ (says : Saying) (modules : AreModuleFiles says) (a : Around) where
+module _ (a : Around) where
   -- what nothing means, nothing has the name of
   meant_none : (found : List Found) (name : List ℕ) → meant a found name ≡ None → (a.named name ≡ None) × ((f : Found) → Member f found → is_named (name_of f) name ≡ false)
   meant_none found name e = turn (a.named name) (position (λ f. is_named (name_of f) name) found) refl refl e
@@ -34,10 +31,6 @@ module _ (says : Saying) (modules : AreModuleFiles says) (a : Around) where
       turn None None x y e = (x, λ f m. no_place (λ f. is_named (name_of f) name) found y f m)
       turn None (Some r) x y e = cc
       turn (Some p) r x y e = cc
-
-  -- a file that is read is a module's
-  is_file : (file : List ℕ) (read : ModuleFile) → read_by says (a.file file) ≡ Some read → IsModuleFile read
-  is_file file read e = subst (λ p. IfSome p IsModuleFile) e (read_file says modules (a.file file))
 
   each_both : {X : Type 0} (P : X → Type 0) (xs ys : List X) → Each P xs → Each P ys → Each P (xs ++ ys)
   each_both P [] ys h k = k
@@ -48,7 +41,7 @@ module _ (says : Saying) (modules : AreModuleFiles says) (a : Around) where
   each_longer (x ∷ xs) m n le h = ((let lt : x.0 < m = h.0 in omega (arith, lt, le)), each_longer xs m n le h.1)
 
   -- one more reference is bound
-  bound_more : (closure : Closure) (place : ℕ) (referent : Referent) → place < length closure.found → IsClosure a.named closure → IsClosure a.named (with_bound closure place referent)
+  pub bound_more : (closure : Closure) (place : ℕ) (referent : Referent) → place < length closure.found → IsClosure a.named closure → IsClosure a.named (with_bound closure place referent)
   bound_more closure place referent lt is = record {
     files = is.files;
     new = is.new;
@@ -69,7 +62,7 @@ module _ (says : Saying) (modules : AreModuleFiles says) (a : Around) where
   each_mapped place n (name ∷ names) lt = (lt, each_mapped place n names lt)
 
   -- one more module is found, for a reference of another
-  found_more : (closure : Closure) (place : ℕ) (file : List ℕ) (read : ModuleFile) → place < length closure.found → IsClosure a.named closure → IsModuleFile read → meant a closure.found read.tables.name ≡ None
+  pub found_more : (closure : Closure) (place : ℕ) (file : List ℕ) (read : ModuleFile) → place < length closure.found → IsClosure a.named closure → IsModuleFile read → meant a closure.found read.tables.name ≡ None
       → IsClosure a.named (with_bound (with_found closure file read) place (New (length closure.found)))
   found_more closure place file read lt is its none = record {
     files = λ f m. elim (parted f closure.found (one ∷ []) m) [ inl k ↦ is.files f k | inr (inl e) ↦ subst (λ (g : Found). IsModuleFile g.read) (sym e) its | inr (inr k) ↦ absurd k ];
@@ -106,52 +99,13 @@ module _ (says : Saying) (modules : AreModuleFiles says) (a : Around) where
           let same : p ≡ length closure.found = omega (arith, le, few, long) in
           (place, in_second {A = ℕ × Referent} (place, New p) closure.bound ((place, New (length closure.found)) ∷ []) (inl (λ i. (place, New (same i)))), λ e. absurd (omega (arith, e, lt, le)))
 
-  -- one reference
-  pub follows : (closure : Closure) (place : ℕ) (name : List ℕ) (next : Closure) → place < length closure.found → IsClosure a.named closure → followed says a closure place name ≡ Ok next → IsClosure a.named next
-  follows closure place name next lt is e = subst (λ r. IfOk r (IsClosure a.named)) e (follow_cases says a (λ r. IfOk r (IsClosure a.named)) closure place name (λ referent. bound_more closure place referent lt is) (λ b. tt)
-      (λ read r. found_more closure place (dll name) read lt is (is_file (dll name) read r.is_file) r.unnamed))
-
   -- the module asked for
-  pub begins : (file : List ℕ) (read : ModuleFile) → reading says a [] file ≡ Read read → IsClosure a.named (begun file read)
-  begins file read e =
-      let r : IsRead says a [] file read = reading_is says a [] file read e in record {
-        files = λ g m. elim m [ inl same ↦ subst (λ (f : Found). IsModuleFile f.read) (sym same) (is_file file read r.is_file) | inr k ↦ absurd k ];
-        new = λ g m. elim m [ inl same ↦ ap (λ (x : Found). a.named (name_of x)) same ∙ (meant_none [] read.tables.name r.unnamed).0 | inr k ↦ absurd k ];
-        apart = (tt, tt);
-        pending = each_mapped 0 1 read.tables.references (omega arith);
-        bound = tt;
-        asked = λ p some few. absurd (omega (arith, some, few));
-      }
-
--- all that it needs, whatever files it is looked for in
-closes : (says : Saying) → AreModuleFiles says → (a : Around) (n : ℕ) (closure last : Closure) → IsClosure a.named closure → AnyCloses says a n closure last → IsClosure a.named last
-closes says modules a zero closure last is f = subst (IsClosure a.named) (sym f.1) is
-closes says modules a (suc n) closure last is (place, name, rest, e, files, next, step, more) =
-    let few : Each (λ (y : ℕ × List ℕ). y.0 < length closure.found) ((place, name) ∷ rest) = subst (Each (λ (y : ℕ × List ℕ). y.0 < length closure.found)) e is.pending in
-    closes says modules a n next last (follows says modules (with_files a files) (record closure { pending = rest }) place name next few.0
-    (record { files = is.files; new = is.new; apart = is.apart; pending = few.1; bound = is.bound; asked = is.asked }) step) more
-
-pub closure_is : (a : Around) (file : List ℕ) (closure : Closure) → IsAnyClosure a file closure → IsClosure a.named closure
-closure_is a file closure any = closes any.says any.modules a any.count (begun file any.read) closure (begins any.says any.modules (with_files a any.files) file any.read any.first) any.closes
-
--- A closure over files that stay is one over any store.
-
-ended : (says : Saying) (a : Around) (closure last : Closure) → ◌≡◌ {A = Result Closure ℕ} (Ok closure) (Ok last) → last.pending ≡ [] → AnyCloses says a 0 closure last
-ended says a closure last e done = let same : last ≡ closure = cc in (ap (λ (c : Closure). c.pending) (sym same) ∙ done, same)
-
-closes_any : (says : Saying) (a : Around) (n : ℕ) (closure last : Closure) → after says a n closure ≡ Ok last → last.pending ≡ [] → (m : ℕ) × AnyCloses says a m closure last
-closes_any says a zero closure last e done = (0, ended says a closure last e done)
-closes_any says a (suc n) closure last e done = by_list (λ next f. closes_any says a n next last f done) closure.pending refl e
-  where
-    by_list : ((next : Closure) → after says a n next ≡ Ok last → (m : ℕ) × AnyCloses says a m next last) → (p : List (ℕ × List ℕ)) → closure.pending ≡ p → from_list says a n closure p ≡ Ok last → (m : ℕ) × AnyCloses says a m closure last
-    by_list more [] at e = (0, ended says a closure last e done)
-    by_list more (x ∷ rest) at e = by_next (followed says a (record closure { pending = rest }) x.0 x.1) refl e
-      where
-        by_next : (r : Result Closure ℕ) → followed says a (record closure { pending = rest }) x.0 x.1 ≡ r → from_next says a n r ≡ Ok last → (m : ℕ) × AnyCloses says a m closure last
-        by_next (Ok next) f g = let c : (m : ℕ) × AnyCloses says a m next last = more next g in (suc c.0, (x.0, x.1, rest, at, a.file, next, f, c.1))
-        by_next (Err answer) f g = cc
-
-pub as_any_closure : (says : Saying) → AreModuleFiles says → (a : Around) (file : List ℕ) (read : ModuleFile) (closure : Closure) (n : ℕ) → reading says a [] file ≡ Read read → after says a n (begun file read) ≡ Ok closure → closure.pending ≡ [] → IsAnyClosure a file closure
-as_any_closure says modules a file read closure n e f done =
-    let c : (m : ℕ) × AnyCloses says a m (begun file read) closure = closes_any says a n (begun file read) closure f done in
-    record { says = says; modules = modules; files = a.file; read = read; first = e; count = c.0; closes = c.1 }
+  pub began : (file : List ℕ) (read : ModuleFile) → IsModuleFile read → meant a [] read.tables.name ≡ None → IsClosure a.named (begun file read)
+  began file read its none = record {
+    files = λ g m. elim m [ inl same ↦ subst (λ (f : Found). IsModuleFile f.read) (sym same) its | inr k ↦ absurd k ];
+    new = λ g m. elim m [ inl same ↦ ap (λ (x : Found). a.named (name_of x)) same ∙ (meant_none [] read.tables.name none).0 | inr k ↦ absurd k ];
+    apart = (tt, tt);
+    pending = each_mapped 0 1 read.tables.references (omega arith);
+    bound = tt;
+    asked = λ p some few. absurd (omega (arith, some, few));
+  }

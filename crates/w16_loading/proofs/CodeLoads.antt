@@ -20,7 +20,7 @@ module _ (says : Saying) (a : Around) where
   abbrev pub AreOfFiles : Closure → Type 0
   AreOfFiles closure = Each IsOfFile closure.found
 
-  each_more : (xs ys : List Found) → Each IsOfFile xs → Each IsOfFile ys → Each IsOfFile (xs ++ ys)
+  pub each_more : (xs ys : List Found) → Each IsOfFile xs → Each IsOfFile ys → Each IsOfFile (xs ++ ys)
   each_more [] ys h k = k
   each_more (x ∷ xs) ys h k = (h.0, each_more xs ys h.1 k)
 

@@ -1,10 +1,12 @@
 -- What a script reads of code is its file's, relocated.
-use Rattle.w16_loading.proofs.Common.{◌≡◌, ℕ, ◌+◌, ◌/◌, Bool, true, false, ◌&&◌, ◌==◌, if◌then◌else◌, List, [], Option, Some, None, IfSome, IsSomeAnd, MatchOption, MatchBool, is_some, unwrap_or, refl, sym, ap, ◌∙◌, subst, FarFault, part, object_at}
+use Rattle.w16_loading.proofs.Common.{inl, inr, ◌≡◌, ℕ, ◌+◌, ◌/◌, true, ◌==◌, if◌then◌else◌, List, [], Option, Some, None, IfSome, IsSomeAnd, MatchOption, is_some, unwrap_or, refl, sym, ap, ◌∙◌, subst, FarFault, part, object_at}
 use Rattle.w16_loading.proofs.Common.{bytes_at, after_touch, Handles, slot_of_selector, selector_of, selector_in, offset_in, FarAnswer, far_fault, far_slot, far_bytes, Reached, reached, FetchFault, Format, LoadingWorld, Module, IsSegmentOf, module_at}
-use Rattle.w16_loading.proofs.Common.{Fetches, segment_bytes, is_code, far_read, gives, is_not_present, reply_of_far, Failed, CodeIsItsFiles, IsOfFiles, CodeReadsLaw, ◌-◌, ◌*◌, option_map, arith, eq-eqb, Object, AreHandles, Part, part_of_selector, far_at}
+use Rattle.w16_loading.proofs.Common.{Fetches, segment_bytes, is_code, far_read, gives, reply_of_far, Failed, CodeIsItsFiles, IsOfFiles, CodeReadsLaw, ◌-◌, ◌*◌, option_map, arith, eq-eqb, Object, AreHandles, Part, part_of_selector, far_at}
 use Rattle.w16_loading.proofs.Common.{REACH}
 use Rattle.w16_loading.specs.Replies as replies
-use Rattle.w16_loading.specs.Modules.{is_owned}
+use Rattle.w16_loading.specs.Answers.{Answers, FetchesFrom, told}
+use Rattle.w16_loading.specs.Fill.{Fills}
+use Rattle.w16_loading.proofs.Cases.{access_cases}
 use Rattle.w16_loading.proofs.KeptCode.{code_kept, fetched_code, image_of}
 use Rattle.w16_loading.proofs.CodeSteps.{world_fetches}
 use Rattle.w16_model.specs.Handles.{owner_of}
@@ -51,9 +53,19 @@ read_bytes format world selector offset n slot handle number m bytes code segmen
         let said : segment_bytes format world m number ≡ Some r.bytes = subst (λ p. IfSome p (λ b. segment_bytes format world m number ≡ Some b)) its (code slot handle number m segment coded) in
         subst (λ p. IsSomeAnd p (λ image. bytes ≡ part image offset n)) (sym said) (same ∙ ap (λ k. part (far_bytes world.handles selector) k n) from ∙ ap (λ p. part (unwrap_or p []) offset n) r.here)
 
-pub code_reads_law : CodeReadsLaw
-code_reads_law format old new pointer count bytes slot handle number m is of step named segment coded = turn (is_not_present (far_read (selector_in pointer) (offset_in pointer) count old).0 && is_owned old (far_slot old.handles (selector_in pointer))) step
+pub code_reads_law : (honest : Type 0) → CodeReadsLaw honest
+code_reads_law honest format old later pointer count bytes slot handle number m truly is of over named segment coded =
+    elim (access_cases (FetchesFrom Fills answers) old (replies.Reply.Bytes bytes) new (far_read (selector_in pointer) (offset_in pointer) count) (selector_in pointer) over.step) [
+      | inl (fault, next, f, g) ↦ fetched fault next f g
+      | inr g ↦ read_bytes format old (selector_in pointer) (offset_in pointer) count slot handle number m bytes of.code segment coded (first_part old.handles is.handles (selector_in pointer) slot named) g.0
+    ]
   where
+    new : LoadingWorld
+    new = record later { failures = old.failures }
+
+    answers : Answers
+    answers = told honest format old.files old.failures later.failures
+
     after : (next : LoadingWorld) → Fetches format old (far_slot old.handles (selector_in pointer)) None next → gives (far_read (selector_in pointer) (offset_in pointer) count next) ((replies.Reply.Bytes bytes)) new
         → IsSomeAnd (segment_bytes format old m number) (λ image. bytes ≡ part image (offset_in pointer) count)
     after next f g =
@@ -64,18 +76,11 @@ code_reads_law format old new pointer count bytes slot handle number m is of ste
         read_bytes format next (selector_in pointer) (offset_in pointer) count slot handle number m bytes good.code in_next (ap (λ (w : LoadingWorld). is_code w slot) f.rest ∙ coded) there g.0 in
         subst (λ p. IsSomeAnd p (λ image. bytes ≡ part image (offset_in pointer) count)) (ap (λ (w : LoadingWorld). image_of format w.files m.file m.values number) f.rest) read
 
-    fetched : (fault : Option FetchFault) (next : LoadingWorld) → Fetches format old (far_slot old.handles (selector_in pointer)) fault next
+    fetched : (fault : Option FetchFault) (next : LoadingWorld) → FetchesFrom Fills answers old (far_slot old.handles (selector_in pointer)) fault next
         → MatchOption fault (gives (far_read (selector_in pointer) (offset_in pointer) count next) ((replies.Reply.Bytes bytes)) new) (λ f. ((replies.Reply.Bytes bytes) ≡ Failed f) × (new ≡ next))
         → IsSomeAnd (segment_bytes format old m number) (λ image. bytes ≡ part image (offset_in pointer) count)
-    fetched None next f g = after next f g
+    fetched None next f g = after next (record { bytes = f.given.0; image = f.given.2 truly; filled = f.given.3; rest = f.rest }) g
     fetched (Some fault) next f g = differ g.0
       where
         differ : (replies.Reply.Bytes bytes) ≡ Failed fault → IsSomeAnd (segment_bytes format old m number) (λ image. bytes ≡ part image (offset_in pointer) count)
         differ e = cc
-
-    turn : (b : Bool) → MatchBool b
-        ((fault : Option FetchFault) × (next : LoadingWorld) × Fetches format old (far_slot old.handles (selector_in pointer)) fault next
-        × MatchOption fault (gives (far_read (selector_in pointer) (offset_in pointer) count next) ((replies.Reply.Bytes bytes)) new) (λ f. ((replies.Reply.Bytes bytes) ≡ Failed f) × (new ≡ next)))
-        (gives (far_read (selector_in pointer) (offset_in pointer) count old) ((replies.Reply.Bytes bytes)) new) → IsSomeAnd (segment_bytes format old m number) (λ image. bytes ≡ part image (offset_in pointer) count)
-    turn true h = fetched h.0 h.1 h.2 h.3
-    turn false g = read_bytes format old (selector_in pointer) (offset_in pointer) count slot handle number m bytes of.code segment coded (first_part old.handles is.handles (selector_in pointer) slot named) g.0

@@ -163,7 +163,7 @@ module _ (format : Format) where
   -- Resources.
 
   -- a new object, which isn't code
-  entered_code : (old : LoadingWorld) (slot handle place : ℕ) (r : Resource) → IsFreeSlot old.handles slot → KeepsCode format old (with_resource old slot handle place r)
+  pub entered_code : (old : LoadingWorld) (slot handle place : ℕ) (r : Resource) → IsFreeSlot old.handles slot → KeepsCode format old (with_resource old slot handle place r)
   entered_code old slot handle place r free = record {
     files = refl;
     modules = λ h m e. (m, e, same_source m);

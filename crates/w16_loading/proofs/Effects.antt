@@ -44,8 +44,8 @@ never_0 world is n there = turn (finmap.get world.modules 0) there (is.numbers 0
     turn None e h = cc
     turn (Some m) e h = omega (arith, h.0)
 
-pub named_law : NamedLaw
-named_law format old new name answer is step = turn (handle_named old.modules name) refl step.step.0
+pub named_law : (honest : Type 0) → NamedLaw honest
+named_law honest format old new name answer is step = turn (handle_named old.modules name) refl step.step.0
   where
     turn : (p : Option ℕ) → handle_named old.modules name ≡ p → ◌≡◌ {A = Reply} (Word answer) (Word (unwrap_or p 0))
         → (answer ≢ 0 → (n : Named) × (finmap.get old.modules answer ≡ Some n) × (is_named (name_of n) name ≡ true))
@@ -58,8 +58,8 @@ named_law format old new name answer is step = turn (handle_named old.modules na
           λ none. absurd (never_0 old is h.0 (ap (finmap.get old.modules) (sym none ∙ same) ∙ h.1)),
         )
 
-pub built_in_law : BuiltInLaw
-built_in_law format old new name answer step some =
+pub built_in_law : (honest : Type 0) → BuiltInLaw honest
+built_in_law honest format old new name answer step some =
     let says : step.step.0 ≡ answer = (let e = step.step.1 in cc) in
     subst (λ (a : ℕ). (own : List ℕ) × (finmap.get new.modules a ≡ Some (BuiltIn own)) × (is_named own name ≡ true)) says
     (turn step.step.0 (λ none. some (sym says ∙ none)) (handle_named old.modules name) refl step.step.2)
@@ -86,8 +86,8 @@ built_in_law format old new name answer step some =
 
 -- Resources.
 
-pub find_law : FindLaw
-find_law format old new handle answer name kind m there step = turn (position fits m.tables.resources) refl
+pub find_law : (honest : Type 0) → FindLaw honest
+find_law honest format old new handle answer name kind m there step = turn (position fits m.tables.resources) refl
     (step.step.0 ∙ ap (λ p. Word (elim p as (λ _. ℕ) [ None ↦ 0 | Some n ↦ unwrap_or (option_map (λ i. i + 1) (position (λ r. is_label r.label name && is_label r.kind_of kind) n.tables.resources)) 0 ])) there)
   where
     fits : Resource → Bool
@@ -109,8 +109,8 @@ find_law format old new handle answer name kind m there step = turn (position fi
           λ none. absurd (omega (arith, is, none)),
         )
 
-pub sizeof_law : SizeofLaw
-sizeof_law format old new handle place answer m r there some at step =
+pub sizeof_law : (honest : Type 0) → SizeofLaw honest
+sizeof_law honest format old new handle place answer m r there some at step =
     let numbered_is : numbered m.tables.resources place ≡ Some r = ap (λ b. cond {A = Option Resource} b None (slice_get m.tables.resources (place - 1))) (ne_eqb place 0 (λ e. absurd (omega (arith, e, some)))) ∙ at in
     let says : answer ≡ unwrap_or (option_map {T = Resource} {U = ℕ} (λ r. r.length_in) (elim (module_at old.modules handle) [ None ↦ None | Some n ↦ numbered n.tables.resources place ])) 0 = (let e = step.step.0 in cc) in
     says ∙ ap (λ p. unwrap_or (option_map {T = Resource} {U = ℕ} (λ r. r.length_in) (elim p as (λ _. Option Resource) [ None ↦ None | Some n ↦ numbered n.tables.resources place ])) 0) there
@@ -130,8 +130,8 @@ module _ (old : LoadingWorld) (handle slot : ℕ) (load : Load) (found : slot_of
         else (if nat_lt 0 (locks_at old.handles.heap x.0) then (1, old) else (0, (let left = without_objects (λ q. q == x.0) old in record left { loads = finmap.remove left.loads x.0 })))
   ]) (ap (λ p. elim p as (λ _. Option (ℕ × Load)) [ None ↦ None | Some s ↦ option_map {T = Load} {U = ℕ × Load} (λ l. (s, l)) (finmap.get old.loads s) ]) found ∙ ap (option_map {T = Load} {U = ℕ × Load} (λ l. (slot, l))) there)
 
-pub free_law : FreeLaw
-free_law format old new handle slot answer load found there step = (
+pub free_law : (honest : Type 0) → FreeLaw honest
+free_law honest format old new handle slot answer load found there step = (
   λ more.
       let is = freed old handle slot load found there ∙ ap (λ b. cond {A = ℕ × LoadingWorld} b (0, one_less old handle slot load found there) (if nat_lt 0 (locks_at old.handles.heap slot) then (1, old) else (0, gone old handle slot load found there))) (lt-ltb 1 load.loads more) in
       let all = step.step.1 ∙ ap (λ p. p.1) is in (

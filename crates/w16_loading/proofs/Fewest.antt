@@ -1,8 +1,6 @@
 -- The requests of loads and fetches discard as few as they can, since each is an allocation whose new bytes are given.
 use Rattle.w16_loading.proofs.Common.{◌≡◌, ℕ, Bool, true, false, List, length, Option, Some, None, refl, sym, ap, ◌∙◌, subst, false≢true, Heap, Object, IsHeap, with_newest, Request, IsNew, Allocates, discards_needed}
-use Rattle.w16_loading.proofs.Common.{AllocatesFewest, revival_options, allocation_law, FetchFault, NoRoom, Store, Damaged, Fills, FillsOne, asked_of, is_of_device, named, fills, GivesFewest, FetchFewestLaw, LoadFewestLaw}
-use Rattle.w16_loading.proofs.Fillings.{in_turn_as, one_heap}
-use Rattle.w16_loading.proofs.Named.{named_heap}
+use Rattle.w16_loading.proofs.Common.{AllocatesFewest, revival_options, allocation_law, FetchFault, NoRoom, Store, Damaged, Fills, FillsOne, asked_of, GivesFewest}
 
 -- what is filled is allocated
 pub fill_allocates : (old : Heap) (slot : ℕ) (bytes : List ℕ) (answered : Bool) (new : Heap) → (f : Fills old slot bytes answered new) → Allocates old slot (length bytes) f.before.kind f.before.locks revival_options answered new
@@ -21,7 +19,7 @@ fill_allocates old slot bytes answered new f = record {
     turn None r = r
     turn (Some k) r = (r.0, (r.1.0, is_new r.1.0 r.1.1, r.1.2))
 
-fill_fewest : (old : Heap) (slot : ℕ) (bytes : List ℕ) (answered : Bool) (new : Heap) → IsHeap old → Fills old slot bytes answered new → AllocatesFewest old slot (length bytes) revival_options answered new
+pub fill_fewest : (old : Heap) (slot : ℕ) (bytes : List ℕ) (answered : Bool) (new : Heap) → IsHeap old → Fills old slot bytes answered new → AllocatesFewest old slot (length bytes) revival_options answered new
 fill_fewest old slot bytes answered new is f = allocation_law old new slot (length bytes) f.before.kind f.before.locks revival_options answered is (fill_allocates old slot bytes answered new f)
 
 pub one_fewest : (may_fail : FetchFault → Bool) (old : Heap) (slot : ℕ) (bytes : List ℕ) (fault : Option FetchFault) (new : Heap) → IsHeap old → FillsOne may_fail old slot bytes fault new → GivesFewest old slot bytes fault new
@@ -29,11 +27,3 @@ one_fewest may_fail old slot bytes None new is f = fill_fewest old slot bytes tr
 one_fewest may_fail old slot bytes (Some NoRoom) new is f = fill_fewest old slot bytes false new is f
 one_fewest may_fail old slot bytes (Some Store) new is f = f.1
 one_fewest may_fail old slot bytes (Some Damaged) new is f = f.1
-
-pub fetch_fewest_law : FetchFewestLaw
-fetch_fewest_law format old new slot fault is f = one_fewest is_of_device old.handles.heap slot f.bytes fault new.handles.heap is.handles.heap f.filled
-
-pub load_fewest_law : LoadFewestLaw
-load_fewest_law old closure choice failure heap is good filled = in_turn_as (FillsOne is_of_device) GivesFewest
-    (λ before slot bytes fault after is f. (one_fewest is_of_device before slot bytes fault after is f, one_heap is_of_device before slot bytes fault after is f))
-    (named old closure choice).handles.heap heap (fills old closure choice) failure (named_heap old closure choice is.handles good) filled

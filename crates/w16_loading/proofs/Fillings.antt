@@ -1,9 +1,11 @@
 -- What becomes of a heap while objects get bytes: of one, and of several, one after another.
 use Rattle.w16_loading.proofs.Common.{◌≡◌, ◌≢◌, ℕ, inl, inr, ◌⊎◌, Bool, true, false, List, [], ◌∷◌, length, fold, take, Option, Some, None, IsSomeAnd, is_some, refl, sym, ap, ◌∙◌, subst, false≢true, cases_eq, Discardable, eligible, Heap}
 use Rattle.w16_loading.proofs.Common.{Object, IsHeap, blocks, object_at, with_newest, with_ordered, absent, Request, Asked, Settles, discarded, discards_needed, stays_for, KeepsOthers, IsKeptOrDiscarded, revival_options, Member, Each-at}
-use Rattle.w16_loading.proofs.Common.{inserted_here, settled, others_law, kept_or_discarded, FetchFault, Giving, Fills, FillsOne, Filling, Failure, InTurn, asked_of, is_of_read, GivesAny, FillsLaw, IsSized, bytes_at, bytes_in, sized_is}
+use Rattle.w16_loading.proofs.Common.{inserted_here, settled, others_law, kept_or_discarded, FetchFault, Giving, Fills, FillsOne, Filling, Failure, InTurn, asked_of, is_of_read, GivesAny, IsSized, bytes_at, bytes_in, sized_is}
 use Rattle.w16_loading.proofs.Common.{slots_for}
 use Rattle.std.specs.List.{AllByRecursion as Each}
+use Rattle.w16_loading.specs.Answers.{Answers, FetchesFrom, GivesRead, IsOwnedSize}
+use Rattle.w16_loading.proofs.Common.{LoadingWorld, with_heap}
 use Rattle.w16_loading.specs.declared.FetchFault.TheVariants as faults
 
 -- a request that is refused leaves the same heap
@@ -21,13 +23,6 @@ module _ (old : Heap) (slot : ℕ) (bytes : List ℕ) (new : Heap) where
   one_outcome may_fail (Some faults.NoRoom) f = let e : new ≡ old = refused old slot (asked_of old slot f.before bytes) new f.request in (λ t. e, inl e)
   one_outcome may_fail (Some faults.Store) f = (λ t. f.1, inl f.1)
   one_outcome may_fail (Some faults.Damaged) f = (λ t. f.1, inl f.1)
-
-  -- whichever reads may fail, that is as over any store
-  as_any : (may_fail : FetchFault → Bool) (fault : Option FetchFault) → FillsOne may_fail old slot bytes fault new → GivesAny old slot bytes fault new
-  as_any may_fail None f = (bytes, refl, f)
-  as_any may_fail (Some faults.NoRoom) f = (bytes, refl, f)
-  as_any may_fail (Some faults.Store) f = (bytes, refl, (refl, f.1))
-  as_any may_fail (Some faults.Damaged) f = (bytes, refl, (refl, f.1))
 
   module _ (f : Fills old slot bytes true new) where
     pub settled_so : (k : ℕ) × (o : Object) × Settles old (stays_for slot revival_options) (with_ordered (discarded old k (Some slot)) slot o (with_newest slot o)) new
@@ -54,6 +49,21 @@ module _ (old : Heap) (slot : ℕ) (bytes : List ℕ) (new : Heap) where
         same : Some slot ≡ Some q → q ≡ slot
         same e = let i : slot ≡ q = cc in sym i
 
+-- a fetch gives it bytes that were read for it, or nothing changes
+pub fetch_outcome : (answers : Answers) (old : LoadingWorld) (slot : ℕ) (fault : Option FetchFault) (new : LoadingWorld) → FetchesFrom Fills answers old slot fault new
+    → (is_some fault ≡ true → new ≡ old) × ((new ≡ old) ⊎ ((read : List ℕ) × answers.gives old slot read × Fills old.handles.heap slot read true new.handles.heap))
+fetch_outcome answers old slot fault new f = turn fault f.given
+  where
+    same : new.handles.heap ≡ old.handles.heap → new ≡ old
+    same e = f.rest ∙ ap (with_heap old) e
+
+    turn : (fault : Option FetchFault) → GivesRead Fills answers.fails (IsOwnedSize old slot) (answers.gives old slot) old.handles.heap slot fault new.handles.heap
+        → (is_some fault ≡ true → new ≡ old) × ((new ≡ old) ⊎ ((read : List ℕ) × answers.gives old slot read × Fills old.handles.heap slot read true new.handles.heap))
+    turn None (read, sized, is, g) = (λ t. absurd (false≢true t), inr (read, is, g))
+    turn (Some faults.NoRoom) (read, sized, g) = let e : new ≡ old = same (refused old.handles.heap slot (asked_of old.handles.heap slot g.before read) new.handles.heap g.request) in (λ t. e, inl e)
+    turn (Some faults.Store) g = (λ t. same g.1, inl (same g.1))
+    turn (Some faults.Damaged) g = (λ t. same g.1, inl (same g.1))
+
 -- What holds of one heap and the next where an object was filled, and of each heap and itself, holds of the first heap and the last.
 module _ (P : Heap → Heap → Type 0) (same : (h : Heap) → P h h) (then : (a b c : Heap) → P a b → P b c → P a c) where
   pub one_does : (may_fail : FetchFault → Bool) (old : Heap) (slot : ℕ) (bytes : List ℕ) (fault : Option FetchFault) (new : Heap) → IsHeap old → (Fills old slot bytes true new → P old new)
@@ -76,23 +86,21 @@ module _ (P : Heap → Heap → Type 0) (same : (h : Heap) → P h h) (then : (a
       → ((x : Filling) → Member x xs → (a b : Heap) (bytes : List ℕ) → IsHeap a → length bytes ≡ length x.bytes → Fills a x.slot bytes true b → P a b) → InTurn GivesAny old xs failure new → P old new × IsHeap new
   any_do old new xs failure is does f = all_do GivesAny old new xs failure is (λ x m a b fault h g. one_does is_of_read a x.slot g.0 fault b h (λ filled. does x m a b g.0 h g.1 filled) g.2) f
 
--- One way to give bytes as another.
+-- One way to give bytes as another, in such heaps.
+pub in_turn_so : (f g : Giving) (Is : Heap → Type 0) → ((old : Heap) (slot : ℕ) (bytes : List ℕ) (fault : Option FetchFault) (new : Heap) → Is old → f old slot bytes fault new → g old slot bytes fault new × Is new)
+    → (old new : Heap) (xs : List Filling) (failure : Option Failure) → Is old → InTurn f old xs failure new → InTurn g old xs failure new
+in_turn_so f g Is turns old new [] failure is h = h
+in_turn_so f g Is turns old new (x ∷ xs) failure is (None, next, one, rest) =
+    let r : g old x.slot x.bytes None next × Is next = turns old x.slot x.bytes None next is one in (None, next, r.0, in_turn_so f g Is turns next new xs failure r.1 rest)
+in_turn_so f g Is turns old new (x ∷ xs) failure is (Some fault, next, one, rest) = (Some fault, next, (turns old x.slot x.bytes (Some fault) next is one).0, rest)
+
 pub in_turn_as : (f g : Giving) → ((old : Heap) (slot : ℕ) (bytes : List ℕ) (fault : Option FetchFault) (new : Heap) → IsHeap old → f old slot bytes fault new → g old slot bytes fault new × IsHeap new)
     → (old new : Heap) (xs : List Filling) (failure : Option Failure) → IsHeap old → InTurn f old xs failure new → InTurn g old xs failure new
-in_turn_as f g turns old new [] failure is h = h
-in_turn_as f g turns old new (x ∷ xs) failure is (None, next, one, rest) =
-    let r : g old x.slot x.bytes None next × IsHeap next = turns old x.slot x.bytes None next is one in (None, next, r.0, in_turn_as f g turns next new xs failure r.1 rest)
-in_turn_as f g turns old new (x ∷ xs) failure is (Some fault, next, one, rest) = (Some fault, next, (turns old x.slot x.bytes (Some fault) next is one).0, rest)
+in_turn_as f g = in_turn_so f g IsHeap
 
 -- the heap that is left
 pub one_heap : (may_fail : FetchFault → Bool) (old : Heap) (slot : ℕ) (bytes : List ℕ) (fault : Option FetchFault) (new : Heap) → IsHeap old → FillsOne may_fail old slot bytes fault new → IsHeap new
 one_heap may_fail old slot bytes fault new is f = (one_does (λ a b. Unit {0}) (λ h. tt) (λ a b c x y. tt) may_fail old slot bytes fault new is (λ filled. tt) f).1
-
-pub to_any : (may_fail : FetchFault → Bool) (old : Heap) (slot : ℕ) (bytes : List ℕ) (fault : Option FetchFault) (new : Heap) → IsHeap old → FillsOne may_fail old slot bytes fault new → GivesAny old slot bytes fault new × IsHeap new
-to_any may_fail old slot bytes fault new is f = (as_any old slot bytes new may_fail fault f, one_heap may_fail old slot bytes fault new is f)
-
-pub all_as_any : (may_fail : FetchFault → Bool) (old new : Heap) (xs : List Filling) (failure : Option Failure) → IsHeap old → InTurn (FillsOne may_fail) old xs failure new → InTurn GivesAny old xs failure new
-all_as_any may_fail = in_turn_as (FillsOne may_fail) GivesAny (to_any may_fail)
 
 -- Objects that get none are kept, or discarded.
 
@@ -118,9 +126,6 @@ any_kept old new xs failure is f = (
   (any_do (λ a b. Unit {0}) (λ h. tt) (λ a b c x y. tt) old new xs failure is (λ x m a b bytes h long g. tt) f).1,
   λ q out. (any_do (λ a b. IsKeptOrDiscarded a b q) (λ h. inl refl) (λ a b c. kept_then a b c q) old new xs failure is (λ x m a b bytes h long g. filled_other a x.slot bytes b g h q (Each-at (λ (x : Filling). q ≢ x.slot) xs out x m)) f).0,
 )
-
-pub fills_law : FillsLaw
-fills_law may_fail old new xs failure is f = any_kept old new xs failure is (all_as_any may_fail old new xs failure is f)
 
 -- Each object is still there.
 

@@ -1,6 +1,6 @@
 -- An object that is there keeps its owner, or is gone with it, whatever the store answers.
 use Rattle.w16_loading.proofs.Common.{◌≡◌, ◌≢◌, ℕ, inl, inr, ◌-◌, ◌==◌, Bool, true, false, cond, not, List, [], ◌∷◌, length, Option, Some, None, is_some, refl, sym, ap, ◌∙◌, subst, false≢true, FarFault, part, is_member, FarAnswer, far_fault}
-use Rattle.w16_loading.proofs.Common.{IsFreeSlot, Handles, object_at, after_touch, owned_in, owned_at, refuses_write, Member, inserted_other, AnyFetches, AnyLoads, GivesAny, Closure, far_read, far_write, Segment, Failure, Frees, Go, used_less}
+use Rattle.w16_loading.proofs.Common.{IsFreeSlot, Handles, object_at, after_touch, owned_in, owned_at, refuses_write, Member, inserted_other, AnyFetches, GivesAny, Closure, far_read, far_write, Segment, Failure, Frees, Go, used_less}
 use Rattle.w16_loading.proofs.Common.{without_module, IsLoadingWorld, KeepsOwner, OwnersLaw, Answer, Fulfils, left, undone, LoadingWorld, Module, module_at, with_heap, Loaded, given, named, segments_of, without_objects, attributes_for, locked}
 use Rattle.w16_loading.proofs.Common.{unused_slot}
 use Rattle.std.specs.FinMap as finmap
@@ -11,7 +11,8 @@ use Rattle.w16_loading.proofs.Undone.{chosen}
 use Rattle.w16_loading.proofs.Named.{free_slot}
 use Rattle.w16_loading.proofs.CallsKept.{handles_owners, resizes_owners}
 use Rattle.w16_loading.proofs.OwnedKept as kept
-use Rattle.w16_loading.proofs.Stepping.{Parts, any_loaded, family, nothing_asked}
+use Rattle.w16_loading.proofs.Stepping.{AnyLoading, Parts, any_loaded, family, nothing_asked}
+use Rattle.w16_loading.proofs.Answered.{any_step}
 use Rattle.w16_loading.proofs.Undone.{retained}
 
 module _ (old : LoadingWorld) (is : IsLoadingWorld old) (q : ℕ) (there : is_some (object_at old.handles.heap q) ≡ true) where
@@ -88,7 +89,7 @@ module _ (old : LoadingWorld) (is : IsLoadingWorld old) (q : ℕ) (there : is_so
       turn None = inl (same_owned old (segments_of (given closure f.choice)) q apart)
       turn (Some failure) = inl refl
 
-  parts : Parts AnyFetches AnyLoads (λ slice. Unit {0}) old Kept
+  parts : Parts AnyFetches AnyLoading (λ slice. Unit {0}) old Kept
   parts = record {
     start = inl refl;
     handles = λ command reply next step. inl (handles_owners old is command reply next step q);
@@ -105,6 +106,6 @@ module _ (old : LoadingWorld) (is : IsLoadingWorld old) (q : ℕ) (there : is_so
     last = λ slot load here. retains (λ q. q == slot) old (inl refl);
   }
 
-pub owners_law : OwnersLaw
-owners_law old new command reply is step slot there =
-    family AnyFetches AnyLoads (λ slice. Unit {0}) old (Kept old is slot there) (parts old is slot there) (record new { failures = old.failures }) reply command (nothing_asked command) step.step
+pub owners_law : (honest : Type 0) → OwnersLaw honest
+owners_law honest format old new command reply is step slot there = family AnyFetches AnyLoading (λ slice. Unit {0}) old (Kept old is slot there) (parts old is slot there) (record new { failures = old.failures }) reply command (nothing_asked command)
+    (any_step honest format old new command reply is step)

@@ -1,7 +1,7 @@
 -- What LoadModule and LoadLibrary are for, proved from their steps over any store.
 use Rattle.w16_loading.proofs.Common.{◌≡◌, ◌≢◌, ℕ, zero, suc, ◌+◌, ◌<◌, ◌≤◌, ◌==◌, ◌&&◌, ◌||◌, not, inl, inr, ◌⊎◌, Bool, true, false, cond, nat_lt, List, [], ◌∷◌, length, flat_map, map, Option, Some, None, IsSomeAnd, is_some, slice_get, slice_index_or, refl, sym, ap, ◌∙◌, subst, arith}
 use Rattle.w16_loading.proofs.Common.{AllZip, false≢true, cases_eq, eq-eqb, Kind, Discardable, Heap, Object, IsHeap, object_at, owned_at, bytes_at, bytes_in, is_fixed, IsKeptOrDiscarded, Member, inserted_here, inserted_other, FIRST_MODULE, MOST_USES, FetchFault, Store, Damaged, NoRoom}
-use Rattle.w16_loading.proofs.Common.{IsModuleFile, IsSegmentData, Segment, SegmentData, Far, LoadingWorld, Module, Named, Loaded, BuiltIn, with_heap, Filling, Failure, Fills, InTurn, is_of_read, GivesAny, AnyLoads, Closure, Found, around, Choice, IsChoice, Given, given, segments_of}
+use Rattle.w16_loading.proofs.Common.{IsModuleFile, IsSegmentData, Segment, SegmentData, Far, LoadingWorld, Module, Named, Loaded, BuiltIn, with_heap, Filling, Failure, Fills, InTurn, is_of_read, GivesAny, Closure, Found, around, Choice, IsChoice, Given, given, segments_of}
 use Rattle.w16_loading.proofs.Common.{bound, named, fills, fills_from, fills_of, Answer, Says, Fulfils, after_use, left, outcome_of, refusal_of, undone, used_again, Word, ModuleStep, LoadModule, LoadLibrary, IsLoadingWorld, ModuleCommand}
 use Rattle.std.specs.FinMap as finmap
 use Rattle.w16_model.specs.declared.Kind.TheVariants.{Fixed, Moveable}
@@ -10,7 +10,10 @@ use Rattle.w16_loading.specs.declared.FetchFault.TheVariants as faults
 use Rattle.w16_loading.specs.Effects.{IsUsedOnce, LoadLaw}
 use Rattle.w16_loading.specs.Families.{reply_of}
 use Rattle.w16_loading.specs.Load.Answer.{StoreFails}
-use Rattle.w16_loading.proofs.ClosureFacts.{IsClosure, closure_is}
+use Rattle.w16_loading.proofs.ClosureFacts.{IsClosure}
+use Rattle.w16_loading.proofs.Stepping.{AnyLoading}
+use Rattle.w16_loading.proofs.Answered.{any_step}
+use Rattle.w16_loading.specs.Families.LoadingCommand.{OfModules}
 use Rattle.w16_loading.proofs.Fillings.{IsLost, any_do, filled_object, filled_other, one_heap}
 use Rattle.w16_loading.proofs.Given.{at_place, given_found, given_segment, index_place, put_here, put_named, zip_member}
 use Rattle.w16_loading.proofs.LoadWorlds.{free_handle, handles_differ, named_new, segments_differ, sized, was_free}
@@ -238,21 +241,19 @@ module _ (old : LoadingWorld) (is : IsLoadingWorld old) (answer : ℕ) (new : Lo
               ],
             )
 
-    loads : (b : Bool) (file : List ℕ) → AnyLoads b old file (Says answer) new → Does new
-    loads b file (inl f) = let g : Says answer ≡ StoreFails = f.0 in cc
-    loads b file (inr (inl f)) = small f.0 f.2.0 f.1
-    loads b file (inr (inr (inl f))) = again b f.0 f.1 f.2 f.3
-    loads b file (inr (inr (inr (closure, any, inl f)))) = small 0 f.1.0 (omega arith)
-    loads b file (inr (inr (inr (closure, any, inr f)))) = fulfilled closure (closure_is (around old) file closure any) f
+    loads : (b : Bool) (file : List ℕ) → AnyLoading b old file (Says answer) new → Does new
+    loads b file (inl f) = let few : answer < FIRST_MODULE = f.0 in absurd (omega (arith, few, le))
+    loads b file (inr (inl f)) = again b f.0 f.1 f.2 f.3
+    loads b file (inr (inr (closure, facts, f))) = fulfilled closure facts f
 
     -- the answer that is printed
-    printed : (b : Bool) (file : List ℕ) (a : Answer) → Word answer ≡ reply_of a → AnyLoads b old file a new → Does new
-    printed b file (Says n) e f = let same : n ≡ answer = cc in loads b file (subst (λ k. AnyLoads b old file (Says k) new) same f)
+    printed : (b : Bool) (file : List ℕ) (a : Answer) → Word answer ≡ reply_of a → AnyLoading b old file a new → Does new
+    printed b file (Says n) e f = let same : n ≡ answer = cc in loads b file (subst (λ k. AnyLoading b old file (Says k) new) same f)
     printed b file StoreFails e f = cc
 
-    steps : (command : ModuleCommand) (file : List ℕ) → (command ≡ LoadModule file) ⊎ (command ≡ LoadLibrary file) → ModuleStep AnyLoads old command (Word answer) new → Does new
-    steps command file (inl e) step = let f : ModuleStep AnyLoads old (LoadModule file) (Word answer) new = subst (λ c. ModuleStep AnyLoads old c (Word answer) new) e step in printed true file f.0 f.1 f.2
-    steps command file (inr e) step = let f : ModuleStep AnyLoads old (LoadLibrary file) (Word answer) new = subst (λ c. ModuleStep AnyLoads old c (Word answer) new) e step in printed false file f.0 f.1 f.2
+    steps : (command : ModuleCommand) (file : List ℕ) → (command ≡ LoadModule file) ⊎ (command ≡ LoadLibrary file) → ModuleStep AnyLoading old command (Word answer) new → Does new
+    steps command file (inl e) step = let f : ModuleStep AnyLoading old (LoadModule file) (Word answer) new = subst (λ c. ModuleStep AnyLoading old c (Word answer) new) e step in printed true file f.0 f.1 f.2
+    steps command file (inr e) step = let f : ModuleStep AnyLoading old (LoadLibrary file) (Word answer) new = subst (λ c. ModuleStep AnyLoading old c (Word answer) new) e step in printed false file f.0 f.1 f.2
 
-pub load_law : LoadLaw
-load_law old new command file answer is which le step = steps old is answer (record new { failures = old.failures }) le command file which step.step
+pub load_law : (honest : Type 0) → LoadLaw honest
+load_law honest format old new command file answer is which le step = steps old is answer (record new { failures = old.failures }) le command file which (any_step honest format old new (OfModules command) (Word answer) is step)

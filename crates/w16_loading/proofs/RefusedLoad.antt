@@ -1,16 +1,19 @@
 -- A refused load leaves all but its discards as it was.
 use Rattle.w16_loading.proofs.Common.{◌≡◌, ◌≢◌, ℕ, ◌+◌, ◌<◌, ◌≤◌, inl, inr, ◌⊎◌, Bool, true, false, List, [], ◌∷◌, fold, flat_map, slice_index_or, All, Option, Some, None, IfSome, IsSomeAnd, refl, sym, ap, ◌∙◌, subst, arith, false≢true, cases_Bool}
 use Rattle.w16_loading.proofs.Common.{is_member, Heap, Object, IsHeap, object_at, IsKeptOrDiscarded, Member, Each-from, Each-from_All, is_member-true, true-is_member, FIRST_MODULE, MOST_MODULES, MOST_USES, FetchFault, LoadingWorld, Module, Named}
-use Rattle.w16_loading.proofs.Common.{IsFreeModule, with_heap, Loaded, Giving, FillsOne, Filling, Failure, InTurn, is_of_device, heap_without, Closure, Found, Choice, IsChoice, all_slots, given, given_from, segments_of, with_segment, with_modules}
-use Rattle.w16_loading.proofs.Common.{bound, named, fills_of, fills, Answer, Fulfils, after_use, undone, left, outcome_of, refusal_of, Says, GivesAny, IsLoadingWorld, OnlyDiscards, IsRefusal, RefusedLoadLaw, AnyRefusedLoadLaw, EarlyRefusalLaw}
+use Rattle.w16_loading.proofs.Common.{IsFreeModule, with_heap, Loaded, Fills, Filling, Failure, InTurn, heap_without, Closure, Found, Choice, IsChoice, all_slots, given, given_from, segments_of, with_segment, with_modules}
+use Rattle.w16_loading.proofs.Common.{bound, named, fills_of, fills, Answer, Fulfils, after_use, undone, left, outcome_of, refusal_of, Says, GivesAny, IsLoadingWorld, OnlyDiscards, IsRefusal, RefusedLoadLaw, EarlyRefusalLaw}
 use Rattle.w16_loading.proofs.Common.{unused_slot}
 use Rattle.std.specs.List.{AllByRecursion as Each}
 use Rattle.std.specs.FinMap as finmap
 use Rattle.w16_loading.specs.declared.FetchFault.TheVariants as faults
+use Rattle.w16_loading.specs.declared.FetchFault.TheVariants.{Store, Damaged}
 use Rattle.w16_loading.proofs.Undone.{chosen, IsNamed, fold_named}
-use Rattle.w16_loading.proofs.Fillings.{IsLost, SameRange, ranges, any_range, any_kept, in_turn_as, to_any}
+use Rattle.w16_loading.proofs.Fillings.{IsLost, SameRange, ranges, any_range, any_kept}
 use Rattle.w16_loading.proofs.Named.{named_heap, free_slot}
 use Rattle.w16_loading.proofs.Given.{filled_chosen}
+use Rattle.w16_loading.specs.Answers.{Answers, GivesFrom, told}
+use Rattle.w16_loading.proofs.Answered.{any_load, some_loads, told_answers}
 use Rattle.w16_loading.proofs.Stepping.{loaded, any_loaded}
 use Rattle.w16_loading.proofs.Released.{released_heap, left_object, gone_object}
 
@@ -107,22 +110,6 @@ fulfilled old is closure answer new f refusal = turn f.failure f.filled f.answer
         empty e = ap (with_heap (named old closure f.choice)) (same_heap e)
             ∙ ap (λ gs. with_heap (record (fold with_segment old (segments_of gs)) { modules = with_modules (bound old closure f.choice) gs old.modules }) old.handles.heap) (none_given e)
 
--- One way to give bytes as another.
-pub fulfils_as : (f g : Giving) → ((old : Heap) (slot : ℕ) (bytes : List ℕ) (fault : Option FetchFault) (new : Heap) → IsHeap old → f old slot bytes fault new → g old slot bytes fault new × IsHeap new)
-    → (old : LoadingWorld) → IsLoadingWorld old → (closure : Closure) (answer : Answer) (new : LoadingWorld) → Fulfils f old closure answer new → Fulfils g old closure answer new
-fulfils_as f g turns old is closure answer new h = record {
-  choice = h.choice;
-  is_choice = h.is_choice;
-  failure = h.failure;
-  heap = h.heap;
-  filled = in_turn_as f g turns (named old closure h.choice).handles.heap h.heap (fills old closure h.choice) h.failure (named_heap old closure h.choice is.handles h.is_choice) h.filled;
-  answered = h.answered;
-  after = h.after;
-}
-
-pub as_any_load : (old : LoadingWorld) → IsLoadingWorld old → (closure : Closure) (answer : Answer) (new : LoadingWorld) → Fulfils (FillsOne is_of_device) old closure answer new → Fulfils GivesAny old closure answer new
-as_any_load = fulfils_as (FillsOne is_of_device) GivesAny (to_any is_of_device)
-
 -- a handle is no refusal
 not_refused : (old : LoadingWorld) → IsLoadingWorld old → (handle : ℕ) (n : Named) → finmap.get old.modules handle ≡ Some n → handle < FIRST_MODULE → ⊥
 not_refused old is handle n e few =
@@ -139,11 +126,9 @@ module _ (old : LoadingWorld) (is : IsLoadingWorld old) where
   used : (handle : ℕ) (m : Module) → finmap.get old.modules handle ≡ Some (Loaded m) → m.uses < MOST_USES → Refused (Says handle) (after_use old handle m)
   used handle m e few refusal = absurd (not_refused old is handle (Loaded m) e refusal)
 
-pub refused_load_law : RefusedLoadLaw
-refused_load_law format b old new file answer is f = loaded (Refused old is) old (same old is) (FillsOne is_of_device) format b new file answer (used old is) (λ closure read n e d done h. fulfilled old is closure answer new (as_any_load old is closure answer new h)) f
-
-pub any_refused_load_law : AnyRefusedLoadLaw
-any_refused_load_law b old new file answer is f = any_loaded (Refused old is) old (same old is) b new file answer (used old is) (λ closure any h. fulfilled old is closure answer new h) f
+pub refused_load_law : (honest : Type 0) → RefusedLoadLaw honest
+refused_load_law honest format before after b old new file answer is f = any_loaded (Refused old is) old (same old is) b new file answer (used old is) (λ closure any h. fulfilled old is closure answer new h)
+    (any_load (told honest format old.files before after) (told_answers honest format old.files before after) old is b file answer new f)
 
 -- Early refusals.
 
@@ -156,39 +141,44 @@ abbrev damaged_in : Option Failure → Bool
 damaged_in None = false
 damaged_in (Some f) = is_damaged f.fault
 
-never_damaged : (fault : FetchFault) (old : Heap) (slot : ℕ) (bytes : List ℕ) (new : Heap) → FillsOne is_of_device old slot bytes (Some fault) new → is_damaged fault ≡ false
-never_damaged faults.NoRoom old slot bytes new f = refl
-never_damaged faults.Store old slot bytes new f = refl
-never_damaged faults.Damaged old slot bytes new f = absurd (false≢true f.0)
+module _ (answers : Answers) (never : answers.fails faults.Damaged → ⊥) where
+  never_damaged : (fault : FetchFault) (old : Heap) (slot : ℕ) (bytes : List ℕ) (new : Heap) → GivesFrom Fills answers old slot bytes (Some fault) new → is_damaged fault ≡ false
+  never_damaged faults.NoRoom old slot bytes new f = refl
+  never_damaged faults.Store old slot bytes new f = refl
+  never_damaged faults.Damaged old slot bytes new f = absurd (never f.0)
 
-not_damaged : (old new : Heap) (xs : List Filling) (failure : Option Failure) → InTurn (FillsOne is_of_device) old xs failure new → damaged_in failure ≡ false
-not_damaged old new [] failure f = ap damaged_in f.0
-not_damaged old new (x ∷ xs) failure (None, next, g, rest) = not_damaged next new xs failure rest
-not_damaged old new (x ∷ xs) failure (Some fault, next, g, rest) = ap damaged_in rest.0 ∙ never_damaged fault old x.slot x.bytes next g
+  not_damaged : (old new : Heap) (xs : List Filling) (failure : Option Failure) → InTurn (GivesFrom Fills answers) old xs failure new → damaged_in failure ≡ false
+  not_damaged old new [] failure f = ap damaged_in f.0
+  not_damaged old new (x ∷ xs) failure (None, next, g, rest) = not_damaged next new xs failure rest
+  not_damaged old new (x ∷ xs) failure (Some fault, next, g, rest) = ap damaged_in rest.0 ∙ never_damaged fault old x.slot x.bytes next g
 
 module _ (old : LoadingWorld) where
   abbrev Early : Answer → LoadingWorld → Type 0
   Early answer new = (number : ℕ) → answer ≡ Says number → 0 < number → number < FIRST_MODULE → new ≡ old
 
-  fulfilled_late : (closure : Closure) (answer : Answer) (new : LoadingWorld) → Fulfils (FillsOne is_of_device) old closure answer new → Early answer new
-  fulfilled_late closure answer new f number says some few = turn f.failure (sym says ∙ f.answered) f.filled
+  fulfilled_late : (answers : Answers) → (answers.fails faults.Damaged → ⊥) → (closure : Closure) (answer : Answer) (new : LoadingWorld) → Fulfils (GivesFrom Fills answers) old closure answer new → Early answer new
+  fulfilled_late answers never closure answer new f number says some few = turn f.failure (sym says ∙ f.answered) f.filled
     where
-      turn : (failure : Option Failure) → Says number ≡ outcome_of failure (slice_index_or f.choice.handles 0 0) → InTurn (FillsOne is_of_device) (named old closure f.choice).handles.heap (fills old closure f.choice) failure f.heap → new ≡ old
+      turn : (failure : Option Failure) → Says number ≡ outcome_of failure (slice_index_or f.choice.handles 0 0) → InTurn (GivesFrom Fills answers) (named old closure f.choice).handles.heap (fills old closure f.choice) failure f.heap → new ≡ old
       turn None e filled = let same : number ≡ slice_index_or f.choice.handles 0 0 = cc in elim (first_handle old f.choice.handles f.is_choice.free) [
         | inl none ↦ let zero : slice_index_or f.choice.handles 0 0 ≡ 0 = ap (λ hs. slice_index_or hs 0 0) none in absurd (omega (arith, same, zero, some))
         | inr le ↦ absurd (omega (arith, same, le, few))
       ]
-      turn (Some failure) e filled = by failure.fault e (not_damaged (named old closure f.choice).handles.heap f.heap (fills old closure f.choice) (Some failure) filled)
+      turn (Some failure) e filled = by failure.fault e (not_damaged answers never (named old closure f.choice).handles.heap f.heap (fills old closure f.choice) (Some failure) filled)
         where
           by : (fault : FetchFault) → Says number ≡ refusal_of failure.place fault → is_damaged fault ≡ false → new ≡ old
           by faults.NoRoom e out = let zero : number ≡ 0 = cc in absurd (omega (arith, zero, some))
           by faults.Store e out = cc
           by faults.Damaged e out = absurd (false≢true (sym out))
 
-pub early_refusal_law : EarlyRefusalLaw
-early_refusal_law format b old new file number is f some few = loaded (Early old) old (λ answer n e x y. refl) (FillsOne is_of_device) format b new file (Says number)
+pub early_refusal_law : (honest : Type 0) → EarlyRefusalLaw honest
+early_refusal_law honest format before after b old new file number truly is f some few = loaded (Early old) old (λ answer n e x y. refl) (GivesFrom Fills answers) (λ closure. Unit {0}) b new file (Says number)
     (λ handle m e less n same x y. absurd (not_refused old is handle (Loaded m) e (small handle n same y)))
-    (λ closure read n e d done h. fulfilled_late old closure (Says number) new h) f number refl some few
+    (λ closure any h. fulfilled_late old answers (λ fails. let e : Damaged ≡ Store = fails.2 truly in cc) closure (Says number) new h)
+    (some_loads answers (told_answers honest format old.files before after) old Fills b file (Says number) new f) number refl some few
   where
+    answers : Answers
+    answers = told honest format old.files before after
+
     small : (handle n : ℕ) → Says handle ≡ Says n → n < FIRST_MODULE → handle < FIRST_MODULE
     small handle n e lt = let same : handle ≡ n = cc in omega (arith, same, lt)

@@ -1,9 +1,13 @@
 -- What LoadResource and LockResource are for, proved from their steps over any store.
-use Rattle.w16_loading.proofs.Common.{◌≡◌, ◌≢◌, ℕ, ◌+◌, ◌-◌, ◌<◌, ◌≤◌, ◌==◌, ◌&&◌, inl, inr, ◌⊎◌, Bool, true, false, cond, not, nat_lt, List, length, Option, Some, None, IfSome, IsSomeAnd, MatchOption, MatchBool, is_some, option_map, slice_get, refl, sym, ap, ◌∙◌, subst, arith, eqb-true}
-use Rattle.w16_loading.proofs.Common.{false≢true, and_parts, IsTrue, Heap, Object, Handles, IsFreeSlot, object_at, bytes_at, bytes_in, is_fixed, handle_of, slot_of_handle, selector_of, rounded_size, global_lock, owned_in, inserted_here, inserted_other}
+use Rattle.w16_loading.proofs.Common.{◌≡◌, ◌≢◌, ℕ, ◌+◌, ◌-◌, ◌<◌, ◌≤◌, ◌==◌, ◌&&◌, inl, inr, ◌⊎◌, Bool, true, false, cond, not, nat_lt, List, length, Option, Some, None, IfSome, IsSomeAnd, MatchOption, is_some, option_map, slice_get, refl, sym, ap, ◌∙◌, subst, arith, eqb-true}
+use Rattle.w16_loading.proofs.Common.{false≢true, and_parts, IsTrue, Heap, Object, Handles, object_at, bytes_at, bytes_in, is_fixed, handle_of, slot_of_handle, selector_of, rounded_size, global_lock, owned_in, inserted_here, inserted_other}
 use Rattle.w16_loading.proofs.Common.{with_ordered, FetchFault, NoRoom, Store, Damaged, numbered, Resource, Load, LoadingWorld, Module, module_at, with_heap, Reply, Word, Dword, Failed, MOST_USES, IsLoad, IsLoadingWorld, IsObjectOf, AnyFetches, is_of_read}
 use Rattle.w16_loading.proofs.Common.{AnswersNone, LoadsNewResource, LoadsResource, LocksResource, attributes_for, is_too_long, load_of, loaded_again, lock_outcome, locked, resource_at, resource_outcome, slot_of_resource, with_resource}
 use Rattle.std.proofs.Common.{Result, Ok, Err}
+use Rattle.w16_loading.proofs.Cases.{resource_cases}
+use Rattle.w16_loading.proofs.Answered.{any_step}
+use Rattle.w16_loading.specs.Families.LoadingCommand.{OfResources}
+use Rattle.w16_loading.specs.Families.ResourceCommand.{LoadResource, LockResource}
 use Rattle.std.specs.FinMap as finmap
 use Rattle.w16_model.specs.Changes.{touched}
 use Rattle.w16_model.specs.Calls as calls
@@ -157,30 +161,15 @@ module _ (old : LoadingWorld) (is : IsLoadingWorld old) (handle place answer : �
             ),
           )
 
-  abbrev Made : Resource → Option (ℕ × Load) → Type 0
-  Made r p = MatchOption p ((((slot : ℕ) → IsFreeSlot old.handles slot → ⊥) × AnswersNone old (Word answer) new) ⊎ LoadsNewResource AnyFetches old handle place r (Word answer) new) (λ x. (Word answer, new) ≡ loaded_again old r x)
-
   loads : LoadsResource AnyFetches old handle place (Word answer) new → Does
-  loads step = by_resource (resource_at old handle place) refl step
-    where
-      by_load : (r : Resource) → resource_at old handle place ≡ Some r → is_too_long r ≡ false → (p : Option (ℕ × Load)) → load_of old handle place ≡ p
-          → Made r p → Does
-      by_load r at short None e (inl f) = none f.1
-      by_load r at short None e (inr f) = first r at short e f
-      by_load r at short (Some x) e f = again r x at e f
+  loads step = elim (resource_cases AnyFetches old (Word answer) new handle place step) [
+    | inl f ↦ none f
+    | inr (r, at, inl (x, e, f)) ↦ again r x at.0 e f
+    | inr (r, at, inr (e, f)) ↦ first r at.0 at.1 e f
+  ]
 
-      by_size : (r : Resource) → resource_at old handle place ≡ Some r → (b : Bool) → is_too_long r ≡ b → MatchBool b (AnswersNone old (Word answer) new)
-          (Made r (load_of old handle place)) → Does
-      by_size r at true t f = none f
-      by_size r at false t f = by_load r at t (load_of old handle place) refl f
-
-      by_resource : (p : Option Resource) → resource_at old handle place ≡ p → MatchOption p (AnswersNone old (Word answer) new) (λ r. MatchBool (is_too_long r) (AnswersNone old (Word answer) new)
-          (Made r (load_of old handle place))) → Does
-      by_resource None e f = none f
-      by_resource (Some r) e f = by_size r e (is_too_long r) refl f
-
-pub load_resource_law : LoadResourceLaw
-load_resource_law old new handle place answer is step = loads old is handle place answer (record new { failures = old.failures }) step.step
+pub load_resource_law : (honest : Type 0) → LoadResourceLaw honest
+load_resource_law honest format old new handle place answer is step = loads old is handle place answer (record new { failures = old.failures }) (any_step honest format old new (OfResources (LoadResource handle place)) (Word answer) is step)
 
 -- Locks.
 
@@ -352,7 +341,8 @@ module _ (old : LoadingWorld) (is : IsLoadingWorld old) (handle answer : ℕ) (n
         | inr l ↦ some_pointer slot (sym l.0 ∙ zero)
       ]
 
-pub lock_resource_law : LockResourceLaw
-lock_resource_law old new handle answer is step =
-    let l = locks old is handle answer (record new { failures = old.failures }) step.step in
-    (l.0, l.1, l.2, l.3, λ slot load o found loaded there bytes few. answers old is handle answer (record new { failures = old.failures }) slot load o found loaded there bytes few step.step)
+pub lock_resource_law : (honest : Type 0) → LockResourceLaw honest
+lock_resource_law honest format old new handle answer is step =
+    let weak : LocksResource AnyFetches old handle (Dword answer) (record new { failures = old.failures }) = any_step honest format old new (OfResources (LockResource handle)) (Dword answer) is step in
+    let l = locks old is handle answer (record new { failures = old.failures }) weak in
+    (l.0, l.1, l.2, l.3, λ slot load o found loaded there bytes few. answers old is handle answer (record new { failures = old.failures }) slot load o found loaded there bytes few weak)

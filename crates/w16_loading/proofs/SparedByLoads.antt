@@ -1,15 +1,16 @@
 -- Loads of modules and of resources spare every object that was there.
-use Rattle.w16_loading.proofs.Common.{◌≡◌, ◌≢◌, ℕ, inl, inr, ◌⊎◌, Bool, true, false, cond, nat_lt, ◌+◌, MatchBool, MatchOption, fold, List, Option, Some, None, is_some, refl, sym, ap, ◌∙◌, subst, false≢true, cases_Bool}
+use Rattle.w16_loading.proofs.Common.{◌≡◌, ◌≢◌, ℕ, inl, inr, Bool, true, false, cond, nat_lt, ◌+◌, fold, List, Option, Some, None, is_some, refl, sym, ap, ◌∙◌, subst, false≢true, cases_Bool}
 use Rattle.w16_loading.proofs.Common.{is_member, Heap, object_at, IsFreeSlot, handle_of, Member, is_member-true, inserted_other, FetchFault, Resource, LoadingWorld, Load, with_heap, Failure, InTurn, heap_without}
-use Rattle.w16_loading.proofs.Common.{Closure, Choice, IsChoice, all_slots, bound, fills, given, named, segments_of, with_segment, Answer, Fulfils, left, undone, AnyFetches, AnyLoads, GivesAny, IsLoadingWorld, Reply}
-use Rattle.w16_loading.proofs.Common.{Word, MOST_USES, LoadsResource, LoadsNewResource, AnswersNone, is_too_long, load_of, loaded_again, resource_at, resource_outcome, with_resource, unused_slot, IsHeap, entered_heap}
+use Rattle.w16_loading.proofs.Common.{Closure, Choice, IsChoice, all_slots, bound, fills, given, named, segments_of, with_segment, Answer, Fulfils, left, undone, AnyFetches, GivesAny, IsLoadingWorld, Reply}
+use Rattle.w16_loading.proofs.Common.{Word, MOST_USES, LoadsResource, LoadsNewResource, loaded_again, resource_outcome, with_resource, unused_slot, IsHeap, entered_heap}
 use Rattle.std.specs.FinMap as finmap
 use Rattle.w16_loading.specs.declared.FetchFault.TheVariants as faults
 use Rattle.w16_loading.proofs.Fillings.{any_do}
 use Rattle.w16_loading.proofs.Given.{filled_chosen}
 use Rattle.w16_loading.proofs.Named.{free_slot, named_heap}
 use Rattle.w16_loading.proofs.Spared.{IsSpared, left_alone, same_spared, spared_then, spared_without, filled_spared, fetch_spares}
-use Rattle.w16_loading.proofs.Stepping.{any_loaded}
+use Rattle.w16_loading.proofs.Cases.{resource_cases}
+use Rattle.w16_loading.proofs.Stepping.{AnyLoading, any_loaded}
 use Rattle.w16_loading.proofs.Undone.{IsNamed, chosen, fold_named}
 
 module _ (old : LoadingWorld) (is : IsLoadingWorld old) (q : ℕ) (there : is_some (object_at old.handles.heap q) ≡ true) where
@@ -55,7 +56,7 @@ module _ (old : LoadingWorld) (is : IsLoadingWorld old) (q : ℕ) (there : is_so
       turn None filled = load_spared closure f.choice f.is_choice None f.heap filled
       turn (Some failure) filled = undone_spared closure f.choice f.is_choice (Some failure) f.heap filled
 
-  pub modules_loaded : (b : Bool) (file : List ℕ) (answer : Answer) (new : LoadingWorld) → AnyLoads b old file answer new → Spared new
+  pub modules_loaded : (b : Bool) (file : List ℕ) (answer : Answer) (new : LoadingWorld) → AnyLoading b old file answer new → Spared new
   modules_loaded b file answer new f = any_loaded (λ answer. Spared) old (λ answer. same_spared old.handles.heap q) b new file answer (λ handle m here few. same_spared old.handles.heap q) (λ closure any h. fulfilled closure answer new h) f
 
   -- Resources.
@@ -91,21 +92,9 @@ module _ (old : LoadingWorld) (is : IsLoadingWorld old) (q : ℕ) (there : is_so
         turn true = same_spared old.handles.heap q
         turn false = same_spared old.handles.heap q
 
-    abbrev IsFresh : Resource → Type 0
-    IsFresh r = (((slot : ℕ) → IsFreeSlot old.handles slot → ⊥) × AnswersNone old reply new) ⊎ LoadsNewResource AnyFetches old handle place r reply new
-
     pub resource_loaded : LoadsResource AnyFetches old handle place reply new → Spared new
-    resource_loaded step = by_resource (resource_at old handle place) step
-      where
-        by_load : (r : Resource) (p : Option (ℕ × Load)) → MatchOption p (IsFresh r) (λ x. (reply, new) ≡ loaded_again old r x) → Spared new
-        by_load r None (inl f) = same_world f.1.1
-        by_load r None (inr f) = fresh r f
-        by_load r (Some x) f = outcome_is (loaded_again old r x) f (again r x)
-
-        by_size : (r : Resource) (b : Bool) → MatchBool b (AnswersNone old reply new) (MatchOption (load_of old handle place) (IsFresh r) (λ x. (reply, new) ≡ loaded_again old r x)) → Spared new
-        by_size r true f = same_world f.1
-        by_size r false f = by_load r (load_of old handle place) f
-
-        by_resource : (p : Option Resource) → MatchOption p (AnswersNone old reply new) (λ r. MatchBool (is_too_long r) (AnswersNone old reply new) (MatchOption (load_of old handle place) (IsFresh r) (λ x. (reply, new) ≡ loaded_again old r x))) → Spared new
-        by_resource None f = same_world f.1
-        by_resource (Some r) f = by_size r (is_too_long r) f
+    resource_loaded step = elim (resource_cases AnyFetches old reply new handle place step) [
+      | inl f ↦ same_world f.1
+      | inr (r, at, inl (x, e, f)) ↦ outcome_is (loaded_again old r x) f (again r x)
+      | inr (r, at, inr (none, f)) ↦ fresh r f
+    ]

@@ -1,13 +1,14 @@
 -- Far accesses and locks of resources spare every object that isn't theirs, and leave theirs where it stands.
-use Rattle.w16_loading.proofs.Common.{◌≡◌, ◌≢◌, ℕ, ◌/◌, ◌==◌, Bool, true, false, cond, MatchBool, MatchOption, List, Option, Some, None, is_some, option_map, unwrap_or, refl, sym, ap, ◌∙◌, subst, arith, put_part}
+use Rattle.w16_loading.proofs.Common.{inl, inr, ◌≡◌, ◌≢◌, ℕ, ◌/◌, ◌==◌, Bool, true, false, cond, MatchOption, List, Option, Some, None, is_some, option_map, unwrap_or, refl, sym, ap, ◌∙◌, subst, arith, put_part}
 use Rattle.w16_loading.proofs.Common.{repeated, KeepsContents, global_lock, GlobalLock, FarAnswer, FarCommand, after_write, far_slot, Write, Fill, Handles, AreHandles, handle_of, offset_in, selector_in, slot_of_handle}
-use Rattle.w16_loading.proofs.Common.{Object, bytes_at, object_at, StandsStill, after_touch, Calls, bystander, contents, call_outcome, get-update_other, FetchFault, AnyFetches, pointer_in, FarStep, Accesses, far_read}
-use Rattle.w16_loading.proofs.Common.{far_write, gives, needs_fetch, IsLoadingWorld, LoadingWorld, Load, Reply, Dword, Failed, LocksResource, lock_outcome, locked, slot_of_resource, Part, part_of_selector, IsSomeAnd}
+use Rattle.w16_loading.proofs.Common.{Object, object_at, StandsStill, after_touch, Calls, bystander, contents, call_outcome, get-update_other, FetchFault, AnyFetches, pointer_in, FarStep, Accesses, far_read}
+use Rattle.w16_loading.proofs.Common.{far_write, gives, IsLoadingWorld, LoadingWorld, Load, Reply, Failed, LocksResource, lock_outcome, locked, slot_of_resource, Part, part_of_selector, IsSomeAnd}
 use Rattle.w16_loading.proofs.Common.{far_at}
 use Rattle.std.specs.FinMap as finmap
 use Rattle.w16_model.specs.Far.FarCommand.{Read}
 use Rattle.w16_loading.specs.declared.FetchFault.TheVariants as faults
 use Rattle.w16_model.proofs.Runs.{numbered}
+use Rattle.w16_loading.proofs.Cases.{access_cases, lock_cases}
 use Rattle.w16_loading.proofs.FarCases.{read_cases, write_cases}
 use Rattle.w16_loading.proofs.FetchWorlds.{fetched_world}
 use Rattle.w16_loading.proofs.Fillings.{lost}
@@ -17,17 +18,14 @@ use Rattle.w16_loading.proofs.Spared.{HasPinned, IsSpared, fetch_spares, fetch_s
 module _ (P Q : LoadingWorld → Type 0) (old new : LoadingWorld) (reply : Reply) (start : P old) where
   accessed : (access : LoadingWorld → FarAnswer × LoadingWorld) (selector : ℕ) → ((fault : Option FetchFault) (next : LoadingWorld) → AnyFetches old (far_slot old.handles selector) fault next → P next)
       → ((world : LoadingWorld) → P world → Q world × Q (access world).1) → Accesses AnyFetches access old selector reply new → Q new
-  accessed access selector fetched does step = turn (needs_fetch (access old).0 old selector) step
+  accessed access selector fetched does step = elim (access_cases AnyFetches old reply new access selector step) [
+    | inl (fault, next, f, g) ↦ after next fault (fetched fault next f) g
+    | inr g ↦ subst Q (sym g.1) (does old start).1
+  ]
     where
       after : (next : LoadingWorld) (fault : Option FetchFault) → P next → MatchOption fault (gives (access next) reply new) (λ f. (reply ≡ Failed f) × (new ≡ next)) → Q new
       after next None good g = subst Q (sym g.1) (does next good).1
       after next (Some f) good g = subst Q (sym g.1) (does next good).0
-
-      turn : (b : Bool) → MatchBool b
-          ((fault : Option FetchFault) × (next : LoadingWorld) × AnyFetches old (far_slot old.handles selector) fault next × MatchOption fault (gives (access next) reply new) (λ f. (reply ≡ Failed f) × (new ≡ next)))
-          (gives (access old) reply new) → Q new
-      turn true h = after h.1 h.0 (fetched h.0 h.1 h.2) h.3
-      turn false g = subst Q (sym g.1) (does old start).1
 
   access_does : (command : FarCommand) → ((fault : Option FetchFault) (next : LoadingWorld) → AnyFetches old (far_slot old.handles (selector_in (pointer_in command))) fault next → P next)
       → ((world : LoadingWorld) → P world → Q world) → ((offset n : ℕ) (world : LoadingWorld) → P world → Q (far_read (selector_in (pointer_in command)) offset n world).1)
@@ -39,7 +37,11 @@ module _ (P Q : LoadingWorld → Type 0) (old new : LoadingWorld) (reply : Reply
 
   lock_does : (handle : ℕ) → ((x : ℕ × Load) (fault : Option FetchFault) (next : LoadingWorld) → slot_of_resource old handle ≡ Some x → AnyFetches old x.0 fault next → P next)
       → ((world : LoadingWorld) → P world → Q world × Q (locked world handle).1) → LocksResource AnyFetches old handle reply new → Q new
-  lock_does handle fetched does step = by_slot (slot_of_resource old handle) refl step
+  lock_does handle fetched does step = elim (lock_cases AnyFetches old reply new handle step) [
+    | inl f ↦ subst Q (sym f.1) (does old start).0
+    | inr (x, e, inl (fault, next, f, g)) ↦ outcome_is (lock_outcome fault handle next) g (after fault next (fetched x fault next e f))
+    | inr (x, e, inr f) ↦ outcome_is (locked old handle) f (does old start).1
+  ]
     where
       outcome_is : (outcome : Reply × LoadingWorld) → ◌≡◌ {A = Reply × LoadingWorld} (reply, new) outcome → Q outcome.1 → Q new
       outcome_is outcome e good = subst (λ (p : Reply × LoadingWorld). Q p.1) (sym e) good
@@ -49,16 +51,6 @@ module _ (P Q : LoadingWorld → Type 0) (old new : LoadingWorld) (reply : Reply
       after (Some faults.NoRoom) next h = (does next h).0
       after (Some faults.Store) next h = (does next h).0
       after (Some faults.Damaged) next h = (does next h).0
-
-      by_bytes : (x : ℕ × Load) → slot_of_resource old handle ≡ Some x → (p : Option (List ℕ))
-          → MatchOption p ((fault : Option FetchFault) × (next : LoadingWorld) × AnyFetches old x.0 fault next × ((reply, new) ≡ lock_outcome fault handle next)) (λ _. (reply, new) ≡ locked old handle) → Q new
-      by_bytes x e None f = outcome_is (lock_outcome f.0 handle f.1) f.3 (after f.0 f.1 (fetched x f.0 f.1 e f.2))
-      by_bytes x e (Some bytes) f = outcome_is (locked old handle) f (does old start).1
-
-      by_slot : (p : Option (ℕ × Load)) → slot_of_resource old handle ≡ p → MatchOption p ((reply ≡ Dword 0) × (new ≡ old)) (λ x. MatchOption (bytes_at old.handles.heap x.0)
-          ((fault : Option FetchFault) × (next : LoadingWorld) × AnyFetches old x.0 fault next × ((reply, new) ≡ lock_outcome fault handle next)) (λ _. (reply, new) ≡ locked old handle)) → Q new
-      by_slot None e f = subst Q (sym f.1) (does old start).0
-      by_slot (Some x) e f = by_bytes x e (bytes_at old.handles.heap x.0) f
 
 -- The slot that a handle names is a part of it.
 slot_in : (handles : Handles) (handle slot : ℕ) → slot_of_handle handles handle ≡ Some slot → slot ≡ handle / 8

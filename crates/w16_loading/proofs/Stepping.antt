@@ -1,13 +1,15 @@
 -- What the parts of a step do to a world, the step does: fetches, loads, and changes of what is kept beside them.
-use Rattle.w16_loading.proofs.Common.{◌≡◌, ℕ, ◌+◌, ◌-◌, ◌<◌, ◌≤◌, inl, inr, ◌⊎◌, Bool, true, false, cond, ◌&&◌, ◌==◌, not, nat_lt, List, [], ◌∷◌, Option, Some, None, MatchOption, MatchBool, MatchResult, option_map, Result, Ok, Err, IfOk, refl}
-use Rattle.w16_loading.proofs.Common.{sym, ap, ◌∙◌, subst, arith, ltb-true, find, bytes_at, Handles, IsFreeSlot, handle_of, slot_of_handle, selector_in, offset_in, repeated, HandleCommand, locks_at, FarAnswer, FarCommand, far_slot, Member}
-use Rattle.w16_loading.proofs.Common.{MOST_USES, FetchFault, Format, ModuleFile, Resource, LoadingWorld, Load, Module, Named, IsFreeModule, handle_named, Loaded, BuiltIn, Giving, without_objects, Closure, Reading, reading, around, begun, after}
-use Rattle.w16_loading.proofs.Common.{Refused, Meant, Read, There, New, Answer, Refuses, LoadsBy, LoadsFile, LoadsNew, Fulfils, used_again, after_use, Says, Reply, HandleReplies, ResizeReplies, Word, Dword, Failed, ResizeCommand, Fetching, Accesses}
-use Rattle.w16_loading.proofs.Common.{needs_fetch, far_read, far_write, gives, Frees, LoadsResource, LoadsNewResource, LocksResource, AnswersNone, is_too_long, resource_at, load_of, loaded_again, with_resource, resource_outcome, locked, lock_outcome}
-use Rattle.w16_loading.proofs.Common.{slot_of_resource, free_resource, LoadingCommand, ModuleCommand, ResourceCommand, Loading, FamilyStep, ModuleStep, ResourceStep, FarStep, AddsBuiltIn, GivesBuiltIn, built_in, GivesAny, AnyLoads, IsAnyClosure}
+use Rattle.w16_loading.proofs.Common.{◌≡◌, ℕ, ◌+◌, ◌-◌, ◌<◌, ◌≤◌, inl, inr, ◌⊎◌, Bool, true, false, cond, ◌&&◌, ◌==◌, not, nat_lt, List, [], ◌∷◌, Option, Some, None, MatchOption, option_map, refl}
+use Rattle.w16_loading.proofs.Common.{sym, ap, ◌∙◌, subst, arith, ltb-true, find, Handles, IsFreeSlot, handle_of, slot_of_handle, selector_in, offset_in, repeated, HandleCommand, locks_at, FarAnswer, FarCommand, far_slot, Member}
+use Rattle.w16_loading.proofs.Common.{MOST_USES, FetchFault, Resource, LoadingWorld, Load, Module, Named, IsFreeModule, handle_named, Loaded, BuiltIn, Giving, without_objects, Closure, around}
+use Rattle.w16_loading.proofs.Common.{Answer, Fulfils, used_again, after_use, Says, Reply, HandleReplies, ResizeReplies, Word, Failed, ResizeCommand, Fetching, Accesses}
+use Rattle.w16_loading.proofs.Common.{far_read, far_write, gives, Frees, LoadsResource, LoadsNewResource, LocksResource, load_of, loaded_again, with_resource, resource_outcome, locked, lock_outcome}
+use Rattle.w16_loading.proofs.Common.{slot_of_resource, free_resource, LoadingCommand, ModuleCommand, ResourceCommand, Loading, FamilyStep, ModuleStep, ResourceStep, FarStep, GivesBuiltIn, GivesAny, IsRefusal}
 use Rattle.std.specs.FinMap as finmap
 use Rattle.w16_loading.specs.declared.FetchFault.TheVariants as faults
 use Rattle.w16_loading.proofs.Importers.{entry_there}
+use Rattle.w16_loading.proofs.ClosureFacts.{IsClosure}
+use Rattle.w16_loading.proofs.Cases.{IsLoadable, access_cases, by_option, lock_cases, resource_cases}
 
 -- what is found among entries is there
 pub found_load : (old : LoadingWorld) (handle place : ℕ) (x : ℕ × Load) → load_of old handle place ≡ Some x → finmap.get old.loads x.0 ≡ Some x.1
@@ -49,6 +51,16 @@ freed_by old p = elim p [
   | Some x ↦ cond {A = ℕ × LoadingWorld} (nat_lt 1 x.1.loads) (0, with_count old x.0 x.1 (x.1.loads - 1)) (cond {A = ℕ × LoadingWorld} (nat_lt 0 (locks_at old.handles.heap x.0)) (1, old) (0, without_load old x.0))
 ]
 
+-- A load is refused in the same world; or of a module that is there; or of a closure of new modules that is so.
+abbrev pub LoadsOf : Giving → (Closure → Type 0) → Bool → LoadingWorld → List ℕ → Answer → LoadingWorld → Type 0
+LoadsOf gives Is b old file answer new =
+    (IsRefusal answer × (new ≡ old))
+    ⊎ ((handle : ℕ) × (n : Named) × (finmap.get old.modules handle ≡ Some n) × ((answer, new) ≡ used_again b old handle (Some n)))
+    ⊎ ((closure : Closure) × Is closure × Fulfils gives old closure answer new)
+
+abbrev pub AnyLoading : Loading
+AnyLoading b old file answer new = LoadsOf GivesAny (IsClosure (around old).named) b old file answer new
+
 module _ (P : Answer → LoadingWorld → Type 0) (old : LoadingWorld) (good : (answer : Answer) → P answer old) where
   same_world : (answer : Answer) (new : LoadingWorld) → new ≡ old → P answer new
   same_world answer new e = subst (P answer) (sym e) (good answer)
@@ -70,39 +82,19 @@ module _ (P : Answer → LoadingWorld → Type 0) (old : LoadingWorld) (good : (
           turn false true f = more m refl (ltb-true m.uses MOST_USES f)
           turn false false f = good (Says 0)
 
-  -- loads, of files that stay and of any
-  pub loaded : (gives : Giving) (format : Format) (b : Bool) (new : LoadingWorld) (file : List ℕ) (answer : Answer)
+  pub loaded : (gives : Giving) (Is : Closure → Type 0) (b : Bool) (new : LoadingWorld) (file : List ℕ) (answer : Answer)
       → ((handle : ℕ) (m : Module) → finmap.get old.modules handle ≡ Some (Loaded m) → m.uses < MOST_USES → P (Says handle) (after_use old handle m))
-      → ((closure : Closure) (read : ModuleFile) (n : ℕ) → reading format.says (around old) [] file ≡ Read read → after format.says (around old) n (begun file read) ≡ Ok closure → closure.pending ≡ [] → Fulfils gives old closure answer new → P answer new)
-      → LoadsBy gives format b old file answer new → P answer new
-  loaded gives format b new file answer more fulfil (inl f) = same_world answer new f.1
-  loaded gives format b new file answer more fulfil (inr f) = turn (reading format.says (around old) [] file) refl f
-    where
-      turn : (r : Reading) → reading format.says (around old) [] file ≡ r → LoadsFile gives format b old file r answer new → P answer new
-      turn (Refused number) e f = same_world answer new f.1
-      turn (Meant (There handle)) e f = again b handle (finmap.get old.modules handle) (more handle) answer new f
-      turn (Meant (New place)) e f = absurd f
-      turn (Read read) e f = by f.0 f.1.1 f.1.2 f.2
-        where
-          by : (outcome : Result Closure ℕ) → after format.says (around old) f.1.0 (begun file read) ≡ outcome → IfOk outcome (λ c. c.pending ≡ [])
-              → MatchResult outcome (λ closure. LoadsNew gives old closure answer new) (λ number. Refuses old number answer new) → P answer new
-          by (Ok closure) d done (inl h) = same_world answer new h.1.1
-          by (Ok closure) d done (inr h) = fulfil closure read f.1.0 e d done h
-          by (Err number) d done h = same_world answer new h.1
+      → ((closure : Closure) → Is closure → Fulfils gives old closure answer new → P answer new)
+      → LoadsOf gives Is b old file answer new → P answer new
+  loaded gives Is b new file answer more fulfil (inl f) = same_world answer new f.1
+  loaded gives Is b new file answer more fulfil (inr (inl f)) = again b f.0 (Some f.1) (λ m e. more f.0 m (f.2 ∙ e)) answer new f.3
+  loaded gives Is b new file answer more fulfil (inr (inr (closure, is, f))) = fulfil closure is f
 
   pub any_loaded : (b : Bool) (new : LoadingWorld) (file : List ℕ) (answer : Answer)
       → ((handle : ℕ) (m : Module) → finmap.get old.modules handle ≡ Some (Loaded m) → m.uses < MOST_USES → P (Says handle) (after_use old handle m))
-      → ((closure : Closure) → IsAnyClosure (around old) file closure → Fulfils GivesAny old closure answer new → P answer new)
-      → AnyLoads b old file answer new → P answer new
-  any_loaded b new file answer more fulfil (inl f) = same_world answer new f.1
-  any_loaded b new file answer more fulfil (inr (inl f)) = same_world answer new f.2.1
-  any_loaded b new file answer more fulfil (inr (inr (inl f))) = again b f.0 (Some f.1) (λ m e. more f.0 m (f.2 ∙ e)) answer new f.3
-  any_loaded b new file answer more fulfil (inr (inr (inr (closure, any, inl f)))) = same_world answer new f.1.1
-  any_loaded b new file answer more fulfil (inr (inr (inr (closure, any, inr f)))) = fulfil closure any f
-
--- a resource of a place that may be loaded
-abbrev pub IsLoadable : LoadingWorld → ℕ → ℕ → Resource → Type 0
-IsLoadable world handle place r = (resource_at world handle place ≡ Some r) × (is_too_long r ≡ false)
+      → ((closure : Closure) → IsClosure (around old).named closure → Fulfils GivesAny old closure answer new → P answer new)
+      → AnyLoading b old file answer new → P answer new
+  any_loaded = loaded GivesAny (IsClosure (around old).named)
 
 -- What is to hold of the parts of a step from this world: fetches and loads by these definitions, and bytes that are written.
 pub record Parts (fetches : Fetching) (loads : Loading) (Ours : List ℕ → Type 0) (old : LoadingWorld) (P : LoadingWorld → Type 0) : Type 0 where
@@ -129,13 +121,9 @@ Writes Ours (LoadingCommand.OfFar (FarCommand.Fill pointer count byte)) = Ours (
 Writes Ours other = Unit {0}
 
 pub nothing_asked : (command : LoadingCommand) → Writes (λ slice. Unit {0}) command
-nothing_asked (LoadingCommand.OfFar (FarCommand.Read pointer count)) = tt
 nothing_asked (LoadingCommand.OfFar (FarCommand.Write pointer bytes)) = tt
 nothing_asked (LoadingCommand.OfFar (FarCommand.Fill pointer count byte)) = tt
-nothing_asked (LoadingCommand.OfHandles command) = tt
-nothing_asked (LoadingCommand.OfResizes command) = tt
-nothing_asked (LoadingCommand.OfModules command) = tt
-nothing_asked (LoadingCommand.OfResources command) = tt
+nothing_asked command = tt
 
 module _ (fetches : Fetching) (loads : Loading) (Ours : List ℕ → Type 0) (old : LoadingWorld) (P : LoadingWorld → Type 0) (parts : Parts fetches loads Ours old P) (new : LoadingWorld) (reply : Reply) where
   as_it_was : new ≡ old → P new
@@ -143,17 +131,14 @@ module _ (fetches : Fetching) (loads : Loading) (Ours : List ℕ → Type 0) (ol
 
   -- an access, and the fetch that it may ask for
   accessed : (access : LoadingWorld → FarAnswer × LoadingWorld) → ((world : LoadingWorld) → P world → P (access world).1) → (selector : ℕ) → Accesses fetches access old selector reply new → P new
-  accessed access keeps selector step = turn (needs_fetch (access old).0 old selector) step
+  accessed access keeps selector step = elim (access_cases fetches old reply new access selector step) [
+    | inl (fault, next, f, g) ↦ after next fault (parts.fetched (far_slot old.handles selector) fault next f) g
+    | inr g ↦ subst P (sym g.1) (keeps old parts.start)
+  ]
     where
       after : (next : LoadingWorld) (fault : Option FetchFault) → P next → MatchOption fault (gives (access next) reply new) (λ f. (reply ≡ Failed f) × (new ≡ next)) → P new
       after next None good g = subst P (sym g.1) (keeps next good)
       after next (Some f) good g = subst P (sym g.1) good
-
-      turn : (b : Bool) → MatchBool b
-          ((fault : Option FetchFault) × (next : LoadingWorld) × fetches old (far_slot old.handles selector) fault next × MatchOption fault (gives (access next) reply new) (λ f. (reply ≡ Failed f) × (new ≡ next)))
-          (gives (access old) reply new) → P new
-      turn true h = after h.1 h.0 (parts.fetched (far_slot old.handles selector) h.0 h.1 h.2) h.3
-      turn false g = subst P (sym g.1) (keeps old parts.start)
 
   far : (command : FarCommand) → Writes Ours (LoadingCommand.OfFar command) → FarStep fetches old command reply new → P new
   far (FarCommand.Read pointer count) ours step = accessed (far_read (selector_in pointer) (offset_in pointer) count) (parts.reads (selector_in pointer) (offset_in pointer) count) (selector_in pointer) step
@@ -162,12 +147,11 @@ module _ (fetches : Fetching) (loads : Loading) (Ours : List ℕ → Type 0) (ol
       accessed (far_write (selector_in pointer) (offset_in pointer) (repeated count byte)) (λ w. parts.writes (selector_in pointer) (offset_in pointer) (repeated count byte) w ours) (selector_in pointer) step
 
   gives_built_in : (name : List ℕ) (answer : ℕ) → GivesBuiltIn old name answer new → P new
-  gives_built_in name answer step = turn (handle_named old.modules name) refl step
-    where
-      turn : (p : Option ℕ) → handle_named old.modules name ≡ p → MatchOption p (AddsBuiltIn old name answer new) (λ handle. (answer ≡ built_in (finmap.get old.modules handle) handle) × (new ≡ old)) → P new
-      turn None e (inl f) = as_it_was f.2
-      turn None e (inr f) = subst P (sym f.1) (parts.built name answer e f.0)
-      turn (Some handle) e f = as_it_was f.1
+  gives_built_in name answer step = elim (by_option (handle_named old.modules name) step) [
+    | inl (e, inl f) ↦ as_it_was f.2
+    | inl (e, inr f) ↦ subst P (sym f.1) (parts.built name answer e f.0)
+    | inr (handle, e, f) ↦ as_it_was f.1
+  ]
 
   modules : (command : ModuleCommand) → ModuleStep loads old command reply new → P new
   modules (ModuleCommand.Builtin name) f = gives_built_in name f.0 f.2
@@ -175,15 +159,17 @@ module _ (fetches : Fetching) (loads : Loading) (Ours : List ℕ → Type 0) (ol
   modules (ModuleCommand.LoadLibrary file) f = parts.loaded false file f.0 new f.2
   modules (ModuleCommand.FreeLibrary handle) f = parts.freed handle f.0 new f.2
   modules (ModuleCommand.FreeModule handle) f = parts.freed handle f.0 new f.2
-  modules (ModuleCommand.GetModuleHandle name) f = as_it_was f.1
-  modules (ModuleCommand.GetModuleUsage handle) f = as_it_was f.1
-  modules (ModuleCommand.GetProcAddress handle label) f = as_it_was f.1
+  modules other f = as_it_was f.1
 
   outcome_is : (outcome : Reply × LoadingWorld) → ◌≡◌ {A = Reply × LoadingWorld} (reply, new) outcome → P outcome.1 → P new
   outcome_is outcome e good = subst (λ (p : Reply × LoadingWorld). P p.1) (sym e) good
 
   resource_loaded : (handle place : ℕ) → LoadsResource fetches old handle place reply new → P new
-  resource_loaded handle place step = by_resource (resource_at old handle place) refl step
+  resource_loaded handle place step = elim (resource_cases fetches old reply new handle place step) [
+    | inl f ↦ as_it_was f.1
+    | inr (r, at, inl (x, e, f)) ↦ outcome_is (loaded_again old r x) f (more r x (found_load old handle place x e) (nat_lt x.1.loads MOST_USES) refl)
+    | inr (r, at, inr (none, f)) ↦ fresh r at none f
+  ]
     where
       more : (r : Resource) (x : ℕ × Load) → finmap.get old.loads x.0 ≡ Some x.1 → (b : Bool) → nat_lt x.1.loads MOST_USES ≡ b
           → P (cond {A = Reply × LoadingWorld} b (Word (handle_of r.kind x.0), with_count old x.0 x.1 (x.1.loads + 1)) (Word 0, old)).1
@@ -199,39 +185,18 @@ module _ (fetches : Fetching) (loads : Loading) (Ours : List ℕ → Type 0) (ol
           turn (Some faults.NoRoom) next = parts.start
           turn (Some faults.Damaged) next = parts.start
 
-      by_load : (r : Resource) → IsLoadable old handle place r → (p : Option (ℕ × Load)) → load_of old handle place ≡ p
-          → MatchOption p ((((slot : ℕ) → IsFreeSlot old.handles slot → ⊥) × AnswersNone old reply new) ⊎ LoadsNewResource fetches old handle place r reply new) (λ x. (reply, new) ≡ loaded_again old r x) → P new
-      by_load r at None e (inl f) = as_it_was f.1.1
-      by_load r at None e (inr f) = fresh r at e f
-      by_load r at (Some x) e f = outcome_is (loaded_again old r x) f (more r x (found_load old handle place x e) (nat_lt x.1.loads MOST_USES) refl)
-
-      by_size : (r : Resource) → resource_at old handle place ≡ Some r → (b : Bool) → is_too_long r ≡ b → MatchBool b (AnswersNone old reply new)
-          (MatchOption (load_of old handle place) ((((slot : ℕ) → IsFreeSlot old.handles slot → ⊥) × AnswersNone old reply new) ⊎ LoadsNewResource fetches old handle place r reply new) (λ x. (reply, new) ≡ loaded_again old r x)) → P new
-      by_size r at true e f = as_it_was f.1
-      by_size r at false e f = by_load r (at, e) (load_of old handle place) refl f
-
-      by_resource : (p : Option Resource) → resource_at old handle place ≡ p → MatchOption p (AnswersNone old reply new) (λ r. MatchBool (is_too_long r) (AnswersNone old reply new)
-          (MatchOption (load_of old handle place) ((((slot : ℕ) → IsFreeSlot old.handles slot → ⊥) × AnswersNone old reply new) ⊎ LoadsNewResource fetches old handle place r reply new) (λ x. (reply, new) ≡ loaded_again old r x))) → P new
-      by_resource None e f = as_it_was f.1
-      by_resource (Some r) e f = by_size r e (is_too_long r) refl f
-
   resource_locked : (handle : ℕ) → LocksResource fetches old handle reply new → P new
-  resource_locked handle step = by_slot (slot_of_resource old handle) step
+  resource_locked handle step = elim (lock_cases fetches old reply new handle step) [
+    | inl f ↦ as_it_was f.1
+    | inr (x, e, inl (fault, next, f, g)) ↦ outcome_is (lock_outcome fault handle next) g (after fault next (parts.fetched x.0 fault next f))
+    | inr (x, e, inr f) ↦ outcome_is (locked old handle) f (parts.locks handle old parts.start)
+  ]
     where
       after : (fault : Option FetchFault) (next : LoadingWorld) → P next → P (lock_outcome fault handle next).1
       after None next h = parts.locks handle next h
       after (Some faults.NoRoom) next h = h
       after (Some faults.Store) next h = h
       after (Some faults.Damaged) next h = h
-
-      by_bytes : (slot : ℕ) (p : Option (List ℕ)) → MatchOption p ((fault : Option FetchFault) × (next : LoadingWorld) × fetches old slot fault next × ((reply, new) ≡ lock_outcome fault handle next)) (λ _. (reply, new) ≡ locked old handle) → P new
-      by_bytes slot None f = outcome_is (lock_outcome f.0 handle f.1) f.3 (after f.0 f.1 (parts.fetched slot f.0 f.1 f.2))
-      by_bytes slot (Some bytes) f = outcome_is (locked old handle) f (parts.locks handle old parts.start)
-
-      by_slot : (p : Option (ℕ × Load)) → MatchOption p ((reply ≡ Dword 0) × (new ≡ old)) (λ x. MatchOption (bytes_at old.handles.heap x.0)
-          ((fault : Option FetchFault) × (next : LoadingWorld) × fetches old x.0 fault next × ((reply, new) ≡ lock_outcome fault handle next)) (λ _. (reply, new) ≡ locked old handle)) → P new
-      by_slot None f = as_it_was f.1
-      by_slot (Some x) f = by_bytes x.0 (bytes_at old.handles.heap x.0) f
 
   resource_freed : (handle : ℕ) → P (free_resource old handle).1
   resource_freed handle = turn (slot_of_resource old handle) refl
@@ -247,11 +212,10 @@ module _ (fetches : Fetching) (loads : Loading) (Ours : List ℕ → Type 0) (ol
       turn (Some x) e = by_test x (resource_load old handle x e) (nat_lt 1 x.1.loads) (nat_lt 0 (locks_at old.handles.heap x.0)) refl
 
   resources : (command : ResourceCommand) → ResourceStep fetches old command reply new → P new
-  resources (ResourceCommand.FindResource handle name kind) f = as_it_was f.1
   resources (ResourceCommand.LoadResource handle place) f = resource_loaded handle place f
   resources (ResourceCommand.LockResource handle) f = resource_locked handle f
   resources (ResourceCommand.FreeResource handle) f = subst P (sym f.1) (resource_freed handle)
-  resources (ResourceCommand.SizeofResource handle place) f = as_it_was f.1
+  resources other f = as_it_was f.1
 
   pub family : (command : LoadingCommand) → Writes Ours command → FamilyStep fetches loads old command reply new → P new
   family (LoadingCommand.OfHandles command) ours f = subst P (sym f.2) (parts.handles command reply f.0 f.1)

@@ -1,6 +1,6 @@
 -- Each step of each family keeps what holds of every world, whatever the store answers.
 use Rattle.w16_loading.proofs.Common.{◌<◌, All, Option, Some, None, refl, sym, ap, subst, Heap, FarCommand, other_handles, All-repeated, LoadingWorld, with_heap, Failure, InTurn, Closure, around, named, fills}
-use Rattle.w16_loading.proofs.Common.{Answer, Fulfils, undone, left, GivesAny, AnyFetches, AnyLoads, LoadingCommand, IsLoadingCommand, IsLoadingWorld, OnlyDiscards, AnyKeepsWorldsLaw, KeepsWorldsLaw, slots_at}
+use Rattle.w16_loading.proofs.Common.{Answer, Fulfils, undone, left, GivesAny, AnyFetches, LoadingCommand, IsLoadingCommand, IsLoadingWorld, OnlyDiscards, KeepsWorldsLaw, slots_at}
 use Rattle.w16_loading.proofs.Fillings.{lost, kept_sized}
 use Rattle.w16_loading.proofs.RefusedLoad.{undone_discards}
 use Rattle.w16_loading.proofs.KeptWorlds.{kept_left, left_owned, world_stays, recounted}
@@ -10,10 +10,10 @@ use Rattle.w16_loading.proofs.FarWorlds.{read_world, write_world}
 use Rattle.w16_loading.proofs.ModuleWorlds.{used_world, built_world}
 use Rattle.w16_loading.proofs.ResourceWorlds.{locked_world, counted_world, made_world, last_world}
 use Rattle.w16_loading.proofs.FreeWorlds.{free_world}
-use Rattle.w16_loading.proofs.ClosureFacts.{IsClosure, closure_is}
+use Rattle.w16_loading.proofs.ClosureFacts.{IsClosure}
 use Rattle.w16_loading.proofs.LoadWorlds.{loaded_world}
-use Rattle.w16_loading.proofs.AnySteps.{is_any_step_law}
-use Rattle.w16_loading.proofs.Stepping.{Parts, Writes, family, any_loaded}
+use Rattle.w16_loading.proofs.Answered.{any_step}
+use Rattle.w16_loading.proofs.Stepping.{AnyLoading, Parts, Writes, family, any_loaded}
 use Rattle.w16_loading.proofs.Owners.{object_there}
 
 -- what a refused load leaves
@@ -31,7 +31,7 @@ module _ (old : LoadingWorld) (is : IsLoadingWorld old) where
       turn None filled = loaded_world old is closure f.choice f.is_choice facts f.heap filled
       turn (Some failure) filled = discards_world old is (undone old f.choice f.heap).handles.heap (undone_discards old is closure f.choice f.is_choice (Some failure) f.heap filled)
 
-  parts : Parts AnyFetches AnyLoads (λ slice. All (λ b. b < 256) slice) old IsLoadingWorld
+  parts : Parts AnyFetches AnyLoading (λ slice. All (λ b. b < 256) slice) old IsLoadingWorld
   parts = record {
     start = is;
     handles = λ command reply next step. handles_world old is command reply next step;
@@ -41,7 +41,7 @@ module _ (old : LoadingWorld) (is : IsLoadingWorld old) where
     fetched = λ slot fault next f. fetched_world old is slot fault next f;
     built = λ name handle none free. built_world old is handle name free none;
     loaded = λ b file answer new f. any_loaded (λ answer. IsLoadingWorld) old (λ answer. is) b new file answer (λ handle m there few. used_world old is handle m there few)
-        (λ closure any h. fulfilled closure (closure_is (around old) file closure any) answer new h) f;
+        (λ closure facts h. fulfilled closure facts answer new h) f;
     freed = λ handle answer new f. free_world old new is handle answer f;
     counted = λ slot load count there some few. counted_world old is slot load there count some few;
     made = λ slot handle place r fault next free at none f. fetched_world _ (made_world old is slot free handle place r at.0 at.1 none) slot fault next f;
@@ -50,17 +50,10 @@ module _ (old : LoadingWorld) (is : IsLoadingWorld old) where
   }
 
 ours : (command : LoadingCommand) → IsLoadingCommand command → Writes (λ slice. All (λ b. b < 256) slice) command
-ours (LoadingCommand.OfFar (FarCommand.Read pointer count)) known = tt
 ours (LoadingCommand.OfFar (FarCommand.Write pointer bytes)) known = known
 ours (LoadingCommand.OfFar (FarCommand.Fill pointer count byte)) known = All-repeated count byte known
-ours (LoadingCommand.OfHandles command) known = tt
-ours (LoadingCommand.OfResizes command) known = tt
-ours (LoadingCommand.OfModules command) known = tt
-ours (LoadingCommand.OfResources command) known = tt
+ours command known = tt
 
-pub any_keeps_worlds_law : AnyKeepsWorldsLaw
-any_keeps_worlds_law old new command reply is known step = recounted (record new { failures = old.failures })
-    (family AnyFetches AnyLoads (λ slice. All (λ b. b < 256) slice) old IsLoadingWorld (parts old is) (record new { failures = old.failures }) reply command (ours command known) step.step) new.failures
-
-pub keeps_worlds_law : KeepsWorldsLaw
-keeps_worlds_law format old new command reply is_format is of known step = any_keeps_worlds_law old new command reply is known (is_any_step_law format old new command reply is_format is of step)
+pub keeps_worlds_law : (honest : Type 0) → KeepsWorldsLaw honest
+keeps_worlds_law honest format old new command reply is known step = recounted (record new { failures = old.failures })
+    (family AnyFetches AnyLoading (λ slice. All (λ b. b < 256) slice) old IsLoadingWorld (parts old is) (record new { failures = old.failures }) reply command (ours command known) (any_step honest format old new command reply is step)) new.failures

@@ -1,12 +1,6 @@
 -- Steps over any store, one that lies too: which files it has, and what they say, is no matter.
-use Rattle.std.specs.Prelude.{◌≡◌, ℕ, zero, suc, ◌<◌, ◌≤◌, ◌⊎◌, Bool, true, false, not, List, [], ◌∷◌, length, Option, Some, IsSomeAnd, is_some, unwrap_or, option_map, Ok}
+use Rattle.std.specs.Prelude.{◌≡◌, ℕ, zero, suc, ◌<◌, ◌⊎◌, Bool, List, [], ◌∷◌, length, Option, Some, Ok}
 use Rattle.std.specs.FinMap as finmap
-use Rattle.w16_model.specs.Heap.{bytes_at}
-use Rattle.w16_model.specs.Handles.{selector_in, offset_in}
-use Rattle.w16_model.specs.Bytes.{repeated}
-use Rattle.w16_model.specs.Owned.{owned_at}
-use Rattle.w16_model.specs.Far.{FarCommand}
-use Rattle.w16_model.specs.Far.FarCommand.{Read, Write, Fill}
 use Rattle.w16_loading.specs.declared.TheConstants.{FIRST_MODULE}
 use Rattle.w16_loading.specs.File.{Saying, AreModuleFiles, ModuleFile}
 use Rattle.w16_loading.specs.Modules.{LoadingWorld, Named}
@@ -15,38 +9,10 @@ use Rattle.w16_loading.specs.Closure as closing
 use Rattle.w16_loading.specs.Closure.{Closure, Around, around, begun, reading, followed}
 use Rattle.w16_loading.specs.Load.{Answer, Refuses, LoadsNew, used_again}
 use Rattle.w16_loading.specs.Load.Answer.{StoreFails}
-use Rattle.w16_loading.specs.Fetch.{Fetching, FetchesBy, needs_fetch, far_read, far_write}
-use Rattle.w16_loading.specs.Resource.{slot_of_resource}
-use Rattle.w16_loading.specs.Replies.{Reply}
-use Rattle.w16_loading.specs.Replies.Reply.{Failed}
-use Rattle.w16_loading.specs.declared.FetchFault.TheVariants.{Store}
-use Rattle.w16_loading.specs.Families.{LoadingCommand, FamilyStep}
-use Rattle.w16_loading.specs.Families.LoadingCommand.{OfFar, OfModules, OfResources}
-use Rattle.w16_loading.specs.Families.ModuleCommand.{LoadModule, LoadLibrary}
-use Rattle.w16_loading.specs.Families.ResourceCommand.{LoadResource, LockResource}
-
--- Which steps read files: far accesses that meet a module's object without bytes, loads of modules and of resources, and locks of resources
--- without bytes.
-abbrev pub far_reads_file : LoadingWorld → FarCommand → Bool
-far_reads_file old (Read pointer count) = needs_fetch (far_read (selector_in pointer) (offset_in pointer) count old).0 old (selector_in pointer)
-far_reads_file old (Write pointer bytes) = needs_fetch (far_write (selector_in pointer) (offset_in pointer) bytes old).0 old (selector_in pointer)
-far_reads_file old (Fill pointer count byte) = needs_fetch (far_write (selector_in pointer) (offset_in pointer) (repeated count byte) old).0 old (selector_in pointer)
-
-abbrev pub lock_reads_file : LoadingWorld → ℕ → Bool
-lock_reads_file old handle = unwrap_or (option_map (λ x. not (is_some (bytes_at old.handles.heap x.0))) (slot_of_resource old handle)) false
-
-abbrev pub reads_files : LoadingWorld → LoadingCommand → Bool
-reads_files old (OfFar command) = far_reads_file old command
-reads_files old (OfModules (LoadModule file)) = true
-reads_files old (OfModules (LoadLibrary file)) = true
-reads_files old (OfResources (LoadResource handle place)) = true
-reads_files old (OfResources (LockResource handle)) = lock_reads_file old handle
-reads_files old command = false
+use Rattle.w16_loading.specs.Fetch.{Fetching, FetchesBy}
+use Rattle.w16_loading.specs.Answers.{IsOwnedSize}
 
 -- A fetch gives some bytes, of the size that the object's owner says; or it is refused, for whichever reason.
-abbrev pub IsOwnedSize : LoadingWorld → ℕ → List ℕ → Type 0
-IsOwnedSize world slot bytes = IsSomeAnd (owned_at world.handles slot) (λ owned. length bytes ≡ owned.size)
-
 abbrev pub AnyFetches : Fetching
 AnyFetches old slot fault new = FetchesBy is_of_read (IsOwnedSize old slot) old slot fault new
 
@@ -85,10 +51,3 @@ AnyLoadsBy gives is_load_module old file answer new =
 
 abbrev pub AnyLoads : Bool → LoadingWorld → List ℕ → Answer → LoadingWorld → Type 0
 AnyLoads = AnyLoadsBy GivesAny
-
--- One step, whatever the store answers. The count of failures isn't lowered, and a fault of the store comes only where it rose.
-pub record AnyStep (old : LoadingWorld) (command : LoadingCommand) (reply : Reply) (new : LoadingWorld) : Type 0 where
-  pub counted : old.failures ≤ new.failures
-  pub failed : reply ≡ Failed Store → old.failures < new.failures
-  pub files : new.files ≡ old.files
-  pub step : FamilyStep AnyFetches AnyLoads old command reply (record new { failures = old.failures })

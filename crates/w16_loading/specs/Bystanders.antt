@@ -11,11 +11,12 @@ use Rattle.w16_model.specs.Heap.{object_at, is_pinned_object}
 use Rattle.w16_model.specs.Law.{StandsStill}
 use Rattle.w16_model.specs.Outcomes.{Call}
 use Rattle.w16_model.specs.Outcomes.Call.{Calls, ReAllocs}
-use Rattle.w16_loading.specs.AnyStore.{AnyStep}
+use Rattle.w16_loading.specs.Answers.{StepOver}
 use Rattle.w16_loading.specs.Families.{LoadingCommand}
 use Rattle.w16_loading.specs.Families.LoadingCommand.{OfHandles, OfResizes, OfFar, OfModules, OfResources}
 use Rattle.w16_loading.specs.Families.ModuleCommand.{FreeLibrary, FreeModule}
 use Rattle.w16_loading.specs.Families.ResourceCommand.{LockResource, FreeResource}
+use Rattle.w16_loading.specs.File.{Format}
 use Rattle.w16_loading.specs.Law.{IsLoadingWorld}
 use Rattle.w16_loading.specs.Modules.{LoadingWorld, Module, IsSegmentOf, IsResourceOf, module_at}
 use Rattle.w16_loading.specs.Replies.{Reply}
@@ -61,8 +62,8 @@ abbrev pub IsReleased : LoadingCommand → LoadingWorld → LoadingWorld → ℕ
 IsReleased command old new q = (object_at new.handles.heap q ≡ None) × MayGo command old new q
 
 -- Every other object is as it was; or it was discardable and not locked, and has lost its bytes alone; or it is gone with its module or resource.
-abbrev pub StepBystandersLaw : Type 0
-StepBystandersLaw = (old new : LoadingWorld) (command : LoadingCommand) (reply : Reply) (q : ℕ) → IsLoadingWorld old → AnyStep old command reply new
+abbrev pub StepBystandersLaw : (honest : Type 0) → Type 0
+StepBystandersLaw honest = (format : Format) (old new : LoadingWorld) (command : LoadingCommand) (reply : Reply) (q : ℕ) → IsLoadingWorld old → StepOver honest format old command reply new
     → is_some (object_at old.handles.heap q) ≡ true → (IsStepAbout old.handles command q → ⊥)
     → IsKeptOrDiscarded old.handles.heap new.handles.heap q ⊎ IsReleased command old new q
 
@@ -73,7 +74,7 @@ step_may_move_own (OfResizes command) = may_move_own (call_of command)
 step_may_move_own command = false
 
 -- Every other step leaves it where it stands, its own accesses and locks among them, or it is gone with its module or resource.
-abbrev pub StepPinnedLaw : Type 0
-StepPinnedLaw = (old new : LoadingWorld) (command : LoadingCommand) (reply : Reply) (q : ℕ) → IsLoadingWorld old → AnyStep old command reply new
+abbrev pub StepPinnedLaw : (honest : Type 0) → Type 0
+StepPinnedLaw honest = (format : Format) (old new : LoadingWorld) (command : LoadingCommand) (reply : Reply) (q : ℕ) → IsLoadingWorld old → StepOver honest format old command reply new
     → IsSomeAnd (object_at old.handles.heap q) (λ o. is_pinned_object o ≡ true) → (step_may_move_own command ≡ true → IsStepAbout old.handles command q → ⊥)
     → StandsStill old.handles.heap new.handles.heap q ⊎ IsReleased command old new q

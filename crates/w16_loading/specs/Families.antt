@@ -1,23 +1,24 @@
 -- The machine with modules, family by family: the calls on handles, far accesses, modules, resources.
-use Rattle.std.specs.Prelude.{◌≡◌, ℕ, ◌≤◌, ◌<◌, ◌⊎◌, Bool, true, false, List, Option, Some, MatchOption, unwrap_or}
+use Rattle.std.specs.Prelude.{◌≡◌, ℕ, ◌⊎◌, Bool, true, false, List, Option, Some, MatchOption, unwrap_or}
 use Rattle.std.specs.FinMap as finmap
 use Rattle.w16_model.specs.Handles.{Handles, selector_in, offset_in, dword_of}
 use Rattle.w16_model.specs.Bytes.{repeated}
 use Rattle.w16_model.specs.Calls.{HandleCommand}
-use Rattle.w16_model.specs.Far.{FarCommand, IsFarCommand}
+use Rattle.w16_model.specs.Effects.{pointer_in}
+use Rattle.w16_model.specs.Far.{FarAnswer, FarCommand, IsFarCommand}
 use Rattle.w16_model.specs.Far.FarCommand.{Read, Write, Fill}
 use Rattle.w16_loading.specs.Replies as replies
 use Rattle.w16_loading.specs.Replies.{HandleReplies, ResizeReplies}
 use Rattle.w16_loading.specs.Resizes.{ResizeCommand}
 use Rattle.w16_loading.specs.declared.FetchFault.TheVariants as faults
-use Rattle.w16_loading.specs.File.{Format, Far, Label}
+use Rattle.w16_loading.specs.File.{Far, Label}
 use Rattle.w16_loading.specs.File.Label.{Number, Text}
 use Rattle.w16_loading.specs.Modules.{LoadingWorld, Named, IsFreeModule, handle_named, usage, address_at, address_named}
 use Rattle.w16_loading.specs.Modules.Named.{BuiltIn}
-use Rattle.w16_loading.specs.Load.{Answer, Loads}
+use Rattle.w16_loading.specs.Load.{Answer}
 use Rattle.w16_loading.specs.Load.Answer.{Says, StoreFails}
 use Rattle.w16_loading.specs.Replies.{Reply}
-use Rattle.w16_loading.specs.Fetch.{Fetching, Fetches, Accesses, far_read, far_write}
+use Rattle.w16_loading.specs.Fetch.{Fetching, Accesses, far_read, far_write, needs_fetch}
 use Rattle.w16_loading.specs.Replies.Reply.{Failed}
 use Rattle.w16_loading.specs.Free.{Frees}
 use Rattle.w16_loading.specs.Resource.{LoadsResource, LocksResource, find_resource, size_of_resource, free_resource}
@@ -67,10 +68,17 @@ HandleStep old command reply new = (next : Handles) × HandleReplies old.handles
 abbrev pub ResizesStep : LoadingWorld → ResizeCommand → Reply → LoadingWorld → Type 0
 ResizesStep old command reply new = (next : Handles) × ResizeReplies old.handles command reply next × (new ≡ record old { handles = next })
 
+abbrev pub access_of : FarCommand → LoadingWorld → FarAnswer × LoadingWorld
+access_of (Read pointer count) old = far_read (selector_in pointer) (offset_in pointer) count old
+access_of (Write pointer bytes) old = far_write (selector_in pointer) (offset_in pointer) bytes old
+access_of (Fill pointer count byte) old = far_write (selector_in pointer) (offset_in pointer) (repeated count byte) old
+
 abbrev pub FarStep : Fetching → LoadingWorld → FarCommand → Reply → LoadingWorld → Type 0
-FarStep fetches old (Read pointer count) reply new = Accesses fetches (far_read (selector_in pointer) (offset_in pointer) count) old (selector_in pointer) reply new
-FarStep fetches old (Write pointer bytes) reply new = Accesses fetches (far_write (selector_in pointer) (offset_in pointer) bytes) old (selector_in pointer) reply new
-FarStep fetches old (Fill pointer count byte) reply new = Accesses fetches (far_write (selector_in pointer) (offset_in pointer) (repeated count byte)) old (selector_in pointer) reply new
+FarStep fetches old command reply new = Accesses fetches (access_of command) old (selector_in (pointer_in command)) reply new
+
+-- whether it meets a module's object without bytes, and fetches it
+abbrev pub far_reads_file : LoadingWorld → FarCommand → Bool
+far_reads_file old command = needs_fetch (access_of command old).0 old (selector_in (pointer_in command))
 
 -- Builtin: the handle of a built-in, the same for the same name; 0 where a loaded module has the name or no handle is free
 abbrev pub AddsBuiltIn : LoadingWorld → List ℕ → ℕ → LoadingWorld → Type 0
@@ -124,10 +132,3 @@ FamilyStep fetches loads old (OfResizes command) reply new = ResizesStep old com
 FamilyStep fetches loads old (OfFar command) reply new = FarStep fetches old command reply new
 FamilyStep fetches loads old (OfModules command) reply new = ModuleStep loads old command reply new
 FamilyStep fetches loads old (OfResources command) reply new = ResourceStep fetches old command reply new
-
--- One step, over files that stay. What a family's definition says is of worlds with one count of failures; the count isn't lowered, and a fault
--- of the store comes only where it rose.
-pub record LoadingStep (format : Format) (old : LoadingWorld) (command : LoadingCommand) (reply : Reply) (new : LoadingWorld) : Type 0 where
-  pub counted : old.failures ≤ new.failures
-  pub failed : reply ≡ Failed faults.Store → old.failures < new.failures
-  pub step : FamilyStep (Fetches format) (Loads format) old command reply (record new { failures = old.failures })

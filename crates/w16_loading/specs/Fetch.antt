@@ -1,5 +1,5 @@
 -- Fetches: an object that a module owns gets its bytes again; and the far accesses that ask for them.
-use Rattle.std.specs.Prelude.{◌≡◌, ℕ, ◌-◌, ◌<◌, ◌≤◌, ◌⊎◌, Bool, true, false, ◌&&◌, MatchBool, List, [], Option, Some, None, MatchOption, Ok, Err, option_map, slice_index_or}
+use Rattle.std.specs.Prelude.{◌≡◌, ℕ, ◌-◌, ◌⊎◌, Bool, true, false, ◌&&◌, MatchBool, List, [], Option, Some, None, MatchOption, Ok, Err, option_map, slice_index_or}
 use Rattle.w16_model.specs.declared.FarFault.TheVariants as far
 use Rattle.w16_model.specs.Handles.{Handles}
 use Rattle.w16_model.specs.Owned as owned
@@ -7,7 +7,6 @@ use Rattle.w16_model.specs.Far as far_access
 use Rattle.w16_model.specs.Far.{FarAnswer, far_slot}
 use Rattle.w16_loading.specs.Replies as replies
 use Rattle.w16_loading.specs.declared.FetchFault.{FetchFault}
-use Rattle.w16_loading.specs.declared.FetchFault.TheVariants.{Store}
 use Rattle.w16_loading.specs.Replies.{Reply}
 use Rattle.w16_loading.specs.Replies.Reply.{Failed}
 use Rattle.w16_store.specs.Files.{file_of}

@@ -19,22 +19,23 @@ use Rattle.w16_loading.specs.declared.TheConstants.{FIRST_MODULE, LARGEST_OWNED,
 use Rattle.w16_loading.specs.declared.FetchFault.{FetchFault}
 use Rattle.w16_loading.specs.declared.FetchFault.TheVariants as faults
 use Rattle.w16_store.specs.Names.{is_named}
-use Rattle.w16_loading.specs.File.{Saying, Format, IsFormat, ModuleFile, Segment, SegmentData, Far, Target}
+use Rattle.w16_loading.specs.File.{Saying, Format, ModuleFile, Segment, SegmentData, Far, Target}
 use Rattle.w16_loading.specs.Modules.{with_heap, LoadingWorld, Lookup, Module, Load, Named, value_of, IsSegmentOf, IsResourceOf, name_of, module_at, usage, importers}
 use Rattle.w16_loading.specs.Modules.Named.{Loaded}
-use Rattle.w16_loading.specs.Fill.{Fills, FillsOne, Filling, Failure, InTurn}
+use Rattle.w16_loading.specs.Fill.{Fills, Filling, Failure, InTurn}
 use Rattle.w16_loading.specs.Closure.{Around, Closure, Closes, Found}
 use Rattle.w16_model.specs.Discards.{is_member}
 use Rattle.w16_loading.specs.Release.{without_objects}
 use Rattle.w16_loading.specs.Naming.{Choice, IsChoice, AreSlots, free_slots, segments_in, given, with_modules, unbound, bound, named, with_segment}
-use Rattle.w16_loading.specs.Load.{Answer, Loads, undone}
+use Rattle.w16_loading.specs.Load.{Answer, undone}
 use Rattle.w16_loading.specs.Load.Answer.{Says, StoreFails}
 use Rattle.w16_loading.specs.Replies.{Reply}
-use Rattle.w16_loading.specs.Fetch.{Fetches, read_of, segment_bytes, is_code}
+use Rattle.w16_loading.specs.Fetch.{read_of, segment_bytes, is_code}
 use Rattle.w16_loading.specs.Free.{Go, Frees}
 use Rattle.w16_loading.specs.Resource.{is_too_long, resource_at}
-use Rattle.w16_loading.specs.AnyStore.{AnyStep, AnyLoads, reads_files}
-use Rattle.w16_loading.specs.Families.{LoadingCommand, IsLoadingCommand, HandleStep, FarStep, LoadingStep}
+use Rattle.w16_loading.specs.Answers.{FetchesOver, GivesFrom, LoadsOver, StepOver, told}
+use Rattle.w16_loading.specs.Families.{LoadingCommand, IsLoadingCommand, HandleStep}
+use Rattle.w16_loading.specs.Families.LoadingCommand.{OfFar}
 
 -- the figures of the profile, each as it is told to users
 pub record AreFigures : Type 0 where
@@ -107,26 +108,16 @@ EmptyOfFilesLaw = (format : Format) (memory slots : ℕ) (files : List (List ℕ
     → IsOfFiles format (empty_loading_world memory slots files failures)
 
 -- A step keeps what holds of every world, whatever the store answers,
-abbrev pub AnyKeepsWorldsLaw : Type 0
-AnyKeepsWorldsLaw = (old new : LoadingWorld) (command : LoadingCommand) (reply : Reply) → IsLoadingWorld old → IsLoadingCommand command
-    → AnyStep old command reply new → IsLoadingWorld new
+abbrev pub KeepsWorldsLaw : (honest : Type 0) → Type 0
+KeepsWorldsLaw honest = (format : Format) (old new : LoadingWorld) (command : LoadingCommand) (reply : Reply) → IsLoadingWorld old → IsLoadingCommand command
+    → StepOver honest format old command reply new → IsLoadingWorld new
 
--- and a step over files that stay is such a step. The files are asked for since what a fetch gives has the size that the file says, and the world
--- the size that it said at load.
-abbrev pub IsAnyStepLaw : Type 0
-IsAnyStepLaw = (format : Format) (old new : LoadingWorld) (command : LoadingCommand) (reply : Reply) → IsFormat format → IsLoadingWorld old
-    → IsOfFiles format old → LoadingStep format old command reply new → AnyStep old command reply new
+-- and one over an honest store is one over any, whatever the format.
+abbrev pub AnyStepLaw : (honest : Type 0) → Type 0
+AnyStepLaw honest = (format other : Format) (old new : LoadingWorld) (command : LoadingCommand) (reply : Reply) → StepOver honest format old command reply new
+    → StepOver ⊥ other old command reply new
 
-abbrev pub KeepsWorldsLaw : Type 0
-KeepsWorldsLaw = (format : Format) (old new : LoadingWorld) (command : LoadingCommand) (reply : Reply) → IsFormat format → IsLoadingWorld old
-    → IsOfFiles format old → IsLoadingCommand command → LoadingStep format old command reply new → IsLoadingWorld new
-
--- a step that reads no files is one over any store, whatever the format
-abbrev pub ReadsNoFilesLaw : Type 0
-ReadsNoFilesLaw = (format : Format) (old new : LoadingWorld) (command : LoadingCommand) (reply : Reply) → reads_files old command ≡ false
-    → LoadingStep format old command reply new → AnyStep old command reply new
-
--- and of the calls on handles this is proved without files: what a module owns keeps its kind and its size, whatever is moved or discarded
+-- Of the calls on handles this is proved by themselves: what a module owns keeps its kind and its size, whatever is moved or discarded
 abbrev pub CallsKeepWorldsLaw : Type 0
 CallsKeepWorldsLaw = (old new : LoadingWorld) (command : HandleCommand) (reply : Reply) → IsLoadingWorld old → HandleStep old command reply new
     → IsLoadingWorld new
@@ -136,26 +127,26 @@ abbrev pub KeepsOwner : Handles → Handles → ℕ → Type 0
 KeepsOwner old new slot = (owned_at new slot ≡ owned_at old slot) ⊎ (owned_at new slot ≡ None)
 
 -- So does each object that is there, whatever the store answers: none comes to be a module's, or code.
-abbrev pub OwnersLaw : Type 0
-OwnersLaw = (old new : LoadingWorld) (command : LoadingCommand) (reply : Reply) → IsLoadingWorld old → AnyStep old command reply new
+abbrev pub OwnersLaw : (honest : Type 0) → Type 0
+OwnersLaw honest = (format : Format) (old new : LoadingWorld) (command : LoadingCommand) (reply : Reply) → IsLoadingWorld old → StepOver honest format old command reply new
     → (slot : ℕ) → is_some (object_at old.handles.heap slot) ≡ true → KeepsOwner old.handles new.handles slot
 
--- the code that a script reads is always its file's, relocated
-abbrev pub CodeLaw : Type 0
-CodeLaw = (format : Format) (old new : LoadingWorld) (command : LoadingCommand) (reply : Reply) → IsLoadingWorld old → IsOfFiles format old
-    → LoadingStep format old command reply new → IsOfFiles format new
+-- the code that a script reads is always its file's, relocated, where the store is honest
+abbrev pub CodeLaw : (honest : Type 0) → Type 0
+CodeLaw honest = (format : Format) (old new : LoadingWorld) (command : LoadingCommand) (reply : Reply) → honest → IsLoadingWorld old → IsOfFiles format old
+    → StepOver honest format old command reply new → IsOfFiles format new
 
 -- What a far read of code answers is a part of its file's bytes, relocated: also where the code was discarded and is fetched for it.
-abbrev pub CodeReadsLaw : Type 0
-CodeReadsLaw = (format : Format) (old new : LoadingWorld) (pointer count : ℕ) (bytes : List ℕ) (slot handle number : ℕ) (m : Module)
+abbrev pub CodeReadsLaw : (honest : Type 0) → Type 0
+CodeReadsLaw honest = (format : Format) (old new : LoadingWorld) (pointer count : ℕ) (bytes : List ℕ) (slot handle number : ℕ) (m : Module) → honest
     → IsLoadingWorld old → IsOfFiles format old
-    → FarStep (Fetches format) old (Read pointer count) (Bytes bytes) new
+    → StepOver honest format old (OfFar (Read pointer count)) (Bytes bytes) new
     → slot_of_selector old.handles (selector_in pointer) ≡ Some slot → IsSegmentOf old slot handle number m → is_code old slot ≡ true
     → IsSomeAnd (segment_bytes format old m number) (λ image. bytes ≡ part image (offset_in pointer) count)
 
 -- what was bound at load stays until the module goes
-abbrev pub BoundOnceLaw : Type 0
-BoundOnceLaw = (format : Format) (old new : LoadingWorld) (command : LoadingCommand) (reply : Reply) → LoadingStep format old command reply new
+abbrev pub BoundOnceLaw : (honest : Type 0) → Type 0
+BoundOnceLaw honest = (format : Format) (old new : LoadingWorld) (command : LoadingCommand) (reply : Reply) → StepOver honest format old command reply new
     → (handle : ℕ) (m n : Module) → module_at old.modules handle ≡ Some m → module_at new.modules handle ≡ Some n → (n.values ≡ m.values) × (n.slots ≡ m.slots) × (n.imports ≡ m.imports)
 
 -- the files decide which modules a load finds: one outcome
@@ -166,10 +157,10 @@ OneClosureLaw = (says : Saying) (a : Around) (closure : Closure) (x y : Result C
 abbrev pub ClosureEndsLaw : Type 0
 ClosureEndsLaw = (says : Saying) (a : Around) (closure : Closure) → (outcome : Result Closure ℕ) × Closes says a closure outcome
 
--- a load that is refused with no handle taken leaves the same world: every number but 0
-abbrev pub EarlyRefusalLaw : Type 0
-EarlyRefusalLaw = (format : Format) (is_load_module : Bool) (old new : LoadingWorld) (file : List ℕ) (number : ℕ) → IsLoadingWorld old
-    → Loads format is_load_module old file (Says number) new
+-- a load over an honest store that is refused with no handle taken leaves the same world: every number but 0
+abbrev pub EarlyRefusalLaw : (honest : Type 0) → Type 0
+EarlyRefusalLaw honest = (format : Format) (before after : ℕ) (is_load_module : Bool) (old new : LoadingWorld) (file : List ℕ) (number : ℕ) → honest → IsLoadingWorld old
+    → LoadsOver honest format before after is_load_module old file (Says number) new
     → 0 < number → number < FIRST_MODULE → new ≡ old
 
 -- what a refused load leaves, whatever was read
@@ -179,9 +170,9 @@ pub record OnlyDiscards (old new : Heap) : Type 0 where
   pub rest : new ≡ record old { objects = new.objects; places = new.places; order = new.order }
 
 -- a load's requests keep the objects that aren't its own so, however far they came
-abbrev pub FillsLaw : Type 0
-FillsLaw = (may_fail : FetchFault → Bool) (old new : Heap) (xs : List Filling) (failure : Option Failure) → IsHeap old
-    → InTurn (FillsOne may_fail) old xs failure new
+abbrev pub FillsLaw : (honest : Type 0) → Type 0
+FillsLaw honest = (format : Format) (files : List (List ℕ × List ℕ)) (before after : ℕ) (old new : Heap) (xs : List Filling) (failure : Option Failure) → IsHeap old
+    → InTurn (GivesFrom Fills (told honest format files before after)) old xs failure new
     → IsHeap new × ((q : ℕ) → AllByRecursion (λ x. q ≢ x.slot) xs → IsKeptOrDiscarded old new q)
 
 -- an answer that isn't a handle
@@ -189,15 +180,9 @@ abbrev pub IsRefusal : Answer → Type 0
 IsRefusal (Says number) = number < FIRST_MODULE
 IsRefusal StoreFails = Unit {0}
 
-abbrev pub RefusedLoadLaw : Type 0
-RefusedLoadLaw = (format : Format) (is_load_module : Bool) (old new : LoadingWorld) (file : List ℕ) (answer : Answer) → IsLoadingWorld old
-    → Loads format is_load_module old file answer new → IsRefusal answer
-    → OnlyDiscards old.handles.heap new.handles.heap × (new ≡ with_heap old new.handles.heap)
-
--- over any store too
-abbrev pub AnyRefusedLoadLaw : Type 0
-AnyRefusedLoadLaw = (is_load_module : Bool) (old new : LoadingWorld) (file : List ℕ) (answer : Answer) → IsLoadingWorld old
-    → AnyLoads is_load_module old file answer new → IsRefusal answer
+abbrev pub RefusedLoadLaw : (honest : Type 0) → Type 0
+RefusedLoadLaw honest = (format : Format) (before after : ℕ) (is_load_module : Bool) (old new : LoadingWorld) (file : List ℕ) (answer : Answer) → IsLoadingWorld old
+    → LoadsOver honest format before after is_load_module old file answer new → IsRefusal answer
     → OnlyDiscards old.handles.heap new.handles.heap × (new ≡ with_heap old new.handles.heap)
 
 -- there are slots for the segments of a load exactly where as many are free
@@ -237,11 +222,11 @@ FillLaw = (old next : Heap) (slot : ℕ) (o : Object) (bytes : List ℕ) (answer
 
 -- What code of a module had as bytes, it has again once it is fetched, whatever was moved, discarded or loaded between, while its module and
 -- the files stay.
-abbrev pub FetchAgainLaw : Type 0
-FetchAgainLaw = (format : Format) (before absent after : LoadingWorld) (slot handle number : ℕ) (m : Module) (bytes : List ℕ) → IsLoadingWorld absent
+abbrev pub FetchAgainLaw : (honest : Type 0) → Type 0
+FetchAgainLaw honest = (format : Format) (from to : ℕ) (before absent after : LoadingWorld) (slot handle number : ℕ) (m : Module) (bytes : List ℕ) → honest → IsLoadingWorld absent
     → CodeIsItsFiles format before
     → IsSegmentOf before slot handle number m → is_code before slot ≡ true → bytes_at before.handles.heap slot ≡ Some bytes
-    → absent.modules ≡ before.modules → absent.files ≡ before.files → Fetches format absent slot None after → bytes_at after.handles.heap slot ≡ Some bytes
+    → absent.modules ≡ before.modules → absent.files ≡ before.files → FetchesOver honest format from to absent slot None after → bytes_at after.handles.heap slot ≡ Some bytes
 
 -- a fetch keeps all other objects, but for those that it discards, of which it takes the bytes alone; and nothing else changes
 pub record FetchKeeps (old : LoadingWorld) (slot : ℕ) (new : LoadingWorld) : Type 0 where
@@ -249,17 +234,17 @@ pub record FetchKeeps (old : LoadingWorld) (slot : ℕ) (new : LoadingWorld) : T
   pub others : KeepsOthers old.handles.heap (Some slot) number new.handles.heap
   pub rest : new ≡ record old { handles = record old.handles { heap = new.handles.heap } }
 
-abbrev pub FetchLaw : Type 0
-FetchLaw = (format : Format) (old new : LoadingWorld) (slot : ℕ) (fault : Option FetchFault) → IsHeap old.handles.heap
-    → Fetches format old slot fault new → FetchKeeps old slot new
+abbrev pub FetchLaw : (honest : Type 0) → Type 0
+FetchLaw honest = (format : Format) (before after : ℕ) (old new : LoadingWorld) (slot : ℕ) (fault : Option FetchFault) → IsHeap old.handles.heap
+    → FetchesOver honest format before after old slot fault new → FetchKeeps old slot new
 
 -- a fetch that is refused leaves the same world
-abbrev pub FetchRefusedLaw : Type 0
-FetchRefusedLaw = (format : Format) (old new : LoadingWorld) (slot : ℕ) (fault : FetchFault) → Fetches format old slot (Some fault) new → new ≡ old
+abbrev pub FetchRefusedLaw : (honest : Type 0) → Type 0
+FetchRefusedLaw honest = (format : Format) (before after : ℕ) (old new : LoadingWorld) (slot : ℕ) (fault : FetchFault) → FetchesOver honest format before after old slot (Some fault) new → new ≡ old
 
 -- files that stay never read otherwise than they did: only the device and want of room refuse a fetch
-abbrev pub FetchFaultsLaw : Type 0
-FetchFaultsLaw = (format : Format) (old new : LoadingWorld) (slot : ℕ) (fault : FetchFault) → Fetches format old slot (Some fault) new
+abbrev pub FetchFaultsLaw : (honest : Type 0) → Type 0
+FetchFaultsLaw honest = (format : Format) (before after : ℕ) (old new : LoadingWorld) (slot : ℕ) (fault : FetchFault) → honest → FetchesOver honest format before after old slot (Some fault) new
     → (fault ≡ faults.Store) ⊎ (fault ≡ faults.NoRoom)
 
 -- Explicit uses and importers are counted apart. A module that others import, or that has another explicit use, loses one use at most, and all

@@ -11,6 +11,7 @@ pub mod Fetch
 pub mod Free
 pub mod Resource
 pub mod Families
+pub mod Answers
 pub mod AnyStore
 pub mod Law
 pub mod Owner

@@ -1,10 +1,9 @@
 //! The laws of the definitions. Each function does nothing: its contract is the law.
 ghost use Rattle.w16_loading.specs.Effects.{BuiltInLaw, FindLaw, FreeLaw, LoadLaw, LoadResourceLaw, LockResourceLaw, NamedLaw, SizeofLaw};
 ghost use Rattle.w16_loading.specs.Bystanders.{StepBystandersLaw, StepPinnedLaw};
-ghost use Rattle.w16_loading.specs.Fewest.{ExactRequestsFewestLaw, FetchFewestLaw, LoadFewestLaw, RequestsFewestLaw};
+ghost use Rattle.w16_loading.specs.Fewest.{RequestsFewestLaw};
 ghost use Rattle.w16_loading.specs.Law.{
-  AnyKeepsWorldsLaw,
-  AnyRefusedLoadLaw,
+  AnyStepLaw,
   AreFigures,
   BoundAlikeLaw,
   BoundOnceLaw,
@@ -21,12 +20,10 @@ ghost use Rattle.w16_loading.specs.Law.{
   FetchRefusedLaw,
   FillLaw,
   FillsLaw,
-  IsAnyStepLaw,
   KeepsWorldsLaw,
   OneClosureLaw,
   OneEndLaw,
   OwnersLaw,
-  ReadsNoFilesLaw,
   RefusedLoadLaw,
   SlotsLaw,
   TakenBackLaw,
@@ -36,6 +33,8 @@ ghost use Rattle.w16_loading.specs.Law.{
 };
 ghost use Rattle.w16_loading.specs.Owner.{OwnerLaw};
 
+use w16_store::Store;
+
 /// The figures of the profile are these numbers. Definitions and code share the constants, so only this law would see a
 /// wrong one.
 pub fn figures_of_modules()
@@ -43,13 +42,13 @@ pub fn figures_of_modules()
 {}
 
 /// A fetch takes the bytes of what it discards, and keeps all else of the other objects.
-pub fn fetches_keep_others()
-    ensures { FetchLaw }
+pub fn fetches_keep_others<S: Store>()
+    ensures { FetchLaw S.is_honest }
 {}
 
 /// A refused fetch changes nothing.
-pub fn refused_fetch_changes_nothing()
-    ensures { FetchRefusedLaw }
+pub fn refused_fetch_changes_nothing<S: Store>()
+    ensures { FetchRefusedLaw S.is_honest }
 {}
 
 /// Files decide which modules a load finds.
@@ -58,8 +57,8 @@ pub fn files_decide_a_closure()
 {}
 
 /// A load that is refused before it takes a handle changes nothing.
-pub fn early_refusal_changes_nothing()
-    ensures { EarlyRefusalLaw }
+pub fn early_refusal_changes_nothing<S: Store>()
+    ensures { EarlyRefusalLaw S.is_honest }
 {}
 
 /// An allocation and a write give a segment its bytes.
@@ -83,23 +82,18 @@ pub fn names_are_taken_back()
 {}
 
 /// The requests of a load discard what they may, and keep all else.
-pub fn loads_discard_alone()
-    ensures { FillsLaw }
+pub fn loads_discard_alone<S: Store>()
+    ensures { FillsLaw S.is_honest }
 {}
 
 /// What was bound at load stays.
-pub fn modules_are_bound_once()
-    ensures { BoundOnceLaw }
+pub fn modules_are_bound_once<S: Store>()
+    ensures { BoundOnceLaw S.is_honest }
 {}
 
 /// Code that was discarded and is fetched has the bytes that it had.
-pub fn fetched_code_is_as_it_was()
-    ensures { FetchAgainLaw }
-{}
-
-/// A fetch discards as few objects as it can, and is refused only where there is no room.
-pub fn fetches_discard_fewest()
-    ensures { FetchFewestLaw }
+pub fn fetched_code_is_as_it_was<S: Store>()
+    ensures { FetchAgainLaw S.is_honest }
 {}
 
 /// Taking an explicit use away never lets a module go that others import, or that has another use, and changes nothing else.
@@ -109,15 +103,15 @@ pub fn uses_and_importers_are_apart()
 
 /// What calls of modules and resources are for: look-ups answer what has the name, loads use a module
 /// whose segments have bytes, and LoadResource, LockResource and FreeResource count loads and locks.
-pub fn calls_of_modules_do_what_they_are_for()
-    ensures named { NamedLaw }
-    ensures built_in { BuiltInLaw }
-    ensures find { FindLaw }
-    ensures size { SizeofLaw }
-    ensures free { FreeLaw }
-    ensures load { LoadLaw }
-    ensures load_resource { LoadResourceLaw }
-    ensures lock_resource { LockResourceLaw }
+pub fn calls_of_modules_do_what_they_are_for<S: Store>()
+    ensures named { NamedLaw S.is_honest }
+    ensures built_in { BuiltInLaw S.is_honest }
+    ensures find { FindLaw S.is_honest }
+    ensures size { SizeofLaw S.is_honest }
+    ensures free { FreeLaw S.is_honest }
+    ensures load { LoadLaw S.is_honest }
+    ensures load_resource { LoadResourceLaw S.is_honest }
+    ensures lock_resource { LockResourceLaw S.is_honest }
 {}
 
 /// Which unused module goes first doesn't matter.
@@ -125,25 +119,20 @@ pub fn modules_go_to_one_end()
     ensures { OneEndLaw }
 {}
 
-/// Each request of a load discards as few objects as it can, and is refused only where there is no room.
-pub fn loads_discard_fewest()
-    ensures { LoadFewestLaw }
-{}
-
 /// A refused load leaves all but its discards as it was, however far it came.
-pub fn refused_loads_leave_discards()
-    ensures { RefusedLoadLaw }
+pub fn refused_loads_leave_discards<S: Store>()
+    ensures { RefusedLoadLaw S.is_honest }
 {}
 
 /// Code that has bytes has those that its file gives it, relocated, after each step of each family, whatever was moved,
 /// discarded or fetched.
-pub fn code_reads_as_its_file()
-    ensures { CodeLaw }
+pub fn code_reads_as_its_file<S: Store>()
+    ensures { CodeLaw S.is_honest }
 {}
 
 /// Over files that stay, only the device and want of room refuse a fetch.
-pub fn fetches_are_never_damaged()
-    ensures { FetchFaultsLaw }
+pub fn fetches_are_never_damaged<S: Store>()
+    ensures { FetchFaultsLaw S.is_honest }
 {}
 
 /// Where nothing is loaded, all that is loaded is of its file.
@@ -156,47 +145,30 @@ pub fn calls_keep_worlds()
     ensures { CallsKeepWorldsLaw }
 {}
 
-/// Each step of each family keeps what holds of every world.
-pub fn steps_keep_worlds()
-    ensures { KeepsWorldsLaw }
+/// Each step of each family keeps what holds of every world, over any store, one that lies too.
+pub fn steps_keep_worlds<S: Store>()
+    ensures { KeepsWorldsLaw S.is_honest }
 {}
 
 /// What a far read of code answers is a part of its file's bytes, relocated, also where it is fetched for the read.
-pub fn reads_of_code_are_its_files()
-    ensures { CodeReadsLaw }
+pub fn reads_of_code_are_its_files<S: Store>()
+    ensures { CodeReadsLaw S.is_honest }
 {}
 
-/// Each step keeps what holds of every world over any store, one that lies too.
-pub fn any_steps_keep_worlds()
-    ensures { AnyKeepsWorldsLaw }
+/// A step over an honest store is a step over any store.
+pub fn steps_are_steps_over_any_store<S: Store>()
+    ensures { AnyStepLaw S.is_honest }
 {}
 
-/// A step over files that stay is a step over any store.
-pub fn steps_are_steps_over_any_store()
-    ensures { IsAnyStepLaw }
-{}
-
-/// A step that reads no files is a step over any store, whatever files say.
-pub fn steps_that_read_no_files()
-    ensures { ReadsNoFilesLaw }
-{}
-
-/// A refused load leaves all but its discards as it was, over any store too.
-pub fn refused_loads_leave_discards_over_any_store()
-    ensures { AnyRefusedLoadLaw }
-{}
-
-/// Each request of a step discards as few objects as it can: that of a fetch, and those of a load. Over files that stay
-/// it is also for the bytes that the file gives, and is refused only where there is no room or the device failed.
-pub fn requests_of_steps_discard_fewest()
-    ensures any_store { RequestsFewestLaw }
-    ensures exact { ExactRequestsFewestLaw }
+/// Each request of a step discards as few objects as it can, and is refused only where there is no room: that of a fetch, and those of a load.
+pub fn requests_of_steps_discard_fewest<S: Store>()
+    ensures { RequestsFewestLaw S.is_honest }
 {}
 
 /// Whatever the store answers, an object that is there keeps its owner or has none any more: none comes to be a
 /// module's, or code.
-pub fn objects_keep_their_owners()
-    ensures { OwnersLaw }
+pub fn objects_keep_their_owners<S: Store>()
+    ensures { OwnersLaw S.is_honest }
 {}
 
 /// Each slot's object is the script's, or of one segment or one resource, and it is told which.
@@ -229,7 +201,7 @@ pub fn loads_bind_by_names_alone()
 /// alone; or it is gone with its module or resource. A fixed or locked one keeps its address through every step but its
 /// own reallocation and
 /// freeing.
-pub fn steps_keep_bystanders()
-    ensures bystanders { StepBystandersLaw }
-    ensures pinned { StepPinnedLaw }
+pub fn steps_keep_bystanders<S: Store>()
+    ensures bystanders { StepBystandersLaw S.is_honest }
+    ensures pinned { StepPinnedLaw S.is_honest }
 {}

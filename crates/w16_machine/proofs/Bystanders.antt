@@ -1,10 +1,9 @@
 -- What each step spares, and so each step of a run.
-use Rattle.w16_machine.proofs.Common.{◌≡◌, ◌≢◌, ℕ, ◌⊎◌, inl, inr, true, List, [], ◌∷◌, Option, Some, None, IsSomeAnd, option_map, refl, sym, ap, ◌∙◌, subst, cases_Bool, cases_eq, Object, object_at, is_pinned_object}
-use Rattle.w16_machine.proofs.Common.{StandsStill, Table, Each-from_All, bytes_in, LoadingCommand, Format, Reply, Word, Done, bystanders_law, pinned_law, World, IsWorld, LocalHeap, heap_of, local_in, current_heap, segment_bytes}
-use Rattle.w16_machine.proofs.Common.{LocalCommand, LocalStep, DS, HasSameObjects, IsHeapKept, IsLocalKept, IsObjectKept, IsRewritten, KeepsRest, asks_for_room, but_bytes, may_move_named, IsCommand, Event, Step, Run}
-use Rattle.w16_machine.proofs.Common.{OfLoading, OfLocals, IsLocalAbout, IsLocalSpared, AllSpare, StepSparesLaw, RunSparesLaw, ◌<◌, is_some, bytes_at, Discardable, IsHeapLeft, IsLeftByGrowth, IsLengthened, KeepsRestLonger}
+use Rattle.w16_machine.proofs.Common.{◌≡◌, ◌≢◌, ℕ, ◌⊎◌, inl, inr, true, List, Option, Some, None, IsSomeAnd, option_map, refl, sym, ap, ◌∙◌, subst, cases_Bool, cases_eq, Object, object_at, is_pinned_object}
+use Rattle.w16_machine.proofs.Common.{StandsStill, Table, bytes_in, LoadingCommand, Format, Reply, Word, Done, bystanders_law, pinned_law, World, IsWorld, LocalHeap, heap_of, local_in, current_heap, segment_bytes}
+use Rattle.w16_machine.proofs.Common.{LocalCommand, LocalStep, DS, HasSameObjects, IsHeapKept, IsLocalKept, IsObjectKept, IsRewritten, KeepsRest, asks_for_room, but_bytes, may_move_named, Step}
+use Rattle.w16_machine.proofs.Common.{OfLoading, OfLocals, IsLocalAbout, IsLocalSpared, StepSparesLaw, RunSparesLaw, ◌<◌, is_some, bytes_at, Discardable, IsHeapLeft, IsLeftByGrowth, IsLengthened, KeepsRestLonger}
 use Rattle.w16_machine.proofs.Common.{length}
-use Rattle.std.specs.List.{AllByRecursion as Each}
 use Rattle.std.specs.FinMap as finmap
 use Rattle.w16_machine.specs.Bystanders.{IsSpared}
 use Rattle.w16_machine.proofs.LocalFacts.{IsThere, current_there, local_there, object_of, there_local, found}
@@ -15,6 +14,8 @@ use Rattle.w16_machine.proofs.LocalLeft.{left_is}
 use Rattle.w16_machine.proofs.LocalLonger.{leaves_longer}
 use Rattle.w16_machine.proofs.LocalOthers.{local_others_law, local_pinned_law, stands_same}
 use Rattle.w16_machine.proofs.LocalOutcomes.{Outcome, outcome}
+use Rattle.w16_machine.specs.Bystanders.{Spares}
+use Rattle.w16_machine.proofs.Runs.{run_each}
 use Rattle.w16_machine.proofs.Worlds.{world_law}
 
 -- DS.
@@ -31,12 +32,12 @@ local_ds old new command (Word answer) step other = outcome_ds old new command a
 local_ds old new command reply step other = absurd step
 
 -- A step of loading leaves each local heap that stays its table.
-module _ (format : Format) (old new : World) (command : LoadingCommand) (reply : Reply) (is : IsWorld old) (step : Step ⊥ format old (OfLoading command) reply new) (slot : ℕ) (at after : LocalHeap) (e : local_in old slot ≡ Some at) (f : local_in new slot ≡ Some after) where
+module _ (honest : Type 0) (format : Format) (old new : World) (command : LoadingCommand) (reply : Reply) (is : IsWorld old) (step : Step honest format old (OfLoading command) reply new) (slot : ℕ) (at after : LocalHeap) (e : local_in old slot ≡ Some at) (f : local_in new slot ≡ Some after) where
   same_table : after.table ≡ at.table
   same_table =
       let was : IsThere old at × (at.slot ≡ slot) = local_there old slot at e in
       let now : IsThere new after × (after.slot ≡ slot) = local_there new slot after f in
-      let both : ◌≡◌ {A = Option Table} (Some after.table) (Some at.table) = sym ((goes_law format old new command reply step after.slot after.table).0 now.0.table).0 ∙ ap (finmap.get old.heaps) (now.1 ∙ sym was.1) ∙ was.0.table in
+      let both : ◌≡◌ {A = Option Table} (Some after.table) (Some at.table) = sym ((goes_law honest format old new command reply step after.slot after.table).0 now.0.table).0 ∙ ap (finmap.get old.heaps) (now.1 ∙ sym was.1) ∙ was.0.table in
       cc
 
   stays_same : HasSameObjects (heap_of at) (heap_of after)
@@ -157,19 +158,19 @@ module _ (old new : World) (command : LocalCommand) (is : IsWorld old) (q : ℕ)
   object_stands pinned (inl k) = stands_same old.loading.handles.heap new.loading.handles.heap q (ap (λ h. finmap.get h.heap.places q) k.handles)
   object_stands pinned (inr r) = (leaves_longer old new command is.heaps r).pinned q pinned
 
-pub step_spares_law : StepSparesLaw
-step_spares_law format old new (OfLoading command) reply is step = record {
+pub step_spares_law : (honest : Type 0) → StepSparesLaw honest
+step_spares_law honest format old new (OfLoading command) reply is step = record {
   ds = λ other. ap (λ (w : World). w.ds) step.1;
   bytes = record {
-    objects = λ q there other. bystanders_law old.loading new.loading command reply q is.loading step.0.any there other;
-    local_objects = λ slot at after q o e f there other. inl ((stays_same format old new command reply is step slot at after e f).objects q ∙ ap (option_map but_bytes) there);
+    objects = λ q there other. bystanders_law honest format old.loading new.loading command reply q is.loading step.0 there other;
+    local_objects = λ slot at after q o e f there other. inl ((stays_same honest format old new command reply is step slot at after e f).objects q ∙ ap (option_map but_bytes) there);
   };
   addresses = record {
-    objects = λ q pinned unmoved. pinned_law old.loading new.loading command reply q is.loading step.0.any pinned unmoved;
-    local_objects = λ slot at after q o e f there pinned unmoved. stands_same (heap_of at) (heap_of after) q (ap (λ h. finmap.get h.places q) (stays_same format old new command reply is step slot at after e f).rest);
+    objects = λ q pinned unmoved. pinned_law honest format old.loading new.loading command reply q is.loading step.0 pinned unmoved;
+    local_objects = λ slot at after q o e f there pinned unmoved. stands_same (heap_of at) (heap_of after) q (ap (λ h. finmap.get h.places q) (stays_same honest format old new command reply is step slot at after e f).rest);
   };
 }
-step_spares_law format old new (OfLocals command) reply is step = record {
+step_spares_law honest format old new (OfLocals command) reply is step = record {
   ds = λ other. local_ds old new command reply step other;
   bytes = record {
     objects = λ q there other. object_spared old new command is q there (frame_law old new command reply is.heaps step);
@@ -181,9 +182,6 @@ step_spares_law format old new (OfLocals command) reply is step = record {
   };
 }
 
-pub run_spares_law : RunSparesLaw
-run_spares_law format old new events is known run = each old events (Each-from_All (λ (e : Event). IsCommand e.command) events known) is run
-  where
-    each : (now : World) (events : List Event) → Each (λ (e : Event). IsCommand e.command) events → IsWorld now → Run (Step ⊥ format) now events new → AllSpare now events
-    each now [] known is run = tt
-    each now (event ∷ events) known is run = (step_spares_law format now event.after event.command event.reply is run.0, each event.after events known.1 (world_law format now event.after event.command event.reply is known.0 run.0) run.1)
+pub run_spares_law : (honest : Type 0) → RunSparesLaw honest
+run_spares_law honest format old new events is known run = (run_each (Step honest format) IsWorld (λ now event. Spares now event.command event.after)
+    (λ now event is known step. (step_spares_law honest format now event.after event.command event.reply is step, world_law honest format now event.after event.command event.reply is known step)) old new events is known run).0

@@ -2,18 +2,17 @@
 pub use Rattle.std.proofs.Common.{Err, None, Ok, Option, Result, Some, find}
 pub use Rattle.std.proofs.lemmas.Bool.{le-leb, lt-ltb}
 pub use Rattle.std.proofs.lemmas.List.{length-replicate}
-pub use Rattle.w16_loading.proofs.AnySteps.{requests_fewest_law}
 pub use Rattle.w16_loading.proofs.Begun.{empty_of_files_law}
 pub use Rattle.w16_loading.proofs.Bystanders.{bystanders_law, pinned_law}
 pub use Rattle.w16_loading.proofs.CodeLaw.{code_law}
 pub use Rattle.w16_loading.proofs.Common.{Accesses, AddsBuiltIn, All, All-from_Each, AllPairs-from_EachPair, Allocates, AllocatesFewest, AreHandles, AreNew, Asked, Bool, BuiltIn, Builtin, Calls, Dword, Each-at, Each-from_All, Failed, FamilyStep, FarAnswer, FarCommand}
-pub use Rattle.w16_loading.proofs.Common.{Fetches, Fill, FinMap, FindResource, Format, GetModuleHandle, GetModuleUsage, GetProcAddress, GlobalReAlloc, HandleCommand, HandleReplies, Handles, Heap, IfOk, IfSome, IsBlockOf, IsHeap, IsLoadingCommand, IsLoadingWorld}
-pub use Rattle.w16_loading.proofs.Common.{IsNew, IsOfFiles, IsSomeAnd, IsTrue, KeepsContents, KeepsOthers, List, LoadLibrary, LoadModule, LoadResource, LoadingCommand, LoadingStep, LoadingWorld, Loads, LockResource, MatchBool, MatchOption, Member, ModuleCommand}
+pub use Rattle.w16_loading.proofs.Common.{Fill, FinMap, FindResource, Format, GetModuleHandle, GetModuleUsage, GetProcAddress, GlobalReAlloc, HandleCommand, HandleReplies, Handles, Heap, IfOk, IfSome, IsBlockOf, IsHeap, IsLoadingCommand, IsLoadingWorld}
+pub use Rattle.w16_loading.proofs.Common.{IsNew, IsOfFiles, IsSomeAnd, IsTrue, KeepsContents, KeepsOthers, List, LoadLibrary, LoadModule, LoadResource, LoadingCommand, LoadingWorld, LockResource, MatchBool, MatchOption, Member, ModuleCommand}
 pub use Rattle.w16_loading.proofs.Common.{ModuleStep, Object, OfFar, OfHandles, OfModules, OfResizes, OfResources, Reached, Reply, ResizeCommand, ResizeReplies, ResourceCommand, ResourceStep, Settles, SizeofResource, StandsStill, Word, Write, [], absent, address_law}
 pub use Rattle.w16_loading.proofs.Common.{after_touch, after_write, allocation_law, and_parts, answer_in, ap, arith, blocks, built_in, bytes_at, bytes_in, call_outcome, cases_Bool, cases_eq, cond, contents, discarded, discards_needed, eligible, entries_sorted}
-pub use Rattle.w16_loading.proofs.Common.{eq-eqb, eqb-true, false, false≢true, far_at, far_bytes, far_fault, far_read, far_reads_file, far_slot, far_write, found_member, get-empty, get-entries, get-retain_keys, get-update_other, get-update_same, get_or, gives}
+pub use Rattle.w16_loading.proofs.Common.{eq-eqb, eqb-true, false, false≢true, far_at, far_bytes, far_fault, far_read, far_slot, far_write, found_member, get-empty, get-entries, get-retain_keys, get-update_other, get-update_same, get_or, gives}
 pub use Rattle.w16_loading.proofs.Common.{handle_named, inl, inr, inserted_here, inserted_other, is_fixed, is_in_order, is_member, is_pinned_object, is_some, keys_rise, length, length-put_part, ltb-true, member_found, module_at, nat_cmp, nat_cmp-IsAntisymmetric}
-pub use Rattle.w16_loading.proofs.Common.{nat_cmp_total, nat_lt, ne_eqb, needs_fetch, not, object_at, offset_in, option_map, other_handles, others_law, owned_at, part, put_part, reached, reads_files, refl, refuses_write, replicate, reply_of_far, same_map, selector_in}
+pub use Rattle.w16_loading.proofs.Common.{nat_cmp_total, nat_lt, ne_eqb, needs_fetch, not, object_at, offset_in, option_map, other_handles, others_law, owned_at, part, put_part, reached, refl, refuses_write, replicate, reply_of_far, same_map, selector_in}
 pub use Rattle.w16_loading.proofs.Common.{slot_of_selector, stays_for, subst, suc, sym, take, taken_here, taken_other, true, unwrap_or, with_newest, with_object, with_ordered, written_heap, zero, ℕ, ◌&&◌, ◌+◌, ◌-◌, ◌/◌, ◌<◌, ◌==◌, ◌||◌, ◌∙◌, ◌∷◌, ◌≡◌, ◌≢◌, ◌≤◌}
 pub use Rattle.w16_loading.proofs.Common.{◌⊎◌}
 unfoldable pub use Rattle.w16_loading.proofs.Common.{repeated}
@@ -21,8 +20,7 @@ pub use Rattle.w16_loading.proofs.KeptBytes.{KeepsBytes, same_object}
 pub use Rattle.w16_loading.proofs.KeptCode.{KeepsCode, as_it_was, code_kept, same_source}
 pub use Rattle.w16_loading.proofs.KeptOwners.{owners_law}
 pub use Rattle.w16_loading.proofs.KeptWorlds.{IsOwned, world_stays}
-pub use Rattle.w16_loading.proofs.WorldLaw.{any_keeps_worlds_law}
-pub use Rattle.w16_loading.specs.AnyStore.{AnyStep}
+pub use Rattle.w16_loading.proofs.WorldLaw.{keeps_worlds_law}
 pub use Rattle.w16_loading.specs.Families.{ResizesStep}
 pub use Rattle.w16_loading.specs.Modules.{with_handles}
 pub use Rattle.w16_loading.specs.Replies.{FarReplies, far_answer_in}
@@ -44,7 +42,7 @@ pub use Rattle.w16_machine.specs.LocalLaw.{GrowthLaw, IsHeapLeft, IsLeftByGrowth
 pub use Rattle.w16_machine.specs.LocalLaw.{GoesLaw, GoneLaw, HasSameObjects, IsBegun, IsHeapKept, IsLocalKept, IsNamedBy, IsObjectKept, IsRewritten, KeepsRest, MayBegin, NamedLaw, NamesLaw}
 pub use Rattle.w16_machine.specs.LocalLaw.{NeverBackLaw, NewHeapLaw, OrderLaw, OthersLaw, OutcomeLaw, PinnedLaw, PlacesLaw, QueriesLaw, asks_for_room, but_bytes, may_move_named, named_by, only_tells}
 pub use Rattle.w16_machine.specs.LocalStays.{HasSameSizes, HeapsLaw, LocalSizesLaw, SizesLaw, call_may_take, modules_may_take, resources_may_take, size_at}
-pub use Rattle.w16_machine.specs.Machine.{Command, Event, IsCommand, OnHandles, Run, Step, StoreStep, after_loading}
+pub use Rattle.w16_machine.specs.Machine.{Command, Event, IsCommand, OnHandles, Run, Step, after_loading}
 pub use Rattle.w16_machine.specs.Machine.Command.{OfLoading, OfLocals}
 pub use Rattle.w16_machine.specs.World.{World, empty_world}
 pub use Rattle.w16_machine.specs.declared.local.TheConstants.{LAST_LOCAL_END, LMEM_DISCARDABLE, LMEM_MODIFY, LMEM_MOVEABLE, LMEM_NOCOMPACT, LOCAL_ENTRIES, LOCAL_GRAIN}

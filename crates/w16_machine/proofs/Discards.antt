@@ -1,5 +1,6 @@
 -- Each step of a run discards as few as it can.
-use Rattle.w16_machine.proofs.Common.{◌≡◌, subst, GlobalAlloc, GlobalCompact, global_alloc_law, global_compact_law, resize_fewest_law, Format, Reply, Word, Dword, GlobalReAlloc, requests_fewest_law, World, IsWorld, Event, Command, Step, IsFewest}
+use Rattle.w16_machine.proofs.Common.{◌≡◌, subst, GlobalAlloc, GlobalCompact, global_alloc_law, global_compact_law, resize_fewest_law, Format, Reply, Word, Dword, GlobalReAlloc, World, IsWorld, Event, Command, Step, IsFewest}
+use Rattle.w16_loading.proofs.Requests.{any_requests_fewest}
 use Rattle.w16_machine.proofs.LocalFewest.{local_alloc_law, local_compact_law, local_realloc_law}
 use Rattle.w16_machine.proofs.Stepped.{call_replies, resize_replies}
 
@@ -22,5 +23,5 @@ step_fewest honest format old event is step = record {
   local_alloc = λ flags size answer at c r current. local_alloc_law old event.after flags size answer at is.heaps (told honest format old event c r step) current;
   local_realloc = λ name size flags answer o c r named unmodified some. local_realloc_law old event.after name size flags answer o is.heaps (told honest format old event c r step) named unmodified some;
   local_compact = λ size answer at c r current. local_compact_law old event.after size answer at is.heaps (told honest format old event c r step) current;
-  requests = λ command c. requests_fewest_law old.loading event.after.loading command event.reply is.loading (asked honest format old event c step).0.any;
+  requests = λ command c. any_requests_fewest honest format old.loading event.after.loading command event.reply is.loading (asked honest format old event c step).0;
 }

@@ -21,8 +21,8 @@ inside_left : (b : Option (List ℕ)) (t : Table) → IsSomeAnd b (λ bytes. t.h
 inside_left None t h = absurd h
 inside_left (Some bytes) t h = ap (λ l. cond {A = Option Table} l (Some t) None) (le-leb t.hi (length bytes) h)
 
-pub goes_law : GoesLaw
-goes_law format old new command reply step slot t = (
+pub goes_law : (honest : Type 0) → GoesLaw honest
+goes_law honest format old new command reply step slot t = (
   (λ e. left_inside (finmap.get old.heaps slot) (bytes_at new.loading.handles.heap slot) t (sym is ∙ e)),
   (λ h. is ∙ ap (λ p. left_over p (bytes_at new.loading.handles.heap slot)) h.0 ∙ inside_left (bytes_at new.loading.handles.heap slot) t h.1),
 )
@@ -73,18 +73,18 @@ module _ (old new : World) (slot : ℕ) (none : finmap.get old.heaps slot ≡ No
             ∙ left_is handles.heap old.heaps slot ∙ ap (λ p. left_over p (bytes_at handles.heap slot)) none
       ])
 
-pub never_back_law : NeverBackLaw
-never_back_law format old new (OfLoading command) reply step slot none = inl (ap (λ (w : World). finmap.get w.heaps slot) step.1 ∙ left_is new.loading.handles.heap old.heaps slot ∙ ap (λ p. left_over p (bytes_at new.loading.handles.heap slot)) none)
-never_back_law format old new (OfLocals (DS selector)) Done step slot none = inl (ap (λ (w : World). finmap.get w.heaps slot) step ∙ none)
-never_back_law format old new (OfLocals command) (Word answer) step slot none = called old new slot none command answer (outcome old command answer new step)
-never_back_law format old new (OfLocals command) reply step slot none = absurd step
+pub never_back_law : (honest : Type 0) → NeverBackLaw honest
+never_back_law honest format old new (OfLoading command) reply step slot none = inl (ap (λ (w : World). finmap.get w.heaps slot) step.1 ∙ left_is new.loading.handles.heap old.heaps slot ∙ ap (λ p. left_over p (bytes_at new.loading.handles.heap slot)) none)
+never_back_law honest format old new (OfLocals (DS selector)) Done step slot none = inl (ap (λ (w : World). finmap.get w.heaps slot) step ∙ none)
+never_back_law honest format old new (OfLocals command) (Word answer) step slot none = called old new slot none command answer (outcome old command answer new step)
+never_back_law honest format old new (OfLocals command) reply step slot none = absurd step
 
-pub gone_law : GoneLaw
-gone_law format old new events run none_begins slot none = each old events (Each-from_All BeginsNone events none_begins) run none
+pub gone_law : (honest : Type 0) → GoneLaw honest
+gone_law honest format old new events run none_begins slot none = each old events (Each-from_All BeginsNone events none_begins) run none
   where
-    each : (now : World) (events : List Event) → Each BeginsNone events → Run (Step ⊥ format) now events new → finmap.get now.heaps slot ≡ None → finmap.get new.heaps slot ≡ None
+    each : (now : World) (events : List Event) → Each BeginsNone events → Run (Step honest format) now events new → finmap.get now.heaps slot ≡ None → finmap.get new.heaps slot ≡ None
     each now [] begins run none = ap (λ (w : World). finmap.get w.heaps slot) run ∙ none
-    each now (event ∷ events) begins run none = elim (never_back_law format now event.after event.command event.reply run.0 slot none) [
+    each now (event ∷ events) begins run none = elim (never_back_law honest format now event.after event.command event.reply run.0 slot none) [
       | inl still ↦ each event.after events begins.1 run.1 still
       | inr begun ↦ absurd (begins.0 begun.selector begun.start begun.end begun.asked begun.answered)
     ]

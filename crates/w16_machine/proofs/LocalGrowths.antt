@@ -1,5 +1,5 @@
 -- The growth of a local heap is a step of loading, but for the number of bytes moved and for the heap's end; so it keeps what holds of every world.
-use Rattle.w16_machine.proofs.Common.{◌≡◌, ℕ, inl, inr, false, length, Option, Some, None, IfSome, refl, sym, ap, ◌∙◌, subst, cond, le-leb, cases_eq, bytes_at, Table, inserted_here, inserted_other, is_code, AnyStep, Format, IsOfFiles, OfResizes}
+use Rattle.w16_machine.proofs.Common.{◌≡◌, ℕ, inl, inr, false, length, Option, Some, None, IfSome, refl, sym, ap, ◌∙◌, subst, cond, le-leb, cases_eq, bytes_at, Table, inserted_here, inserted_other, is_code, Err, Format, IsOfFiles, OfResizes}
 use Rattle.w16_machine.proofs.Common.{GlobalReAlloc, Word, world_stays, code_law, World, IsWorld, LocalHeap, RoomOptions, Step, OfLoading, after_loading, left_in, with_handles, IsLongerSize, Lengthens, growth_flags, longer, with_longer, arith}
 use Rattle.std.specs.FinMap as finmap
 use Rattle.w16_machine.proofs.Loaded.{loading_world_kept}
@@ -8,20 +8,18 @@ use Rattle.w16_machine.proofs.LocalGrown.{grown_handles, grown_object, grown_wor
 use Rattle.w16_machine.proofs.LocalLeft.{left_is, left_over}
 use Rattle.w16_machine.proofs.Stepped.{handles_step}
 
+-- a format that accepts nothing
+abbrev nothing : Format
+nothing = record { says = λ file. Err 11; contents = λ file number. None }
+
 module _ (old : World) (at : LocalHeap) (options : RoomOptions) (size : ℕ) (l : Lengthens old at options size) where
   -- the world that the reallocation leaves
   abbrev pub reallocated : World
   reallocated = after_loading old (with_handles old.loading l.handles)
 
-  any_step : AnyStep old.loading (OfResizes (GlobalReAlloc l.handle size (growth_flags options))) (Word l.answer) (with_handles old.loading l.handles)
-  any_step = record { counted = omega arith; failed = λ e. cc; files = refl; step = (l.handles, l.reallocated, refl) }
-
   -- this is a step
   pub growth_step : (honest : Type 0) (format : Format) → Step honest format old (OfLoading (OfResizes (GlobalReAlloc l.handle size (growth_flags options)))) (Word l.answer) reallocated
-  growth_step honest format = (
-    record { any = any_step; exact = λ _. handles_step format old.loading l.handles (OfResizes (GlobalReAlloc l.handle size (growth_flags options))) (Word l.answer) refl l.reallocated },
-    refl,
-  )
+  growth_step honest format = (handles_step honest format old.loading l.handles (OfResizes (GlobalReAlloc l.handle size (growth_flags options))) (Word l.answer) tt l.reallocated, refl)
 
   module _ (is : IsWorld old) (there : IsThere old at) (is_size : IsLongerSize at size) where
     abbrev mine : LocalHeap
@@ -31,7 +29,7 @@ module _ (old : World) (at : LocalHeap) (options : RoomOptions) (size : ℕ) (l 
     grown = with_longer old l.handles mine
 
     is_reallocated : IsWorld reallocated
-    is_reallocated = loading_world_kept old reallocated is (OfResizes (GlobalReAlloc l.handle size (growth_flags options))) (Word l.answer) any_step refl tt
+    is_reallocated = loading_world_kept ⊥ nothing old reallocated is (OfResizes (GlobalReAlloc l.handle size (growth_flags options))) (Word l.answer) (growth_step ⊥ nothing).0 refl tt
 
     -- its heap's segment is no code
     still_here : finmap.get reallocated.heaps at.slot ≡ Some at.table
@@ -60,4 +58,4 @@ module _ (old : World) (at : LocalHeap) (options : RoomOptions) (size : ℕ) (l 
     }
       where
         after : IsOfFiles format (with_handles old.loading l.handles)
-        after = code_law format old.loading (with_handles old.loading l.handles) (OfResizes (GlobalReAlloc l.handle size (growth_flags options))) (Word l.answer) is.loading of ((growth_step ⊥ format).0.exact (λ e. cc))
+        after = code_law (Unit {0}) format old.loading (with_handles old.loading l.handles) (OfResizes (GlobalReAlloc l.handle size (growth_flags options))) (Word l.answer) tt is.loading of (growth_step (Unit {0}) format).0

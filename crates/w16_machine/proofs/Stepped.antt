@@ -1,43 +1,43 @@
 -- Steps that read no file: calls on handles, which leave the rest of the world, and far accesses that fetch nothing.
-use Rattle.w16_machine.proofs.Common.{◌≡◌, ℕ, Bool, false, MatchBool, MatchOption, Option, refl, sym, ap, ◌∙◌, subst, arith, false≢true, repeated, HandleCommand, FarAnswer, FarCommand, far_slot, Read, Write, Fill, Handles, selector_in}
-use Rattle.w16_machine.proofs.Common.{offset_in, FetchFault, Store, far_reads_file, reads_files, ResizesStep, FamilyStep, LoadingCommand, LoadingStep, OfHandles, OfResizes, OfFar, OfModules, OfResources, Accesses, Fetches, needs_fetch}
-use Rattle.w16_machine.proofs.Common.{far_read, far_write, gives, reply_of_far, Format, Loads, LoadingWorld, with_handles, Reply, HandleReplies, ResizeReplies, FarReplies, Done, Failed, ResizeCommand, StoreStep, OnHandles}
+use Rattle.w16_machine.proofs.Common.{false≢true, inl, inr, ◌≡◌, ℕ, false, refl, sym, ap, ◌∙◌, subst, arith, HandleCommand, FarAnswer, FarCommand, Read, Write, Fill, Handles, selector_in}
+use Rattle.w16_machine.proofs.Common.{ResizesStep, FamilyStep, LoadingCommand, OfHandles, OfResizes, OfFar, OfModules, OfResources, Accesses, needs_fetch}
+use Rattle.w16_machine.proofs.Common.{gives, reply_of_far, Format, LoadingWorld, with_handles, Reply, HandleReplies, ResizeReplies, FarReplies, Done, ResizeCommand, OnHandles}
+use Rattle.w16_loading.proofs.Cases.{by_bool}
 use Rattle.w16_model.specs.Far as far
-use Rattle.w16_loading.specs.Families.{HandleStep, FarStep}
+use Rattle.w16_loading.specs.Families.{HandleStep, FarStep, Loading, access_of, far_reads_file}
+use Rattle.w16_model.specs.Effects.{pointer_in}
+use Rattle.w16_loading.specs.Fetch.{Fetching}
+use Rattle.w16_loading.specs.Fill.{Fills}
+use Rattle.w16_loading.specs.Answers.{FetchesFrom, LoadsFrom, StepOver, told}
 use Rattle.w16_loading.specs.Replies.Reply.{Bytes, Fault}
 
--- a step that reads no file is one over any store
-pub unread : (honest : Type 0) (format : Format) (old new : LoadingWorld) (command : LoadingCommand) (reply : Reply) → reads_files old command ≡ false → StoreStep honest format old command reply new → LoadingStep format old command reply new
-unread honest format old new command reply none step = step.exact (λ reads. absurd (false≢true (sym none ∙ reads)))
+-- the fetches and loads of a step over a store
+abbrev pub fetching : Type 0 → Format → LoadingWorld → LoadingWorld → Fetching
+fetching honest format old new = FetchesFrom Fills (told honest format old.files old.failures new.failures)
+
+abbrev pub loading : Type 0 → Format → LoadingWorld → LoadingWorld → Loading
+loading honest format old new = LoadsFrom Fills (told honest format old.files old.failures new.failures)
 
 handles_of : (old new : LoadingWorld) (next : Handles) → new ≡ record old { handles = next } → next ≡ new.handles
 handles_of old new next e = sym (ap (λ (w : LoadingWorld). w.handles) e)
 
-pub call_replies : (honest : Type 0) (format : Format) (old new : LoadingWorld) (command : HandleCommand) (reply : Reply) → StoreStep honest format old (OfHandles command) reply new → HandleReplies old.handles command reply new.handles
+pub call_replies : (honest : Type 0) (format : Format) (old new : LoadingWorld) (command : HandleCommand) (reply : Reply) → StepOver honest format old (OfHandles command) reply new → HandleReplies old.handles command reply new.handles
 call_replies honest format old new command reply s =
-    let step : HandleStep old command reply (record new { failures = old.failures }) = (unread honest format old new (OfHandles command) reply refl s).step in
+    let step : HandleStep old command reply (record new { failures = old.failures }) = s.step in
     subst (HandleReplies old.handles command reply) (handles_of old (record new { failures = old.failures }) step.0 step.2) step.1
 
-pub resize_replies : (honest : Type 0) (format : Format) (old new : LoadingWorld) (command : ResizeCommand) (reply : Reply) → StoreStep honest format old (OfResizes command) reply new → ResizeReplies old.handles command reply new.handles
+pub resize_replies : (honest : Type 0) (format : Format) (old new : LoadingWorld) (command : ResizeCommand) (reply : Reply) → StepOver honest format old (OfResizes command) reply new → ResizeReplies old.handles command reply new.handles
 resize_replies honest format old new command reply s =
-    let step : ResizesStep old command reply (record new { failures = old.failures }) = (unread honest format old new (OfResizes command) reply refl s).step in
+    let step : ResizesStep old command reply (record new { failures = old.failures }) = s.step in
     subst (ResizeReplies old.handles command reply) (handles_of old (record new { failures = old.failures }) step.0 step.2) step.1
 
 -- A far access that fetches nothing is made once.
-module _ (format : Format) (access : LoadingWorld → FarAnswer × LoadingWorld) (old new : LoadingWorld) (selector : ℕ) (reply : Reply) where
-  -- an access that may fetch, by whether it does
-  abbrev By : Bool → Type 0
-  By b = MatchBool b ((fault : Option FetchFault) × (next : LoadingWorld) × Fetches format old (far_slot old.handles selector) fault next
-      × MatchOption fault (gives (access next) reply new) (λ f. (reply ≡ Failed f) × (new ≡ next))) (gives (access old) reply new)
+module _ (fetches : Fetching) (access : LoadingWorld → FarAnswer × LoadingWorld) (old new : LoadingWorld) (selector : ℕ) (reply : Reply) (none : needs_fetch (access old).0 old selector ≡ false) where
+  pub once : Accesses fetches access old selector reply new → new ≡ (access old).1
+  once a = elim (by_bool (needs_fetch (access old).0 old selector) a) [ inl (e, f) ↦ absurd (false≢true (sym none ∙ e)) | inr (e, g) ↦ g.1 ]
 
-  pub once : needs_fetch (access old).0 old selector ≡ false → Accesses (Fetches format) access old selector reply new → new ≡ (access old).1
-  once none a = turn (subst By none a)
-    where
-      turn : gives (access old) reply new → new ≡ (access old).1
-      turn g = g.1
-
-  pub accessed : needs_fetch (access old).0 old selector ≡ false → gives (access old) reply new → Accesses (Fetches format) access old selector reply new
-  accessed none g = subst By (sym none) g
+  pub accessed : gives (access old) reply new → Accesses fetches access old selector reply new
+  accessed g = rw none g
 
 -- what a reply prints
 replied : (h next : Handles) (command : FarCommand) (reply : Reply) → FarReplies h command reply next → (answer : FarAnswer) × (reply ≡ reply_of_far answer) × far.FarStep h command answer next
@@ -46,32 +46,27 @@ replied h next command Done s = (FarAnswer.Done, refl, s)
 replied h next command (Fault fault) s = (FarAnswer.Fault fault, refl, s)
 replied h next command reply s = absurd s
 
-far_step : (format : Format) (old : LoadingWorld) (next : Handles) (command : FarCommand) (reply : Reply) → far_reads_file old command ≡ false → FarReplies old.handles command reply next → FarStep (Fetches format) old command reply (with_handles old next)
-far_step format old next (Read pointer count) reply none s =
-    let r : (answer : FarAnswer) × (reply ≡ reply_of_far answer) × far.FarStep old.handles (Read pointer count) answer next = replied old.handles next (Read pointer count) reply s in
-    accessed format (far_read (selector_in pointer) (offset_in pointer) count) old (with_handles old next) (selector_in pointer) reply none (r.1 ∙ ap reply_of_far r.2.0, ap (with_handles old) r.2.1)
-far_step format old next (Write pointer bytes) reply none s =
-    let r : (answer : FarAnswer) × (reply ≡ reply_of_far answer) × far.FarStep old.handles (Write pointer bytes) answer next = replied old.handles next (Write pointer bytes) reply s in
-    accessed format (far_write (selector_in pointer) (offset_in pointer) bytes) old (with_handles old next) (selector_in pointer) reply none (r.1 ∙ ap reply_of_far r.2.0, ap (with_handles old) r.2.1)
-far_step format old next (Fill pointer count byte) reply none s =
-    let r : (answer : FarAnswer) × (reply ≡ reply_of_far answer) × far.FarStep old.handles (Fill pointer count byte) answer next = replied old.handles next (Fill pointer count byte) reply s in
-    accessed format (far_write (selector_in pointer) (offset_in pointer) (repeated count byte)) old (with_handles old next) (selector_in pointer) reply none (r.1 ∙ ap reply_of_far r.2.0, ap (with_handles old) r.2.1)
-
--- no such step answers that a fetch failed
-unfailed : (h next : Handles) (command : LoadingCommand) (reply : Reply) (fault : FetchFault) → OnHandles h command reply next → reply ≡ Failed fault → ⊥
-unfailed h next (OfHandles command) reply fault s e = subst (λ r. HandleReplies h command r next) e s
-unfailed h next (OfResizes command) reply fault s e = subst (λ r. ResizeReplies h command r next) e s
-unfailed h next (OfFar command) reply fault s e = subst (λ r. FarReplies h command r next) e s
-unfailed h next (OfModules command) reply fault s e = s
-unfailed h next (OfResources command) reply fault s e = s
-
--- what is done on handles alone, and reads no file, is a step
-pub handles_step : (format : Format) (old : LoadingWorld) (next : Handles) (command : LoadingCommand) (reply : Reply) → reads_files old command ≡ false → OnHandles old.handles command reply next → LoadingStep format old command reply (with_handles old next)
-handles_step format old next command reply none s = record { counted = omega arith; failed = λ e. absurd (unfailed old.handles next command reply Store s e); step = turn command none s }
+far_step : (fetches : Fetching) (old : LoadingWorld) (next : Handles) (command : FarCommand) (reply : Reply) → far_reads_file old command ≡ false → FarReplies old.handles command reply next → FarStep fetches old command reply (with_handles old next)
+far_step fetches old next command reply none s =
+    let r : (answer : FarAnswer) × (reply ≡ reply_of_far answer) × far.FarStep old.handles command answer next = replied old.handles next command reply s in
+    accessed fetches (access_of command) old (with_handles old next) (selector_in (pointer_in command)) reply none (by command r.0 r.1 r.2)
   where
-    turn : (command : LoadingCommand) → reads_files old command ≡ false → OnHandles old.handles command reply next → FamilyStep (Fetches format) (Loads format) old command reply (with_handles old next)
+    by : (command : FarCommand) (answer : FarAnswer) → reply ≡ reply_of_far answer → far.FarStep old.handles command answer next → gives (access_of command old) reply (with_handles old next)
+    by (Read pointer count) answer e s = (e ∙ ap reply_of_far s.0, ap (with_handles old) s.1)
+    by (Write pointer bytes) answer e s = (e ∙ ap reply_of_far s.0, ap (with_handles old) s.1)
+    by (Fill pointer count byte) answer e s = (e ∙ ap reply_of_far s.0, ap (with_handles old) s.1)
+
+-- what is done on handles alone, and fetches nothing, is a step
+abbrev pub FetchesNothing : LoadingWorld → LoadingCommand → Type 0
+FetchesNothing old (OfFar command) = far_reads_file old command ≡ false
+FetchesNothing old command = Unit {0}
+
+pub handles_step : (honest : Type 0) (format : Format) (old : LoadingWorld) (next : Handles) (command : LoadingCommand) (reply : Reply) → FetchesNothing old command → OnHandles old.handles command reply next → StepOver honest format old command reply (with_handles old next)
+handles_step honest format old next command reply none s = record { counted = omega arith; files = refl; step = turn command none s }
+  where
+    turn : (command : LoadingCommand) → FetchesNothing old command → OnHandles old.handles command reply next → FamilyStep (fetching honest format old old) (loading honest format old old) old command reply (with_handles old next)
     turn (OfHandles command) none s = (next, s, refl)
     turn (OfResizes command) none s = (next, s, refl)
-    turn (OfFar command) none s = far_step format old next command reply none s
+    turn (OfFar command) none s = far_step (fetching honest format old old) old next command reply none s
     turn (OfModules command) none s = absurd s
     turn (OfResources command) none s = absurd s

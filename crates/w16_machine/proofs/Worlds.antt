@@ -1,9 +1,10 @@
 -- Each step, and so each run, keeps what holds of every world of the machine.
-use Rattle.w16_machine.proofs.Common.{◌≡◌, false, IfSome, IsSomeAnd, List, [], ◌∷◌, Option, sym, subst, nat_cmp, get-empty, is_code, Table, empty_law, Each-from_All, Format, Reply, empty_of_files_law, code_law, World, empty_world}
-use Rattle.w16_machine.proofs.Common.{IsLocalIn, segment_bytes, Command, IsCommand, Event, Step, Run, OfLoading, OfLocals, AreFewest, IsWorld, IsWorldOfFiles, EmptyLaw, WorldLaw, FilesLaw, RunWorldLaw, RunFilesLaw, FewestLaw}
-use Rattle.std.specs.List.{AllByRecursion as Each}
+use Rattle.w16_machine.proofs.Common.{◌≡◌, false, IfSome, IsSomeAnd, Option, sym, subst, nat_cmp, get-empty, is_code, Table, empty_law, empty_of_files_law, code_law, World, empty_world}
+use Rattle.w16_machine.proofs.Common.{IsLocalIn, segment_bytes, Step, OfLoading, OfLocals, IsWorld, IsWorldOfFiles, EmptyLaw, WorldLaw, FilesLaw, RunWorldLaw, RunFilesLaw, FewestLaw}
 use Rattle.w16_loading.proofs.Begun.{empty_law as empty_loading_law}
 use Rattle.w16_machine.proofs.Discards.{step_fewest}
+use Rattle.w16_machine.specs.Fewest.{IsFewest}
+use Rattle.w16_machine.proofs.Runs.{run_each}
 use Rattle.w16_machine.proofs.Loaded.{loading_world_kept}
 use Rattle.w16_machine.proofs.LocalModules.{local_files_kept, local_world_kept}
 
@@ -23,39 +24,26 @@ empty_world_law format memory slots files failures few = (
     w : World
     w = empty_world memory slots files failures
 
-pub world_kept : (honest : Type 0) (format : Format) (old new : World) (command : Command) (reply : Reply) → IsWorld old → IsCommand command → Step honest format old command reply new → IsWorld new
-world_kept honest format old new (OfLoading command) reply is known step = loading_world_kept old new is command reply step.0.any step.1 known
-world_kept honest format old new (OfLocals command) reply is known step = local_world_kept old new command reply is step
+pub world_law : (honest : Type 0) → WorldLaw honest
+world_law honest format old new (OfLoading command) reply is known step = loading_world_kept honest format old new is command reply step.0 step.1 known
+world_law honest format old new (OfLocals command) reply is known step = local_world_kept old new command reply is step
 
-pub world_law : WorldLaw
-world_law format old new command reply is known step = world_kept ⊥ format old new command reply is known step
-
-pub files_law : FilesLaw
-files_law format old new (OfLoading command) reply is_format is known step = (
-  world_kept (Unit {0}) format old new (OfLoading command) reply is.0 known step,
-  code_law format old.loading new.loading command reply is.0.loading is.1 (step.0.exact (λ _. tt)),
+pub files_law : (honest : Type 0) → FilesLaw honest
+files_law honest format old new (OfLoading command) reply truly is known step = (
+  world_law honest format old new (OfLoading command) reply is.0 known step,
+  code_law honest format old.loading new.loading command reply truly is.0.loading is.1 step.0,
 )
-files_law format old new (OfLocals command) reply is_format is known step = (local_world_kept old new command reply is.0 step, local_files_kept old new command reply is.0 step format is.1)
+files_law honest format old new (OfLocals command) reply truly is known step = (local_world_kept old new command reply is.0 step, local_files_kept old new command reply is.0 step format is.1)
 
 -- Runs.
 
-pub run_world_law : RunWorldLaw
-run_world_law format old new events is known run = each old events (Each-from_All (λ (e : Event). IsCommand e.command) events known) is run
-  where
-    each : (now : World) (events : List Event) → Each (λ (e : Event). IsCommand e.command) events → IsWorld now → Run (Step ⊥ format) now events new → IsWorld new
-    each now [] known is run = subst IsWorld (sym run) is
-    each now (event ∷ events) known is run = each event.after events known.1 (world_law format now event.after event.command event.reply is known.0 run.0) run.1
+pub run_world_law : (honest : Type 0) → RunWorldLaw honest
+run_world_law honest format old new events is known run = (run_each (Step honest format) IsWorld (λ now event. Unit {0}) (λ now event is known step. (tt, world_law honest format now event.after event.command event.reply is known step)) old new events is known run).1
 
-pub run_files_law : RunFilesLaw
-run_files_law format old new events is_format is known run = each old events (Each-from_All (λ (e : Event). IsCommand e.command) events known) is run
-  where
-    each : (now : World) (events : List Event) → Each (λ (e : Event). IsCommand e.command) events → IsWorldOfFiles format now → Run (Step (Unit {0}) format) now events new → IsWorldOfFiles format new
-    each now [] known is run = subst (IsWorldOfFiles format) (sym run) is
-    each now (event ∷ events) known is run = each event.after events known.1 (files_law format now event.after event.command event.reply is_format is known.0 run.0) run.1
+pub run_files_law : (honest : Type 0) → RunFilesLaw honest
+run_files_law honest format old new events truly is known run =
+    (run_each (Step honest format) (IsWorldOfFiles format) (λ now event. Unit {0}) (λ now event is known step. (tt, files_law honest format now event.after event.command event.reply truly is known step)) old new events is known run).1
 
-pub fewest_law : FewestLaw
-fewest_law format old new events is known run = each old events (Each-from_All (λ (e : Event). IsCommand e.command) events known) is run
-  where
-    each : (now : World) (events : List Event) → Each (λ (e : Event). IsCommand e.command) events → IsWorld now → Run (Step ⊥ format) now events new → AreFewest now events
-    each now [] known is run = tt
-    each now (event ∷ events) known is run = (step_fewest ⊥ format now event is run.0, each event.after events known.1 (world_law format now event.after event.command event.reply is known.0 run.0) run.1)
+pub fewest_law : (honest : Type 0) → FewestLaw honest
+fewest_law honest format old new events is known run =
+    (run_each (Step honest format) IsWorld IsFewest (λ now event is known step. (step_fewest honest format now event is step, world_law honest format now event.after event.command event.reply is known step)) old new events is known run).0

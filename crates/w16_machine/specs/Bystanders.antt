@@ -88,12 +88,12 @@ pub record Spares (old : World) (command : Command) (new : World) : Type 0 where
   pub addresses : KeepsAddresses old command new
 
 -- The laws. Each step spares these, whatever the store answers,
-abbrev pub StepSparesLaw : Type 0
-StepSparesLaw = (format : Format) (old new : World) (command : Command) (reply : Reply) → IsWorld old → Step ⊥ format old command reply new → Spares old command new
+abbrev pub StepSparesLaw : (honest : Type 0) → Type 0
+StepSparesLaw honest = (format : Format) (old new : World) (command : Command) (reply : Reply) → IsWorld old → Step honest format old command reply new → Spares old command new
 
 -- and so does each step of a run.
 abbrev pub AllSpare : World → List Event → Type 0
 AllSpare old events = EachStep (λ old event. Spares old event.command event.after) old events
 
-abbrev pub RunSparesLaw : Type 0
-RunSparesLaw = (format : Format) (old new : World) (events : List Event) → IsWorld old → All (λ e. IsCommand e.command) events → Run (Step ⊥ format) old events new → AllSpare old events
+abbrev pub RunSparesLaw : (honest : Type 0) → Type 0
+RunSparesLaw honest = (format : Format) (old new : World) (events : List Event) → IsWorld old → All (λ e. IsCommand e.command) events → Run (Step honest format) old events new → AllSpare old events

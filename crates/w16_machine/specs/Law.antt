@@ -4,7 +4,7 @@ use Rattle.std.specs.FinMap as finmap
 use Rattle.w16_model.specs.declared.TheConstants.{MOST_SLOTS}
 use Rattle.w16_model.specs.Heap.{Heap, bytes_at}
 use Rattle.w16_model.specs.Owned.{is_code}
-use Rattle.w16_loading.specs.File.{Format, IsFormat}
+use Rattle.w16_loading.specs.File.{Format}
 use Rattle.w16_loading.specs.Law.{IsLoadingWorld, IsOfFiles}
 use Rattle.w16_loading.specs.Replies.{Reply}
 use Rattle.w16_machine.specs.World.{World, empty_world}
@@ -39,21 +39,21 @@ IsWorldOfFiles format w = IsWorld w × IsOfFiles format w.loading
 abbrev pub EmptyLaw : Type 0
 EmptyLaw = (format : Format) (memory slots : ℕ) (files : List (List ℕ × List ℕ)) (failures : ℕ) → slots ≤ MOST_SLOTS → IsWorldOfFiles format (empty_world memory slots files failures)
 
--- Over a store of which nothing is known each step keeps what holds of every world,
-abbrev pub WorldLaw : Type 0
-WorldLaw = (format : Format) (old new : World) (command : Command) (reply : Reply) → IsWorld old → IsCommand command → Step ⊥ format old command reply new → IsWorld new
+-- Each step keeps what holds of every world, whatever the store answers,
+abbrev pub WorldLaw : (honest : Type 0) → Type 0
+WorldLaw honest = (format : Format) (old new : World) (command : Command) (reply : Reply) → IsWorld old → IsCommand command → Step honest format old command reply new → IsWorld new
 
--- and over an honest one code still reads as its file's relocated bytes.
-abbrev pub FilesLaw : Type 0
-FilesLaw = (format : Format) (old new : World) (command : Command) (reply : Reply) → IsFormat format → IsWorldOfFiles format old → IsCommand command → Step (Unit {0}) format old command reply new → IsWorldOfFiles format new
+-- and where the store is honest code still reads as its file's relocated bytes.
+abbrev pub FilesLaw : (honest : Type 0) → Type 0
+FilesLaw honest = (format : Format) (old new : World) (command : Command) (reply : Reply) → honest → IsWorldOfFiles format old → IsCommand command → Step honest format old command reply new → IsWorldOfFiles format new
 
 -- So do whole runs.
-abbrev pub RunWorldLaw : Type 0
-RunWorldLaw = (format : Format) (old new : World) (events : List Event) → IsWorld old → All (λ e. IsCommand e.command) events → Run (Step ⊥ format) old events new → IsWorld new
+abbrev pub RunWorldLaw : (honest : Type 0) → Type 0
+RunWorldLaw honest = (format : Format) (old new : World) (events : List Event) → IsWorld old → All (λ e. IsCommand e.command) events → Run (Step honest format) old events new → IsWorld new
 
-abbrev pub RunFilesLaw : Type 0
-RunFilesLaw = (format : Format) (old new : World) (events : List Event) → IsFormat format → IsWorldOfFiles format old → All (λ e. IsCommand e.command) events → Run (Step (Unit {0}) format) old events new → IsWorldOfFiles format new
+abbrev pub RunFilesLaw : (honest : Type 0) → Type 0
+RunFilesLaw honest = (format : Format) (old new : World) (events : List Event) → honest → IsWorldOfFiles format old → All (λ e. IsCommand e.command) events → Run (Step honest format) old events new → IsWorldOfFiles format new
 
 -- In every run each call for room discards as few objects as it can.
-abbrev pub FewestLaw : Type 0
-FewestLaw = (format : Format) (old new : World) (events : List Event) → IsWorld old → All (λ e. IsCommand e.command) events → Run (Step ⊥ format) old events new → AreFewest old events
+abbrev pub FewestLaw : (honest : Type 0) → Type 0
+FewestLaw honest = (format : Format) (old new : World) (events : List Event) → IsWorld old → All (λ e. IsCommand e.command) events → Run (Step honest format) old events new → AreFewest old events

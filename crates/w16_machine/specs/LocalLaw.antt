@@ -279,8 +279,8 @@ FarLaw = (old new : World) (command : FarCommand) (reply : Reply) → AreLocalHe
 -- Heaps that go.
 
 -- a step of the other families leaves a local heap exactly where its segment still has its range
-abbrev pub GoesLaw : Type 0
-GoesLaw = (format : Format) (old new : World) (command : LoadingCommand) (reply : Reply) → Step ⊥ format old (OfLoading command) reply new → (slot : ℕ) (t : Table)
+abbrev pub GoesLaw : (honest : Type 0) → Type 0
+GoesLaw honest = (format : Format) (old new : World) (command : LoadingCommand) (reply : Reply) → Step honest format old (OfLoading command) reply new → (slot : ℕ) (t : Table)
     → (finmap.get new.heaps slot ≡ Some t) ↔ ((finmap.get old.heaps slot ≡ Some t) × IsSomeAnd (bytes_at new.loading.handles.heap slot) (λ bytes. t.hi ≤ length bytes))
 
 -- a heap began: LocalInit answered 1, and it has no object
@@ -294,13 +294,13 @@ pub record IsBegun (command : Command) (reply : Reply) (new : World) (slot : ℕ
   pub begun : finmap.get new.heaps slot ≡ Some (new_table range)
 
 -- where there is no local heap there is none after a step, unless one began
-abbrev pub NeverBackLaw : Type 0
-NeverBackLaw = (format : Format) (old new : World) (command : Command) (reply : Reply) → Step ⊥ format old command reply new → (slot : ℕ) → finmap.get old.heaps slot ≡ None
+abbrev pub NeverBackLaw : (honest : Type 0) → Type 0
+NeverBackLaw honest = (format : Format) (old new : World) (command : Command) (reply : Reply) → Step honest format old command reply new → (slot : ℕ) → finmap.get old.heaps slot ≡ None
     → (finmap.get new.heaps slot ≡ None) ⊎ IsBegun command reply new slot
 
 -- so a heap that is gone is gone after any run in which no LocalInit is answered 1
 abbrev pub BeginsNone : Event → Type 0
 BeginsNone event = (selector start end : ℕ) → event.command ≡ OfLocals (LocalInit selector start end) → event.reply ≢ Word 1
 
-abbrev pub GoneLaw : Type 0
-GoneLaw = (format : Format) (old new : World) (events : List Event) → Run (Step ⊥ format) old events new → All BeginsNone events → (slot : ℕ) → finmap.get old.heaps slot ≡ None → finmap.get new.heaps slot ≡ None
+abbrev pub GoneLaw : (honest : Type 0) → Type 0
+GoneLaw honest = (format : Format) (old new : World) (events : List Event) → Run (Step honest format) old events new → All BeginsNone events → (slot : ℕ) → finmap.get old.heaps slot ≡ None → finmap.get new.heaps slot ≡ None

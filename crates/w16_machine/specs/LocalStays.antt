@@ -5,9 +5,9 @@ use Rattle.w16_model.specs.Handles.{Handles}
 use Rattle.w16_model.specs.Calls.{HandleCommand}
 use Rattle.w16_model.specs.CallLaws.{may_change}
 use Rattle.w16_model.specs.Outcomes.Call.{Calls}
-use Rattle.w16_loading.specs.AnyStore.{reads_files}
+use Rattle.w16_loading.specs.Answers.{StepOver}
 use Rattle.w16_loading.specs.File.{Format}
-use Rattle.w16_loading.specs.Families.{LoadingCommand, ModuleCommand, ResourceCommand}
+use Rattle.w16_loading.specs.Families.{LoadingCommand, ModuleCommand, ResourceCommand, far_reads_file}
 use Rattle.w16_loading.specs.Families.LoadingCommand.{OfHandles, OfResizes, OfFar, OfModules, OfResources}
 use Rattle.w16_loading.specs.Families.ModuleCommand.{LoadModule, LoadLibrary, FreeLibrary, FreeModule}
 use Rattle.w16_loading.specs.Families.ResourceCommand.{LoadResource, LockResource, FreeResource}
@@ -17,7 +17,7 @@ use Rattle.w16_machine.specs.World.{World}
 use Rattle.w16_machine.specs.Local.{AreLocalHeaps}
 use Rattle.w16_machine.specs.LocalCalls.{LocalCommand, LocalStep}
 use Rattle.w16_machine.specs.LocalLaw.{may_grow}
-use Rattle.w16_machine.specs.Machine.{Step, StoreStep}
+use Rattle.w16_machine.specs.Machine.{Step}
 use Rattle.w16_machine.specs.Machine.Command.{OfLoading}
 
 -- GlobalAlloc and GlobalCompact may discard objects, and GlobalFree takes one away.
@@ -42,7 +42,7 @@ resources_may_take other = false
 abbrev pub step_may_take : LoadingWorld → LoadingCommand → Bool
 step_may_take old (OfHandles command) = call_may_take command
 step_may_take old (OfResizes command) = true
-step_may_take old (OfFar command) = reads_files old (OfFar command)
+step_may_take old (OfFar command) = far_reads_file old command
 step_may_take old (OfModules command) = modules_may_take command
 step_may_take old (OfResources command) = resources_may_take command
 
@@ -55,12 +55,12 @@ abbrev pub HasSameSizes : Handles → Handles → Type 0
 HasSameSizes old new = (slot : ℕ) → size_at new slot ≡ size_at old slot
 
 -- The laws. A step of any other command leaves each object as many bytes,
-abbrev pub SizesLaw : Type 0
-SizesLaw = (format : Format) (old new : LoadingWorld) (command : LoadingCommand) (reply : Reply) → step_may_take old command ≡ false → StoreStep ⊥ format old command reply new → HasSameSizes old.handles new.handles
+abbrev pub SizesLaw : (honest : Type 0) → Type 0
+SizesLaw honest = (format : Format) (old new : LoadingWorld) (command : LoadingCommand) (reply : Reply) → step_may_take old command ≡ false → StepOver honest format old command reply new → HasSameSizes old.handles new.handles
 
 -- and so it keeps each local heap.
-abbrev pub HeapsLaw : Type 0
-HeapsLaw = (format : Format) (old new : World) (command : LoadingCommand) (reply : Reply) → AreLocalHeaps old → step_may_take old.loading command ≡ false → Step ⊥ format old (OfLoading command) reply new → new.heaps ≡ old.heaps
+abbrev pub HeapsLaw : (honest : Type 0) → Type 0
+HeapsLaw honest = (format : Format) (old new : World) (command : LoadingCommand) (reply : Reply) → AreLocalHeaps old → step_may_take old.loading command ≡ false → Step honest format old (OfLoading command) reply new → new.heaps ≡ old.heaps
 
 -- So does a local call for which no heap may grow.
 abbrev pub LocalSizesLaw : Type 0

@@ -1,11 +1,11 @@
 -- The machine: its commands, what a step of each leaves of the world, and runs.
-use Rattle.std.specs.Prelude.{◌≡◌, ◌≤◌, true, List, [], ◌∷◌}
+use Rattle.std.specs.Prelude.{◌≡◌, ◌≤◌, List, [], ◌∷◌}
 use Rattle.w16_model.specs.Handles.{Handles}
 use Rattle.w16_loading.specs.File.{Format}
 use Rattle.w16_loading.specs.Modules.{LoadingWorld}
-use Rattle.w16_loading.specs.Families.{LoadingCommand, IsLoadingCommand, LoadingStep}
+use Rattle.w16_loading.specs.Families.{LoadingCommand, IsLoadingCommand}
 use Rattle.w16_loading.specs.Families.LoadingCommand.{OfHandles, OfResizes, OfFar}
-use Rattle.w16_loading.specs.AnyStore.{AnyStep, reads_files}
+use Rattle.w16_loading.specs.Answers.{StepOver}
 use Rattle.w16_loading.specs.Replies.{Reply, HandleReplies, ResizeReplies, FarReplies}
 use Rattle.w16_machine.specs.World.{World}
 use Rattle.w16_machine.specs.Local.{left_in}
@@ -28,19 +28,13 @@ OnHandles old (OfResizes command) reply new = ResizeReplies old command reply ne
 OnHandles old (OfFar command) reply new = FarReplies old command reply new
 OnHandles old command reply new = ⊥
 
--- A step of loading over a store: what it is whatever the store answers; and by the format and the store's files, where no file is read or the
--- store is honest.
-pub record StoreStep (honest : Type 0) (format : Format) (old : LoadingWorld) (command : LoadingCommand) (reply : Reply) (new : LoadingWorld) : Type 0 where
-  pub any : AnyStep old command reply new
-  pub exact : (reads_files old command ≡ true → honest) → LoadingStep format old command reply new
-
 -- the world that a step of loading leaves: the local heaps stay whose segments still have their ranges
 abbrev pub after_loading : World → LoadingWorld → World
 after_loading old loading = record { loading = loading; heaps = left_in loading.handles.heap old.heaps; ds = old.ds }
 
 -- One step, over a store that is honest where the premise holds.
 abbrev pub Step : Type 0 → Format → World → Command → Reply → World → Type 0
-Step honest format old (OfLoading command) reply new = StoreStep honest format old.loading command reply new.loading × (new ≡ after_loading old new.loading)
+Step honest format old (OfLoading command) reply new = StepOver honest format old.loading command reply new.loading × (new ≡ after_loading old new.loading)
 Step honest format old (OfLocals command) reply new = LocalStep old command reply new
 
 -- the same world, which says nothing of the count of failures, but that it isn't lowered

@@ -4,6 +4,8 @@ ghost use Rattle.w16_machine.specs.LocalFewest.{AllocLaw, CompactLaw, ReallocLaw
 ghost use Rattle.w16_machine.specs.LocalEffects.{DiscardLaw, FreeLaw, LockLaw, ModifyLaw, RefusedLaw, UnlockLaw};
 ghost use Rattle.w16_machine.specs.LocalStays.{HeapsLaw, LocalSizesLaw, SizesLaw};
 
+use w16_store::Store;
+
 /// The figures of local heaps and the flags of the Local calls are these numbers.
 pub fn figures_of_local_heaps()
     ensures figures { AreFigures }
@@ -36,10 +38,10 @@ pub fn local_queries_change_nothing()
 {}
 
 /// A local heap goes exactly where its segment loses its range, and only LocalInit brings one, which has no object.
-pub fn local_heaps_never_come_back()
-    ensures goes { GoesLaw }
-    ensures never { NeverBackLaw }
-    ensures gone { GoneLaw }
+pub fn local_heaps_never_come_back<S: Store>()
+    ensures goes { GoesLaw S.is_honest }
+    ensures never { NeverBackLaw S.is_honest }
+    ensures gone { GoneLaw S.is_honest }
 {}
 
 /// An object of the current heap that a local call doesn't name keeps its kind, its locks and its bytes, or it is discardable and not locked, and
@@ -91,8 +93,8 @@ pub fn local_calls_discard_fewest()
 
 /// Calls that ask for room, that free or cut an object, loads, fetches and modules or resources that go alone may take bytes of an object: a
 /// step of any other command leaves each as many, and each local heap. Of the local calls those alone may for which a heap may grow.
-pub fn other_steps_keep_local_heaps()
-    ensures sizes { SizesLaw }
-    ensures heaps { HeapsLaw }
+pub fn other_steps_keep_local_heaps<S: Store>()
+    ensures sizes { SizesLaw S.is_honest }
+    ensures heaps { HeapsLaw S.is_honest }
     ensures locals { LocalSizesLaw }
 {}

@@ -17,13 +17,13 @@ pub promised_none : (old : World) → Promises old []
 promised_none old = record { ranged = tt; worlds = tt; apart = tt; bytes = tt; addresses = tt; ds = tt; fewest = tt; written = tt; reads_back = reads_back_law old [] tt }
 
 -- a step of a world is a run that promises this
-pub promised_step : (format : Format) (old new : World) (command : Command) (reply : Reply) → IsWorld old → IsCommand command → Step ⊥ format old command reply new
+pub promised_step : (honest : Type 0) (format : Format) (old new : World) (command : Command) (reply : Reply) → IsWorld old → IsCommand command → Step honest format old command reply new
     → Promises old (record { command = command; reply = reply; after = new } ∷ [])
-promised_step format old new command reply is known step =
+promised_step honest format old new command reply is known step =
     let event : Event = record { command = command; reply = reply; after = new } in
-    let next : IsWorld new = world_law format old new command reply is known step in
-    let spares = step_spares_law format old new command reply is step in
-    let written : AllKeepWritten old (event ∷ []) = (step_law format old new command reply is known step, tt) in
+    let next : IsWorld new = world_law honest format old new command reply is known step in
+    let spares = step_spares_law honest format old new command reply is step in
+    let written : AllKeepWritten old (event ∷ []) = (step_law honest format old new command reply is known step, tt) in
     record {
       ranged = (known, tt);
       worlds = ((is, next), tt);
@@ -31,7 +31,7 @@ promised_step format old new command reply is known step =
       bytes = (spares.bytes, tt);
       addresses = (spares.addresses, tt);
       ds = (spares.ds, tt);
-      fewest = (step_fewest ⊥ format old event is step, tt);
+      fewest = (step_fewest honest format old event is step, tt);
       written = written;
       reads_back = reads_back_law old (event ∷ []) written;
     }
@@ -56,12 +56,12 @@ module _ (steps : Steps) (old mid : World) (events more : List Event) (run : Run
         reads_back = reads_back_law old (events ++ more) written;
       }
 
-pub run_promises_law : RunPromisesLaw
-run_promises_law format old new events is known run = each old events is (Each-from_All (λ (e : Event). IsCommand e.command) events known) run
+pub run_promises_law : (honest : Type 0) → RunPromisesLaw honest
+run_promises_law honest format old new events is known run = each old events is (Each-from_All (λ (e : Event). IsCommand e.command) events known) run
   where
-    each : (now : World) (events : List Event) → IsWorld now → Each (λ (e : Event). IsCommand e.command) events → Run (Step ⊥ format) now events new → Promises now events
+    each : (now : World) (events : List Event) → IsWorld now → Each (λ (e : Event). IsCommand e.command) events → Run (Step honest format) now events new → Promises now events
     each now [] is known run = promised_none now
     each now (event ∷ events) is known run =
-        promised_append (Step ⊥ format) now event.after (event ∷ []) events (run.0, refl)
-        (promised_step format now event.after event.command event.reply is known.0 run.0)
-        (each event.after events (world_law format now event.after event.command event.reply is known.0 run.0) known.1 run.1)
+        promised_append (Step honest format) now event.after (event ∷ []) events (run.0, refl)
+        (promised_step honest format now event.after event.command event.reply is known.0 run.0)
+        (each event.after events (world_law honest format now event.after event.command event.reply is known.0 run.0) known.1 run.1)

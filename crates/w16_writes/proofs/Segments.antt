@@ -1,19 +1,22 @@
 -- Steps of loading: what they leave of the bytes of global objects, and what far accesses put there and read.
 use Rattle.w16_loading.proofs.Common.{REACH, ◌≡◌, ℕ, ◌+◌, ◌*◌, ◌⊎◌, inl, inr, true, IsSomeAnd, List, length, Option, Some, None, is_some, refl, sym, ap, ◌∙◌, subst, arith, drop, ◌<◌, cases_eq, part, repeated, Heap, object_at, bytes_at, bytes_in, Handles, AreHandles, selector_in, offset_in}
-use Rattle.w16_loading.proofs.Common.{FarAnswer, FarCommand, Write, Fill, far_slot, AnyFetches, FarStep, Accesses, far_read, far_write, gives, needs_fetch, reply_of_far, is_of_read, IsLoadingWorld, LoadingWorld, LoadingCommand, OfHandles, OfResizes, OfFar, OfModules, OfResources, FindResource}
-use Rattle.w16_loading.proofs.Common.{LoadResource, LockResource, FreeResource, SizeofResource, Reply, Failed, LocksResource, lock_outcome, locked, slot_of_resource, global_lock, GlobalLock, Calls, CallStep, ResizeCommand, ResizeReplies, ResizeStep, GlobalReAlloc, GlobalDiscard, HandleCommand}
+use Rattle.w16_loading.proofs.Common.{FarAnswer, FarCommand, Write, Fill, far_slot, AnyFetches, FarStep, Accesses, far_read, far_write, gives, reply_of_far, is_of_read, IsLoadingWorld, LoadingWorld, LoadingCommand, OfHandles, OfResizes, OfFar, OfModules, OfResources}
+use Rattle.w16_loading.proofs.Common.{LockResource, Reply, Failed, LocksResource, lock_outcome, locked, global_lock, GlobalLock, Calls, CallStep, ResizeCommand, ResizeReplies, ResizeStep, GlobalReAlloc, GlobalDiscard, HandleCommand}
 use Rattle.w16_loading.proofs.Common.{answer_in, call_of, call_outcome, contents, IsStepAbout}
 use Rattle.w16_model.proofs.Common.{slice_get, length-take, Done, FarEffect, IsWritten, Reaches, next_slot, Part, part_of_selector, Word}
 use Rattle.std.proofs.lemmas.Option.{slice_get_within}
 use Rattle.w16_model.specs.Far.{FarStep as HandlesFarStep}
-use Rattle.w16_machine.proofs.Common.{Bytes, Fault, Read, FetchFault, Answer, AnyStep, bystanders_law, OfLoading}
+use Rattle.w16_loading.specs.Answers.{StepOver}
+use Rattle.w16_loading.proofs.Answered.{any_step}
+use Rattle.w16_loading.proofs.Cases.{access_cases, lock_cases}
+use Rattle.w16_machine.proofs.Common.{Bytes, Fault, Read, FetchFault, Answer, Format, bystanders_law, OfLoading}
 use Rattle.w16_model.proofs.FarLaws.{far_effect_law}
 use Rattle.w16_loading.proofs.CallsKept.{answered}
 use Rattle.w16_loading.proofs.FetchWorlds.{fetched_world}
 use Rattle.w16_loading.proofs.Fillings.{one_does}
 use Rattle.w16_loading.proofs.Spared.{fetch_spares}
 use Rattle.w16_writes.specs.LastWrite.{Access, byte_in, read, slot_after_step, written}
-use Rattle.w16_writes.proofs.Bytes.{some_such, either, none_or, which, only, Agree, agree_new, agree_same, get-part, get-written, get-unwritten}
+use Rattle.w16_writes.proofs.Bytes.{some_such, none_or, which, only, Agree, agree_new, agree_same, get-part, get-written, get-unwritten}
 use Rattle.w16_writes.proofs.Calls.{HeapsAgree, call_agrees, goes_free, had_no_object, kept_agrees, no_object}
 use Rattle.w16_loading.specs.declared.FetchFault.TheVariants as faults
 
@@ -81,7 +84,7 @@ record Made (old : LoadingWorld) (command : FarCommand) (reply : Reply) (new : L
 module _ (old : LoadingWorld) (is : IsLoadingWorld old) {command : FarCommand} {reply : Reply} {new : LoadingWorld} where
   accessed : (access : LoadingWorld → FarAnswer × LoadingWorld) (selector : ℕ) → ((w : LoadingWorld) → new.handles ≡ (access w).1.handles → HandlesFarStep w.handles command (access w).0 new.handles)
       → Accesses AnyFetches access old selector reply new → Made old command reply new
-  accessed access selector does step = elim (either (needs_fetch (access old).0 old selector) step) [
+  accessed access selector does step = elim (access_cases AnyFetches old reply new access selector step) [
     | inl (fault, next, f, g) ↦
         let agree = fetch_agrees old is slot fault next f in
         let runs = ap (λ (w : LoadingWorld). w.handles.attributes) f.rest in
@@ -222,7 +225,7 @@ resizes_keep old new is command reply step =
     by (GlobalDiscard handle) (Word answer) step = step
     by command answer step = absurd step
 
-module _ (old new : LoadingWorld) (is : IsLoadingWorld old) (reply : Reply) (q : ℕ) where
+module _ (honest : Type 0) (format : Format) (old new : LoadingWorld) (is : IsLoadingWorld old) (reply : Reply) (q : ℕ) where
   abbrev Agrees : LoadingWorld → Type 0
   Agrees w = HeapsAgree old.handles.heap w.handles.heap q
 
@@ -232,12 +235,10 @@ module _ (old new : LoadingWorld) (is : IsLoadingWorld old) (reply : Reply) (q :
 
   -- a lock of a resource, after a fetch where it has no bytes
   lock_agrees : (handle : ℕ) → LocksResource AnyFetches old handle reply new → Agrees new
-  lock_agrees handle step = elim (none_or (slot_of_resource old handle) step) [
+  lock_agrees handle step = elim (lock_cases AnyFetches old reply new handle step) [
     | inl f ↦ subst Agrees (sym f.1) (agree_same refl)
-    | inr (x, f) ↦ elim (none_or (bytes_at old.handles.heap x.0) f) [
-      | inl f ↦ becomes f.3 (after f.0 f.1 (fetch_agrees old is x.0 f.0 f.1 f.2 q))
-      | inr f ↦ becomes f.1 (locks old (agree_same refl))
-    ]
+    | inr (x, e, inl (fault, next, f, g)) ↦ becomes g (after fault next (fetch_agrees old is x.0 fault next f q))
+    | inr (x, e, inr f) ↦ becomes f (locks old (agree_same refl))
   ]
     where
       locks : (w : LoadingWorld) → Agrees w → Agrees (locked w handle).1
@@ -253,23 +254,20 @@ module _ (old new : LoadingWorld) (is : IsLoadingWorld old) (reply : Reply) (q :
       after (Some faults.Damaged) next a = a
 
   -- a step that is about no object
-  stands_by : (command : LoadingCommand) → AnyStep old command reply new → (IsStepAbout old.handles command q → ⊥) → Agrees new
+  stands_by : (command : LoadingCommand) → StepOver honest format old command reply new → (IsStepAbout old.handles command q → ⊥) → Agrees new
   stands_by command step out = elim (which (object_at old.handles.heap q)) [
     | inl e ↦ had_no_object e
-    | inr (o, e) ↦ elim (bystanders_law old new command reply q is step (ap is_some e) out) [ inl kept ↦ kept_agrees old.handles.heap new.handles.heap q kept | inr gone ↦ no_object gone.0 ]
+    | inr (o, e) ↦ elim (bystanders_law honest format old new command reply q is step (ap is_some e) out) [ inl kept ↦ kept_agrees old.handles.heap new.handles.heap q kept | inr gone ↦ no_object gone.0 ]
   ]
 
-module _ (old new : LoadingWorld) (is : IsLoadingWorld old) where
-  idle : {command : LoadingCommand} {reply : Reply} → AnyStep old command reply new → ((q : ℕ) → IsStepAbout old.handles command q → ⊥) → HandlesAgree old.handles new.handles
-  idle {command} {reply} step out q = stands_by old new is reply q command step (out q)
+module _ (honest : Type 0) (format : Format) (old new : LoadingWorld) (is : IsLoadingWorld old) where
+  idle : {command : LoadingCommand} {reply : Reply} → StepOver honest format old command reply new → ((q : ℕ) → IsStepAbout old.handles command q → ⊥) → HandlesAgree old.handles new.handles
+  idle {command} {reply} step out q = stands_by honest format old new is reply q command step (out q)
 
-  pub loading_keeps : (command : LoadingCommand) (reply : Reply) → AnyStep old command reply new → KeepsSegments old.handles new.handles command reply
-  loading_keeps (OfHandles command) reply step = calm (λ q. let f = step.step in let c = answered old is command reply f.0 f.1 in called old new is reply q command c.0 f.0 c.1 (ap handles_of f.2))
+  pub loading_keeps : (command : LoadingCommand) (reply : Reply) → StepOver honest format old command reply new → KeepsSegments old.handles new.handles command reply
+  loading_keeps (OfHandles command) reply step = calm (λ q. let f = step.step in let c = answered old is command reply f.0 f.1 in called honest format old new is reply q command c.0 f.0 c.1 (ap handles_of f.2))
   loading_keeps (OfResizes command) reply step = let f = step.step in subst (λ (h : Handles). KeepsSegments old.handles h (OfResizes command) reply) (sym (ap handles_of f.2)) (resizes_keep old.handles f.0 is.handles command reply f.1)
-  loading_keeps (OfFar command) reply step = far_keeps_by (far_made old is command reply (record new { failures = old.failures }) step.step)
+  loading_keeps (OfFar command) reply step = far_keeps_by (far_made old is command reply (record new { failures = old.failures }) (any_step honest format old new (OfFar command) reply is step))
   loading_keeps (OfModules command) reply step = calm (idle step (λ q about. about))
-  loading_keeps (OfResources (LockResource handle)) reply step = calm (λ q. lock_agrees old (record new { failures = old.failures }) is reply q handle step.step)
-  loading_keeps (OfResources (FindResource handle name kind)) reply step = calm (idle step (λ q about. about))
-  loading_keeps (OfResources (LoadResource handle place)) reply step = calm (idle step (λ q about. about))
-  loading_keeps (OfResources (FreeResource handle)) reply step = calm (idle step (λ q about. about))
-  loading_keeps (OfResources (SizeofResource handle place)) reply step = calm (idle step (λ q about. about))
+  loading_keeps (OfResources (LockResource handle)) reply step = calm (λ q. lock_agrees honest format old (record new { failures = old.failures }) is reply q handle (any_step honest format old new (OfResources (LockResource handle)) reply is step))
+  loading_keeps (OfResources other) reply step = calm (idle step (λ q about. about))

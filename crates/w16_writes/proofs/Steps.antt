@@ -85,7 +85,7 @@ placed w is a has p byte h =
 
 -- A step of loading: where a position is there before and after, it lies at one place of its object, since the table of a local heap that stays is
 -- the same, and its segment has its slot still.
-module _ (format : Format) (old new : World) (command : LoadingCommand) (reply : Reply) (is : IsWorld old) (now : IsWorld new) (step : Step ⊥ format old (OfLoading command) reply new) where
+module _ (honest : Type 0) (format : Format) (old new : World) (command : LoadingCommand) (reply : Reply) (is : IsWorld old) (now : IsWorld new) (step : Step honest format old (OfLoading command) reply new) where
   abbrev event : Event
   event = record { command = OfLoading command; reply = reply; after = new }
 
@@ -93,7 +93,7 @@ module _ (format : Format) (old new : World) (command : LoadingCommand) (reply :
   next slot = slot_after_step old.loading.handles (OfLoading command) reply new.loading.handles slot
 
   segments : KeepsSegments old.loading.handles new.loading.handles command reply
-  segments = loading_keeps old.loading new.loading is.loading command reply step.0.any
+  segments = loading_keeps honest format old.loading new.loading is.loading command reply step.0
 
   -- where there was a local heap there was an object
   keeps_slot : (slot : ℕ) (t : Table) → finmap.get old.heaps (next slot) ≡ Some t → next slot ≡ slot
@@ -109,7 +109,7 @@ module _ (format : Format) (old new : World) (command : LoadingCommand) (reply :
       let (after, f, u) = there_in entry offset (local_in new (next slot)) u in
       let had = local_there old slot at e in
       let has = local_there new (next slot) after f in
-      let stood : finmap.get old.heaps after.slot ≡ Some after.table = ((goes_law format old new command reply step after.slot after.table).0 has.0.table).0 in
+      let stood : finmap.get old.heaps after.slot ≡ Some after.table = ((goes_law honest format old new command reply step after.slot after.table).0 has.0.table).0 in
       let home : next slot ≡ slot = keeps_slot slot after.table (ap (finmap.get old.heaps) (sym has.1) ∙ stood) in
       ap (place_of entry offset) f
       ∙ ap (λ (t : Table). option_map (λ begin. begin + offset) (finmap.get (heap_in t []).places entry)) (only stood (ap (finmap.get old.heaps) (has.1 ∙ home ∙ sym had.1) ∙ had.0.table))
@@ -197,10 +197,10 @@ module _ (old new : World) (command : LocalCommand) (reply : Reply) (is : IsWorl
       ] in
       ap (byte_of entry offset) f ∙ same ∙ sym (ap (byte_of entry offset) e)
 
-pub step_law : StepLaw
-step_law format old new (OfLoading command) reply is known step = loading_kept format old new command reply is (world_law format old new (OfLoading command) reply is known step) step
-step_law format old new (OfLocals command) reply is known step = record {
+pub step_law : (honest : Type 0) → StepLaw honest
+step_law honest format old new (OfLoading command) reply is known step = loading_kept honest format old new command reply is (world_law honest format old new (OfLoading command) reply is known step) step
+step_law honest format old new (OfLocals command) reply is known step = record {
   written = λ p byte h. absurd h;
   read = λ p byte h. absurd h;
-  kept = λ p was there out. local_kept old new command reply is (world_law format old new (OfLocals command) reply is known step) step p.slot p.entry p.offset was there;
+  kept = λ p was there out. local_kept old new command reply is (world_law honest format old new (OfLocals command) reply is known step) step p.slot p.entry p.offset was there;
 }

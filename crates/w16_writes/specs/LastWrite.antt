@@ -142,13 +142,13 @@ ReadsBack events = (before between after : List Event) (writing reading : Event)
     → found ≡ byte
 
 -- The laws. Each step keeps what is written, whatever the store answers,
-abbrev pub StepLaw : Type 0
-StepLaw = (format : Format) (old new : World) (command : Command) (reply : Reply) → IsWorld old → IsCommand command → Step ⊥ format old command reply new
+abbrev pub StepLaw : (honest : Type 0) → Type 0
+StepLaw honest = (format : Format) (old new : World) (command : Command) (reply : Reply) → IsWorld old → IsCommand command → Step honest format old command reply new
     → KeepsWritten old (record { command = command; reply = reply; after = new })
 
 -- and so does each step of a run,
-abbrev pub RunLaw : Type 0
-RunLaw = (format : Format) (old new : World) (events : List Event) → IsWorld old → All (λ e. IsCommand e.command) events → Run (Step ⊥ format) old events new → AllKeepWritten old events
+abbrev pub RunLaw : (honest : Type 0) → Type 0
+RunLaw honest = (format : Format) (old new : World) (events : List Event) → IsWorld old → All (λ e. IsCommand e.command) events → Run (Step honest format) old events new → AllKeepWritten old events
 
 -- and then all steps together read back what they write.
 abbrev pub ReadsBackLaw : Type 0

@@ -29,5 +29,5 @@ pub record Promises (old : World) (events : List Event) : Type 0 where
   pub reads_back : ReadsBack events
 
 -- The law: every run does.
-abbrev pub RunPromisesLaw : Type 0
-RunPromisesLaw = (format : Format) (old new : World) (events : List Event) → IsWorld old → All (λ e. IsCommand e.command) events → Run (Step ⊥ format) old events new → Promises old events
+abbrev pub RunPromisesLaw : (honest : Type 0) → Type 0
+RunPromisesLaw honest = (format : Format) (old new : World) (events : List Event) → IsWorld old → All (λ e. IsCommand e.command) events → Run (Step honest format) old events new → Promises old events

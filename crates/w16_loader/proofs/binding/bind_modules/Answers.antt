@@ -1,8 +1,8 @@
 -- One module more is bound.
-use Rattle.w16_loader.proofs.Common.{◌<◌, ◌≤◌, [], drop, get_or, length, sym, ap, ◌∙◌, subst, arith, IsSomeAnd, drop_more, drop_all, without_values, Modules, module_at, AreTargets, IsSaid, all_bound}
+use Rattle.w16_loader.proofs.Common.{◌∷◌, ◌<◌, ◌≤◌, [], drop, get_or, length, sym, ap, ◌∙◌, subst, arith, IsSomeAnd, drop_more, drop_all, without_values, Modules, module_at, AreTargets, IsSaid, all_bound}
 use Rattle.std.specs.FinMap as finmap
 use Rattle.w16_loader.proofs.Values.{failure_since}
-use Rattle.w16_loader.proofs.Bindings.{any_next, bound_next, none_left, others_next, read_here, said_here, still_alike, targets_in_all}
+use Rattle.w16_loader.proofs.Bindings.{no_more, none_left, others_next, read_here, said_here, step, still_alike, targets_in_all, targets_left, targets_next}
 use Rattle.w16_loader.proofs.binding.bind_modules.Goals as goal
 
 pub loop-place-preserved : goal.loop-place-preserved
@@ -23,12 +23,17 @@ loop-place-preserved g c =
       failures = omega (arith, c.in-Ok.ensures.stays.counted, before.failures);
       values = still_alike old now next handles place handle here before.values ts.0 ts.2;
       others = λ q none. others_next old now next handles place handle here before.values ts.0 ts.2 q none (before.others q none);
-      any = any_next old now next handles place handle here before.values ts.0 ts.1 ts.2 before.any;
-      bound = λ reads honest said.
-          let read = read_here old now next handles place handle here before.values files reads said lt in
-          let is = said_here old now next handles place handle here before.values files reads said lt in
-          let still = subst (λ fs. IsSomeAnd (module_at now handle) (λ m. IsSaid fs m read)) (sym before.files) is in
-          bound_next old now next handles place handle here before.values files reads said lt (all_bound (finmap.get old) old handles (targets_in_all reads)) (c.in-Ok.ensures.exact read honest still) (before.bound reads honest said);
+      any = λ more are.
+          (let b = before.any (ts.0 ∷ more) (targets_left old now next handles place handle here before.values ts.0 ts.1 more are) in (
+            b.0,
+            b.1,
+            b.2 ∙ step old now next handles place handle here before.values ts.0 ts.2 more,
+            λ reads honest said rest.
+                (let read = read_here old now next handles place handle here before.values files reads said lt in
+                let is = said_here old now next handles place handle here before.values files reads said lt in
+                let still = subst (λ fs. IsSomeAnd (module_at now handle) (λ m. IsSaid fs m read)) (sym before.files) is in
+                b.3 reads honest said (targets_next old now next handles place handle here before.values files reads said lt ts.0 more (ts.3 read honest still) rest)),
+          ));
     }
 
 pub returns-in-Err-clause-values : goal.returns-in-Err-clause-values
@@ -51,18 +56,20 @@ returns-in-Err-clause-faults g c = λ reads honest said.
     let read = read_here old now now handles place handle here before.values files reads said lt in
     let is = said_here old now now handles place handle here before.values files reads said lt in
     let still = subst (λ fs. IsSomeAnd (module_at now handle) (λ m. IsSaid fs m read)) (sym before.files) is in
-    c.fault_at.ensures.failure _ _ (failure_since _ _ _ c.in-Err.fault before.failures (c.in-Err.ensures.exact read honest still))
+    c.fault_at.ensures.failure _ _ (failure_since _ _ _ c.in-Err.fault before.failures (c.in-Err.ensures.failed read honest still))
 
 pub returns-clause-any : goal.returns-clause-any
 returns-clause-any g c =
     let old = c.args.registry.now in
     let past : length c.args.handles.now ≤ c.loop-place.place = omega arith in
     let none = drop_all c.loop-place.place c.args.handles.now past in
-    let all = c.loop-place.invariant.any [] (subst (λ hs. AreTargets old hs []) (sym none) tt) in
-    (all.0, all.1, sym (all.2 ∙ none_left (finmap.get old) c.loop-place.registry (drop c.loop-place.place c.args.handles.now) [] none))
+    let all = c.loop-place.invariant.any [] (subst (λ hs. AreTargets old hs []) (sym none) tt) in (
+      all.0,
+      all.1,
+      sym (all.2 ∙ none_left (finmap.get old) c.loop-place.registry (drop c.loop-place.place c.args.handles.now) [] none),
+      λ reads honest said. all.3 reads honest said (sym (ap targets_in_all (drop_all c.loop-place.place reads (no_more c.args.handles.now reads _ said c.loop-place.place past)))),
+    )
 
 pub returns-clause-bound : goal.returns-clause-bound
 returns-clause-bound g c = λ reads honest said.
-    let past : length c.args.handles.now ≤ c.loop-place.place = omega arith in
-    sym (none_left (finmap.get c.args.registry.now) c.loop-place.registry (drop c.loop-place.place c.args.handles.now) (targets_in_all (drop c.loop-place.place reads)) (drop_all c.loop-place.place c.args.handles.now past))
-    ∙ c.loop-place.invariant.bound reads honest said
+    let all = returns-clause-any g c in all.2 ∙ ap (all_bound (finmap.get c.args.registry.now) c.args.registry.now c.args.handles.now) (all.3 reads honest said)

@@ -12,8 +12,6 @@ invariant-loop-place g l = record {
   others : (handle : ℕ) → is_member handle l.handles ≡ false → finmap.get l.registry handle ≡ finmap.get l.fn.registry handle;
   any : (more : List (List (List Target))) → AreTargets l.fn.registry (drop l.place l.handles) more
       → (targets : List (List (List Target))) × AreTargets l.fn.registry l.handles targets
-      × (all_bound (finmap.get l.fn.registry) l.fn.registry l.handles targets ≡ all_bound (finmap.get l.fn.registry) l.registry (drop l.place l.handles) more);
-  bound : (reads : List ModuleFile) → g.S.Store.is_honest → AreSaid (g.S.Store.files l.fn.store) l.fn.registry l.handles reads
-      → all_bound (finmap.get l.fn.registry) l.registry (drop l.place l.handles) (targets_in_all (drop l.place reads))
-      ≡ all_bound (finmap.get l.fn.registry) l.fn.registry l.handles (targets_in_all reads);
+      × (all_bound (finmap.get l.fn.registry) l.fn.registry l.handles targets ≡ all_bound (finmap.get l.fn.registry) l.registry (drop l.place l.handles) more)
+      × ((reads : List ModuleFile) → g.S.Store.is_honest → AreSaid (g.S.Store.files l.fn.store) l.fn.registry l.handles reads → more ≡ targets_in_all (drop l.place reads) → targets ≡ targets_in_all reads);
 }

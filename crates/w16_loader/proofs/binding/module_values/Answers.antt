@@ -1,6 +1,7 @@
 -- One segment more has its values.
-use Rattle.w16_loader.proofs.Common.{◌+◌, ◌++◌, ◌∷◌, [], ◌≤◌, length, map, take, sym, ap, ◌∙◌, subst, arith, length-map, length_push, take_all, targets_of, far_of, IsSaid, values_for}
+use Rattle.w16_loader.proofs.Common.{◌≡◌, segment_in, ◌+◌, ◌++◌, ◌∷◌, [], ◌≤◌, length, map, take, sym, ap, ◌∙◌, subst, arith, length-map, length_push, take_all, targets_of, far_of, IsSaid, values_for}
 use Rattle.std.specs.FinMap as finmap
+use Rattle.w16_loading.specs.File as loading
 use Rattle.w16_loader.proofs.Values.{count_said, failure_since, front_more, numbered_there, segment_more}
 use Rattle.w16_loader.proofs.binding.module_values.Goals as goal
 
@@ -21,26 +22,31 @@ loop-place-preserved g c =
         before.any.0 ++ one.0 ∷ [],
         length_push before.any.0 one.0 ∙ ap (λ n. n + 1) before.any.1,
         ap (map (λ v. map far_of v.items)) c.push_reserved.ensures.items ∙ segment_more named m (λ v. map far_of v.items) before.any.0 one.0 c.loop-place.values.items segment one.1 before.any.2,
+        λ read honest is.
+            (let still = subst (λ files. IsSaid files m read) (sym before.files) is in
+            let many = count_said (g.S.Store.files c.args.store.now) m read is c.module.result.now c.module.ensures c.segment_count-count.result c.segment_count-count.ensures.count in
+            let s = numbered_there read.segments place (omega (arith, many, c.loop-place-test.true)) in
+            (λ i. before.any.3 read honest is i ++ one.2 read s.0 honest still s.2 i ∷ []) ∙ sym (front_more targets_of read.segments place s.0 s.1)),
       );
-      exact = λ read honest is.
-          let still = subst (λ files. IsSaid files m read) (sym before.files) is in
-          let many = count_said (g.S.Store.files c.args.store.now) m read is c.module.result.now c.module.ensures c.segment_count-count.result c.segment_count-count.ensures.count in
-          let s = numbered_there read.segments place (omega (arith, many, c.loop-place-test.true)) in
-          ap (map (λ v. map far_of v.items)) c.push_reserved.ensures.items
-          ∙ segment_more named m (λ v. map far_of v.items) (take place (map targets_of read.segments)) (targets_of s.0) c.loop-place.values.items segment
-          (c.in-Ok-segment_values.ensures.exact read s.0 honest still s.2) (before.exact read honest is)
-          ∙ ap (values_for named m) (sym (front_more targets_of read.segments place s.0 s.1));
     }
 
-pub returns-in-Err-clause-exact : goal.returns-in-Err-clause-exact
-returns-in-Err-clause-exact g c = λ read honest is.
+pub returns-in-Err-clause-failed : goal.returns-in-Err-clause-failed
+returns-in-Err-clause-failed g c = λ read honest is.
     let still = subst (λ files. IsSaid files c.args.loaded.now read) (sym c.loop-place.invariant.files) is in
     let many = count_said (g.S.Store.files c.args.store.now) c.args.loaded.now read is c.module.result.now c.module.ensures c.segment_count-count.result c.segment_count-count.ensures.count in
     let s = numbered_there read.segments c.loop-place.place (omega (arith, many, c.loop-place-test.true)) in
-    failure_since _ _ _ c.in-Err.fault c.loop-place.invariant.failures (c.in-Err.ensures.exact read s.0 honest still s.2)
+    failure_since _ _ _ c.in-Err.fault c.loop-place.invariant.failures (c.in-Err.ensures.failed read s.0 honest still s.2)
 
-pub returns-clause-exact : goal.returns-clause-exact
-returns-clause-exact g c = λ read honest is.
-    let many = count_said (g.S.Store.files c.args.store.now) c.args.loaded.now read is c.module.result.now c.module.ensures c.segment_count-count.result c.segment_count-count.ensures.count in
-    let past : length (map targets_of read.segments) ≤ c.loop-place.place = omega (arith, many, length-map read.segments targets_of, c.loop-place-test.false) in
-    c.loop-place.invariant.exact read honest is ∙ ap (values_for (finmap.get c.args.registry.now) c.args.loaded.now) (take_all c.loop-place.place (map targets_of read.segments) past)
+pub returns-clause-any : goal.returns-clause-any
+returns-clause-any g c =
+    let h = c.loop-place.invariant.any in
+    let many : length c.module.result.now.segments ≡ length c.args.loaded.now.tables.segments =
+    sym (length-map c.module.result.now.segments segment_in) ∙ ap (λ (u : loading.Tables). length u.segments) c.module.ensures in (
+      h.0,
+      omega (arith, h.1, many, c.segment_count-count.ensures.count, c.loop-place-test.false, c.loop-place.invariant.many),
+      h.2,
+      λ read honest is.
+          (let many = count_said (g.S.Store.files c.args.store.now) c.args.loaded.now read is c.module.result.now c.module.ensures c.segment_count-count.result c.segment_count-count.ensures.count in
+          let past : length (map targets_of read.segments) ≤ c.loop-place.place = omega (arith, many, length-map read.segments targets_of, c.loop-place-test.false) in
+          h.3 read honest is ∙ take_all c.loop-place.place (map targets_of read.segments) past),
+    )

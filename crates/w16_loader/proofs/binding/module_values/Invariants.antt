@@ -9,7 +9,6 @@ invariant-loop-place g l = record {
   failures : g.S.Store.failures l.fn.store ≤ g.S.Store.failures l.store;
   many : vec_len l.values ≡ l.place;
   room : vec_capacity l.values ≡ l.count;
-  any : (targets : List (List Target)) × (length targets ≡ l.place) × (map (λ v. map far_of v.items) l.values.items ≡ values_for (finmap.get l.registry) l.loaded targets);
-  exact : (read : ModuleFile) → g.S.Store.is_honest → IsSaid (g.S.Store.files l.fn.store) l.loaded read
-      → map (λ v. map far_of v.items) l.values.items ≡ values_for (finmap.get l.registry) l.loaded (take l.place (map targets_of read.segments));
+  any : (targets : List (List Target)) × (length targets ≡ l.place) × (map (λ v. map far_of v.items) l.values.items ≡ values_for (finmap.get l.registry) l.loaded targets)
+      × ((read : ModuleFile) → g.S.Store.is_honest → IsSaid (g.S.Store.files l.fn.store) l.loaded read → targets ≡ take l.place (map targets_of read.segments));
 }

@@ -1,7 +1,7 @@
 -- One record more has its value.
-use Rattle.w16_loader.proofs.Common.{◌+◌, ◌++◌, ◌∷◌, [], ◌<◌, length, map, take, refl, sym, ap, ◌∙◌, subst, arith, target_of, AreValuesOf, IsStoredAs}
+use Rattle.w16_loader.proofs.Common.{◌+◌, ◌++◌, ◌∷◌, [], ◌<◌, length, map_more, sym, ap, ◌∙◌, subst, arith, target_of, AreValuesOf, IsStoredAs}
 use Rattle.std.specs.FinMap as finmap
-use Rattle.w16_loader.proofs.Values.{value_more, record_more}
+use Rattle.w16_loader.proofs.Values.{failure_since, value_more}
 use Rattle.w16_loader.proofs.binding.record_values.Goals as goal
 
 pub loop-relocation-preserved : goal.loop-relocation-preserved
@@ -22,10 +22,13 @@ loop-relocation-preserved g c =
         before.any.0 ++ one.0 ∷ [],
         subst (AreValuesOf named m (before.any.0 ++ one.0 ∷ [])) (sym c.push_reserved.ensures.items)
             (value_more named m before.any.0 one.0 c.loop-relocation.values.items far one.1 before.any.1),
+        λ file t honest is all.
+            (let still = subst (λ files. IsStoredAs files m file t) (sym before.files) is in
+            (λ i. before.any.2 file t honest is all i ++ one.2 file t honest still (all place _ lt) i ∷ []) ∙ sym (map_more (target_of file t) c.args.records.now place _ lt)),
       );
-      exact = λ file t honest is all.
-          let still = subst (λ files. IsStoredAs files m file t) (sym before.files) is in
-          subst (AreValuesOf named m (map (target_of file t) (take (place + 1) c.args.records.now))) (sym c.push_reserved.ensures.items)
-          (record_more named m file t c.args.records.now place _ _ c.loop-relocation.values.items far lt refl
-          (c.in-Ok-record_value.ensures.exact file t honest still (all place _ lt)) (before.exact file t honest is all));
     }
+
+pub returns-in-Err-clause-failed : goal.returns-in-Err-clause-failed
+returns-in-Err-clause-failed g c = λ file t honest is all.
+    let still = subst (λ files. IsStoredAs files c.args.loaded.now file t) (sym c.loop-relocation.invariant.files) is in
+    failure_since _ _ _ c.in-Err-record_value.fault c.loop-relocation.invariant.failures (c.in-Err-record_value.ensures.failed file t honest still (all c.loop-relocation.relocation-index _ (omega arith)))

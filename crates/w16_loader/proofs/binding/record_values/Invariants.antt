@@ -11,7 +11,7 @@ invariant-loop-relocation g l = record {
   failures : g.S.Store.failures l.fn.store ≤ g.S.Store.failures l.store;
   many : vec_len l.values ≡ l.relocation-index;
   room : vec_capacity l.values ≡ length l.records;
-  any : (targets : List Target) × AreValuesOf (finmap.get l.registry) l.loaded targets l.values.items;
-  exact : (file : List ℕ) (t : Tables) → g.S.Store.is_honest → IsStoredAs (g.S.Store.files l.fn.store) l.loaded file t → All (λ r. is_named (offer_of file t) r ≡ true) l.records
-      → AreValuesOf (finmap.get l.registry) l.loaded (map (target_of file t) (take l.relocation-index l.records)) l.values.items;
+  any : (targets : List Target) × AreValuesOf (finmap.get l.registry) l.loaded targets l.values.items
+      × ((file : List ℕ) (t : Tables) → g.S.Store.is_honest → IsStoredAs (g.S.Store.files l.fn.store) l.loaded file t → All (λ r. is_named (offer_of file t) r ≡ true) l.records
+      → targets ≡ map (target_of file t) (take l.relocation-index l.records));
 }

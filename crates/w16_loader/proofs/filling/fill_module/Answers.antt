@@ -1,5 +1,5 @@
 -- What holds of the module that the registry has.
-use Rattle.w16_loader.proofs.Common.{◌≡◌, ◌≢◌, ◌<◌, All, Err, ◌∙◌, subst, Store, GivesAny, FillsOne, InTurn, is_of_device, IsItsFiles, Module, IsSaid, HasUnfilled, IsReadAs, IsUnfilled, failure_at, fills_in}
+use Rattle.w16_loader.proofs.Common.{◌≡◌, ◌≢◌, ◌<◌, All, Err, ◌∙◌, subst, Store, InTurn, gives_over, IsItsFiles, Module, IsSaid, HasUnfilled, IsReadAs, IsUnfilled, failure_at, fills_in}
 use Rattle.w16_loader.proofs.Fillings.{one_module, no_module}
 use Rattle.w16_loader.proofs.filling.fill_module.Goals as goal
 
@@ -7,22 +7,14 @@ pub returns-in-Some-clause-kept : goal.returns-in-Some-clause-kept
 returns-in-Some-clause-kept g c = λ m slot s found.
     subst (λ (n : Module). All (λ q. q ≢ slot) n.slots → IsUnfilled c.args.global.now.handles slot s → IsUnfilled c.fill_segments.new.global.handles slot s) (one_module c.in-Some.loaded.now m (c.in-Some.ensures ∙ found)) (c.fill_segments.ensures.kept slot s)
 
-pub returns-in-Some-clause-any : goal.returns-in-Some-clause-any
-returns-in-Some-clause-any g c = λ m read place found.
-    subst (λ (n : Module). IsReadAs n read → HasUnfilled c.args.global.now.handles n → InTurn GivesAny c.args.global.now.handles.heap (fills_in place n read) (failure_at place c.fill_segments.result) c.fill_segments.new.global.handles.heap)
-    (one_module c.in-Some.loaded.now m (c.in-Some.ensures ∙ found)) (c.fill_segments.ensures.any read place)
-
-pub returns-in-Some-clause-filled : goal.returns-in-Some-clause-filled
-returns-in-Some-clause-filled g c = λ m read place found honest.
-    subst (λ (n : Module). IsSaid (g.S.Store.files c.args.store.now) n read → IsReadAs n read → IsItsFiles n read → HasUnfilled c.args.global.now.handles n
-    → InTurn (FillsOne is_of_device) c.args.global.now.handles.heap (fills_in place n read) (failure_at place c.fill_segments.result) c.fill_segments.new.global.handles.heap)
-    (one_module c.in-Some.loaded.now m (c.in-Some.ensures ∙ found)) (c.fill_segments.ensures.filled read place honest)
+pub returns-in-Some-clause-given : goal.returns-in-Some-clause-given
+returns-in-Some-clause-given g c = λ m read place found.
+    subst (λ (n : Module). IsReadAs n read → (g.S.Store.is_honest → IsSaid (g.S.Store.files c.args.store.now) n read × IsItsFiles n read) → HasUnfilled c.args.global.now.handles n
+    → InTurn (gives_over g.S.Store.is_honest (g.S.Store.failures c.args.store.now) (g.S.Store.failures c.fill_segments.new.store)) c.args.global.now.handles.heap (fills_in place n read) (failure_at place c.fill_segments.result) c.fill_segments.new.global.handles.heap)
+    (one_module c.in-Some.loaded.now m (c.in-Some.ensures ∙ found)) (c.fill_segments.ensures.given read place)
 
 pub returns-in-None-clause-kept : goal.returns-in-None-clause-kept
 returns-in-None-clause-kept g c = λ m slot s found all is. is
 
-pub returns-in-None-clause-any : goal.returns-in-None-clause-any
-returns-in-None-clause-any g c = λ m read place found. absurd (no_module m (c.in-None.ensures ∙ found))
-
-pub returns-in-None-clause-filled : goal.returns-in-None-clause-filled
-returns-in-None-clause-filled g c = λ m read place found. absurd (no_module m (c.in-None.ensures ∙ found))
+pub returns-in-None-clause-given : goal.returns-in-None-clause-given
+returns-in-None-clause-given g c = λ m read place found. absurd (no_module m (c.in-None.ensures ∙ found))

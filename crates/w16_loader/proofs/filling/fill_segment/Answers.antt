@@ -1,6 +1,8 @@
 -- The object of a fixed or of a preload segment is fetched; any other is left.
-use Rattle.w16_loader.proofs.Common.{◌≤◌, true, false, length, sym, subst, arith, GivesAny, FillsOne, is_of_device, IsSoundIn}
+use Rattle.w16_loader.proofs.Common.{◌≤◌, true, false, length, sym, subst, arith, IsSoundIn, gives_over}
 use Rattle.w16_loader.proofs.Unfilled.{keeps, gives_any, unfilled, filled, part_long, many_segments, is_filled_by, is_named, no_slot, other_slot, sound, stored, gives_image}
+use Rattle.w16_loader.proofs.Fetches.{rises}
+use Rattle.w16_loader.proofs.Givings.{given_both}
 use Rattle.w16_loader.proofs.filling.fill_segment.Goals as goal
 
 pub segment-segment-requires-clause-last : goal.segment-segment-requires-clause-last
@@ -11,23 +13,15 @@ fetch-requires-clause-last g c = omega (arith, c.requires.last, c.source-source.
 
 -- It is neither.
 
-pub returns-then-not-is_filled-clause-any : goal.returns-then-not-is_filled-clause-any
-returns-then-not-is_filled-clause-any g c = λ read place part is_read is.
-    unfilled c.args.loaded.now read c.args.number part place GivesAny c.args.global.now.handles.heap
-    (is_filled_by _ _ c.args.number part _ _ c.source-source.ensures.tables c.segment-segment.ensures.found _ false c.is_filled.ensures c.if-not-is_filled.true)
-
-pub returns-then-not-is_filled-clause-filled : goal.returns-then-not-is_filled-clause-filled
-returns-then-not-is_filled-clause-filled g c = λ read place part honest said its is.
-    unfilled c.args.loaded.now read c.args.number part place (FillsOne is_of_device) c.args.global.now.handles.heap
+pub returns-then-not-is_filled-clause-given : goal.returns-then-not-is_filled-clause-given
+returns-then-not-is_filled-clause-given g c = λ read place part is_read its is.
+    unfilled c.args.loaded.now read c.args.number part place (gives_over g.S.Store.is_honest (g.S.Store.failures c.args.store.now) (g.S.Store.failures c.args.store.now)) c.args.global.now.handles.heap
     (is_filled_by _ _ c.args.number part _ _ c.source-source.ensures.tables c.segment-segment.ensures.found _ false c.is_filled.ensures c.if-not-is_filled.true)
 
 -- There is no slot.
 
-pub returns-in-None-clause-any : goal.returns-in-None-clause-any
-returns-in-None-clause-any g c = λ read place part is_read is. absurd (no_slot c.args.loaded.now read c.args.number part c.slots.result.now c.slots.ensures.slots c.in-None.ensures.slot)
-
-pub returns-in-None-clause-filled : goal.returns-in-None-clause-filled
-returns-in-None-clause-filled g c = λ read place part honest said its is. absurd (no_slot c.args.loaded.now read c.args.number part c.slots.result.now c.slots.ensures.slots c.in-None.ensures.slot)
+pub returns-in-None-clause-given : goal.returns-in-None-clause-given
+returns-in-None-clause-given g c = λ read place part is_read its is. absurd (no_slot c.args.loaded.now read c.args.number part c.slots.result.now c.slots.ensures.slots c.in-None.ensures.slot)
 
 -- It is fetched.
 
@@ -36,22 +30,17 @@ returns-in-Some-clause-kept g c = λ slot s out is.
     keeps c.args.global.now c.fetch.new.global c.handle_of-handle.result c.fetch.result c.fetch.ensures.rest c.fetch.ensures.any c.reveal_handles.ensures.heap c.fetch.ensures.refused c.fetch.ensures.named slot s
     (other_slot c.args.loaded.now c.args.number c.slots.result.now c.slots.ensures.slots c.in-Some.slot c.in-Some.ensures.slot c.segment_kind.result c.handle_of-handle.result c.handle_of-handle.ensures slot out) is
 
-pub returns-in-Some-clause-any : goal.returns-in-Some-clause-any
-returns-in-Some-clause-any g c = λ read place part is_read is.
-    filled c.args.loaded.now read c.args.number part place GivesAny c.args.global.now.handles.heap c.fetch.new.global.handles.heap c.fetch.result
-    (is_filled_by _ _ c.args.number part _ _ c.source-source.ensures.tables c.segment-segment.ensures.found _ true c.is_filled.ensures c.if-not-is_filled.false)
-    (gives_any c.args.global.now c.fetch.new.global c.handle_of-handle.result c.fetch.result c.fetch.ensures.rest c.fetch.ensures.any part.slot (part.its_data.image part.its_values) part.segment
-    (is_named _ _ c.args.number part _ _ c.source-source.ensures.tables c.segment-segment.ensures.found c.slots.result.now c.slots.ensures.slots c.in-Some.slot c.in-Some.ensures.slot
-    c.segment_kind.result c.segment_kind.ensures c.handle_of-handle.result c.handle_of-handle.ensures)
-    is (part_long c.args.loaded.now read c.args.number part is_read))
-
-pub returns-in-Some-clause-filled : goal.returns-in-Some-clause-filled
-returns-in-Some-clause-filled g c = λ read place part honest said its is.
+pub returns-in-Some-clause-given : goal.returns-in-Some-clause-given
+returns-in-Some-clause-given g c = λ read place part is_read its is.
     let last : c.args.number ≤ length c.source-source.result.module.now.segments = omega (arith, c.requires.last, many_segments c.source-source.result.module.now c.args.loaded.now c.source-source.ensures.tables) in
-    filled c.args.loaded.now read c.args.number part place (FillsOne is_of_device) c.args.global.now.handles.heap c.fetch.new.global.handles.heap c.fetch.result
+    let named = is_named _ _ c.args.number part _ _ c.source-source.ensures.tables c.segment-segment.ensures.found c.slots.result.now c.slots.ensures.slots c.in-Some.slot c.in-Some.ensures.slot
+    c.segment_kind.result c.segment_kind.ensures c.handle_of-handle.result c.handle_of-handle.ensures in
+    filled c.args.loaded.now read c.args.number part place (gives_over g.S.Store.is_honest (g.S.Store.failures c.args.store.now) (g.S.Store.failures c.fetch.new.store)) c.args.global.now.handles.heap c.fetch.new.global.handles.heap c.fetch.result
     (is_filled_by _ _ c.args.number part _ _ c.source-source.ensures.tables c.segment-segment.ensures.found _ true c.is_filled.ensures c.if-not-is_filled.false)
-    (gives_image _ _ _ said its _ c.source-source.ensures.tables c.args.number c.requires.first last c.source-source.result.file.now c.source-source.result.values.now c.source-source.ensures.source
-    part c.args.global.now.handles c.fetch.new.global.handles.heap c.handle_of-handle.result c.fetch.result
-    (is_named _ _ c.args.number part _ _ c.source-source.ensures.tables c.segment-segment.ensures.found c.slots.result.now c.slots.ensures.slots c.in-Some.slot c.in-Some.ensures.slot
-    c.segment_kind.result c.segment_kind.ensures c.handle_of-handle.result c.handle_of-handle.ensures)
+    (given_both g.S.Store.is_honest _ _ c.args.global.now.handles.heap part.slot (part.its_data.image part.its_values) _ c.fetch.new.global.handles.heap
+    (gives_any c.args.global.now c.fetch.new.global c.handle_of-handle.result c.fetch.result c.fetch.ensures.rest c.fetch.ensures.any part.slot (part.its_data.image part.its_values) part.segment
+    named is (part_long c.args.loaded.now read c.args.number part is_read))
+    (λ honest. gives_image _ _ _ (its honest).0 (its honest).1 _ c.source-source.ensures.tables c.args.number c.requires.first last c.source-source.result.file.now c.source-source.result.values.now c.source-source.ensures.source
+    part c.args.global.now.handles c.fetch.new.global.handles.heap c.handle_of-handle.result c.fetch.result named
     is c.source-source.result.number c.source-source.ensures.number (λ file has in_file lacks sized. c.fetch.ensures.filled file honest has in_file lacks sized))
+    (rises c.fetch.result _ c.fetch.ensures.device))

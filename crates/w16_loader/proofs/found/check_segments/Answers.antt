@@ -1,6 +1,9 @@
 -- A segment whose check passes leaves the others to decide; one whose check doesn't, decides.
-use Rattle.w16_loader.proofs.Common.{◌≡◌, ◌+◌, ◌-◌, ◌<◌, ◌≤◌, length, Some, refl, ap, ◌∙◌, arith, slice_get}
+use Rattle.w16_loader.proofs.Common.{◌≡◌, ◌+◌, ◌-◌, ◌<◌, ◌≤◌, length, All, All-nil, Some, IsFit, IsUnsound, map, option_map, segment_in, refl, sym, ap, subst, ◌∙◌, arith, slice_get, slice_get-map, length-map, take_all}
 use Rattle.w16_loader.proofs.Files.{there, all_sound, sound_next, is_unsound}
+use Rattle.w16_loader.specs.Devices.{is_file_device}
+use Rattle.w16_loader.proofs.NameSteps.{fit_more, fits}
+use Rattle.w16_loader.proofs.Tellings.{sound_told, unsound_told}
 use Rattle.w16_loader.proofs.found.check_segments.Goals as goal
 
 pub returns-in-Err-clause-err : goal.returns-in-Err-clause-err
@@ -17,6 +20,11 @@ pub loop-place-preserved : goal.loop-place-preserved
 loop-place-preserved g c = record {
   files = c.in-Ok.ensures.stays.same ∙ c.loop-place.invariant.files;
   failures = omega (arith, c.in-Ok.ensures.stays.counted, c.loop-place.invariant.failures);
+  fit =
+      let place : c.loop-place.place + 1 - 1 ≡ c.loop-place.place = omega arith in
+      let here : slice_get (map segment_in c.args.module_file.now.segments) c.loop-place.place ≡ Some (segment_in c.segment.result) =
+      slice_get-map segment_in c.args.module_file.now.segments c.loop-place.place ∙ ap (λ k. option_map segment_in (slice_get c.args.module_file.now.segments k)) (sym place) ∙ ap (option_map segment_in) c.segment.ensures.found in
+      fit_more (map segment_in c.args.module_file.now.segments) c.loop-place.place (segment_in c.segment.result) here c.loop-place.invariant.fit (fits c.segment.result c.segment.ensures.sized);
   sound = λ bytes honest has tables.
       let lt : c.loop-place.place < length c.args.module_file.now.segments = omega (arith, c.segment_count-place-end.ensures.count) in
       let s = there c.args.module_file.now.segments c.loop-place.place lt in
@@ -32,4 +40,18 @@ returns-clause-sound g c = λ bytes honest has tables.
     all_sound bytes c.args.module_file.now c.loop-place.place past (c.loop-place.invariant.sound bytes honest has tables)
 
 pub loop-place-init : goal.loop-place-init
-loop-place-init g c = record { files = refl; failures = omega arith; sound = λ bytes honest has tables. refl }
+loop-place-init g c = record { files = refl; failures = omega arith; fit = All-nil IsFit; sound = λ bytes honest has tables. refl }
+
+pub returns-clause-fit : goal.returns-clause-fit
+returns-clause-fit g c =
+    let past : length (map segment_in c.args.module_file.now.segments) ≤ c.loop-place.place = omega (arith, c.segment_count-place-end.ensures.count, length-map c.args.module_file.now.segments segment_in) in
+    subst (All IsFit) (take_all c.loop-place.place (map segment_in c.args.module_file.now.segments) past) c.loop-place.invariant.fit
+
+pub returns-clause-checked : goal.returns-clause-checked
+returns-clause-checked g c = λ says.
+    (says, sound_told g.S.Store.is_honest (g.S.Store.files c.args.store.now) c.args.name.now c.args.module_file.now says (returns-clause-sound g c), returns-clause-fit g c)
+
+pub returns-in-Err-clause-checked : goal.returns-in-Err-clause-checked
+returns-in-Err-clause-checked g c = λ says.
+    unsound_told g.S.Store.is_honest (g.S.Store.files c.args.store.now) c.args.name.now c.args.module_file.now says _ _ c.fault_of_check.result c.fault_of_check.ensures.number (returns-in-Err-clause-err g c)
+    (λ e. let rose = c.in-Err.ensures.device (sym c.fault_of_check.ensures.device ∙ ap is_file_device e) in omega (arith, rose, c.loop-place.invariant.failures))

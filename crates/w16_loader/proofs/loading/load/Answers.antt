@@ -1,44 +1,47 @@
 -- A load of what is there already, and a new module's load, from the read of its file on.
-use Rattle.w16_loader.proofs.Common.{◌≡◌, inl, inr, [], Bool, None, IfOk, sym, ap, ◌∙◌, subst, AnyLoadsBy, GivesAnyFewest, used_again, with_handles, IsNewOrMeant, IsThere, meant_in, in_world, Says, Read, ne_format, around_in, reading_in, reading_of, read_in, Loads, answer_in, in_store}
+use Rattle.w16_loader.proofs.Common.{◌≡◌, [], Bool, None, IfOk, sym, ap, ◌∙◌, subst, used_again, meant_in, in_world, in_parts, Says, Refused, Meant, There, ne_format, tables_in, answer_in, in_store, IsAccepted, IsFault, MakesOf, ReadsIn, answers_of}
 use Rattle.std.specs.FinMap as finmap
-use Rattle.w16_loading.specs.Closure as closing
+use Rattle.w16_loading.specs.Answers.{FillsFewest, LoadsFrom, told}
 use Rattle.w16_loader.specs.declared.found.Reading.TheVariants as makes
-use Rattle.w16_loader.proofs.Loads.{for_one}
-use Rattle.w16_loader.proofs.AnyLoads.{unnamed}
+use Rattle.w16_loader.proofs.HeldLoads.{for_one, refused_file, there_again, unnamed}
 use Rattle.w16_loader.proofs.loading.load.Goals as goal
 
-pub returns-clause-loads : goal.returns-clause-loads
-returns-clause-loads g c = λ rest honest.
-    let modules = c.args.registry.now in
-    let handles = c.args.global.now.handles in
+pub returns-in-Err-clause-over : goal.returns-in-Err-clause-over
+returns-in-Err-clause-over g c = λ rest.
     let files = g.S.Store.files c.args.store.now in
-    let file = c.args.file.now in
-    let read = c.in-Ok-Read.read in
-    let is = subst (λ fs. reading_in modules files fs file ≡ Read (read_in files file read)) (c.as_slice.ensures.value ∙ c.new-found.ensures.items)
-    (c.in-Ok-Read.ensures.read honest ∙ ap (reading_of files file) c.in-Ok-Read.field-0-is) in
-    let still = subst (λ fs. closing.reading ne_format.says (around_in modules fs) [] file ≡ Read (read_in fs file read)) (sym c.in-Ok-Read.ensures.stays.same) is in
-    let last = in_store rest c.load_new.new.registry c.load_new.new.global.handles (g.S.Store.files c.load_new.new.store) rest.failures in
-    for_one (λ b answer. Loads ne_format b (in_store rest modules handles files rest.failures) file (answer_in answer) last) c.args.is_load_module c.load_new.result
-    (subst (λ fs. IfOk c.load_new.result (λ answer. (b : Bool) → Loads ne_format b (in_store rest modules handles fs rest.failures) file (answer_in answer) last)) c.in-Ok-Read.ensures.stays.same
-    (c.load_new.ensures.loads rest honest still))
+    let start = g.S.Store.failures c.args.store.now in
+    let after = g.S.Store.failures c.examine_file.new.store in
+    let world = in_store rest c.args.registry.now c.args.global.now.handles files start in
+    for_one (λ b answer. LoadsFrom FillsFewest (told g.S.Store.is_honest ne_format files start after) b world c.args.file.now (answer_in answer) world) c.args.is_load_module c.refuse.result
+    (subst (λ r. IfOk r (λ answer. (b : Bool) → LoadsFrom FillsFewest (told g.S.Store.is_honest ne_format files start after) b world c.args.file.now (answer_in answer) world)) (sym c.refuse.ensures.answer)
+    (refused_file g.S.Store.is_honest files start after rest c.args.registry.now c.args.global.now.handles c.args.file.now c.in-Err.fault
+    (subst (λ fs. IsFault (λ number. ReadsIn (answers_of g.S.Store.is_honest (g.S.Store.files c.args.store.now)) c.args.registry.now fs c.args.file.now (Refused number)) start after c.in-Err.fault) (c.as_slice.ensures.value ∙ c.new-found.ensures.items) c.in-Err.ensures.makes)))
 
--- Over any store.
-
-pub returns-in-Ok-Meant-There-clause-any : goal.returns-in-Ok-Meant-There-clause-any
-returns-in-Ok-Meant-There-clause-any g c = λ rest.
+pub returns-in-Ok-Meant-There-clause-over : goal.returns-in-Ok-Meant-There-clause-over
+returns-in-Ok-Meant-There-clause-over g c = λ rest.
+    let files = g.S.Store.files c.args.store.now in
+    let start = g.S.Store.failures c.args.store.now in
+    let after = g.S.Store.failures c.examine_file.new.store in
     let modules = c.args.registry.now in
     let handle = c.in-Ok-Meant-There.handle in
-    let there = subst (IsThere modules c.as_slice.result.now) (c.in-Ok-Meant-There.field-0-is ∙ ap makes.Meant c.in-Ok-Meant-There.field-0-0-is) c.in-Ok-Meant-There.ensures.there in
-    let old = in_world (with_handles rest c.args.global.now.handles) modules in
-    let used = subst (λ h. used_again c.args.is_load_module old h (finmap.get modules h) ≡ (Says c.load_again.result, in_world (with_handles rest c.args.global.now.handles) c.load_again.new.registry)) c.in-Ok-Meant-There.handle-is
-    (c.load_again.ensures (with_handles rest c.args.global.now.handles)) in
-    inr (inr (inl (handle, there.0, there.1, sym used ∙ ap (used_again c.args.is_load_module old handle) there.1)))
+    let parts = in_parts rest c.args.global.now.handles files start in
+    let made = subst (MakesOf (answers_of g.S.Store.is_honest (g.S.Store.files c.args.store.now)) modules c.as_slice.result.now c.args.file.now) (c.in-Ok-Meant-There.field-0-is ∙ ap makes.Meant c.in-Ok-Meant-There.field-0-0-is) c.in-Ok-Meant-There.ensures.makes in
+    let used = subst (λ h. used_again c.args.is_load_module (in_world parts modules) h (finmap.get modules h) ≡ (Says c.load_again.result, in_world parts c.load_again.new.registry)) c.in-Ok-Meant-There.handle-is (c.load_again.ensures parts) in
+    there_again g.S.Store.is_honest files start after rest modules c.args.global.now.handles c.args.file.now c.args.is_load_module handle (Says c.load_again.result) (in_world parts c.load_again.new.registry)
+    (subst (λ fs. ReadsIn (answers_of g.S.Store.is_honest (g.S.Store.files c.args.store.now)) modules fs c.args.file.now (Meant (There handle))) (c.as_slice.ensures.value ∙ c.new-found.ensures.items) made) (sym used)
 
-pub returns-clause-any : goal.returns-clause-any
-returns-clause-any g c = λ rest.
+pub returns-clause-over : goal.returns-clause-over
+returns-clause-over g c = λ rest.
+    let files = g.S.Store.files c.args.store.now in
+    let start = g.S.Store.failures c.args.store.now in
+    let after = g.S.Store.failures c.load_new.new.store in
     let modules = c.args.registry.now in
-    let old = in_world (with_handles rest c.args.global.now.handles) modules in
-    let last = in_world (with_handles rest c.load_new.new.global.handles) c.load_new.new.registry in
-    let new = subst (IsNewOrMeant modules c.as_slice.result.now) c.in-Ok-Read.field-0-is c.in-Ok-Read.ensures.new in
-    let none = subst (λ fs. meant_in modules fs c.in-Ok-Read.read.name ≡ None) (c.as_slice.ensures.value ∙ c.new-found.ensures.items) new.0 in
-    for_one (λ b answer. AnyLoadsBy GivesAnyFewest b old c.args.file.now (answer_in answer) last) c.args.is_load_module c.load_new.result (c.load_new.ensures.any rest (unnamed modules c.in-Ok-Read.read.name none))
+    let read = c.in-Ok-Read.read in
+    let made = subst (MakesOf (answers_of g.S.Store.is_honest (g.S.Store.files c.args.store.now)) modules c.as_slice.result.now c.args.file.now) c.in-Ok-Read.field-0-is c.in-Ok-Read.ensures.makes in
+    let none = subst (λ fs. meant_in modules fs read.name ≡ None) (c.as_slice.ensures.value ∙ c.new-found.ensures.items) made.1 in
+    let accepted = subst (λ fs. IsAccepted (answers_of g.S.Store.is_honest fs) c.args.file.now (tables_in read)) (sym c.in-Ok-Read.ensures.stays.same) made.0 in
+    for_one (λ b answer. LoadsFrom FillsFewest (told g.S.Store.is_honest ne_format files start after) b (in_store rest modules c.args.global.now.handles files start) c.args.file.now (answer_in answer)
+    (in_store rest c.load_new.new.registry c.load_new.new.global.handles files start)) c.args.is_load_module c.load_new.result
+    (subst (λ fs. IfOk c.load_new.result (λ answer. (b : Bool) → LoadsFrom FillsFewest (told g.S.Store.is_honest ne_format fs start after) b (in_store rest modules c.args.global.now.handles fs start) c.args.file.now (answer_in answer)
+    (in_store rest c.load_new.new.registry c.load_new.new.global.handles fs start))) c.in-Ok-Read.ensures.stays.same
+    (c.load_new.ensures.loads rest start c.in-Ok-Read.ensures.stays.counted accepted (unnamed modules read.name none)))

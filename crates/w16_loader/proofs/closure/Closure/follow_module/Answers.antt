@@ -1,16 +1,18 @@
 -- Each reference leads on, and the last to the next module.
-use Rattle.w16_loader.proofs.Common.{◌≡◌, ◌+◌, ◌-◌, ◌∙◌, refl, ap, sym, length, subst, arith, ne_format, around_in, Leads, reached, LeadsAny, reached_of}
+use Rattle.w16_loader.proofs.Common.{[], map, found_in, AreAccepted, IsFault, LeadsBy, RefusesBy, answers_of, ◌≡◌, ◌+◌, ◌-◌, ◌∙◌, refl, ap, sym, length, subst, arith, ne_format, around_in, Leads, reached, LeadsAny, reached_of}
 use Rattle.w16_loader.proofs.Steps.{leads_nowhere}
-use Rattle.w16_loader.proofs.Followings.{module_done, leads_through, refused_through}
+use Rattle.w16_loader.proofs.Followings.{module_done, leads_through}
+use Rattle.w16_loader.proofs.Followings as old
 use Rattle.w16_loader.proofs.AnyFollowings.{any_through, any_module, any_nowhere}
 use Rattle.w16_loader.proofs.Few.{few_through, few_same}
+use Rattle.w16_loader.proofs.Closings.{module_followed, nowhere, refused_through, through}
 use Rattle.w16_loader.proofs.closure.Closure.follow_module.Goals as goal
 
 pub returns-in-Err-clause-err : goal.returns-in-Err-clause-err
 returns-in-Err-clause-err g c = λ honest.
     let first = reached (g.S.Store.files c.args.store.now) c.args.place 0 c.args.self.now in
     let back : c.loop-done.done + 1 - 1 ≡ c.loop-done.done = omega arith in
-    refused_through ne_format.says c.args.registry.now (g.S.Store.files c.args.store.now) (g.S.Store.files c.loop-done.store) c.loop-done.invariant.files first (λ fs. reached fs c.args.place (c.loop-done.done + 1 - 1) c.loop-done.self)
+    old.refused_through ne_format.says c.args.registry.now (g.S.Store.files c.args.store.now) (g.S.Store.files c.loop-done.store) c.loop-done.invariant.files first (λ fs. reached fs c.args.place (c.loop-done.done + 1 - 1) c.loop-done.self)
     (subst (λ n. Leads ne_format.says (around_in c.args.registry.now (g.S.Store.files c.args.store.now))
     (reached (g.S.Store.files c.args.store.now) c.args.place 0 c.args.self.now)
     (reached (g.S.Store.files c.args.store.now) c.args.place n c.loop-done.self)) (sym back)
@@ -28,6 +30,15 @@ loop-done-preserved g c = record {
       any_through c.args.registry.now c.loop-done.self.found.items c.follow_reference.new.self.found.items c.in-Ok.ensures.few.since (reached_of c.args.place 0 c.args.self.now) (reached_of c.args.place c.loop-done.done c.loop-done.self)
       (reached_of c.args.place (c.loop-done.done + 1) c.follow_reference.new.self) c.in-Ok.ensures.few.kept c.loop-done.invariant.any
       (subst (λ n. LeadsAny c.args.registry.now c.follow_reference.new.self.found.items (reached_of c.args.place n c.loop-done.self) (reached_of c.args.place (c.loop-done.done + 1) c.follow_reference.new.self)) back c.in-Ok.ensures.any);
+  accepted = λ all. subst (λ fs. AreAccepted (answers_of g.S.Store.is_honest fs) (map (found_in []) c.loop-done.self.found.items) → AreAccepted (answers_of g.S.Store.is_honest fs) (map (found_in []) c.follow_reference.new.self.found.items)) c.loop-done.invariant.files
+      c.in-Ok.ensures.accepted (c.loop-done.invariant.accepted all);
+  answered =
+      let back : c.loop-done.done + 1 - 1 ≡ c.loop-done.done = omega arith in
+      through (answers_of g.S.Store.is_honest (g.S.Store.files c.args.store.now)) c.args.registry.now c.loop-done.self.found.items c.follow_reference.new.self.found.items c.in-Ok.ensures.few.since (reached_of c.args.place 0 c.args.self.now) (reached_of c.args.place c.loop-done.done c.loop-done.self)
+      (reached_of c.args.place (c.loop-done.done + 1) c.follow_reference.new.self) c.in-Ok.ensures.few.kept c.loop-done.invariant.answered
+      (subst (λ n. LeadsBy (answers_of g.S.Store.is_honest (g.S.Store.files c.args.store.now)) c.args.registry.now c.follow_reference.new.self.found.items (reached_of c.args.place n c.loop-done.self) (reached_of c.args.place (c.loop-done.done + 1) c.follow_reference.new.self)) back
+      (subst (λ fs. LeadsBy (answers_of g.S.Store.is_honest fs) c.args.registry.now c.follow_reference.new.self.found.items (reached_of c.args.place (c.loop-done.done + 1 - 1) c.loop-done.self) (reached_of c.args.place (c.loop-done.done + 1) c.follow_reference.new.self))
+      c.loop-done.invariant.files c.in-Ok.ensures.leads));
   leads = λ honest.
       let back : c.loop-done.done + 1 - 1 ≡ c.loop-done.done = omega arith in
       leads_through ne_format.says c.args.registry.now (g.S.Store.files c.args.store.now) (g.S.Store.files c.loop-done.store) c.loop-done.invariant.files (reached (g.S.Store.files c.args.store.now) c.args.place 0 c.args.self.now)
@@ -60,5 +71,24 @@ loop-done-init g c = record {
   same = refl;
   few = few_same c.args.registry.now c.args.self.now.found.items;
   any = any_nowhere c.args.registry.now c.args.self.now.found.items (reached_of c.args.place 0 c.args.self.now);
+  accepted = λ all. all;
+  answered = nowhere (answers_of g.S.Store.is_honest (g.S.Store.files c.args.store.now)) c.args.registry.now c.args.self.now.found.items (reached_of c.args.place 0 c.args.self.now);
   leads = λ honest. leads_nowhere ne_format.says (around_in c.args.registry.now (g.S.Store.files c.args.store.now)) (reached (g.S.Store.files c.args.store.now) c.args.place 0 c.args.self.now);
 }
+
+pub returns-clause-leads : goal.returns-clause-leads
+returns-clause-leads g c =
+    let end : c.loop-done.done ≡ c.reference_count-count.result = omega arith in
+    module_followed (answers_of g.S.Store.is_honest (g.S.Store.files c.args.store.now)) c.args.registry.now c.args.place c.loop-done.done (reached_of c.args.place 0 c.args.self.now) c.loop-done.self (end ∙ c.reference_count-count.ensures ∙ ap length (sym c.loop-done.invariant.same)) c.loop-done.invariant.answered
+
+pub returns-clause-accepted : goal.returns-clause-accepted
+returns-clause-accepted g c = c.loop-done.invariant.accepted
+
+pub returns-in-Err-clause-refused : goal.returns-in-Err-clause-refused
+returns-in-Err-clause-refused g c =
+    let back : c.loop-done.done + 1 - 1 ≡ c.loop-done.done = omega arith in
+    refused_through g.S.Store.is_honest (g.S.Store.files c.args.store.now) c.args.registry.now c.args.place 0 c.args.self.now c.loop-done.self.found.items c.loop-done.invariant.few.since (reached_of c.args.place c.loop-done.done c.loop-done.self) c.loop-done.invariant.few.kept
+    c.loop-done.invariant.accepted c.loop-done.invariant.answered _ _ _ c.loop-done.invariant.failures c.in-Err.fault
+    (subst (λ n. IsFault (RefusesBy (answers_of g.S.Store.is_honest (g.S.Store.files c.args.store.now)) c.args.registry.now c.loop-done.self.found.items (reached_of c.args.place n c.loop-done.self)) (g.S.Store.failures c.loop-done.store) (g.S.Store.failures c.follow_reference.new.store) c.in-Err.fault) back
+    (subst (λ fs. IsFault (RefusesBy (answers_of g.S.Store.is_honest fs) c.args.registry.now c.loop-done.self.found.items (reached_of c.args.place (c.loop-done.done + 1 - 1) c.loop-done.self)) (g.S.Store.failures c.loop-done.store) (g.S.Store.failures c.follow_reference.new.store) c.in-Err.fault)
+    c.loop-done.invariant.files c.in-Err.ensures.refused))

@@ -1,8 +1,9 @@
 -- A reference that is followed is the next of those that are left.
-use Rattle.w16_loader.proofs.Common.{ap, ◌∙◌, ne_format, around_in, left_from, references_at, map, found_in}
+use Rattle.w16_loader.proofs.Common.{answers_of, ap, ◌∙◌, ne_format, around_in, left_from, references_at, map, found_in}
 use Rattle.w16_loader.proofs.Followings.{indexed, same_after, follows, refused}
 use Rattle.w16_loader.proofs.AnyFollowings.{follows_any}
 use Rattle.w16_loader.proofs.Few.{few_after}
+use Rattle.w16_loader.proofs.Closings.{accepts_more, leads_on, refused_at}
 use Rattle.w16_loader.proofs.closure.Closure.follow_reference.Goals as goal
 
 pub returns-in-Err-clause-err : goal.returns-in-Err-clause-err
@@ -31,3 +32,20 @@ returns-in-Ok-bind-clause-any g c =
     let at = indexed c.args.self.now.found.items c.args.place c.args.number c.index.result.now c.requires.first c.requires.last c.index.ensures in
     follows_any c.args.registry.now c.args.place c.args.self.now c.bind.new.self c.index.result.now at.0 c.args.number c.requires.first at.1 c.reference-name.result.now c.reference-name.ensures c.in-Ok.followed c.in-Ok.ensures.any
     c.in-Ok-bind.ensures.found c.in-Ok-bind.ensures.bound
+
+pub returns-in-Err-clause-refused : goal.returns-in-Err-clause-refused
+returns-in-Err-clause-refused g c =
+    let at = indexed c.args.self.now.found.items c.args.place c.args.number c.index.result.now c.requires.first c.requires.last c.index.ensures in
+    refused_at (answers_of g.S.Store.is_honest (g.S.Store.files c.args.store.now)) c.args.registry.now c.args.place c.args.self.now c.index.result.now at.0 c.args.number c.requires.first at.1
+    c.reference-name.result.now c.reference-name.ensures _ _ c.in-Err.fault c.in-Err.ensures.refused
+
+pub returns-in-Ok-bind-clause-leads : goal.returns-in-Ok-bind-clause-leads
+returns-in-Ok-bind-clause-leads g c =
+    let at = indexed c.args.self.now.found.items c.args.place c.args.number c.index.result.now c.requires.first c.requires.last c.index.ensures in
+    leads_on (answers_of g.S.Store.is_honest (g.S.Store.files c.args.store.now)) c.args.registry.now c.args.place c.args.self.now c.index.result.now at.0 c.args.number c.requires.first at.1
+    c.reference-name.result.now c.reference-name.ensures c.bind.new.self c.in-Ok.followed c.in-Ok.ensures.leads c.in-Ok-bind.ensures.found c.in-Ok-bind.ensures.bound
+
+pub returns-in-Ok-bind-clause-accepted : goal.returns-in-Ok-bind-clause-accepted
+returns-in-Ok-bind-clause-accepted g c = λ all.
+    accepts_more (answers_of g.S.Store.is_honest (g.S.Store.files c.args.store.now)) c.args.registry.now c.args.self.now.found.items c.reference-name.result.now c.in-Ok.followed c.in-Ok.ensures.leads c.bind.new.self.found.items
+    c.in-Ok-bind.ensures.found all

@@ -1,0 +1,164 @@
+-- Steps over what a store answers. Each time that a file is read it may say something else, so each question that a step puts has an answer of its
+-- own, which says no more than what was read for it. A store that is honest answers what its files say.
+use Rattle.std.specs.Prelude.{◌≡◌, ℕ, zero, suc, ◌<◌, ◌≤◌, ◌⊎◌, Bool, true, false, List, [], ◌∷◌, length, Option, Some, None, IsSomeAnd, MatchOption, Result, Ok, Err, MatchResult, if◌then◌else◌, ◌==◌}
+use Rattle.std.specs.FinMap as finmap
+use Rattle.w16_model.specs.Heap.{Heap}
+use Rattle.w16_model.specs.Owned.{owned_at, revival_options}
+use Rattle.w16_model.specs.Fewest.{AllocatesFewest}
+use Rattle.w16_store.specs.Files.{file_of}
+use Rattle.w16_loading.specs.declared.FetchFault.{FetchFault}
+use Rattle.w16_loading.specs.declared.FetchFault.TheVariants.{Store, NoRoom}
+use Rattle.w16_loading.specs.File.{Saying, Format, ModuleFile, IsModuleFile, Tables}
+use Rattle.w16_loading.specs.Modules.{LoadingWorld, with_heap}
+use Rattle.w16_loading.specs.Fill.{Giving, Fills, is_of_read}
+use Rattle.w16_loading.specs.Closure.{Around, Closure, Found, Reading, are_sound, around, begun, dll, meant, with_bound, with_found}
+use Rattle.w16_loading.specs.Closure.Referent.{There, New}
+use Rattle.w16_loading.specs.Closure.Reading.{Refused, Meant, Read}
+use Rattle.w16_loading.specs.Load.{Answer, LoadsNew, Refuses, refusal_of, used_again}
+use Rattle.w16_loading.specs.Load.Answer.{StoreFails}
+use Rattle.w16_loading.specs.Fetch.{IsImage}
+use Rattle.w16_loading.specs.Replies.{Reply}
+use Rattle.w16_loading.specs.Families.{LoadingCommand, FamilyStep}
+
+-- Which answers each question may get.
+pub record Answers : Type 1 where
+  -- the file of a name has these tables; or a number refuses it
+  pub says : List ℕ → Result Tables ℕ → Type 0
+  -- its relocations are sound, or not
+  pub sound : List ℕ → Tables → Bool → Type 0
+  -- a new module is of this file: what its records lead to, and what its segments hold
+  pub holds : List ℕ → ModuleFile → Type 0
+  -- what a segment was to hold is read as these bytes when it is filled
+  pub again : (held read : List ℕ) → Type 0
+  -- a slot's object, which a module owns, is read as these bytes
+  pub gives : LoadingWorld → ℕ → List ℕ → Type 0
+  -- what was there can't be read, for this reason
+  pub fails : FetchFault → Type 0
+
+-- Bytes for an object.
+
+-- how a request for an object's bytes ends
+abbrev pub Ending : Type 1
+Ending = Heap → ℕ → List ℕ → Bool → Heap → Type 0
+
+-- It discards as few objects as it can; refused, there is no room whatever is discarded.
+abbrev pub FillsFewest : Ending
+FillsFewest old slot bytes answered new = Fills old slot bytes answered new × AllocatesFewest old slot (length bytes) revival_options answered new
+
+-- An object gets bytes of its size that were read for it; or there is no room for as many; or they can't be read, and nothing changes.
+abbrev pub GivesRead : Ending → (MayFail : FetchFault → Type 0) → (IsSized IsRead : List ℕ → Type 0) → Heap → ℕ → Option FetchFault → Heap → Type 0
+GivesRead ends MayFail IsSized IsRead old slot None new = (bytes : List ℕ) × IsSized bytes × IsRead bytes × ends old slot bytes true new
+GivesRead ends MayFail IsSized IsRead old slot (Some NoRoom) new = (bytes : List ℕ) × IsSized bytes × ends old slot bytes false new
+GivesRead ends MayFail IsSized IsRead old slot (Some fault) new = MayFail fault × (new ≡ old)
+
+-- as many as its owner says
+abbrev pub IsOwnedSize : LoadingWorld → ℕ → List ℕ → Type 0
+IsOwnedSize world slot bytes = IsSomeAnd (owned_at world.handles slot) (λ owned. length bytes ≡ owned.size)
+
+-- a fetch
+pub record FetchesFrom (ends : Ending) (answers : Answers) (old : LoadingWorld) (slot : ℕ) (fault : Option FetchFault) (new : LoadingWorld) : Type 0 where
+  pub given : GivesRead ends answers.fails (IsOwnedSize old slot) (answers.gives old slot) old.handles.heap slot fault new.handles.heap
+  pub rest : new ≡ with_heap old new.handles.heap
+
+-- one of a load's segments, that was to hold these bytes
+abbrev pub GivesFrom : Ending → Answers → Giving
+GivesFrom ends answers old slot held fault new = GivesRead ends answers.fails (λ read. length read ≡ length held) (answers.again held) old slot fault new
+
+-- Loads.
+
+-- What a load makes of the file of a name. A name that is there decides before the relocations do, and these before the count of handles.
+abbrev pub ReadsFile : Answers → Around → List Found → List ℕ → Reading → Type 0
+ReadsFile answers a found name (Refused answer) =
+    answers.says name (Err answer)
+    ⊎ ((t : Tables) × answers.says name (Ok t) × (meant a found t.name ≡ None)
+    × ((answers.sound name t false × (answer ≡ 11)) ⊎ (answers.sound name t true × (a.free ≤ length found) × (answer ≡ 0))))
+ReadsFile answers a found name (Meant referent) = (t : Tables) × answers.says name (Ok t) × (meant a found t.name ≡ Some referent)
+ReadsFile answers a found name (Read read) =
+    answers.says name (Ok read.tables) × (meant a found read.tables.name ≡ None) × answers.sound name read.tables true × answers.holds name read × (length found < a.free)
+
+-- The closure that a reference leaves which nothing there means; a file that is refused gives 20, want of a handle 0.
+abbrev pub follow : Closure → ℕ → List ℕ → Reading → Result Closure ℕ
+follow closure place name (Refused answer) = Err (if answer == 0 then 0 else 20)
+follow closure place name (Meant referent) = Ok (with_bound closure place referent)
+follow closure place name (Read read) = Ok (with_bound (with_found closure (dll name) read) place (New (length closure.found)))
+
+-- That many references are followed, each by what is there or by what its file says then, and none is left; or the last is refused.
+abbrev pub ClosesFrom : Answers → Around → ℕ → Closure → Result Closure ℕ → Type 0
+ClosesFrom answers a zero closure outcome = (closure.pending ≡ []) × (outcome ≡ Ok closure)
+ClosesFrom answers a (suc n) closure outcome =
+    (place : ℕ) × (name : List ℕ) × (rest : List (ℕ × List ℕ)) × (closure.pending ≡ (place, name) ∷ rest)
+    × MatchOption (meant a closure.found name)
+    ((r : Reading) × ReadsFile answers a closure.found (dll name) r
+    × MatchResult (follow (record closure { pending = rest }) place name r) (λ next. ClosesFrom answers a n next outcome) (λ number. outcome ≡ Err number))
+    (λ referent. ClosesFrom answers a n (with_bound (record closure { pending = rest }) place referent) outcome)
+
+-- A load by the file that it opens. When the records of new modules are bound, one of their files may read otherwise, or not at all: then it is
+-- the same world.
+abbrev pub LoadsFileFrom : Ending → Answers → Bool → LoadingWorld → List ℕ → Reading → Answer → LoadingWorld → Type 0
+LoadsFileFrom ends answers is_load_module old file (Refused number) answer new = Refuses old number answer new
+LoadsFileFrom ends answers is_load_module old file (Meant (There handle)) answer new = (answer, new) ≡ used_again is_load_module old handle (finmap.get old.modules handle)
+LoadsFileFrom ends answers is_load_module old file (Meant (New place)) answer new = ⊥
+LoadsFileFrom ends answers is_load_module old file (Read read) answer new =
+    (count : ℕ) × (outcome : Result Closure ℕ) × ClosesFrom answers (around old) count (begun file read) outcome
+    × MatchResult outcome
+    (λ closure. LoadsNew (GivesFrom ends answers) old closure answer new ⊎ ((place : ℕ) × (fault : FetchFault) × answers.fails fault × (answer ≡ refusal_of place fault) × (new ≡ old)))
+    (λ number. Refuses old number answer new)
+
+-- the store may fail while files are read
+abbrev pub LoadsFrom : Ending → Answers → Bool → LoadingWorld → List ℕ → Answer → LoadingWorld → Type 0
+LoadsFrom ends answers is_load_module old file answer new =
+    (answers.fails Store × (answer ≡ StoreFails) × (new ≡ old))
+    ⊎ ((r : Reading) × ReadsFile answers (around old) [] file r × LoadsFileFrom ends answers is_load_module old file r answer new)
+
+-- One step by the answers that it got. What a family's definition says is of worlds with one count of failures.
+pub record StepFrom (ends : Ending) (answers : Answers) (old : LoadingWorld) (command : LoadingCommand) (reply : Reply) (new : LoadingWorld) : Type 0 where
+  pub counted : old.failures ≤ new.failures
+  pub files : new.files ≡ old.files
+  pub step : FamilyStep (FetchesFrom ends answers) (LoadsFrom ends answers) old command reply (record new { failures = old.failures })
+
+-- The answers of a store.
+
+-- what a file says, or the number that refuses it
+abbrev pub said_by : Saying → Option (List ℕ) → Result ModuleFile ℕ
+said_by says None = Err 2
+said_by says (Some bytes) = says bytes
+
+-- a number that refuses a file: 2 where there is none, 11 to 14 where it isn't accepted
+abbrev pub RefusesFile : ℕ → Type 0
+RefusesFile number = (number ≡ 2) ⊎ ((11 ≤ number) × (number ≤ 14))
+
+-- it has these tables, or this number refuses it
+abbrev pub HasTables : Result ModuleFile ℕ → Result Tables ℕ → Type 0
+HasTables (Ok read) (Ok t) = read.tables ≡ t
+HasTables (Err m) (Err n) = m ≡ n
+HasTables other said = ⊥
+
+-- why bytes can't be read: the store's device failed, and the count rose; or, where the store isn't honest, the file isn't what it was
+abbrev pub MayFail : (honest : Type 0) → (before after : ℕ) → FetchFault → Type 0
+MayFail honest before after fault = (is_of_read fault ≡ true) × (fault ≡ Store → before < after) × (honest → fault ≡ Store)
+
+-- Whatever the store: numbers that refuse files, files of modules, bytes of the right size. Where it is honest: what its files say.
+abbrev pub told : (honest : Type 0) → Format → (files : List (List ℕ × List ℕ)) → (before after : ℕ) → Answers
+told honest format files before after = record {
+  says = λ name said. MatchResult said (λ t. Unit {0}) RefusesFile × (honest → HasTables (said_by format.says (file_of files name)) said);
+  sound = λ name t b. honest → MatchResult (said_by format.says (file_of files name)) (λ read. are_sound read ≡ b) (λ number. ⊥);
+  holds = λ name read. IsModuleFile read × (are_sound read ≡ true) × (honest → said_by format.says (file_of files name) ≡ Ok read);
+  again = λ held read. honest → read ≡ held;
+  gives = λ world slot bytes. honest → IsImage format world slot bytes;
+  fails = MayFail honest before after;
+}
+
+-- THE step over a store that is honest where the premise holds.
+abbrev pub StepOver : (honest : Type 0) → Format → LoadingWorld → LoadingCommand → Reply → LoadingWorld → Type 0
+StepOver honest format old command reply new = StepFrom Fills (told honest format old.files old.failures new.failures) old command reply new
+
+-- and one whose requests for bytes discard as few objects as they can
+abbrev pub FewestOver : (honest : Type 0) → Format → LoadingWorld → LoadingCommand → Reply → LoadingWorld → Type 0
+FewestOver honest format old command reply new = StepFrom FillsFewest (told honest format old.files old.failures new.failures) old command reply new
+
+-- a fetch and a load over a store, while whose count of failures went from one number to another
+abbrev pub FetchesOver : (honest : Type 0) → Format → (before after : ℕ) → LoadingWorld → ℕ → Option FetchFault → LoadingWorld → Type 0
+FetchesOver honest format before after old slot fault new = FetchesFrom Fills (told honest format old.files before after) old slot fault new
+
+abbrev pub LoadsOver : (honest : Type 0) → Format → (before after : ℕ) → Bool → LoadingWorld → List ℕ → Answer → LoadingWorld → Type 0
+LoadsOver honest format before after is_load_module old file answer new = LoadsFrom Fills (told honest format old.files before after) is_load_module old file answer new
