@@ -1,9 +1,9 @@
 -- Calls on modules and resources.
-use Rattle.w16_kernel.proofs.Common.{ne_format, load_command, Modules, LoadsFrom, StepOver, told, IsLater, FamilyStep, Bool, Handles, List, LoadingCommand, LoadingWorld, OfModules, arith, false, true, ℕ, ◌≡◌}
+use Rattle.w16_kernel.proofs.Common.{ne_format, load_command, Modules, FetchesFrom, LoadsFrom, StepOver, told, Fills, IsLater, FamilyStep, Bool, Handles, List, LoadingCommand, LoadingWorld, OfModules, arith, false, subst, sym, true, ℕ, ◌≡◌}
 use Rattle.w16_loading.specs.Families as families
 use Rattle.w16_loading.specs.Load.{Answer}
 use Rattle.w16_loading.specs.Replies as printed
-use Rattle.w16_loading.specs.Answers.{FillsFewest}
+use Rattle.w16_loading.specs.Answers.{Answers, FillsFewest}
 use Rattle.w16_machine.proofs.Stepped.{fetching, loading}
 use Rattle.w16_kernel.proofs.Fewest.{load_fills}
 
@@ -17,13 +17,17 @@ module _ {honest : Type 0} {old : LoadingWorld} {next : Handles} {loaded : Modul
   pub load_told : (is_load_module : Bool) {file : List ℕ} {answer : Answer} {reply : printed.Reply} → reply ≡ families.reply_of answer → IsLater old.files old.failures left count
       → ((rest : LoadingWorld) → LoadsFrom FillsFewest (told honest ne_format old.files old.failures count) is_load_module (record old { loads = rest.loads }) file answer (record old { handles = next; modules = loaded; loads = rest.loads }))
       → StepOver honest ne_format old (OfModules (load_command is_load_module file)) reply (record old { handles = next; modules = loaded; files = left; failures = count })
-  load_told is_load_module {file = file} {answer = answer} {reply = reply} e later over =
-      record { counted = later.counted; files = later.same; step = turn is_load_module (rw later.same (load_fills _ is_load_module _ _ _ _ (over old))) }
+  load_told is_load_module {file = file} {answer = answer} {reply = reply} e later over = record {
+    counted = later.counted;
+    files = later.same;
+    step = turn is_load_module (subst (λ (fs : List (List ℕ × List ℕ)). LoadsFrom Fills answers is_load_module old file answer (record old { handles = next; modules = loaded; files = fs })) (sym later.same)
+        (load_fills answers is_load_module old file answer (record old { handles = next; modules = loaded }) (over old)));
+  }
     where
-      after : LoadingWorld
-      after = record old { handles = next; modules = loaded; files = left }
+      answers : Answers
+      answers = told honest ne_format old.files old.failures count
 
-      turn : (b : Bool) → loading honest ne_format old (record after { failures = count }) b old file answer after
-          → FamilyStep (fetching honest ne_format old (record after { failures = count })) (loading honest ne_format old (record after { failures = count })) old (OfModules (load_command b file)) reply after
+      turn : (b : Bool) → LoadsFrom Fills answers b old file answer (record old { handles = next; modules = loaded; files = left })
+          → FamilyStep (FetchesFrom Fills answers) (LoadsFrom Fills answers) old (OfModules (load_command b file)) reply (record old { handles = next; modules = loaded; files = left })
       turn true f = (answer, e, f)
       turn false f = (answer, e, f)

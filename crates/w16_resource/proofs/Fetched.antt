@@ -1,7 +1,7 @@
 -- A resource is read from the file of its module: where it is there, and what a fetch of it is in a world of its files.
 use Rattle.w16_resource.proofs.Common.{listed_resources, nat_eq, resource_in, resource_given, stored_law, IsFileOf, ne_format, label_in, Bool, FetchFault, Handles, IfSome, IsObjectOf, IsSomeAnd, List, LoadingWorld, Module, None, Option, Some, [], ap}
-use Rattle.w16_resource.proofs.Common.{arith, cond, false, given, inr, length-map, map, nat_lt, not, numbered, option_map, owned_at, position, prefix_len, refl, rounded_size, slice_get, slice_get-map, subst, suc, sym, tables_in, unwrap_or, zero, ℕ}
-use Rattle.w16_resource.proofs.Common.{◌&&◌, ◌+◌, ◌-◌, ◌∙◌, ◌∷◌, ◌≡◌, file_of, FetchesFrom, FillsFewest, told, IsImage, Resource, IsLoad, IsLoadingWorld, IsOfFiles, with_handles, is_too_long, resource_at, Damaged, NoRoom, Store, size, Entry}
+use Rattle.w16_resource.proofs.Common.{arith, cond, false, inr, length-map, map, nat_lt, not, numbered, option_map, owned_at, position, prefix_len, refl, rounded_size, slice_get, slice_get-map, subst, suc, sym, tables_in, unwrap_or, zero, ℕ}
+use Rattle.w16_resource.proofs.Common.{◌&&◌, ◌+◌, ◌-◌, ◌∙◌, ◌∷◌, ◌≡◌, file_of, FetchesFrom, FillsFewest, told, IsImage, Resource, IsLoad, IsLoadingWorld, IsOfFiles, with_handles, is_too_long, resource_at, Damaged, NoRoom, Store, Entry}
 use Rattle.w16_resource.proofs.Common.{GivesSource, IsSourceAt, IsSourceOf, bytes_in, is_long}
 use Rattle.std.specs.FinMap as finmap
 use Rattle.w16_loading.specs.File as file

@@ -1,7 +1,7 @@
 -- What a load of a resource comes to.
-use Rattle.w16_resource.proofs.Common.{IsFileOf, ne_format, FetchFault, FinMap, Handles, HasNoSlot, IsFreeSlot, List, LoadingWorld, MatchOption, Modules, None, Option, Some, ap, false, inl, inr, inserted_here, left, nat_cmp, refl, rounded_size}
+use Rattle.w16_resource.proofs.Common.{IsFileOf, ne_format, FetchFault, FinMap, Handles, HasNoSlot, IsFreeSlot, List, LoadingWorld, MatchOption, Modules, None, Option, Some, ap, false, inl, inr, inserted_here, nat_cmp, refl, rounded_size}
 use Rattle.w16_resource.proofs.Common.{subst, sym, true, ℕ, ◌∙◌, ◌≡◌, ◌⊎◌, MatchBool, FetchesFrom, FillsFewest, told, Fetching, Resource, IsOfFiles, with_handles, Reply, Word, AnswersNone, LoadsNewResource, LoadsResource, is_too_long, load_of}
-use Rattle.w16_resource.proofs.Common.{loaded_again, resource_at, resource_outcome, with_resource, handle_of, size, Entry, loading_of, IsMadeOr, IsSourceAt, IsSourceOf, MakesNew, MakesOne, is_long, with_new}
+use Rattle.w16_resource.proofs.Common.{loaded_again, resource_at, resource_outcome, with_resource, handle_of, Entry, loading_of, IsMadeOr, IsSourceAt, IsSourceOf, MakesNew, MakesOne, is_long, with_new}
 use Rattle.std.specs.FinMap as finmap
 use Rattle.w16_loading.specs.declared.FetchFault.TheVariants as faults
 use Rattle.w16_loading.specs.Modules as loading

@@ -1,6 +1,6 @@
 -- A new object for a resource, which a fetch gives its bytes, or which goes again.
-use Rattle.w16_resource.proofs.Common.{LacksBytes, AreHandles, FetchFault, FinMap, Handles, Kind, List, Option, TakesOwned, false, given, left, nat_cmp, rounded_size, subst, sym, without_slot, ℕ, ◌/◌, ◌∙◌, ◌≡◌, outcome, owns, Resource, Reply, Word}
-use Rattle.w16_resource.proofs.Common.{unused_slot, handle_of, Owned, size, Entry, GivesSource, IsMadeOr, IsSourceOf, MakesOne, with_new}
+use Rattle.w16_resource.proofs.Common.{LacksBytes, AreHandles, FetchFault, FinMap, Handles, Kind, List, Option, TakesOwned, false, given, left, nat_cmp, rounded_size, subst, sym, without_slot, ℕ, ◌/◌, ◌∙◌, ◌≡◌, outcome, Resource, Reply, Word}
+use Rattle.w16_resource.proofs.Common.{unused_slot, handle_of, Owned, Entry, GivesSource, IsMadeOr, IsSourceOf, MakesOne, with_new}
 use Rattle.std.specs.FinMap as finmap
 use Rattle.w16_loading.specs.Modules as loading
 use Rattle.w16_resource.proofs.Taken.{here, named, taken, lacks_new, taken_back}

@@ -1,5 +1,5 @@
 -- Calls on resources as steps.
-use Rattle.w16_resource.proofs.Common.{resource_in, ne_format, counted, FetchFault, FinMap, Handles, List, LoadingWorld, Modules, None, Option, Some, arith, false, left, nat_cmp, refl, subst, sym, true, ℕ, ◌/◌, ◌≡◌, absent, bytes_at, outcome}
+use Rattle.w16_resource.proofs.Common.{resource_in, ne_format, FetchFault, FinMap, Handles, List, LoadingWorld, Modules, None, Option, Some, arith, false, left, nat_cmp, refl, subst, sym, true, ℕ, ◌/◌, ◌≡◌, absent, bytes_at, outcome}
 use Rattle.w16_resource.proofs.Common.{FetchesFrom, FewestOver, FillsFewest, told, OfResources, LoadResource, LockResource, Fetching, Resource, Reply, Dword, Word, LoadsResource, LocksResource, load_of, loaded_again, lock_outcome, resource_at}
 use Rattle.w16_resource.proofs.Common.{slot_of_resource, global_lock, Gives, Entry, IsLoadingOver, loading_of, IsSourceAt, MakesNew, is_long, IsLater}
 use Rattle.w16_model.specs.Calls as calls
