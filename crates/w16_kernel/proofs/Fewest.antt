@@ -1,6 +1,5 @@
 -- A step whose requests discard as few objects as they can is a step.
 use Rattle.w16_kernel.proofs.Common.{Err, None, Option, Some, MatchResult, Ok, Result, ne_format, FetchesFrom, LoadsFrom, StepOver, told, Fills, with_resource, Bool, FetchFault, Heap, List, LoadingCommand, LoadingWorld, inl, inr, length, ℕ, ◌≡◌, ◌⊎◌}
-use Rattle.w16_kernel.proofs.Common.{outcome}
 use Rattle.w16_loading.specs.Answers.{Answers, Ending, FewestOver, FillsFewest, GivesFrom, GivesRead, IsOwnedSize, LoadsFileFrom}
 use Rattle.w16_loading.specs.Closure.{Closure, Reading}
 use Rattle.w16_loading.specs.Closure.Reading.{Refused, Meant, Read}

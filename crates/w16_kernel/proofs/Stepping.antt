@@ -1,5 +1,5 @@
 -- A step over the kernel's parts, and the sweep after it, are one step of the machine.
-use Rattle.w16_kernel.proofs.Common.{ne_format, IsWorldOver, KernelStep, ReadsCode, Unswept, may_take_bytes, surviving_heaps, reply_of, code_reads_law, StepOver, told, Bool, Command, Dword, Heap, IsCommand, LoadingCommand, LoadingWorld, OfFar}
+use Rattle.w16_kernel.proofs.Common.{ne_format, IsWorldOver, KernelStep, ReadsCode, Unswept, may_take_bytes, surviving_heaps, reply_of, code_reads_law, StepOver, Bool, Command, Dword, Heap, IsCommand, LoadingCommand, LoadingWorld, OfFar}
 use Rattle.w16_kernel.proofs.Common.{OfHandles, OfLoading, OfLocals, OfModules, OfResizes, OfResources, Step, World, [], after_loading, false, false≢true, left_in, refl, sym, true, ℕ, ◌∷◌, ◌≡◌, ◌≤◌, heaps_law, handles_step, files_law, world_law}
 use Rattle.w16_kernel.proofs.Common.{step_may_take, promised_step, Promises, Moved}
 use Rattle.w16_loading.proofs.Requests.{requests_fewest_law}
