@@ -10,8 +10,8 @@ pub use Rattle.core.proofs.mem.Facts.{says_two}
 pub use Rattle.core.proofs.option.Made.{Some-of, none_of}
 pub use Rattle.w16_c.specs.Kinds.{AnswersDword, AnswersWord, IsBytes, IsDoneOrFault, IsDword, IsWord, IsWrite}
 pub use Rattle.w16_c.specs.Ownership.{clones, held_owns, machine_row}
-pub use Rattle.w16_kernel.proofs.Common.{KernelStep}
-pub use Rattle.w16_loading.proofs.Common.{AnyFetches, Fetching, GlobalDiscard, ResizeStep}
+pub use Rattle.w16_kernel.proofs.Common.{KernelStep, ne_format}
+pub use Rattle.w16_loading.proofs.Common.{Fetching, GlobalDiscard, ResizeStep}
 pub use Rattle.w16_loading.specs.Replies.Reply.{Walked}
 pub use Rattle.w16_loading.specs.declared.FetchFault.{FetchFault}
 pub use Rattle.w16_machine.proofs.Common.{Accesses, Answer, Bool, Command, DS, Done, Dword, Failed, FarAnswer, FarCommand, Fill, Format, GlobalAlloc, GlobalCompact, GlobalReAlloc, HandleCommand, HandleReplies, HandleStep, Handles, Heap, List, LoadingWorld}

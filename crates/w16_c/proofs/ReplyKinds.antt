@@ -3,8 +3,8 @@ use Rattle.w16_c.proofs.Common.{◌≡◌, ℕ, ◌+◌, Bool, true, false, Matc
 use Rattle.w16_c.proofs.Common.{part, repeated, Heap, bytes_at, after_free, after_lock, after_unlock, after_newest, after_oldest, after_touch, Handles, slot_of_handle, selector_of, selector_in, offset_in, far_pointer, owns}
 use Rattle.w16_c.proofs.Common.{refuses_write, length-part, HandleCommand, Answer, HandleStep, global_lock, handle_or_0, GlobalAlloc, GlobalFree, GlobalLock, GlobalUnlock, GlobalSize}
 use Rattle.w16_c.proofs.Common.{GlobalFlags, GlobalHandle, GetSelectorBase, GetSelectorLimit, GlobalCompact, GlobalLRUNewest, GlobalLRUOldest, Moved, FarAnswer, Reached, reached, far_fault, far_slot, Read, Write, Fill}
-use Rattle.w16_c.proofs.Common.{FetchFault, AnyFetches, Fetching, Accesses, gives, needs_fetch, reply_of_far, LoadingWorld, OfHandles, OfResizes, OfFar, ResizeCommand, GlobalReAlloc, GlobalDiscard, Reply, HandleReplies}
-use Rattle.w16_c.proofs.Common.{ResizeReplies, Word, Dword, Done, Failed, Walked, LocalCommand, LocalStep, DS, World, Command, OfLoading, OfLocals, KernelStep, AnswersWord, AnswersDword, IsWrite, IsWord, IsDword, IsDoneOrFault}
+use Rattle.w16_c.proofs.Common.{FetchFault, Fetching, Accesses, gives, needs_fetch, reply_of_far, LoadingWorld, OfHandles, OfResizes, OfFar, ResizeCommand, GlobalReAlloc, GlobalDiscard, Reply, HandleReplies}
+use Rattle.w16_c.proofs.Common.{ResizeReplies, Word, Dword, Done, Failed, Walked, LocalCommand, LocalStep, DS, World, Command, OfLoading, OfLocals, KernelStep, ne_format, AnswersWord, AnswersDword, IsWrite, IsWord, IsDword, IsDoneOrFault}
 use Rattle.w16_c.proofs.Common.{IsBytes}
 use Rattle.std.proofs.Common.{◌⊎◌, ◌∙◌, ap, inl, inr}
 use Rattle.w16_loading.specs.Replies.Reply.{Bytes, Fault}
@@ -18,6 +18,7 @@ use Rattle.w16_loading.specs.Load.Answer.{Says, StoreFails}
 use Rattle.w16_loading.specs.Resource.{AnswersNone, LoadsNewResource, LoadsResource, LocksResource, is_too_long, load_of, lock_outcome, reply_of_call, resource_at, resource_outcome, slot_of_resource}
 use Rattle.w16_loading.specs.declared.FetchFault.TheVariants as fetch
 use Rattle.w16_loading.specs.declared.TheConstants.{MOST_USES}
+use Rattle.w16_machine.proofs.Stepped.{fetching}
 use Rattle.w16_model.specs.Handles.{IsFreeSlot}
 use Rattle.w16_c.specs.Kinds.{FetchesWord, IsOrFailure}
 use Rattle.w16_c.specs.Makes.{FarCalls, FetchCalls, IsRead, IsStatus, Makes, Stays, Tells}
@@ -110,25 +111,29 @@ module _ (old new : World) where
   local_word command reply k h = absurd h
 
   pub word_reply : (command : Command) (reply : Reply) → AnswersWord command → KernelStep (Unit {0}) old command reply new → IsWord reply
-  word_reply (OfLoading (OfHandles command)) reply k step = let h = step.step.0.any.step in handles_word old.loading.handles h.0 command reply k h.1
-  word_reply (OfLoading (OfResizes command)) reply k step = let h = step.step.0.any.step in resizes_word old.loading.handles h.0 command reply h.1
+  word_reply (OfLoading (OfHandles command)) reply k step = let h = step.step.0.step in handles_word old.loading.handles h.0 command reply k h.1
+  word_reply (OfLoading (OfResizes command)) reply k step = let h = step.step.0.step in resizes_word old.loading.handles h.0 command reply h.1
   word_reply (OfLocals command) reply k step = local_word command reply k step.step
-  word_reply (OfLoading (OfModules (Builtin name))) reply k step = rw step.step.0.any.step.1 tt
-  word_reply (OfLoading (OfModules (FreeLibrary handle))) reply k step = rw step.step.0.any.step.1 tt
-  word_reply (OfLoading (OfModules (FreeModule handle))) reply k step = rw step.step.0.any.step.1 tt
-  word_reply (OfLoading (OfModules (GetModuleHandle name))) reply k step = rw step.step.0.any.step.0 tt
-  word_reply (OfLoading (OfModules (GetModuleUsage handle))) reply k step = rw step.step.0.any.step.0 tt
-  word_reply (OfLoading (OfResources (FindResource handle name kind))) reply k step = rw step.step.0.any.step.0 tt
-  word_reply (OfLoading (OfResources (FreeResource handle))) reply k step = rw step.step.0.any.step.0 tt
+  word_reply (OfLoading (OfModules (Builtin name))) reply k step = rw step.step.0.step.1 tt
+  word_reply (OfLoading (OfModules (FreeLibrary handle))) reply k step = rw step.step.0.step.1 tt
+  word_reply (OfLoading (OfModules (FreeModule handle))) reply k step = rw step.step.0.step.1 tt
+  word_reply (OfLoading (OfModules (GetModuleHandle name))) reply k step = rw step.step.0.step.0 tt
+  word_reply (OfLoading (OfModules (GetModuleUsage handle))) reply k step = rw step.step.0.step.0 tt
+  word_reply (OfLoading (OfResources (FindResource handle name kind))) reply k step = rw step.step.0.step.0 tt
+  word_reply (OfLoading (OfResources (FreeResource handle))) reply k step = rw step.step.0.step.0 tt
   word_reply command reply k step = absurd k
 
   pub dword_reply : (command : Command) (reply : Reply) → AnswersDword command → KernelStep (Unit {0}) old command reply new → IsDword reply
-  dword_reply (OfLoading (OfHandles command)) reply k step = let h = step.step.0.any.step in handles_dword old.loading.handles h.0 command reply k h.1
-  dword_reply (OfLoading (OfModules (GetProcAddress handle label))) reply k step = rw step.step.0.any.step.0 tt
-  dword_reply (OfLoading (OfResources (SizeofResource handle place))) reply k step = rw step.step.0.any.step.0 tt
+  dword_reply (OfLoading (OfHandles command)) reply k step = let h = step.step.0.step in handles_dword old.loading.handles h.0 command reply k h.1
+  dword_reply (OfLoading (OfModules (GetProcAddress handle label))) reply k step = rw step.step.0.step.0 tt
+  dword_reply (OfLoading (OfResources (SizeofResource handle place))) reply k step = rw step.step.0.step.0 tt
   dword_reply command reply k step = absurd k
 
 -- Loads, and locks of resources.
+
+-- the fetches of a step
+abbrev over : World → World → Fetching
+over old new = fetching (Unit {0}) ne_format old.loading new.loading
 
 load_answer : (answer : load.Answer) → IsOrFailure IsWord (families.reply_of answer)
 load_answer (Says n) = tt
@@ -142,7 +147,7 @@ by_option : {A : Type 0} (p : Option A) (N : Type 0) (S : A → Type 0) (P : Typ
 by_option None N S P f g h = f h
 by_option (Some x) N S P f g h = g x h
 
-module _ (old : LoadingWorld) (reply : Reply) (new : LoadingWorld) where
+module _ (F : Fetching) (old : LoadingWorld) (reply : Reply) (new : LoadingWorld) where
   -- the reply of an outcome has the kind that the outcome has
   of_outcome : (P : Reply → Type 0) (x : Reply × LoadingWorld) → (reply, new) ≡ x → P x.0 → P reply
   of_outcome P x e h = subst P (sym (ap (λ p. p.0) e)) h
@@ -155,12 +160,12 @@ module _ (old : LoadingWorld) (reply : Reply) (new : LoadingWorld) where
   outcome_word (Some fetch.NoRoom) handle next = tt
   outcome_word (Some fault) handle next = tt
 
-  load_word : (handle place : ℕ) → LoadsResource AnyFetches old handle place reply new → IsOrFailure IsWord reply
+  load_word : (handle place : ℕ) → LoadsResource F old handle place reply new → IsOrFailure IsWord reply
   load_word handle place =
       by_option (resource_at old handle place) _ _ _ none_word (λ r. either (is_too_long r) _ _ _ none_word (by_option (load_of old handle place) _ _ _ (fresh r)
       (λ x e. of_outcome (IsOrFailure IsWord) _ e (if_both (IsOrFailure IsWord) (nat_lt x.1.loads MOST_USES) _ _ tt tt))))
     where
-      fresh : (r : Resource) → (((slot : ℕ) → IsFreeSlot old.handles slot → ⊥) × AnswersNone old reply new) ⊎ LoadsNewResource AnyFetches old handle place r reply new → IsOrFailure IsWord reply
+      fresh : (r : Resource) → (((slot : ℕ) → IsFreeSlot old.handles slot → ⊥) × AnswersNone old reply new) ⊎ LoadsNewResource F old handle place r reply new → IsOrFailure IsWord reply
       fresh r (inl h) = none_word h.1
       fresh r (inr l) = of_outcome (IsOrFailure IsWord) _ l.outcome (outcome_word l.fault _ l.next)
 
@@ -173,20 +178,20 @@ module _ (old : LoadingWorld) (reply : Reply) (new : LoadingWorld) where
   outcome_dword (Some fetch.NoRoom) handle next = tt
   outcome_dword (Some fault) handle next = tt
 
-  locked_dword : (handle : ℕ) → LocksResource AnyFetches old handle reply new → IsOrFailure IsDword reply
+  locked_dword : (handle : ℕ) → LocksResource F old handle reply new → IsOrFailure IsDword reply
   locked_dword handle =
       by_option (slot_of_resource old handle) _ _ _ (λ h. subst (IsOrFailure IsDword) (sym h.0) tt) (λ x. by_option (bytes_at old.handles.heap x.0) _ _ _
       (λ h. of_outcome (IsOrFailure IsDword) _ h.3 (outcome_dword h.0 handle h.1)) (λ b e. of_outcome (IsOrFailure IsDword) _ e (told_dword (global_lock old.handles handle).0 (lock_dword old.handles handle))))
 
 module _ (old new : World) where
   pub fetched_reply : (command : Command) (reply : Reply) → FetchesWord command → KernelStep (Unit {0}) old command reply new → IsOrFailure IsWord reply
-  fetched_reply (OfLoading (OfModules (LoadModule file))) reply k step = let h = step.step.0.any.step in rw h.1 (load_answer h.0)
-  fetched_reply (OfLoading (OfModules (LoadLibrary file))) reply k step = let h = step.step.0.any.step in rw h.1 (load_answer h.0)
-  fetched_reply (OfLoading (OfResources (LoadResource handle place))) reply k step = load_word old.loading reply _ handle place step.step.0.any.step
+  fetched_reply (OfLoading (OfModules (LoadModule file))) reply k step = let h = step.step.0.step in rw h.1 (load_answer h.0)
+  fetched_reply (OfLoading (OfModules (LoadLibrary file))) reply k step = let h = step.step.0.step in rw h.1 (load_answer h.0)
+  fetched_reply (OfLoading (OfResources (LoadResource handle place))) reply k step = load_word (over old new) old.loading reply _ handle place step.step.0.step
   fetched_reply command reply k step = absurd k
 
   pub locked_reply : (handle : ℕ) (reply : Reply) → KernelStep (Unit {0}) old (OfLoading (OfResources (LockResource handle))) reply new → IsOrFailure IsDword reply
-  locked_reply handle reply step = locked_dword old.loading reply _ handle step.step.0.any.step
+  locked_reply handle reply step = locked_dword (over old new) old.loading reply _ handle step.step.0.step
 
 -- what is told of such a reply is what the call answers
 pub fetches : (made : ℕ → Reply) (old : Held) (command : Command) (status : ℕ) (reply : Reply) (before answer : ℕ) (new : Held) → Tells made status reply before answer → Makes old command reply new
@@ -235,13 +240,13 @@ module _ (old new : World) where
   local_done command reply k h = absurd k
 
   pub write_reply : (command : Command) (reply : Reply) → IsWrite command → KernelStep (Unit {0}) old command reply new → IsDoneOrFault reply
-  write_reply (OfLoading (OfFar (Write pointer bytes))) reply k step = accessed IsDoneOrFault AnyFetches _ _ _ _ _ (λ w. write_done w.handles (selector_in pointer) (offset_in pointer) bytes) (λ f. tt) step.step.0.any.step
-  write_reply (OfLoading (OfFar (Fill pointer count byte))) reply k step = accessed IsDoneOrFault AnyFetches _ _ _ _ _ (λ w. write_done w.handles (selector_in pointer) (offset_in pointer) (repeated count byte)) (λ f. tt) step.step.0.any.step
+  write_reply (OfLoading (OfFar (Write pointer bytes))) reply k step = accessed IsDoneOrFault (over old new) _ _ _ _ _ (λ w. write_done w.handles (selector_in pointer) (offset_in pointer) bytes) (λ f. tt) step.step.0.step
+  write_reply (OfLoading (OfFar (Fill pointer count byte))) reply k step = accessed IsDoneOrFault (over old new) _ _ _ _ _ (λ w. write_done w.handles (selector_in pointer) (offset_in pointer) (repeated count byte)) (λ f. tt) step.step.0.step
   write_reply (OfLocals command) reply k step = local_done command reply k step.step
   write_reply command reply k step = absurd k
 
   pub read_reply : (pointer count : ℕ) (reply : Reply) → KernelStep (Unit {0}) old (OfLoading (OfFar (Read pointer count))) reply new → IsBytes count reply
-  read_reply pointer count reply step = accessed (IsBytes count) AnyFetches _ old.loading _ reply _ (λ w. read_bytes w.handles (selector_in pointer) (offset_in pointer) count) (λ f. tt) step.step.0.any.step
+  read_reply pointer count reply step = accessed (IsBytes count) (over old new) _ old.loading _ reply _ (λ w. read_bytes w.handles (selector_in pointer) (offset_in pointer) count) (λ f. tt) step.step.0.step
 
 -- what was copied of a reply is what the access answers
 pub read_calls : (old : Held) (command : Command) (status : ℕ) (reply : Reply) (before after : List ℕ) (new : Held) → IsRead status reply before after → Makes old command reply new → FarCalls old command status (Bytes after) new

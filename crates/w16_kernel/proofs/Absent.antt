@@ -1,15 +1,15 @@
 -- An access that met an object without bytes: which object that is, and its handle.
-use Rattle.w16_kernel.proofs.Common.{◌≡◌, ℕ, ◌+◌, ◌/◌, ◌%◌, ◌<◌, true, length, Option, Some, None, is_some, option_map, unwrap_or, refl, sym, ap, ◌∙◌, arith, false≢true, Kind, Fixed, Moveable, Discardable}
-use Rattle.w16_kernel.proofs.Common.{Attributes, Object, Handles, AreHandles, Part, slots_at, slots_none, reach_law, bytes_at, dword_of, far_slot, handle_of, object_at, offset_in, selector_of, is_owned, global_handle}
-use Rattle.w16_kernel.proofs.Common.{LacksBytes, IsAbsent, names_law, Bool, false, cond, List, FarAnswer, FarFault, far_fault, FarCommand, FarReplies, Read, Write, Fill, data_write, repeated, refuses_write, selector_in}
+use Rattle.w16_kernel.proofs.Common.{None, Option, Some, ◌%◌, ◌+◌, ◌/◌, IsAbsent, LacksBytes, handle_of, AreHandles, Bool, Discardable, FarAnswer, FarCommand, FarFault, FarReplies, Fill, Fixed, Handles, Kind, List, Moveable, Object, Read, Write, ap}
+use Rattle.w16_kernel.proofs.Common.{arith, bytes_at, cond, data_write, false, false≢true, far_fault, far_slot, is_some, length, object_at, offset_in, option_map, refl, refuses_write, selector_in, sym, true, unwrap_or, ℕ, ◌<◌, ◌∙◌, ◌≡◌, repeated}
+use Rattle.w16_kernel.proofs.Common.{names_law, reach_law, slots_none, global_handle, Part, dword_of, slots_at, selector_of, is_owned, Attributes}
 use Rattle.std.specs.FinMap as finmap
 use Rattle.w16_model.specs.declared.FarFault.TheVariants.{BadSelector, ReadOnly, NotPresent, Limit}
+use Rattle.w16_model.specs.Effects.{pointer_in}
 use Rattle.w16_model.specs.Far as far
 use Rattle.w16_model.specs.Far.{far_at, is_past}
 use Rattle.w16_model.specs.Far.FarAnswer.{Bytes, Done, Fault}
 use Rattle.w16_model.specs.Handles.{part_of_selector}
 use Rattle.w16_loading.specs.Replies as replies
-use Rattle.w16_kernel.proofs.FarSteps.{selector_of_command}
 
 -- An access whose fault is that its object has no bytes: its selector leads to one without.
 module _ (handles : Handles) (selector : ℕ) where
@@ -50,10 +50,10 @@ module _ (handles : Handles) (selector : ℕ) where
       turn true e = cc
       turn false e = by_answer offset (length slice) _ (λ e. cc) (far_fault handles selector offset (length slice)) refl e
 
-pub met_absent : (old next : Handles) → next ≡ old → (selector : ℕ) (command : FarCommand) → selector ≡ selector_of_command command → (fault : FarFault) → FarReplies old command (replies.Reply.Fault fault) next → fault ≡ NotPresent → IsAbsent next selector
+pub met_absent : (old next : Handles) → next ≡ old → (selector : ℕ) (command : FarCommand) → selector ≡ selector_in (pointer_in command) → (fault : FarFault) → FarReplies old command (replies.Reply.Fault fault) next → fault ≡ NotPresent → IsAbsent next selector
 met_absent old next same selector command named fault s e = rw (same, named) (here command s)
   where
-    here : (command : FarCommand) → FarReplies old command (replies.Reply.Fault fault) next → IsAbsent old (selector_of_command command)
+    here : (command : FarCommand) → FarReplies old command (replies.Reply.Fault fault) next → IsAbsent old (selector_in (pointer_in command))
     here (Read pointer count) s = read_absent old (selector_in pointer) (offset_in pointer) count (ap Fault (sym e) ∙ s.0)
     here (Write pointer bytes) s = write_absent old (selector_in pointer) (offset_in pointer) bytes (ap Fault (sym e) ∙ s.0)
     here (Fill pointer count byte) s = write_absent old (selector_in pointer) (offset_in pointer) (repeated count byte) (ap Fault (sym e) ∙ s.0)

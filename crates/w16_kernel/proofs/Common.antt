@@ -1,51 +1,47 @@
 -- The names of definitions and of lower crates that the proofs of this crate cite, passed on from one place. Declares nothing.
-pub use Rattle.std.proofs.Common.{Err, None, Option, Some, filter, if◌then◌else◌, nat_le, rules, vec_capacity, vec_len, ◌*◌, ◌==◌}
+pub use Rattle.std.proofs.Common.{Err, None, Option, Some, filter, if◌then◌else◌, nat_le, rules, vec_capacity, vec_len, ◌==◌}
 pub use Rattle.std.proofs.lemmas.List.{map_push}
-pub use Rattle.std.proofs.lemmas.List.Elements.{All-from_get_or}
 pub use Rattle.std.proofs.lemmas.List.{length-map, length-take-le, take_all}
 pub use Rattle.std.proofs.lemmas.Option.{slice_get_within}
 pub use Rattle.std.specs.List.{slice_get}
-pub use Rattle.std.specs.Prelude.{IfNone, IsSome, MatchBool, MatchOption, Ok, Result, nat_lt, ◌%◌, ◌+◌, ◌-◌, ◌/◌, ◌≢◌}
-pub use Rattle.w16_format.proofs.Files.{is_format}
+pub use Rattle.std.specs.Prelude.{IfNone, MatchBool, MatchOption, MatchResult, Ok, Result, ◌%◌, ◌+◌, ◌-◌, ◌/◌, ◌≢◌}
 pub use Rattle.w16_format.specs.Ne.{ne_format}
 pub use Rattle.w16_format.specs.Tables.{segment_in, tables_in}
 pub use Rattle.w16_global.proofs.Common.{Global, common_steps, cut_on, take_more}
-pub use Rattle.w16_kernel.specs.Fetching.{IsAbsent, IsSourceFor, Refetches}
-pub use Rattle.w16_resource.specs.Parts.{IsLoadingOver, StoreFetch, loading_of, word_in, dword_in}
+pub use Rattle.w16_kernel.specs.Fetching.{IsAbsent, IsSourceFor, KernelFetch, Refetches}
+pub use Rattle.w16_resource.specs.Parts.{IsLoadingOver, loading_of}
 pub use Rattle.w16_kernel.specs.Parts.{IsWorldOver, KernelStep, OthersStay, ReadsCode, Unswept, discardable_beside, may_take_bytes, object_slot, surviving_heaps, word_of, world_of}
 pub use Rattle.w16_kernel.specs.Runs.{TakesMemory, answer_of, command_of, label_of, load_command, reply_of, write_of}
 pub use Rattle.w16_kernel.specs.Stops.{StopsEarly}
 pub use Rattle.w16_kernel.specs.declared.call.Answer.{Answer}
 pub use Rattle.w16_kernel.specs.declared.call.Call.{Call}
 pub use Rattle.w16_kernel.specs.declared.call.Call.TheVariants.{GlobalAlloc}
-pub use Rattle.w16_loader.proofs.AnyLoads.{as_any}
-pub use Rattle.w16_loader.proofs.Common.{IsFetchable, IsSourceOf, LacksBytes, fault_in, in_parts, in_store, in_world}
+pub use Rattle.w16_loader.proofs.Common.{IsFetchable, IsSourceOf, LacksBytes}
 pub use Rattle.w16_loader.specs.Registry.{owner_in}
-pub use Rattle.w16_loading.proofs.AnySteps.{reads_no_files_law}
 pub use Rattle.w16_loading.proofs.CodeReads.{code_reads_law}
-pub use Rattle.w16_loading.proofs.Common.{IsObjectOf, IsSegmentOf, Load, Module, Modules, Segment, Tables, handle_of, is_not_present, map, module_at, not, rounded_size, segment_among, slice_get-get_or, ◌++◌}
-pub use Rattle.w16_loading.proofs.Owners.{loaded_of, of_segment, owner_law, resource_owned, segment_owned}
-pub use Rattle.w16_loading.specs.AnyStore.{AnyFetches, AnyLoads, AnyLoadsBy}
-pub use Rattle.w16_loading.specs.Fewest.{GivesAnyFewest}
+pub use Rattle.w16_loading.proofs.Common.{IsSegmentOf, Module, Modules, Segment, Tables, handle_of, map, module_at, not, segment_among, slice_get-get_or, ◌++◌}
+pub use Rattle.w16_loading.proofs.Owners.{of_segment, owner_law, segment_owned}
+pub use Rattle.w16_loading.specs.AnyStore.{AnyFetches}
+pub use Rattle.w16_loading.specs.Answers.{FetchesFrom, LoadsFrom, StepOver, told}
+pub use Rattle.w16_loading.specs.Fill.{Fills}
+pub use Rattle.w16_loading.specs.Resource.{with_resource}
+pub use Rattle.w16_store.specs.Later.{IsLater}
 pub use Rattle.w16_loading.specs.Families.{FamilyStep}
-pub use Rattle.w16_loading.specs.Fetch.{Fetching}
-pub use Rattle.w16_loading.specs.Load.Answer.{StoreFails}
-pub use Rattle.w16_loading.specs.Owner.{Owner, owner_of}
-pub use Rattle.w16_loading.specs.Release.{without_objects}
+pub use Rattle.w16_loading.specs.Fetch.{Fetches}
+pub use Rattle.w16_loading.specs.Owner.{owner_of}
 pub use Rattle.w16_local.proofs.Beginning.{on_any}
-pub use Rattle.w16_local.proofs.Common.{with_parts}
-pub use Rattle.w16_machine.proofs.Common.{Accesses, AnyStep, AreHandles, Bool, Command, Discardable, Dword, Event, Failed, FarAnswer, FarCommand, FarFault, FarReplies, FetchFault, Fetches, Fill, FinMap, Fixed, Format}
-pub use Rattle.w16_machine.proofs.Common.{Handles, Heap, IfSome, IsCommand, IsHeap, IsLoadingWorld, IsLocalIn, IsOfFiles, IsSomeAnd, IsWorld, Kind, List, LoadingCommand, LoadingStep, LoadingWorld, Loads, Moveable, Object}
-pub use Rattle.w16_machine.proofs.Common.{OfFar, OfHandles, OfLoading, OfLocals, OfModules, OfResizes, OfResources, OnHandles, Read, Reply, Run, Step, Store, StoreStep, Table, Word, World, Write, [], after_loading, answer_in, ap}
-pub use Rattle.w16_machine.proofs.Common.{arith, bytes_at, bytes_in, call_may_take, cond, data_write, false, false≢true, far_bytes, far_fault, far_read, far_reads_file, far_slot, far_write, get-empty, get-retain_keys, get_or, gives}
-pub use Rattle.w16_machine.proofs.Common.{has_range, inl, inr, is_in_order, is_member, is_some, left_in, length, nat_cmp, nat_cmp-IsAntisymmetric, nat_cmp_total, needs_fetch, object_at, offset_in, option_map, owned_at, part}
-pub use Rattle.w16_machine.proofs.Common.{reads_files, refl, refuses_write, reply_of_far, same_map, selector_in, slot_of_selector, subst, sym, take, taken_here, taken_other, true, unwrap_or, with_handles, ℕ, ◌&&◌, ◌<◌, ◌∙◌, ◌∷◌}
+pub use Rattle.w16_machine.proofs.Common.{AreHandles, Bool, Command, Discardable, Dword, Event, Failed, FarAnswer, FarCommand, FarFault, FarReplies, FetchFault, Fill, FinMap, Fixed}
+pub use Rattle.w16_machine.proofs.Common.{Handles, Heap, IfSome, IsCommand, IsLoadingWorld, IsLocalIn, IsSomeAnd, Kind, List, LoadingCommand, LoadingWorld, Moveable, Object}
+pub use Rattle.w16_machine.proofs.Common.{OfFar, OfHandles, OfLoading, OfLocals, OfModules, OfResizes, OfResources, Read, Reply, Run, Step, Table, Word, World, Write, [], after_loading, answer_in, ap}
+pub use Rattle.w16_machine.proofs.Common.{arith, bytes_at, bytes_in, cond, data_write, false, false≢true, far_fault, far_slot, get-retain_keys, get_or, gives}
+pub use Rattle.w16_machine.proofs.Common.{has_range, inl, inr, is_in_order, is_member, is_some, left_in, length, nat_cmp, nat_cmp-IsAntisymmetric, nat_cmp_total, needs_fetch, object_at, offset_in, option_map, owned_at}
+pub use Rattle.w16_machine.proofs.Common.{refl, refuses_write, reply_of_far, same_map, selector_in, subst, sym, take, taken_here, taken_other, true, unwrap_or, with_handles, ℕ, ◌&&◌, ◌<◌, ◌∙◌, ◌∷◌}
 pub use Rattle.w16_machine.proofs.Common.{◌≡◌, ◌≤◌, ◌⊎◌}
 unfoldable pub use Rattle.w16_machine.proofs.Common.{repeated}
 pub use Rattle.w16_machine.proofs.Runs.{run_append}
 pub use Rattle.w16_machine.proofs.LocalStays.{heaps_law}
 pub use Rattle.w16_machine.proofs.Stepped.{handles_step}
-pub use Rattle.w16_machine.proofs.Worlds.{files_law, world_kept}
+pub use Rattle.w16_machine.proofs.Worlds.{files_law, world_law}
 pub use Rattle.w16_machine.specs.LocalStays.{step_may_take}
 pub use Rattle.w16_machine.specs.Machine.{IsSame, Steps}
 pub use Rattle.w16_writes.proofs.Promises.{promised_append, promised_none, promised_step}
@@ -56,21 +52,19 @@ pub use Rattle.w16_model.proofs.Naming.{names_law}
 pub use Rattle.w16_model.proofs.Runs.{numbered, reach_law, slots_none}
 pub use Rattle.w16_model.specs.Calls.{alloc_options, global_handle, kind_asked}
 pub use Rattle.w16_model.specs.Calls.HandleCommand.{GlobalCompact, GlobalFree, Moved}
-pub use Rattle.w16_model.specs.Handles.{Part, dword_of, reached, slots_at, selector_of, slot_of_handle}
+pub use Rattle.w16_model.specs.Handles.{Part, dword_of, slots_at, selector_of, slot_of_handle}
 pub use Rattle.w16_model.specs.Owned.{is_owned}
-pub use Rattle.w16_model.specs.declared.Owned.{Owned}
 pub use Rattle.std.proofs.lemmas.Bool.{cases_eq, le-leb}
 pub use Rattle.std.proofs.lemmas.List.Sums.{count_by-le-length, length-filter}
 pub use Rattle.w16_model.specs.Heap.{is_discardable}
 pub use Rattle.w16_model.specs.Changes.{without}
-pub use Rattle.w16_model.specs.Resizes.{realloc_options}
 pub use Rattle.w16_model.specs.Outcomes.{CallStep, Outcome}
 pub use Rattle.w16_model.specs.Outcomes.Outcome.{IsAllocated, IsCompacted, IsDiscarded, IsEntered, IsFreed, IsLocked, IsModified, IsNewest, IsOldest, IsResized, IsUnlocked, IsUnmoved}
-pub use Rattle.w16_model.specs.CallLaws.{IsAbout, IsKeptOrDiscarded, OnlyLeave, handle_in, may_change}
+pub use Rattle.w16_model.specs.CallLaws.{IsKeptOrDiscarded, OnlyLeave, handle_in, may_change}
 pub use Rattle.w16_model.proofs.CallOutcomes.{outcome}
 pub use Rattle.w16_loading.specs.Resizes.ResizeCommand.{GlobalDiscard, GlobalReAlloc}
 pub use Rattle.w16_model.specs.Outcomes.Call.{Calls, ReAllocs}
-pub use Rattle.w16_model.specs.declared.TheConstants.{GMEM_MOVEABLE, REACH}
+pub use Rattle.w16_model.specs.declared.TheConstants.{GMEM_MOVEABLE}
 pub use Rattle.w16_model.specs.declared.Attributes.{Attributes}
 pub use Rattle.w16_model.proofs.Bystanders.{bystanders_law}
 pub use Rattle.w16_model.proofs.CallOrders.{allocated, compacted, stays}

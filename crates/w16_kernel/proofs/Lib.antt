@@ -2,6 +2,7 @@ pub mod Absent
 pub mod Adding
 pub mod Common
 pub mod FarSteps
+pub mod Fewest
 pub mod Modules
 pub mod Refetching
 pub mod Running

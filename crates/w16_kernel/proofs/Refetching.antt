@@ -1,16 +1,17 @@
 -- What becomes of an access that met a fault: what the kernel fetches is the object that the access asked for.
-use Rattle.w16_kernel.proofs.Common.{◌≡◌, ℕ, ◌-◌, ◌/◌, ◌<◌, ◌≤◌, true, false, length, List, Option, Some, None, IfNone, IsSomeAnd, is_some, slice_get, refl, sym, ap, ◌∙◌, subst, arith, length-map, slice_get_within}
-use Rattle.w16_kernel.proofs.Common.{FarAnswer, FetchFault, Bool, Handles, far_slot, needs_fetch, owned_at, is_owned, LoadingWorld, Module, IsSegmentOf, IsLoadingWorld}
-use Rattle.w16_kernel.proofs.Common.{Segment, module_at, AnyFetches, Fetches, owner_of, segment_among, IsFetchable, IsSourceOf, owner_in, tables_in, ne_format}
-use Rattle.w16_kernel.proofs.Common.{IsLoadingOver, IsSourceFor, IsAbsent, StoreFetch, LacksBytes, owner_law, of_segment, segment_owned, global_handle, offset_in, segment_in}
-use Rattle.w16_kernel.proofs.Common.{Tables}
+use Rattle.w16_kernel.proofs.Common.{None, Option, Some, length-map, slice_get_within, slice_get, IfNone, ◌-◌, ◌/◌, ne_format, segment_in, tables_in, IsAbsent, IsSourceFor, KernelFetch, IsLoadingOver, IsFetchable, IsSourceOf, LacksBytes, owner_in}
+use Rattle.w16_kernel.proofs.Common.{IsSegmentOf, Module, Segment, Tables, module_at, segment_among, of_segment, owner_law, segment_owned, AnyFetches, FetchesFrom, told, IsLater, Fetches, owner_of, Bool, FarAnswer, FetchFault, Handles}
+use Rattle.w16_kernel.proofs.Common.{IsLoadingWorld, IsSomeAnd, List, LoadingWorld, ap, arith, false, far_slot, is_some, length, needs_fetch, offset_in, owned_at, refl, subst, sym, true, ℕ, ◌<◌, ◌∙◌, ◌≡◌, ◌≤◌, global_handle, is_owned, stays}
 use Rattle.std.specs.FinMap as finmap
 use Rattle.w16_loading.specs.Owner.Owner.{OfSegment, Script}
 use Rattle.w16_loading.specs.declared.FetchFault.TheVariants.{Store}
 use Rattle.w16_model.specs.declared.FarFault.TheVariants.{NotPresent}
 use Rattle.w16_loader.specs.declared.table.SegmentOf.{SegmentOf}
 use Rattle.w16_loader.specs.declared.segment_fetch.SegmentSource.{SegmentSource}
+use Rattle.w16_loading.specs.Answers.{FillsFewest}
+use Rattle.w16_loading.proofs.Answered.{fetches_over}
 use Rattle.w16_kernel.proofs.Absent.{lacks, slot_is}
+use Rattle.w16_kernel.proofs.Fewest.{fetch_fills}
 
 -- Look-ups that find nothing, and a module.
 
@@ -59,9 +60,11 @@ module _ {honest : Type 0} {old : LoadingWorld} (is : IsLoadingOver honest old) 
   needs e = ap (is_owned old.handles) here ∙ e
 
   -- a resource of one
-  pub resource_fetched : is_owned old.handles (name / 8) ≡ true → (fault : Option FetchFault) {new : LoadingWorld}
-      → (LacksBytes old.handles name → StoreFetch honest old (name / 8) fault new) → (needs_fetch (FarAnswer.Fault NotPresent) old selector ≡ true) × StoreFetch honest old (far_slot old.handles selector) fault new
-  resource_fetched owned fault fetch = (needs owned, rw here (fetch (lacks old.handles is.0.handles selector absent few name named owned)))
+  pub resource_fetched : is_owned old.handles (name / 8) ≡ true → (fault : Option FetchFault) {next : Handles} {left : List (List ℕ × List ℕ)} {count : ℕ} → IsLater old.files old.failures left count
+      → (LacksBytes old.handles name → FetchesFrom FillsFewest (told honest ne_format old.files old.failures count) old (name / 8) fault (record old { handles = next }))
+      → (needs_fetch (FarAnswer.Fault NotPresent) old selector ≡ true) × KernelFetch honest old (far_slot old.handles selector) fault (record old { handles = next; files = left; failures = count })
+  resource_fetched owned fault stays fetch =
+      (needs owned, rw here (stays, rw stays.same (fetch_fills (told honest ne_format old.files old.failures _) old (name / 8) fault _ (fetch (lacks old.handles is.0.handles selector absent few name named owned)))))
 
   -- or a segment
   module _ {slot : ℕ} (at : slot ≡ name / 8) (segment : finmap.get old.loads (far_slot old.handles selector) ≡ None) where
@@ -85,21 +88,19 @@ module _ {honest : Type 0} {old : LoadingWorld} (is : IsLoadingOver honest old) 
               let some = s.segment.has.0 in
               omega (arith, inside, as_long, some)
 
-      pub fetched : (fault : Option FetchFault) {next : Handles} {left : List (List ℕ × List ℕ)} {count : ℕ} → left ≡ old.files → old.failures ≤ count → (fault ≡ Some Store → old.failures < count)
+      pub fetched : (fault : Option FetchFault) {next : Handles} {left : List (List ℕ × List ℕ)} {count : ℕ} → IsLater old.files old.failures left count → (fault ≡ Some Store → old.failures < count)
           → (LacksBytes old.handles name → AnyFetches old (name / 8) fault (record old { handles = next }))
           → (honest → LacksBytes old.handles name → IsFetchable old (name / 8) source.number source.file.now source.module.now source.values.now
           → Fetches ne_format old (name / 8) fault (record old { handles = next; files = left }))
-          → (needs_fetch (FarAnswer.Fault NotPresent) old selector ≡ true) × StoreFetch honest old (far_slot old.handles selector) fault (record old { handles = next; files = left; failures = count })
-      fetched fault same counted rose any exact =
+          → (needs_fetch (FarAnswer.Fault NotPresent) old selector ≡ true) × KernelFetch honest old (far_slot old.handles selector) fault (record old { handles = next; files = left; failures = count })
+      fetched fault {next = next} {left = left} {count = count} stays rose any exact =
           let s : IsSourceFor old (name / 8) source = subst (λ q. IsSourceFor old q source) at (found unloaded) in
           let owned = ap is_some (segment_owned old is.0 (name / 8) s.handle source.number s.m s.segment).1.owned in
           let l = lacks old.handles is.0.handles selector absent few name named owned in (
             needs owned,
-            rw here (record {
-              files = same;
-              counted = counted;
-              failed = rose;
-              any = rw same (any l);
-              exact = λ h. exact h l (record { sound = is.0; of_files = is.1 h; handle = s.handle; m = s.m; segment = s.segment; source = s.source_of; tables = s.tables });
-            }),
+            rw here (
+              stays,
+              fetches_over honest ne_format old.failures count old (name / 8) fault (record old { handles = next; files = left }) (rw stays.same (any l))
+                  (λ h. exact h l (record { sound = is.0; of_files = is.1 h; handle = s.handle; m = s.m; segment = s.segment; source = s.source_of; tables = s.tables })) rose,
+            ),
           )

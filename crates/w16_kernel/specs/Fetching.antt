@@ -1,18 +1,20 @@
 -- Fetches that a far access asks for.
-use Rattle.std.specs.Prelude.{◌≡◌, ℕ, ◌⊎◌, true, false, Some, None, Result, Ok, Err}
+use Rattle.std.specs.Prelude.{◌≡◌, ℕ, ◌⊎◌, true, false, Option, Some, None, Result, Ok, Err}
 use Rattle.w16_model.specs.declared.FarFault.{FarFault}
 use Rattle.w16_model.specs.Far.{far_slot}
 use Rattle.w16_model.specs.Far as far
 use Rattle.w16_model.specs.Handles.{Handles, Part, part_of_selector}
 use Rattle.w16_model.specs.Heap.{bytes_at}
+use Rattle.w16_store.specs.Later.{IsLater}
 use Rattle.w16_loading.specs.declared.FetchFault.{FetchFault}
+use Rattle.w16_loading.specs.Answers.{FetchesOver}
 use Rattle.w16_loading.specs.Fetch.{needs_fetch}
 use Rattle.w16_loading.specs.Modules.{IsSegmentOf, LoadingWorld, Module}
 use Rattle.w16_loading.specs.Replies.Reply.{Failed, Fault}
+use Rattle.w16_format.specs.Ne.{ne_format}
 use Rattle.w16_format.specs.Tables.{tables_in}
 use Rattle.w16_loader.specs.declared.segment_fetch.SegmentSource.{SegmentSource}
 use Rattle.w16_loader.specs.Fetching.{IsSourceOf}
-use Rattle.w16_resource.specs.Parts.{StoreFetch}
 use Rattle.w16_kernel.specs.declared.call.Reply as code
 use Rattle.w16_kernel.specs.Runs.{reply_of}
 
@@ -22,14 +24,18 @@ pub record IsAbsent (handles : Handles) (selector : ℕ) : Type 0 where
   pub named : part_of_selector handles selector ≡ Some place
   pub without_bytes : bytes_at handles.heap place.slot ≡ None
 
+-- a fetch over a store
+abbrev pub KernelFetch : Type 0 → LoadingWorld → ℕ → Option FetchFault → LoadingWorld → Type 0
+KernelFetch honest old slot fault new = IsLater old.files old.failures new.files new.failures × FetchesOver honest ne_format old.failures new.failures old slot fault (record new { failures = old.failures })
+
 -- What becomes of an access that met a fault. The object is fetched, and the access is to be made again; or it couldn't be fetched, or none had
 -- to be, and that is the reply.
 abbrev pub Refetches : Type 0 → LoadingWorld → ℕ → FarFault → Result (Unit {0}) code.Reply → LoadingWorld → Type 0
-Refetches honest old selector fault (Ok again) new = (needs_fetch (far.FarAnswer.Fault fault) old selector ≡ true) × StoreFetch honest old (far_slot old.handles selector) None new
+Refetches honest old selector fault (Ok again) new = (needs_fetch (far.FarAnswer.Fault fault) old selector ≡ true) × KernelFetch honest old (far_slot old.handles selector) None new
 Refetches honest old selector fault (Err reply) new =
     ((needs_fetch (far.FarAnswer.Fault fault) old selector ≡ false) × (reply_of reply ≡ Fault fault) × (new ≡ old))
     ⊎ ((needs_fetch (far.FarAnswer.Fault fault) old selector ≡ true) × (new.handles ≡ old.handles) × (failed : FetchFault) × (reply_of reply ≡ Failed failed)
-    × StoreFetch honest old (far_slot old.handles selector) (Some failed) new)
+    × KernelFetch honest old (far_slot old.handles selector) (Some failed) new)
 
 -- The bytes of a slot's object come from this segment of a module that is loaded.
 pub record IsSourceFor {A : Type 0} (world : LoadingWorld) (slot : ℕ) (source : SegmentSource A) : Type 0 where

@@ -10,9 +10,10 @@ use Rattle.w16_model.specs.Handles.{Handles, offset_in, selector_in, slot_of_sel
 use Rattle.w16_model.specs.Heap.{Heap}
 use Rattle.w16_model.specs.Table.{Table}
 use Rattle.w16_model.specs.Far.FarCommand.{Read}
+use Rattle.w16_loading.specs.Answers.{FewestOver, StepOver}
+use Rattle.w16_loading.specs.Families.{LoadingCommand}
 use Rattle.w16_loading.specs.Families.LoadingCommand.{OfHandles, OfResizes, OfFar, OfModules, OfResources}
 use Rattle.w16_loading.specs.Fetch.{is_code, segment_bytes}
-use Rattle.w16_loading.specs.Fewest.{ExactRequestsFewest}
 use Rattle.w16_loading.specs.Law.{IsOfFiles}
 use Rattle.w16_loading.specs.Modules.{IsSegmentOf, Load, Module, Modules, with_handles}
 use Rattle.w16_loading.specs.Replies.{Reply}
@@ -25,7 +26,7 @@ use Rattle.w16_machine.specs.Law.{IsWorld}
 use Rattle.w16_machine.specs.Local.{has_range, left_in}
 use Rattle.w16_machine.specs.LocalCalls.{LocalStep}
 use Rattle.w16_machine.specs.LocalStays.{call_may_take, modules_may_take, resources_may_take}
-use Rattle.w16_machine.specs.Machine.{Command, OnHandles, Step, StoreStep}
+use Rattle.w16_machine.specs.Machine.{Command, OnHandles, Step}
 use Rattle.w16_machine.specs.Machine.Command.{OfLoading, OfLocals}
 
 -- the world that these parts are
@@ -45,9 +46,9 @@ Unswept honest old (OfLoading (OfResizes command)) reply new =
     OnHandles old.loading.handles (OfResizes command) reply new.loading.handles × (new ≡ record old { loading = with_handles old.loading new.loading.handles })
 Unswept honest old (OfLoading (OfFar command)) reply new = Step honest ne_format old (OfLoading (OfFar command)) reply new
 Unswept honest old (OfLoading (OfModules command)) reply new =
-    StoreStep honest ne_format old.loading (OfModules command) reply new.loading × (new ≡ record old { loading = new.loading })
+    StepOver honest ne_format old.loading (OfModules command) reply new.loading × (new ≡ record old { loading = new.loading })
 Unswept honest old (OfLoading (OfResources command)) reply new =
-    StoreStep honest ne_format old.loading (OfResources command) reply new.loading × (new ≡ record old { loading = new.loading })
+    StepOver honest ne_format old.loading (OfResources command) reply new.loading × (new ≡ record old { loading = new.loading })
 Unswept honest old (OfLocals command) reply new = LocalStep old command reply new
 
 -- Whether a step may take bytes of a global object, so that a sweep of local heaps is due after it.
@@ -99,15 +100,9 @@ ReadsCode old command reply = (pointer count : ℕ) (bytes : List ℕ) (slot han
     → slot_of_selector old.loading.handles (selector_in pointer) ≡ Some slot → IsSegmentOf old.loading slot handle number m → is_code old.loading slot ≡ true
     → IsSomeAnd (segment_bytes ne_format old.loading m number) (λ image. bytes ≡ part image (offset_in pointer) count)
 
--- A load or a fetch asks room for the bytes that the file gives, discards as few objects for them as it can, and is refused only where they have
--- no room or the device failed.
-abbrev pub AsksExactly : World → Command → Reply → World → Type 0
-AsksExactly old (OfLoading command) reply new = ExactRequestsFewest ne_format old.loading command reply new.loading
-AsksExactly old (OfLocals command) reply new = Unit {0}
-
--- One step of the machine over a store, of New Executable files. Where the store is honest, code reads as its file's, and requests are for what
--- files give.
+-- One step of the machine over a store, of New Executable files. Where the store is honest, code reads as its file's. A load or a fetch asks room for
+-- the bytes that it read, discards as few objects for them as it can, and is refused only where they have no room or the device failed.
 pub record KernelStep (honest : Type 0) (old : World) (command : Command) (reply : Reply) (new : World) : Type 0 where
   pub step : Step honest ne_format old command reply new
   pub code : honest → ReadsCode old command reply
-  pub requests : honest → AsksExactly old command reply new
+  pub requests : (asked : LoadingCommand) → command ≡ OfLoading asked → FewestOver honest ne_format old.loading asked reply new.loading

@@ -1,13 +1,13 @@
 //! Calls on modules that are more than one call of the loader.
 ghost use Rattle.std.specs.Prelude.{◌≡◌, IfOk, OnErr};
 ghost use Rattle.w16_store.specs.Later.{IsLater};
+ghost use Rattle.w16_loading.specs.Answers.{StepOver};
 ghost use Rattle.w16_loading.specs.Families.{pointer_to, proc_address};
 ghost use Rattle.w16_loading.specs.Free.{Frees};
 ghost use Rattle.w16_loading.specs.Families.LoadingCommand.{OfModules};
 ghost use Rattle.w16_loading.specs.Modules.{LoadingWorld};
 ghost use Rattle.w16_format.specs.Ne.{ne_format};
 ghost use Rattle.w16_loader.specs.Registry.{in_world};
-ghost use Rattle.w16_machine.specs.Machine.{StoreStep};
 ghost use Rattle.w16_resource.specs.Parts.{loading_of};
 ghost use Rattle.w16_kernel.specs.Runs.{label_of, load_command, reply_of, IsReply};
 
@@ -28,7 +28,7 @@ pub fn load_reply<S: Store + Drop, A: Allocator + Copy>(
     file: &[u8],
     is_load_module: bool,
 ) -> Result<Reply<'static>, AllocError>
-    ensures step { IfOk result (λ reply. StoreStep S.is_honest ne_format (loading_of global.old.handles library.old.registry library.old.resources (S.files library.old.store) (S.failures library.old.store))
+    ensures step { IfOk result (λ reply. StepOver S.is_honest ne_format (loading_of global.old.handles library.old.registry library.old.resources (S.files library.old.store) (S.failures library.old.store))
         (OfModules (load_command is_load_module file.now)) (reply_of reply)
         (loading_of global.new.handles library.new.registry library.new.resources (S.files library.new.store) (S.failures library.new.store))) }
     ensures short { IfOk result (λ reply. IsReply reply) }

@@ -4,11 +4,11 @@ ghost use Rattle.w16_format.specs.Ne.{ne_format};
 ghost use Rattle.w16_format.specs.Tables.{label_in};
 ghost use Rattle.w16_ne.specs.Resources.{label_of as ne_label};
 ghost use Rattle.w16_loader.specs.Registry.{in_world};
+ghost use Rattle.w16_loading.specs.Answers.{StepOver};
 ghost use Rattle.w16_loading.specs.Families.LoadingCommand.{OfResources};
 ghost use Rattle.w16_loading.specs.Families.ResourceCommand.{LoadResource, LockResource};
 ghost use Rattle.w16_loading.specs.Modules.{LoadingWorld};
 ghost use Rattle.w16_loading.specs.Resource as meaning;
-ghost use Rattle.w16_machine.specs.Machine.{StoreStep};
 ghost use Rattle.w16_resource.specs.Parts.{IsLoadingOver, loading_of};
 ghost use Rattle.w16_kernel.specs.Runs.{label_of, reply_of, IsReply};
 
@@ -51,7 +51,7 @@ pub fn load_resource<S: Store + Drop, A: Allocator + Copy>(
     place: u16,
 ) -> Reply<'static>
     requires { IsLoadingOver S.is_honest (loading_of global.old.handles library.old.registry library.old.resources (S.files library.old.store) (S.failures library.old.store)) }
-    ensures step { StoreStep S.is_honest ne_format (loading_of global.old.handles library.old.registry library.old.resources (S.files library.old.store) (S.failures library.old.store))
+    ensures step { StepOver S.is_honest ne_format (loading_of global.old.handles library.old.registry library.old.resources (S.files library.old.store) (S.failures library.old.store))
         (OfResources (LoadResource handle place)) (reply_of result)
         (loading_of global.new.handles library.new.registry library.new.resources (S.files library.new.store) (S.failures library.new.store)) }
     ensures short { IsReply result }
@@ -77,7 +77,7 @@ pub fn lock_resource<S: Store + Drop, A: Allocator + Copy>(
     handle: u16,
 ) -> Reply<'static>
     requires { IsLoadingOver S.is_honest (loading_of global.old.handles library.old.registry library.old.resources (S.files library.old.store) (S.failures library.old.store)) }
-    ensures step { StoreStep S.is_honest ne_format (loading_of global.old.handles library.old.registry library.old.resources (S.files library.old.store) (S.failures library.old.store))
+    ensures step { StepOver S.is_honest ne_format (loading_of global.old.handles library.old.registry library.old.resources (S.files library.old.store) (S.failures library.old.store))
         (OfResources (LockResource handle)) (reply_of result)
         (loading_of global.new.handles library.new.registry library.new.resources (S.files library.new.store) (S.failures library.new.store)) }
     ensures short { IsReply result }

@@ -3,8 +3,8 @@ pub use Rattle.std.proofs.lemmas.List.{same_lists}
 pub use Rattle.std.proofs.lemmas.List.Elements.{All-nil}
 pub use Rattle.std.proofs.lemmas.Nat.{and_mask}
 pub use Rattle.std.specs.Prelude.{IsSome}
-pub use Rattle.w16_format.proofs.Bytes.{padded_bytes, padded_length}
-pub use Rattle.w16_format.proofs.Common.{All-drop, All-take, get_or-map-range_with_len, listed_resources, nat_eq, padded, resource_in}
+pub use Rattle.w16_format.proofs.Bytes.{padded_length}
+pub use Rattle.w16_format.proofs.Common.{get_or-map-range_with_len, listed_resources, nat_eq, padded, resource_in}
 pub use Rattle.w16_format.proofs.Fetched.{resource_given}
 pub use Rattle.w16_format.proofs.Files.{stored_law}
 pub use Rattle.w16_format.specs.Law.{IsFileOf}
@@ -13,49 +13,49 @@ pub use Rattle.w16_format.specs.Tables.{label_in}
 pub use Rattle.w16_global.proofs.Common.{counted}
 pub use Rattle.w16_global.specs.Joined.{Global}
 pub use Rattle.w16_global.specs.Owned.{LacksBytes}
-pub use Rattle.w16_loader.proofs.Common.{AnyFetches, AreHandles, Bool, Discardable, FetchFault, Fills, FillsOne, FinMap, Fixed, GRAIN, GivesBytes, Handles, HasNoSlot, Held, IfNone, IfSome, IsFreeSlot, IsObjectOf, IsSomeAnd, IsWritten, Kind}
+pub use Rattle.w16_loader.proofs.Common.{AreHandles, Bool, Discardable, FetchFault, FinMap, Fixed, GRAIN, GivesBytes, Handles, HasNoSlot, Held, IfNone, IfSome, IsFreeSlot, IsObjectOf, IsSomeAnd, IsWritten, Kind}
 pub use Rattle.w16_loader.proofs.Common.{LARGEST_OWNED, Less, List, LoadingWorld, MatchOption, Module, Modules, Moveable, None, Object, Ok, Option, Result, Revives, Some, TakesOwned, [], ap, arith, by_id, by_order, cases_eq, cases_lt, cond, drop}
 pub use Rattle.w16_loader.proofs.Common.{entries-insert, eq-eqb, err_from_is_err_and, false, false≢true, filter, find, get-by_id, get_or, get_or-set_other, get_or-set_same, get_or_default, get_or_past, given, inl, inr, inserted_here, inserted_other}
-pub use Rattle.w16_loader.proofs.Common.{is_in_order, is_of_device, is_some, le-ltb, left, len-empty, len-entries, length, length-drop, length-map, length-take, lt-ltb, ltb-false, map, module_at, named, nat_cmp, nat_cmp_is, nat_cmp_total, nat_lt}
-pub use Rattle.w16_loader.proofs.Common.{ne_eqb, none_gone, not, numbered, object_at, option_map, owned_at, position, prefix_len, put, refl, refused, retained, rounded_size, rules, said, same_values, set, slice_get, slice_get-map, slice_index_or}
+pub use Rattle.w16_loader.proofs.Common.{is_in_order, is_of_device, is_some, le-ltb, left, len-empty, len-entries, length, length-drop, length-map, length-take, lt-ltb, ltb-false, map, module_at, nat_cmp, nat_cmp_is, nat_cmp_total, nat_lt}
+pub use Rattle.w16_loader.proofs.Common.{ne_eqb, none_gone, not, numbered, object_at, option_map, owned_at, position, prefix_len, put, refl, refused, retained, rounded_size, rules, same_values, set, slice_get, slice_get-map, slice_index_or}
 pub use Rattle.w16_loader.proofs.Common.{subst, suc, sym, tables_in, take, taken_here, taken_other, true, unwrap_or, with_object, without_objects, without_absent, without_slot, zero, ℕ, ◌%◌, ◌&&◌, ◌+◌, ◌-◌, ◌/◌, ◌<◌, ◌==◌, ◌||◌, ◌∙◌, ◌∷◌, ◌≡◌, ◌≤◌}
 pub use Rattle.w16_loader.proofs.Common.{◌⊎◌}
 unfoldable pub use Rattle.w16_loader.proofs.Common.{file_of}
-pub use Rattle.w16_loader.proofs.Fetches.{fewest_so, refused_any, unread_any}
-pub use Rattle.w16_loader.proofs.Giving.{none_filled}
-pub use Rattle.w16_loader.specs.Fetching.{fault_in, fault_of}
+pub use Rattle.w16_loader.proofs.Fetches.{refused_any}
+pub use Rattle.w16_loader.specs.Fetching.{fault_of}
 pub use Rattle.w16_loader.specs.Registry.{in_world}
 pub use Rattle.w16_loading.proofs.Absences.{all_retained}
-pub use Rattle.w16_loading.proofs.AnySteps.{requests_fewest_law}
+pub use Rattle.w16_loading.proofs.Fewest.{fill_fewest}
 pub use Rattle.w16_loading.proofs.Common.{MatchBool, absent, after, bytes_at, eqb-true, outcome, owned_in, owns}
 pub use Rattle.w16_loading.proofs.ShrunkWorlds.{value_gone, value_left}
 pub use Rattle.w16_loading.proofs.Stepping.{freed_by, resource_load, with_count}
-pub use Rattle.w16_loading.specs.AnyStore.{AnyStep, lock_reads_file}
-pub use Rattle.w16_loading.specs.Families.{LoadingCommand, LoadingStep}
+pub use Rattle.w16_loading.specs.Answers.{FetchesFrom, FewestOver, FillsFewest, told}
 pub use Rattle.w16_loading.specs.Families.LoadingCommand.{OfResources}
 pub use Rattle.w16_loading.specs.Families.ResourceCommand.{LoadResource, LockResource}
-pub use Rattle.w16_loading.specs.Fetch.{Fetches, Fetching}
+pub use Rattle.w16_loading.specs.Fetch.{Fetching, IsImage}
+pub use Rattle.w16_loading.specs.Fill.{is_of_read}
 pub use Rattle.w16_loading.specs.File.{Resource}
 pub use Rattle.w16_loading.specs.Free.{is_left_over, without_orphans}
 pub use Rattle.w16_loading.specs.Law.{IsLoad, IsLoadingWorld, IsOfFiles}
 pub use Rattle.w16_loading.specs.Modules.{with_handles}
 pub use Rattle.w16_loading.specs.Replies.{Reply}
-pub use Rattle.w16_loading.specs.Replies.Reply.{Dword, Failed, Word}
+pub use Rattle.w16_loading.specs.Replies.Reply.{Dword, Word}
 pub use Rattle.w16_loading.specs.Resource.{AnswersNone, LoadsNewResource, LoadsResource, LocksResource, attributes_for, free_resource, is_too_long, load_of, loaded_again, lock_outcome, locked, reply_of_call, resource_at, resource_outcome, slot_of_resource, with_resource}
-pub use Rattle.w16_loading.specs.declared.FetchFault.TheVariants.{NoRoom, Store}
+pub use Rattle.w16_loading.specs.declared.FetchFault.TheVariants.{Damaged, NoRoom, Store}
 pub use Rattle.w16_model.proofs.Naming.{names_law}
 pub use Rattle.w16_model.proofs.Runs.{unused_slot}
 pub use Rattle.w16_model.specs.Calls.{flags_of, global_flags, global_lock, is_shared, locks_at}
 pub use Rattle.w16_model.specs.Changes.{without}
 pub use Rattle.w16_model.specs.Handles.{Gives, handle_of, selector_of, slot_of_handle, slot_of_selector}
-pub use Rattle.w16_model.specs.Heap.{IsCounted, is_discardable}
+pub use Rattle.w16_model.specs.Heap.{IsCounted, IsHeap, is_discardable}
 pub use Rattle.w16_model.specs.Owned.{is_owned}
 pub use Rattle.w16_model.specs.declared.Owned.{Owned}
-pub use Rattle.w16_ne.proofs.Common.{bit_and, filled, size}
+pub use Rattle.w16_ne.proofs.Common.{bit_and, size}
 pub use Rattle.w16_ne.specs.Resources.{Entry, entry_of, label_of}
 pub use Rattle.w16_reloc.specs.Segments.{Refuses}
 pub use Rattle.w16_reloc.specs.declared.fault.RelocFault.{RelocFault}
 pub use Rattle.w16_resource.specs.Loads.{listed, load_in, loads_in, without_load, without_orphan}
-pub use Rattle.w16_resource.specs.Parts.{IsLoadingOver, StoreFetch, dword_in, loading_of, word_in}
-pub use Rattle.w16_resource.specs.Sources.{FetchesFrom, IsMadeOr, IsSourceAt, IsSourceOf, MakesNew, MakesOne, bytes_in, is_long, with_new}
+pub use Rattle.w16_resource.specs.Parts.{IsLoadingOver, dword_in, loading_of, word_in}
+pub use Rattle.w16_resource.specs.Sources.{GivesSource, IsMadeOr, IsSourceAt, IsSourceOf, MakesNew, MakesOne, bytes_in, is_long, with_new}
 pub use Rattle.w16_resource.specs.declared.listing.Load.{Load}
+pub use Rattle.w16_store.specs.Later.{IsLater}

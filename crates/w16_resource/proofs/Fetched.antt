@@ -1,8 +1,8 @@
 -- A resource is read from the file of its module: where it is there, and what a fetch of it is in a world of its files.
-use Rattle.w16_resource.proofs.Common.{Bool, Entry, FetchFault, Fetches, FetchesFrom, Handles, IfSome, IsFileOf, IsLoad, IsLoadingWorld, IsObjectOf, IsOfFiles, IsSomeAnd, IsSourceAt, IsSourceOf, List, LoadingWorld, Module, None, Option}
-use Rattle.w16_resource.proofs.Common.{Resource, Some, [], after, ap, arith, bytes_in, cond, false, inr, is_long, is_too_long, label_in, length-map, listed_resources, map, nat_eq, nat_lt, ne_format, not, numbered, option_map, owned_at, position}
-use Rattle.w16_resource.proofs.Common.{prefix_len, refl, resource_at, resource_given, resource_in, rounded_size, slice_get, slice_get-map, stored_law, subst, suc, sym, tables_in, unwrap_or, with_handles, zero, ℕ, ◌&&◌, ◌+◌, ◌-◌, ◌∙◌, ◌∷◌}
-use Rattle.w16_resource.proofs.Common.{◌≡◌}
+use Rattle.w16_resource.proofs.Common.{listed_resources, nat_eq, resource_in, resource_given, stored_law, IsFileOf, ne_format, label_in, Bool, FetchFault, Handles, IfSome, IsObjectOf, IsSomeAnd, List, LoadingWorld, Module, None, Option, Some, [], ap}
+use Rattle.w16_resource.proofs.Common.{arith, cond, false, inr, length-map, map, nat_lt, not, numbered, option_map, owned_at, position, prefix_len, refl, rounded_size, slice_get, slice_get-map, subst, suc, sym, tables_in, unwrap_or, zero, ℕ}
+use Rattle.w16_resource.proofs.Common.{◌&&◌, ◌+◌, ◌-◌, ◌∙◌, ◌∷◌, ◌≡◌, file_of, FetchesFrom, FillsFewest, told, IsImage, Resource, IsLoad, IsLoadingWorld, IsOfFiles, with_handles, is_too_long, resource_at, Damaged, NoRoom, Store, Entry}
+use Rattle.w16_resource.proofs.Common.{GivesSource, IsSourceAt, IsSourceOf, bytes_in, is_long}
 use Rattle.std.specs.FinMap as finmap
 use Rattle.w16_loading.specs.File as file
 use Rattle.w16_ne.specs.Modules as ne
@@ -28,16 +28,19 @@ in_tables m t place same = ap (λ (u : file.Tables). numbered u.resources place)
 pub source_resource : (world : LoadingWorld) (handle place : ℕ) (name : List ℕ) (entry : Entry) → (s : IsSourceAt world.modules handle place name entry) → resource_at world handle place ≡ Some (resource_in (s.kind, entry))
 source_resource world handle place name entry s = ap (λ p. resource_of p place) s.loaded ∙ in_tables s.m s.t place s.tables ∙ ap (option_map resource_in) s.there
 
--- what a file of bytes gives the object is what a fetch gives it in a world of its files
-module _ (world : LoadingWorld) (slot handle place loads : ℕ) (name : List ℕ) (entry : Entry) (s : IsSourceAt world.modules handle place name entry)
-    (has : finmap.get world.loads slot ≡ Some (record { handle = handle; place = place; loads = loads })) (bytes : List ℕ) (is : IsFileOf world s.m bytes s.t) where
-  pub fetches : (fault : Option FetchFault) (new : Handles) → FetchesFrom bytes world.handles slot entry fault new → Fetches ne_format world slot fault (with_handles world new)
-  fetches fault new f = record {
-    bytes = bytes_in bytes entry;
-    image = inr (handle, place, s.m, record { loaded = s.loaded; loads = loads; has = has }, resource_given world s.m bytes s.t place (s.kind, entry) is s.there);
-    filled = f.filled;
-    rest = ap (with_handles world) f.rest;
-  }
+-- the bytes of a resource's file are those that a fetch gives its object in a world
+module _ (honest : Type 0) (world : LoadingWorld) (before later slot handle place loads : ℕ) (name : List ℕ) (entry : Entry) (s : IsSourceAt world.modules handle place name entry)
+    (has : finmap.get world.loads slot ≡ Some (record { handle = handle; place = place; loads = loads })) (of : honest → (bytes : List ℕ) × IsFileOf world s.m bytes s.t) where
+  image : (bytes : List ℕ) → ((file : List ℕ) → honest → file_of world.files name ≡ Some file → bytes ≡ bytes_in file entry) → honest → IsImage ne_format world slot bytes
+  image bytes e h = let is = (of h).1 in subst (IsImage ne_format world slot) (sym (e (of h).0 h (ap (file_of world.files) (sym s.named) ∙ is.stored)))
+      (inr (handle, place, s.m, record { loaded = s.loaded; loads = loads; has = has }, resource_given world s.m (of h).0 s.t place (s.kind, entry) is s.there))
+
+  pub fetches : (fault : Option FetchFault) (new : Handles) → GivesSource honest world.files name entry before later world.handles slot fault new
+      → FetchesFrom FillsFewest (told honest ne_format world.files before later) world slot fault (with_handles world new)
+  fetches None new f = let g = f.given in record { given = (g.0, g.1, image g.0 g.2, g.3); rest = ap (with_handles world) f.rest }
+  fetches (Some NoRoom) new f = record { given = f.given; rest = ap (with_handles world) f.rest }
+  fetches (Some Store) new f = record { given = f.given; rest = ap (with_handles world) f.rest }
+  fetches (Some Damaged) new f = record { given = f.given; rest = ap (with_handles world) f.rest }
 
 -- In each world the resource of a load is there.
 module _ (world : LoadingWorld) (slot : ℕ) (load : loading.Load) (has : finmap.get world.loads slot ≡ Some load) where
@@ -63,9 +66,15 @@ module _ (world : LoadingWorld) (slot : ℕ) (load : loading.Load) (has : finmap
 pub file_there : (world : LoadingWorld) → IsOfFiles ne_format world → (handle place : ℕ) (name : List ℕ) (entry : Entry) (s : IsSourceAt world.modules handle place name entry) → (file : List ℕ) × IsFileOf world s.m file s.t
 file_there world of handle place name entry s = stored_law world handle s.m s.t of s.loaded s.tables
 
-pub source_in : (world : LoadingWorld) (handle place : ℕ) (name : List ℕ) (entry : Entry) (s : IsSourceAt world.modules handle place name entry) (bytes : List ℕ) → IsFileOf world s.m bytes s.t → is_long entry.len ≡ false
-    → (handles : Handles) (slot : ℕ) → owned_at handles slot ≡ Some (record { size = rounded_size entry.len; code = false }) → IsSourceOf bytes handles slot entry
-source_in world handle place name entry s bytes is short handles slot owned = record { are_bytes = is.bytes; short = short; inside = s.inside bytes is.tables (some_bytes entry.len short); sized = owned }
+pub source_in : (world : LoadingWorld) (handle place : ℕ) (name : List ℕ) (entry : Entry) (s : IsSourceAt world.modules handle place name entry) → (of : (bytes : List ℕ) × IsFileOf world s.m bytes s.t) → is_long entry.len ≡ false
+    → (handles : Handles) (slot : ℕ) → owned_at handles slot ≡ Some (record { size = rounded_size entry.len; code = false }) → IsSourceOf world.files name handles slot entry
+source_in world handle place name entry s of short handles slot owned = record {
+  file = of.0;
+  stored = ap (file_of world.files) (sym s.named) ∙ of.1.stored;
+  short = short;
+  inside = s.inside of.0 of.1.tables (some_bytes entry.len short);
+  sized = owned;
+}
 
 -- The place of a resource by its type and name.
 label_same : (a b : tables.Label) → file.is_label (label_in a) (label_in b) ≡ tables.is_label a b

@@ -1,6 +1,6 @@
 -- What the end of a load comes to.
 use Rattle.w16_resource.proofs.Common.{AreHandles, Bool, Handles, IfSome, IsCounted, LoadingWorld, None, Object, Option, Some, ap, arith, cond, false, flags_of, free_resource, freed_by, global_flags, is_discardable, is_shared, is_some, le-ltb}
-use Rattle.w16_resource.proofs.Common.{locks_at, lt-ltb, nat_lt, object_at, option_map, refl, slot_of_handle, slot_of_resource, sym, true, unwrap_or, with_count, with_handles, without_load, without_slot, ℕ, ◌%◌, ◌+◌, ◌-◌, ◌<◌, ◌∙◌, ◌≡◌, ◌≤◌}
+use Rattle.w16_resource.proofs.Common.{locks_at, nat_lt, object_at, option_map, refl, slot_of_handle, slot_of_resource, sym, true, unwrap_or, with_count, with_handles, without_load, without_slot, ℕ, ◌%◌, ◌+◌, ◌-◌, ◌∙◌, ◌≡◌, ◌≤◌}
 use Rattle.std.specs.FinMap as finmap
 use Rattle.w16_loading.specs.Modules as loading
 use Rattle.w16_resource.proofs.Taken.{slot_gone}

@@ -1,8 +1,7 @@
--- What a load of a resource comes to, in a world over any store, and in one of its files.
-use Rattle.w16_resource.proofs.Common.{AnswersNone, AnyFetches, Entry, Failed, FetchFault, Fetches, FetchesFrom, Fetching, FinMap, Handles, HasNoSlot, IsFileOf, IsFreeSlot, IsMadeOr, IsOfFiles, IsSourceAt, List, LoadingWorld}
-use Rattle.w16_resource.proofs.Common.{LoadsNewResource, LoadsResource, MakesNew, MakesOne, MatchBool, MatchOption, Modules, None, Option, Reply, Resource, Some, Word, ap, false, file_of, handle_of, inl, inr, inserted_here, is_long}
-use Rattle.w16_resource.proofs.Common.{is_too_long, load_of, loaded_again, loading_of, nat_cmp, ne_format, refl, resource_at, resource_outcome, rounded_size, subst, sym, true, with_handles, with_new, with_resource, ℕ, ◌<◌, ◌∙◌, ◌≡◌}
-use Rattle.w16_resource.proofs.Common.{◌⊎◌}
+-- What a load of a resource comes to.
+use Rattle.w16_resource.proofs.Common.{IsFileOf, ne_format, FetchFault, FinMap, Handles, HasNoSlot, IsFreeSlot, List, LoadingWorld, MatchOption, Modules, None, Option, Some, ap, false, inl, inr, inserted_here, nat_cmp, refl, rounded_size}
+use Rattle.w16_resource.proofs.Common.{subst, sym, true, ℕ, ◌∙◌, ◌≡◌, ◌⊎◌, MatchBool, FetchesFrom, FillsFewest, told, Fetching, Resource, IsOfFiles, with_handles, Reply, Word, AnswersNone, LoadsNewResource, LoadsResource, is_too_long, load_of}
+use Rattle.w16_resource.proofs.Common.{loaded_again, resource_at, resource_outcome, with_resource, handle_of, Entry, loading_of, IsMadeOr, IsSourceAt, IsSourceOf, MakesNew, MakesOne, is_long, with_new}
 use Rattle.std.specs.FinMap as finmap
 use Rattle.w16_loading.specs.declared.FetchFault.TheVariants as faults
 use Rattle.w16_loading.specs.Modules as loading
@@ -27,7 +26,7 @@ module _ (F : Fetching) (old : LoadingWorld) (handle place : ℕ) (reply : Reply
 
 -- A first load.
 module _ (honest : Type 0) (h : Handles) (modules : Modules) (loads : FinMap nat_cmp loading.Load) (files : List (List ℕ × List ℕ)) (before : ℕ)
-    (name : List ℕ) (entry : Entry) (r : Resource) (handle place : ℕ) (reply : Reply) (next : Handles) (left : FinMap nat_cmp loading.Load) where
+    (name : List ℕ) (entry : Entry) (later : ℕ) (r : Resource) (handle place : ℕ) (reply : Reply) (next : Handles) (left : FinMap nat_cmp loading.Load) where
   abbrev old : LoadingWorld
   old = loading_of h modules loads files before
 
@@ -37,7 +36,7 @@ module _ (honest : Type 0) (h : Handles) (modules : Modules) (loads : FinMap nat
   none_new : HasNoSlot h × (reply ≡ Word 0) × (next ≡ h) × (left ≡ loads) → ((slot : ℕ) → IsFreeSlot h slot → ⊥) × AnswersNone old reply new
   none_new n = (n.0, (n.1, λ i. loading_of (n.2 i) modules (n.3 i) files before))
 
-  module _ (m : MakesOne honest files name entry r handle place h loads reply next left) where
+  module _ (m : MakesOne honest files name entry before later r handle place h loads reply next left) where
     abbrev made : LoadingWorld
     made = with_resource old m.slot handle place r
 
@@ -54,26 +53,22 @@ module _ (honest : Type 0) (h : Handles) (modules : Modules) (loads : FinMap nat
         by (Some faults.Store) e = same _ _ _ e
         by (Some faults.Damaged) e = same _ _ _ e
 
-    loads_by : (F : Fetching) → F made m.slot m.fault (with_handles made m.next) → LoadsNewResource F old handle place r reply new
-    loads_by F f = record { slot = m.slot; free = m.free; fault = m.fault; next = with_handles made m.next; fetched = f; outcome = outcome }
+  module _ (s : IsSourceAt modules handle place name entry) (short : is_long entry.len ≡ false) (is : honest → IsOfFiles ne_format old) (long : r.length_in ≡ entry.len) where
+    stored : honest → (file : List ℕ) × IsFileOf old s.m file s.t
+    stored h = file_there old (is h) handle place name entry s
 
-  pub loads_any : MakesNew honest files name entry r handle place h loads reply next left
-      → (((slot : ℕ) → IsFreeSlot h slot → ⊥) × AnswersNone old reply new) ⊎ LoadsNewResource AnyFetches old handle place r reply new
-  loads_any (inl n) = inl (none_new n)
-  loads_any (inr m) = inr (loads_by m AnyFetches (m.any (made m)))
+    source : (m : MakesOne honest files name entry before later r handle place h loads reply next left) → honest → IsSourceOf files name (with_new h m.slot r) m.slot entry
+    source m h = source_in old handle place name entry s (stored h) short (with_new old.handles m.slot r) m.slot (owned_new old.handles m.slot r ∙ ap (λ n. Some (record { size = rounded_size n; code = false })) long)
 
-  -- over files that stay
-  module _ (yes : honest) (s : IsSourceAt modules handle place name entry) (short : is_long entry.len ≡ false) (is : IsOfFiles ne_format old) (long : r.length_in ≡ entry.len) where
-    stored : (file : List ℕ) × IsFileOf old s.m file s.t
-    stored = file_there old is handle place name entry s
-
-    fetched : (m : MakesOne honest files name entry r handle place h loads reply next left) → FetchesFrom stored.0 (with_new h m.slot r) m.slot entry m.fault m.next
-    fetched m = m.exact stored.0 yes (ap (file_of files) (sym s.named) ∙ stored.1.stored)
-        (source_in old handle place name entry s stored.0 stored.1 short (with_new h m.slot r) m.slot (owned_new h m.slot r ∙ ap (λ n. Some (record { size = rounded_size n; code = false })) long))
-
-    pub loads_exact : MakesNew honest files name entry r handle place h loads reply next left
-        → (((slot : ℕ) → IsFreeSlot h slot → ⊥) × AnswersNone old reply new) ⊎ LoadsNewResource (Fetches ne_format) old handle place r reply new
-    loads_exact (inl n) = inl (none_new n)
-    loads_exact (inr m) = inr (loads_by m (Fetches ne_format)
-        (fetches (made m) m.slot handle place 1 name entry s (inserted_here loads m.slot (record { handle = handle; place = place; loads = 1 }) m.slot refl) stored.0
-        (record { stored = stored.1.stored; bytes = stored.1.bytes; tables = stored.1.tables }) m.fault m.next (fetched m)))
+    pub loads_new : MakesNew honest files name entry before later r handle place h loads reply next left
+        → (((slot : ℕ) → IsFreeSlot h slot → ⊥) × AnswersNone old reply new) ⊎ LoadsNewResource (FetchesFrom FillsFewest (told honest ne_format files before later)) old handle place r reply new
+    loads_new (inl n) = inl (none_new n)
+    loads_new (inr m) = inr (record {
+      slot = m.slot;
+      free = m.free;
+      fault = m.fault;
+      next = with_handles (made m) m.next;
+      fetched = fetches honest (made m) before later m.slot handle place 1 name entry s (inserted_here loads m.slot (record { handle = handle; place = place; loads = 1 }) m.slot refl)
+          (λ yes. let f = stored yes in (f.0, record { stored = f.1.stored; bytes = f.1.bytes; tables = f.1.tables })) m.fault m.next (m.given (source m));
+      outcome = outcome m;
+    })

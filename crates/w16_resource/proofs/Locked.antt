@@ -1,6 +1,6 @@
 -- What a lock of a resource comes to.
-use Rattle.w16_resource.proofs.Common.{Dword, FetchFault, Fetching, Gives, Handles, List, LoadingWorld, LocksResource, MatchOption, None, Option, Reply, Some, ap, bytes_at, false, global_lock}
-use Rattle.w16_resource.proofs.Common.{is_some, lock_outcome, lock_reads_file, locked, not, option_map, reply_of_call, slot_of_resource, subst, sym, true, unwrap_or, with_handles, ℕ, ◌∙◌, ◌≡◌}
+use Rattle.w16_resource.proofs.Common.{FetchFault, Handles, List, LoadingWorld, MatchOption, None, Option, Some, subst, sym, ℕ, ◌≡◌, bytes_at, Fetching, with_handles, Reply, Dword, LocksResource, lock_outcome, locked, reply_of_call, slot_of_resource}
+use Rattle.w16_resource.proofs.Common.{global_lock, Gives}
 use Rattle.w16_model.specs.Calls as calls
 use Rattle.w16_loading.specs.Modules as loading
 
@@ -21,7 +21,3 @@ module _ (F : Fetching) (old : LoadingWorld) (handle : ℕ) (reply : Reply) (new
 -- GlobalLock's outcome is the lock's
 pub lock_is : (world : LoadingWorld) (handle answer : ℕ) (next : Handles) → Gives (global_lock world.handles handle) (calls.Answer.Dword answer) next → (Dword answer, with_handles world next) ≡ locked world handle
 lock_is world handle answer next g = λ i. (reply_of_call (g.0 i), with_handles world (g.1 i))
-
--- a lock of a resource without bytes reads its file
-pub reads : (world : LoadingWorld) (handle : ℕ) (x : ℕ × loading.Load) → slot_of_resource world handle ≡ Some x → bytes_at world.handles.heap x.0 ≡ None → lock_reads_file world handle ≡ true
-reads world handle x e none = ap (λ p. unwrap_or (option_map (λ (y : ℕ × loading.Load). not (is_some (bytes_at world.handles.heap y.0))) p) false) e ∙ ap (λ p. not (is_some p)) none

@@ -1,6 +1,6 @@
 -- A new object for a resource, which a fetch gives its bytes, or which goes again.
-use Rattle.w16_resource.proofs.Common.{AnyFetches, AreHandles, Entry, FetchFault, FetchesFrom, FinMap, Handles, IsMadeOr, IsSourceOf, Kind, LacksBytes, List, LoadingWorld, MakesOne, Option, Owned, Reply, Resource}
-use Rattle.w16_resource.proofs.Common.{Some, TakesOwned, Word, after, false, file_of, handle_of, left, nat_cmp, outcome, rounded_size, subst, sym, with_handles, with_new, without_slot, unused_slot, ℕ, ◌/◌, ◌∙◌, ◌≡◌}
+use Rattle.w16_resource.proofs.Common.{LacksBytes, AreHandles, FetchFault, FinMap, Handles, Kind, List, Option, TakesOwned, false, given, left, nat_cmp, rounded_size, subst, sym, without_slot, ℕ, ◌/◌, ◌∙◌, ◌≡◌, outcome, Resource, Reply, Word}
+use Rattle.w16_resource.proofs.Common.{unused_slot, handle_of, Owned, Entry, GivesSource, IsMadeOr, IsSourceOf, MakesOne, with_new}
 use Rattle.std.specs.FinMap as finmap
 use Rattle.w16_loading.specs.Modules as loading
 use Rattle.w16_resource.proofs.Taken.{here, named, taken, lacks_new, taken_back}
@@ -18,20 +18,18 @@ module _ (old mid : Handles) (kind : Kind) (owned : Owned) (object : ℕ) (t : T
   lacks : LacksBytes mid object
   lacks = subst (λ h. LacksBytes h object) (sym mid_is) (lacks_new old t.slot r object object_is)
 
-  pub makes_one : (honest : Type 0) (files : List (List ℕ × List ℕ)) (name : List ℕ) (entry : Entry) (handle place : ℕ) (loads : FinMap nat_cmp loading.Load) (reply : Reply) (new : Handles) (left : FinMap nat_cmp loading.Load)
+  pub makes_one : (honest : Type 0) (files : List (List ℕ × List ℕ)) (name : List ℕ) (entry : Entry) (before later handle place : ℕ) (loads : FinMap nat_cmp loading.Load) (reply : Reply) (new : Handles) (left : FinMap nat_cmp loading.Load)
       → (fault : Option FetchFault) (next : Handles)
-      → ((rest : LoadingWorld) → LacksBytes mid object → AnyFetches (with_handles rest mid) (object / 8) fault (with_handles rest next))
-      → ((file : List ℕ) → honest → file_of files name ≡ Some file → LacksBytes mid object → IsSourceOf file mid (object / 8) entry → FetchesFrom file mid (object / 8) entry fault next)
+      → (LacksBytes mid object → (honest → IsSourceOf files name mid (object / 8) entry) → GivesSource honest files name entry before later mid (object / 8) fault next)
       → IsMadeOr fault (Word (handle_of r.kind t.slot)) reply old next new loads (finmap.insert loads t.slot (record { handle = handle; place = place; loads = 1 })) left
-      → MakesOne honest files name entry r handle place old loads reply new left
-  makes_one honest files name entry handle place loads reply new left fault next any exact outcome = record {
+      → MakesOne honest files name entry before later r handle place old loads reply new left
+  makes_one honest files name entry before later handle place loads reply new left fault next given outcome = record {
     slot = t.slot;
     free = t.free;
     fault = fault;
     next = next;
-    any = λ rest. subst (λ (h : Handles). AnyFetches (with_handles rest h) t.slot fault (with_handles rest next)) mid_is (subst (λ q. AnyFetches (with_handles rest mid) q fault (with_handles rest next)) at (any rest lacks));
-    exact = λ file h has source. subst (λ (x : Handles). FetchesFrom file x t.slot entry fault next) mid_is (subst (λ q. FetchesFrom file mid q entry fault next) at
-        (exact file h has lacks (subst (λ q. IsSourceOf file mid q entry) (sym at) (subst (λ (x : Handles). IsSourceOf file x t.slot entry) (sym mid_is) source))));
+    given = λ source. subst (λ (x : Handles). GivesSource honest files name entry before later x t.slot fault next) mid_is (subst (λ q. GivesSource honest files name entry before later mid q fault next) at
+        (given lacks (λ h. subst (λ q. IsSourceOf files name mid q entry) (sym at) (subst (λ (x : Handles). IsSourceOf files name x t.slot entry) (sym mid_is) (source h)))));
     outcome = outcome;
   }
 

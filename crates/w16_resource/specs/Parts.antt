@@ -1,12 +1,9 @@
 -- The world of modules over the parts of the machine that keep it, and what a call over a store answers.
-use Rattle.std.specs.Prelude.{◌≡◌, ℕ, ◌<◌, ◌≤◌, List, Option, Some, Result, Ok, Err}
+use Rattle.std.specs.Prelude.{ℕ, List, Result, Ok, Err}
 use Rattle.std.specs.Ordering.{nat_cmp}
 use Rattle.std.specs.FinMap.{FinMap}
 use Rattle.w16_model.specs.Handles.{Handles}
 use Rattle.w16_loading.specs.declared.FetchFault.{FetchFault}
-use Rattle.w16_loading.specs.declared.FetchFault.TheVariants.{Store}
-use Rattle.w16_loading.specs.AnyStore.{AnyFetches}
-use Rattle.w16_loading.specs.Fetch.{Fetches}
 use Rattle.w16_loading.specs.Law.{IsLoadingWorld, IsOfFiles}
 use Rattle.w16_loading.specs.Modules.{Load, LoadingWorld, Modules}
 use Rattle.w16_loading.specs.Replies.{Reply}
@@ -20,14 +17,6 @@ loading_of handles modules loads files failures = record { handles = handles; mo
 -- What holds of each world over a store: it is one; and where the store is honest, all that is loaded is of its file.
 abbrev pub IsLoadingOver : Type 0 → LoadingWorld → Type 0
 IsLoadingOver honest world = IsLoadingWorld world × (honest → IsOfFiles ne_format world)
-
--- A fetch, over a store that is honest where the premise holds.
-pub record StoreFetch (honest : Type 0) (old : LoadingWorld) (slot : ℕ) (fault : Option FetchFault) (new : LoadingWorld) : Type 0 where
-  pub files : new.files ≡ old.files
-  pub counted : old.failures ≤ new.failures
-  pub failed : fault ≡ Some Store → old.failures < new.failures
-  pub any : AnyFetches old slot fault (record new { failures = old.failures })
-  pub exact : honest → Fetches ne_format old slot fault (record new { failures = old.failures })
 
 -- the reply of a call that answers a word, or why an object got no bytes
 abbrev pub word_in : Result ℕ FetchFault → Reply

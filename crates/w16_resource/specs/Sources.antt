@@ -1,5 +1,5 @@
 -- Where a resource's bytes come from, and how its object gets them.
-use Rattle.std.specs.Prelude.{◌≡◌, ℕ, ◌<◌, ◌⊎◌, ◌==◌, ◌||◌, nat_lt, Bool, false, List, length, take, drop, All, Option, Some, None, Ok}
+use Rattle.std.specs.Prelude.{◌≡◌, ℕ, ◌<◌, ◌⊎◌, ◌==◌, ◌||◌, nat_lt, Bool, false, List, length, take, drop, IsSomeAnd, Option, Some, None, Ok}
 use Rattle.std.specs.Ordering.{nat_cmp}
 use Rattle.std.specs.FinMap as finmap
 use Rattle.std.specs.FinMap.{FinMap}
@@ -13,12 +13,11 @@ use Rattle.w16_ne.specs.Modules as ne
 use Rattle.w16_ne.specs.Modules.{tables_at}
 use Rattle.w16_ne.specs.Resources.{Entry, Label}
 use Rattle.w16_loading.specs.declared.FetchFault.{FetchFault}
-use Rattle.w16_loading.specs.declared.FetchFault.TheVariants.{NoRoom, Store}
+use Rattle.w16_loading.specs.declared.FetchFault.TheVariants.{NoRoom}
 use Rattle.w16_loading.specs.declared.TheConstants.{LARGEST_OWNED}
-use Rattle.w16_loading.specs.AnyStore.{AnyFetches}
+use Rattle.w16_loading.specs.Answers.{FillsFewest, GivesRead, MayFail}
 use Rattle.w16_loading.specs.File.{Resource}
-use Rattle.w16_loading.specs.Fill.{FillsOne, is_of_device}
-use Rattle.w16_loading.specs.Modules.{Load, LoadingWorld, Module, Modules, module_at, with_handles}
+use Rattle.w16_loading.specs.Modules.{Load, Module, Modules, module_at}
 use Rattle.w16_loading.specs.Replies.{Reply}
 use Rattle.w16_loading.specs.Replies.Reply.{Word, Failed}
 use Rattle.w16_loading.specs.Resource.{attributes_for}
@@ -44,16 +43,18 @@ is_long len = (len == 0) || nat_lt LARGEST_OWNED len
 abbrev pub bytes_in : List ℕ → Entry → List ℕ
 bytes_in file entry = padded (take entry.len (drop entry.place file)) (rounded_size entry.len)
 
--- A file of bytes has bytes of a resource that may be loaded, and a slot's object is of its size.
-pub record IsSourceOf (file : List ℕ) (handles : Handles) (slot : ℕ) (entry : Entry) : Type 0 where
-  pub are_bytes : All (λ b. b < 256) file
+-- The file of this name has bytes of a resource that may be loaded, and a slot's object is of its size.
+pub record IsSourceOf (files : List (List ℕ × List ℕ)) (name : List ℕ) (handles : Handles) (slot : ℕ) (entry : Entry) : Type 0 where
+  pub file : List ℕ
+  pub stored : file_of files name ≡ Some file
   pub short : is_long entry.len ≡ false
   pub inside : entry.place < length file
   pub sized : owned_at handles slot ≡ Some (record { size = rounded_size entry.len; code = false })
 
--- A slot's object gets these bytes, or the device failed, or there is no room.
-pub record FetchesFrom (file : List ℕ) (old : Handles) (slot : ℕ) (entry : Entry) (fault : Option FetchFault) (new : Handles) : Type 0 where
-  pub filled : FillsOne is_of_device old.heap slot (bytes_in file entry) fault new.heap
+-- A slot's object gets bytes that were read, those of this file where the store is honest; or they can't be read, or there is no room.
+pub record GivesSource (honest : Type 0) (files : List (List ℕ × List ℕ)) (name : List ℕ) (entry : Entry) (before after : ℕ) (old : Handles) (slot : ℕ) (fault : Option FetchFault) (new : Handles) : Type 0 where
+  pub given : GivesRead FillsFewest (MayFail honest before after) (λ bytes. IsSomeAnd (owned_at old slot) (λ owned. length bytes ≡ owned.size))
+      (λ bytes. (file : List ℕ) → honest → file_of files name ≡ Some file → bytes ≡ bytes_in file entry) old.heap slot fault new.heap
   pub rest : new ≡ record old { heap = new.heap }
 
 -- the handles with a new object for a resource
@@ -74,18 +75,16 @@ IsMadeOr None made reply old next new loads more left = (reply ≡ made) × (new
 IsMadeOr (Some fault) made reply old next new loads more left = (reply ≡ refusal fault) × (new ≡ old) × (left ≡ loads)
 
 -- A new object for a resource is fetched, in a free slot.
-pub record MakesOne (honest : Type 0) (files : List (List ℕ × List ℕ)) (name : List ℕ) (entry : Entry) (r : Resource) (handle place : ℕ)
+pub record MakesOne (honest : Type 0) (files : List (List ℕ × List ℕ)) (name : List ℕ) (entry : Entry) (before after : ℕ) (r : Resource) (handle place : ℕ)
     (old : Handles) (loads : FinMap nat_cmp Load) (reply : Reply) (new : Handles) (left : FinMap nat_cmp Load) : Type 0 where
   pub slot : ℕ
   pub free : IsFreeSlot old slot
   pub fault : Option FetchFault
   pub next : Handles
-  pub any : (rest : LoadingWorld) → AnyFetches (with_handles rest (with_new old slot r)) slot fault (with_handles rest next)
-  pub exact : (file : List ℕ) → honest → file_of files name ≡ Some file → IsSourceOf file (with_new old slot r) slot entry
-      → FetchesFrom file (with_new old slot r) slot entry fault next
+  pub given : (honest → IsSourceOf files name (with_new old slot r) slot entry) → GivesSource honest files name entry before after (with_new old slot r) slot fault next
   pub outcome : IsMadeOr fault (Word (handle_of r.kind slot)) reply old next new loads (finmap.insert loads slot (record { handle = handle; place = place; loads = 1 })) left
 
 -- A first load: so, or 0 where no slot is free.
-abbrev pub MakesNew : Type 0 → List (List ℕ × List ℕ) → List ℕ → Entry → Resource → ℕ → ℕ → Handles → FinMap nat_cmp Load → Reply → Handles → FinMap nat_cmp Load → Type 0
-MakesNew honest files name entry r handle place old loads reply new left =
-    (HasNoSlot old × (reply ≡ Word 0) × (new ≡ old) × (left ≡ loads)) ⊎ MakesOne honest files name entry r handle place old loads reply new left
+abbrev pub MakesNew : Type 0 → List (List ℕ × List ℕ) → List ℕ → Entry → ℕ → ℕ → Resource → ℕ → ℕ → Handles → FinMap nat_cmp Load → Reply → Handles → FinMap nat_cmp Load → Type 0
+MakesNew honest files name entry before after r handle place old loads reply new left =
+    (HasNoSlot old × (reply ≡ Word 0) × (new ≡ old) × (left ≡ loads)) ⊎ MakesOne honest files name entry before after r handle place old loads reply new left

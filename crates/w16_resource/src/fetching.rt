@@ -6,16 +6,15 @@ ghost use Rattle.w16_store.specs.Later.{IsLater, RoseIf};
 ghost use Rattle.w16_ne.specs.Resources.{entry_of};
 ghost use Rattle.w16_global.specs.Owned.{LacksBytes};
 ghost use Rattle.w16_loading.specs.declared.FetchFault.TheVariants.{Store as store_fails};
-ghost use Rattle.w16_loading.specs.AnyStore.{AnyFetches};
-ghost use Rattle.w16_loading.specs.Fewest.{FetchesFewest};
+ghost use Rattle.w16_loading.specs.Answers.{FetchesFrom, FillsFewest, told};
 ghost use Rattle.w16_loading.specs.Fill.{is_of_read, is_of_device};
-ghost use Rattle.w16_loading.specs.Law.{IsLoadingWorld};
-ghost use Rattle.w16_loading.specs.Modules.{LoadingWorld, with_handles};
+ghost use Rattle.w16_loading.specs.Modules.{LoadingWorld};
 ghost use Rattle.w16_loading.specs.Resource.{resource_at};
+ghost use Rattle.w16_format.specs.Ne.{ne_format};
 ghost use Rattle.w16_loader.specs.Fetching.{fault_in};
 ghost use Rattle.w16_loader.specs.Registry.{in_world};
-ghost use Rattle.w16_resource.specs.Parts.{IsLoadingOver, StoreFetch, loading_of};
-ghost use Rattle.w16_resource.specs.Sources.{FetchesFrom, IsSourceAt, IsSourceOf, is_long};
+ghost use Rattle.w16_resource.specs.Parts.{IsLoadingOver, loading_of};
+ghost use Rattle.w16_resource.specs.Sources.{GivesSource, IsSourceAt, IsSourceOf, is_long};
 
 use crate::finding::{ResourceSource, source_of};
 use crate::resources::Resources;
@@ -80,11 +79,10 @@ pub(crate) fn fetch_from<S: Store, A: Allocator + Copy>(
     ensures device { IfErr result (RoseIf is_of_device (S.failures store.old) (S.failures store.new)) }
     ensures refused { OnErr result (global.new ≡ global.old) }
     ensures named { OnOk result (LacksBytes global.old.handles handle) }
-    ensures any { (rest : LoadingWorld) → LacksBytes global.old.handles handle → AnyFetches (with_handles rest global.old.handles) (handle / 8) (fault_in result) (with_handles rest global.new.handles) }
-    ensures exact { (file : List ℕ) → S.is_honest → file_of (S.files store.old) source.now.file.now ≡ Some file → LacksBytes global.old.handles handle
-        → IsSourceOf file global.old.handles (handle / 8) (entry_of source.now.resource)
-        → FetchesFrom file global.old.handles (handle / 8) (entry_of source.now.resource) (fault_in result) global.new.handles }
+    ensures given { LacksBytes global.old.handles handle → (S.is_honest → IsSourceOf (S.files store.old) source.now.file.now global.old.handles (handle / 8) (entry_of source.now.resource))
+        → GivesSource S.is_honest (S.files store.old) source.now.file.now (entry_of source.now.resource) (S.failures store.old) (S.failures store.new) global.old.handles (handle / 8) (fault_in result) global.new.handles }
 {
+    global.reveal_handles();
     read(source, store, scratch)?;
     let work = SegmentWork {
         data: scratch.bytes(),
@@ -115,18 +113,14 @@ impl<A: Allocator + Copy> Resources<A> {
     ) -> Result<(), FetchFault>
         ensures step { IsLoadingOver S.is_honest (loading_of global.old.handles registry.now self.now (S.files store.old) (S.failures store.old))
             → LacksBytes global.old.handles handle → IsSome (finmap.get self.now (handle / 8))
-            → StoreFetch S.is_honest (loading_of global.old.handles registry.now self.now (S.files store.old) (S.failures store.old)) (handle / 8) (fault_in result)
-            (loading_of global.new.handles registry.now self.now (S.files store.new) (S.failures store.new)) }
-        ensures fewest { IsLoadingWorld (loading_of global.old.handles registry.now self.now (S.files store.old) (S.failures store.old))
-            → LacksBytes global.old.handles handle → IsSome (finmap.get self.now (handle / 8))
-            → FetchesFewest (loading_of global.old.handles registry.now self.now (S.files store.old) (S.failures store.old)) (handle / 8) (fault_in result)
-            (loading_of global.new.handles registry.now self.now (S.files store.new) (S.failures store.old)) }
+            → FetchesFrom FillsFewest (told S.is_honest ne_format (S.files store.old) (S.failures store.old) (S.failures store.new))
+            (loading_of global.old.handles registry.now self.now (S.files store.old) (S.failures store.old)) (handle / 8) (fault_in result)
+            (loading_of global.new.handles registry.now self.now (S.files store.old) (S.failures store.old)) }
         ensures refused { OnErr result (global.new ≡ global.old) }
         ensures named { OnOk result (LacksBytes global.old.handles handle) }
         ensures stays { IsLater (S.files store.old) (S.failures store.old) (S.files store.new) (S.failures store.new) }
         ensures device { IfErr result (RoseIf is_of_device (S.failures store.old) (S.failures store.new)) }
     {
-        global.reveal_handles();
         match self.source_at(registry, slot_of(handle)) {
             None => Err(FetchFault::Damaged),
             Some(source) => fetch_from(&source, global, store, scratch, handle),

@@ -4,13 +4,10 @@ ghost use Rattle.w16_store.specs.Later.{IsLater, RoseIf};
 ghost use Rattle.w16_loading.specs.Fill.{is_of_device};
 ghost use Rattle.w16_model.specs.Calls.{rounded_size};
 ghost use Rattle.w16_ne.specs.Resources.{Label, entry_of};
-ghost use Rattle.w16_loading.specs.AnyStore.{AnyStep};
-ghost use Rattle.w16_loading.specs.Families.{LoadingStep};
+ghost use Rattle.w16_loading.specs.Answers.{FewestOver};
 ghost use Rattle.w16_loading.specs.Families.LoadingCommand.{OfResources};
 ghost use Rattle.w16_loading.specs.Families.ResourceCommand.{LoadResource};
-ghost use Rattle.w16_loading.specs.Fewest.{RequestsFewest};
 ghost use Rattle.w16_loading.specs.File as file;
-ghost use Rattle.w16_loading.specs.Law.{IsLoadingWorld};
 ghost use Rattle.w16_loading.specs.Modules.{LoadingWorld};
 ghost use Rattle.w16_loading.specs.Replies.{Reply};
 ghost use Rattle.w16_loading.specs.Replies.Reply.{Word};
@@ -96,14 +93,8 @@ impl<A: Allocator + Copy> Resources<A> {
         handle: u16,
         place: u16,
     ) -> Result<u16, FetchFault>
-        ensures any { IsLoadingWorld (loading_of global.old.handles registry.now self.old (S.files store.old) (S.failures store.old))
-            → AnyStep (loading_of global.old.handles registry.now self.old (S.files store.old) (S.failures store.old)) (OfResources (LoadResource handle place)) (word_in result)
-            (loading_of global.new.handles registry.now self.new (S.files store.new) (S.failures store.new)) }
-        ensures fewest { IsLoadingWorld (loading_of global.old.handles registry.now self.old (S.files store.old) (S.failures store.old))
-            → RequestsFewest (loading_of global.old.handles registry.now self.old (S.files store.old) (S.failures store.old)) (OfResources (LoadResource handle place)) (word_in result)
-            (loading_of global.new.handles registry.now self.new (S.files store.new) (S.failures store.new)) }
-        ensures exact { IsLoadingOver S.is_honest (loading_of global.old.handles registry.now self.old (S.files store.old) (S.failures store.old)) → S.is_honest
-            → LoadingStep ne_format (loading_of global.old.handles registry.now self.old (S.files store.old) (S.failures store.old)) (OfResources (LoadResource handle place)) (word_in result)
+        ensures step { IsLoadingOver S.is_honest (loading_of global.old.handles registry.now self.old (S.files store.old) (S.failures store.old))
+            → FewestOver S.is_honest ne_format (loading_of global.old.handles registry.now self.old (S.files store.old) (S.failures store.old)) (OfResources (LoadResource handle place)) (word_in result)
             (loading_of global.new.handles registry.now self.new (S.files store.new) (S.failures store.new)) }
         ensures stays { IsLater (S.files store.old) (S.failures store.old) (S.files store.new) (S.failures store.new) }
         ensures device { IfErr result (RoseIf is_of_device (S.failures store.old) (S.failures store.new)) }
@@ -146,7 +137,7 @@ impl<A: Allocator + Copy> Resources<A> {
         place: u16,
     ) -> Result<u16, FetchFault>
         requires { is_long source.now.resource.len ≡ false }
-        ensures made { (label : Label) → MakesNew S.is_honest (S.files store.old) source.now.file.now (entry_of source.now.resource) (resource_in (label, entry_of source.now.resource)) handle place
+        ensures made { (label : Label) → MakesNew S.is_honest (S.files store.old) source.now.file.now (entry_of source.now.resource) (S.failures store.old) (S.failures store.new) (resource_in (label, entry_of source.now.resource)) handle place
             global.old.handles self.old (word_in result) global.new.handles self.new }
         ensures stays { IsLater (S.files store.old) (S.failures store.old) (S.files store.new) (S.failures store.new) }
         ensures device { IfErr result (RoseIf is_of_device (S.failures store.old) (S.failures store.new)) }

@@ -2,12 +2,9 @@
 ghost use Rattle.std.specs.Prelude.{◌≡◌, ◌<◌, ℕ, true, Some, option_map, IfSome, IfErr};
 ghost use Rattle.w16_store.specs.Later.{IsLater, RoseIf};
 ghost use Rattle.w16_loading.specs.Fill.{is_of_device};
-ghost use Rattle.w16_loading.specs.AnyStore.{AnyStep, reads_files};
-ghost use Rattle.w16_loading.specs.Families.{LoadingStep};
+ghost use Rattle.w16_loading.specs.Answers.{FewestOver};
 ghost use Rattle.w16_loading.specs.Families.LoadingCommand.{OfResources};
 ghost use Rattle.w16_loading.specs.Families.ResourceCommand.{LockResource};
-ghost use Rattle.w16_loading.specs.Fewest.{RequestsFewest};
-ghost use Rattle.w16_loading.specs.Law.{IsLoadingWorld};
 ghost use Rattle.w16_loading.specs.Modules.{LoadingWorld};
 ghost use Rattle.w16_loading.specs.Resource.{lock_outcome, slot_of_resource};
 ghost use Rattle.w16_format.specs.Ne.{ne_format};
@@ -46,15 +43,8 @@ impl<A: Allocator + Copy> Resources<A> {
         scratch: &mut Scratch<A>,
         handle: u16,
     ) -> Result<u32, FetchFault>
-        ensures any { IsLoadingWorld (loading_of global.old.handles registry.now self.now (S.files store.old) (S.failures store.old))
-            → AnyStep (loading_of global.old.handles registry.now self.now (S.files store.old) (S.failures store.old)) (OfResources (LockResource handle)) (dword_in result)
-            (loading_of global.new.handles registry.now self.now (S.files store.new) (S.failures store.new)) }
-        ensures fewest { IsLoadingWorld (loading_of global.old.handles registry.now self.now (S.files store.old) (S.failures store.old))
-            → RequestsFewest (loading_of global.old.handles registry.now self.now (S.files store.old) (S.failures store.old)) (OfResources (LockResource handle)) (dword_in result)
-            (loading_of global.new.handles registry.now self.now (S.files store.new) (S.failures store.new)) }
-        ensures exact { IsLoadingOver S.is_honest (loading_of global.old.handles registry.now self.now (S.files store.old) (S.failures store.old))
-            → (reads_files (loading_of global.old.handles registry.now self.now (S.files store.old) (S.failures store.old)) (OfResources (LockResource handle)) ≡ true → S.is_honest)
-            → LoadingStep ne_format (loading_of global.old.handles registry.now self.now (S.files store.old) (S.failures store.old)) (OfResources (LockResource handle)) (dword_in result)
+        ensures step { IsLoadingOver S.is_honest (loading_of global.old.handles registry.now self.now (S.files store.old) (S.failures store.old))
+            → FewestOver S.is_honest ne_format (loading_of global.old.handles registry.now self.now (S.files store.old) (S.failures store.old)) (OfResources (LockResource handle)) (dword_in result)
             (loading_of global.new.handles registry.now self.now (S.files store.new) (S.failures store.new)) }
         ensures stays { IsLater (S.files store.old) (S.failures store.old) (S.files store.new) (S.failures store.new) }
         ensures device { IfErr result (RoseIf is_of_device (S.failures store.old) (S.failures store.new)) }

@@ -1,14 +1,12 @@
 -- A load over the kernel's parts.
 use Rattle.w16_kernel.proofs.Common.{ap, sym}
-use Rattle.w16_kernel.proofs.Modules.{load_told, fails_device}
+use Rattle.w16_kernel.proofs.Modules.{load_told}
 use Rattle.w16_loading.specs.Families.{reply_of}
 use Rattle.w16_loader.specs.Loading.{answer_in}
 use Rattle.w16_kernel.proofs.load.load_reply.Goals as goal
 
 pub returns-in-Ok-Says-clause-step : goal.returns-in-Ok-Says-clause-step
-returns-in-Ok-Says-clause-step g c = load_told c.args.is_load_module (ap (λ a. reply_of (answer_in a)) (sym c.in-Ok-Says.field-0-is)) c.load.ensures.stays.same c.load.ensures.stays.counted
-    (λ e. c.in-Ok-Says.ensures.device (fails_device _ e)) c.in-Ok-Says.ensures.any c.in-Ok-Says.ensures.loads
+returns-in-Ok-Says-clause-step g c = load_told c.args.is_load_module (ap (λ a. reply_of (answer_in a)) (sym c.in-Ok-Says.field-0-is)) c.load.ensures.stays c.in-Ok-Says.ensures.over
 
 pub returns-in-Ok-StoreFails-clause-step : goal.returns-in-Ok-StoreFails-clause-step
-returns-in-Ok-StoreFails-clause-step g c = load_told c.args.is_load_module (ap (λ a. reply_of (answer_in a)) (sym c.in-Ok-StoreFails.field-0-is)) c.load.ensures.stays.same c.load.ensures.stays.counted
-    (λ e. c.in-Ok-StoreFails.ensures.device (fails_device _ e)) c.in-Ok-StoreFails.ensures.any c.in-Ok-StoreFails.ensures.loads
+returns-in-Ok-StoreFails-clause-step g c = load_told c.args.is_load_module (ap (λ a. reply_of (answer_in a)) (sym c.in-Ok-StoreFails.field-0-is)) c.load.ensures.stays c.in-Ok-StoreFails.ensures.over

@@ -1,8 +1,8 @@
-use Rattle.w16_kernel.proofs.Common.{refl}
+use Rattle.w16_kernel.proofs.Fewest.{step_fills}
 use Rattle.w16_kernel.proofs.resource.load_resource.Goals as goal
 
 pub returns-in-Ok-clause-step : goal.returns-in-Ok-clause-step
-returns-in-Ok-clause-step g c = record { any = c.in-Ok.ensures.any c.requires.0; exact = λ asked. c.in-Ok.ensures.exact c.requires (asked refl) }
+returns-in-Ok-clause-step g c = step_fills _ _ _ _ _ (c.in-Ok.ensures.step c.requires)
 
 pub returns-in-Err-clause-step : goal.returns-in-Err-clause-step
-returns-in-Err-clause-step g c = record { any = c.in-Err.ensures.any c.requires.0; exact = λ asked. c.in-Err.ensures.exact c.requires (asked refl) }
+returns-in-Err-clause-step g c = step_fills _ _ _ _ _ (c.in-Err.ensures.step c.requires)

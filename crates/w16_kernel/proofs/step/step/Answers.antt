@@ -1,5 +1,5 @@
 use Rattle.w16_kernel.proofs.Common.{◌≤◌, refl, ap, subst, arith, length-take-le, IsWorldOver, World, Word, Dword, on_any}
-use Rattle.w16_kernel.proofs.Modules.{dword_told, word_told}
+use Rattle.w16_kernel.proofs.Modules.{unread}
 use Rattle.w16_kernel.specs.Runs.{IsCall}
 use Rattle.w16_kernel.specs.declared.call.TheConstants.{MOST_READ}
 use Rattle.w16_kernel.proofs.step.step.Goals as goal
@@ -60,22 +60,22 @@ pub returns-in-Fill-clause-step : goal.returns-in-Fill-clause-step
 returns-in-Fill-clause-step g c = rw c.in-Fill.is (c.write-in-Fill.ensures.step _ c.requires.world)
 
 pub returns-in_ok-builtin-in-Builtin-clause-step : goal.returns-in_ok-builtin-in-Builtin-clause-step
-returns-in_ok-builtin-in-Builtin-clause-step g c = rw c.in-Builtin.is (word_told _ _ _ _ refl refl _ (_, refl, c.in_ok-builtin-in-Builtin.ensures.step (at c.requires.world).loading), refl)
+returns-in_ok-builtin-in-Builtin-clause-step g c = rw c.in-Builtin.is (unread _ _ _ _ _ refl refl (_, refl, c.in_ok-builtin-in-Builtin.ensures.step (at c.requires.world).loading), refl)
 
 pub returns-in-FreeLibrary-clause-step : goal.returns-in-FreeLibrary-clause-step
-returns-in-FreeLibrary-clause-step g c = rw (c.in-FreeLibrary.is, c.free_module.ensures.store) (word_told _ _ _ _ refl refl _ (_, refl, c.free_module.ensures.frees), refl)
+returns-in-FreeLibrary-clause-step g c = rw (c.in-FreeLibrary.is, c.free_module.ensures.store) (unread _ _ _ _ _ refl refl (_, refl, c.free_module.ensures.frees), refl)
 
 pub returns-in-FreeModule-clause-step : goal.returns-in-FreeModule-clause-step
-returns-in-FreeModule-clause-step g c = rw (c.in-FreeModule.is, c.free_module-in-FreeModule.ensures.store) (word_told _ _ _ _ refl refl _ (_, refl, c.free_module-in-FreeModule.ensures.frees), refl)
+returns-in-FreeModule-clause-step g c = rw (c.in-FreeModule.is, c.free_module-in-FreeModule.ensures.store) (unread _ _ _ _ _ refl refl (_, refl, c.free_module-in-FreeModule.ensures.frees), refl)
 
 pub returns-in-GetProcAddress-clause-step : goal.returns-in-GetProcAddress-clause-step
-returns-in-GetProcAddress-clause-step g c = rw c.in-GetProcAddress.is (dword_told _ _ _ _ refl refl _ (ap Dword (c.proc_address.ensures (at c.requires.world).loading), refl), refl)
+returns-in-GetProcAddress-clause-step g c = rw c.in-GetProcAddress.is (unread _ _ _ _ _ refl refl (ap Dword (c.proc_address.ensures (at c.requires.world).loading), refl), refl)
 
 pub returns-in-FindResource-clause-step : goal.returns-in-FindResource-clause-step
-returns-in-FindResource-clause-step g c = rw c.in-FindResource.is (word_told _ _ _ _ refl refl _ (ap Word (c.find_resource.ensures (at c.requires.world).loading), refl), refl)
+returns-in-FindResource-clause-step g c = rw c.in-FindResource.is (unread _ _ _ _ _ refl refl (ap Word (c.find_resource.ensures (at c.requires.world).loading), refl), refl)
 
 pub returns-in-SizeofResource-clause-step : goal.returns-in-SizeofResource-clause-step
-returns-in-SizeofResource-clause-step g c = rw c.in-SizeofResource.is (dword_told _ _ _ _ refl refl _ (ap Dword (c.size_of_resource.ensures (at c.requires.world).loading), refl), refl)
+returns-in-SizeofResource-clause-step g c = rw c.in-SizeofResource.is (unread _ _ _ _ _ refl refl (ap Dword (c.size_of_resource.ensures (at c.requires.world).loading), refl), refl)
 
 pub returns-in-FreeResource-clause-step : goal.returns-in-FreeResource-clause-step
-returns-in-FreeResource-clause-step g c = let freed = c.free.ensures (at c.requires.world).loading in rw c.in-FreeResource.is (word_told _ _ _ _ refl refl _ (ap (λ x. Word x.0) freed, ap (λ x. x.1) freed), refl)
+returns-in-FreeResource-clause-step g c = let freed = c.free.ensures (at c.requires.world).loading in rw c.in-FreeResource.is (unread _ _ _ _ _ refl refl (ap (λ x. Word x.0) freed, ap (λ x. x.1) freed), refl)
