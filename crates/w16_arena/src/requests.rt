@@ -13,13 +13,15 @@ ghost use Rattle.w16_arena.specs.Asked.{HasDiscarded, IsPlaced, IsSlid, first_el
 use crate::Arena;
 use crate::new_place::{NOTHING, Placed};
 use crate::without_discard::Compacted;
+use thiserror::Error;
 use w16_compact::least_prefix;
 use w16_holes::{HoleList, Holes};
 use w16_model::{Kind, RoomOptions};
 use w16_region::{Space, reveal_bytes};
 
 /// Why a request is refused: no number of discards that it may make leaves room. Nothing has changed then.
-#[derive(Clone, Copy, Debug, PartialEq, Eq)]
+#[derive(Debug, Clone, Copy, PartialEq, Eq, Drop, Error)]
+#[error("no room")]
 pub struct NoRoom;
 
 impl<H: HoleList> Arena<H> {

@@ -2,6 +2,8 @@
 //! program that computes them. docs/DEFINITIONS.md of the repository reads the definitions aloud.
 #![tactic(auto)]
 
+use thiserror::Error;
+
 /// Whether a block keeps its address: it does while its object is fixed or locked.
 #[derive(Clone, Copy, Debug, PartialEq, Eq)]
 pub enum Hold {
@@ -74,30 +76,39 @@ pub struct RoomOptions {
 }
 
 /// Why a step on one object is refused. A refused step changes nothing.
-#[derive(Clone, Copy, Debug, PartialEq, Eq)]
+#[derive(Debug, Clone, Copy, PartialEq, Eq, Drop, Error)]
 pub enum Refusal {
     /// The object is locked.
+    #[error("the object is locked")]
     Locked,
     /// The object is not discardable.
+    #[error("the object isn't discardable")]
     NotDiscardable,
     /// The object has no bytes.
+    #[error("the object has no bytes")]
     Absent,
     /// The object is fixed.
+    #[error("the object is fixed")]
     Fixed,
     /// The lock count is 255.
+    #[error("the object's lock count is 255")]
     LockFull,
 }
 
 /// Why a far access is refused. A refused access changes nothing.
-#[derive(Clone, Copy, Debug, PartialEq, Eq)]
+#[derive(Debug, Clone, Copy, PartialEq, Eq, Drop, Error)]
 pub enum FarFault {
     /// No object has the selector.
+    #[error("no object has the selector")]
     BadSelector,
     /// The access would write to code.
+    #[error("the object is code, which can't be written")]
     ReadOnly,
     /// The object has no bytes.
+    #[error("the object has no bytes")]
     NotPresent,
     /// The access goes past the object's end.
+    #[error("the access goes past the object's end")]
     Limit,
 }
 

@@ -4,3 +4,4 @@ pub mod Later
 pub mod Memory
 pub mod Fuse
 pub mod Folder
+pub mod Places

@@ -5,11 +5,13 @@ ghost use Rattle.std.specs.List.Sorted.{IsPermutation, IsSorted};
 ghost use Rattle.std.specs.String.{string_bytes, string_cmp};
 ghost use Rattle.w16_store.specs.Names.{is_named};
 ghost use Rattle.w16_store.specs.Folder.{listed};
+ghost use Rattle.w16_store.specs.Places.{AreInOrder, AreWhole};
 ghost use Rattle.w16_store.specs.declared.folder.DirFault.TheVariants.{Memory};
 
 use crate::disk::Disk;
 use crate::name::is_named;
 use crate::part::has_part;
+use crate::places::{find_name, places_of};
 use crate::store::{Store, StoreFault};
 use crate::system::SystemDisk;
 use std::alloc::{AllocError, Global};
@@ -41,6 +43,10 @@ pub struct DirStore<D: Disk + Drop> {
     disk: D,
     /// Ascending by bytes.
     names: Vec<String>,
+    /// The places of the names, ascending by these after ASCII upper-casing; none where there was no memory for them.
+    places: Vec<usize>,
+    ghost rising: { AreInOrder (map string_bytes names.items) places.items },
+    ghost whole: { AreWhole (map string_bytes names.items) places.items },
 }
 
 impl<D: Disk + Drop> DirStore<D> {
@@ -53,7 +59,12 @@ impl<D: Disk + Drop> DirStore<D> {
     {
         let mut names = disk.names(alloc)?;
         names.sort_unstable();
-        Ok(DirStore { disk, names })
+        let places = places_of(alloc, names.as_slice()).unwrap_or(Vec::new(alloc));
+        Ok(DirStore {
+            disk,
+            names,
+            places,
+        })
     }
 }
 
@@ -68,9 +79,15 @@ impl<R: Files + AllocGlobal + Clone + Drop> DirStore<SystemDisk<R>> {
     }
 }
 
-fn listed_as<'a>(names: &'a [String], name: &[u8]) -> Option<&'a str>
+/// The first of the names that is this one. All are gone over where there are no places of them.
+fn listed_as<'a>(names: &'a [String], places: &[usize], name: &[u8]) -> Option<&'a str>
+    requires rising { AreInOrder (map string_bytes names.now) places.now }
+    requires whole { AreWhole (map string_bytes names.now) places.now }
     ensures { option_map (λ found. found.now) result ≡ find (λ n. is_named n name.now) (map string_bytes names.now) }
 {
+    if places.len() == names.len() {
+        return find_name(names, places, name);
+    }
     for listed in names {
         if is_named(listed.as_bytes(), name) {
             return Some(listed.as_str());
@@ -87,7 +104,7 @@ impl<D: Disk + Drop> Store for DirStore<D> {
     ghost is_honest = { D.is_honest };
 
     fn read_at(&mut self, name: &[u8], at: u64, buf: &mut [u8]) -> Result<(), StoreFault> {
-        let Some(listed) = listed_as(self.names.as_slice(), name) else {
+        let Some(listed) = listed_as(self.names.as_slice(), self.places.as_slice(), name) else {
             return Err(StoreFault::Missing);
         };
         let Ok(len) = self.disk.read(listed, at, buf) else {
@@ -101,7 +118,7 @@ impl<D: Disk + Drop> Store for DirStore<D> {
     }
 
     fn len_of(&mut self, name: &[u8]) -> Result<u64, StoreFault> {
-        match listed_as(self.names.as_slice(), name) {
+        match listed_as(self.names.as_slice(), self.places.as_slice(), name) {
             None => Err(StoreFault::Missing),
             Some(listed) => match self.disk.read(listed, 0, &mut []) {
                 Ok(len) => Ok(len),

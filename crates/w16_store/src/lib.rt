@@ -9,6 +9,7 @@ mod memory;
 mod name;
 mod opened;
 mod part;
+mod places;
 mod store;
 mod system;
 mod window;
