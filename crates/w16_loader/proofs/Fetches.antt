@@ -1,56 +1,48 @@
--- What a fetch of a segment comes to: over any store, over a file that says what it said at load, and in a world of its files.
+-- What a fetch of a segment comes to.
 use Rattle.w16_loader.proofs.Common.{◌≡◌, ℕ, ◌-◌, ◌<◌, ◌≤◌, inl, inr, true, false, cond, List, [], length, map, All, Option, Some, None, IsSomeAnd, MatchOption, MatchResult, is_some, option_map, slice_get, slice_index_or, Result, Ok, Err, refl, sym}
 use Rattle.w16_loader.proofs.Common.{ap, ◌∙◌, subst, arith, ne_eqb, lit<, false≢true, length-map, slice_get-map, slice_get_cases, get_or_from_slice_get, AllZip-left, repeated, Owned, Handles, bytes_at, Revives, owned_at, is_owned, length-repeated}
-use Rattle.w16_loader.proofs.Common.{All-repeated, tables_at, RelocFault, Record, Held, checked, data_of, IsImage, naming, FetchFault, Store, Damaged, NoRoom, AnyFetches, FetchesFewest, AreHandles, IsOwnedSize, read_of, segment_bytes}
-use Rattle.w16_loader.proofs.Common.{Far, ModuleFile, SegmentData, IsModuleFile, IsSegmentData, numbered, Fills, FillsOne, is_of_device, is_of_read, IsItsFiles, IsObjectOf, LoadingWorld, Module, of_segment, data_in, target_of, targets_in, far_of}
-use Rattle.w16_loader.proofs.Common.{IsFileOf, IsRelocated, ne_format, module_file, segment_in, accepted, has_room, is_format, stored_law, is_relocated, words_same, file_of, Files, GivesBytes, IsFetchable, IsSoundIn, IsWritten, fault_in, image_in}
-use Rattle.std.specs.Prelude.{IfErr}
-use Rattle.w16_loading.specs.Fetch.{Fetches}
+use Rattle.w16_loader.proofs.Common.{All-repeated, tables_at, RelocFault, Record, Held, checked, data_of, IsImage, naming, FetchFault, Store, Damaged, NoRoom, IsOwnedSize, read_of, segment_bytes}
+use Rattle.w16_loader.proofs.Common.{Far, ModuleFile, SegmentData, IsModuleFile, IsSegmentData, numbered, Fills, IsHeap, is_of_device, is_of_read, IsItsFiles, IsObjectOf, LoadingWorld, Module, of_segment, data_in, target_of, targets_in, far_of}
+use Rattle.w16_loader.proofs.Common.{IsFileOf, IsRelocated, ne_format, module_file, segment_in, accepted, has_room, is_format, stored_law, is_relocated, words_same, file_of, Files, GivesBytes, IsFetchable, IsSoundIn, IsWritten, image_in}
+use Rattle.w16_loader.specs.Fetching.{GivesOwned, GivesSegment, IsSoundSource}
+use Rattle.w16_loading.specs.Answers.{FetchesFrom, FillsFewest, GivesRead, MayFail, told}
+use Rattle.w16_loading.specs.Fetch as fetching
 use Rattle.w16_ne.specs.declared.segment_table.Segment.{Segment}
 use Rattle.w16_ne.specs.Modules.{Tables}
 use Rattle.w16_reloc.specs.declared.value.Far as words
 use Rattle.w16_loading.specs.File as loading
-use Rattle.w16_loading.proofs.Fewest.{one_fewest}
+use Rattle.w16_loading.proofs.Fewest.{fill_fewest}
 use Rattle.w16_loader.proofs.Giving.{none_filled}
 
--- a fault of the device
-pub rises : {A : Type 0} (result : Result A FetchFault) (P : Type 0) → IfErr result (λ fault. is_of_device fault ≡ true → P) → fault_in result ≡ Some Store → P
-rises (Ok done) P h e = cc
-rises (Err fault) P h e = let same : fault ≡ Store = cc in h (ap is_of_device same)
-
--- Over any store.
-
-there : {A : Type 0} (p : Option A) → is_some p ≡ true → (a : A) × (p ≡ Some a)
-there None e = absurd (false≢true e)
-there (Some a) e = (a, refl)
-
--- some bytes of the size that the owner says
-module _ (world : LoadingWorld) (slot : ℕ) (owned : is_owned world.handles slot ≡ true) where
-  owner : (w : Owned) × (owned_at world.handles slot ≡ Some w)
-  owner = there (owned_at world.handles slot) owned
-
-  abbrev zeros : List ℕ
-  zeros = repeated owner.0.size 0
-
-  sized : IsOwnedSize world slot zeros
-  sized = subst (λ p. IsSomeAnd p (λ (w : Owned). length zeros ≡ w.size)) (sym owner.1) (length-repeated owner.0.size 0)
+-- What is given to an object that a module owns.
+module _ (Known : Type 0) (image : Known → List ℕ) (before after : ℕ) (old : Handles) (slot : ℕ) where
+  abbrev Gives : Option FetchFault → Handles → Type 0
+  Gives fault new = GivesOwned Known image before after old slot fault new
 
   -- its bytes can't be read
-  pub unread_any : (fault : FetchFault) → is_of_read fault ≡ true → AnyFetches world slot (Some fault) world
-  unread_any fault may = record { bytes = zeros; image = sized; filled = by fault may; rest = refl }
-    where
-      by : (fault : FetchFault) → is_of_read fault ≡ true → FillsOne is_of_read world.handles.heap slot zeros (Some fault) world.handles.heap
-      by NoRoom e = absurd (false≢true e)
-      by Store e = (refl, refl)
-      by Damaged e = (refl, refl)
+  pub unread : (fault : FetchFault) → is_of_read fault ≡ true → (is_of_device fault ≡ true → before < after) → (Known → fault ≡ Store) → Gives (Some fault) old
+  unread Store may rose exact = record { given = ((refl, (λ s. rose refl), exact), refl); rest = refl }
+  unread NoRoom may rose exact = absurd (false≢true may)
+  unread Damaged may rose exact = record { given = ((refl, (λ s. rose (ap is_of_device s)), exact), refl); rest = refl }
 
-  -- there is no room for them
-  pub refused_any : bytes_at world.handles.heap slot ≡ None → Revives world.handles slot false world.handles → AnyFetches world slot (Some NoRoom) world
-  refused_any absent refused = record { bytes = zeros; image = sized; filled = none_filled world.handles slot absent refused zeros sized (All-repeated owner.0.size 0 (lit< tt)); rest = refl }
+  module _ (heap : IsHeap old.heap) where
+    -- there is no room for them
+    pub full : is_owned old slot ≡ true → bytes_at old.heap slot ≡ None → Revives old slot false old → Gives (Some NoRoom) old
+    full owned absent refused = by (owned_at old slot) refl owned
+      where
+        by : (p : Option Owned) → owned_at old slot ≡ p → is_some p ≡ true → Gives (Some NoRoom) old
+        by None at e = absurd (false≢true e)
+        by (Some w) at e =
+            let zeros = repeated w.size 0 in
+            let sized : IsSomeAnd (owned_at old slot) (λ (w : Owned). length zeros ≡ w.size) = subst (λ p. IsSomeAnd p (λ (w : Owned). length zeros ≡ w.size)) (sym at) (length-repeated w.size 0) in
+            let none : Fills old.heap slot zeros false old.heap = none_filled old slot absent refused zeros sized (All-repeated w.size 0 (lit< tt)) in
+            record { given = (zeros, sized, (none, fill_fewest old.heap slot zeros false old.heap heap none)); rest = refl }
 
--- its request discards as few as it can
-pub fewest_so : (old new : LoadingWorld) (slot : ℕ) (fault : Option FetchFault) → AreHandles old.handles → AnyFetches old slot fault new → FetchesFewest old slot fault new
-fewest_so old new slot fault is f = (f, one_fewest is_of_read old.handles.heap slot f.bytes fault new.handles.heap is.heap f.filled)
+    pub filled : (IsBytes : List ℕ → Type 0) → ((k : Known) (bytes : List ℕ) → IsBytes bytes → IsSomeAnd (owned_at old slot) (λ (w : Owned). length bytes ≡ w.size) → bytes ≡ image k) → (new : Handles) → GivesBytes old slot IsBytes new → Gives None new
+    filled IsBytes are new g = record {
+      given = (g.bytes, g.sized, (λ k. are k g.bytes g.are g.sized), (g.filled, fill_fewest old.heap slot g.bytes true new.heap heap g.filled));
+      rest = g.rest;
+    }
 
 -- Over a file that says what it said at load.
 
@@ -87,29 +79,15 @@ module _ (file : List ℕ) (t : Tables) (number : ℕ) (values : List words.Far)
       over : IsImage sound.held.bytes sound.held.records values (naming sound.held.bytes sound.held.records) written
       over = is.image (naming sound.held.bytes sound.held.records) relocated.sound room
 
-  module _ (old : Handles) (slot : ℕ) (sized : IsSomeAnd (owned_at old slot) (λ (w : Owned). w.size ≡ s.size)) where
-    -- the device failed
-    pub device_failed : (fault : FetchFault) → fault ≡ Store → FillsOne is_of_device old.heap slot bytes (Some fault) old.heap
-    device_failed fault same = subst (λ f. FillsOne is_of_device old.heap slot bytes (Some f) old.heap) (sym same) (refl, refl)
-
-    pub no_room : bytes_at old.heap slot ≡ None → Revives old slot false old → FillsOne is_of_device old.heap slot bytes (Some NoRoom) old.heap
-    no_room absent refused = none_filled old slot absent refused bytes (turn (owned_at old slot) sized) (data_is.image (map far_of values)).1
-      where
-        turn : (p : Option Owned) → IsSomeAnd p (λ w. w.size ≡ s.size) → IsSomeAnd p (λ w. length bytes ≡ w.size)
-        turn None h = h
-        turn (Some w) h = (data_is.image (map far_of values)).0 ∙ sym h
-
-    -- it has its bytes
-    pub has_bytes : (new : Handles) (read : List ℕ) (records : List Record) → read ≡ sound.held.bytes → records ≡ sound.held.records → GivesBytes old slot (IsWritten read records values) new
-        → FillsOne is_of_device old.heap slot bytes None new.heap
-    has_bytes new read records same_bytes same_records given = subst (λ bs. Fills old.heap slot bs true new.heap) (sym (image given.bytes (long (owned_at old slot) given.sized sized) written)) given.filled
-      where
-        written : IsWritten sound.held.bytes sound.held.records values given.bytes
-        written = subst (λ rs. IsWritten sound.held.bytes rs values given.bytes) same_records (subst (λ bs. IsWritten bs records values given.bytes) same_bytes given.are)
-
-        long : (p : Option Owned) → IsSomeAnd p (λ w. length given.bytes ≡ w.size) → IsSomeAnd p (λ w. w.size ≡ s.size) → length given.bytes ≡ s.size
-        long None h k = absurd h
-        long (Some w) h k = h ∙ k
+  -- so are the bytes of an object of its size
+  pub written_image : (old : Handles) (slot : ℕ) → IsSomeAnd (owned_at old slot) (λ (w : Owned). w.size ≡ s.size) → (read : List ℕ) (records : List Record) → read ≡ sound.held.bytes → records ≡ sound.held.records
+      → (written : List ℕ) → IsWritten read records values written → IsSomeAnd (owned_at old slot) (λ (w : Owned). length written ≡ w.size) → written ≡ bytes
+  written_image old slot sized read records same_bytes same_records written are as_long = sym (image written (long (owned_at old slot) as_long sized)
+      (subst (λ rs. IsWritten sound.held.bytes rs values written) same_records (subst (λ bs. IsWritten bs records values written) same_bytes are)))
+    where
+      long : (p : Option Owned) → IsSomeAnd p (λ w. length written ≡ w.size) → IsSomeAnd p (λ w. w.size ≡ s.size) → length written ≡ s.size
+      long None h k = absurd h
+      long (Some w) h k = h ∙ k
 
 -- A segment of a module that is as this file says it is sound in the file.
 module _ (file : List ℕ) (t : Tables) (m : Module) (its : IsItsFiles m (module_file file t)) (number : ℕ) (values : List words.Far) (bound : slice_index_or m.values (number - 1) [] ≡ map far_of values) where
@@ -178,18 +156,22 @@ module _ (world : LoadingWorld) (slot number : ℕ) (name : List ℕ) (t : Table
       ∙ ap (option_map (λ (d : SegmentData). d.image (slice_index_or m.values (number - 1) []))) (by_number (map (data_in file t) t.segments) ∙ data_there file t number values sound)
       ∙ ap (λ vs. Some ((data_in file t sound.segment).image vs)) is.source.bound
 
-  -- What a call that keeps the files answers over the file alone, is a fetch in the world.
-  pub fetched : {A : Type 0} (result : Result A FetchFault) (files : Files) → files ≡ world.files → (new : Handles)
-      → ((bytes : List ℕ) → file_of world.files name ≡ Some bytes → (in_file : IsSoundIn bytes t number values) → IsSomeAnd (owned_at world.handles slot) (λ (w : Owned). w.size ≡ in_file.segment.size)
-      → FillsOne is_of_device world.handles.heap slot (image_in bytes t in_file.segment values) (fault_in result) new.heap)
-      → new ≡ record world.handles { heap = new.heap } → Fetches ne_format world slot (fault_in result) (record world { handles = new; files = files })
-  fetched result files same new filled rest =
-      subst (λ (fs : Files). Fetches ne_format world slot (fault_in result) (record world { handles = new; files = fs })) (sym same) (record {
-        bytes = image_in file t sound.segment values;
-        image = inl (is.handle, number, m, is.segment, bytes_are);
-        filled = filled file has sound owned_size;
-        rest = ap (λ (h : Handles). record world { handles = h }) rest;
-      })
+  pub source : (honest : Type 0) → honest → IsSoundSource honest world.files name t number values world.handles slot
+  source honest h = record { truly = h; file = file; stored = ap (file_of world.files) (sym is.source.named) ∙ stored.1.stored; sound = sound; sized = owned_size }
+
+-- What gives a segment's object its image is a fetch.
+module _ (honest : Type 0) (world : LoadingWorld) (slot number : ℕ) (name : List ℕ) (t : Tables) (values : List words.Far) (last : number ≤ length t.segments) (is : honest → IsFetchable world slot number name t values) (before after : ℕ) where
+  pub fetches : (fault : Option FetchFault) (new : Handles) → GivesSegment honest world.files name t number values before after world.handles slot fault new
+      → FetchesFrom FillsFewest (told honest ne_format world.files before after) world slot fault (record world { handles = new })
+  fetches fault new f = record { given = turn fault f.given; rest = ap (λ (h : Handles). record world { handles = h }) f.rest }
     where
-      has : file_of world.files name ≡ Some file
-      has = ap (file_of world.files) (sym is.source.named) ∙ stored.1.stored
+      known : (h : honest) → IsSoundSource honest world.files name t number values world.handles slot
+      known h = source world slot number name t values (is h) last honest h
+
+      turn : (fault : Option FetchFault) → GivesRead FillsFewest (MayFail (IsSoundSource honest world.files name t number values world.handles slot) before after) (IsOwnedSize world slot)
+          (λ bytes. (k : IsSoundSource honest world.files name t number values world.handles slot) → bytes ≡ image_in k.file t k.sound.segment values) world.handles.heap slot fault new.heap
+          → GivesRead FillsFewest (MayFail honest before after) (IsOwnedSize world slot) (λ bytes. honest → fetching.IsImage ne_format world slot bytes) world.handles.heap slot fault new.heap
+      turn None g = (g.0, g.1, (λ h. inl ((is h).handle, number, (is h).m, (is h).segment, bytes_are world slot number name t values (is h) last ∙ ap Some (sym (g.2 (known h))))), g.3)
+      turn (Some NoRoom) g = g
+      turn (Some Store) g = ((g.0.0, g.0.1, λ h. g.0.2 (known h)), g.1)
+      turn (Some Damaged) g = ((g.0.0, g.0.1, λ h. g.0.2 (known h)), g.1)

@@ -1,20 +1,7 @@
 -- How a load's objects get their bytes, over a store that may be honest.
-use Rattle.w16_loader.proofs.Common.{◌≡◌, ℕ, ◌<◌, ◌≤◌, true, List, [], ◌∷◌, length, Option, Some, None, MatchOption, refl, sym, ap, ◌∙◌, arith, false≢true, Heap, FetchFault, Store, Damaged, NoRoom, Failure, Filling, FillsOne, GivesAny, InTurn, is_of_device, is_of_read}
+use Rattle.w16_loader.proofs.Common.{◌≡◌, ℕ, ◌<◌, ◌≤◌, List, [], ◌∷◌, Option, Some, None, arith, Heap, FetchFault, Store, Damaged, NoRoom, Failure, Filling, InTurn}
 use Rattle.w16_loader.proofs.Common.{gives_over}
-use Rattle.w16_loading.proofs.Common.{bytes_in}
-use Rattle.w16_loading.proofs.Fillings.{filled_object}
 use Rattle.w16_loading.specs.Answers.{MayFail}
-
--- Bytes that were read for it, which are the file's where the store is honest.
-pub given_both : (honest : Type 0) (before after : ℕ) (old : Heap) (slot : ℕ) (held : List ℕ) (fault : Option FetchFault) (new : Heap) → GivesAny old slot held fault new → (honest → FillsOne is_of_device old slot held fault new)
-    → (fault ≡ Some Store → before < after) → gives_over honest before after old slot held fault new
-given_both honest before after old slot held None new (some, long, f) exact rose = (some, long, same, f)
-  where
-    same : honest → some ≡ held
-    same h = let both : ◌≡◌ {A = Option (List ℕ)} (Some some) (Some held) = sym (ap bytes_in (filled_object old slot some new f)) ∙ ap bytes_in (filled_object old slot held new (exact h)) in cc
-given_both honest before after old slot held (Some NoRoom) new (some, long, f) exact rose = (some, long, f)
-given_both honest before after old slot held (Some Store) new (some, long, f) exact rose = ((refl, (λ s. rose refl), λ h. refl), f.1)
-given_both honest before after old slot held (Some Damaged) new (some, long, f) exact rose = ((refl, (λ s. let d : Damaged ≡ Store = s in cc), λ h. absurd (false≢true (exact h).0)), f.1)
 
 -- What fails in a part of a call, fails in it.
 module _ (honest : Type 0) (before start end after : ℕ) (earlier : before ≤ start) (later : end ≤ after) where

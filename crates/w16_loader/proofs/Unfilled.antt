@@ -1,8 +1,10 @@
 -- Objects of segments that have no bytes yet, and one of them that a load gives its bytes.
 use Rattle.w16_loader.proofs.Common.{◌≡◌, ◌≢◌, ℕ, ◌-◌, ◌/◌, ◌<◌, ◌≤◌, Bool, true, false, cond, ◌||◌, ◌==◌, List, [], ◌∷◌, length, map, All, Option, Some, None, IsSomeAnd, option_map, is_some, slice_get, Result, Ok, Err, inl, inr, refl, sym, ap, ◌∙◌, subst}
 use Rattle.w16_loader.proofs.Common.{arith, eq-eqb, OnOk, OnErr, false≢true, length-map, slice_get-map, get_or_from_slice_get, Kind, Fixed, Moveable, Discardable, Owned, IsKeptOrDiscarded, Handles, handle_of, Heap, Object, IsHeap, bytes_at, is_fixed}
-use Rattle.w16_loader.proofs.Common.{object_at, owned_at, Global, LacksBytes, tables_at, file_of, FetchFault, AnyFetches, GivesAny, ModuleFile, Segment, IsSegmentData, Filling, FillsOne, Giving, InTurn, is_of_device, is_of_read, IsItsFiles, LoadingWorld}
-use Rattle.w16_loader.proofs.Common.{Module, filled_other, data_in, far_of, module_file, segment_in, tables_in, read_back, tables_apart, IsSaid, Files, IsSoundIn, IsSourceOf, fault_in, image_in, in_parts, Part, IsReadAs, IsUnfilled, failure_at, fills_of_part}
+use Rattle.w16_loader.proofs.Common.{object_at, owned_at, Global, LacksBytes, tables_at, file_of, FetchFault, NoRoom, Store, Damaged, ModuleFile, Segment, IsSegmentData, Filling, Giving, InTurn, IsItsFiles, gives_over}
+use Rattle.w16_loader.specs.Fetching.{GivesOwned, IsSoundSource}
+use Rattle.w16_loading.specs.Answers.{FillsFewest, GivesRead, MayFail}
+use Rattle.w16_loader.proofs.Common.{Module, filled_other, data_in, far_of, module_file, segment_in, tables_in, read_back, tables_apart, IsSaid, Files, IsSoundIn, IsSourceOf, fault_in, image_in, Part, IsReadAs, IsUnfilled, failure_at, fills_of_part}
 use Rattle.std.specs.FinMap as finmap
 use Rattle.w16_ne.specs.declared.segment_table.Segment as ne
 use Rattle.w16_ne.specs.Modules as ne_modules
@@ -50,35 +52,33 @@ module _ (handles : Handles) (slot : ℕ) (s : Segment) (is : IsUnfilled handles
       turn (Some o) h k = false≢true (sym (ap is_some h.1) ∙ k.2)
 
 -- A fetch of one, as it answers.
-
--- a world with these handles, and nothing else
-abbrev pub with_these : Handles → LoadingWorld
-with_these handles = record { handles = handles; modules = finmap.empty; loads = finmap.empty; files = []; failures = 0 }
-
-module _ {A : Type 0} (old new : Global) (handle : ℕ) (result : Result A FetchFault) (rest : new.handles ≡ record old.handles { heap = new.handles.heap })
-    (any : (world : LoadingWorld) → LacksBytes old.handles handle → AnyFetches (in_parts world old.handles world.files world.failures) (handle / 8) (fault_in result) (in_parts world new.handles world.files world.failures)) where
+module _ {A : Type 0} {Known : Type 0} {image : Known → List ℕ} {before after : ℕ} (old new : Global) (handle : ℕ) (result : Result A FetchFault)
+    (given : LacksBytes old.handles handle → GivesOwned Known image before after old.handles (handle / 8) (fault_in result) new.handles) where
   -- what keeps objects that it isn't of
   pub keeps : IsHeap old.handles.heap → OnErr result (new ≡ old) → OnOk result (LacksBytes old.handles handle) → (q : ℕ) (s : Segment) → q ≢ handle / 8 → IsUnfilled old.handles q s → IsUnfilled new.handles q s
-  keeps heap same lacks q s other is = turn result same lacks any
+  keeps heap same lacks q s other is = turn result same lacks given
     where
-      turn : (r : Result A FetchFault) → OnErr r (new ≡ old) → OnOk r (LacksBytes old.handles handle)
-          → ((world : LoadingWorld) → LacksBytes old.handles handle → AnyFetches (in_parts world old.handles world.files world.failures) (handle / 8) (fault_in r) (in_parts world new.handles world.files world.failures))
-          → IsUnfilled new.handles q s
-      turn (Err fault) same lacks any = subst (λ (g : Global). IsUnfilled g.handles q s) (sym same) is
-      turn (Ok done) same lacks any =
-          let a = any (with_these old.handles) lacks in
-          kept_so old.handles q s is new.handles (filled_other old.handles.heap (handle / 8) a.bytes new.handles.heap a.filled heap q other) rest
+      turn : (r : Result A FetchFault) → OnErr r (new ≡ old) → OnOk r (LacksBytes old.handles handle) → (LacksBytes old.handles handle → GivesOwned Known image before after old.handles (handle / 8) (fault_in r) new.handles) → IsUnfilled new.handles q s
+      turn (Err fault) same lacks given = subst (λ (g : Global). IsUnfilled g.handles q s) (sym same) is
+      turn (Ok done) same lacks given =
+          let g = given lacks in
+          kept_so old.handles q s is new.handles (filled_other old.handles.heap (handle / 8) g.given.0 new.handles.heap g.given.3.0 heap q other) g.rest
 
-  -- some bytes, as many as these
-  pub gives_any : (slot : ℕ) (bytes : List ℕ) (s : Segment) → handle ≡ handle_of s.kind slot → IsUnfilled old.handles slot s → length bytes ≡ s.size → GivesAny old.handles.heap slot bytes (fault_in result) new.handles.heap
-  gives_any slot bytes s named is long =
-      let a = any (with_these old.handles) (lacks old.handles slot s is handle named) in
-      let at : handle / 8 ≡ slot = slot_in s.kind slot handle named in
-      (a.bytes, turn (length a.bytes) (owned_at old.handles slot) (subst (λ q. IsSomeAnd (owned_at old.handles q) (λ (w : Owned). length a.bytes ≡ w.size)) at a.image) is.owned, subst (λ q. FillsOne is_of_read old.handles.heap q a.bytes (fault_in result) new.handles.heap) at a.filled)
+  -- bytes that are read for it, those that were held of it where it is known what is there
+  pub gives_held : (honest : Type 0) (slot : ℕ) (held : List ℕ) (s : Segment) → handle ≡ handle_of s.kind slot → IsUnfilled old.handles slot s → length held ≡ s.size → (honest → (k : Known) × (image k ≡ held))
+      → gives_over honest before after old.handles.heap slot held (fault_in result) new.handles.heap
+  gives_held honest slot held s named is long known = turn (fault_in result) (subst (λ q. GivesOwned Known image before after old.handles q (fault_in result) new.handles) (slot_in s.kind slot handle named) (given (lacks old.handles slot s is handle named))).given
     where
-      turn : (n : ℕ) (p : Option Owned) → IsSomeAnd p (λ w. n ≡ w.size) → IsSomeAnd p (λ w. w.size ≡ s.size) → n ≡ length bytes
-      turn n None h k = absurd h
-      turn n (Some w) h k = h ∙ k ∙ sym long
+      sized : (bytes : List ℕ) (p : Option Owned) → IsSomeAnd p (λ w. length bytes ≡ w.size) → IsSomeAnd p (λ w. w.size ≡ s.size) → length bytes ≡ length held
+      sized bytes None h k = absurd h
+      sized bytes (Some w) h k = h ∙ k ∙ sym long
+
+      turn : (fault : Option FetchFault) → GivesRead FillsFewest (MayFail Known before after) (λ bytes. IsSomeAnd (owned_at old.handles slot) (λ (w : Owned). length bytes ≡ w.size)) (λ bytes. (k : Known) → bytes ≡ image k) old.handles.heap slot fault new.handles.heap
+          → gives_over honest before after old.handles.heap slot held fault new.handles.heap
+      turn None g = (g.0, sized g.0 (owned_at old.handles slot) g.1 is.owned, (λ h. g.2 (known h).0 ∙ (known h).1), g.3.0)
+      turn (Some NoRoom) g = (g.0, sized g.0 (owned_at old.handles slot) g.1 is.owned, g.2.0)
+      turn (Some Store) g = ((g.0.0, g.0.1, λ h. g.0.2 (known h).0), g.1)
+      turn (Some Damaged) g = ((g.0.0, g.0.1, λ h. g.0.2 (known h).0), g.1)
 
 -- A segment of a load.
 
@@ -154,19 +154,12 @@ module _ (files : Files) (m : Module) (read : ModuleFile) (said : IsSaid files m
         let values_same : map far_of values ≡ part.its_values = sym source.bound ∙ get_or_from_slice_get m.values (number - 1) part.its_values [] part.values_at in
         λ i. (its i).image (values_same i)
 
-    -- What a fetch says of a segment of this number, over a file in which it is sound.
-    abbrev pub Fetched : {A : Type 0} → Handles → Heap → ℕ → Result A FetchFault → ℕ → Type 0
-    Fetched old new handle result n = (file : List ℕ) → file_of files name ≡ Some file → (in_file : IsSoundIn file t n values) → LacksBytes old handle → IsSomeAnd (owned_at old (handle / 8)) (λ (w : Owned). w.size ≡ in_file.segment.size)
-        → FillsOne is_of_device old.heap (handle / 8) (image_in file t in_file.segment values) (fault_in result) new
-
-    -- a fetch that gives it its image gives what a load does
-    pub gives_image : {A : Type 0} (old : Handles) (new : Heap) (handle : ℕ) (result : Result A FetchFault) → handle ≡ handle_of part.segment.kind part.slot → IsUnfilled old part.slot part.segment
-        → (n : ℕ) → n ≡ number → Fetched old new handle result n → FillsOne is_of_device old.heap part.slot (part.its_data.image part.its_values) (fault_in result) new
-    gives_image old new handle result named is n same fetched =
-        let at : handle / 8 ≡ part.slot = slot_in part.segment.kind part.slot handle named in
+    -- where its file has it
+    pub source_image : (honest : Type 0) → honest → (old : Handles) (handle : ℕ) → handle ≡ handle_of part.segment.kind part.slot → IsUnfilled old part.slot part.segment → (n : ℕ) → n ≡ number
+        → (k : IsSoundSource honest files name t n values old (handle / 8)) × (image_in k.file t k.sound.segment values ≡ part.its_data.image part.its_values)
+    source_image honest h old handle named is n same =
         let size : part.segment.size ≡ sound.segment.size = ap (λ (s : Segment). s.size) (same_segment m read number part t sound.segment told sound.there) in
         let sized : IsSomeAnd (owned_at old (handle / 8)) (λ (w : Owned). w.size ≡ sound.segment.size) =
-        subst (λ n. IsSomeAnd (owned_at old (handle / 8)) (λ (w : Owned). w.size ≡ n)) size (subst (λ q. IsSomeAnd (owned_at old q) (λ (w : Owned). w.size ≡ part.segment.size)) (sym at) is.owned) in
-        subst (λ bytes. FillsOne is_of_device old.heap part.slot bytes (fault_in result) new) its_image
-        (subst (λ q. FillsOne is_of_device old.heap q (image_in said.file t sound.segment values) (fault_in result) new) at
-        (subst (λ k. Fetched old new handle result k) same fetched said.file stored sound (lacks old part.slot part.segment is handle named) sized))
+        subst (λ n. IsSomeAnd (owned_at old (handle / 8)) (λ (w : Owned). w.size ≡ n)) size (subst (λ q. IsSomeAnd (owned_at old q) (λ (w : Owned). w.size ≡ part.segment.size)) (sym (slot_in part.segment.kind part.slot handle named)) is.owned) in
+        subst (λ k. (x : IsSoundSource honest files name t k values old (handle / 8)) × (image_in x.file t x.sound.segment values ≡ part.its_data.image part.its_values)) (sym same)
+        (record { truly = h; file = said.file; stored = stored; sound = sound; sized = sized }, its_image)

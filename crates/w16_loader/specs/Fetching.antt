@@ -2,6 +2,7 @@
 use Rattle.std.specs.Prelude.{◌≡◌, ℕ, ◌-◌, ◌<◌, ◌≤◌, true, List, [], length, map, All, IsSomeAnd, Option, Some, None, Result, Ok, Err, slice_get, slice_index_or}
 use Rattle.w16_model.specs.Handles.{Handles}
 use Rattle.w16_model.specs.Owned.{owned_at}
+use Rattle.w16_store.specs.Files.{file_of}
 use Rattle.w16_store.specs.declared.store.StoreFault.TheVariants as stores
 use Rattle.w16_ne.specs.declared.segment_table.Segment.{Segment}
 use Rattle.w16_ne.specs.Modules.{Tables, tables_at}
@@ -15,6 +16,7 @@ use Rattle.w16_reloc.specs.Segments.{Held, checked}
 use Rattle.w16_reloc.specs.Sound.{IsSound}
 use Rattle.w16_loading.specs.declared.FetchFault.{FetchFault}
 use Rattle.w16_loading.specs.declared.FetchFault.TheVariants.{Store, Damaged}
+use Rattle.w16_loading.specs.Answers.{FillsFewest, GivesRead, MayFail}
 use Rattle.w16_loading.specs.Fill.{Fills}
 use Rattle.w16_loading.specs.Law.{IsLoadingWorld, IsOfFiles}
 use Rattle.w16_loading.specs.Modules.{LoadingWorld, Module, IsSegmentOf}
@@ -73,6 +75,25 @@ pub record IsSoundIn (file : List ℕ) (t : Tables) (number : ℕ) (values : Lis
 -- what the object of a segment is given under these values
 abbrev pub image_in : List ℕ → Tables → Segment → List words.Far → List ℕ
 image_in file t s values = (data_in file t s).image (map far_of values)
+
+-- A slot's object, which a module owns, gets bytes that were read for it, by a request that discards as few as it can; or there is no room, or they
+-- can't be read. Where something is known of what is there, they are these, and the device alone fails.
+pub record GivesOwned (Known : Type 0) (image : Known → List ℕ) (before after : ℕ) (old : Handles) (slot : ℕ) (fault : Option FetchFault) (new : Handles) : Type 0 where
+  pub given : GivesRead FillsFewest (MayFail Known before after) (λ bytes. IsSomeAnd (owned_at old slot) (λ owned. length bytes ≡ owned.size)) (λ bytes. (k : Known) → bytes ≡ image k) old.heap slot fault new.heap
+  pub rest : new ≡ record old { heap = new.heap }
+
+-- Where the store is honest: the file of this name has the segment, sound and of the size that the slot's owner says.
+pub record IsSoundSource (honest : Type 0) (files : List (List ℕ × List ℕ)) (name : List ℕ) (t : Tables) (number : ℕ) (values : List words.Far) (handles : Handles) (slot : ℕ) : Type 0 where
+  pub truly : honest
+  pub file : List ℕ
+  pub stored : file_of files name ≡ Some file
+  pub sound : IsSoundIn file t number values
+  pub sized : IsSomeAnd (owned_at handles slot) (λ owned. owned.size ≡ sound.segment.size)
+
+-- The object of a segment gets its image.
+abbrev pub GivesSegment : (honest : Type 0) → List (List ℕ × List ℕ) → List ℕ → Tables → ℕ → List words.Far → (before after : ℕ) → Handles → ℕ → Option FetchFault → Handles → Type 0
+GivesSegment honest files name t number values before after old slot fault new =
+    GivesOwned (IsSoundSource honest files name t number values old slot) (λ s. image_in s.file t s.sound.segment values) before after old slot fault new
 
 -- a world that has these handles, these files and this count of failures, whatever else
 abbrev pub in_parts : LoadingWorld → Handles → List (List ℕ × List ℕ) → ℕ → LoadingWorld

@@ -1,6 +1,6 @@
 //! Fetches of segments: an object that has no bytes gets those of its module's file again.
-ghost use Rattle.std.specs.Prelude.{◌≡◌, ◌≤◌, ◌<◌, ◌-◌, ◌/◌, ℕ, List, length, IsTrue, IsFalse, IfErr, OnOk, OnErr, IsSomeAnd, MatchResult, Some, Ok, Err, true, false, slice_get};
-ghost use Rattle.w16_model.specs.Owned.{Revives, owned_at};
+ghost use Rattle.std.specs.Prelude.{◌≡◌, ◌≤◌, ◌<◌, ◌-◌, ◌/◌, ℕ, List, length, IsTrue, IsFalse, IfErr, OnOk, OnErr, MatchResult, Some, Ok, Err, true, false, slice_get};
+ghost use Rattle.w16_model.specs.Owned.{Revives};
 ghost use Rattle.w16_store.specs.Files.{file_of};
 ghost use Rattle.w16_store.specs.Later.{IsLater, RoseIf};
 ghost use Rattle.w16_ne.specs.declared.segment_table.Segment.{Segment};
@@ -8,14 +8,9 @@ ghost use Rattle.w16_ne.specs.Modules.{tables_at};
 ghost use Rattle.w16_reloc.specs.Segments.{Held, checked, is_reloc_device};
 ghost use Rattle.w16_global.specs.Owned.{LacksBytes};
 ghost use Rattle.w16_loading.specs.declared.FetchFault.TheVariants.{Store as store_fails};
-ghost use Rattle.w16_loading.specs.AnyStore.{AnyFetches};
-ghost use Rattle.w16_loading.specs.Fewest.{FetchesFewest};
-ghost use Rattle.w16_loading.specs.Fetch.{Fetches};
-ghost use Rattle.w16_loading.specs.Fill.{FillsOne, is_of_device, is_of_read};
-ghost use Rattle.w16_loading.specs.Modules.{LoadingWorld};
-ghost use Rattle.w16_format.specs.Ne.{ne_format};
+ghost use Rattle.w16_loading.specs.Fill.{is_of_device, is_of_read};
 ghost use Rattle.w16_format.specs.Tables.{tables_in};
-ghost use Rattle.w16_loader.specs.Fetching.{fault_of, fault_in, in_parts, IsWritten, IsSourceOf, IsFetchable, IsSoundIn, GivesBytes, image_in};
+ghost use Rattle.w16_loader.specs.Fetching.{fault_of, fault_in, IsWritten, IsSourceOf, GivesBytes, GivesSegment};
 
 use crate::entry::Loaded;
 use crate::segment_work::SegmentWork;
@@ -117,20 +112,10 @@ pub fn fetch<S: Store, A: Allocator + Copy>(
     ensures device { IfErr result (RoseIf is_of_device (S.failures store.old) (S.failures store.new)) }
     ensures refused { OnErr result (global.new ≡ global.old) }
     ensures named { OnOk result (LacksBytes global.old.handles handle) }
-    ensures any { (rest : LoadingWorld) → LacksBytes global.old.handles handle → AnyFetches (in_parts rest global.old.handles rest.files rest.failures) (handle / 8) (fault_in result)
-        (in_parts rest global.new.handles rest.files rest.failures) }
-    ensures fewest { (rest : LoadingWorld) → LacksBytes global.old.handles handle → FetchesFewest (in_parts rest global.old.handles rest.files rest.failures) (handle / 8) (fault_in result)
-        (in_parts rest global.new.handles rest.files rest.failures) }
+    ensures given { LacksBytes global.old.handles handle
+        → GivesSegment S.is_honest (S.files store.old) source.now.file.now source.now.module.now source.now.number source.now.values.now (S.failures store.old) (S.failures store.new)
+        global.old.handles (handle / 8) (fault_in result) global.new.handles }
     ensures rest { global.new.handles ≡ record global.old.handles { heap = global.new.handles.heap } }
-    ensures filled { (file : List ℕ) → S.is_honest → file_of (S.files store.old) source.now.file.now ≡ Some file
-        → (sound : IsSoundIn file source.now.module.now source.now.number source.now.values.now) → LacksBytes global.old.handles handle
-        → IsSomeAnd (owned_at global.old.handles (handle / 8)) (λ owned. owned.size ≡ sound.segment.size)
-        → FillsOne is_of_device global.old.handles.heap (handle / 8) (image_in file source.now.module.now sound.segment source.now.values.now) (fault_in result) global.new.handles.heap }
-    ensures fetched { (rest : LoadingWorld) → S.is_honest → LacksBytes global.old.handles handle
-        → IsFetchable (in_parts rest global.old.handles (S.files store.old) (S.failures store.old)) (handle / 8)
-        source.now.number source.now.file.now source.now.module.now source.now.values.now
-        → Fetches ne_format (in_parts rest global.old.handles (S.files store.old) (S.failures store.old)) (handle / 8) (fault_in result)
-        (in_parts rest global.new.handles (S.files store.new) (S.failures store.old)) }
 {
     global.reveal_handles();
     read(source, store, scratch)?;

@@ -1,8 +1,6 @@
 -- The object of a fixed or of a preload segment is fetched; any other is left.
-use Rattle.w16_loader.proofs.Common.{◌≤◌, true, false, length, sym, subst, arith, IsSoundIn, gives_over}
-use Rattle.w16_loader.proofs.Unfilled.{keeps, gives_any, unfilled, filled, part_long, many_segments, is_filled_by, is_named, no_slot, other_slot, sound, stored, gives_image}
-use Rattle.w16_loader.proofs.Fetches.{rises}
-use Rattle.w16_loader.proofs.Givings.{given_both}
+use Rattle.w16_loader.proofs.Common.{◌≤◌, true, false, length, sym, arith, gives_over}
+use Rattle.w16_loader.proofs.Unfilled.{keeps, gives_held, unfilled, filled, part_long, many_segments, is_filled_by, is_named, no_slot, other_slot, source_image}
 use Rattle.w16_loader.proofs.filling.fill_segment.Goals as goal
 
 pub segment-segment-requires-clause-last : goal.segment-segment-requires-clause-last
@@ -27,7 +25,7 @@ returns-in-None-clause-given g c = λ read place part is_read its is. absurd (no
 
 pub returns-in-Some-clause-kept : goal.returns-in-Some-clause-kept
 returns-in-Some-clause-kept g c = λ slot s out is.
-    keeps c.args.global.now c.fetch.new.global c.handle_of-handle.result c.fetch.result c.fetch.ensures.rest c.fetch.ensures.any c.reveal_handles.ensures.heap c.fetch.ensures.refused c.fetch.ensures.named slot s
+    keeps c.args.global.now c.fetch.new.global c.handle_of-handle.result c.fetch.result c.fetch.ensures.given c.reveal_handles.ensures.heap c.fetch.ensures.refused c.fetch.ensures.named slot s
     (other_slot c.args.loaded.now c.args.number c.slots.result.now c.slots.ensures.slots c.in-Some.slot c.in-Some.ensures.slot c.segment_kind.result c.handle_of-handle.result c.handle_of-handle.ensures slot out) is
 
 pub returns-in-Some-clause-given : goal.returns-in-Some-clause-given
@@ -37,10 +35,7 @@ returns-in-Some-clause-given g c = λ read place part is_read its is.
     c.segment_kind.result c.segment_kind.ensures c.handle_of-handle.result c.handle_of-handle.ensures in
     filled c.args.loaded.now read c.args.number part place (gives_over g.S.Store.is_honest (g.S.Store.failures c.args.store.now) (g.S.Store.failures c.fetch.new.store)) c.args.global.now.handles.heap c.fetch.new.global.handles.heap c.fetch.result
     (is_filled_by _ _ c.args.number part _ _ c.source-source.ensures.tables c.segment-segment.ensures.found _ true c.is_filled.ensures c.if-not-is_filled.false)
-    (given_both g.S.Store.is_honest _ _ c.args.global.now.handles.heap part.slot (part.its_data.image part.its_values) _ c.fetch.new.global.handles.heap
-    (gives_any c.args.global.now c.fetch.new.global c.handle_of-handle.result c.fetch.result c.fetch.ensures.rest c.fetch.ensures.any part.slot (part.its_data.image part.its_values) part.segment
-    named is (part_long c.args.loaded.now read c.args.number part is_read))
-    (λ honest. gives_image _ _ _ (its honest).0 (its honest).1 _ c.source-source.ensures.tables c.args.number c.requires.first last c.source-source.result.file.now c.source-source.result.values.now c.source-source.ensures.source
-    part c.args.global.now.handles c.fetch.new.global.handles.heap c.handle_of-handle.result c.fetch.result named
-    is c.source-source.result.number c.source-source.ensures.number (λ file has in_file lacks sized. c.fetch.ensures.filled file honest has in_file lacks sized))
-    (rises c.fetch.result _ c.fetch.ensures.device))
+    (gives_held c.args.global.now c.fetch.new.global c.handle_of-handle.result c.fetch.result c.fetch.ensures.given g.S.Store.is_honest part.slot (part.its_data.image part.its_values) part.segment
+    named is (part_long c.args.loaded.now read c.args.number part is_read)
+    (λ honest. source_image _ _ _ (its honest).0 (its honest).1 _ c.source-source.ensures.tables c.args.number c.requires.first last c.source-source.result.file.now c.source-source.result.values.now c.source-source.ensures.source
+    part g.S.Store.is_honest honest c.args.global.now.handles c.handle_of-handle.result named is c.source-source.result.number c.source-source.ensures.number))
