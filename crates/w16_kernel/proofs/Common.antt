@@ -21,13 +21,11 @@ pub use Rattle.w16_loader.specs.Registry.{owner_in}
 pub use Rattle.w16_loading.proofs.CodeReads.{code_reads_law}
 pub use Rattle.w16_loading.proofs.Common.{IsSegmentOf, Module, Modules, Segment, Tables, handle_of, map, module_at, not, segment_among, slice_get-get_or, ◌++◌}
 pub use Rattle.w16_loading.proofs.Owners.{of_segment, owner_law, segment_owned}
-pub use Rattle.w16_loading.specs.AnyStore.{AnyFetches}
 pub use Rattle.w16_loading.specs.Answers.{FetchesFrom, LoadsFrom, StepOver, told}
 pub use Rattle.w16_loading.specs.Fill.{Fills}
 pub use Rattle.w16_loading.specs.Resource.{with_resource}
 pub use Rattle.w16_store.specs.Later.{IsLater}
 pub use Rattle.w16_loading.specs.Families.{FamilyStep}
-pub use Rattle.w16_loading.specs.Fetch.{Fetches}
 pub use Rattle.w16_loading.specs.Owner.{owner_of}
 pub use Rattle.w16_local.proofs.Beginning.{on_any}
 pub use Rattle.w16_machine.proofs.Common.{AreHandles, Bool, Command, Discardable, Dword, Event, Failed, FarAnswer, FarCommand, FarFault, FarReplies, FetchFault, Fill, FinMap, Fixed}

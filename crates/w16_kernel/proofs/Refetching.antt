@@ -1,15 +1,15 @@
 -- What becomes of an access that met a fault: what the kernel fetches is the object that the access asked for.
 use Rattle.w16_kernel.proofs.Common.{None, Option, Some, length-map, slice_get_within, slice_get, IfNone, ◌-◌, ◌/◌, ne_format, segment_in, tables_in, IsAbsent, IsSourceFor, KernelFetch, IsLoadingOver, IsFetchable, IsSourceOf, LacksBytes, owner_in}
-use Rattle.w16_kernel.proofs.Common.{IsSegmentOf, Module, Segment, Tables, module_at, segment_among, of_segment, owner_law, segment_owned, AnyFetches, FetchesFrom, told, IsLater, Fetches, owner_of, Bool, FarAnswer, FetchFault, Handles}
+use Rattle.w16_kernel.proofs.Common.{IsSegmentOf, Module, Segment, Tables, module_at, segment_among, of_segment, owner_law, segment_owned, FetchesFrom, told, IsLater, owner_of, Bool, FarAnswer, FetchFault, Handles}
 use Rattle.w16_kernel.proofs.Common.{IsLoadingWorld, IsSomeAnd, List, LoadingWorld, ap, arith, false, far_slot, is_some, length, needs_fetch, offset_in, owned_at, refl, subst, sym, true, ℕ, ◌<◌, ◌∙◌, ◌≡◌, ◌≤◌, global_handle, is_owned, stays}
 use Rattle.std.specs.FinMap as finmap
 use Rattle.w16_loading.specs.Owner.Owner.{OfSegment, Script}
-use Rattle.w16_loading.specs.declared.FetchFault.TheVariants.{Store}
 use Rattle.w16_model.specs.declared.FarFault.TheVariants.{NotPresent}
 use Rattle.w16_loader.specs.declared.table.SegmentOf.{SegmentOf}
 use Rattle.w16_loader.specs.declared.segment_fetch.SegmentSource.{SegmentSource}
+use Rattle.w16_loader.specs.Fetching.{GivesSegment}
+use Rattle.w16_loader.proofs.Fetches.{fetches}
 use Rattle.w16_loading.specs.Answers.{FillsFewest}
-use Rattle.w16_loading.proofs.Answered.{fetches_over}
 use Rattle.w16_kernel.proofs.Absent.{lacks, slot_is}
 use Rattle.w16_kernel.proofs.Fewest.{fetch_fills}
 
@@ -45,11 +45,6 @@ module _ {world : LoadingWorld} (slot : ℕ) (is : IsLoadingWorld world) (none :
   pub segment_there : (place : SegmentOf) → owner_in (Some place) ≡ segment_among (finmap.entries world.modules) slot → (m : Module) × IsSegmentOf world slot place.handle place.number m
   segment_there place e = (owner_law world slot (OfSegment place.handle place.number) is).0 (owner_is ∙ sym e)
 
--- the world that a fact is of
-module _ {honest : Type 0} {world : LoadingWorld} (is : IsLoadingOver honest world) where
-  abbrev pub over : LoadingWorld
-  over = world
-
 -- An access that met an object without bytes.
 module _ {honest : Type 0} {old : LoadingWorld} (is : IsLoadingOver honest old) {selector : ℕ} (absent : IsAbsent old.handles selector) (few : selector < 65536) {name : ℕ} (named : name ≡ offset_in (global_handle old.handles selector)) where
   pub here : far_slot old.handles selector ≡ name / 8
@@ -59,7 +54,7 @@ module _ {honest : Type 0} {old : LoadingWorld} (is : IsLoadingOver honest old) 
   needs : {b : Bool} → is_owned old.handles (name / 8) ≡ b → needs_fetch (FarAnswer.Fault NotPresent) old selector ≡ b
   needs e = ap (is_owned old.handles) here ∙ e
 
-  -- a resource of one
+  -- what is fetched is a module's
   pub resource_fetched : is_owned old.handles (name / 8) ≡ true → (fault : Option FetchFault) {next : Handles} {left : List (List ℕ × List ℕ)} {count : ℕ} → IsLater old.files old.failures left count
       → (LacksBytes old.handles name → FetchesFrom FillsFewest (told honest ne_format old.files old.failures count) old (name / 8) fault (record old { handles = next }))
       → (needs_fetch (FarAnswer.Fault NotPresent) old selector ≡ true) × KernelFetch honest old (far_slot old.handles selector) fault (record old { handles = next; files = left; failures = count })
@@ -88,19 +83,11 @@ module _ {honest : Type 0} {old : LoadingWorld} (is : IsLoadingOver honest old) 
               let some = s.segment.has.0 in
               omega (arith, inside, as_long, some)
 
-      pub fetched : (fault : Option FetchFault) {next : Handles} {left : List (List ℕ × List ℕ)} {count : ℕ} → IsLater old.files old.failures left count → (fault ≡ Some Store → old.failures < count)
-          → (LacksBytes old.handles name → AnyFetches old (name / 8) fault (record old { handles = next }))
-          → (honest → LacksBytes old.handles name → IsFetchable old (name / 8) source.number source.file.now source.module.now source.values.now
-          → Fetches ne_format old (name / 8) fault (record old { handles = next; files = left }))
+      pub fetched : (fault : Option FetchFault) {next : Handles} {left : List (List ℕ × List ℕ)} {count : ℕ} → IsLater old.files old.failures left count
+          → (LacksBytes old.handles name → GivesSegment honest old.files source.file.now source.module.now source.number source.values.now old.failures count old.handles (name / 8) fault next)
           → (needs_fetch (FarAnswer.Fault NotPresent) old selector ≡ true) × KernelFetch honest old (far_slot old.handles selector) fault (record old { handles = next; files = left; failures = count })
-      fetched fault {next = next} {left = left} {count = count} stays rose any exact =
+      fetched fault {next = next} {count = count} stays given =
           let s : IsSourceFor old (name / 8) source = subst (λ q. IsSourceFor old q source) at (found unloaded) in
           let owned = ap is_some (segment_owned old is.0 (name / 8) s.handle source.number s.m s.segment).1.owned in
-          let l = lacks old.handles is.0.handles selector absent few name named owned in (
-            needs owned,
-            rw here (
-              stays,
-              fetches_over honest ne_format old.failures count old (name / 8) fault (record old { handles = next; files = left }) (rw stays.same (any l))
-                  (λ h. exact h l (record { sound = is.0; of_files = is.1 h; handle = s.handle; m = s.m; segment = s.segment; source = s.source_of; tables = s.tables })) rose,
-            ),
-          )
+          resource_fetched owned fault stays (λ l. fetches honest old (name / 8) source.number source.file.now source.module.now source.values.now within.1
+              (λ h. record { sound = is.0; of_files = is.1 h; handle = s.handle; m = s.m; segment = s.segment; source = s.source_of; tables = s.tables }) old.failures count fault next (given l))

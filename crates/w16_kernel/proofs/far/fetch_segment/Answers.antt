@@ -1,8 +1,6 @@
 -- What is fetched is the object that the access asked for.
 use Rattle.w16_kernel.proofs.Common.{inl, inr, refl, ap, ◌∙◌, Some, None, offset_in, Global}
-use Rattle.std.specs.Prelude.{Err}
-use Rattle.w16_loader.proofs.Fetches.{rises}
-use Rattle.w16_kernel.proofs.Refetching.{fetched, not_needed, over, within}
+use Rattle.w16_kernel.proofs.Refetching.{fetched, not_needed, within}
 use Rattle.w16_kernel.proofs.far.fetch_segment.Goals as goal
 
 pub returns-in-None : goal.returns-in-None
@@ -23,10 +21,10 @@ fetch-requires-clause-last g c =
 pub returns-in-Ok : goal.returns-in-Ok
 returns-in-Ok g c =
     fetched c.requires.loading c.requires.absent c.ranges.selector.fits (c.offset_in-handle.ensures ∙ ap offset_in c.global_handle.ensures) c.slot_of.ensures.value c.requires.segment (c.in-Some.ensures.found _ _ _ _ c.requires.loading.0) None
-    c.fetch.ensures.stays (λ e. cc) (c.in-Ok.ensures.any (over c.requires.loading)) (c.in-Ok.ensures.fetched (over c.requires.loading))
+    c.fetch.ensures.stays c.in-Ok.ensures.given
 
 pub returns-in-Err : goal.returns-in-Err
 returns-in-Err g c =
     let f = fetched c.requires.loading c.requires.absent c.ranges.selector.fits (c.offset_in-handle.ensures ∙ ap offset_in c.global_handle.ensures) c.slot_of.ensures.value c.requires.segment (c.in-Some.ensures.found _ _ _ _ c.requires.loading.0)
-    (Some c.in-Err.failed) c.fetch.ensures.stays (rises {A = Unit {0}} (Err c.in-Err.failed) _ c.in-Err.ensures.device) (c.in-Err.ensures.any (over c.requires.loading)) (c.in-Err.ensures.fetched (over c.requires.loading)) in
+    (Some c.in-Err.failed) c.fetch.ensures.stays c.in-Err.ensures.given in
     inr (f.0, ap (λ (x : Global). x.handles) c.in-Err.ensures.refused, c.in-Err.failed, refl, f.1)
