@@ -1,5 +1,5 @@
 -- What becomes of an access that met a fault: what the kernel fetches is the object that the access asked for.
-use Rattle.w16_kernel.proofs.Common.{None, Option, Some, length-map, slice_get_within, slice_get, IfNone, ◌-◌, ◌/◌, ne_format, segment_in, tables_in, IsAbsent, IsSourceFor, KernelFetch, IsLoadingOver, IsFetchable, IsSourceOf, LacksBytes, owner_in}
+use Rattle.w16_kernel.proofs.Common.{None, Option, Some, length-map, slice_get_within, slice_get, IfNone, ◌-◌, ◌/◌, ne_format, segment_in, tables_in, IsAbsent, IsSourceFor, KernelFetch, IsLoadingOver, IsSourceOf, LacksBytes, owner_in}
 use Rattle.w16_kernel.proofs.Common.{IsSegmentOf, Module, Segment, Tables, module_at, segment_among, of_segment, owner_law, segment_owned, FetchesFrom, told, IsLater, owner_of, Bool, FarAnswer, FetchFault, Handles}
 use Rattle.w16_kernel.proofs.Common.{IsLoadingWorld, IsSomeAnd, List, LoadingWorld, ap, arith, false, far_slot, is_some, length, needs_fetch, offset_in, owned_at, refl, subst, sym, true, ℕ, ◌<◌, ◌∙◌, ◌≡◌, ◌≤◌, global_handle, is_owned, stays}
 use Rattle.std.specs.FinMap as finmap

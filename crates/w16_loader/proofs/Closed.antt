@@ -3,7 +3,7 @@ use Rattle.w16_loader.proofs.Common.{◌≡◌, ◌≢◌, ℕ, ◌+◌, ◌<◌
 use Rattle.w16_loader.proofs.Common.{Result, Ok, Err, MatchResult, refl, sym, ap, ◌∙◌, subst, arith, AllZip, length-map, All-from_recursion, file_of, is_member, AreHandles, is_member-true, true-is_member, cases_Bool, false≢true, Heap, Object, Owned, Member}
 use Rattle.w16_loader.proofs.Common.{EachPair, Each-at, Each-from_All, EachPair-from_AllPairs, Far, ModuleFile, IsModuleFile, Segment, Tables, Target, targets_of, Giving, InTurn, Closure, LoadingWorld, Lookup, Module, Modules, Named, module_in, module_at}
 use Rattle.w16_loader.proofs.Common.{value_of, with_heap, Loaded, BuiltIn, without_module, Choice, Given, given, given_from, with_modules, segments_of, unbound, bound, named, fills, FetchFault, Answer, Fulfils, outcome_of, refusal_of, undone, left, Says}
-use Rattle.w16_loader.proofs.Common.{StoreFails, IsItsFiles, without_values, same_values, undone_law, sound_values, named_new, given_slots_apart, given_found, given_handle, given_long, given_segment, put_all, put_here, ne_format, is_format, BindFault, AreSaid}
+use Rattle.w16_loader.proofs.Common.{IsItsFiles, without_values, same_values, undone_law, sound_values, named_new, given_slots_apart, given_found, given_handle, given_long, given_segment, put_all, put_here, ne_format, is_format, BindFault, AreSaid}
 use Rattle.w16_loader.proofs.Common.{AreTargets, IsBindFailure, IsSaid, all_bound, Files, found_in, said, closed_in, AreItsFiles, AreReadAs, AreUnfilled, IsReadAs, IsUnfilled, fills_with, slots_at, IsOfFile, LoadsClosed, answer_in, failed_by, of_fault}
 use Rattle.w16_loader.proofs.Common.{IsUnbound}
 use Rattle.std.specs.List.{AllByRecursion as Each}

@@ -3,7 +3,7 @@ use Rattle.w16_loader.proofs.Common.{◌≡◌, ℕ, ◌-◌, ◌<◌, ◌≤◌
 use Rattle.w16_loader.proofs.Common.{ap, ◌∙◌, subst, arith, ne_eqb, lit<, false≢true, length-map, slice_get-map, slice_get_cases, get_or_from_slice_get, AllZip-left, repeated, Owned, Handles, bytes_at, Revives, owned_at, is_owned, length-repeated}
 use Rattle.w16_loader.proofs.Common.{All-repeated, tables_at, RelocFault, Record, Held, checked, data_of, IsImage, naming, FetchFault, Store, Damaged, NoRoom, IsOwnedSize, read_of, segment_bytes}
 use Rattle.w16_loader.proofs.Common.{Far, ModuleFile, SegmentData, IsModuleFile, IsSegmentData, numbered, Fills, IsHeap, is_of_device, is_of_read, IsItsFiles, IsObjectOf, LoadingWorld, Module, of_segment, data_in, target_of, targets_in, far_of}
-use Rattle.w16_loader.proofs.Common.{IsFileOf, IsRelocated, ne_format, module_file, segment_in, accepted, has_room, is_format, stored_law, is_relocated, words_same, file_of, Files, GivesBytes, IsFetchable, IsSoundIn, IsWritten, image_in}
+use Rattle.w16_loader.proofs.Common.{IsFileOf, IsRelocated, ne_format, module_file, segment_in, accepted, has_room, is_format, stored_law, is_relocated, words_same, file_of, GivesBytes, IsFetchable, IsSoundIn, IsWritten, image_in}
 use Rattle.w16_loader.specs.Fetching.{GivesOwned, GivesSegment, IsSoundSource}
 use Rattle.w16_loading.specs.Answers.{FetchesFrom, FillsFewest, GivesRead, MayFail, told}
 use Rattle.w16_loading.specs.Fetch as fetching
@@ -159,19 +159,20 @@ module _ (world : LoadingWorld) (slot number : ℕ) (name : List ℕ) (t : Table
   pub source : (honest : Type 0) → honest → IsSoundSource honest world.files name t number values world.handles slot
   source honest h = record { truly = h; file = file; stored = ap (file_of world.files) (sym is.source.named) ∙ stored.1.stored; sound = sound; sized = owned_size }
 
--- What gives a segment's object its image is a fetch.
-module _ (honest : Type 0) (world : LoadingWorld) (slot number : ℕ) (name : List ℕ) (t : Tables) (values : List words.Far) (last : number ≤ length t.segments) (is : honest → IsFetchable world slot number name t values) (before after : ℕ) where
-  pub fetches : (fault : Option FetchFault) (new : Handles) → GivesSegment honest world.files name t number values before after world.handles slot fault new
+-- What gives an object its image is a fetch.
+module _ (honest : Type 0) (Known : Type 0) (known : honest → Known) (image_of : Known → List ℕ) (world : LoadingWorld) (slot : ℕ) (are : (h : honest) → fetching.IsImage ne_format world slot (image_of (known h))) (before after : ℕ) where
+  pub owned_fetch : (fault : Option FetchFault) (new : Handles) → GivesOwned Known image_of before after world.handles slot fault new
       → FetchesFrom FillsFewest (told honest ne_format world.files before after) world slot fault (record world { handles = new })
-  fetches fault new f = record { given = turn fault f.given; rest = ap (λ (h : Handles). record world { handles = h }) f.rest }
+  owned_fetch fault new f = record { given = turn fault f.given; rest = ap (λ (h : Handles). record world { handles = h }) f.rest }
     where
-      known : (h : honest) → IsSoundSource honest world.files name t number values world.handles slot
-      known h = source world slot number name t values (is h) last honest h
-
-      turn : (fault : Option FetchFault) → GivesRead FillsFewest (MayFail (IsSoundSource honest world.files name t number values world.handles slot) before after) (IsOwnedSize world slot)
-          (λ bytes. (k : IsSoundSource honest world.files name t number values world.handles slot) → bytes ≡ image_in k.file t k.sound.segment values) world.handles.heap slot fault new.heap
+      turn : (fault : Option FetchFault) → GivesRead FillsFewest (MayFail Known before after) (IsOwnedSize world slot) (λ bytes. (k : Known) → bytes ≡ image_of k) world.handles.heap slot fault new.heap
           → GivesRead FillsFewest (MayFail honest before after) (IsOwnedSize world slot) (λ bytes. honest → fetching.IsImage ne_format world slot bytes) world.handles.heap slot fault new.heap
-      turn None g = (g.0, g.1, (λ h. inl ((is h).handle, number, (is h).m, (is h).segment, bytes_are world slot number name t values (is h) last ∙ ap Some (sym (g.2 (known h))))), g.3)
+      turn None g = (g.0, g.1, (λ h. subst (fetching.IsImage ne_format world slot) (sym (g.2 (known h))) (are h)), g.3)
       turn (Some NoRoom) g = g
       turn (Some Store) g = ((g.0.0, g.0.1, λ h. g.0.2 (known h)), g.1)
       turn (Some Damaged) g = ((g.0.0, g.0.1, λ h. g.0.2 (known h)), g.1)
+
+pub fetches : (honest : Type 0) (world : LoadingWorld) (slot number : ℕ) (name : List ℕ) (t : Tables) (values : List words.Far) → number ≤ length t.segments → (honest → IsFetchable world slot number name t values) → (before after : ℕ) (fault : Option FetchFault) (new : Handles)
+    → GivesSegment honest world.files name t number values before after world.handles slot fault new → FetchesFrom FillsFewest (told honest ne_format world.files before after) world slot fault (record world { handles = new })
+fetches honest world slot number name t values last is before after = owned_fetch honest (IsSoundSource honest world.files name t number values world.handles slot) (λ h. source world slot number name t values (is h) last honest h)
+    (λ s. image_in s.file t s.sound.segment values) world slot (λ h. inl ((is h).handle, number, (is h).m, (is h).segment, bytes_are world slot number name t values (is h) last)) before after

@@ -21,7 +21,6 @@ pub use Rattle.w16_loader.proofs.Common.{ne_eqb, none_gone, not, numbered, objec
 pub use Rattle.w16_loader.proofs.Common.{subst, suc, sym, tables_in, take, taken_here, taken_other, true, unwrap_or, with_object, without_objects, without_absent, without_slot, zero, ℕ, ◌%◌, ◌&&◌, ◌+◌, ◌-◌, ◌/◌, ◌<◌, ◌==◌, ◌||◌, ◌∙◌, ◌∷◌, ◌≡◌, ◌≤◌}
 pub use Rattle.w16_loader.proofs.Common.{◌⊎◌}
 unfoldable pub use Rattle.w16_loader.proofs.Common.{file_of}
-pub use Rattle.w16_loader.proofs.Fetches.{refused_any}
 pub use Rattle.w16_loader.specs.Fetching.{fault_of}
 pub use Rattle.w16_loader.specs.Registry.{in_world}
 pub use Rattle.w16_loading.proofs.Absences.{all_retained}

@@ -1,13 +1,14 @@
 -- A resource is read from the file of its module: where it is there, and what a fetch of it is in a world of its files.
 use Rattle.w16_resource.proofs.Common.{listed_resources, nat_eq, resource_in, resource_given, stored_law, IsFileOf, ne_format, label_in, Bool, FetchFault, Handles, IfSome, IsObjectOf, IsSomeAnd, List, LoadingWorld, Module, None, Option, Some, [], ap}
 use Rattle.w16_resource.proofs.Common.{arith, cond, false, inr, length-map, map, nat_lt, not, numbered, option_map, owned_at, position, prefix_len, refl, rounded_size, slice_get, slice_get-map, subst, suc, sym, tables_in, unwrap_or, zero, ℕ}
-use Rattle.w16_resource.proofs.Common.{◌&&◌, ◌+◌, ◌-◌, ◌∙◌, ◌∷◌, ◌≡◌, file_of, FetchesFrom, FillsFewest, told, IsImage, Resource, IsLoad, IsLoadingWorld, IsOfFiles, with_handles, is_too_long, resource_at, Damaged, NoRoom, Store, Entry}
+use Rattle.w16_resource.proofs.Common.{◌&&◌, ◌+◌, ◌-◌, ◌∙◌, ◌∷◌, ◌≡◌, file_of, FetchesFrom, FillsFewest, told, Resource, IsLoad, IsLoadingWorld, IsOfFiles, with_handles, is_too_long, resource_at, Entry}
 use Rattle.w16_resource.proofs.Common.{GivesSource, IsSourceAt, IsSourceOf, bytes_in, is_long}
 use Rattle.std.specs.FinMap as finmap
 use Rattle.w16_loading.specs.File as file
 use Rattle.w16_ne.specs.Modules as ne
 use Rattle.w16_loading.specs.Modules as loading
 use Rattle.w16_ne.specs.Resources as tables
+use Rattle.w16_loader.proofs.Fetches.{owned_fetch}
 use Rattle.w16_resource.proofs.Given.{some_bytes}
 
 -- places in a table as a load takes it
@@ -28,19 +29,29 @@ in_tables m t place same = ap (λ (u : file.Tables). numbered u.resources place)
 pub source_resource : (world : LoadingWorld) (handle place : ℕ) (name : List ℕ) (entry : Entry) → (s : IsSourceAt world.modules handle place name entry) → resource_at world handle place ≡ Some (resource_in (s.kind, entry))
 source_resource world handle place name entry s = ap (λ p. resource_of p place) s.loaded ∙ in_tables s.m s.t place s.tables ∙ ap (option_map resource_in) s.there
 
--- the bytes of a resource's file are those that a fetch gives its object in a world
-module _ (honest : Type 0) (world : LoadingWorld) (before later slot handle place loads : ℕ) (name : List ℕ) (entry : Entry) (s : IsSourceAt world.modules handle place name entry)
-    (has : finmap.get world.loads slot ≡ Some (record { handle = handle; place = place; loads = loads })) (of : honest → (bytes : List ℕ) × IsFileOf world s.m bytes s.t) where
-  image : (bytes : List ℕ) → ((file : List ℕ) → honest → file_of world.files name ≡ Some file → bytes ≡ bytes_in file entry) → honest → IsImage ne_format world slot bytes
-  image bytes e h = let is = (of h).1 in subst (IsImage ne_format world slot) (sym (e (of h).0 h (ap (file_of world.files) (sym s.named) ∙ is.stored)))
-      (inr (handle, place, s.m, record { loaded = s.loaded; loads = loads; has = has }, resource_given world s.m (of h).0 s.t place (s.kind, entry) is s.there))
+-- the file of its module
+pub file_there : (world : LoadingWorld) → IsOfFiles ne_format world → (handle place : ℕ) (name : List ℕ) (entry : Entry) (s : IsSourceAt world.modules handle place name entry) → (file : List ℕ) × IsFileOf world s.m file s.t
+file_there world of handle place name entry s = stored_law world handle s.m s.t of s.loaded s.tables
 
+pub source_in : {honest : Type 0} → honest → (world : LoadingWorld) (handle place : ℕ) (name : List ℕ) (entry : Entry) (s : IsSourceAt world.modules handle place name entry) → (of : (bytes : List ℕ) × IsFileOf world s.m bytes s.t) → is_long entry.len ≡ false
+    → (handles : Handles) (slot : ℕ) → owned_at handles slot ≡ Some (record { size = rounded_size entry.len; code = false }) → IsSourceOf honest world.files name handles slot entry
+source_in truly world handle place name entry s of short handles slot owned = record {
+  truly = truly;
+  file = of.0;
+  stored = ap (file_of world.files) (sym s.named) ∙ of.1.stored;
+  short = short;
+  inside = s.inside of.0 of.1.tables (some_bytes entry.len short);
+  sized = owned;
+}
+
+-- What gives a resource's object the bytes of its file is a fetch.
+module _ (honest : Type 0) (world : LoadingWorld) (before later slot handle place loads : ℕ) (name : List ℕ) (entry : Entry) (s : IsSourceAt world.modules handle place name entry)
+    (has : finmap.get world.loads slot ≡ Some (record { handle = handle; place = place; loads = loads })) (of : honest → (bytes : List ℕ) × IsFileOf world s.m bytes s.t) (short : is_long entry.len ≡ false)
+    (sized : owned_at world.handles slot ≡ Some (record { size = rounded_size entry.len; code = false })) where
   pub fetches : (fault : Option FetchFault) (new : Handles) → GivesSource honest world.files name entry before later world.handles slot fault new
       → FetchesFrom FillsFewest (told honest ne_format world.files before later) world slot fault (with_handles world new)
-  fetches None new f = let g = f.given in record { given = (g.0, g.1, image g.0 g.2, g.3); rest = ap (with_handles world) f.rest }
-  fetches (Some NoRoom) new f = record { given = f.given; rest = ap (with_handles world) f.rest }
-  fetches (Some Store) new f = record { given = f.given; rest = ap (with_handles world) f.rest }
-  fetches (Some Damaged) new f = record { given = f.given; rest = ap (with_handles world) f.rest }
+  fetches = owned_fetch honest (IsSourceOf honest world.files name world.handles slot entry) (λ h. source_in h world handle place name entry s (of h) short world.handles slot sized) (λ k. bytes_in k.file entry) world slot
+      (λ h. inr (handle, place, s.m, record { loaded = s.loaded; loads = loads; has = has }, resource_given world s.m (of h).0 s.t place (s.kind, entry) (of h).1 s.there)) before later
 
 -- In each world the resource of a load is there.
 module _ (world : LoadingWorld) (slot : ℕ) (load : loading.Load) (has : finmap.get world.loads slot ≡ Some load) where
@@ -61,20 +72,6 @@ module _ (world : LoadingWorld) (slot : ℕ) (load : loading.Load) (has : finmap
     -- and it is short
     pub short : IsLoadingWorld world → is_long entry.len ≡ false
     short is = subst (λ p. IfSome p (λ r. is_too_long r ≡ false)) (source_resource world load.handle load.place name entry s) (subst (λ p. IfSome p (IsLoad world slot)) has (is.loads slot)).short
-
--- the file of its module
-pub file_there : (world : LoadingWorld) → IsOfFiles ne_format world → (handle place : ℕ) (name : List ℕ) (entry : Entry) (s : IsSourceAt world.modules handle place name entry) → (file : List ℕ) × IsFileOf world s.m file s.t
-file_there world of handle place name entry s = stored_law world handle s.m s.t of s.loaded s.tables
-
-pub source_in : (world : LoadingWorld) (handle place : ℕ) (name : List ℕ) (entry : Entry) (s : IsSourceAt world.modules handle place name entry) → (of : (bytes : List ℕ) × IsFileOf world s.m bytes s.t) → is_long entry.len ≡ false
-    → (handles : Handles) (slot : ℕ) → owned_at handles slot ≡ Some (record { size = rounded_size entry.len; code = false }) → IsSourceOf world.files name handles slot entry
-source_in world handle place name entry s of short handles slot owned = record {
-  file = of.0;
-  stored = ap (file_of world.files) (sym s.named) ∙ of.1.stored;
-  short = short;
-  inside = s.inside of.0 of.1.tables (some_bytes entry.len short);
-  sized = owned;
-}
 
 -- The place of a resource by its type and name.
 label_same : (a b : tables.Label) → file.is_label (label_in a) (label_in b) ≡ tables.is_label a b

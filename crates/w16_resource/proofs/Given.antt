@@ -1,8 +1,8 @@
 -- How the object of a resource gets the bytes of a file.
-use Rattle.w16_resource.proofs.Common.{same_lists, All-nil, padded_length, get_or-map-range_with_len, nat_eq, padded, Bool, FetchFault, GRAIN, GivesBytes, Handles, Held, IsSomeAnd, IsWritten, LARGEST_OWNED, List, None, Ok, Option, Result, Revives}
-use Rattle.w16_resource.proofs.Common.{Some, [], ap, arith, drop, false, false≢true, get_or, get_or_default, given, is_of_device, length, length-drop, length-take, ltb-false, nat_lt, refl, refused, rounded_size, subst, suc, sym, take, true, zero, ℕ}
-use Rattle.w16_resource.proofs.Common.{◌<◌, ◌==◌, ◌||◌, ◌∙◌, ◌≡◌, ◌≤◌, file_of, refused_any, fault_of, fill_fewest, absent, after, bytes_at, eqb-true, is_of_read, Damaged, NoRoom, Store, IsHeap, is_owned, Owned, Entry, Refuses, RelocFault}
-use Rattle.w16_resource.proofs.Common.{GivesSource, IsSourceOf, bytes_in, is_long}
+use Rattle.w16_resource.proofs.Common.{same_lists, All-nil, padded_length, get_or-map-range_with_len, nat_eq, padded, Bool, GRAIN, Handles, Held, IsSomeAnd, IsWritten, LARGEST_OWNED, List, Ok, Result}
+use Rattle.w16_resource.proofs.Common.{[], ap, arith, drop, false, false≢true, get_or, get_or_default, length, length-drop, length-take, ltb-false, nat_lt, refl, rounded_size, subst, suc, sym, take, true, zero, ℕ}
+use Rattle.w16_resource.proofs.Common.{◌<◌, ◌==◌, ◌||◌, ◌∙◌, ◌≡◌, ◌≤◌, fault_of, after, eqb-true, Store, Owned, Entry, Refuses, RelocFault}
+use Rattle.w16_resource.proofs.Common.{IsSourceOf, bytes_in, is_long, owned_at}
 use Rattle.std.specs.FinMap as finmap
 use Rattle.w16_reloc.specs.Sound.{IsSound}
 use Rattle.w16_reloc.specs.declared.fault.RelocFault.TheVariants as relocs
@@ -40,43 +40,14 @@ has_some file place n short inside =
     let rest = length-drop place file in
     omega (arith, some, cut, rest, inside)
 
-module _ (honest : Type 0) (files : List (List ℕ × List ℕ)) (name : List ℕ) (entry : Entry) (before later : ℕ) (old : Handles) (slot : ℕ) where
-  abbrev Gives : Option FetchFault → Handles → Type 0
-  Gives fault new = GivesSource honest files name entry before later old slot fault new
-
-  -- its bytes can't be read
-  pub unread : (fault : FetchFault) → is_of_read fault ≡ true → (is_of_device fault ≡ true → before < later) → (honest → fault ≡ Store) → Gives (Some fault) old
-  unread Store may rose exact = record { given = ((refl, (λ s. rose refl), exact), refl); rest = refl }
-  unread NoRoom may rose exact = absurd (false≢true may)
-  unread Damaged may rose exact = record { given = ((refl, (λ s. rose (ap is_of_device s)), exact), refl); rest = refl }
-
-  module _ (heap : IsHeap old.heap) where
-    -- there is no room for them
-    pub full : is_owned old slot ≡ true → bytes_at old.heap slot ≡ None → Revives old slot false old → Gives (Some NoRoom) old
-    full owned absent refused =
-        let f = refused_any (record { handles = old; modules = finmap.empty; loads = finmap.empty; files = files; failures = before }) slot owned absent refused in
-        record { given = (f.bytes, f.image, (f.filled, fill_fewest old.heap slot f.bytes false old.heap heap f.filled)); rest = refl }
-
-    pub filled : (is : honest → IsSourceOf files name old slot entry) (read : List ℕ) → ((h : honest) → read ≡ take entry.len (drop entry.place (is h).file)) → (new : Handles) → GivesBytes old slot (IsWritten read [] []) new → Gives None new
-    filled is read same new given = record {
-      given = (given.bytes, given.sized, image, (given.filled, fill_fewest old.heap slot given.bytes true new.heap heap given.filled));
-      rest = given.rest;
-    }
-      where
-        image : (file : List ℕ) → honest → file_of files name ≡ Some file → given.bytes ≡ bytes_in file entry
-        image file h stored = sym (plain_image source given.bytes (rounded_size entry.len) room long (subst (λ bs. IsWritten bs [] [] given.bytes) from given.are))
-          where
-            source : List ℕ
-            source = take entry.len (drop entry.place file)
-
-            from : read ≡ source
-            from = let one : Some (is h).file ≡ Some file = sym (is h).stored ∙ stored in let f : (is h).file ≡ file = cc in same h ∙ ap (λ bs. take entry.len (drop entry.place bs)) f
-
-            long : length given.bytes ≡ rounded_size entry.len
-            long = subst (λ p. IsSomeAnd p (λ (w : Owned). length given.bytes ≡ w.size)) (is h).sized given.sized
-
-            room : length source ≤ length given.bytes
-            room = let cut = length-take entry.len (drop entry.place file) in let up = rounded_up entry.len in omega (arith, cut, up, long)
+-- what was written is what its file gives it
+pub written_resource : {honest : Type 0} {files : List (List ℕ × List ℕ)} {name : List ℕ} {handles : Handles} {slot : ℕ} {entry : Entry} (s : IsSourceOf honest files name handles slot entry) (read : List ℕ)
+    → read ≡ take entry.len (drop entry.place s.file) → (bytes : List ℕ) → IsWritten read [] [] bytes → IsSomeAnd (owned_at handles slot) (λ (w : Owned). length bytes ≡ w.size) → bytes ≡ bytes_in s.file entry
+written_resource {entry = entry} s read same bytes are sized =
+    let long : length bytes ≡ rounded_size entry.len = subst (λ p. IsSomeAnd p (λ (w : Owned). length bytes ≡ w.size)) s.sized sized in
+    let cut = length-take entry.len (drop entry.place s.file) in
+    let up = rounded_up entry.len in
+    sym (plain_image (take entry.len (drop entry.place s.file)) bytes (rounded_size entry.len) (omega (arith, cut, up, long)) long (subst (λ bs. IsWritten bs [] [] bytes) same are))
 
 -- a failed read of what is there is the device's
 pub failed : {Y : Type 0} (before after : ℕ) (y : Y) (fault : RelocFault) → Refuses before after fault (Ok y) → fault_of fault ≡ Store

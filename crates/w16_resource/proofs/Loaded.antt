@@ -1,11 +1,11 @@
 -- What a load of a resource comes to.
 use Rattle.w16_resource.proofs.Common.{IsFileOf, ne_format, FetchFault, FinMap, Handles, HasNoSlot, IsFreeSlot, List, LoadingWorld, MatchOption, Modules, None, Option, Some, ap, false, inl, inr, inserted_here, nat_cmp, refl, rounded_size}
 use Rattle.w16_resource.proofs.Common.{subst, sym, true, ℕ, ◌∙◌, ◌≡◌, ◌⊎◌, MatchBool, FetchesFrom, FillsFewest, told, Fetching, Resource, IsOfFiles, with_handles, Reply, Word, AnswersNone, LoadsNewResource, LoadsResource, is_too_long, load_of}
-use Rattle.w16_resource.proofs.Common.{loaded_again, resource_at, resource_outcome, with_resource, handle_of, Entry, loading_of, IsMadeOr, IsSourceAt, IsSourceOf, MakesNew, MakesOne, is_long, with_new}
+use Rattle.w16_resource.proofs.Common.{loaded_again, resource_at, resource_outcome, with_resource, handle_of, Entry, loading_of, IsMadeOr, IsSourceAt, MakesNew, MakesOne, is_long}
 use Rattle.std.specs.FinMap as finmap
 use Rattle.w16_loading.specs.declared.FetchFault.TheVariants as faults
 use Rattle.w16_loading.specs.Modules as loading
-use Rattle.w16_resource.proofs.Fetched.{fetches, file_there, source_in}
+use Rattle.w16_resource.proofs.Fetched.{fetches, file_there}
 use Rattle.w16_resource.proofs.Taken.{owned_new}
 
 -- The cases of a load, by what is looked up.
@@ -57,9 +57,6 @@ module _ (honest : Type 0) (h : Handles) (modules : Modules) (loads : FinMap nat
     stored : honest → (file : List ℕ) × IsFileOf old s.m file s.t
     stored h = file_there old (is h) handle place name entry s
 
-    source : (m : MakesOne honest files name entry before later r handle place h loads reply next left) → honest → IsSourceOf files name (with_new h m.slot r) m.slot entry
-    source m h = source_in old handle place name entry s (stored h) short (with_new old.handles m.slot r) m.slot (owned_new old.handles m.slot r ∙ ap (λ n. Some (record { size = rounded_size n; code = false })) long)
-
     pub loads_new : MakesNew honest files name entry before later r handle place h loads reply next left
         → (((slot : ℕ) → IsFreeSlot h slot → ⊥) × AnswersNone old reply new) ⊎ LoadsNewResource (FetchesFrom FillsFewest (told honest ne_format files before later)) old handle place r reply new
     loads_new (inl n) = inl (none_new n)
@@ -69,6 +66,7 @@ module _ (honest : Type 0) (h : Handles) (modules : Modules) (loads : FinMap nat
       fault = m.fault;
       next = with_handles (made m) m.next;
       fetched = fetches honest (made m) before later m.slot handle place 1 name entry s (inserted_here loads m.slot (record { handle = handle; place = place; loads = 1 }) m.slot refl)
-          (λ yes. let f = stored yes in (f.0, record { stored = f.1.stored; bytes = f.1.bytes; tables = f.1.tables })) m.fault m.next (m.given (source m));
+          (λ yes. let f = stored yes in (f.0, record { stored = f.1.stored; bytes = f.1.bytes; tables = f.1.tables })) short
+          (owned_new old.handles m.slot r ∙ ap (λ n. Some (record { size = rounded_size n; code = false })) long) m.fault m.next m.given;
       outcome = outcome m;
     })

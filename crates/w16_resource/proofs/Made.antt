@@ -1,6 +1,6 @@
 -- A new object for a resource, which a fetch gives its bytes, or which goes again.
 use Rattle.w16_resource.proofs.Common.{LacksBytes, AreHandles, FetchFault, FinMap, Handles, Kind, List, Option, TakesOwned, false, given, left, nat_cmp, rounded_size, subst, sym, without_slot, ℕ, ◌/◌, ◌∙◌, ◌≡◌, outcome, Resource, Reply, Word}
-use Rattle.w16_resource.proofs.Common.{unused_slot, handle_of, Owned, Entry, GivesSource, IsMadeOr, IsSourceOf, MakesOne, with_new}
+use Rattle.w16_resource.proofs.Common.{unused_slot, handle_of, Owned, Entry, GivesSource, IsMadeOr, MakesOne, with_new}
 use Rattle.std.specs.FinMap as finmap
 use Rattle.w16_loading.specs.Modules as loading
 use Rattle.w16_resource.proofs.Taken.{here, named, taken, lacks_new, taken_back}
@@ -20,7 +20,7 @@ module _ (old mid : Handles) (kind : Kind) (owned : Owned) (object : ℕ) (t : T
 
   pub makes_one : (honest : Type 0) (files : List (List ℕ × List ℕ)) (name : List ℕ) (entry : Entry) (before later handle place : ℕ) (loads : FinMap nat_cmp loading.Load) (reply : Reply) (new : Handles) (left : FinMap nat_cmp loading.Load)
       → (fault : Option FetchFault) (next : Handles)
-      → (LacksBytes mid object → (honest → IsSourceOf files name mid (object / 8) entry) → GivesSource honest files name entry before later mid (object / 8) fault next)
+      → (LacksBytes mid object → GivesSource honest files name entry before later mid (object / 8) fault next)
       → IsMadeOr fault (Word (handle_of r.kind t.slot)) reply old next new loads (finmap.insert loads t.slot (record { handle = handle; place = place; loads = 1 })) left
       → MakesOne honest files name entry before later r handle place old loads reply new left
   makes_one honest files name entry before later handle place loads reply new left fault next given outcome = record {
@@ -28,8 +28,7 @@ module _ (old mid : Handles) (kind : Kind) (owned : Owned) (object : ℕ) (t : T
     free = t.free;
     fault = fault;
     next = next;
-    given = λ source. subst (λ (x : Handles). GivesSource honest files name entry before later x t.slot fault next) mid_is (subst (λ q. GivesSource honest files name entry before later mid q fault next) at
-        (given lacks (λ h. subst (λ q. IsSourceOf files name mid q entry) (sym at) (subst (λ (x : Handles). IsSourceOf files name x t.slot entry) (sym mid_is) (source h)))));
+    given = subst (λ (x : Handles). GivesSource honest files name entry before later x t.slot fault next) mid_is (subst (λ q. GivesSource honest files name entry before later mid q fault next) at (given lacks));
     outcome = outcome;
   }
 

@@ -1,9 +1,9 @@
 -- Fetches of resources that are loaded, in a world over a store.
-use Rattle.w16_resource.proofs.Common.{IsSome, IsFileOf, ne_format, FetchFault, Handles, IfSome, IsSomeAnd, List, LoadingWorld, None, Option, Some, false≢true, given, refl, ℕ, ◌≡◌, in_world, FetchesFrom, FillsFewest, told, IsLoadingWorld}
-use Rattle.w16_resource.proofs.Common.{with_handles, resource_at, Entry, IsLoadingOver, GivesSource, IsSourceAt, IsSourceOf}
+use Rattle.w16_resource.proofs.Common.{IsSome, ne_format, FetchFault, Handles, IfSome, IsSomeAnd, List, LoadingWorld, None, Option, Some, false≢true, given, refl, ℕ, ◌≡◌, in_world, FetchesFrom, FillsFewest, told, IsLoadingWorld}
+use Rattle.w16_resource.proofs.Common.{with_handles, resource_at, Entry, IsLoadingOver, GivesSource, IsSourceAt}
 use Rattle.std.specs.FinMap as finmap
 use Rattle.w16_loading.specs.Modules as loading
-use Rattle.w16_resource.proofs.Fetched.{there, sized, short, file_there, source_in, fetches}
+use Rattle.w16_resource.proofs.Fetched.{there, sized, short, file_there, fetches}
 
 module _ (world : LoadingWorld) (slot : ℕ) where
   -- what is loaded is there
@@ -18,7 +18,7 @@ module _ (world : LoadingWorld) (slot : ℕ) where
 module _ (honest : Type 0) (world : LoadingWorld) (slot : ℕ) (is : IsLoadingOver honest world) (name : List ℕ) (entry : Entry)
     (source : IsSomeAnd (finmap.get world.loads slot) (λ load. IsSourceAt world.modules load.handle load.place name entry)) where
   pub fetched : (later : ℕ) (fault : Option FetchFault) (new : Handles)
-      → ((honest → IsSourceOf world.files name world.handles slot entry) → GivesSource honest world.files name entry world.failures later world.handles slot fault new)
+      → GivesSource honest world.files name entry world.failures later world.handles slot fault new
       → FetchesFrom FillsFewest (told honest ne_format world.files world.failures later) world slot fault (with_handles world new)
   fetched later fault new given = by (finmap.get world.loads slot) refl source
     where
@@ -26,6 +26,5 @@ module _ (honest : Type 0) (world : LoadingWorld) (slot : ℕ) (is : IsLoadingOv
           → FetchesFrom FillsFewest (told honest ne_format world.files world.failures later) world slot fault (with_handles world new)
       by None e s = absurd s
       by (Some load) e s =
-          let of : honest → (file : List ℕ) × IsFileOf world s.m file s.t = λ h. file_there world (is.1 h) load.handle load.place name entry s in
-          fetches honest world world.failures later slot load.handle load.place load.loads name entry s e of fault new
-          (given (λ h. source_in world load.handle load.place name entry s (of h) (short world slot load e name entry s is.0) world.handles slot (sized world slot load e name entry s is.0)))
+          fetches honest world world.failures later slot load.handle load.place load.loads name entry s e (λ h. file_there world (is.1 h) load.handle load.place name entry s) (short world slot load e name entry s is.0)
+          (sized world slot load e name entry s is.0) fault new given

@@ -1,5 +1,5 @@
 -- Where a resource's bytes come from, and how its object gets them.
-use Rattle.std.specs.Prelude.{◌≡◌, ℕ, ◌<◌, ◌⊎◌, ◌==◌, ◌||◌, nat_lt, Bool, false, List, length, take, drop, IsSomeAnd, Option, Some, None, Ok}
+use Rattle.std.specs.Prelude.{◌≡◌, ℕ, ◌<◌, ◌⊎◌, ◌==◌, ◌||◌, nat_lt, Bool, false, List, length, take, drop, Option, Some, None, Ok}
 use Rattle.std.specs.Ordering.{nat_cmp}
 use Rattle.std.specs.FinMap as finmap
 use Rattle.std.specs.FinMap.{FinMap}
@@ -15,7 +15,6 @@ use Rattle.w16_ne.specs.Resources.{Entry, Label}
 use Rattle.w16_loading.specs.declared.FetchFault.{FetchFault}
 use Rattle.w16_loading.specs.declared.FetchFault.TheVariants.{NoRoom}
 use Rattle.w16_loading.specs.declared.TheConstants.{LARGEST_OWNED}
-use Rattle.w16_loading.specs.Answers.{FillsFewest, GivesRead, MayFail}
 use Rattle.w16_loading.specs.File.{Resource}
 use Rattle.w16_loading.specs.Modules.{Load, Module, Modules, module_at}
 use Rattle.w16_loading.specs.Replies.{Reply}
@@ -23,6 +22,7 @@ use Rattle.w16_loading.specs.Replies.Reply.{Word, Failed}
 use Rattle.w16_loading.specs.Resource.{attributes_for}
 use Rattle.w16_format.specs.Data.{padded}
 use Rattle.w16_format.specs.Tables.{tables_in}
+use Rattle.w16_loader.specs.Fetching.{GivesOwned}
 
 -- The resource of a place of a module is read from the file of this name, which has this entry for it.
 pub record IsSourceAt (modules : Modules) (handle place : ℕ) (file : List ℕ) (entry : Entry) : Type 0 where
@@ -43,19 +43,18 @@ is_long len = (len == 0) || nat_lt LARGEST_OWNED len
 abbrev pub bytes_in : List ℕ → Entry → List ℕ
 bytes_in file entry = padded (take entry.len (drop entry.place file)) (rounded_size entry.len)
 
--- The file of this name has bytes of a resource that may be loaded, and a slot's object is of its size.
-pub record IsSourceOf (files : List (List ℕ × List ℕ)) (name : List ℕ) (handles : Handles) (slot : ℕ) (entry : Entry) : Type 0 where
+-- Where the store is honest: the file of this name has bytes of a resource that may be loaded, and a slot's object is of its size.
+pub record IsSourceOf (honest : Type 0) (files : List (List ℕ × List ℕ)) (name : List ℕ) (handles : Handles) (slot : ℕ) (entry : Entry) : Type 0 where
+  pub truly : honest
   pub file : List ℕ
   pub stored : file_of files name ≡ Some file
   pub short : is_long entry.len ≡ false
   pub inside : entry.place < length file
   pub sized : owned_at handles slot ≡ Some (record { size = rounded_size entry.len; code = false })
 
--- A slot's object gets bytes that were read, those of this file where the store is honest; or they can't be read, or there is no room.
-pub record GivesSource (honest : Type 0) (files : List (List ℕ × List ℕ)) (name : List ℕ) (entry : Entry) (before after : ℕ) (old : Handles) (slot : ℕ) (fault : Option FetchFault) (new : Handles) : Type 0 where
-  pub given : GivesRead FillsFewest (MayFail honest before after) (λ bytes. IsSomeAnd (owned_at old slot) (λ owned. length bytes ≡ owned.size))
-      (λ bytes. (file : List ℕ) → honest → file_of files name ≡ Some file → bytes ≡ bytes_in file entry) old.heap slot fault new.heap
-  pub rest : new ≡ record old { heap = new.heap }
+-- The object of a resource gets what its file gives it.
+abbrev pub GivesSource : (honest : Type 0) → List (List ℕ × List ℕ) → List ℕ → Entry → (before after : ℕ) → Handles → ℕ → Option FetchFault → Handles → Type 0
+GivesSource honest files name entry before after old slot fault new = GivesOwned (IsSourceOf honest files name old slot entry) (λ s. bytes_in s.file entry) before after old slot fault new
 
 -- the handles with a new object for a resource
 abbrev pub with_new : Handles → ℕ → Resource → Handles
@@ -81,7 +80,7 @@ pub record MakesOne (honest : Type 0) (files : List (List ℕ × List ℕ)) (nam
   pub free : IsFreeSlot old slot
   pub fault : Option FetchFault
   pub next : Handles
-  pub given : (honest → IsSourceOf files name (with_new old slot r) slot entry) → GivesSource honest files name entry before after (with_new old slot r) slot fault next
+  pub given : GivesSource honest files name entry before after (with_new old slot r) slot fault next
   pub outcome : IsMadeOr fault (Word (handle_of r.kind slot)) reply old next new loads (finmap.insert loads slot (record { handle = handle; place = place; loads = 1 })) left
 
 -- A first load: so, or 0 where no slot is free.

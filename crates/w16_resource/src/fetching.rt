@@ -14,7 +14,7 @@ ghost use Rattle.w16_format.specs.Ne.{ne_format};
 ghost use Rattle.w16_loader.specs.Fetching.{fault_in};
 ghost use Rattle.w16_loader.specs.Registry.{in_world};
 ghost use Rattle.w16_resource.specs.Parts.{IsLoadingOver, loading_of};
-ghost use Rattle.w16_resource.specs.Sources.{GivesSource, IsSourceAt, IsSourceOf, is_long};
+ghost use Rattle.w16_resource.specs.Sources.{GivesSource, IsSourceAt, is_long};
 
 use crate::finding::{ResourceSource, source_of};
 use crate::resources::Resources;
@@ -79,7 +79,7 @@ pub(crate) fn fetch_from<S: Store, A: Allocator + Copy>(
     ensures device { IfErr result (RoseIf is_of_device (S.failures store.old) (S.failures store.new)) }
     ensures refused { OnErr result (global.new ≡ global.old) }
     ensures named { OnOk result (LacksBytes global.old.handles handle) }
-    ensures given { LacksBytes global.old.handles handle → (S.is_honest → IsSourceOf (S.files store.old) source.now.file.now global.old.handles (handle / 8) (entry_of source.now.resource))
+    ensures given { LacksBytes global.old.handles handle
         → GivesSource S.is_honest (S.files store.old) source.now.file.now (entry_of source.now.resource) (S.failures store.old) (S.failures store.new) global.old.handles (handle / 8) (fault_in result) global.new.handles }
 {
     global.reveal_handles();

@@ -2,7 +2,7 @@
 use Rattle.std.specs.Result.{IfErr}
 use Rattle.w16_store.specs.Later.{RoseIf}
 use Rattle.w16_loader.specs.Devices.{is_file_device}
-use Rattle.w16_loader.proofs.Common.{◌<◌, arith, inl, Modules, Found, Files, List, MatchResult, MakesOf, ReadsIn, answers_of, tables_in, ◌≡◌, ℕ, ◌≤◌, IfOk, Result, Ok, Err, sym, subst, file_of, FileFault, IsFault, IsRead, Refused, reading_in, reading_of}
+use Rattle.w16_loader.proofs.Common.{◌<◌, arith, inl, Modules, Found, List, MatchResult, MakesOf, ReadsIn, answers_of, tables_in, ◌≡◌, ℕ, ◌≤◌, IfOk, Result, Ok, Err, sym, subst, file_of, FileFault, IsFault, IsRead, Refused, reading_in, reading_of}
 use Rattle.w16_loader.proofs.Loads.{fault_since}
 use Rattle.w16_loader.proofs.Meanings.{all_there}
 use Rattle.w16_loading.specs.Answers.{Answers}
