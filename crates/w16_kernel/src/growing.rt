@@ -118,6 +118,7 @@ impl Store for GrowingStore {
         ensures stays { IsLater self.old.files 0 self.new.files 0 }
         ensures device { IfErr result (RoseIf is_device 0 0) }
         ensures honest { Unit {0} → IsHonestAnswer (λ n. n) 0 0 result (length_of (file_of self.old.files name.now)) }
+        ensures missing { IfErr result (IsMissing (file_of self.old.files name.now)) }
         ensures bytes { Unit {0} → IfOk result (λ _. HasBytes (file_of self.old.files name.now)) }
         ensures missed { self.new.missed ≡ missed_by result name.now }
     {
