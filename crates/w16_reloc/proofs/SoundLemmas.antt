@@ -1,7 +1,7 @@
 -- A check passes exactly where a segment is sound.
 use Rattle.w16_reloc.proofs.Common.{◌≡◌, ◌≢◌, ℕ, suc, zero, ◌+◌, ◌*◌, ◌<◌, ◌≤◌, List, [], ◌∷◌, ◌++◌, length, Bool, true, false, cond, Option, Some, None, Result, Ok, Err, refl, ap, arith, nat_lt}
 use Rattle.w16_reloc.proofs.Common.{nat_eq, list_any, word_of, RelocFault, BadRecord, SiteOutside, Overlap, Record, Stored, Added, System, Site, meets, AreSound, Offer, record_at, is_named, IsChain}
-use Rattle.w16_reloc.proofs.Common.{Names, AreNamed, of_width, width_of, chain_width, value_width, all_sites, AreRecords, IsSoundSegment, ◌>>=◌, site_at, chain_at, sites_at, formed, check_from, joined}
+use Rattle.w16_reloc.proofs.Common.{Names, AreNamed, of_width, width_of, chain_width, value_width, all_sites, AreRecords, IsSoundSegment, OnOk, ◌>>=◌, site_at, chain_at, sites_at, formed, check_from, joined}
 use Rattle.w16_reloc.proofs.ChainLemmas.{fits}
 use Rattle.w16_reloc.proofs.WalkLemmas.{chain_wide}
 use Rattle.w16_reloc.proofs.Count.{no_more_sites}
@@ -128,6 +128,12 @@ all_pass offer bytes table i before (r ∷ rs) (ats ∷ others) formed names sou
     let parts = sound_parts (length bytes) before (of_width (width_of r) ats) (all_sites rs others) sound in
     let rest = all_pass offer bytes table (i + 1) (joined before (of_width (width_of r) ats)) rs others formed.1 names.1 parts.1 in
     rw (formed.0.0, formed.0.1, sites_pass bytes before r ats names.0 parts.0, rest) refl
+
+-- what passed is sound in the data
+pub sound_passed : {A : Type 0} (r : Result A RelocFault) (offer : Offer) (bytes table : List ℕ) (count : ℕ) (records : List Record) → OnOk r (check_from offer bytes table count 0 [] ≡ Ok records)
+    → OnOk r ((table : List ℕ) × (count : ℕ) × IsSoundSegment offer bytes table count records)
+sound_passed (Ok a) offer bytes table count records h = (table, count, passed_is_sound offer bytes table count records h)
+sound_passed (Err e) offer bytes table count records h = tt
 
 pub sound_passes : (offer : Offer) (bytes table : List ℕ) (count : ℕ) (records : List Record) → IsSoundSegment offer bytes table count records → check_from offer bytes table count 0 [] ≡ Ok records
 sound_passes offer bytes table count records s = rw (← s.many) (all_pass offer bytes table 0 [] records s.sound.0 s.formed s.sound.1.0 (sound_steps bytes records s.sound.0 s.sound.1.0 s.sound.1.1))

@@ -1,5 +1,5 @@
 -- A segment of a module's file, and what a check of it answers.
-use Rattle.std.specs.Prelude.{◌≡◌, ℕ, ◌+◌, ◌*◌, ◌<◌, ◌≤◌, List, [], length, take, drop, Some, Result, Ok, Err, nat_lt, ◌&&◌, Bool, false, slice_index}
+use Rattle.std.specs.Prelude.{◌≡◌, ℕ, ◌+◌, ◌*◌, ◌<◌, ◌≤◌, List, [], length, take, drop, Some, Result, Ok, Err, nat_lt, ◌&&◌, Bool, true, false, slice_index}
 use Rattle.w16_store.specs.declared.store.StoreFault.{StoreFault}
 use Rattle.w16_store.specs.declared.store.StoreFault.TheVariants as stores
 use Rattle.w16_store.specs.Later.{is_device}
@@ -22,6 +22,10 @@ offer_at file segments references names = record { segments = segments; referenc
 
 abbrev pub offer_of : List ℕ → Tables → Offer
 offer_of file tables = offer_at file (length tables.segments) (length tables.references) (imported_place tables)
+
+-- one in whose file each name is taken to have a text
+abbrev pub any_offer : ℕ → ℕ → Offer
+any_offer segments references = record { segments = segments; references = references; has_name = λ name. true }
 
 -- a segment's data in the file, and its records: directly behind the data and their count
 abbrev pub data_of : List ℕ → Segment → List ℕ

@@ -1,10 +1,10 @@
 //! The records of a segment, checked in their order.
-ghost use Rattle.std.specs.Prelude.{◌≡◌, ℕ, ◌<◌, ◌≤◌, ◌+◌, ◌*◌, ◌^◌, length, List, [], Some, Ok, vec_len, vec_capacity, IfErr};
+ghost use Rattle.std.specs.Prelude.{◌≡◌, ℕ, ◌<◌, ◌≤◌, ◌+◌, ◌*◌, ◌^◌, length, List, [], Some, Ok, vec_len, vec_capacity, IfOk, IfErr, OnOk};
 ghost use Rattle.w16_store.specs.Files.{file_of};
 ghost use Rattle.w16_store.specs.Later.{IsLater, RoseIf};
 ghost use Rattle.w16_reloc.specs.Records.{name_in, text_of, record_at};
 ghost use Rattle.w16_reloc.specs.Check.{AreMarks, formed, check_from};
-ghost use Rattle.w16_reloc.specs.Segments.{Answers, offer_at, is_reloc_device};
+ghost use Rattle.w16_reloc.specs.Segments.{Answers, any_offer, offer_at, is_reloc_device};
 
 use crate::fault::RelocFault;
 use crate::reading::has_text;
@@ -58,6 +58,7 @@ fn read_record<S: Store>(
     ensures exact { (file : List ℕ) → S.is_honest → file_of (S.files store.old) name.now ≡ Some file
         → Answers (λ r. r) (S.failures store.old) (S.failures store.new) result
         (formed (offer_at file offered.now.segments offered.now.references offered.now.names) (record_at offered.now.segments offered.now.references table.now at)) }
+    ensures sound { IfOk result (λ r. formed (any_offer offered.now.segments offered.now.references) (record_at offered.now.segments offered.now.references table.now at) ≡ Ok r) }
 {
     let Some(found) = record_at(offered.segments, offered.references, table, at) else {
         return Err(RelocFault::BadRecord);
@@ -97,6 +98,7 @@ pub fn check_records<A: Allocator, S: Store>(
     ensures exact { (file : List ℕ) → S.is_honest → file_of (S.files store.old) name.now ≡ Some file → AreMarks [] marks.old
         → Answers (λ _. records.new.items) (S.failures store.old) (S.failures store.new) result
         (check_from (offer_at file offered.now.segments offered.now.references offered.now.names) bytes.now table.now count 0 []) }
+    ensures sound { AreMarks [] marks.old → OnOk result (check_from (any_offer offered.now.segments offered.now.references) bytes.now table.now count 0 [] ≡ Ok records.new.items) }
 {
     for i in 0..count {
         let found = read_record(store, name, offered, table, 8 * usize::from(i))?;

@@ -5,7 +5,8 @@ ghost use Rattle.w16_store.specs.Later.{IsLater, RoseIf};
 ghost use Rattle.w16_ne.specs.declared.segment_table.Segment.{Segment};
 ghost use Rattle.w16_ne.specs.Modules.{tables_at};
 ghost use Rattle.w16_reloc.specs.Check.{AreMarks};
-ghost use Rattle.w16_reloc.specs.Segments.{Answers, checked, is_reloc_device};
+ghost use Rattle.w16_reloc.specs.Sound.{IsSoundSegment};
+ghost use Rattle.w16_reloc.specs.Segments.{Answers, any_offer, checked, is_reloc_device};
 
 use crate::fault::RelocFault;
 use crate::reading::len_of;
@@ -102,6 +103,8 @@ pub fn check<A: Allocator, S: Store>(
     ensures stays { IsLater (S.files store.old) (S.failures store.old) (S.files store.new) (S.failures store.new) }
     ensures device { IfErr result (RoseIf is_reloc_device (S.failures store.old) (S.failures store.new)) }
     ensures len { (s : Segment) → slice_get module_file.now.segments (segment - 1) ≡ Some s → OnOk result (length scratch.new.bytes ≡ s.len) }
+    ensures sound { OnOk result ((table : List ℕ) × (count : ℕ)
+        × IsSoundSegment (any_offer (length module_file.now.segments) (length module_file.now.references)) scratch.new.bytes table count scratch.new.records) }
     ensures exact { (file : List ℕ) (s : Segment) → S.is_honest → file_of (S.files store.old) name.now ≡ Some file → tables_at (Some file) ≡ Ok module_file.now
         → slice_get module_file.now.segments (segment - 1) ≡ Some s
         → Answers (λ _. scratch.new) (S.failures store.old) (S.failures store.new) result (checked file module_file.now s) }

@@ -1,4 +1,4 @@
-use Rattle.w16_reloc.proofs.Common.{◌∙◌, [], arith, err_from_is_err_and, Offer, check_from, offer_at}
+use Rattle.w16_reloc.proofs.Common.{◌∙◌, [], arith, err_from_is_err_and, Offer, any_offer, check_from, offer_at}
 use Rattle.w16_reloc.proofs.Refusals.{fails_on, own_fails, goes_on, stops_at_record, stops_at_sites, is_done, records_not_device}
 use Rattle.w16_reloc.proofs.records.check_records.Goals as goal
 
@@ -42,6 +42,15 @@ loop-i-preserved g c = (
         said.2,
         rw c.push_reserved.ensures.items (goes_on offer c.args.bytes.now c.args.table.now c.loop-i.records.items c.args.count c.loop-i.i here.0 said.0 c.in_ok-found.found _ c.loop-i-test.true read said.1 here.2),
       ),
+  λ none.
+      let offer : Offer = any_offer c.args.offered.now.segments c.args.offered.now.references in
+      let here = c.loop-i.invariant.6 none in
+      let read = rw c.from.ensures at c.in_ok-found.ensures.sound in
+      let said = c.in_ok-take_sites.ensures.step here.0 here.1 in (
+        said.0,
+        said.2,
+        rw c.push_reserved.ensures.items (goes_on offer c.args.bytes.now c.args.table.now c.loop-i.records.items c.args.count c.loop-i.i here.0 said.0 c.in_ok-found.found _ c.loop-i-test.true read said.1 here.2),
+      ),
 )
 
 pub returns-clause-exact : goal.returns-clause-exact
@@ -49,3 +58,8 @@ returns-clause-exact g c = λ file honest has none.
     let offer : Offer = offer_at file c.args.offered.now.segments c.args.offered.now.references c.args.offered.now.names in
     let here = c.loop-i.invariant.5 file honest has none in
     is_done offer c.args.bytes.now c.args.table.now c.loop-i.records.items c.args.count c.loop-i.i here.0 _ c.loop-i-test.false here.2
+
+pub returns-clause-sound : goal.returns-clause-sound
+returns-clause-sound g c = λ none.
+    let here = c.loop-i.invariant.6 none in
+    is_done (any_offer c.args.offered.now.segments c.args.offered.now.references) c.args.bytes.now c.args.table.now c.loop-i.records.items c.args.count c.loop-i.i here.0 _ c.loop-i-test.false here.2

@@ -1,4 +1,4 @@
-use Rattle.w16_reloc.proofs.Common.{◌≡◌, ◌≤◌, ◌-◌, ℕ, List, [], length, Some, vec_len, vec_capacity, file_of, Site, AreMarks, check_from, offer_at}
+use Rattle.w16_reloc.proofs.Common.{◌≡◌, ◌≤◌, ◌-◌, ℕ, List, [], length, Some, vec_len, vec_capacity, file_of, Site, AreMarks, any_offer, check_from, offer_at}
 use Rattle.w16_reloc.proofs.Refusals.{with_front}
 use Rattle.w16_reloc.proofs.records.check_records.Given as goal
 
@@ -9,3 +9,5 @@ invariant-loop-i g l =
     → (sites : List Site) × AreMarks sites l.marks
     × (with_front l.records.items (check_from (offer_at file l.offered.segments l.offered.references l.offered.names) l.bytes l.table (l.count - l.i) l.i sites)
     ≡ check_from (offer_at file l.offered.segments l.offered.references l.offered.names) l.bytes l.table l.count 0 []))
+    × (AreMarks [] l.fn.marks → (sites : List Site) × AreMarks sites l.marks
+    × (with_front l.records.items (check_from (any_offer l.offered.segments l.offered.references) l.bytes l.table (l.count - l.i) l.i sites) ≡ check_from (any_offer l.offered.segments l.offered.references) l.bytes l.table l.count 0 []))

@@ -1,6 +1,7 @@
 use Rattle.w16_reloc.proofs.Common.{◌≡◌, ◌-◌, Some, Option, sym, arith, err_from_is_err_and, Segment, checked}
 use Rattle.w16_reloc.proofs.Refusals.{fails_on, never, ok_same, checked_told}
 use Rattle.w16_reloc.proofs.FileLemmas.{module_lies}
+use Rattle.w16_reloc.proofs.SoundLemmas.{sound_passed}
 use Rattle.w16_reloc.proofs.scratch.check.Goals as goal
 
 some_same : (x y : Segment) (o : Option Segment) → o ≡ Some x → o ≡ Some y → x ≡ y
@@ -22,3 +23,8 @@ returns-clause-exact g c = λ file s honest has tables found.
     let said = c.check_records.ensures.exact file honest (rw c.in_ok-count.ensures.stays.same has) (rw c.as_mut_slice.ensures.value c.clear_marks.ensures.clear) in
     let offered = rw (c.imported_names.ensures.place, c.segment_count.ensures.count, c.reference_count.ensures, c.as_slice.ensures.value, c.as_slice-2.ensures.value) at said in
     rw (← same) (checked_told file c.args.module_file.now c.segment-found.result c.check_records.result _ _ _ _ _ _ _ (omega (arith, c.in_ok-count.ensures.stays.counted)) held.0 held.1 (sym many) offered)
+
+pub returns-clause-sound : goal.returns-clause-sound
+returns-clause-sound g c =
+    let passed = c.check_records.ensures.sound (rw c.as_mut_slice.ensures.value c.clear_marks.ensures.clear) in
+    sound_passed c.check_records.result _ _ _ _ _ (rw (c.segment_count.ensures.count, c.reference_count.ensures, c.as_slice.ensures.value, c.as_slice-2.ensures.value) at passed)
