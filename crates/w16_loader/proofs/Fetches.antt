@@ -4,7 +4,7 @@ use Rattle.w16_loader.proofs.Common.{ap, ◌∙◌, subst, arith, ne_eqb, lit<, 
 use Rattle.w16_loader.proofs.Common.{All-repeated, tables_at, RelocFault, Record, Held, checked, data_of, IsImage, naming, FetchFault, Store, Damaged, NoRoom, IsOwnedSize, read_of, segment_bytes}
 use Rattle.w16_loader.proofs.Common.{Far, ModuleFile, SegmentData, IsModuleFile, IsSegmentData, numbered, Fills, IsHeap, is_of_device, is_of_read, IsItsFiles, IsObjectOf, LoadingWorld, Module, of_segment, data_in, target_of, targets_in, far_of}
 use Rattle.w16_loader.proofs.Common.{IsFileOf, IsRelocated, ne_format, module_file, segment_in, accepted, has_room, is_format, stored_law, is_relocated, words_same, file_of, GivesBytes, IsFetchable, IsSoundIn, IsWritten, image_in}
-use Rattle.w16_loader.specs.Fetching.{GivesOwned, GivesSegment, IsSoundSource}
+use Rattle.w16_loader.specs.Fetching.{GivesOwned, GivesSegment, IsRelocatedBy, IsSoundSource}
 use Rattle.w16_loading.specs.Answers.{FetchesFrom, FillsFewest, GivesRead, MayFail, told}
 use Rattle.w16_loading.specs.Fetch as fetching
 use Rattle.w16_ne.specs.declared.segment_table.Segment.{Segment}
@@ -15,9 +15,9 @@ use Rattle.w16_loading.proofs.Fewest.{fill_fewest}
 use Rattle.w16_loader.proofs.Giving.{none_filled}
 
 -- What is given to an object that a module owns.
-module _ (Known : Type 0) (image : Known → List ℕ) (before after : ℕ) (old : Handles) (slot : ℕ) where
+module _ (Known : Type 0) (IsRead : List ℕ → Type 0) (before after : ℕ) (old : Handles) (slot : ℕ) where
   abbrev Gives : Option FetchFault → Handles → Type 0
-  Gives fault new = GivesOwned Known image before after old slot fault new
+  Gives fault new = GivesOwned Known IsRead before after old slot fault new
 
   -- its bytes can't be read
   pub unread : (fault : FetchFault) → is_of_read fault ≡ true → (is_of_device fault ≡ true → before < after) → (Known → fault ≡ Store) → Gives (Some fault) old
@@ -38,11 +38,16 @@ module _ (Known : Type 0) (image : Known → List ℕ) (before after : ℕ) (old
             let none : Fills old.heap slot zeros false old.heap = none_filled old slot absent refused zeros sized (All-repeated w.size 0 (lit< tt)) in
             record { given = (zeros, sized, (none, fill_fewest old.heap slot zeros false old.heap heap none)); rest = refl }
 
-    pub filled : (IsBytes : List ℕ → Type 0) → ((k : Known) (bytes : List ℕ) → IsBytes bytes → IsSomeAnd (owned_at old slot) (λ (w : Owned). length bytes ≡ w.size) → bytes ≡ image k) → (new : Handles) → GivesBytes old slot IsBytes new → Gives None new
+    pub filled : (IsBytes : List ℕ → Type 0) → ((bytes : List ℕ) → IsBytes bytes → IsSomeAnd (owned_at old slot) (λ (w : Owned). length bytes ≡ w.size) → IsRead bytes) → (new : Handles) → GivesBytes old slot IsBytes new → Gives None new
     filled IsBytes are new g = record {
-      given = (g.bytes, g.sized, (λ k. are k g.bytes g.are g.sized), (g.filled, fill_fewest old.heap slot g.bytes true new.heap heap g.filled));
+      given = (g.bytes, g.sized, are g.bytes g.are g.sized, (g.filled, fill_fewest old.heap slot g.bytes true new.heap heap g.filled));
       rest = g.rest;
     }
+
+-- what was written over as many bytes as the segment has
+pub relocated : (data : List ℕ) (records : List Record) (values : List words.Far) (bytes : List ℕ) (n : ℕ) → IsWritten data records values bytes → (named : List (List ℕ)) × IsSound data records named → length data ≤ n → length bytes ≡ n → IsRelocatedBy values bytes
+relocated data records values bytes n are sound room long =
+    let fits : length data ≤ length bytes = omega (arith, room, long) in record { data = data; records = records; named = sound.0; sound = sound.1; fits = fits; image = are.image sound.0 sound.1 fits }
 
 -- Over a file that says what it said at load.
 
@@ -160,19 +165,21 @@ module _ (world : LoadingWorld) (slot number : ℕ) (name : List ℕ) (t : Table
   source honest h = record { truly = h; file = file; stored = ap (file_of world.files) (sym is.source.named) ∙ stored.1.stored; sound = sound; sized = owned_size }
 
 -- What gives an object its image is a fetch.
-module _ (honest : Type 0) (Known : Type 0) (known : honest → Known) (image_of : Known → List ℕ) (world : LoadingWorld) (slot : ℕ) (are : (h : honest) → fetching.IsImage ne_format world slot (image_of (known h))) (before after : ℕ) where
-  pub owned_fetch : (fault : Option FetchFault) (new : Handles) → GivesOwned Known image_of before after world.handles slot fault new
+module _ (honest : Type 0) (Known : Type 0) (known : honest → Known) (IsRead : List ℕ → Type 0) (world : LoadingWorld) (slot : ℕ) (are : (bytes : List ℕ) → IsRead bytes → honest → fetching.IsImage ne_format world slot bytes) (before after : ℕ) where
+  pub owned_fetch : (fault : Option FetchFault) (new : Handles) → GivesOwned Known IsRead before after world.handles slot fault new
       → FetchesFrom FillsFewest (told honest ne_format world.files before after) world slot fault (record world { handles = new })
   owned_fetch fault new f = record { given = turn fault f.given; rest = ap (λ (h : Handles). record world { handles = h }) f.rest }
     where
-      turn : (fault : Option FetchFault) → GivesRead FillsFewest (MayFail Known before after) (IsOwnedSize world slot) (λ bytes. (k : Known) → bytes ≡ image_of k) world.handles.heap slot fault new.heap
+      turn : (fault : Option FetchFault) → GivesRead FillsFewest (MayFail Known before after) (IsOwnedSize world slot) IsRead world.handles.heap slot fault new.heap
           → GivesRead FillsFewest (MayFail honest before after) (IsOwnedSize world slot) (λ bytes. honest → fetching.IsImage ne_format world slot bytes) world.handles.heap slot fault new.heap
-      turn None g = (g.0, g.1, (λ h. subst (fetching.IsImage ne_format world slot) (sym (g.2 (known h))) (are h)), g.3)
+      turn None g = (g.0, g.1, are g.0 g.2, g.3)
       turn (Some NoRoom) g = g
       turn (Some Store) g = ((g.0.0, g.0.1, λ h. g.0.2 (known h)), g.1)
       turn (Some Damaged) g = ((g.0.0, g.0.1, λ h. g.0.2 (known h)), g.1)
 
 pub fetches : (honest : Type 0) (world : LoadingWorld) (slot number : ℕ) (name : List ℕ) (t : Tables) (values : List words.Far) → number ≤ length t.segments → (honest → IsFetchable world slot number name t values) → (before after : ℕ) (fault : Option FetchFault) (new : Handles)
     → GivesSegment honest world.files name t number values before after world.handles slot fault new → FetchesFrom FillsFewest (told honest ne_format world.files before after) world slot fault (record world { handles = new })
-fetches honest world slot number name t values last is before after = owned_fetch honest (IsSoundSource honest world.files name t number values world.handles slot) (λ h. source world slot number name t values (is h) last honest h)
-    (λ s. image_in s.file t s.sound.segment values) world slot (λ h. inl ((is h).handle, number, (is h).m, (is h).segment, bytes_are world slot number name t values (is h) last)) before after
+fetches honest world slot number name t values last is before after fault new =
+    let known : honest → IsSoundSource honest world.files name t number values world.handles slot = λ h. source world slot number name t values (is h) last honest h in
+    owned_fetch honest (IsSoundSource honest world.files name t number values world.handles slot) known _ world slot
+    (λ bytes read h. inl ((is h).handle, number, (is h).m, (is h).segment, bytes_are world slot number name t values (is h) last ∙ ap Some (sym (read.1 (known h))))) before after fault new

@@ -52,33 +52,33 @@ module _ (handles : Handles) (slot : ℕ) (s : Segment) (is : IsUnfilled handles
       turn (Some o) h k = false≢true (sym (ap is_some h.1) ∙ k.2)
 
 -- A fetch of one, as it answers.
-module _ {A : Type 0} {Known : Type 0} {image : Known → List ℕ} {before after : ℕ} (old new : Global) (handle : ℕ) (result : Result A FetchFault)
-    (given : LacksBytes old.handles handle → GivesOwned Known image before after old.handles (handle / 8) (fault_in result) new.handles) where
+module _ {A : Type 0} {Known : Type 0} {IsRead : List ℕ → Type 0} {before after : ℕ} (old new : Global) (handle : ℕ) (result : Result A FetchFault)
+    (given : LacksBytes old.handles handle → GivesOwned Known IsRead before after old.handles (handle / 8) (fault_in result) new.handles) where
   -- what keeps objects that it isn't of
   pub keeps : IsHeap old.handles.heap → OnErr result (new ≡ old) → OnOk result (LacksBytes old.handles handle) → (q : ℕ) (s : Segment) → q ≢ handle / 8 → IsUnfilled old.handles q s → IsUnfilled new.handles q s
   keeps heap same lacks q s other is = turn result same lacks given
     where
-      turn : (r : Result A FetchFault) → OnErr r (new ≡ old) → OnOk r (LacksBytes old.handles handle) → (LacksBytes old.handles handle → GivesOwned Known image before after old.handles (handle / 8) (fault_in r) new.handles) → IsUnfilled new.handles q s
+      turn : (r : Result A FetchFault) → OnErr r (new ≡ old) → OnOk r (LacksBytes old.handles handle) → (LacksBytes old.handles handle → GivesOwned Known IsRead before after old.handles (handle / 8) (fault_in r) new.handles) → IsUnfilled new.handles q s
       turn (Err fault) same lacks given = subst (λ (g : Global). IsUnfilled g.handles q s) (sym same) is
       turn (Ok done) same lacks given =
           let g = given lacks in
           kept_so old.handles q s is new.handles (filled_other old.handles.heap (handle / 8) g.given.0 new.handles.heap g.given.3.0 heap q other) g.rest
 
   -- bytes that are read for it, those that were held of it where it is known what is there
-  pub gives_held : (honest : Type 0) (slot : ℕ) (held : List ℕ) (s : Segment) → handle ≡ handle_of s.kind slot → IsUnfilled old.handles slot s → length held ≡ s.size → (honest → (k : Known) × (image k ≡ held))
+  pub gives_held : (honest : Type 0) (slot : ℕ) (held : List ℕ) (s : Segment) → handle ≡ handle_of s.kind slot → IsUnfilled old.handles slot s → length held ≡ s.size → (honest → Known) → (honest → (bytes : List ℕ) → IsRead bytes → bytes ≡ held)
       → gives_over honest before after old.handles.heap slot held (fault_in result) new.handles.heap
-  gives_held honest slot held s named is long known = turn (fault_in result) (subst (λ q. GivesOwned Known image before after old.handles q (fault_in result) new.handles) (slot_in s.kind slot handle named) (given (lacks old.handles slot s is handle named))).given
+  gives_held honest slot held s named is long known again = turn (fault_in result) (subst (λ q. GivesOwned Known IsRead before after old.handles q (fault_in result) new.handles) (slot_in s.kind slot handle named) (given (lacks old.handles slot s is handle named))).given
     where
       sized : (bytes : List ℕ) (p : Option Owned) → IsSomeAnd p (λ w. length bytes ≡ w.size) → IsSomeAnd p (λ w. w.size ≡ s.size) → length bytes ≡ length held
       sized bytes None h k = absurd h
       sized bytes (Some w) h k = h ∙ k ∙ sym long
 
-      turn : (fault : Option FetchFault) → GivesRead FillsFewest (MayFail Known before after) (λ bytes. IsSomeAnd (owned_at old.handles slot) (λ (w : Owned). length bytes ≡ w.size)) (λ bytes. (k : Known) → bytes ≡ image k) old.handles.heap slot fault new.handles.heap
+      turn : (fault : Option FetchFault) → GivesRead FillsFewest (MayFail Known before after) (λ bytes. IsSomeAnd (owned_at old.handles slot) (λ (w : Owned). length bytes ≡ w.size)) IsRead old.handles.heap slot fault new.handles.heap
           → gives_over honest before after old.handles.heap slot held fault new.handles.heap
-      turn None g = (g.0, sized g.0 (owned_at old.handles slot) g.1 is.owned, (λ h. g.2 (known h).0 ∙ (known h).1), g.3.0)
+      turn None g = (g.0, sized g.0 (owned_at old.handles slot) g.1 is.owned, (λ h. again h g.0 g.2), g.3.0)
       turn (Some NoRoom) g = (g.0, sized g.0 (owned_at old.handles slot) g.1 is.owned, g.2.0)
-      turn (Some Store) g = ((g.0.0, g.0.1, λ h. g.0.2 (known h).0), g.1)
-      turn (Some Damaged) g = ((g.0.0, g.0.1, λ h. g.0.2 (known h).0), g.1)
+      turn (Some Store) g = ((g.0.0, g.0.1, λ h. g.0.2 (known h)), g.1)
+      turn (Some Damaged) g = ((g.0.0, g.0.1, λ h. g.0.2 (known h)), g.1)
 
 -- A segment of a load.
 

@@ -77,10 +77,19 @@ abbrev pub image_in : List ℕ → Tables → Segment → List words.Far → Lis
 image_in file t s values = (data_in file t s).image (map far_of values)
 
 -- A slot's object, which a module owns, gets bytes that were read for it, by a request that discards as few as it can; or there is no room, or they
--- can't be read. Where something is known of what is there, they are these, and the device alone fails.
-pub record GivesOwned (Known : Type 0) (image : Known → List ℕ) (before after : ℕ) (old : Handles) (slot : ℕ) (fault : Option FetchFault) (new : Handles) : Type 0 where
-  pub given : GivesRead FillsFewest (MayFail Known before after) (λ bytes. IsSomeAnd (owned_at old slot) (λ owned. length bytes ≡ owned.size)) (λ bytes. (k : Known) → bytes ≡ image k) old.heap slot fault new.heap
+-- can't be read. Where it is known what is there, the device alone fails.
+pub record GivesOwned (Known : Type 0) (IsRead : List ℕ → Type 0) (before after : ℕ) (old : Handles) (slot : ℕ) (fault : Option FetchFault) (new : Handles) : Type 0 where
+  pub given : GivesRead FillsFewest (MayFail Known before after) (λ bytes. IsSomeAnd (owned_at old slot) (λ owned. length bytes ≡ owned.size)) IsRead old.heap slot fault new.heap
   pub rest : new ≡ record old { heap = new.heap }
+
+-- Bytes that are some data, zeros after it, and these values at the sites of records that are sound in it.
+pub record IsRelocatedBy (values : List words.Far) (bytes : List ℕ) : Type 0 where
+  pub data : List ℕ
+  pub records : List Record
+  pub named : List (List ℕ)
+  pub sound : IsSound data records named
+  pub fits : length data ≤ length bytes
+  pub image : IsImage data records values named bytes
 
 -- Where the store is honest: the file of this name has the segment, sound and of the size that the slot's owner says.
 pub record IsSoundSource (honest : Type 0) (files : List (List ℕ × List ℕ)) (name : List ℕ) (t : Tables) (number : ℕ) (values : List words.Far) (handles : Handles) (slot : ℕ) : Type 0 where
@@ -90,10 +99,12 @@ pub record IsSoundSource (honest : Type 0) (files : List (List ℕ × List ℕ))
   pub sound : IsSoundIn file t number values
   pub sized : IsSomeAnd (owned_at handles slot) (λ owned. owned.size ≡ sound.segment.size)
 
--- The object of a segment gets its image.
+-- The object of a segment gets data that was read, with the values that were bound at load; its image, where its file has it.
 abbrev pub GivesSegment : (honest : Type 0) → List (List ℕ × List ℕ) → List ℕ → Tables → ℕ → List words.Far → (before after : ℕ) → Handles → ℕ → Option FetchFault → Handles → Type 0
 GivesSegment honest files name t number values before after old slot fault new =
-    GivesOwned (IsSoundSource honest files name t number values old slot) (λ s. image_in s.file t s.sound.segment values) before after old slot fault new
+    GivesOwned (IsSoundSource honest files name t number values old slot)
+    (λ bytes. ((s : Segment) → slice_get t.segments (number - 1) ≡ Some s → length bytes ≡ s.size → IsRelocatedBy values bytes)
+    × ((k : IsSoundSource honest files name t number values old slot) → bytes ≡ image_in k.file t k.sound.segment values)) before after old slot fault new
 
 -- a world that has these handles, these files and this count of failures, whatever else
 abbrev pub in_parts : LoadingWorld → Handles → List (List ℕ × List ℕ) → ℕ → LoadingWorld

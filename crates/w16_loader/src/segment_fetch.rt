@@ -6,6 +6,7 @@ ghost use Rattle.w16_store.specs.Later.{IsLater, RoseIf};
 ghost use Rattle.w16_ne.specs.declared.segment_table.Segment.{Segment};
 ghost use Rattle.w16_ne.specs.Modules.{tables_at};
 ghost use Rattle.w16_reloc.specs.Segments.{Held, checked, is_reloc_device};
+ghost use Rattle.w16_reloc.specs.Sound.{IsSound};
 ghost use Rattle.w16_global.specs.Owned.{LacksBytes};
 ghost use Rattle.w16_loading.specs.declared.FetchFault.TheVariants.{Store as store_fails};
 ghost use Rattle.w16_loading.specs.Fill.{is_of_device, is_of_read};
@@ -57,6 +58,8 @@ fn read<S: Store, A: Allocator>(
     ensures device { IfErr result (RoseIf is_of_device (S.failures store.old) (S.failures store.new)) }
     ensures many { OnOk result (length scratch.new.records ≡ length source.now.values.now) }
     ensures faults { IfErr result (λ fault. is_of_read fault ≡ true) }
+    ensures sound { OnOk result ((named : List (List ℕ)) × IsSound scratch.new.bytes scratch.new.records named) }
+    ensures room { (s : Segment) → slice_get source.now.module.now.segments (source.now.number - 1) ≡ Some s → OnOk result (length scratch.new.bytes ≤ s.size) }
     ensures exact { (file : List ℕ) (s : Segment) (held : Held) → S.is_honest → file_of (S.files store.old) source.now.file.now ≡ Some file
         → tables_at (Some file) ≡ Ok source.now.module.now → slice_get source.now.module.now.segments (source.now.number - 1) ≡ Some s
         → checked file source.now.module.now s ≡ Ok held → length held.records ≡ length source.now.values.now
@@ -93,7 +96,8 @@ pub fn give<A: Allocator + Copy>(
 }
 
 /// Gives the object of a segment, which has no bytes, those of its file again: its data, zeros after them, and the values that were bound at
-/// load over the sites of its relocation records. The file is read and checked before room is asked for.
+/// load over the sites of its relocation records. The file is read and checked before room is asked for. Over any store the bytes are data that was
+/// read, with these values at the sites of records that are sound in it.
 ///
 /// Others slide and are discarded for it, as few as can be, as for an allocation with no flags; a discardable object becomes the newest in the
 /// order of use. `Store` where the store's device failed; `Damaged` where the file reads otherwise than it did at load; `NoRoom` where no gap

@@ -103,6 +103,7 @@ pub fn check<A: Allocator, S: Store>(
     ensures stays { IsLater (S.files store.old) (S.failures store.old) (S.files store.new) (S.failures store.new) }
     ensures device { IfErr result (RoseIf is_reloc_device (S.failures store.old) (S.failures store.new)) }
     ensures len { (s : Segment) → slice_get module_file.now.segments (segment - 1) ≡ Some s → OnOk result (length scratch.new.bytes ≡ s.len) }
+    ensures room { (s : Segment) → slice_get module_file.now.segments (segment - 1) ≡ Some s → OnOk result (length scratch.new.bytes ≤ s.size) }
     ensures sound { OnOk result ((table : List ℕ) × (count : ℕ)
         × IsSoundSegment (any_offer (length module_file.now.segments) (length module_file.now.references)) scratch.new.bytes table count scratch.new.records) }
     ensures exact { (file : List ℕ) (s : Segment) → S.is_honest → file_of (S.files store.old) name.now ≡ Some file → tables_at (Some file) ≡ Ok module_file.now

@@ -33,9 +33,10 @@ returns-in-Some-clause-given g c = λ read place part is_read its is.
     let last : c.args.number ≤ length c.source-source.result.module.now.segments = omega (arith, c.requires.last, many_segments c.source-source.result.module.now c.args.loaded.now c.source-source.ensures.tables) in
     let named = is_named _ _ c.args.number part _ _ c.source-source.ensures.tables c.segment-segment.ensures.found c.slots.result.now c.slots.ensures.slots c.in-Some.slot c.in-Some.ensures.slot
     c.segment_kind.result c.segment_kind.ensures c.handle_of-handle.result c.handle_of-handle.ensures in
+    let known = λ (honest : g.S.Store.is_honest). source_image _ _ _ (its honest).0 (its honest).1 _ c.source-source.ensures.tables c.args.number c.requires.first last c.source-source.result.file.now c.source-source.result.values.now
+    c.source-source.ensures.source part g.S.Store.is_honest honest c.args.global.now.handles c.handle_of-handle.result named is c.source-source.result.number c.source-source.ensures.number in
     filled c.args.loaded.now read c.args.number part place (gives_over g.S.Store.is_honest (g.S.Store.failures c.args.store.now) (g.S.Store.failures c.fetch.new.store)) c.args.global.now.handles.heap c.fetch.new.global.handles.heap c.fetch.result
     (is_filled_by _ _ c.args.number part _ _ c.source-source.ensures.tables c.segment-segment.ensures.found _ true c.is_filled.ensures c.if-not-is_filled.false)
     (gives_held c.args.global.now c.fetch.new.global c.handle_of-handle.result c.fetch.result c.fetch.ensures.given g.S.Store.is_honest part.slot (part.its_data.image part.its_values) part.segment
     named is (part_long c.args.loaded.now read c.args.number part is_read)
-    (λ honest. source_image _ _ _ (its honest).0 (its honest).1 _ c.source-source.ensures.tables c.args.number c.requires.first last c.source-source.result.file.now c.source-source.result.values.now c.source-source.ensures.source
-    part g.S.Store.is_honest honest c.args.global.now.handles c.handle_of-handle.result named is c.source-source.result.number c.source-source.ensures.number))
+    (λ honest. (known honest).0) (λ honest bytes read_as. read_as.1 (known honest).0 ∙ (known honest).1))

@@ -1,7 +1,7 @@
 -- The segment is read, and then its object given its bytes.
 use Rattle.w16_loader.proofs.Common.{◌/◌, Some, ap, ◌∙◌, sym, subst, refl, err_from_is_err_and, Handles, Global, NoRoom}
 use Rattle.w16_loader.specs.Fetching.{GivesSegment}
-use Rattle.w16_loader.proofs.Fetches.{unread, full, filled, written_image}
+use Rattle.w16_loader.proofs.Fetches.{unread, full, filled, relocated, written_image}
 use Rattle.w16_loader.proofs.segment_fetch.fetch.Goals as goal
 
 pub returns-in_err-read-clause-given : goal.returns-in_err-read-clause-given
@@ -11,10 +11,13 @@ returns-in_err-read-clause-given g c = λ lacks.
     (λ s. c.in_err-read.ensures.exact s.file s.sound.segment s.sound.held s.truly s.stored s.sound.tables s.sound.there s.sound.passed s.sound.many))
 
 pub returns-then-give-clause-given : goal.returns-then-give-clause-given
-returns-then-give-clause-given g c = λ lacks. filled _ _ _ _ _ _ c.reveal_handles.ensures.heap _ (λ s bytes are sized.
-    let read = c.in_ok-read.ensures.exact s.file s.sound.segment s.sound.held s.truly s.stored s.sound.tables s.sound.there s.sound.passed s.sound.many in
-    written_image _ _ _ _ s.sound _ _ s.sized c.bytes.result.now c.records.result.now (c.bytes.ensures ∙ (λ i. (read i).bytes)) (c.records.ensures ∙ (λ i. (read i).records)) bytes are sized)
-    c.give.new.global.handles (c.if-give.ensures.given refl)
+returns-then-give-clause-given g c = λ lacks. filled _ _ _ _ _ _ c.reveal_handles.ensures.heap _ (λ bytes are sized. (
+      λ s there long. relocated c.bytes.result.now c.records.result.now c.args.source.now.values.now bytes s.size are (rw (← c.bytes.ensures, ← c.records.ensures) at c.in_ok-read.ensures.sound)
+      (rw (← c.bytes.ensures) at c.in_ok-read.ensures.room s there) long,
+      λ s.
+          let read = c.in_ok-read.ensures.exact s.file s.sound.segment s.sound.held s.truly s.stored s.sound.tables s.sound.there s.sound.passed s.sound.many in
+          written_image _ _ _ _ s.sound _ _ s.sized c.bytes.result.now c.records.result.now (c.bytes.ensures ∙ (λ i. (read i).bytes)) (c.records.ensures ∙ (λ i. (read i).records)) bytes are sized,
+    )) c.give.new.global.handles (c.if-give.ensures.given refl)
 
 pub returns-else-give-clause-given : goal.returns-else-give-clause-given
 returns-else-give-clause-given g c = λ lacks.
