@@ -1,24 +1,21 @@
 -- Steps by answers: what they are by other answers, and over any store.
-use Rattle.w16_loading.proofs.Common.{◌≡◌, ℕ, zero, suc, ◌<◌, ◌≤◌, inl, inr, ◌⊎◌, Bool, true, false, cond, ◌==◌, List, [], ◌∷◌, length, Option, Some, None, MatchOption, MatchResult, IsSomeAnd, is_some, option_map, Result, Ok, Err, refl, sym}
-use Rattle.w16_loading.proofs.Common.{ap, ◌∙◌, subst, arith, and_parts, find, option_or, repeated, inserted_here, Heap, IsHeap, bytes_at, IsFreeSlot, Owned, owned_at, owned_in, selector_in, FarAnswer, far_slot, Member, is_named, FIRST_MODULE}
+use Rattle.w16_loading.proofs.Common.{◌≡◌, ℕ, zero, suc, ◌<◌, ◌≤◌, inl, inr, ◌⊎◌, Bool, true, false, cond, ◌==◌, List, [], ◌∷◌, length, Option, Some, None, MatchOption, MatchResult, option_map, Result, Ok, Err, refl, sym}
+use Rattle.w16_loading.proofs.Common.{ap, ◌∙◌, subst, arith, and_parts, find, option_or, Heap, bytes_at, IsFreeSlot, selector_in, FarAnswer, far_slot, Member, is_named, FIRST_MODULE}
 use Rattle.w16_loading.proofs.Common.{FetchFault, Store, Damaged, NoRoom, Format, IsModuleFile, ModuleFile, Resource, LoadingWorld, Load, Named, name_of, handle_named, Reply, Giving, Fills}
 use Rattle.w16_loading.proofs.Common.{is_of_read, Closure, Reading, Referent, Found, around, begun, dll, with_bound, with_found, meant, Refused, Meant, Read, There, New, named, fills, Answer, LoadsNew, Fulfils, Refuses, refusal_of, used_again}
-use Rattle.w16_loading.proofs.Common.{Fetching, Accesses, is_not_present, needs_fetch, LoadsResource, LoadsNewResource, LocksResource, AnswersNone, is_too_long, resource_at, load_of, attributes_for, loaded_again, with_resource}
-use Rattle.w16_loading.proofs.Common.{slot_of_resource, LoadingCommand, ModuleCommand, ResourceCommand, Loading, FamilyStep, OfFar, OfModules, OfResources, AnyFetches, GivesAny, IsLoadingWorld, IsRefusal}
+use Rattle.w16_loading.proofs.Common.{Fetching, Accesses, is_not_present, needs_fetch, LoadsResource, LoadsNewResource, LocksResource, AnswersNone, is_too_long, resource_at, load_of, loaded_again, with_resource}
+use Rattle.w16_loading.proofs.Common.{slot_of_resource, LoadingCommand, ModuleCommand, ResourceCommand, Loading, FamilyStep, OfFar, OfModules, OfResources, IsRefusal}
 use Rattle.std.specs.FinMap as finmap
 use Rattle.std.specs.List.{AllByRecursion as Each}
-use Rattle.w16_model.proofs.Parts.{length-repeated}
 use Rattle.w16_loading.specs.Modules.{is_owned}
 use Rattle.w16_loading.specs.Families.{access_of}
 use Rattle.w16_loading.proofs.Common.{pointer_in}
-use Rattle.w16_loading.specs.Answers.{Answers, ClosesFrom, Ending, FetchesFrom, FetchesOver, GivesFrom, GivesRead, IsOwnedSize, LoadsFileFrom, LoadsFrom, MayFail, ReadsFile, RefusesFile, StepOver, follow, told}
-use Rattle.w16_loading.proofs.Common.{bytes_in, Fetches, FillsOne, is_of_device, IsImage, false≢true}
+use Rattle.w16_loading.specs.Answers.{Answers, ClosesFrom, GivesFrom, LoadsFileFrom, LoadsFrom, ReadsFile, RefusesFile, follow, told}
 use Rattle.w16_loading.proofs.Importers.{entry_there}
-use Rattle.w16_loading.proofs.Fillings.{filled_object, one_heap, in_turn_so}
-use Rattle.w16_loading.proofs.Named.{named_heap}
-use Rattle.w16_loading.proofs.Owners.{resource_owned, loaded_of}
+use Rattle.w16_loading.proofs.Fillings.{in_turn_so}
 use Rattle.w16_loading.proofs.ClosureFacts.{IsClosure, began, bound_more, found_more}
-use Rattle.w16_loading.proofs.Stepping.{AnyLoading, LoadsOf, resource_load}
+use Rattle.w16_loading.proofs.Stepping.{LoadsOf, loaded, resource_load}
+use Rattle.w16_loading.proofs.Common.{Loaded, Module, MOST_USES, Says, after_use}
 use Rattle.w16_loading.proofs.Cases.{IsLoadable, bool_as, option_as}
 
 -- A family's step by some fetches and loads is one by others, where these are those.
@@ -126,7 +123,7 @@ module _ (answers : Answers) (are : AreAnswers answers) (old : LoadingWorld) whe
   small_follow closure place name (Read read) = tt
 
   -- A load is of a closure in which all that was found is as it was told.
-  module _ (ends : Ending) (C : Closure → Type 0) (In : ℕ → Closure → Type 0) (file : List ℕ)
+  module _ (C : Closure → Type 0) (In : ℕ → Closure → Type 0) (file : List ℕ)
       (first : (read : ModuleFile) → ReadsFile answers (around old) [] file (Read read) → C (begun file read))
       (rest_of : (closure : Closure) (place : ℕ) (name : List ℕ) (rest : List (ℕ × List ℕ)) → closure.pending ≡ (place, name) ∷ rest → C closure → In place (record closure { pending = rest }) × C (record closure { pending = rest }))
       (bound : (closure : Closure) (place : ℕ) (referent : Referent) → In place closure → C closure → C (with_bound closure place referent))
@@ -158,18 +155,18 @@ module _ (answers : Answers) (are : AreAnswers answers) (old : LoadingWorld) whe
         by_name go None (r, reads, f) = by_reading go r reads f
         by_name go (Some referent) f = go (with_bound here place referent) (bound here place referent left.0 left.1) f
 
-    pub loads_of : (b : Bool) (answer : Answer) (new : LoadingWorld) → LoadsFrom ends answers b old file answer new → LoadsOf (GivesFrom ends answers) C b old file answer new
+    pub loads_of : (b : Bool) (answer : Answer) (new : LoadingWorld) → LoadsFrom Fills answers b old file answer new → LoadsOf (GivesFrom Fills answers) C b old file answer new
     loads_of b answer new (inl f) = inl (subst IsRefusal (sym f.1) tt, f.2)
     loads_of b answer new (inr (r, reads, f)) = turn r reads f
       where
-        refused : (number : ℕ) → number < FIRST_MODULE → Refuses old number answer new → LoadsOf (GivesFrom ends answers) C b old file answer new
+        refused : (number : ℕ) → number < FIRST_MODULE → Refuses old number answer new → LoadsOf (GivesFrom Fills answers) C b old file answer new
         refused number few f = inl (subst IsRefusal (sym f.0) few, f.1)
 
-        turn : (r : Reading) → ReadsFile answers (around old) [] file r → LoadsFileFrom ends answers b old file r answer new → LoadsOf (GivesFrom ends answers) C b old file answer new
+        turn : (r : Reading) → ReadsFile answers (around old) [] file r → LoadsFileFrom Fills answers b old file r answer new → LoadsOf (GivesFrom Fills answers) C b old file answer new
         turn (Refused number) e f = refused number (small_number [] file number e) f
         turn (Meant (There handle)) (t, says, e) f = by_name (handle_named old.modules t.name) refl e
           where
-            by_name : (p : Option ℕ) → handle_named old.modules t.name ≡ p → option_or (option_map There p) None ≡ Some (There handle) → LoadsOf (GivesFrom ends answers) C b old file answer new
+            by_name : (p : Option ℕ) → handle_named old.modules t.name ≡ p → option_or (option_map There p) None ≡ Some (There handle) → LoadsOf (GivesFrom Fills answers) C b old file answer new
             by_name None g e = cc
             by_name (Some k) g e =
                 let same : k ≡ handle = cc in
@@ -179,47 +176,16 @@ module _ (answers : Answers) (are : AreAnswers answers) (old : LoadingWorld) whe
         turn (Read read) e (count, outcome, closes, f) = ended outcome (closed count (begun file read) outcome (first read e) closes) f
           where
             ended : (outcome : Result Closure ℕ) → IsEnd outcome
-                → MatchResult outcome (λ closure. LoadsNew (GivesFrom ends answers) old closure answer new ⊎ ((place : ℕ) × (fault : FetchFault) × answers.fails fault × (answer ≡ refusal_of place fault) × (new ≡ old))) (λ number. Refuses old number answer new)
-                → LoadsOf (GivesFrom ends answers) C b old file answer new
+                → MatchResult outcome (λ closure. LoadsNew (GivesFrom Fills answers) old closure answer new ⊎ ((place : ℕ) × (fault : FetchFault) × answers.fails fault × (answer ≡ refusal_of place fault) × (new ≡ old))) (λ number. Refuses old number answer new)
+                → LoadsOf (GivesFrom Fills answers) C b old file answer new
             ended (Ok closure) h (inl (inl f)) = refused 0 (small 0 (omega arith)) f.1
             ended (Ok closure) h (inl (inr f)) = inr (inr (closure, h, f))
             ended (Ok closure) h (inr (place, fault, may, says, same)) = inl (subst IsRefusal (sym says) (small_refusal place fault), same)
             ended (Err number) h f = refused number h f
 
-  -- of whichever closure
-  pub some_loads : (ends : Ending) (b : Bool) (file : List ℕ) (answer : Answer) (new : LoadingWorld) → LoadsFrom ends answers b old file answer new → LoadsOf (GivesFrom ends answers) (λ closure. Unit {0}) b old file answer new
-  some_loads ends b file = loads_of ends (λ closure. Unit {0}) (λ place closure. Unit {0}) file (λ read e. tt) (λ closure place name rest e h. (tt, tt)) (λ closure place referent lt h. tt) (λ closure place name read lt h e. tt) b
-
-  -- as many bytes as the owner says, or none that are known
-  any_fetch : (slot : ℕ) → is_some (owned_at old.handles slot) ≡ true → (fault : Option FetchFault) (new : LoadingWorld) → FetchesFrom Fills answers old slot fault new → AnyFetches old slot fault new
-  any_fetch slot owned fault new f = turn fault f.given
-    where
-      zeros : (p : Option Owned) → is_some p ≡ true → (bytes : List ℕ) × IsSomeAnd p (λ (o : Owned). length bytes ≡ o.size)
-      zeros None e = cc
-      zeros (Some o) e = (repeated o.size 0, length-repeated o.size 0)
-
-      turn : (fault : Option FetchFault) → GivesRead Fills answers.fails (IsOwnedSize old slot) (answers.gives old slot) old.handles.heap slot fault new.handles.heap → AnyFetches old slot fault new
-      turn None (bytes, sized, read, filled) = record { bytes = bytes; image = sized; filled = filled; rest = f.rest }
-      turn (Some NoRoom) (bytes, sized, filled) = record { bytes = bytes; image = sized; filled = filled; rest = f.rest }
-      turn (Some Store) g = let z = zeros (owned_at old.handles slot) owned in record { bytes = z.0; image = z.1; filled = (refl, g.1); rest = f.rest }
-      turn (Some Damaged) g = let z = zeros (owned_at old.handles slot) owned in record { bytes = z.0; image = z.1; filled = (refl, g.1); rest = f.rest }
-
-pub given_any : (answers : Answers) (old : Heap) (slot : ℕ) (held : List ℕ) (fault : Option FetchFault) (new : Heap) → IsHeap old → GivesFrom Fills answers old slot held fault new → GivesAny old slot held fault new × IsHeap new
-given_any answers old slot held fault new is f = let any : GivesAny old slot held fault new = turn fault f in (any, one_heap is_of_read old slot any.0 fault new is any.2)
-  where
-    turn : (fault : Option FetchFault) → GivesFrom Fills answers old slot held fault new → GivesAny old slot held fault new
-    turn None (some, long, read, filled) = (some, long, filled)
-    turn (Some NoRoom) (some, long, filled) = (some, long, filled)
-    turn (Some Store) g = (held, refl, (refl, g.1))
-    turn (Some Damaged) g = (held, refl, (refl, g.1))
-
-module _ (answers : Answers) (are : AreAnswers answers) (old : LoadingWorld) (is : IsLoadingWorld old) where
-  any_fulfils : (closure : Closure) (answer : Answer) (new : LoadingWorld) → Fulfils (GivesFrom Fills answers) old closure answer new → Fulfils GivesAny old closure answer new
-  any_fulfils closure answer new h = fulfils_as (GivesFrom Fills answers) GivesAny IsHeap (given_any answers) old closure answer new h (named_heap old closure h.choice is.handles h.is_choice)
-
   -- the load of new modules of new names
-  closure_loads : (ends : Ending) (b : Bool) (file : List ℕ) (answer : Answer) (new : LoadingWorld) → LoadsFrom ends answers b old file answer new → LoadsOf (GivesFrom ends answers) (IsClosure (around old).named) b old file answer new
-  closure_loads ends b file = loads_of answers are old ends (IsClosure (around old).named) (λ place c. place < length c.found) file
+  pub closure_loads : (b : Bool) (file : List ℕ) (answer : Answer) (new : LoadingWorld) → LoadsFrom Fills answers b old file answer new → LoadsOf (GivesFrom Fills answers) (IsClosure (around old).named) b old file answer new
+  closure_loads b file = loads_of (IsClosure (around old).named) (λ place c. place < length c.found) file
       (λ read (says, none, sound, held, few). began (around old) file read (are.holds file read held) none) rests (bound_more (around old))
       (λ closure place name read lt is (says, none, sound, held, few). found_more (around old) closure place (dll name) read lt is (are.holds (dll name) read held) none) b
     where
@@ -228,40 +194,8 @@ module _ (answers : Answers) (are : AreAnswers answers) (old : LoadingWorld) (is
           let few : Each (λ (y : ℕ × List ℕ). y.0 < length closure.found) ((place, name) ∷ rest) = subst (Each (λ (y : ℕ × List ℕ). y.0 < length closure.found)) e is.pending in
           (few.0, record { files = is.files; new = is.new; apart = is.apart; pending = few.1; bound = is.bound; asked = is.asked })
 
-  pub any_load : (b : Bool) (file : List ℕ) (answer : Answer) (new : LoadingWorld) → LoadsFrom Fills answers b old file answer new → AnyLoading b old file answer new
-  any_load b file answer new f = elim (closure_loads Fills b file answer new f) [
-    | inl h ↦ inl h
-    | inr (inl h) ↦ inr (inl h)
-    | inr (inr h) ↦ inr (inr (h.0, h.1, any_fulfils h.0 answer new h.2))
-  ]
-
-  fetchable_owned : (slot : ℕ) → IsFetchable old slot → is_some (owned_at old.handles slot) ≡ true
-  fetchable_owned slot (inl owned) = owned
-  fetchable_owned slot (inr (load, there)) = let r = resource_owned old is slot load.handle load.place _ (loaded_of old is slot load there).1 in ap is_some r.1.owned
-
-  any_family : (command : LoadingCommand) (reply : Reply) (new : LoadingWorld) → FamilyStep (FetchesFrom Fills answers) (LoadsFrom Fills answers) old command reply new → FamilyStep AnyFetches AnyLoading old command reply new
-  any_family command reply new = turned (FetchesFrom Fills answers) AnyFetches (LoadsFrom Fills answers) AnyLoading old new reply
-      (λ slot fault next may f. any_fetch answers are old slot (fetchable_owned slot may) fault next f)
-      (λ handle place slot r free at none fault next f. any_fetch answers are (with_resource old slot handle place r) slot (ap (λ p. is_some (owned_in p)) (inserted_here old.handles.attributes slot (attributes_for r) slot refl)) fault next f)
-      (λ b file answer f. any_load b file answer new f) command
-
--- a step over a store is one of whatever fetches and loads
-pub any_step : (honest : Type 0) (format : Format) (old new : LoadingWorld) (command : LoadingCommand) (reply : Reply) → IsLoadingWorld old → StepOver honest format old command reply new
-    → FamilyStep AnyFetches AnyLoading old command reply (record new { failures = old.failures })
-any_step honest format old new command reply is step =
-    any_family (told honest format old.files old.failures new.failures) (told_answers honest format old.files old.failures new.failures) old is command reply (record new { failures = old.failures }) step.step
-
--- A fetch that was told twice, over any store and over an honest one, is one over a store.
-pub fetches_over : (honest : Type 0) (format : Format) (before after : ℕ) (old : LoadingWorld) (slot : ℕ) (fault : Option FetchFault) (new : LoadingWorld) → AnyFetches old slot fault new → (honest → Fetches format old slot fault new)
-    → (fault ≡ Some Store → before < after) → FetchesOver honest format before after old slot fault new
-fetches_over honest format before after old slot fault new any exact rose = record { given = turn fault any.filled (λ h. (exact h).filled) rose; rest = any.rest }
-  where
-    turn : (fault : Option FetchFault) → FillsOne is_of_read old.handles.heap slot any.bytes fault new.handles.heap → ((h : honest) → FillsOne is_of_device old.handles.heap slot (exact h).bytes fault new.handles.heap) → (fault ≡ Some Store → before < after)
-        → GivesRead Fills (MayFail honest before after) (IsOwnedSize old slot) (λ bytes. honest → IsImage format old slot bytes) old.handles.heap slot fault new.handles.heap
-    turn None f e rose = (any.bytes, any.image, (λ h. subst (IsImage format old slot) (same h) (exact h).image), f)
-      where
-        same : (h : honest) → (exact h).bytes ≡ any.bytes
-        same h = let both : ◌≡◌ {A = Option (List ℕ)} (Some (exact h).bytes) (Some any.bytes) = sym (ap bytes_in (filled_object old.handles.heap slot (exact h).bytes new.handles.heap (e h))) ∙ ap bytes_in (filled_object old.handles.heap slot any.bytes new.handles.heap f) in cc
-    turn (Some NoRoom) f e rose = (any.bytes, any.image, f)
-    turn (Some Store) f e rose = ((refl, (λ s. rose refl), λ h. refl), f.1)
-    turn (Some Damaged) f e rose = ((refl, (λ s. let d : Damaged ≡ Store = s in cc), λ h. absurd (false≢true (e h).0)), f.1)
+  -- so what holds of the world before, and of what a load of a module that is there and one of new modules leave, holds of what any load leaves
+  pub loaded_by : (P : Answer → LoadingWorld → Type 0) → ((answer : Answer) → P answer old) → (b : Bool) (file : List ℕ) (answer : Answer) (new : LoadingWorld)
+      → ((handle : ℕ) (m : Module) → finmap.get old.modules handle ≡ Some (Loaded m) → m.uses < MOST_USES → P (Says handle) (after_use old handle m))
+      → ((closure : Closure) → IsClosure (around old).named closure → Fulfils (GivesFrom Fills answers) old closure answer new → P answer new) → LoadsFrom Fills answers b old file answer new → P answer new
+  loaded_by P good b file answer new more fulfil f = loaded P old good (GivesFrom Fills answers) (IsClosure (around old).named) b new file answer more fulfil (closure_loads b file answer new f)

@@ -1,14 +1,13 @@
 -- What the parts of a step do to a world, the step does: fetches, loads, and changes of what is kept beside them.
 use Rattle.w16_loading.proofs.Common.{◌≡◌, ℕ, ◌+◌, ◌-◌, ◌<◌, ◌≤◌, inl, inr, ◌⊎◌, Bool, true, false, cond, ◌&&◌, ◌==◌, not, nat_lt, List, [], ◌∷◌, Option, Some, None, MatchOption, option_map, refl}
 use Rattle.w16_loading.proofs.Common.{sym, ap, ◌∙◌, subst, arith, ltb-true, find, Handles, IsFreeSlot, handle_of, slot_of_handle, selector_in, offset_in, repeated, HandleCommand, locks_at, FarAnswer, FarCommand, far_slot, Member}
-use Rattle.w16_loading.proofs.Common.{MOST_USES, FetchFault, Resource, LoadingWorld, Load, Module, Named, IsFreeModule, handle_named, Loaded, BuiltIn, Giving, without_objects, Closure, around}
+use Rattle.w16_loading.proofs.Common.{MOST_USES, FetchFault, Resource, LoadingWorld, Load, Module, Named, IsFreeModule, handle_named, Loaded, BuiltIn, Giving, without_objects, Closure}
 use Rattle.w16_loading.proofs.Common.{Answer, Fulfils, used_again, after_use, Says, Reply, HandleReplies, ResizeReplies, Word, Failed, ResizeCommand, Fetching, Accesses}
 use Rattle.w16_loading.proofs.Common.{far_read, far_write, gives, Frees, LoadsResource, LoadsNewResource, LocksResource, load_of, loaded_again, with_resource, resource_outcome, locked, lock_outcome}
-use Rattle.w16_loading.proofs.Common.{slot_of_resource, free_resource, LoadingCommand, ModuleCommand, ResourceCommand, Loading, FamilyStep, ModuleStep, ResourceStep, FarStep, GivesBuiltIn, GivesAny, IsRefusal}
+use Rattle.w16_loading.proofs.Common.{slot_of_resource, free_resource, LoadingCommand, ModuleCommand, ResourceCommand, Loading, FamilyStep, ModuleStep, ResourceStep, FarStep, GivesBuiltIn, IsRefusal}
 use Rattle.std.specs.FinMap as finmap
 use Rattle.w16_loading.specs.declared.FetchFault.TheVariants as faults
 use Rattle.w16_loading.proofs.Importers.{entry_there}
-use Rattle.w16_loading.proofs.ClosureFacts.{IsClosure}
 use Rattle.w16_loading.proofs.Cases.{IsLoadable, access_cases, by_option, lock_cases, resource_cases}
 
 -- what is found among entries is there
@@ -58,9 +57,6 @@ LoadsOf gives Is b old file answer new =
     ⊎ ((handle : ℕ) × (n : Named) × (finmap.get old.modules handle ≡ Some n) × ((answer, new) ≡ used_again b old handle (Some n)))
     ⊎ ((closure : Closure) × Is closure × Fulfils gives old closure answer new)
 
-abbrev pub AnyLoading : Loading
-AnyLoading b old file answer new = LoadsOf GivesAny (IsClosure (around old).named) b old file answer new
-
 module _ (P : Answer → LoadingWorld → Type 0) (old : LoadingWorld) (good : (answer : Answer) → P answer old) where
   same_world : (answer : Answer) (new : LoadingWorld) → new ≡ old → P answer new
   same_world answer new e = subst (P answer) (sym e) (good answer)
@@ -89,12 +85,6 @@ module _ (P : Answer → LoadingWorld → Type 0) (old : LoadingWorld) (good : (
   loaded gives Is b new file answer more fulfil (inl f) = same_world answer new f.1
   loaded gives Is b new file answer more fulfil (inr (inl f)) = again b f.0 (Some f.1) (λ m e. more f.0 m (f.2 ∙ e)) answer new f.3
   loaded gives Is b new file answer more fulfil (inr (inr (closure, is, f))) = fulfil closure is f
-
-  pub any_loaded : (b : Bool) (new : LoadingWorld) (file : List ℕ) (answer : Answer)
-      → ((handle : ℕ) (m : Module) → finmap.get old.modules handle ≡ Some (Loaded m) → m.uses < MOST_USES → P (Says handle) (after_use old handle m))
-      → ((closure : Closure) → IsClosure (around old).named closure → Fulfils GivesAny old closure answer new → P answer new)
-      → AnyLoading b old file answer new → P answer new
-  any_loaded = loaded GivesAny (IsClosure (around old).named)
 
 -- What is to hold of the parts of a step from this world: fetches and loads by these definitions, and bytes that are written.
 pub record Parts (fetches : Fetching) (loads : Loading) (Ours : List ℕ → Type 0) (old : LoadingWorld) (P : LoadingWorld → Type 0) : Type 0 where
