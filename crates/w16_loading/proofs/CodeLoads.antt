@@ -1,14 +1,14 @@
 -- A load gives code the bytes that its files say, and leaves all other code as it was.
 use Rattle.w16_loading.proofs.Common.{◌≡◌, ◌≢◌, ℕ, ◌-◌, ◌<◌, inl, inr, ◌⊎◌, true, false, cond, ◌&&◌, List, [], ◌∷◌, ◌++◌, length, fold, map, slice_get, slice_index_or, Option, Some, None, IfSome, IsSomeAnd, is_some, option_map, unwrap_or, Ok, MatchResult, refl}
 use Rattle.w16_loading.proofs.Common.{sym, ap, ◌∙◌, subst, arith, ne_eqb, AllZip, list_all, false≢true, cases_eq, length-map, Heap, bytes_at, Member, EachPair, Each-at, EachPair-from_AllPairs, inserted_here, inserted_other, bytes_in, Saying, Format, ModuleFile, Segment}
-use Rattle.w16_loading.proofs.Common.{SegmentData, Far, Target, targets_of, numbered, Owned, LoadingWorld, Module, IsSegmentOf, module_at, with_heap, FillsOne, Filling, InTurn, is_of_device, Around, Closure, Found, reading, are_sound, followed, after, begun, dll}
+use Rattle.w16_loading.proofs.Common.{SegmentData, Far, Target, targets_of, numbered, Owned, LoadingWorld, Module, IsSegmentOf, module_at, with_heap, Answers, GivesFrom, Fills, Filling, InTurn, Around, Closure, Found, reading, are_sound, followed, after, begun, dll}
 use Rattle.w16_loading.proofs.Common.{around, Read, Choice, IsChoice, Given, all_slots, given, segments_of, with_segment, bound, named, fills, read_of, segment_bytes, is_code, IsLoadingWorld, CodeIsItsFiles, IsItsFiles, ModulesAreItsFiles, IsOfFiles, unused_slot}
 use Rattle.std.specs.List.{AllByRecursion as Each}
 use Rattle.w16_loading.proofs.Undone.{chosen, fold_named, same_owned}
 use Rattle.w16_loading.proofs.Named.{named_heap, free_slot}
 use Rattle.w16_loading.proofs.Given.{place_member, one_place, index_place, given_found, given_slot, given_slots_differ, one_given, new_or_old, IsFilledBy, filled_by, filled_chosen}
 use Rattle.w16_loading.proofs.Readings.{read_by, IsRead, reading_is, follow_cases, after_keeps}
-use Rattle.w16_loading.proofs.KeptCode.{IsFilled, image_of, read_in, fills_bytes}
+use Rattle.w16_loading.proofs.KeptCode.{IsFilled, ReadsAgain, image_of, read_in, fills_bytes}
 use Rattle.w16_loading.proofs.Owners.{segment_object}
 
 -- What a closure found are files as they are.
@@ -58,8 +58,8 @@ sound_values value (s ∷ ss) e = turn s.targets refl e (λ f. sound_values valu
     turn (Some targets) at e more = (subst (λ p. IsSomeAnd p (λ ts. length (map value (targets_of s)) ≡ length ts)) (sym at) (ap (λ p. length (map value (unwrap_or p []))) at ∙ length-map targets value), more e)
 
 -- A load that has come to its end.
-module _ (format : Format) (old : LoadingWorld) (is : IsLoadingWorld old) (closure : Closure) (choice : Choice) (good : IsChoice old closure.found choice) (of_files : AreOfFiles format.says (around old) closure) (heap : Heap)
-    (filled : InTurn (FillsOne is_of_device) (named old closure choice).handles.heap (fills old closure choice) None heap) where
+module _ (answers : Answers) (exact : ReadsAgain answers) (format : Format) (old : LoadingWorld) (is : IsLoadingWorld old) (closure : Closure) (choice : Choice) (good : IsChoice old closure.found choice) (of_files : AreOfFiles format.says (around old) closure) (heap : Heap)
+    (filled : InTurn (GivesFrom Fills answers) (named old closure choice).handles.heap (fills old closure choice) None heap) where
   abbrev gs : List Given
   gs = given closure choice
 
@@ -82,7 +82,7 @@ module _ (format : Format) (old : LoadingWorld) (is : IsLoadingWorld old) (closu
       (ap (λ f. read_in format f g.found.file) files ∙ of_file.0, of_file.1)
 
   bytes_are : (q : ℕ) → IfSome (bytes_at heap q) (λ b. (bytes_at (named old closure choice).handles.heap q ≡ Some b) ⊎ IsFilled (fills old closure choice) q b)
-  bytes_are q = fills_bytes is_of_device (named old closure choice).handles.heap heap (fills old closure choice) None (named_heap old closure choice is.handles good) filled q
+  bytes_are q = fills_bytes answers exact (named old closure choice).handles.heap heap (fills old closure choice) None (named_heap old closure choice is.handles good) filled q
 
   -- code of modules that were there
   old_code : CodeIsItsFiles format old → (slot handle number : ℕ) (m : Module) → IsSegmentOf old slot handle number m → is_code new slot ≡ true → IfSome (bytes_at heap slot) (λ b. segment_bytes format new m number ≡ Some b)
