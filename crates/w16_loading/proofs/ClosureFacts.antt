@@ -22,6 +22,10 @@ pub record IsClosure (named : List ℕ → Option ℕ) (closure : Closure) : Typ
   -- each new module but the first is meant by another
   pub asked : (place : ℕ) → 0 < place → place < length closure.found → (by : ℕ) × Member {X = ℕ × Referent} (by, New place) closure.bound × (by ≢ place)
 
+pub each_both : {X : Type 0} (P : X → Type 0) (xs ys : List X) → Each P xs → Each P ys → Each P (xs ++ ys)
+each_both P [] ys h k = k
+each_both P (x ∷ xs) ys h k = (h.0, each_both P xs ys h.1 k)
+
 module _ (a : Around) where
   -- what nothing means, nothing has the name of
   meant_none : (found : List Found) (name : List ℕ) → meant a found name ≡ None → (a.named name ≡ None) × ((f : Found) → Member f found → is_named (name_of f) name ≡ false)
@@ -31,10 +35,6 @@ module _ (a : Around) where
       turn None None x y e = (x, λ f m. no_place (λ f. is_named (name_of f) name) found y f m)
       turn None (Some r) x y e = cc
       turn (Some p) r x y e = cc
-
-  each_both : {X : Type 0} (P : X → Type 0) (xs ys : List X) → Each P xs → Each P ys → Each P (xs ++ ys)
-  each_both P [] ys h k = k
-  each_both P (x ∷ xs) ys h k = (h.0, each_both P xs ys h.1 k)
 
   each_longer : {Y : Type 0} (xs : List (ℕ × Y)) (m n : ℕ) → m ≤ n → Each (λ x. x.0 < m) xs → Each (λ x. x.0 < n) xs
   each_longer [] m n le h = tt

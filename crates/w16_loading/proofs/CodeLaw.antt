@@ -1,8 +1,9 @@
 -- Over an honest store the code that a script reads is always its file's, relocated: after each step of each family.
-use Rattle.w16_loading.proofs.Common.{◌≡◌, ℕ, ◌+◌, List, [], ◌∷◌, Option, Some, None, Result, Ok, Err, sym, ap, subst, Format, Saying, ModuleFile, LoadingWorld, with_heap, Fills, Failure, InTurn}
-use Rattle.w16_loading.proofs.Common.{Closure, around, dll, named, fills, Answer, Fulfils, after_use, undone, left, IsLoadingWorld, IsOfFiles, CodeLaw, file_of}
-use Rattle.w16_loading.specs.Answers.{Answers, FetchesFrom, GivesFrom, LoadsFrom, said_by, told}
-use Rattle.w16_loading.proofs.Readings.{read_by}
+use Rattle.w16_loading.proofs.Common.{ℕ, ◌+◌, List, [], ◌∷◌, Option, Some, None, sym, subst, Format, ModuleFile, LoadingWorld, with_heap, Fills, Failure, InTurn}
+use Rattle.w16_loading.proofs.Common.{Closure, dll, named, fills, Answer, Fulfils, after_use, undone, left, IsLoadingWorld, IsOfFiles, CodeLaw}
+use Rattle.w16_loading.specs.Answers.{Answers, FetchesFrom, GivesFrom, LoadsFrom, told}
+use Rattle.std.specs.List.{AllByRecursion as Each}
+use Rattle.w16_loading.proofs.ClosureFacts.{each_both}
 use Rattle.w16_loading.proofs.Answered.{loads_of, told_answers}
 use Rattle.w16_loading.proofs.RefusedLoad.{undone_discards}
 use Rattle.w16_loading.proofs.KeptBytes.{kept_bytes}
@@ -10,11 +11,7 @@ use Rattle.w16_loading.proofs.KeptCode.{code_kept, fetched_code}
 use Rattle.w16_loading.proofs.CallsKept.{handles_code, resizes_code}
 use Rattle.w16_loading.proofs.Stepping.{Parts, nothing_asked, family, loaded, with_count}
 use Rattle.w16_loading.proofs.CodeSteps.{heap_kept, other_uses, read_keeps, write_keeps, world_fetches, by_free, built_in_code, loads_kept, made_code, locked_code, last_code}
-use Rattle.w16_loading.proofs.CodeLoads.{AreOfFiles, IsOfFile, each_more, loaded_code}
-
-read_said : (says : Saying) (p : Option (List ℕ)) (read : ModuleFile) → said_by says p ≡ Ok read → read_by says p ≡ Some read
-read_said says None read e = cc
-read_said says (Some bytes) read e = ap (λ (r : Result ModuleFile ℕ). elim r [ Ok y ↦ Some y | Err _ ↦ None ]) e
+use Rattle.w16_loading.proofs.CodeLoads.{IsOfFile, loaded_code}
 
 module _ (honest : Type 0) (truly : honest) (format : Format) (old : LoadingWorld) (is : IsLoadingWorld old) (good : IsOfFiles format old) (before after : ℕ) where
   abbrev answers : Answers
@@ -23,10 +20,13 @@ module _ (honest : Type 0) (truly : honest) (format : Format) (old : LoadingWorl
   abbrev Good : LoadingWorld → Type 0
   Good world = IsOfFiles format world
 
-  held : (name : List ℕ) (read : ModuleFile) → answers.holds name read → IsOfFile format.says (around old) (record { file = name; read = read })
-  held name read h = (read_said format.says (file_of old.files name) read (h.2 truly), h.1)
+  abbrev OfFiles : Closure → Type 0
+  OfFiles closure = Each (IsOfFile format old) closure.found
 
-  fulfilled : (new : LoadingWorld) (closure : Closure) → AreOfFiles format.says (around old) closure → (answer : Answer) → Fulfils (GivesFrom Fills answers) old closure answer new → Good new
+  held : (name : List ℕ) (read : ModuleFile) → answers.holds name read → IsOfFile format old (record { file = name; read = read })
+  held name read h = (h.2 truly, h.1)
+
+  fulfilled : (new : LoadingWorld) (closure : Closure) → Each (IsOfFile format old) closure.found → (answer : Answer) → Fulfils (GivesFrom Fills answers) old closure answer new → Good new
   fulfilled new closure of_files answer f = subst Good (sym f.after) (turn f.failure f.filled)
     where
       turn : (failure : Option Failure) → InTurn (GivesFrom Fills answers) (named old closure f.choice).handles.heap (fills old closure f.choice) failure f.heap → Good (left failure (with_heap (named old closure f.choice) f.heap) (undone old f.choice f.heap))
@@ -45,12 +45,12 @@ module _ (honest : Type 0) (truly : honest) (format : Format) (old : LoadingWorl
     writes = λ selector offset slice world ours here. code_kept format world _ (write_keeps format selector offset slice world) here;
     fetched = λ slot fault next f. code_kept format old next (fetched_code format is.handles.heap (world_fetches format truly before after old is slot) f) good;
     built = λ name handle none free. code_kept format old _ (built_in_code format old handle name) good;
-    loaded = λ b file answer new f. loaded (λ answer. Good) old (λ answer. good) (GivesFrom Fills answers) (AreOfFiles format.says (around old)) b new file answer
+    loaded = λ b file answer new f. loaded (λ answer. Good) old (λ answer. good) (GivesFrom Fills answers) OfFiles b new file answer
         (λ handle m there few. code_kept format old (after_use old handle m) (other_uses format old handle m (m.uses + 1) there) good)
         (λ closure of_files h. fulfilled new closure of_files answer h)
-        (loads_of answers (told_answers honest format old.files before after) old (AreOfFiles format.says (around old)) (λ place closure. Unit {0}) file
+        (loads_of answers (told_answers honest format old.files before after) old OfFiles (λ place closure. Unit {0}) file
         (λ read (says, none, sound, here, few). (held file read here, tt)) (λ closure place name rest e h. (tt, h)) (λ closure place referent lt h. h)
-        (λ closure place name read lt h (says, none, sound, here, few). each_more format.says (around old) closure.found (record { file = dll name; read = read } ∷ []) h (held (dll name) read here, tt)) b answer new f);
+        (λ closure place name read lt h (says, none, sound, here, few). each_both (IsOfFile format old) closure.found (record { file = dll name; read = read } ∷ []) h (held (dll name) read here, tt)) b answer new f);
     freed = λ handle answer new f. by_free format old new handle answer f good;
     counted = λ slot load count there some few. code_kept format old (with_count old slot load count) (loads_kept format old (with_count old slot load count).loads) good;
     made = λ slot handle place r fault next free at none f. made_code format old is handle place r free f good;

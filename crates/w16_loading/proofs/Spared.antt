@@ -86,7 +86,10 @@ module _ {answers : Answers} {old : LoadingWorld} {slot : ℕ} {fault : Option F
 
   -- what is fetched had no place, so nothing that is pinned moves
   pub fetch_stands : HasPinned old.handles.heap q → StandsStill old.handles.heap next.handles.heap q
-  fetch_stands pinned = elim (cases_eq q slot) [ inr d ↦ (fetch_spares d).1 pinned | inl e ↦ elim (fetch_outcome fetched).1 [
-    | inl same ↦ subst (λ (w : LoadingWorld). StandsStill old.handles.heap w.handles.heap q) (sym same) (stays_put old.handles.heap old.handles.heap q refl)
-    | inr (read, sized, given, g) ↦ nowhere_still old.handles.heap next.handles.heap q is (ap (bytes_at old.handles.heap) e ∙ ap bytes_in g.there ∙ g.absent)
-  ] ]
+  fetch_stands pinned = elim (cases_eq q slot) [
+    | inr d ↦ (fetch_spares d).1 pinned
+    | inl e ↦ elim (fetch_outcome fetched).1 [
+      | inl same ↦ subst (λ (w : LoadingWorld). StandsStill old.handles.heap w.handles.heap q) (sym same) (stays_put old.handles.heap old.handles.heap q refl)
+      | inr (read, sized, given, g) ↦ nowhere_still old.handles.heap next.handles.heap q is (ap (bytes_at old.handles.heap) e ∙ ap bytes_in g.there ∙ g.absent)
+    ]
+  ]
