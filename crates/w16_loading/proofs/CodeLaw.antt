@@ -1,17 +1,16 @@
 -- Over an honest store the code that a script reads is always its file's, relocated: after each step of each family.
-use Rattle.w16_loading.proofs.Common.{ℕ, ◌+◌, List, [], ◌∷◌, Option, Some, None, sym, subst, Format, ModuleFile, LoadingWorld, with_heap, Fills, Failure, InTurn}
-use Rattle.w16_loading.proofs.Common.{Closure, dll, named, fills, Answer, Fulfils, after_use, undone, left, IsLoadingWorld, IsOfFiles, CodeLaw}
+use Rattle.w16_loading.proofs.Common.{ℕ, ◌+◌, [], Option, Some, None, sym, subst, Format, LoadingWorld, with_heap, Fills, Failure, InTurn}
+use Rattle.w16_loading.proofs.Common.{Closure, around, named, fills, Answer, Fulfils, after_use, undone, left, IsLoadingWorld, IsOfFiles, CodeLaw}
 use Rattle.w16_loading.specs.Answers.{Answers, FetchesFrom, GivesFrom, LoadsFrom, told}
-use Rattle.std.specs.List.{AllByRecursion as Each}
-use Rattle.w16_loading.proofs.ClosureFacts.{each_both}
-use Rattle.w16_loading.proofs.Answered.{loads_of, told_answers}
+use Rattle.w16_loading.proofs.ClosureFacts.{IsClosure}
+use Rattle.w16_loading.proofs.Answered.{loaded_by, told_answers}
 use Rattle.w16_loading.proofs.RefusedLoad.{undone_discards}
 use Rattle.w16_loading.proofs.KeptBytes.{kept_bytes}
 use Rattle.w16_loading.proofs.KeptCode.{code_kept, fetched_code}
 use Rattle.w16_loading.proofs.CallsKept.{handles_code, resizes_code}
-use Rattle.w16_loading.proofs.Stepping.{Parts, nothing_asked, family, loaded, with_count}
+use Rattle.w16_loading.proofs.Stepping.{Parts, nothing_asked, family, with_count}
 use Rattle.w16_loading.proofs.CodeSteps.{heap_kept, other_uses, read_keeps, write_keeps, world_fetches, by_free, built_in_code, loads_kept, made_code, locked_code, last_code}
-use Rattle.w16_loading.proofs.CodeLoads.{IsOfFile, loaded_code}
+use Rattle.w16_loading.proofs.CodeLoads.{loaded_code}
 
 module _ (honest : Type 0) (truly : honest) (format : Format) (old : LoadingWorld) (is : IsLoadingWorld old) (good : IsOfFiles format old) (before after : ℕ) where
   abbrev answers : Answers
@@ -20,17 +19,11 @@ module _ (honest : Type 0) (truly : honest) (format : Format) (old : LoadingWorl
   abbrev Good : LoadingWorld → Type 0
   Good world = IsOfFiles format world
 
-  abbrev OfFiles : Closure → Type 0
-  OfFiles closure = Each (IsOfFile format old) closure.found
-
-  held : (name : List ℕ) (read : ModuleFile) → answers.holds name read → IsOfFile format old (record { file = name; read = read })
-  held name read h = (h.2 truly, h.1)
-
-  fulfilled : (new : LoadingWorld) (closure : Closure) → Each (IsOfFile format old) closure.found → (answer : Answer) → Fulfils (GivesFrom Fills answers) old closure answer new → Good new
-  fulfilled new closure of_files answer f = subst Good (sym f.after) (turn f.failure f.filled)
+  fulfilled : (new : LoadingWorld) (closure : Closure) → IsClosure answers (around old).named closure → (answer : Answer) → Fulfils (GivesFrom Fills answers) old closure answer new → Good new
+  fulfilled new closure facts answer f = subst Good (sym f.after) (turn f.failure f.filled)
     where
       turn : (failure : Option Failure) → InTurn (GivesFrom Fills answers) (named old closure f.choice).handles.heap (fills old closure f.choice) failure f.heap → Good (left failure (with_heap (named old closure f.choice) f.heap) (undone old f.choice f.heap))
-      turn None filled = loaded_code answers (λ held read again. again truly) format old is closure f.choice f.is_choice of_files f.heap filled good
+      turn None filled = loaded_code answers (λ held read again. again truly) format old is closure f.choice f.is_choice (λ g m. let h = facts.held g m in (h.2 truly, h.1)) f.heap filled good
       turn (Some failure) filled =
           let refused : LoadingWorld = undone old f.choice f.heap in
           code_kept format old refused (heap_kept format old refused.handles.heap
@@ -45,12 +38,8 @@ module _ (honest : Type 0) (truly : honest) (format : Format) (old : LoadingWorl
     writes = λ selector offset slice world ours here. code_kept format world _ (write_keeps format selector offset slice world) here;
     fetched = λ slot fault next f. code_kept format old next (fetched_code format is.handles.heap (world_fetches format truly before after old is slot) f) good;
     built = λ name handle none free. code_kept format old _ (built_in_code format old handle name) good;
-    loaded = λ b file answer new f. loaded (λ answer. Good) old (λ answer. good) (GivesFrom Fills answers) OfFiles b new file answer
-        (λ handle m there few. code_kept format old (after_use old handle m) (other_uses format old handle m (m.uses + 1) there) good)
-        (λ closure of_files h. fulfilled new closure of_files answer h)
-        (loads_of answers (told_answers honest format old.files before after) old OfFiles (λ place closure. Unit {0}) file
-        (λ read (says, none, sound, here, few). (held file read here, tt)) (λ closure place name rest e h. (tt, h)) (λ closure place referent lt h. h)
-        (λ closure place name read lt h (says, none, sound, here, few). each_both (IsOfFile format old) closure.found (record { file = dll name; read = read } ∷ []) h (held (dll name) read here, tt)) b answer new f);
+    loaded = λ b file answer new f. loaded_by answers (told_answers honest format old.files before after) old (λ answer. Good) (λ answer. good) b file answer new
+        (λ handle m there few. code_kept format old (after_use old handle m) (other_uses format old handle m (m.uses + 1) there) good) (λ closure facts. fulfilled new closure facts answer) f;
     freed = λ handle answer new f. by_free format old new handle answer f good;
     counted = λ slot load count there some few. code_kept format old (with_count old slot load count) (loads_kept format old (with_count old slot load count).loads) good;
     made = λ slot handle place r fault next free at none f. made_code format old is handle place r free f good;

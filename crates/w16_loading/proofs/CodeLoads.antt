@@ -1,9 +1,8 @@
 -- A load gives code the bytes that its files say, and leaves all other code as it was.
 use Rattle.w16_loading.proofs.Common.{◌≡◌, ◌≢◌, ℕ, ◌-◌, ◌<◌, inl, inr, ◌⊎◌, true, false, cond, ◌&&◌, List, [], ◌∷◌, length, fold, map, slice_get, slice_index_or, Option, Some, None, IfSome, IsSomeAnd, is_some, option_map, unwrap_or, Ok, refl}
-use Rattle.w16_loading.proofs.Common.{sym, ap, ◌∙◌, subst, arith, ne_eqb, AllZip, list_all, false≢true, cases_eq, length-map, Heap, bytes_at, Member, EachPair, Each-at, EachPair-from_AllPairs, inserted_here, inserted_other, bytes_in, Format, ModuleFile, Segment}
+use Rattle.w16_loading.proofs.Common.{sym, ap, ◌∙◌, subst, arith, ne_eqb, AllZip, list_all, false≢true, cases_eq, length-map, Heap, bytes_at, Member, EachPair, EachPair-from_AllPairs, inserted_here, inserted_other, bytes_in, Format, ModuleFile, Segment}
 use Rattle.w16_loading.proofs.Common.{SegmentData, Far, Target, targets_of, numbered, Owned, LoadingWorld, Module, IsSegmentOf, module_at, with_heap, Answers, GivesFrom, Fills, Filling, InTurn, Closure, Found, are_sound}
 use Rattle.w16_loading.proofs.Common.{Choice, IsChoice, Given, all_slots, given, segments_of, with_segment, bound, named, fills, read_of, segment_bytes, is_code, IsLoadingWorld, CodeIsItsFiles, IsItsFiles, ModulesAreItsFiles, IsOfFiles, unused_slot}
-use Rattle.std.specs.List.{AllByRecursion as Each}
 use Rattle.w16_loading.proofs.Undone.{chosen, fold_named, same_owned}
 use Rattle.w16_loading.proofs.Named.{named_heap, free_slot}
 use Rattle.w16_loading.proofs.Given.{place_member, one_place, index_place, given_found, given_slot, given_slots_differ, one_given, new_or_old, IsFilledBy, filled_by, filled_chosen}
@@ -42,7 +41,7 @@ sound_values value (s ∷ ss) e = turn s.targets refl e (λ f. sound_values valu
     turn (Some targets) at e more = (subst (λ p. IsSomeAnd p (λ ts. length (map value (targets_of s)) ≡ length ts)) (sym at) (ap (λ p. length (map value (unwrap_or p []))) at ∙ length-map targets value), more e)
 
 -- A load that has come to its end.
-module _ (answers : Answers) (exact : ReadsAgain answers) (format : Format) (old : LoadingWorld) (is : IsLoadingWorld old) (closure : Closure) (choice : Choice) (good : IsChoice old closure.found choice) (of_files : Each (IsOfFile format old) closure.found) (heap : Heap)
+module _ (answers : Answers) (exact : ReadsAgain answers) (format : Format) (old : LoadingWorld) (is : IsLoadingWorld old) (closure : Closure) (choice : Choice) (good : IsChoice old closure.found choice) (of_files : (f : Found) → Member f closure.found → IsOfFile format old f) (heap : Heap)
     (filled : InTurn (GivesFrom Fills answers) (named old closure choice).handles.heap (fills old closure choice) None heap) where
   abbrev gs : List Given
   gs = given closure choice
@@ -62,7 +61,7 @@ module _ (answers : Answers) (exact : ReadsAgain answers) (format : Format) (old
   -- a new module's file reads as it did, and is sound
   read : (g : Given) → Member g gs → (read_in format new.files g.found.file ≡ Some g.found.read) × (are_sound g.found.read ≡ true)
   read g member =
-      let of_file = Each-at (IsOfFile format old) closure.found of_files g.found (given_found 0 closure.found choice.handles choice.slots g member) in
+      let of_file = of_files g.found (given_found 0 closure.found choice.handles choice.slots g member) in
       (ap (λ f. read_in format f g.found.file) files ∙ read_said format (file_of old.files g.found.file) g.found.read of_file.0, of_file.1)
 
   bytes_are : (q : ℕ) → IfSome (bytes_at heap q) (λ b. (bytes_at (named old closure choice).handles.heap q ≡ Some b) ⊎ IsFilled (fills old closure choice) q b)

@@ -97,7 +97,7 @@ module _ (answers : Answers) (are : AreAnswers answers) (old : LoadingWorld) (is
   first = refl
 
   -- A load that has come to its end.
-  module _ (closure : Closure) (facts : IsClosure (around old).named closure) (choice : Choice) (good : IsChoice old closure.found choice) (heap : Heap) (filled : InTurn (GivesFrom Fills answers) (named old closure choice).handles.heap (fills old closure choice) None heap) where
+  module _ (closure : Closure) (facts : IsClosure answers (around old).named closure) (choice : Choice) (good : IsChoice old closure.found choice) (heap : Heap) (filled : InTurn (GivesFrom Fills answers) (named old closure choice).handles.heap (fills old closure choice) None heap) where
     abbrev gs : List Given
     gs = given closure choice
 
@@ -109,7 +109,7 @@ module _ (answers : Answers) (are : AreAnswers answers) (old : LoadingWorld) (is
 
     module _ (g : Given) (member : Member g gs) (i slot : ℕ) (s : Segment) (there : slice_get g.found.read.tables.segments i ≡ Some s) (at : slice_get g.slots i ≡ Some slot) (t : (is_fixed s.kind || s.is_preload) ≡ true) where
       file : IsModuleFile g.found.read
-      file = facts.files g.found (given_found 0 closure.found choice.handles choice.slots g member)
+      file = are.holds g.found.file g.found.read (facts.held g.found (given_found 0 closure.found choice.handles choice.slots g member))
 
       x : (x : Filling) × Member x (fills_of module_of g) × (x.slot ≡ slot)
       x = fill_there _ g.place g.slots g.found.read.tables.segments g.found.read.segments file.segments i slot s at there t
@@ -123,7 +123,7 @@ module _ (answers : Answers) (are : AreAnswers answers) (old : LoadingWorld) (is
           (subst (λ p. IsSomeAnd p (λ (o : Object). (o.kind ≡ s.kind) × Unit {0})) (sym begun.0) (refl, tt)))
         where
           begun : (object_at (named old closure choice).handles.heap slot ≡ Some (record { kind = s.kind; locks = 0; bytes = None })) × (owned_at (named old closure choice).handles slot ≡ Some (record { size = s.size; code = s.is_code }))
-          begun = named_new old (segments_of gs) (segments_differ answers old is closure choice good facts heap filled) (slot, s) (given_segment gs g (slot, s) member (zip_member g.slots g.found.read.tables.segments i slot s at there))
+          begun = named_new old (segments_of gs) (segments_differ answers are old is closure choice good facts heap filled) (slot, s) (given_segment gs g (slot, s) member (zip_member g.slots g.found.read.tables.segments i slot s at there))
 
           has_some : (p : Option Object) → IsSomeAnd p (λ o. (o.kind ≡ s.kind) × (is_some o.bytes ≡ true)) → is_some (bytes_in p) ≡ true
           has_some None h = absurd h
@@ -131,11 +131,11 @@ module _ (answers : Answers) (are : AreAnswers answers) (old : LoadingWorld) (is
 
       -- an object that was there is no new segment's
       not_new : (q : ℕ) → is_some (object_at old.handles.heap q) ≡ true → (z : ℕ × Segment) → Member z (segments_of gs) → q ≢ z.0
-      not_new q some z m e = false≢true (sym (ap is_some (ap (object_at old.handles.heap) e ∙ was_free answers old is closure choice good facts heap filled z m)) ∙ some)
+      not_new q some z m e = false≢true (sym (ap is_some (ap (object_at old.handles.heap) e ∙ was_free answers are old is closure choice good facts heap filled z m)) ∙ some)
 
       lost : bytes_at heap slot ≡ None → (q : ℕ) → IsSomeAnd (object_at old.handles.heap q) (λ o. (o.kind ≡ Discardable) × (o.locks ≡ 0)) → bytes_at heap q ≡ None
       lost none q may = all_after slot q answers (named old closure choice).handles.heap heap (fills old closure choice) x.0 filling x.2
-          (λ z m e. let d = sized answers old is closure choice good facts heap filled z m in not_new q some (z.slot, d.0) d.1 e) (named_heap old closure choice is.handles good) filled
+          (λ z m e. let d = sized answers are old is closure choice good facts heap filled z m in not_new q some (z.slot, d.0) d.1 e) (named_heap old closure choice is.handles good) filled
           (subst (λ p. IsSomeAnd p (λ (o : Object). (o.kind ≡ Discardable) × (o.locks ≡ 0))) (sym ((fold_named old (segments_of gs)).others q (not_new q some))) may) none
         where
           there_is : (p : Option Object) → IsSomeAnd p (λ o. (o.kind ≡ Discardable) × (o.locks ≡ 0)) → is_some p ≡ true
@@ -187,14 +187,14 @@ module _ (answers : Answers) (are : AreAnswers answers) (old : LoadingWorld) (is
             let g : (g : Given) × Member g gs × (g.place ≡ 0 + 0) × (slice_get choice.handles 0 ≡ Some g.handle) = at_place 0 closure.found choice.handles choice.slots good.many good.slots.many 0 (subst (λ xs. 0 < length xs) (sym e) (omega arith)) in
             let same : answer ≡ g.0.handle = says ∙ index_place choice.handles 0 g.0.handle 0 g.3 in
             let place : g.0.place ≡ 0 + 0 = g.2 in
-            subst (λ (a : ℕ). IsUsedOnce (finmap.get old.modules a) (finmap.get done.modules a)) (sym same) (subst (λ p. IsUsedOnce p (finmap.get done.modules g.0.handle)) (sym (free_handle answers old is closure choice good facts heap filled g.0 g.1).2)
-            (module_of g.0, put_here module_of 0 closure.found choice.handles choice.slots old.modules (handles_differ answers old is closure choice good facts heap filled) g.0 g.1, ap (λ b. cond b 1 0) (eq-eqb g.0.place 0 (omega (arith, place)))))
+            subst (λ (a : ℕ). IsUsedOnce (finmap.get old.modules a) (finmap.get done.modules a)) (sym same) (subst (λ p. IsUsedOnce p (finmap.get done.modules g.0.handle)) (sym (free_handle answers are old is closure choice good facts heap filled g.0 g.1).2)
+            (module_of g.0, put_here module_of 0 closure.found choice.handles choice.slots old.modules (handles_differ answers are old is closure choice good facts heap filled) g.0 g.1, ap (λ b. cond b 1 0) (eq-eqb g.0.place 0 (omega (arith, place)))))
 
   module _ (le : FIRST_MODULE ≤ answer) where
     small : {A : Type 0} (n : ℕ) → Says answer ≡ Says n → n < 33 → A
     small n e lt = let same : answer ≡ n = cc in absurd (omega (arith, same, lt, le, first))
 
-    fulfilled : (closure : Closure) → IsClosure (around old).named closure → Fulfils (GivesFrom Fills answers) old closure (Says answer) new → Does new
+    fulfilled : (closure : Closure) → IsClosure answers (around old).named closure → Fulfils (GivesFrom Fills answers) old closure (Says answer) new → Does new
     fulfilled closure facts f = by f.failure f.filled f.answered f.after
       where
         by_fault : (place : ℕ) (fault : FetchFault) → Says answer ≡ refusal_of place fault → Does new

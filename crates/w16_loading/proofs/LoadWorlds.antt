@@ -17,6 +17,7 @@ use Rattle.w16_loading.proofs.FetchWorlds.{filled_owned}
 use Rattle.w16_loading.proofs.Worlds.{IsNumber, AreNamesApart, HasOwner, same_module, is_used, is_load, owner_stays, extends}
 use Rattle.w16_loading.proofs.ModuleWorlds.{importers_stay, still_used, not_named}
 use Rattle.w16_loading.proofs.ClosureFacts.{IsClosure}
+use Rattle.w16_loading.proofs.Answered.{AreAnswers}
 use Rattle.w16_loading.proofs.Owners.{object_there}
 
 -- What is filled has its size, and all else what it had.
@@ -48,7 +49,7 @@ one_segment_of (z ∷ xs) apart x y (inr m) (inl f) e = absurd (Each-at (λ (k :
 one_segment_of (z ∷ xs) apart x y (inr m) (inr n) e = one_segment_of xs apart.1 x y m n e
 
 -- The world.
-module _ (answers : Answers) (old : LoadingWorld) (is : IsLoadingWorld old) (closure : Closure) (choice : Choice) (good : IsChoice old closure.found choice) (facts : IsClosure (around old).named closure)
+module _ (answers : Answers) (are : AreAnswers answers) (old : LoadingWorld) (is : IsLoadingWorld old) (closure : Closure) (choice : Choice) (good : IsChoice old closure.found choice) (facts : IsClosure answers (around old).named closure)
     (heap : Heap) (filled : InTurn (GivesFrom Fills answers) (named old closure choice).handles.heap (fills old closure choice) None heap) where
   abbrev gs : List Given
   gs = given closure choice
@@ -76,7 +77,7 @@ module _ (answers : Answers) (old : LoadingWorld) (is : IsLoadingWorld old) (clo
   small x m =
       let r : (g : Given) × Member g gs × Member x (zip g.slots g.found.read.tables.segments) = segment_given gs x m in
       let p : (i : ℕ) × (slice_get (zip r.0.slots r.0.found.read.tables.segments) i ≡ Some x) = member_place (zip r.0.slots r.0.found.read.tables.segments) x r.2 in
-      let file : IsModuleFile r.0.found.read = facts.files r.0.found (given_found 0 closure.found choice.handles choice.slots r.0 r.1) in
+      let file : IsModuleFile r.0.found.read = are.holds r.0.found.file r.0.found.read (facts.held r.0.found (given_found 0 closure.found choice.handles choice.slots r.0 r.1)) in
       of_data (slice_get r.0.found.read.segments p.0) (subst (λ a. MatchOption a (Unit {0}) (λ y. IsSomeAnd (slice_get r.0.found.read.segments p.0) (IsSegmentData y))) (zip_place r.0.slots r.0.found.read.tables.segments p.0 x p.1).1
       (AllZip-left IsSegmentData r.0.found.read.tables.segments r.0.found.read.segments file.segments p.0))
     where
@@ -105,7 +106,7 @@ module _ (answers : Answers) (old : LoadingWorld) (is : IsLoadingWorld old) (clo
   sized x m =
       let r : (g : Given) × Member g gs × IsFilledBy module_of g x = filled_by module_of gs x m in
       let f : IsFilledBy module_of r.0 x = r.2 in
-      let file : IsModuleFile r.0.found.read = facts.files r.0.found (given_found 0 closure.found choice.handles choice.slots r.0 r.1) in
+      let file : IsModuleFile r.0.found.read = are.holds r.0.found.file r.0.found.read (facts.held r.0.found (given_found 0 closure.found choice.handles choice.slots r.0 r.1)) in
       let both : IsSomeAnd (slice_get r.0.found.read.segments f.place) (IsSegmentData f.segment) = subst (λ p. MatchOption p (Unit {0}) (λ y. IsSomeAnd (slice_get r.0.found.read.segments f.place) (IsSegmentData y))) f.segment_at
       (AllZip-left IsSegmentData r.0.found.read.tables.segments r.0.found.read.segments file.segments f.place) in
       let is_data : IsSegmentData f.segment f.its_data = subst (λ p. IsSomeAnd p (IsSegmentData f.segment)) f.data_at both in

@@ -17,7 +17,7 @@ use Rattle.w16_model.proofs.Fewest.{some_handle}
 use Rattle.w16_model.proofs.Naming.{names_law}
 use Rattle.w16_loading.specs.Effects.{IsLoadedAgain, IsLoadedFirst, IsLockedOnce, LoadResourceLaw, LockResourceLaw}
 use Rattle.w16_loading.specs.Resource.{reply_of_call}
-use Rattle.w16_loading.proofs.Effects.{found_passes}
+use Rattle.w16_loading.proofs.Importers.{found_passes}
 use Rattle.w16_loading.proofs.Fillings.{fetch_outcome, filled_object}
 use Rattle.w16_loading.proofs.ResourceWorlds.{none_of_place}
 use Rattle.w16_loading.proofs.SparedByUses.{named_slot}

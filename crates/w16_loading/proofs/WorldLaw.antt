@@ -24,11 +24,11 @@ discards_world old is heap d = world_stays old is (record old.handles { heap = h
     (λ q kind size code h. left_owned old.handles.heap heap q kind size (kept_left old.handles.heap heap q (object_there old q kind size code h) (d.objects q)) h.object)
 
 module _ (answers : Answers) (are : AreAnswers answers) (old : LoadingWorld) (is : IsLoadingWorld old) where
-  fulfilled : (closure : Closure) → IsClosure (around old).named closure → (answer : Answer) (new : LoadingWorld) → Fulfils (GivesFrom Fills answers) old closure answer new → IsLoadingWorld new
+  fulfilled : (closure : Closure) → IsClosure answers (around old).named closure → (answer : Answer) (new : LoadingWorld) → Fulfils (GivesFrom Fills answers) old closure answer new → IsLoadingWorld new
   fulfilled closure facts answer new f = subst IsLoadingWorld (sym f.after) (turn f.failure f.filled)
     where
       turn : (failure : Option Failure) → InTurn (GivesFrom Fills answers) (named old closure f.choice).handles.heap (fills old closure f.choice) failure f.heap → IsLoadingWorld (left failure (with_heap (named old closure f.choice) f.heap) (undone old f.choice f.heap))
-      turn None filled = loaded_world answers old is closure f.choice f.is_choice facts f.heap filled
+      turn None filled = loaded_world answers are old is closure f.choice f.is_choice facts f.heap filled
       turn (Some failure) filled = discards_world old is (undone old f.choice f.heap).handles.heap (undone_discards answers old is closure f.choice f.is_choice (Some failure) f.heap filled)
 
   parts : Parts (FetchesFrom Fills answers) (LoadsFrom Fills answers) (λ slice. All (λ b. b < 256) slice) old IsLoadingWorld
