@@ -1,8 +1,8 @@
--- Steps by answers: what they are by other answers, and over any store.
+-- Steps by answers: what they are by other answers, and what a load leaves, whatever is answered.
 use Rattle.w16_loading.proofs.Common.{◌≡◌, ℕ, zero, suc, ◌<◌, ◌≤◌, inl, inr, ◌⊎◌, Bool, true, false, cond, ◌==◌, List, [], ◌∷◌, length, Option, Some, None, MatchOption, MatchResult, option_map, Result, Ok, Err, refl, sym}
 use Rattle.w16_loading.proofs.Common.{ap, ◌∙◌, subst, arith, and_parts, option_or, Heap, bytes_at, IsFreeSlot, selector_in, FarAnswer, far_slot, FIRST_MODULE}
 use Rattle.w16_loading.proofs.Common.{FetchFault, Store, Damaged, NoRoom, Format, IsModuleFile, ModuleFile, Resource, LoadingWorld, Load, Named, handle_named, Reply, Giving, Fills}
-use Rattle.w16_loading.proofs.Common.{is_of_read, Closure, Reading, Referent, Found, around, begun, dll, with_bound, with_found, meant, Refused, Meant, Read, There, New, named, fills, Answer, LoadsNew, Fulfils, Refuses, refusal_of, used_again}
+use Rattle.w16_loading.proofs.Common.{Closure, Reading, Referent, Found, around, begun, dll, with_bound, with_found, meant, Refused, Meant, Read, There, New, named, fills, Answer, LoadsNew, Fulfils, Refuses, refusal_of, used_again}
 use Rattle.w16_loading.proofs.Common.{Fetching, Accesses, is_not_present, needs_fetch, LoadsResource, LoadsNewResource, LocksResource, AnswersNone, is_too_long, resource_at, load_of, loaded_again, with_resource}
 use Rattle.w16_loading.proofs.Common.{slot_of_resource, LoadingCommand, ModuleCommand, ResourceCommand, Loading, FamilyStep, OfFar, OfModules, OfResources, IsRefusal}
 use Rattle.std.specs.FinMap as finmap
@@ -73,10 +73,9 @@ fulfils_as f g Is turns old closure answer new h is = record {
 pub record AreAnswers (answers : Answers) : Type 0 where
   pub refuses : (name : List ℕ) (number : ℕ) → answers.says name (Err number) → RefusesFile number
   pub holds : (name : List ℕ) (read : ModuleFile) → answers.holds name read → IsModuleFile read
-  pub fails : (fault : FetchFault) → answers.fails fault → is_of_read fault ≡ true
 
 pub told_answers : (honest : Type 0) (format : Format) (files : List (List ℕ × List ℕ)) (before after : ℕ) → AreAnswers (told honest format files before after)
-told_answers honest format files before after = record { refuses = λ name number h. h.0; holds = λ name read h. h.0; fails = λ fault h. h.0 }
+told_answers honest format files before after = record { refuses = λ name number h. h.0; holds = λ name read h. h.0 }
 
 small : (number : ℕ) → number ≤ 32 → number < FIRST_MODULE
 small number le = let first : FIRST_MODULE ≡ 33 = refl in omega (arith, first, le)

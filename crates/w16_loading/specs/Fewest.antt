@@ -6,7 +6,7 @@ use Rattle.w16_loading.specs.Families.{LoadingCommand}
 use Rattle.w16_loading.specs.Answers.{FewestOver, StepOver}
 use Rattle.w16_loading.specs.Law.{IsLoadingWorld}
 
--- each request of a step, that of a fetch and those of a load,
+-- each request of a step, that of a fetch and those of a load, discards as few objects as it can,
 abbrev pub RequestsFewestLaw : (honest : Type 0) → Type 0
 RequestsFewestLaw honest = (format : Format) (old new : LoadingWorld) (command : LoadingCommand) (reply : Reply) → IsLoadingWorld old → StepOver honest format old command reply new
     → FewestOver honest format old command reply new
