@@ -1,5 +1,5 @@
 -- Over an honest store the code that a script reads is always its file's, relocated: after each step of each family.
-use Rattle.w16_loading.proofs.Common.{ℕ, ◌+◌, [], Option, Some, None, sym, subst, Format, LoadingWorld, with_heap, Fills, Failure, InTurn}
+use Rattle.w16_loading.proofs.Common.{ℕ, ◌+◌, Option, Some, None, sym, subst, Format, LoadingWorld, with_heap, Fills, Failure, InTurn}
 use Rattle.w16_loading.proofs.Common.{Closure, around, named, fills, Answer, Fulfils, after_use, undone, left, IsLoadingWorld, IsOfFiles, CodeLaw}
 use Rattle.w16_loading.specs.Answers.{Answers, FetchesFrom, GivesFrom, LoadsFrom, told}
 use Rattle.w16_loading.proofs.ClosureFacts.{IsClosure}

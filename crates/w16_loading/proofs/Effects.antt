@@ -1,5 +1,5 @@
 -- What calls of modules and resources are for, proved from their steps.
-use Rattle.w16_loading.proofs.Common.{◌≡◌, ◌≢◌, ℕ, ◌+◌, ◌-◌, ◌<◌, ◌≤◌, ◌&&◌, ◌==◌, inl, inr, Bool, true, false, cond, if◌then◌else◌, nat_lt, List, [], position, Option, Some, None, option_map, unwrap_or, slice_get, refl, sym, ap, ◌∙◌, subst, arith}
+use Rattle.w16_loading.proofs.Common.{◌≡◌, ◌≢◌, ℕ, ◌+◌, ◌-◌, ◌<◌, ◌≤◌, ◌&&◌, ◌==◌, inl, inr, Bool, true, false, cond, if◌then◌else◌, nat_lt, List, position, Option, Some, None, option_map, unwrap_or, slice_get, refl, sym, ap, ◌∙◌, subst, arith}
 use Rattle.w16_loading.proofs.Common.{IfSome, get_or, and_parts, eq-eqb, ne_eqb, IsTrue, MatchOption, object_at, slot_of_handle, locks_at, inserted_here, taken_here, is_named, is_named-Decides, slice_get-get_or, position-Some}
 use Rattle.w16_loading.proofs.Common.{Resource, Load, LoadingWorld, Modules, Named, module_at, name_of, handle_named, BuiltIn, Loaded, Reply, Word, IsLoadingWorld, without_objects}
 use Rattle.w16_loading.proofs.Common.{AddsBuiltIn, built_in, free_resource, numbered}

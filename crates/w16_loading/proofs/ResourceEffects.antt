@@ -5,7 +5,6 @@ use Rattle.w16_loading.proofs.Common.{with_ordered, FetchFault, NoRoom, Store, D
 use Rattle.w16_loading.proofs.Common.{AnswersNone, LoadsNewResource, LoadsResource, LocksResource, attributes_for, is_too_long, load_of, loaded_again, lock_outcome, locked, resource_at, resource_outcome, slot_of_resource, with_resource}
 use Rattle.std.proofs.Common.{Result, Ok, Err}
 use Rattle.w16_loading.proofs.Cases.{resource_cases}
-use Rattle.w16_loading.specs.Families.ResourceCommand.{LoadResource, LockResource}
 use Rattle.std.specs.FinMap as finmap
 use Rattle.w16_model.specs.Changes.{touched}
 use Rattle.w16_model.specs.Calls as calls

@@ -1,5 +1,5 @@
 -- Loads: LoadModule and LoadLibrary.
-use Rattle.std.specs.Prelude.{◌≡◌, ℕ, ◌+◌, ◌<◌, ◌⊎◌, Bool, not, ◌&&◌, ◌==◌, if◌then◌else◌, nat_lt, [], length, Option, Some, None, slice_index_or}
+use Rattle.std.specs.Prelude.{◌≡◌, ℕ, ◌+◌, ◌<◌, ◌⊎◌, Bool, not, ◌&&◌, ◌==◌, if◌then◌else◌, nat_lt, length, Option, Some, None, slice_index_or}
 use Rattle.std.specs.FinMap as finmap
 use Rattle.w16_model.specs.Heap.{Heap}
 use Rattle.w16_model.specs.Discards.{is_member}
