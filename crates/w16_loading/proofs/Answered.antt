@@ -1,24 +1,21 @@
--- Steps by answers: what they are by other answers, and over any store.
-use Rattle.w16_loading.proofs.Common.{◌≡◌, ℕ, zero, suc, ◌<◌, ◌≤◌, inl, inr, ◌⊎◌, Bool, true, false, cond, ◌==◌, List, [], ◌∷◌, length, Option, Some, None, MatchOption, MatchResult, IsSomeAnd, is_some, option_map, Result, Ok, Err, refl, sym}
-use Rattle.w16_loading.proofs.Common.{ap, ◌∙◌, subst, arith, and_parts, find, option_or, repeated, inserted_here, Heap, IsHeap, bytes_at, IsFreeSlot, Owned, owned_at, owned_in, selector_in, FarAnswer, far_slot, Member, is_named, FIRST_MODULE}
-use Rattle.w16_loading.proofs.Common.{FetchFault, Store, Damaged, NoRoom, Format, IsModuleFile, ModuleFile, Resource, LoadingWorld, Load, Named, name_of, handle_named, Reply, Giving, Fills}
-use Rattle.w16_loading.proofs.Common.{is_of_read, Closure, Reading, Referent, Found, around, begun, dll, with_bound, with_found, meant, Refused, Meant, Read, There, New, named, fills, Answer, LoadsNew, Fulfils, Refuses, refusal_of, used_again}
-use Rattle.w16_loading.proofs.Common.{Fetching, Accesses, is_not_present, needs_fetch, LoadsResource, LoadsNewResource, LocksResource, AnswersNone, is_too_long, resource_at, load_of, attributes_for, loaded_again, with_resource}
-use Rattle.w16_loading.proofs.Common.{slot_of_resource, LoadingCommand, ModuleCommand, ResourceCommand, Loading, FamilyStep, OfFar, OfModules, OfResources, AnyFetches, GivesAny, IsLoadingWorld, IsRefusal}
+-- Steps by answers: what they are by other answers, and what a load leaves, whatever is answered.
+use Rattle.w16_loading.proofs.Common.{◌≡◌, ℕ, zero, suc, ◌<◌, ◌≤◌, inl, inr, ◌⊎◌, Bool, true, false, cond, ◌==◌, List, [], ◌∷◌, length, Option, Some, None, MatchOption, MatchResult, option_map, Result, Ok, Err, refl, sym}
+use Rattle.w16_loading.proofs.Common.{ap, ◌∙◌, subst, arith, and_parts, option_or, Heap, bytes_at, IsFreeSlot, selector_in, FarAnswer, far_slot, FIRST_MODULE}
+use Rattle.w16_loading.proofs.Common.{FetchFault, Store, Damaged, NoRoom, Format, IsModuleFile, ModuleFile, Resource, LoadingWorld, Load, Named, handle_named, Reply, Giving, Fills}
+use Rattle.w16_loading.proofs.Common.{Closure, Reading, Referent, Found, around, begun, dll, with_bound, with_found, meant, Refused, Meant, Read, There, New, named, fills, Answer, LoadsNew, Fulfils, Refuses, refusal_of, used_again}
+use Rattle.w16_loading.proofs.Common.{Fetching, Accesses, is_not_present, needs_fetch, LoadsResource, LoadsNewResource, LocksResource, AnswersNone, is_too_long, resource_at, load_of, loaded_again, with_resource}
+use Rattle.w16_loading.proofs.Common.{slot_of_resource, LoadingCommand, ModuleCommand, ResourceCommand, Loading, FamilyStep, OfFar, OfModules, OfResources, IsRefusal}
 use Rattle.std.specs.FinMap as finmap
 use Rattle.std.specs.List.{AllByRecursion as Each}
-use Rattle.w16_model.proofs.Parts.{length-repeated}
 use Rattle.w16_loading.specs.Modules.{is_owned}
 use Rattle.w16_loading.specs.Families.{access_of}
 use Rattle.w16_loading.proofs.Common.{pointer_in}
-use Rattle.w16_loading.specs.Answers.{Answers, ClosesFrom, Ending, FetchesFrom, FetchesOver, GivesFrom, GivesRead, IsOwnedSize, LoadsFileFrom, LoadsFrom, MayFail, ReadsFile, RefusesFile, StepOver, follow, told}
-use Rattle.w16_loading.proofs.Common.{bytes_in, Fetches, FillsOne, is_of_device, IsImage, false≢true}
-use Rattle.w16_loading.proofs.Importers.{entry_there}
-use Rattle.w16_loading.proofs.Fillings.{filled_object, one_heap, in_turn_so}
-use Rattle.w16_loading.proofs.Named.{named_heap}
-use Rattle.w16_loading.proofs.Owners.{resource_owned, loaded_of}
+use Rattle.w16_loading.specs.Answers.{Answers, ClosesFrom, GivesFrom, LoadsFileFrom, LoadsFrom, ReadsFile, RefusesFile, follow, told}
+use Rattle.w16_loading.proofs.Importers.{named_there}
+use Rattle.w16_loading.proofs.Fillings.{in_turn_so}
 use Rattle.w16_loading.proofs.ClosureFacts.{IsClosure, began, bound_more, found_more}
-use Rattle.w16_loading.proofs.Stepping.{AnyLoading, LoadsOf, resource_load}
+use Rattle.w16_loading.proofs.Stepping.{resource_load}
+use Rattle.w16_loading.proofs.Common.{BuiltIn, Loaded, Module, MOST_USES, Says, after_use, ltb-true, nat_lt, not, ◌&&◌}
 use Rattle.w16_loading.proofs.Cases.{IsLoadable, bool_as, option_as}
 
 -- A family's step by some fetches and loads is one by others, where these are those.
@@ -76,26 +73,9 @@ fulfils_as f g Is turns old closure answer new h is = record {
 pub record AreAnswers (answers : Answers) : Type 0 where
   pub refuses : (name : List ℕ) (number : ℕ) → answers.says name (Err number) → RefusesFile number
   pub holds : (name : List ℕ) (read : ModuleFile) → answers.holds name read → IsModuleFile read
-  pub fails : (fault : FetchFault) → answers.fails fault → is_of_read fault ≡ true
 
 pub told_answers : (honest : Type 0) (format : Format) (files : List (List ℕ × List ℕ)) (before after : ℕ) → AreAnswers (told honest format files before after)
-told_answers honest format files before after = record { refuses = λ name number h. h.0; holds = λ name read h. h.0; fails = λ fault h. h.0 }
-
--- a module of the name of a file that is read is there
-there_named : (old : LoadingWorld) (name : List ℕ) (handle : ℕ) → handle_named old.modules name ≡ Some handle → (n : Named) × (finmap.get old.modules handle ≡ Some n)
-there_named old name handle e = found (find (λ (x : ℕ × Named). is_named (name_of x.1) name) (finmap.entries old.modules)) refl e
-  where
-    member : (p : ℕ × Named → Bool) (xs : List (ℕ × Named)) (x : ℕ × Named) → find p xs ≡ Some x → Member x xs
-    member p [] x e = cc
-    member p (y ∷ xs) x e = turn (p y) e (λ f. member p xs x f)
-      where
-        turn : (b : Bool) → cond b (Some y) (find p xs) ≡ Some x → (find p xs ≡ Some x → Member x xs) → Member x (y ∷ xs)
-        turn true e rest = let same : y ≡ x = cc in inl (sym same)
-        turn false e rest = inr (rest e)
-
-    found : (p : Option (ℕ × Named)) → find (λ (x : ℕ × Named). is_named (name_of x.1) name) (finmap.entries old.modules) ≡ p → option_map (λ (x : ℕ × Named). x.0) p ≡ Some handle → (n : Named) × (finmap.get old.modules handle ≡ Some n)
-    found None f e = cc
-    found (Some x) f e = let same : x.0 ≡ handle = cc in (x.1, ap (finmap.get old.modules) (sym same) ∙ entry_there old.modules x.0 x.1 (member (λ (x : ℕ × Named). is_named (name_of x.1) name) (finmap.entries old.modules) x f))
+told_answers honest format files before after = record { refuses = λ name number h. h.0; holds = λ name read h. h.0 }
 
 small : (number : ℕ) → number ≤ 32 → number < FIRST_MODULE
 small number le = let first : FIRST_MODULE ≡ 33 = refl in omega (arith, first, le)
@@ -109,6 +89,13 @@ small_refusal place Damaged = turn (place == 0)
     turn true = small 11 (omega arith)
     turn false = small 20 (omega arith)
 
+-- A load is refused in the same world; or of a module that is there; or of new modules, as they were told.
+abbrev pub LoadsOf : Answers → Loading
+LoadsOf answers b old file answer new =
+    (IsRefusal answer × (new ≡ old))
+    ⊎ ((handle : ℕ) × (n : Named) × (finmap.get old.modules handle ≡ Some n) × ((answer, new) ≡ used_again b old handle (Some n)))
+    ⊎ ((closure : Closure) × IsClosure answers (around old).named closure × Fulfils (GivesFrom Fills answers) old closure answer new)
+
 module _ (answers : Answers) (are : AreAnswers answers) (old : LoadingWorld) where
   -- a number that refuses a load
   small_number : (found : List Found) (name : List ℕ) (number : ℕ) → ReadsFile answers (around old) found name (Refused number) → number < FIRST_MODULE
@@ -116,152 +103,98 @@ module _ (answers : Answers) (are : AreAnswers answers) (old : LoadingWorld) whe
   small_number found name number (inr (t, says, none, inl h)) = let e : number ≡ 11 = h.1 in small number (omega (arith, e))
   small_number found name number (inr (t, says, none, inr h)) = let e : number ≡ 0 = h.2 in small number (omega (arith, e))
 
-  small_follow : (closure : Closure) (place : ℕ) (name : List ℕ) (r : Reading) → MatchResult (follow closure place name r) (λ _. Unit {0}) (λ number. number < FIRST_MODULE)
-  small_follow closure place name (Refused answer) = turn (answer == 0)
+  small_follow : (answer : ℕ) → cond (answer == 0) 0 20 < FIRST_MODULE
+  small_follow answer = turn (answer == 0)
     where
       turn : (b : Bool) → cond b 0 20 < FIRST_MODULE
       turn true = small 0 (omega arith)
       turn false = small 20 (omega arith)
-  small_follow closure place name (Meant referent) = tt
-  small_follow closure place name (Read read) = tt
 
-  -- A load is of a closure in which all that was found is as it was told.
-  module _ (ends : Ending) (C : Closure → Type 0) (In : ℕ → Closure → Type 0) (file : List ℕ)
-      (first : (read : ModuleFile) → ReadsFile answers (around old) [] file (Read read) → C (begun file read))
-      (rest_of : (closure : Closure) (place : ℕ) (name : List ℕ) (rest : List (ℕ × List ℕ)) → closure.pending ≡ (place, name) ∷ rest → C closure → In place (record closure { pending = rest }) × C (record closure { pending = rest }))
-      (bound : (closure : Closure) (place : ℕ) (referent : Referent) → In place closure → C closure → C (with_bound closure place referent))
-      (found : (closure : Closure) (place : ℕ) (name : List ℕ) (read : ModuleFile) → In place closure → C closure → ReadsFile answers (around old) closure.found (dll name) (Read read)
-      → C (with_bound (with_found closure (dll name) read) place (New (length closure.found)))) where
-    abbrev IsEnd : Result Closure ℕ → Type 0
-    IsEnd outcome = MatchResult outcome C (λ number. number < FIRST_MODULE)
+  abbrev IsEnd : Result Closure ℕ → Type 0
+  IsEnd outcome = MatchResult outcome (IsClosure answers (around old).named) (λ number. number < FIRST_MODULE)
 
-    closed : (n : ℕ) (closure : Closure) (outcome : Result Closure ℕ) → C closure → ClosesFrom answers (around old) n closure outcome → IsEnd outcome
-    closed zero closure outcome h f = subst IsEnd (sym f.1) h
-    closed (suc n) closure outcome h (place, name, rest, e, more) = by_name (λ c k d. closed n c outcome k d) (meant (around old) closure.found name) more
-      where
-        here : Closure
-        here = record closure { pending = rest }
-
-        left : In place here × C here
-        left = rest_of closure place name rest e h
-
-        by_reading : ((c : Closure) → C c → ClosesFrom answers (around old) n c outcome → IsEnd outcome) → (r : Reading) → ReadsFile answers (around old) closure.found (dll name) r
-            → MatchResult (follow here place name r) (λ c. ClosesFrom answers (around old) n c outcome) (λ number. outcome ≡ Err number) → IsEnd outcome
-        by_reading go (Refused answer) reads f = subst IsEnd (sym f) (small_follow here place name (Refused answer))
-        by_reading go (Meant referent) reads f = go (with_bound here place referent) (bound here place referent left.0 left.1) f
-        by_reading go (Read read) reads f = go (with_bound (with_found here (dll name) read) place (New (length closure.found))) (found here place name read left.0 left.1 reads) f
-
-        by_name : ((c : Closure) → C c → ClosesFrom answers (around old) n c outcome → IsEnd outcome) → (p : Option Referent)
-            → MatchOption p ((r : Reading) × ReadsFile answers (around old) closure.found (dll name) r
-            × MatchResult (follow here place name r) (λ c. ClosesFrom answers (around old) n c outcome) (λ number. outcome ≡ Err number))
-            (λ referent. ClosesFrom answers (around old) n (with_bound here place referent) outcome) → IsEnd outcome
-        by_name go None (r, reads, f) = by_reading go r reads f
-        by_name go (Some referent) f = go (with_bound here place referent) (bound here place referent left.0 left.1) f
-
-    pub loads_of : (b : Bool) (answer : Answer) (new : LoadingWorld) → LoadsFrom ends answers b old file answer new → LoadsOf (GivesFrom ends answers) C b old file answer new
-    loads_of b answer new (inl f) = inl (subst IsRefusal (sym f.1) tt, f.2)
-    loads_of b answer new (inr (r, reads, f)) = turn r reads f
-      where
-        refused : (number : ℕ) → number < FIRST_MODULE → Refuses old number answer new → LoadsOf (GivesFrom ends answers) C b old file answer new
-        refused number few f = inl (subst IsRefusal (sym f.0) few, f.1)
-
-        turn : (r : Reading) → ReadsFile answers (around old) [] file r → LoadsFileFrom ends answers b old file r answer new → LoadsOf (GivesFrom ends answers) C b old file answer new
-        turn (Refused number) e f = refused number (small_number [] file number e) f
-        turn (Meant (There handle)) (t, says, e) f = by_name (handle_named old.modules t.name) refl e
-          where
-            by_name : (p : Option ℕ) → handle_named old.modules t.name ≡ p → option_or (option_map There p) None ≡ Some (There handle) → LoadsOf (GivesFrom ends answers) C b old file answer new
-            by_name None g e = cc
-            by_name (Some k) g e =
-                let same : k ≡ handle = cc in
-                let n : (n : Named) × (finmap.get old.modules handle ≡ Some n) = there_named old t.name handle (g ∙ ap Some same) in
-                inr (inl (handle, n.0, n.1, f ∙ ap (used_again b old handle) n.1))
-        turn (Meant (New place)) e f = absurd f
-        turn (Read read) e (count, outcome, closes, f) = ended outcome (closed count (begun file read) outcome (first read e) closes) f
-          where
-            ended : (outcome : Result Closure ℕ) → IsEnd outcome
-                → MatchResult outcome (λ closure. LoadsNew (GivesFrom ends answers) old closure answer new ⊎ ((place : ℕ) × (fault : FetchFault) × answers.fails fault × (answer ≡ refusal_of place fault) × (new ≡ old))) (λ number. Refuses old number answer new)
-                → LoadsOf (GivesFrom ends answers) C b old file answer new
-            ended (Ok closure) h (inl (inl f)) = refused 0 (small 0 (omega arith)) f.1
-            ended (Ok closure) h (inl (inr f)) = inr (inr (closure, h, f))
-            ended (Ok closure) h (inr (place, fault, may, says, same)) = inl (subst IsRefusal (sym says) (small_refusal place fault), same)
-            ended (Err number) h f = refused number h f
-
-  -- of whichever closure
-  pub some_loads : (ends : Ending) (b : Bool) (file : List ℕ) (answer : Answer) (new : LoadingWorld) → LoadsFrom ends answers b old file answer new → LoadsOf (GivesFrom ends answers) (λ closure. Unit {0}) b old file answer new
-  some_loads ends b file = loads_of ends (λ closure. Unit {0}) (λ place closure. Unit {0}) file (λ read e. tt) (λ closure place name rest e h. (tt, tt)) (λ closure place referent lt h. tt) (λ closure place name read lt h e. tt) b
-
-  -- as many bytes as the owner says, or none that are known
-  any_fetch : (slot : ℕ) → is_some (owned_at old.handles slot) ≡ true → (fault : Option FetchFault) (new : LoadingWorld) → FetchesFrom Fills answers old slot fault new → AnyFetches old slot fault new
-  any_fetch slot owned fault new f = turn fault f.given
+  closed : (n : ℕ) (closure : Closure) (outcome : Result Closure ℕ) → IsClosure answers (around old).named closure → ClosesFrom answers (around old) n closure outcome → IsEnd outcome
+  closed zero closure outcome h f = subst IsEnd (sym f.1) h
+  closed (suc n) closure outcome h (place, name, rest, e, more) = by_name (λ c k d. closed n c outcome k d) (meant (around old) closure.found name) more
     where
-      zeros : (p : Option Owned) → is_some p ≡ true → (bytes : List ℕ) × IsSomeAnd p (λ (o : Owned). length bytes ≡ o.size)
-      zeros None e = cc
-      zeros (Some o) e = (repeated o.size 0, length-repeated o.size 0)
+      here : Closure
+      here = record closure { pending = rest }
 
-      turn : (fault : Option FetchFault) → GivesRead Fills answers.fails (IsOwnedSize old slot) (answers.gives old slot) old.handles.heap slot fault new.handles.heap → AnyFetches old slot fault new
-      turn None (bytes, sized, read, filled) = record { bytes = bytes; image = sized; filled = filled; rest = f.rest }
-      turn (Some NoRoom) (bytes, sized, filled) = record { bytes = bytes; image = sized; filled = filled; rest = f.rest }
-      turn (Some Store) g = let z = zeros (owned_at old.handles slot) owned in record { bytes = z.0; image = z.1; filled = (refl, g.1); rest = f.rest }
-      turn (Some Damaged) g = let z = zeros (owned_at old.handles slot) owned in record { bytes = z.0; image = z.1; filled = (refl, g.1); rest = f.rest }
+      few : Each (λ (y : ℕ × List ℕ). y.0 < length closure.found) ((place, name) ∷ rest)
+      few = subst (Each (λ (y : ℕ × List ℕ). y.0 < length closure.found)) e h.pending
 
-pub given_any : (answers : Answers) (old : Heap) (slot : ℕ) (held : List ℕ) (fault : Option FetchFault) (new : Heap) → IsHeap old → GivesFrom Fills answers old slot held fault new → GivesAny old slot held fault new × IsHeap new
-given_any answers old slot held fault new is f = let any : GivesAny old slot held fault new = turn fault f in (any, one_heap is_of_read old slot any.0 fault new is any.2)
-  where
-    turn : (fault : Option FetchFault) → GivesFrom Fills answers old slot held fault new → GivesAny old slot held fault new
-    turn None (some, long, read, filled) = (some, long, filled)
-    turn (Some NoRoom) (some, long, filled) = (some, long, filled)
-    turn (Some Store) g = (held, refl, (refl, g.1))
-    turn (Some Damaged) g = (held, refl, (refl, g.1))
+      is : IsClosure answers (around old).named here
+      is = record { held = h.held; new = h.new; apart = h.apart; pending = few.1; bound = h.bound; asked = h.asked }
 
-module _ (answers : Answers) (are : AreAnswers answers) (old : LoadingWorld) (is : IsLoadingWorld old) where
-  any_fulfils : (closure : Closure) (answer : Answer) (new : LoadingWorld) → Fulfils (GivesFrom Fills answers) old closure answer new → Fulfils GivesAny old closure answer new
-  any_fulfils closure answer new h = fulfils_as (GivesFrom Fills answers) GivesAny IsHeap (given_any answers) old closure answer new h (named_heap old closure h.choice is.handles h.is_choice)
+      Goes : Type 0
+      Goes = (c : Closure) → IsClosure answers (around old).named c → ClosesFrom answers (around old) n c outcome → IsEnd outcome
 
-  -- the load of new modules of new names
-  closure_loads : (ends : Ending) (b : Bool) (file : List ℕ) (answer : Answer) (new : LoadingWorld) → LoadsFrom ends answers b old file answer new → LoadsOf (GivesFrom ends answers) (IsClosure (around old).named) b old file answer new
-  closure_loads ends b file = loads_of answers are old ends (IsClosure (around old).named) (λ place c. place < length c.found) file
-      (λ read (says, none, sound, held, few). began (around old) file read (are.holds file read held) none) rests (bound_more (around old))
-      (λ closure place name read lt is (says, none, sound, held, few). found_more (around old) closure place (dll name) read lt is (are.holds (dll name) read held) none) b
+      by_meant : Goes → (referent : Referent) → ClosesFrom answers (around old) n (with_bound here place referent) outcome → IsEnd outcome
+      by_meant go referent = go (with_bound here place referent) (bound_more answers (around old) here place referent few.0 is)
+
+      by_reading : Goes → (r : Reading) → ReadsFile answers (around old) closure.found (dll name) r
+          → MatchResult (follow here place name r) (λ c. ClosesFrom answers (around old) n c outcome) (λ number. outcome ≡ Err number) → IsEnd outcome
+      by_reading go (Refused answer) reads f = subst IsEnd (sym f) (small_follow answer)
+      by_reading go (Meant referent) reads f = by_meant go referent f
+      by_reading go (Read read) (says, none, sound, held, free) f = go (with_bound (with_found here (dll name) read) place (New (length closure.found))) (found_more answers (around old) here place (dll name) read few.0 is held none) f
+
+      by_name : Goes → (p : Option Referent) → MatchOption p ((r : Reading) × ReadsFile answers (around old) closure.found (dll name) r
+          × MatchResult (follow here place name r) (λ c. ClosesFrom answers (around old) n c outcome) (λ number. outcome ≡ Err number))
+          (λ referent. ClosesFrom answers (around old) n (with_bound here place referent) outcome) → IsEnd outcome
+      by_name go None (r, reads, f) = by_reading go r reads f
+      by_name go (Some referent) f = by_meant go referent f
+
+  pub closure_loads : (b : Bool) (file : List ℕ) (answer : Answer) (new : LoadingWorld) → LoadsFrom Fills answers b old file answer new → LoadsOf answers b old file answer new
+  closure_loads b file answer new (inl f) = inl (subst IsRefusal (sym f.1) tt, f.2)
+  closure_loads b file answer new (inr (r, reads, f)) = turn r reads f
     where
-      rests : (closure : Closure) (place : ℕ) (name : List ℕ) (rest : List (ℕ × List ℕ)) → closure.pending ≡ (place, name) ∷ rest → IsClosure (around old).named closure → (place < length closure.found) × IsClosure (around old).named (record closure { pending = rest })
-      rests closure place name rest e is =
-          let few : Each (λ (y : ℕ × List ℕ). y.0 < length closure.found) ((place, name) ∷ rest) = subst (Each (λ (y : ℕ × List ℕ). y.0 < length closure.found)) e is.pending in
-          (few.0, record { files = is.files; new = is.new; apart = is.apart; pending = few.1; bound = is.bound; asked = is.asked })
+      refused : (number : ℕ) → number < FIRST_MODULE → Refuses old number answer new → LoadsOf answers b old file answer new
+      refused number few f = inl (subst IsRefusal (sym f.0) few, f.1)
 
-  pub any_load : (b : Bool) (file : List ℕ) (answer : Answer) (new : LoadingWorld) → LoadsFrom Fills answers b old file answer new → AnyLoading b old file answer new
-  any_load b file answer new f = elim (closure_loads Fills b file answer new f) [
-    | inl h ↦ inl h
-    | inr (inl h) ↦ inr (inl h)
-    | inr (inr h) ↦ inr (inr (h.0, h.1, any_fulfils h.0 answer new h.2))
-  ]
+      turn : (r : Reading) → ReadsFile answers (around old) [] file r → LoadsFileFrom Fills answers b old file r answer new → LoadsOf answers b old file answer new
+      turn (Refused number) e f = refused number (small_number [] file number e) f
+      turn (Meant (There handle)) (t, says, e) f = by_name (handle_named old.modules t.name) refl e
+        where
+          by_name : (p : Option ℕ) → handle_named old.modules t.name ≡ p → option_or (option_map There p) None ≡ Some (There handle) → LoadsOf answers b old file answer new
+          by_name None g e = cc
+          by_name (Some k) g e =
+              let same : k ≡ handle = cc in
+              let n = named_there old.modules t.name handle (g ∙ ap Some same) in
+              inr (inl (handle, n.0, n.1, f ∙ ap (used_again b old handle) n.1))
+      turn (Meant (New place)) e f = absurd f
+      turn (Read read) (says, none, sound, held, few) (count, outcome, closes, f) = ended outcome (closed count (begun file read) outcome (began answers (around old) file read held none) closes) f
+        where
+          ended : (outcome : Result Closure ℕ) → IsEnd outcome
+              → MatchResult outcome (λ closure. LoadsNew (GivesFrom Fills answers) old closure answer new ⊎ ((place : ℕ) × (fault : FetchFault) × answers.fails fault × (answer ≡ refusal_of place fault) × (new ≡ old))) (λ number. Refuses old number answer new)
+              → LoadsOf answers b old file answer new
+          ended (Ok closure) h (inl (inl f)) = refused 0 (small 0 (omega arith)) f.1
+          ended (Ok closure) h (inl (inr f)) = inr (inr (closure, h, f))
+          ended (Ok closure) h (inr (place, fault, may, says, same)) = inl (subst IsRefusal (sym says) (small_refusal place fault), same)
+          ended (Err number) h f = refused number h f
 
-  fetchable_owned : (slot : ℕ) → IsFetchable old slot → is_some (owned_at old.handles slot) ≡ true
-  fetchable_owned slot (inl owned) = owned
-  fetchable_owned slot (inr (load, there)) = let r = resource_owned old is slot load.handle load.place _ (loaded_of old is slot load there).1 in ap is_some r.1.owned
-
-  any_family : (command : LoadingCommand) (reply : Reply) (new : LoadingWorld) → FamilyStep (FetchesFrom Fills answers) (LoadsFrom Fills answers) old command reply new → FamilyStep AnyFetches AnyLoading old command reply new
-  any_family command reply new = turned (FetchesFrom Fills answers) AnyFetches (LoadsFrom Fills answers) AnyLoading old new reply
-      (λ slot fault next may f. any_fetch answers are old slot (fetchable_owned slot may) fault next f)
-      (λ handle place slot r free at none fault next f. any_fetch answers are (with_resource old slot handle place r) slot (ap (λ p. is_some (owned_in p)) (inserted_here old.handles.attributes slot (attributes_for r) slot refl)) fault next f)
-      (λ b file answer f. any_load b file answer new f) command
-
--- a step over a store is one of whatever fetches and loads
-pub any_step : (honest : Type 0) (format : Format) (old new : LoadingWorld) (command : LoadingCommand) (reply : Reply) → IsLoadingWorld old → StepOver honest format old command reply new
-    → FamilyStep AnyFetches AnyLoading old command reply (record new { failures = old.failures })
-any_step honest format old new command reply is step =
-    any_family (told honest format old.files old.failures new.failures) (told_answers honest format old.files old.failures new.failures) old is command reply (record new { failures = old.failures }) step.step
-
--- A fetch that was told twice, over any store and over an honest one, is one over a store.
-pub fetches_over : (honest : Type 0) (format : Format) (before after : ℕ) (old : LoadingWorld) (slot : ℕ) (fault : Option FetchFault) (new : LoadingWorld) → AnyFetches old slot fault new → (honest → Fetches format old slot fault new)
-    → (fault ≡ Some Store → before < after) → FetchesOver honest format before after old slot fault new
-fetches_over honest format before after old slot fault new any exact rose = record { given = turn fault any.filled (λ h. (exact h).filled) rose; rest = any.rest }
-  where
-    turn : (fault : Option FetchFault) → FillsOne is_of_read old.handles.heap slot any.bytes fault new.handles.heap → ((h : honest) → FillsOne is_of_device old.handles.heap slot (exact h).bytes fault new.handles.heap) → (fault ≡ Some Store → before < after)
-        → GivesRead Fills (MayFail honest before after) (IsOwnedSize old slot) (λ bytes. honest → IsImage format old slot bytes) old.handles.heap slot fault new.handles.heap
-    turn None f e rose = (any.bytes, any.image, (λ h. subst (IsImage format old slot) (same h) (exact h).image), f)
+  -- What holds of the world before, and of what a load of a module that is there and one of new modules leave, holds of what any load leaves.
+  module _ (P : Answer → LoadingWorld → Type 0) (good : (answer : Answer) → P answer old) where
+    -- a load of a module that is there
+    again : (b : Bool) (handle : ℕ) (p : Option Named) → ((m : Module) → p ≡ Some (Loaded m) → m.uses < MOST_USES → P (Says handle) (after_use old handle m)) → (answer : Answer) (new : LoadingWorld) → (answer, new) ≡ used_again b old handle p → P answer new
+    again b handle p more answer new e = subst (λ (x : Answer × LoadingWorld). P x.0 x.1) (sym e) (by p more)
       where
-        same : (h : honest) → (exact h).bytes ≡ any.bytes
-        same h = let both : ◌≡◌ {A = Option (List ℕ)} (Some (exact h).bytes) (Some any.bytes) = sym (ap bytes_in (filled_object old.handles.heap slot (exact h).bytes new.handles.heap (e h))) ∙ ap bytes_in (filled_object old.handles.heap slot any.bytes new.handles.heap f) in cc
-    turn (Some NoRoom) f e rose = (any.bytes, any.image, f)
-    turn (Some Store) f e rose = ((refl, (λ s. rose refl), λ h. refl), f.1)
-    turn (Some Damaged) f e rose = ((refl, (λ s. let d : Damaged ≡ Store = s in cc), λ h. absurd (false≢true (e h).0)), f.1)
+        by : (p : Option Named) → ((m : Module) → p ≡ Some (Loaded m) → m.uses < MOST_USES → P (Says handle) (after_use old handle m)) → P (used_again b old handle p).0 (used_again b old handle p).1
+        by None more = good (Says handle)
+        by (Some (BuiltIn name)) more = good (Says handle)
+        by (Some (Loaded m)) more = turn (b && not m.tables.is_library) (nat_lt m.uses MOST_USES) refl
+          where
+            outcome : Bool → Bool → Answer × LoadingWorld
+            outcome s t = cond {A = Answer × LoadingWorld} s (Says 16, old) (cond t (Says handle, after_use old handle m) (Says 0, old))
+
+            turn : (s t : Bool) → nat_lt m.uses MOST_USES ≡ t → P (outcome s t).0 (outcome s t).1
+            turn true t f = good (Says 16)
+            turn false true f = more m refl (ltb-true m.uses MOST_USES f)
+            turn false false f = good (Says 0)
+
+    pub loaded_by : (b : Bool) (file : List ℕ) (answer : Answer) (new : LoadingWorld) → ((handle : ℕ) (m : Module) → finmap.get old.modules handle ≡ Some (Loaded m) → m.uses < MOST_USES → P (Says handle) (after_use old handle m))
+        → ((closure : Closure) → IsClosure answers (around old).named closure → Fulfils (GivesFrom Fills answers) old closure answer new → P answer new) → LoadsFrom Fills answers b old file answer new → P answer new
+    loaded_by b file answer new more fulfil f = elim (closure_loads b file answer new f) [
+      | inl h ↦ subst (P answer) (sym h.1) (good answer)
+      | inr (inl h) ↦ again b h.0 (Some h.1) (λ m e. more h.0 m (h.2 ∙ e)) answer new h.3
+      | inr (inr (closure, facts, h)) ↦ fulfil closure facts h
+    ]

@@ -4,9 +4,9 @@ use Rattle.w16_loading.proofs.Common.{taken_here, taken_other, LoadingWorld, Mod
 use Rattle.w16_loading.proofs.Common.{Found, Given, given_from, with_modules, bound, named, Answer, Fulfils, undone, left, without_objects, Go, Frees, used_less, without_module, BoundOnceLaw}
 use Rattle.std.specs.FinMap as finmap
 use Rattle.w16_loading.proofs.Given.{given_handle, put_all}
-use Rattle.w16_loading.proofs.Stepping.{Parts, nothing_asked, family, loaded}
+use Rattle.w16_loading.proofs.Stepping.{Parts, nothing_asked, family}
 use Rattle.w16_loading.specs.Answers.{Answers, FetchesFrom, GivesFrom, LoadsFrom, told}
-use Rattle.w16_loading.proofs.Answered.{some_loads, told_answers}
+use Rattle.w16_loading.proofs.Answered.{loaded_by, told_answers}
 
 abbrev pub Same : Module → Module → Type 0
 Same m n = (n.values ≡ m.values) × (n.slots ≡ m.slots) × (n.imports ≡ m.imports)
@@ -129,9 +129,8 @@ bound_law honest format old new command reply step = family (FetchesFrom Fills a
       writes = λ selector offset slice world ours good. good;
       fetched = λ slot fault next f. unchanged old.modules next.modules (ap (λ (w : LoadingWorld). w.modules) f.rest);
       built = λ name handle none free. put_new old.modules handle (BuiltIn name) free.2;
-      loaded = λ b file answer next f. loaded (λ answer. Bound) old (λ answer. same) (GivesFrom Fills answers) (λ closure. Unit {0}) b next file answer
-          (λ handle m there few. put_uses old.modules handle m (m.uses + 1) (ap module_in there)) (λ closure any h. fulfilled (GivesFrom Fills answers) old closure answer next h)
-          (some_loads answers (told_answers honest format old.files old.failures new.failures) old Fills b file answer next f);
+      loaded = λ b file answer next f. loaded_by answers (told_answers honest format old.files old.failures new.failures) old (λ answer. Bound) (λ answer. same) b file answer next
+          (λ handle m there few. put_uses old.modules handle m (m.uses + 1) (ap module_in there)) (λ closure facts. fulfilled (GivesFrom Fills answers) old closure answer next) f;
       freed = λ handle answer new f. freed old handle answer new f;
       counted = λ slot load count there some few. same;
       made = λ slot handle place r fault next free at none f. unchanged old.modules next.modules (ap (λ (w : LoadingWorld). w.modules) f.rest);

@@ -1,5 +1,8 @@
 -- A closure has one outcome.
 use Rattle.w16_loading.proofs.Common.{◌≡◌, ℕ, zero, suc, List, [], ◌∷◌, Result, Ok, Err, IfOk, refl, sym, ap, ◌∙◌, subst, Saying, Around, Closure, followed, after, OneClosureLaw}
+use Rattle.w16_loading.proofs.Common.{Answers, Bool, ClosesFrom, ClosureFilesLaw, Format, Found, HasTables, LoadingWorld, MatchOption, MatchResult, Meant, ModuleFile, None, Option, Read, Reading, ReadsFile, Referent, Refused, Some, Tables}
+use Rattle.w16_loading.proofs.Common.{are_sound, around, cond, dll, false, file_of, follow, inl, inr, length, meant, nat_lt, reading, said_by, told, true, with_bound}
+use Rattle.std.proofs.lemmas.Bool.{le-ltb, lt-ltb}
 use Rattle.w16_loading.proofs.Readings.{from_next, from_list}
 
 abbrev IsDone : Result Closure ℕ → Type 0
@@ -30,3 +33,80 @@ module _ (says : Saying) (around : Around) where
 
 pub one_law : OneClosureLaw
 one_law says around closure a b x y = sym x.1 ∙ one says around x.0 y.0 closure (subst IsDone (sym x.1) x.2) (subst IsDone (sym y.1) y.2) ∙ y.1
+
+-- Over an honest store a load finds what its files say.
+
+module _ {honest : Type 0} (truly : honest) (format : Format) (before later : ℕ) (old : LoadingWorld) where
+  abbrev a : Around
+  a = around old
+
+  abbrev answers : Answers
+  answers = told honest format old.files before later
+
+  module _ (found : List Found) (name : List ℕ) where
+    abbrev by_tests : ModuleFile → Bool → Bool → Reading
+    by_tests read s t = cond s (cond t (Read read) (Refused 0)) (Refused 11)
+
+    abbrev by_name : ModuleFile → Option Referent → Reading
+    by_name read p = elim p [ Some referent ↦ Meant referent | None ↦ by_tests read (are_sound read) (nat_lt (length found) a.free) ]
+
+    abbrev reading_of : Result ModuleFile ℕ → Reading
+    reading_of said = elim said [ Err answer ↦ Refused answer | Ok read ↦ by_name read (meant a found read.tables.name) ]
+
+    said_so : (p : Option (List ℕ)) → reading format.says (record a { file = λ name. p }) found [] ≡ reading_of (said_by format.says p)
+    said_so None = refl
+    said_so (Some bytes) = refl
+
+    -- what is told of a file, where it says this
+    abbrev said : Result ModuleFile ℕ
+    said = said_by format.says (file_of old.files name)
+
+    refused : (s : Result ModuleFile ℕ) (answer : ℕ) → HasTables s (Err answer) → reading_of s ≡ Refused answer
+    refused (Err number) answer e = ap Refused e
+    refused (Ok read) answer h = absurd h
+
+    named_so : (s : Result ModuleFile ℕ) (t : Tables) (p : Option Referent) → meant a found t.name ≡ p → HasTables s (Ok t) → (read : ModuleFile) × (s ≡ Ok read) × (meant a found read.tables.name ≡ p)
+    named_so (Err number) t p e h = absurd h
+    named_so (Ok read) t p e same = (read, refl, ap (λ (t : Tables). meant a found t.name) same ∙ e)
+
+    new_so : (read : ModuleFile) → said ≡ Ok read → meant a found read.tables.name ≡ None → (s t : Bool) → MatchResult said (λ read. are_sound read ≡ s) (λ number. ⊥) → nat_lt (length found) a.free ≡ t → reading_of said ≡ by_tests read s t
+    new_so read e none s t sound few =
+        let are : are_sound read ≡ s = subst (λ (r : Result ModuleFile ℕ). MatchResult r (λ read. are_sound read ≡ s) (λ number. ⊥)) e sound in
+        ap reading_of e ∙ ap (by_name read) none ∙ (λ i. by_tests read (are i) (few i))
+
+    reads_so : (r : Reading) → ReadsFile answers a found name r → reading_of said ≡ r
+    reads_so (Refused answer) (inl says) = refused said answer (says.1 truly)
+    reads_so (Refused answer) (inr (t, says, none, how)) = let r = named_so said t None none (says.1 truly) in elim how [
+      | inl (sound, e) ↦ new_so r.0 r.1 r.2 false (nat_lt (length found) a.free) (sound truly) refl ∙ ap Refused (sym e)
+      | inr (sound, le, e) ↦ new_so r.0 r.1 r.2 true false (sound truly) (le-ltb (length found) a.free le) ∙ ap Refused (sym e)
+    ]
+    reads_so (Meant referent) (t, says, e) = let r = named_so said t (Some referent) e (says.1 truly) in ap reading_of r.1 ∙ ap (by_name r.0) r.2
+    reads_so (Read read) (says, none, sound, held, few) = new_so read (held.2 truly) none true true (sound truly) (lt-ltb (length found) a.free few)
+
+    reads : (r : Reading) → ReadsFile answers a found name r → reading format.says a found name ≡ r
+    reads r h = said_so (file_of old.files name) ∙ reads_so r h
+
+  -- so each reference leads where they say
+  closes : (n : ℕ) (closure : Closure) (outcome : Result Closure ℕ) → ClosesFrom answers a n closure outcome → (after format.says a n closure ≡ outcome) × IsDone outcome
+  closes zero closure outcome (none, e) = (sym e, subst IsDone (sym e) none)
+  closes (suc n) closure outcome (place, name, rest, e, more) = let r = follows (λ c. closes n c outcome) (meant a closure.found name) more in (ap (from_list format.says a n closure) e ∙ r.0, r.1)
+    where
+      here : Closure
+      here = record closure { pending = rest }
+
+      Ends : Result Closure ℕ → Type 0
+      Ends r = (from_next format.says a n r ≡ outcome) × IsDone outcome
+
+      ends : ((c : Closure) → ClosesFrom answers a n c outcome → Ends (Ok c)) → (r : Result Closure ℕ) → MatchResult r (λ c. ClosesFrom answers a n c outcome) (λ number. outcome ≡ Err number) → Ends r
+      ends go (Ok c) f = go c f
+      ends go (Err number) e = (sym e, subst IsDone (sym e) tt)
+
+      follows : ((c : Closure) → ClosesFrom answers a n c outcome → Ends (Ok c)) → (p : Option Referent)
+          → MatchOption p ((r : Reading) × ReadsFile answers a closure.found (dll name) r × MatchResult (follow here place name r) (λ c. ClosesFrom answers a n c outcome) (λ number. outcome ≡ Err number))
+          (λ referent. ClosesFrom answers a n (with_bound here place referent) outcome)
+          → Ends (elim p [ Some referent ↦ Ok (with_bound here place referent) | None ↦ follow here place name (reading format.says a closure.found (dll name)) ])
+      follows go (Some referent) f = go (with_bound here place referent) f
+      follows go None (r, h, f) = subst (λ (x : Reading). Ends (follow here place name x)) (sym (reads closure.found (dll name) r h)) (ends go (follow here place name r) f)
+
+pub files_law : (honest : Type 0) → ClosureFilesLaw honest
+files_law honest format before later old count closure outcome truly f = let c = closes truly format before later old count closure outcome f in (count, c.0, c.1)

@@ -1,7 +1,7 @@
 -- What a closure has found: modules of names that nothing had, each but the first asked for by another.
 use Rattle.w16_loading.proofs.Common.{◌≡◌, ◌≢◌, ℕ, ◌+◌, ◌<◌, ◌≤◌, inl, inr, Bool, true, false, nat_lt, List, [], ◌∷◌, ◌++◌, length, map, position, Option, Some, None}
-use Rattle.w16_loading.proofs.Common.{option_map, refl, sym, ap, ◌∙◌, subst, arith, ltb-true, ltb-false, length-append, option_or, Member, EachPair, is_named, IsModuleFile}
-use Rattle.w16_loading.proofs.Common.{ModuleFile, Around, Closure, Found, Referent, meant, begun, with_bound, with_found, There, New}
+use Rattle.w16_loading.proofs.Common.{option_map, refl, sym, ap, ◌∙◌, subst, arith, ltb-true, ltb-false, length-append, option_or, Member, EachPair, is_named}
+use Rattle.w16_loading.proofs.Common.{Answers, ModuleFile, Around, Closure, Found, Referent, meant, begun, with_bound, with_found, There, New}
 use Rattle.std.specs.List.{AllByRecursion as Each}
 use Rattle.w16_loading.proofs.Undone.{in_first, in_second, parted}
 use Rattle.w16_loading.proofs.Given.{no_place}
@@ -10,9 +10,9 @@ abbrev name_of : Found → List ℕ
 name_of f = f.read.tables.name
 
 -- What holds of a closure on the way.
-pub record IsClosure (named : List ℕ → Option ℕ) (closure : Closure) : Type 0 where
-  -- what was read are files of modules
-  pub files : (f : Found) → Member f closure.found → IsModuleFile f.read
+pub record IsClosure (answers : Answers) (named : List ℕ → Option ℕ) (closure : Closure) : Type 0 where
+  -- what was read was told so
+  pub held : (f : Found) → Member f closure.found → answers.holds f.file f.read
   -- names are new, and different
   pub new : (f : Found) → Member f closure.found → named (name_of f) ≡ None
   pub apart : EachPair (λ f g. is_named (name_of f) (name_of g) ≡ false) closure.found
@@ -22,7 +22,11 @@ pub record IsClosure (named : List ℕ → Option ℕ) (closure : Closure) : Typ
   -- each new module but the first is meant by another
   pub asked : (place : ℕ) → 0 < place → place < length closure.found → (by : ℕ) × Member {X = ℕ × Referent} (by, New place) closure.bound × (by ≢ place)
 
-module _ (a : Around) where
+each_both : {X : Type 0} (P : X → Type 0) (xs ys : List X) → Each P xs → Each P ys → Each P (xs ++ ys)
+each_both P [] ys h k = k
+each_both P (x ∷ xs) ys h k = (h.0, each_both P xs ys h.1 k)
+
+module _ (answers : Answers) (a : Around) where
   -- what nothing means, nothing has the name of
   meant_none : (found : List Found) (name : List ℕ) → meant a found name ≡ None → (a.named name ≡ None) × ((f : Found) → Member f found → is_named (name_of f) name ≡ false)
   meant_none found name e = turn (a.named name) (position (λ f. is_named (name_of f) name) found) refl refl e
@@ -32,18 +36,14 @@ module _ (a : Around) where
       turn None (Some r) x y e = cc
       turn (Some p) r x y e = cc
 
-  each_both : {X : Type 0} (P : X → Type 0) (xs ys : List X) → Each P xs → Each P ys → Each P (xs ++ ys)
-  each_both P [] ys h k = k
-  each_both P (x ∷ xs) ys h k = (h.0, each_both P xs ys h.1 k)
-
   each_longer : {Y : Type 0} (xs : List (ℕ × Y)) (m n : ℕ) → m ≤ n → Each (λ x. x.0 < m) xs → Each (λ x. x.0 < n) xs
   each_longer [] m n le h = tt
   each_longer (x ∷ xs) m n le h = ((let lt : x.0 < m = h.0 in omega (arith, lt, le)), each_longer xs m n le h.1)
 
   -- one more reference is bound
-  pub bound_more : (closure : Closure) (place : ℕ) (referent : Referent) → place < length closure.found → IsClosure a.named closure → IsClosure a.named (with_bound closure place referent)
+  pub bound_more : (closure : Closure) (place : ℕ) (referent : Referent) → place < length closure.found → IsClosure answers a.named closure → IsClosure answers a.named (with_bound closure place referent)
   bound_more closure place referent lt is = record {
-    files = is.files;
+    held = is.held;
     new = is.new;
     apart = is.apart;
     pending = is.pending;
@@ -62,10 +62,10 @@ module _ (a : Around) where
   each_mapped place n (name ∷ names) lt = (lt, each_mapped place n names lt)
 
   -- one more module is found, for a reference of another
-  pub found_more : (closure : Closure) (place : ℕ) (file : List ℕ) (read : ModuleFile) → place < length closure.found → IsClosure a.named closure → IsModuleFile read → meant a closure.found read.tables.name ≡ None
-      → IsClosure a.named (with_bound (with_found closure file read) place (New (length closure.found)))
+  pub found_more : (closure : Closure) (place : ℕ) (file : List ℕ) (read : ModuleFile) → place < length closure.found → IsClosure answers a.named closure → answers.holds file read → meant a closure.found read.tables.name ≡ None
+      → IsClosure answers a.named (with_bound (with_found closure file read) place (New (length closure.found)))
   found_more closure place file read lt is its none = record {
-    files = λ f m. elim (parted f closure.found (one ∷ []) m) [ inl k ↦ is.files f k | inr (inl e) ↦ subst (λ (g : Found). IsModuleFile g.read) (sym e) its | inr (inr k) ↦ absurd k ];
+    held = λ f m. elim (parted f closure.found (one ∷ []) m) [ inl k ↦ is.held f k | inr (inl e) ↦ subst (λ (g : Found). answers.holds g.file g.read) (sym e) its | inr (inr k) ↦ absurd k ];
     new = λ f m. elim (parted f closure.found (one ∷ []) m) [ inl k ↦ is.new f k | inr k ↦ newest f k ];
     apart = apart_more closure.found one is.apart unnamed.1;
     pending = each_both (λ (x : ℕ × List ℕ). x.0 < length (closure.found ++ one ∷ [])) closure.pending (map (λ name. (length closure.found, name)) read.tables.references)
@@ -100,9 +100,9 @@ module _ (a : Around) where
           (place, in_second {A = ℕ × Referent} (place, New p) closure.bound ((place, New (length closure.found)) ∷ []) (inl (λ i. (place, New (same i)))), λ e. absurd (omega (arith, e, lt, le)))
 
   -- the module asked for
-  pub began : (file : List ℕ) (read : ModuleFile) → IsModuleFile read → meant a [] read.tables.name ≡ None → IsClosure a.named (begun file read)
+  pub began : (file : List ℕ) (read : ModuleFile) → answers.holds file read → meant a [] read.tables.name ≡ None → IsClosure answers a.named (begun file read)
   began file read its none = record {
-    files = λ g m. elim m [ inl same ↦ subst (λ (f : Found). IsModuleFile f.read) (sym same) its | inr k ↦ absurd k ];
+    held = λ g m. elim m [ inl same ↦ subst (λ (f : Found). answers.holds f.file f.read) (sym same) its | inr k ↦ absurd k ];
     new = λ g m. elim m [ inl same ↦ ap (λ (x : Found). a.named (name_of x)) same ∙ (meant_none [] read.tables.name none).0 | inr k ↦ absurd k ];
     apart = (tt, tt);
     pending = each_mapped 0 1 read.tables.references (omega arith);

@@ -1,22 +1,16 @@
 -- Over an honest store the code that a script reads is always its file's, relocated: after each step of each family.
-use Rattle.w16_loading.proofs.Common.{◌≡◌, ℕ, ◌+◌, inl, inr, List, [], ◌∷◌, Option, Some, None, Result, Ok, Err, sym, ap, subst, Heap, FetchFault, Format, Saying, ModuleFile, LoadingWorld, with_heap, Fills, FillsOne, Filling, Failure, InTurn}
-use Rattle.w16_loading.proofs.Common.{true, ◌⊎◌, is_of_device, GivesAny, Fetches, Closure, around, dll, named, fills, Answer, Fulfils, after_use, undone, left, IsLoadingWorld, IsOfFiles, CodeLaw, file_of, with_resource}
-use Rattle.w16_loading.specs.Answers.{Answers, FetchesFrom, GivesFrom, LoadsFrom, said_by, told}
-use Rattle.w16_loading.proofs.Fillings.{in_turn_as, fetch_outcome}
-use Rattle.w16_loading.proofs.Readings.{read_by}
-use Rattle.w16_loading.proofs.Named.{named_heap}
-use Rattle.w16_loading.proofs.Answered.{given_any, loads_of, told_answers}
+use Rattle.w16_loading.proofs.Common.{ℕ, ◌+◌, Option, Some, None, sym, subst, Format, LoadingWorld, with_heap, Fills, Failure, InTurn}
+use Rattle.w16_loading.proofs.Common.{Closure, around, named, fills, Answer, Fulfils, after_use, undone, left, IsLoadingWorld, IsOfFiles, CodeLaw}
+use Rattle.w16_loading.specs.Answers.{Answers, FetchesFrom, GivesFrom, LoadsFrom, told}
+use Rattle.w16_loading.proofs.ClosureFacts.{IsClosure}
+use Rattle.w16_loading.proofs.Answered.{loaded_by, told_answers}
 use Rattle.w16_loading.proofs.RefusedLoad.{undone_discards}
 use Rattle.w16_loading.proofs.KeptBytes.{kept_bytes}
 use Rattle.w16_loading.proofs.KeptCode.{code_kept, fetched_code}
 use Rattle.w16_loading.proofs.CallsKept.{handles_code, resizes_code}
-use Rattle.w16_loading.proofs.Stepping.{Parts, nothing_asked, family, loaded, with_count}
-use Rattle.w16_loading.proofs.CodeSteps.{heap_kept, other_uses, read_keeps, write_keeps, world_fetches, by_free, built_in_code, loads_kept, entered_code, made_code, locked_code, last_code}
-use Rattle.w16_loading.proofs.CodeLoads.{AreOfFiles, IsOfFile, each_more, loaded_code}
-
-read_said : (says : Saying) (p : Option (List ℕ)) (read : ModuleFile) → said_by says p ≡ Ok read → read_by says p ≡ Some read
-read_said says None read e = cc
-read_said says (Some bytes) read e = ap (λ (r : Result ModuleFile ℕ). elim r [ Ok y ↦ Some y | Err _ ↦ None ]) e
+use Rattle.w16_loading.proofs.Stepping.{Parts, nothing_asked, family, with_count}
+use Rattle.w16_loading.proofs.CodeSteps.{heap_kept, other_uses, read_keeps, write_keeps, world_fetches, by_free, built_in_code, loads_kept, made_code, locked_code, last_code}
+use Rattle.w16_loading.proofs.CodeLoads.{loaded_code}
 
 module _ (honest : Type 0) (truly : honest) (format : Format) (old : LoadingWorld) (is : IsLoadingWorld old) (good : IsOfFiles format old) (before after : ℕ) where
   abbrev answers : Answers
@@ -25,30 +19,15 @@ module _ (honest : Type 0) (truly : honest) (format : Format) (old : LoadingWorl
   abbrev Good : LoadingWorld → Type 0
   Good world = IsOfFiles format world
 
-  held : (name : List ℕ) (read : ModuleFile) → answers.holds name read → IsOfFile format.says (around old) (record { file = name; read = read })
-  held name read h = (read_said format.says (file_of old.files name) read (h.2 truly), h.1)
-
-  all_given : (from : Heap) (xs : List Filling) (to : Heap) → InTurn (GivesFrom Fills answers) from xs None to → InTurn (FillsOne is_of_device) from xs None to
-  all_given from [] to f = f
-  all_given from (x ∷ xs) to (None, next, (some, long, read, filled), rest) = (None, next, subst (λ bs. Fills from x.slot bs true next) (read truly) filled, all_given next xs to rest)
-  all_given from (x ∷ xs) to (Some fault, next, g, rest) = let e : ◌≡◌ {A = Option Failure} None (Some (record { place = x.place; fault = fault })) = rest.0 in cc
-
-  fulfilled : (new : LoadingWorld) (closure : Closure) → AreOfFiles format.says (around old) closure → (answer : Answer) → Fulfils (GivesFrom Fills answers) old closure answer new → Good new
-  fulfilled new closure of_files answer f = subst Good (sym f.after) (turn f.failure f.filled)
+  fulfilled : (new : LoadingWorld) (closure : Closure) → IsClosure answers (around old).named closure → (answer : Answer) → Fulfils (GivesFrom Fills answers) old closure answer new → Good new
+  fulfilled new closure facts answer f = subst Good (sym f.after) (turn f.failure f.filled)
     where
       turn : (failure : Option Failure) → InTurn (GivesFrom Fills answers) (named old closure f.choice).handles.heap (fills old closure f.choice) failure f.heap → Good (left failure (with_heap (named old closure f.choice) f.heap) (undone old f.choice f.heap))
-      turn None filled = loaded_code format old is closure f.choice f.is_choice of_files f.heap (all_given (named old closure f.choice).handles.heap (fills old closure f.choice) f.heap filled) good
+      turn None filled = loaded_code answers (λ held read again. again truly) format old is closure f.choice f.is_choice (λ g m. let h = facts.held g m in (h.2 truly, h.1)) f.heap filled good
       turn (Some failure) filled =
           let refused : LoadingWorld = undone old f.choice f.heap in
-          code_kept format old refused (heap_kept format old refused.handles.heap (λ q t. kept_bytes old.handles.heap refused.handles.heap q ((undone_discards old is closure f.choice f.is_choice (Some failure) f.heap
-          (in_turn_as (GivesFrom Fills answers) GivesAny (given_any answers) (named old closure f.choice).handles.heap f.heap (fills old closure f.choice) (Some failure) (named_heap old closure f.choice is.handles f.is_choice) filled)).objects q))) good
-
-  -- a fetch is of the file's bytes, or nothing has changed
-  pub file_fetch : (world : LoadingWorld) (slot : ℕ) (fault : Option FetchFault) (new : LoadingWorld) → FetchesFrom Fills answers world slot fault new → Fetches format world slot None new ⊎ (new ≡ world)
-  file_fetch world slot fault new f = elim (fetch_outcome answers world slot fault new f).1 [
-    | inl e ↦ inr e
-    | inr (bytes, read, filled) ↦ inl (record { bytes = bytes; image = read truly; filled = filled; rest = f.rest })
-  ]
+          code_kept format old refused (heap_kept format old refused.handles.heap
+          (λ q t. kept_bytes old.handles.heap refused.handles.heap q ((undone_discards answers old is closure f.choice f.is_choice (Some failure) f.heap filled).objects q))) good
 
   parts : Parts (FetchesFrom Fills answers) (LoadsFrom Fills answers) (λ slice. Unit {0}) old Good
   parts = record {
@@ -57,29 +36,16 @@ module _ (honest : Type 0) (truly : honest) (format : Format) (old : LoadingWorl
     resizes = λ command reply next step. code_kept format old (record old { handles = next }) (resizes_code old is command reply next step format) good;
     reads = λ selector offset n world here. code_kept format world _ (read_keeps format selector offset n world) here;
     writes = λ selector offset slice world ours here. code_kept format world _ (write_keeps format selector offset slice world) here;
-    fetched = λ slot fault next f. fetched slot fault next f;
+    fetched = λ slot fault next f. code_kept format old next (fetched_code format is.handles.heap (world_fetches format truly before after old is slot) f) good;
     built = λ name handle none free. code_kept format old _ (built_in_code format old handle name) good;
-    loaded = λ b file answer new f. loaded (λ answer. Good) old (λ answer. good) (GivesFrom Fills answers) (AreOfFiles format.says (around old)) b new file answer
-        (λ handle m there few. code_kept format old (after_use old handle m) (other_uses format old handle m (m.uses + 1) there) good)
-        (λ closure of_files h. fulfilled new closure of_files answer h)
-        (loads_of answers (told_answers honest format old.files before after) old Fills (AreOfFiles format.says (around old)) (λ place closure. Unit {0}) file
-        (λ read (says, none, sound, here, few). (held file read here, tt)) (λ closure place name rest e h. (tt, h)) (λ closure place referent lt h. h)
-        (λ closure place name read lt h (says, none, sound, here, few). each_more format.says (around old) closure.found (record { file = dll name; read = read } ∷ []) h (held (dll name) read here, tt)) b answer new f);
+    loaded = λ b file answer new f. loaded_by answers (told_answers honest format old.files before after) old (λ answer. Good) (λ answer. good) b file answer new
+        (λ handle m there few. code_kept format old (after_use old handle m) (other_uses format old handle m (m.uses + 1) there) good) (λ closure facts. fulfilled new closure facts answer) f;
     freed = λ handle answer new f. by_free format old new handle answer f good;
     counted = λ slot load count there some few. code_kept format old (with_count old slot load count) (loads_kept format old (with_count old slot load count).loads) good;
-    made = λ slot handle place r fault next free at none f. elim (file_fetch (with_resource old slot handle place r) slot fault next f) [
-      | inl g ↦ made_code format old next is slot handle place r free None g good
-      | inr e ↦ subst Good (sym e) (code_kept format old _ (entered_code format old slot handle place r free) good)
-    ];
+    made = λ slot handle place r fault next free at none f. made_code format old is handle place r free f good;
     locks = λ handle world here. locked_code format world handle here;
     last = λ slot load there. last_code format old slot good;
   }
-    where
-      fetched : (slot : ℕ) (fault : Option FetchFault) (next : LoadingWorld) → FetchesFrom Fills answers old slot fault next → Good next
-      fetched slot fault next f = elim (file_fetch old slot fault next f) [
-        | inl g ↦ code_kept format old next (fetched_code format old slot None next is.handles.heap (world_fetches format old is slot) g) good
-        | inr e ↦ subst Good (sym e) good
-      ]
 
 -- the count of failures says nothing of code
 counted : (format : Format) (world : LoadingWorld) (failures : ℕ) → IsOfFiles format (record world { failures = failures }) → IsOfFiles format world

@@ -1,40 +1,23 @@
 -- A load gives code the bytes that its files say, and leaves all other code as it was.
-use Rattle.w16_loading.proofs.Common.{◌≡◌, ◌≢◌, ℕ, ◌-◌, ◌<◌, inl, inr, ◌⊎◌, true, false, cond, ◌&&◌, List, [], ◌∷◌, ◌++◌, length, fold, map, slice_get, slice_index_or, Option, Some, None, IfSome, IsSomeAnd, is_some, option_map, unwrap_or, Ok, MatchResult, refl}
-use Rattle.w16_loading.proofs.Common.{sym, ap, ◌∙◌, subst, arith, ne_eqb, AllZip, list_all, false≢true, cases_eq, length-map, Heap, bytes_at, Member, EachPair, Each-at, EachPair-from_AllPairs, inserted_here, inserted_other, bytes_in, Saying, Format, ModuleFile, Segment}
-use Rattle.w16_loading.proofs.Common.{SegmentData, Far, Target, targets_of, numbered, Owned, LoadingWorld, Module, IsSegmentOf, module_at, with_heap, FillsOne, Filling, InTurn, is_of_device, Around, Closure, Found, reading, are_sound, followed, after, begun, dll}
-use Rattle.w16_loading.proofs.Common.{around, Read, Choice, IsChoice, Given, all_slots, given, segments_of, with_segment, bound, named, fills, read_of, segment_bytes, is_code, IsLoadingWorld, CodeIsItsFiles, IsItsFiles, ModulesAreItsFiles, IsOfFiles, unused_slot}
-use Rattle.std.specs.List.{AllByRecursion as Each}
+use Rattle.w16_loading.proofs.Common.{◌≡◌, ◌≢◌, ℕ, ◌-◌, ◌<◌, inl, inr, ◌⊎◌, true, false, cond, ◌&&◌, List, [], ◌∷◌, length, fold, map, slice_get, slice_index_or, Option, Some, None, IfSome, IsSomeAnd, is_some, option_map, unwrap_or, Ok, refl}
+use Rattle.w16_loading.proofs.Common.{sym, ap, ◌∙◌, subst, arith, ne_eqb, AllZip, list_all, false≢true, cases_eq, length-map, Heap, bytes_at, Member, EachPair, EachPair-from_AllPairs, inserted_here, inserted_other, bytes_in, Format, ModuleFile, Segment}
+use Rattle.w16_loading.proofs.Common.{SegmentData, Far, Target, targets_of, numbered, Owned, LoadingWorld, Module, IsSegmentOf, module_at, with_heap, Answers, GivesFrom, Fills, Filling, InTurn, Closure, Found, are_sound}
+use Rattle.w16_loading.proofs.Common.{Choice, IsChoice, Given, all_slots, given, segments_of, with_segment, bound, named, fills, read_of, segment_bytes, is_code, IsLoadingWorld, CodeIsItsFiles, IsItsFiles, ModulesAreItsFiles, IsOfFiles, unused_slot}
 use Rattle.w16_loading.proofs.Undone.{chosen, fold_named, same_owned}
 use Rattle.w16_loading.proofs.Named.{named_heap, free_slot}
 use Rattle.w16_loading.proofs.Given.{place_member, one_place, index_place, given_found, given_slot, given_slots_differ, one_given, new_or_old, IsFilledBy, filled_by, filled_chosen}
-use Rattle.w16_loading.proofs.Readings.{read_by, IsRead, reading_is, follow_cases, after_keeps}
-use Rattle.w16_loading.proofs.KeptCode.{IsFilled, image_of, read_in, fills_bytes}
+use Rattle.w16_loading.proofs.Common.{Err, Result, file_of, said_by}
+use Rattle.w16_loading.proofs.KeptCode.{IsFilled, ReadsAgain, image_of, read_in, fills_bytes}
 use Rattle.w16_loading.proofs.Owners.{segment_object}
 
 -- What a closure found are files as they are.
 
-module _ (says : Saying) (a : Around) where
-  abbrev pub IsOfFile : Found → Type 0
-  IsOfFile f = (read_by says (a.file f.file) ≡ Some f.read) × (are_sound f.read ≡ true)
+abbrev pub IsOfFile : Format → LoadingWorld → Found → Type 0
+IsOfFile format old f = (said_by format.says (file_of old.files f.file) ≡ Ok f.read) × (are_sound f.read ≡ true)
 
-  abbrev pub AreOfFiles : Closure → Type 0
-  AreOfFiles closure = Each IsOfFile closure.found
-
-  pub each_more : (xs ys : List Found) → Each IsOfFile xs → Each IsOfFile ys → Each IsOfFile (xs ++ ys)
-  each_more [] ys h k = k
-  each_more (x ∷ xs) ys h k = (h.0, each_more xs ys h.1 k)
-
-  next_of : (closure : Closure) (rest : List (ℕ × List ℕ)) (place : ℕ) (name : List ℕ) → AreOfFiles closure → MatchResult (followed says a (record closure { pending = rest }) place name) AreOfFiles (λ _. Unit {0})
-  next_of closure rest place name h = follow_cases says a (λ r. MatchResult r AreOfFiles (λ _. Unit {0})) (record closure { pending = rest }) place name (λ referent. h) (λ b. tt)
-      (λ read r. each_more closure.found (record { file = dll name; read = read } ∷ []) h ((r.is_file, r.sound), tt))
-
-  -- the file asked for
-  of_file : (file : List ℕ) (read : ModuleFile) → reading says a [] file ≡ Read read → IsOfFile (record { file = file; read = read })
-  of_file file read e = let r : IsRead says a [] file read = reading_is says a [] file read e in (r.is_file, r.sound)
-
-  -- and so is each that a closure found
-  pub found_of_files : (file : List ℕ) (read : ModuleFile) (closure : Closure) (n : ℕ) → reading says a [] file ≡ Read read → after says a n (begun file read) ≡ Ok closure → AreOfFiles closure
-  found_of_files file read closure n e f = subst (λ r. MatchResult r AreOfFiles (λ _. Unit {0})) f (after_keeps says a AreOfFiles (λ _. Unit {0}) next_of n (begun file read) (of_file file read e, tt))
+read_said : (format : Format) (p : Option (List ℕ)) (read : ModuleFile) → said_by format.says p ≡ Ok read → elim p as (λ _. Option ModuleFile) [ None ↦ None | Some bytes ↦ elim (format.says bytes) [ Ok read ↦ Some read | Err _ ↦ None ] ] ≡ Some read
+read_said format None read e = cc
+read_said format (Some bytes) read e = ap (λ (r : Result ModuleFile ℕ). elim r [ Ok y ↦ Some y | Err _ ↦ None ]) e
 
 -- What names leave.
 
@@ -58,8 +41,8 @@ sound_values value (s ∷ ss) e = turn s.targets refl e (λ f. sound_values valu
     turn (Some targets) at e more = (subst (λ p. IsSomeAnd p (λ ts. length (map value (targets_of s)) ≡ length ts)) (sym at) (ap (λ p. length (map value (unwrap_or p []))) at ∙ length-map targets value), more e)
 
 -- A load that has come to its end.
-module _ (format : Format) (old : LoadingWorld) (is : IsLoadingWorld old) (closure : Closure) (choice : Choice) (good : IsChoice old closure.found choice) (of_files : AreOfFiles format.says (around old) closure) (heap : Heap)
-    (filled : InTurn (FillsOne is_of_device) (named old closure choice).handles.heap (fills old closure choice) None heap) where
+module _ (answers : Answers) (exact : ReadsAgain answers) (format : Format) (old : LoadingWorld) (is : IsLoadingWorld old) (closure : Closure) (choice : Choice) (good : IsChoice old closure.found choice) (of_files : (f : Found) → Member f closure.found → IsOfFile format old f) (heap : Heap)
+    (filled : InTurn (GivesFrom Fills answers) (named old closure choice).handles.heap (fills old closure choice) None heap) where
   abbrev gs : List Given
   gs = given closure choice
 
@@ -78,11 +61,11 @@ module _ (format : Format) (old : LoadingWorld) (is : IsLoadingWorld old) (closu
   -- a new module's file reads as it did, and is sound
   read : (g : Given) → Member g gs → (read_in format new.files g.found.file ≡ Some g.found.read) × (are_sound g.found.read ≡ true)
   read g member =
-      let of_file : IsOfFile format.says (around old) g.found = Each-at (IsOfFile format.says (around old)) closure.found of_files g.found (given_found 0 closure.found choice.handles choice.slots g member) in
-      (ap (λ f. read_in format f g.found.file) files ∙ of_file.0, of_file.1)
+      let of_file = of_files g.found (given_found 0 closure.found choice.handles choice.slots g member) in
+      (ap (λ f. read_in format f g.found.file) files ∙ read_said format (file_of old.files g.found.file) g.found.read of_file.0, of_file.1)
 
   bytes_are : (q : ℕ) → IfSome (bytes_at heap q) (λ b. (bytes_at (named old closure choice).handles.heap q ≡ Some b) ⊎ IsFilled (fills old closure choice) q b)
-  bytes_are q = fills_bytes is_of_device (named old closure choice).handles.heap heap (fills old closure choice) None (named_heap old closure choice is.handles good) filled q
+  bytes_are q = fills_bytes answers exact (named old closure choice).handles.heap heap (fills old closure choice) None (named_heap old closure choice is.handles good) filled q
 
   -- code of modules that were there
   old_code : CodeIsItsFiles format old → (slot handle number : ℕ) (m : Module) → IsSegmentOf old slot handle number m → is_code new slot ≡ true → IfSome (bytes_at heap slot) (λ b. segment_bytes format new m number ≡ Some b)

@@ -1,7 +1,7 @@
 -- What a script reads of code is its file's, relocated.
 use Rattle.w16_loading.proofs.Common.{inl, inr, ◌≡◌, ℕ, ◌+◌, ◌/◌, true, ◌==◌, if◌then◌else◌, List, [], Option, Some, None, IfSome, IsSomeAnd, MatchOption, is_some, unwrap_or, refl, sym, ap, ◌∙◌, subst, FarFault, part, object_at}
 use Rattle.w16_loading.proofs.Common.{bytes_at, after_touch, Handles, slot_of_selector, selector_of, selector_in, offset_in, FarAnswer, far_fault, far_slot, far_bytes, Reached, reached, FetchFault, Format, LoadingWorld, Module, IsSegmentOf, module_at}
-use Rattle.w16_loading.proofs.Common.{Fetches, segment_bytes, is_code, far_read, gives, reply_of_far, Failed, CodeIsItsFiles, IsOfFiles, CodeReadsLaw, ◌-◌, ◌*◌, option_map, arith, eq-eqb, Object, AreHandles, Part, part_of_selector, far_at}
+use Rattle.w16_loading.proofs.Common.{segment_bytes, is_code, far_read, gives, reply_of_far, Failed, CodeIsItsFiles, IsOfFiles, CodeReadsLaw, ◌-◌, ◌*◌, option_map, arith, eq-eqb, Object, AreHandles, Part, part_of_selector, far_at}
 use Rattle.w16_loading.proofs.Common.{REACH}
 use Rattle.w16_loading.specs.Replies as replies
 use Rattle.w16_loading.specs.Answers.{Answers, FetchesFrom, told}
@@ -66,10 +66,10 @@ code_reads_law honest format old later pointer count bytes slot handle number m 
     answers : Answers
     answers = told honest format old.files old.failures later.failures
 
-    after : (next : LoadingWorld) → Fetches format old (far_slot old.handles (selector_in pointer)) None next → gives (far_read (selector_in pointer) (offset_in pointer) count next) ((replies.Reply.Bytes bytes)) new
+    after : (next : LoadingWorld) → FetchesFrom Fills answers old (far_slot old.handles (selector_in pointer)) None next → gives (far_read (selector_in pointer) (offset_in pointer) count next) ((replies.Reply.Bytes bytes)) new
         → IsSomeAnd (segment_bytes format old m number) (λ image. bytes ≡ part image (offset_in pointer) count)
     after next f g =
-        let good : IsOfFiles format next = code_kept format old next (fetched_code format old (far_slot old.handles (selector_in pointer)) None next is.handles.heap (world_fetches format old is (far_slot old.handles (selector_in pointer))) f) of in
+        let good : IsOfFiles format next = code_kept format old next (fetched_code format is.handles.heap (world_fetches format truly old.failures later.failures old is (far_slot old.handles (selector_in pointer))) f) of in
         let there : part_of_selector next.handles (selector_in pointer) ≡ Some (record { slot = slot; number = 0 }) = ap (λ (w : LoadingWorld). part_of_selector w.handles (selector_in pointer)) f.rest ∙ first_part old.handles is.handles (selector_in pointer) slot named in
         let in_next : IsSegmentOf next slot handle number m = record { loaded = ap (λ (w : LoadingWorld). module_at w.modules handle) f.rest ∙ segment.loaded; has = segment.has } in
         let read : IsSomeAnd (segment_bytes format next m number) (λ image. bytes ≡ part image (offset_in pointer) count) =
@@ -79,7 +79,7 @@ code_reads_law honest format old later pointer count bytes slot handle number m 
     fetched : (fault : Option FetchFault) (next : LoadingWorld) → FetchesFrom Fills answers old (far_slot old.handles (selector_in pointer)) fault next
         → MatchOption fault (gives (far_read (selector_in pointer) (offset_in pointer) count next) ((replies.Reply.Bytes bytes)) new) (λ f. ((replies.Reply.Bytes bytes) ≡ Failed f) × (new ≡ next))
         → IsSomeAnd (segment_bytes format old m number) (λ image. bytes ≡ part image (offset_in pointer) count)
-    fetched None next f g = after next (record { bytes = f.given.0; image = f.given.2 truly; filled = f.given.3; rest = f.rest }) g
+    fetched None next f g = after next f g
     fetched (Some fault) next f g = differ g.0
       where
         differ : (replies.Reply.Bytes bytes) ≡ Failed fault → IsSomeAnd (segment_bytes format old m number) (λ image. bytes ≡ part image (offset_in pointer) count)

@@ -1,7 +1,7 @@
 -- The steps of the families, but for loads, keep code as its files say it.
 use Rattle.w16_loading.proofs.Common.{◌≡◌, ◌≢◌, ℕ, ◌+◌, ◌-◌, inl, inr, ◌⊎◌, Bool, true, false, cond, not, ◌==◌, List, [], ◌∷◌, length, Option, Some, None, option_map, unwrap_or, refl, sym, ap, ◌∙◌, subst, nat_cmp, false≢true, cases_Bool, cases_eq, FarFault}
 use Rattle.w16_loading.proofs.Common.{BadSelector, NotPresent, Limit, put_part, is_member, Heap, object_at, bytes_at, after_touch, IsFreeSlot, global_lock, far_fault, far_slot, after_write, get-update_other, inserted_here, inserted_other, taken_here}
-use Rattle.w16_loading.proofs.Common.{taken_other, bytes_in, entered_heap, FetchFault, Format, Resource, Owned, LoadingWorld, Load, Module, Modules, module_at, module_in, with_heap, Loaded, BuiltIn, without_objects, Fetches, is_code, far_read, far_write}
+use Rattle.w16_loading.proofs.Common.{taken_other, bytes_in, entered_heap, FetchFault, Format, Resource, Owned, LoadingWorld, Load, Module, Modules, module_at, module_in, with_heap, Loaded, BuiltIn, without_objects, Answers, FetchesFrom, Fills, told, is_code, far_read, far_write}
 use Rattle.w16_loading.proofs.Common.{Go, Frees, used_less, without_module, without_orphans, is_left_over, Attributes, owned_in, refuses_write, attributes_for, with_resource, locked, IsLoadingWorld, IsOfFiles, unused_slot, Part, part_of_selector, is_past}
 use Rattle.w16_loading.proofs.Common.{far_at}
 use Rattle.std.specs.FinMap as finmap
@@ -14,7 +14,7 @@ use Rattle.w16_loading.proofs.Stepping.{without_load}
 use Rattle.w16_loading.proofs.FarCases.{read_cases, write_cases}
 use Rattle.w16_loading.proofs.KeptBytes as kept
 use Rattle.w16_loading.proofs.KeptBytes.{KeepsBytes, same_object, no_object, no_bytes}
-use Rattle.w16_loading.proofs.KeptCode.{KeepsCode, SameSource, FetchesCode, code_kept, same_source, as_it_was, fetched_code}
+use Rattle.w16_loading.proofs.KeptCode.{with_code, KeepsCode, SameSource, FetchesCode, code_kept, same_source, as_it_was, fetched_code}
 
 module _ (format : Format) where
   abbrev Good : LoadingWorld → Type 0
@@ -22,12 +22,7 @@ module _ (format : Format) where
 
   -- a world with another heap
   pub heap_kept : (old : LoadingWorld) (heap : Heap) → ((q : ℕ) → is_code old q ≡ true → KeepsBytes old.handles.heap heap q) → KeepsCode format old (with_heap old heap)
-  heap_kept old heap keeps = record {
-    files = refl;
-    modules = λ handle m e. (m, e, same_source m);
-    coded = λ q t. t;
-    bytes = λ slot handle number m s t. as_it_was format old heap slot number m (keeps slot t);
-  }
+  heap_kept old heap keeps = with_code format old heap (λ slot handle number m s t. as_it_was format old heap slot number m (keeps slot t))
 
   -- and with other modules, of which each has the source of one that was there
   modules_kept : (old : LoadingWorld) (modules : Modules) → ((handle : ℕ) (m : Module) → module_at modules handle ≡ Some m → (before : Module) × (module_at old.modules handle ≡ Some before) × SameSource m before)
@@ -80,9 +75,9 @@ module _ (format : Format) where
       others f q t = same_object world.handles.heap (after_touch (after_write world.handles.heap (far_slot world.handles selector) (far_at world.handles selector offset) slice) (far_slot world.handles selector)) q
           (get-update_other world.handles.heap.objects (far_slot world.handles selector) (λ o. record o { bytes = option_map (λ bytes. put_part bytes (far_at world.handles selector offset) slice) o.bytes }) q (λ e. false≢true (sym f ∙ ap (is_code world) (sym e) ∙ t)))
 
-  -- what is fetched in a world is its image
-  pub world_fetches : (old : LoadingWorld) → IsLoadingWorld old → (slot : ℕ) → FetchesCode format old slot
-  world_fetches old is slot handle number m bytes s coded image = segment_image format old slot handle number m bytes is s image
+  -- what an honest store gives is the object's image
+  pub world_fetches : {honest : Type 0} → honest → (before after : ℕ) (old : LoadingWorld) → IsLoadingWorld old → (slot : ℕ) → FetchesCode format (told honest format old.files before after) old slot
+  world_fetches truly before after old is slot handle number m bytes s coded given = segment_image format old slot handle number m bytes is s (given truly)
 
   -- Uses.
 
@@ -183,8 +178,9 @@ module _ (format : Format) where
       entered q (inr d) = same_object old.handles.heap (with_resource old slot handle place r).handles.heap q (inserted_other old.handles.heap.objects slot (record { kind = r.kind; locks = 0; bytes = None }) q d)
 
   -- which is fetched
-  pub made_code : (old next : LoadingWorld) → IsLoadingWorld old → (slot handle place : ℕ) (r : Resource) → IsFreeSlot old.handles slot → (fault : Option FetchFault) → Fetches format (with_resource old slot handle place r) slot fault next → Good old → Good next
-  made_code old next is slot handle place r free fault f good = code_kept format made next fetched (code_kept format old made (entered_code old slot handle place r free) good)
+  pub made_code : {answers : Answers} {slot : ℕ} {fault : Option FetchFault} {next : LoadingWorld} (old : LoadingWorld) → IsLoadingWorld old → (handle place : ℕ) (r : Resource) → IsFreeSlot old.handles slot
+      → FetchesFrom Fills answers (with_resource old slot handle place r) slot fault next → Good old → Good next
+  made_code {answers} {slot} {fault} {next} old is handle place r free f good = code_kept format made next fetched (code_kept format old made (entered_code old slot handle place r free) good)
     where
       made : LoadingWorld
       made = with_resource old slot handle place r
@@ -193,7 +189,7 @@ module _ (format : Format) where
       not_code t = false≢true (sym (ap (λ p. unwrap_or (option_map (λ (o : Owned). o.code) p) false) (ap owned_in (inserted_here old.handles.attributes slot (attributes_for r) slot refl))) ∙ t)
 
       fetched : KeepsCode format made next
-      fetched = fetched_code format made slot fault next (entered_heap old.handles.heap is.handles.heap slot r.kind (unused_slot old.handles is.handles slot free)) (λ h number m bytes s coded image. absurd (not_code coded)) f
+      fetched = fetched_code format (entered_heap old.handles.heap is.handles.heap slot r.kind (unused_slot old.handles is.handles slot free)) (λ h number m bytes s coded given. absurd (not_code coded)) f
 
   -- a lock
   pub locked_code : (old : LoadingWorld) (handle : ℕ) → Good old → Good (locked old handle).1

@@ -8,8 +8,7 @@ pub use Rattle.std.proofs.lemmas.Slice.Zip.{AllZip-left}
 pub use Rattle.std.specs.FinMap.{get-retain_keys, nat_cmp-IsAntisymmetric, same_map}
 pub use Rattle.std.specs.List.{AllZip, list_all, position_or_len}
 pub use Rattle.std.specs.Option.{option_or}
-pub use Rattle.w16_loading.specs.AnyStore.{AnyCloses, AnyFetches, AnyLoads, AnyLoadsBy, GivesAny, IsAnyClosure, with_files}
-pub use Rattle.w16_loading.specs.Answers.{IsOwnedSize}
+pub use Rattle.w16_loading.specs.Answers.{Answers, ClosesFrom, Ending, FetchesFrom, FillsFewest, GivesFrom, GivesRead, HasTables, IsOwnedSize, LoadsFileFrom, LoadsFrom, ReadsFile, RefusesFile, StepFrom, StepOver, follow, said_by, told}
 pub use Rattle.w16_loading.specs.Bystanders.{IsFreedResource, IsReleased, IsStepAbout, IsUnloaded, IsUnused, MayGo, StepBystandersLaw, StepPinnedLaw, call_of, step_may_move_own}
 pub use Rattle.w16_loading.specs.Closure.{Around, Closes, Closure, Found, Reading, Referent, after, are_sound, around, begun, dll, followed, meant, reading, with_bound, with_found}
 pub use Rattle.w16_loading.specs.Closure.Reading.{Meant, Read, Refused}
@@ -18,18 +17,18 @@ pub use Rattle.w16_loading.specs.Families.{AddsBuiltIn, FamilyStep, FarStep, Giv
 pub use Rattle.w16_loading.specs.Families.LoadingCommand.{OfFar, OfHandles, OfModules, OfResizes, OfResources}
 pub use Rattle.w16_loading.specs.Families.ModuleCommand.{Builtin, FreeLibrary, FreeModule, GetModuleHandle, GetModuleUsage, GetProcAddress, LoadLibrary, LoadModule}
 pub use Rattle.w16_loading.specs.Families.ResourceCommand.{FindResource, FreeResource, LoadResource, LockResource, SizeofResource}
-pub use Rattle.w16_loading.specs.Fetch.{Accesses, Fetches, Fetching, IsImage, far_read, far_write, gives, is_code, is_not_present, needs_fetch, read_of, reply_of_far, resource_bytes, segment_bytes}
-pub use Rattle.w16_loading.specs.Fewest.{FetchesFewest, GivesAnyFewest, GivesFewest, RequestsFewestLaw}
+pub use Rattle.w16_loading.specs.Fetch.{Accesses, Fetching, IsImage, far_read, far_write, gives, is_code, is_not_present, needs_fetch, read_of, reply_of_far, resource_bytes, segment_bytes}
+pub use Rattle.w16_loading.specs.Fewest.{RequestsFewestLaw}
 pub use Rattle.w16_loading.specs.File.{AreModuleFiles, Far, Format, IsContent, IsFormat, IsModuleFile, IsSegmentData, ModuleFile, Resource, Saying, Segment, SegmentData, Tables, Target, numbered, targets_of}
 pub use Rattle.w16_loading.specs.File.Entry.{InSegment}
 pub use Rattle.w16_loading.specs.File.Target.{Import, ImportName, Internal, InternalEntry, System}
-pub use Rattle.w16_loading.specs.Fill.{Failure, Filling, Fills, FillsOne, Giving, InTurn, asked_of, is_of_device, is_of_read}
+pub use Rattle.w16_loading.specs.Fill.{Failure, Filling, Fills, Giving, InTurn, asked_of, is_of_read}
 pub use Rattle.w16_loading.specs.Free.{Frees, Go, is_left_over, used_less, without_module, without_orphans}
-pub use Rattle.w16_loading.specs.Law.{AnyStepLaw, BoundAlikeLaw, BoundOnceLaw, CallsKeepWorldsLaw, ClosureEndsLaw, CodeIsItsFiles, CodeLaw, CodeReadsLaw, EarlyRefusalLaw, EmptyLaw, EmptyOfFilesLaw}
+pub use Rattle.w16_loading.specs.Law.{AnyStepLaw, BoundAlikeLaw, BoundOnceLaw, CallsKeepWorldsLaw, ClosureEndsLaw, ClosureFilesLaw, CodeIsItsFiles, CodeLaw, CodeReadsLaw, EarlyRefusalLaw, EmptyLaw, EmptyOfFilesLaw}
 pub use Rattle.w16_loading.specs.Law.{FetchAgainLaw, FetchFaultsLaw, FetchLaw, FetchRefusedLaw, FillLaw, FillsLaw, IsItsFiles, IsLoad, IsLoadingWorld, IsModule, IsObjectOf, IsOfFiles, IsRefusal, KeepsOwner}
 pub use Rattle.w16_loading.specs.Law.{KeepsWorldsLaw, ModulesAreItsFiles, OneClosureLaw, OneEndLaw, OnlyDiscards, OwnersLaw, RefusedLoadLaw, SlotsLaw, TakenBackLaw, UndoneLaw, UsesApartLaw, ValuesLaw}
 pub use Rattle.w16_loading.specs.Law.{without_values}
-pub use Rattle.w16_loading.specs.Load.{Answer, Fulfils, Loads, LoadsBy, LoadsFile, LoadsNew, Refuses, after_use, left, outcome_of, refusal_of, undone, used_again}
+pub use Rattle.w16_loading.specs.Load.{Answer, Fulfils, LoadsNew, Refuses, after_use, left, outcome_of, refusal_of, undone, used_again}
 pub use Rattle.w16_loading.specs.Load.Answer.{Says}
 pub use Rattle.w16_loading.specs.Modules.{IsFreeModule, IsResourceOf, IsSegmentOf, Load, LoadingWorld, Lookup, Module, Modules, Named, address_at, address_by_name, address_by_ordinal}
 pub use Rattle.w16_loading.specs.Modules.{address_named, handle_named, imported, importers, importers_among, imports, is_idle, module_at, module_in, name_of, usage, usage_with, with_heap}

@@ -1,6 +1,6 @@
 -- What calls of modules and resources are for, proved from their steps.
-use Rattle.w16_loading.proofs.Common.{◌≡◌, ◌≢◌, ℕ, ◌+◌, ◌-◌, ◌<◌, ◌≤◌, ◌&&◌, ◌==◌, inl, inr, Bool, true, false, cond, if◌then◌else◌, nat_lt, List, [], ◌∷◌, find, position, Option, Some, None, option_map, unwrap_or, slice_get, refl, sym, ap, ◌∙◌, subst, arith}
-use Rattle.w16_loading.proofs.Common.{IfSome, get_or, and_parts, eq-eqb, ne_eqb, IsTrue, MatchOption, object_at, slot_of_handle, locks_at, Member, inserted_here, taken_here, is_named, is_named-Decides, slice_get-get_or, position-Some}
+use Rattle.w16_loading.proofs.Common.{◌≡◌, ◌≢◌, ℕ, ◌+◌, ◌-◌, ◌<◌, ◌≤◌, ◌&&◌, ◌==◌, inl, inr, Bool, true, false, cond, if◌then◌else◌, nat_lt, List, position, Option, Some, None, option_map, unwrap_or, slice_get, refl, sym, ap, ◌∙◌, subst, arith}
+use Rattle.w16_loading.proofs.Common.{IfSome, get_or, and_parts, eq-eqb, ne_eqb, IsTrue, MatchOption, object_at, slot_of_handle, locks_at, inserted_here, taken_here, is_named, is_named-Decides, slice_get-get_or, position-Some}
 use Rattle.w16_loading.proofs.Common.{Resource, Load, LoadingWorld, Modules, Named, module_at, name_of, handle_named, BuiltIn, Loaded, Reply, Word, IsLoadingWorld, without_objects}
 use Rattle.w16_loading.proofs.Common.{AddsBuiltIn, built_in, free_resource, numbered}
 use Rattle.std.proofs.Common.{le-ltb, lt-ltb}
@@ -9,32 +9,11 @@ use Rattle.w16_loading.specs.File.{is_label}
 use Rattle.w16_model.specs.declared.Kind.TheVariants.{Fixed}
 use Rattle.w16_loading.specs.Effects.{BuiltInLaw, FindLaw, FreeLaw, NamedLaw, SizeofLaw}
 use Rattle.w16_loading.proofs.Given.{no_place, place_member}
-use Rattle.w16_loading.proofs.Importers.{entry_there}
+use Rattle.w16_loading.proofs.Importers.{named_there}
 use Rattle.w16_loading.proofs.ModuleWorlds.{not_named}
 use Rattle.w16_loading.proofs.ShrunkWorlds.{value_gone}
 
 -- Names.
-
--- what is found is a member that passes
-pub found_passes : {X : Type 0} (p : X → Bool) (xs : List X) (x : X) → find p xs ≡ Some x → Member x xs × (p x ≡ true)
-found_passes p [] x e = cc
-found_passes p (y ∷ ys) x e = turn (p y) refl e (found_passes p ys x)
-  where
-    turn : (b : Bool) → p y ≡ b → cond b (Some y) (find p ys) ≡ Some x → (find p ys ≡ Some x → Member x ys × (p x ≡ true)) → Member x (y ∷ ys) × (p x ≡ true)
-    turn true t e rest = let same : y ≡ x = cc in (inl (sym same), ap p (sym same) ∙ t)
-    turn false t e rest = let h = rest e in (inr h.0, h.1)
-
--- a handle that a name leads to names something of this name
-named_there : (modules : Modules) (name : List ℕ) (handle : ℕ) → handle_named modules name ≡ Some handle → (n : Named) × (finmap.get modules handle ≡ Some n) × (is_named (name_of n) name ≡ true)
-named_there modules name handle e = turn (find (λ (x : ℕ × Named). is_named (name_of x.1) name) (finmap.entries modules)) refl e
-  where
-    turn : (p : Option (ℕ × Named)) → find (λ (x : ℕ × Named). is_named (name_of x.1) name) (finmap.entries modules) ≡ p → option_map (λ (x : ℕ × Named). x.0) p ≡ Some handle
-        → (n : Named) × (finmap.get modules handle ≡ Some n) × (is_named (name_of n) name ≡ true)
-    turn None f e = cc
-    turn (Some x) f e =
-        let same : x.0 ≡ handle = cc in
-        let h = found_passes (λ (x : ℕ × Named). is_named (name_of x.1) name) (finmap.entries modules) x f in
-        (x.1, ap (finmap.get modules) (sym same) ∙ entry_there modules x.0 x.1 h.0, h.1)
 
 -- 0 names nothing
 never_0 : (world : LoadingWorld) → IsLoadingWorld world → (n : Named) → finmap.get world.modules 0 ≡ Some n → ⊥

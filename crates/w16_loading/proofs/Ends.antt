@@ -9,7 +9,7 @@ module _ (says : Saying) (around : Around) where
   IsNext closure next = ((next.pending ≡ closure.pending) × (length next.found ≡ length closure.found)) ⊎ ((length closure.found < around.free) × (length next.found ≡ length closure.found + 1))
 
   next : (closure : Closure) (place : ℕ) (name : List ℕ) → IfOk (followed says around closure place name) (IsNext closure)
-  next closure place name = follow_cases says around (λ r. IfOk r (IsNext closure)) closure place name (λ referent. inl (refl, refl)) (λ b. tt) (λ read r. inr (r.few, length-append closure.found _))
+  next closure place name = follow_cases says around (λ r. IfOk r (IsNext closure)) closure place name (λ referent. inl (refl, refl)) (λ b. tt) (λ read few. inr (few, length-append closure.found _))
 
   -- so it ends
   abbrev Ends : Closure → Type 0

@@ -1,6 +1,5 @@
 -- Fetches: what they keep.
 use Rattle.w16_loading.proofs.Common.{◌≡◌, ℕ, inl, inr, Some, refl, sym, ap, subst, false≢true, Heap, KeepsOthers, FetchLaw, FetchRefusedLaw}
-use Rattle.w16_loading.specs.Answers.{told}
 use Rattle.w16_loading.proofs.Common.{LoadingWorld}
 use Rattle.w16_loading.proofs.Fillings.{fetch_outcome, filled_others}
 
@@ -9,12 +8,10 @@ same_keeps : (old new : Heap) (slot : ℕ) → new ≡ old → KeepsOthers old (
 same_keeps old new slot e = subst (KeepsOthers old (Some slot) 0) (sym e) (record { kept = λ q other out. refl; discarded = λ q e. absurd (false≢true e) })
 
 pub fetch_law : (honest : Type 0) → FetchLaw honest
-fetch_law honest format before after old new slot fault is f = elim (fetch_outcome (told honest format old.files before after) old slot fault new f).1 [
+fetch_law honest format before after old new slot fault is f = elim (fetch_outcome f).1 [
   | inl e ↦ record { number = 0; others = same_keeps old.handles.heap new.handles.heap slot (ap (λ (w : LoadingWorld). w.handles.heap) e); rest = f.rest }
-  | inr (bytes, read, filled) ↦
-      let k : (k : ℕ) × KeepsOthers old.handles.heap (Some slot) k new.handles.heap = filled_others old.handles.heap slot bytes new.handles.heap filled is in
-      record { number = k.0; others = k.1; rest = f.rest }
+  | inr (read, sized, given, filled) ↦ let k = filled_others old.handles.heap slot read new.handles.heap filled is in record { number = k.0; others = k.1; rest = f.rest }
 ]
 
 pub refused_law : (honest : Type 0) → FetchRefusedLaw honest
-refused_law honest format before after old new slot fault f = (fetch_outcome (told honest format old.files before after) old slot (Some fault) new f).0 refl
+refused_law honest format before after old new slot fault f = (fetch_outcome f).0 refl

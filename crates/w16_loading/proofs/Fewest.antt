@@ -1,6 +1,6 @@
 -- The requests of loads and fetches discard as few as they can, since each is an allocation whose new bytes are given.
-use Rattle.w16_loading.proofs.Common.{◌≡◌, ℕ, Bool, true, false, List, length, Option, Some, None, refl, sym, ap, ◌∙◌, subst, false≢true, Heap, Object, IsHeap, with_newest, Request, IsNew, Allocates, discards_needed}
-use Rattle.w16_loading.proofs.Common.{AllocatesFewest, revival_options, allocation_law, FetchFault, NoRoom, Store, Damaged, Fills, FillsOne, asked_of, GivesFewest}
+use Rattle.w16_loading.proofs.Common.{◌≡◌, ℕ, Bool, false, List, length, Option, Some, None, refl, sym, ap, ◌∙◌, subst, false≢true, Heap, Object, IsHeap, with_newest, Request, IsNew, Allocates, discards_needed}
+use Rattle.w16_loading.proofs.Common.{AllocatesFewest, revival_options, allocation_law, Fills, asked_of}
 
 -- what is filled is allocated
 pub fill_allocates : (old : Heap) (slot : ℕ) (bytes : List ℕ) (answered : Bool) (new : Heap) → (f : Fills old slot bytes answered new) → Allocates old slot (length bytes) f.before.kind f.before.locks revival_options answered new
@@ -21,9 +21,3 @@ fill_allocates old slot bytes answered new f = record {
 
 pub fill_fewest : (old : Heap) (slot : ℕ) (bytes : List ℕ) (answered : Bool) (new : Heap) → IsHeap old → Fills old slot bytes answered new → AllocatesFewest old slot (length bytes) revival_options answered new
 fill_fewest old slot bytes answered new is f = allocation_law old new slot (length bytes) f.before.kind f.before.locks revival_options answered is (fill_allocates old slot bytes answered new f)
-
-pub one_fewest : (may_fail : FetchFault → Bool) (old : Heap) (slot : ℕ) (bytes : List ℕ) (fault : Option FetchFault) (new : Heap) → IsHeap old → FillsOne may_fail old slot bytes fault new → GivesFewest old slot bytes fault new
-one_fewest may_fail old slot bytes None new is f = fill_fewest old slot bytes true new is f
-one_fewest may_fail old slot bytes (Some NoRoom) new is f = fill_fewest old slot bytes false new is f
-one_fewest may_fail old slot bytes (Some Store) new is f = f.1
-one_fewest may_fail old slot bytes (Some Damaged) new is f = f.1

@@ -1,12 +1,11 @@
 -- What becomes of a heap while objects get bytes: of one, and of several, one after another.
-use Rattle.w16_loading.proofs.Common.{◌≡◌, ◌≢◌, ℕ, inl, inr, ◌⊎◌, Bool, true, false, List, [], ◌∷◌, length, fold, take, Option, Some, None, IsSomeAnd, is_some, refl, sym, ap, ◌∙◌, subst, false≢true, cases_eq, Discardable, eligible, Heap}
+use Rattle.w16_loading.proofs.Common.{◌≡◌, ◌≢◌, ℕ, inl, inr, ◌⊎◌, true, false, List, [], ◌∷◌, length, fold, take, Option, Some, None, IsSomeAnd, is_some, refl, sym, ap, ◌∙◌, subst, false≢true, cases_eq, Discardable, eligible, Heap}
 use Rattle.w16_loading.proofs.Common.{Object, IsHeap, blocks, object_at, with_newest, with_ordered, absent, Request, Asked, Settles, discarded, discards_needed, stays_for, KeepsOthers, IsKeptOrDiscarded, revival_options, Member, Each-at}
-use Rattle.w16_loading.proofs.Common.{inserted_here, settled, others_law, kept_or_discarded, FetchFault, Giving, Fills, FillsOne, Filling, Failure, InTurn, asked_of, is_of_read, GivesAny, IsSized, bytes_at, bytes_in, sized_is}
+use Rattle.w16_loading.proofs.Common.{inserted_here, settled, others_law, kept_or_discarded, FetchFault, Giving, Fills, Filling, Failure, InTurn, asked_of, NoRoom, Store, Damaged, IsSized, bytes_at, bytes_in, sized_is}
 use Rattle.w16_loading.proofs.Common.{slots_for}
 use Rattle.std.specs.List.{AllByRecursion as Each}
-use Rattle.w16_loading.specs.Answers.{Answers, FetchesFrom, GivesRead, IsOwnedSize}
+use Rattle.w16_loading.specs.Answers.{Answers, FetchesFrom, GivesFrom, GivesRead, IsOwnedSize}
 use Rattle.w16_loading.proofs.Common.{LoadingWorld, with_heap}
-use Rattle.w16_loading.specs.declared.FetchFault.TheVariants as faults
 
 -- a request that is refused leaves the same heap
 refused : (old : Heap) (h : ℕ) (asked : Asked) (new : Heap) → Request old h asked false new → new ≡ old
@@ -16,75 +15,70 @@ refused old h asked new = turn asked.prefix
     turn None r = r.1
     turn (Some k) r = absurd (false≢true r.0)
 
-module _ (old : Heap) (slot : ℕ) (bytes : List ℕ) (new : Heap) where
-  -- one object gets its bytes, or nothing changes
-  pub one_outcome : (may_fail : FetchFault → Bool) (fault : Option FetchFault) → FillsOne may_fail old slot bytes fault new → (is_some fault ≡ true → new ≡ old) × ((new ≡ old) ⊎ Fills old slot bytes true new)
-  one_outcome may_fail None f = (λ t. absurd (false≢true t), inr f)
-  one_outcome may_fail (Some faults.NoRoom) f = let e : new ≡ old = refused old slot (asked_of old slot f.before bytes) new f.request in (λ t. e, inl e)
-  one_outcome may_fail (Some faults.Store) f = (λ t. f.1, inl f.1)
-  one_outcome may_fail (Some faults.Damaged) f = (λ t. f.1, inl f.1)
+-- one object gets bytes that were read for it, or nothing changes
+pub one_outcome : (MayFail : FetchFault → Type 0) (IsSized IsRead : List ℕ → Type 0) (old : Heap) (slot : ℕ) (fault : Option FetchFault) (new : Heap) → GivesRead Fills MayFail IsSized IsRead old slot fault new
+    → (is_some fault ≡ true → new ≡ old) × ((new ≡ old) ⊎ ((read : List ℕ) × IsSized read × IsRead read × Fills old slot read true new))
+one_outcome MayFail IsSized IsRead old slot None new f = (λ t. absurd (false≢true t), inr f)
+one_outcome MayFail IsSized IsRead old slot (Some NoRoom) new (read, sized, f) = let e : new ≡ old = refused old slot (asked_of old slot f.before read) new f.request in (λ t. e, inl e)
+one_outcome MayFail IsSized IsRead old slot (Some Store) new f = (λ t. f.1, inl f.1)
+one_outcome MayFail IsSized IsRead old slot (Some Damaged) new f = (λ t. f.1, inl f.1)
 
-  module _ (f : Fills old slot bytes true new) where
-    pub settled_so : (k : ℕ) × (o : Object) × Settles old (stays_for slot revival_options) (with_ordered (discarded old k (Some slot)) slot o (with_newest slot o)) new
-    settled_so = settled old slot revival_options (discards_needed old (length bytes) (Some slot) revival_options) (λ o. o ≡ record f.before { bytes = Some bytes }) (with_newest slot) new f.request
-
-    -- an object that was filled is as before, with these bytes
-    pub filled_object : object_at new slot ≡ Some (record f.before { bytes = Some bytes })
-    filled_object = turn (discards_needed old (length bytes) (Some slot) revival_options) f.request
-      where
-        turn : (p : Option ℕ) → Request old slot (record (asked_of old slot f.before bytes) { prefix = p }) true new → object_at new slot ≡ Some (record f.before { bytes = Some bytes })
-        turn None r = absurd (false≢true (sym r.0))
-        turn (Some k) r = ap (λ (h : Heap). object_at h slot) r.1.2.same ∙ inserted_here (discarded old k (Some slot)).objects slot r.1.0 slot refl ∙ ap Some r.1.1
-
-    pub filled_heap : IsHeap new
-    filled_heap = settled_so.2.sound
-
-    -- and all others are kept or discarded
-    pub filled_others : IsHeap old → (k : ℕ) × KeepsOthers old (Some slot) k new
-    filled_others is = (settled_so.0, (others_law old new is settled_so.0).0 slot revival_options settled_so.1 (with_newest slot settled_so.1) settled_so.2)
-
-    pub filled_other : IsHeap old → (q : ℕ) → q ≢ slot → IsKeptOrDiscarded old new q
-    filled_other is q d = kept_or_discarded old new (Some slot) (filled_others is).0 q (filled_others is).1 (λ e. d (same e))
-      where
-        same : Some slot ≡ Some q → q ≡ slot
-        same e = let i : slot ≡ q = cc in sym i
-
--- a fetch gives it bytes that were read for it, or nothing changes
-pub fetch_outcome : (answers : Answers) (old : LoadingWorld) (slot : ℕ) (fault : Option FetchFault) (new : LoadingWorld) → FetchesFrom Fills answers old slot fault new
-    → (is_some fault ≡ true → new ≡ old) × ((new ≡ old) ⊎ ((read : List ℕ) × answers.gives old slot read × Fills old.handles.heap slot read true new.handles.heap))
-fetch_outcome answers old slot fault new f = turn fault f.given
+pub fetch_outcome : {answers : Answers} {old : LoadingWorld} {slot : ℕ} {fault : Option FetchFault} {new : LoadingWorld} → FetchesFrom Fills answers old slot fault new
+    → (is_some fault ≡ true → new ≡ old) × ((new ≡ old) ⊎ ((read : List ℕ) × IsOwnedSize old slot read × answers.gives old slot read × Fills old.handles.heap slot read true new.handles.heap))
+fetch_outcome {answers} {old} {slot} {fault} {new} f =
+    let o = one_outcome answers.fails (IsOwnedSize old slot) (answers.gives old slot) old.handles.heap slot fault new.handles.heap f.given in
+    (λ t. same (o.0 t), elim o.1 [ inl e ↦ inl (same e) | inr g ↦ inr g ])
   where
     same : new.handles.heap ≡ old.handles.heap → new ≡ old
     same e = f.rest ∙ ap (with_heap old) e
 
-    turn : (fault : Option FetchFault) → GivesRead Fills answers.fails (IsOwnedSize old slot) (answers.gives old slot) old.handles.heap slot fault new.handles.heap
-        → (is_some fault ≡ true → new ≡ old) × ((new ≡ old) ⊎ ((read : List ℕ) × answers.gives old slot read × Fills old.handles.heap slot read true new.handles.heap))
-    turn None (read, sized, is, g) = (λ t. absurd (false≢true t), inr (read, is, g))
-    turn (Some faults.NoRoom) (read, sized, g) = let e : new ≡ old = same (refused old.handles.heap slot (asked_of old.handles.heap slot g.before read) new.handles.heap g.request) in (λ t. e, inl e)
-    turn (Some faults.Store) g = (λ t. same g.1, inl (same g.1))
-    turn (Some faults.Damaged) g = (λ t. same g.1, inl (same g.1))
+module _ (old : Heap) (slot : ℕ) (bytes : List ℕ) (new : Heap) (f : Fills old slot bytes true new) where
+  pub settled_so : (k : ℕ) × (o : Object) × Settles old (stays_for slot revival_options) (with_ordered (discarded old k (Some slot)) slot o (with_newest slot o)) new
+  settled_so = settled old slot revival_options (discards_needed old (length bytes) (Some slot) revival_options) (λ o. o ≡ record f.before { bytes = Some bytes }) (with_newest slot) new f.request
+
+  -- an object that was filled is as before, with these bytes
+  pub filled_object : object_at new slot ≡ Some (record f.before { bytes = Some bytes })
+  filled_object = turn (discards_needed old (length bytes) (Some slot) revival_options) f.request
+    where
+      turn : (p : Option ℕ) → Request old slot (record (asked_of old slot f.before bytes) { prefix = p }) true new → object_at new slot ≡ Some (record f.before { bytes = Some bytes })
+      turn None r = absurd (false≢true (sym r.0))
+      turn (Some k) r = ap (λ (h : Heap). object_at h slot) r.1.2.same ∙ inserted_here (discarded old k (Some slot)).objects slot r.1.0 slot refl ∙ ap Some r.1.1
+
+  pub filled_heap : IsHeap new
+  filled_heap = settled_so.2.sound
+
+  -- and all others are kept or discarded
+  pub filled_others : IsHeap old → (k : ℕ) × KeepsOthers old (Some slot) k new
+  filled_others is = (settled_so.0, (others_law old new is settled_so.0).0 slot revival_options settled_so.1 (with_newest slot settled_so.1) settled_so.2)
+
+  pub filled_other : IsHeap old → (q : ℕ) → q ≢ slot → IsKeptOrDiscarded old new q
+  filled_other is q d = kept_or_discarded old new (Some slot) (filled_others is).0 q (filled_others is).1 (λ e. d (same e))
+    where
+      same : Some slot ≡ Some q → q ≡ slot
+      same e = let i : slot ≡ q = cc in sym i
 
 -- What holds of one heap and the next where an object was filled, and of each heap and itself, holds of the first heap and the last.
-module _ (P : Heap → Heap → Type 0) (same : (h : Heap) → P h h) (then : (a b c : Heap) → P a b → P b c → P a c) where
-  pub one_does : (may_fail : FetchFault → Bool) (old : Heap) (slot : ℕ) (bytes : List ℕ) (fault : Option FetchFault) (new : Heap) → IsHeap old → (Fills old slot bytes true new → P old new)
-      → FillsOne may_fail old slot bytes fault new → P old new × IsHeap new
-  one_does may_fail old slot bytes fault new is does f = elim ((one_outcome old slot bytes new may_fail fault f).1) [
+module _ (answers : Answers) (P : Heap → Heap → Type 0) (same : (h : Heap) → P h h) (then : (a b c : Heap) → P a b → P b c → P a c) where
+  one_does : (old : Heap) (slot : ℕ) (held : List ℕ) (fault : Option FetchFault) (new : Heap) → IsHeap old → ((read : List ℕ) → length read ≡ length held → answers.again held read → Fills old slot read true new → P old new)
+      → GivesFrom Fills answers old slot held fault new → P old new × IsHeap new
+  one_does old slot held fault new is does g = elim (one_outcome answers.fails (λ read. length read ≡ length held) (answers.again held) old slot fault new g).1 [
     | inl e ↦ (subst (P old) (sym e) (same old), subst IsHeap (sym e) is)
-    | inr filled ↦ (does filled, filled_heap old slot bytes new filled)
+    | inr (read, long, again, filled) ↦ (does read long again filled, filled_heap old slot read new filled)
   ]
 
-  pub all_do : (gives : Giving) (old new : Heap) (xs : List Filling) (failure : Option Failure) → IsHeap old
-      → ((x : Filling) → Member x xs → (a b : Heap) (fault : Option FetchFault) → IsHeap a → gives a x.slot x.bytes fault b → P a b × IsHeap b) → InTurn gives old xs failure new → P old new × IsHeap new
-  all_do gives old new [] failure is does f = (subst (P old) (sym f.1) (same old), subst IsHeap (sym f.1) is)
-  all_do gives old new (x ∷ xs) failure is does (None, next, g, rest) =
-      let first : P old next × IsHeap next = does x (inl refl) old next None is g in
-      let more : P next new × IsHeap new = all_do gives next new xs failure first.1 (λ y m. does y (inr m)) rest in (then old next new first.0 more.0, more.1)
-  all_do gives old new (x ∷ xs) failure is does (Some fault, next, g, rest) =
-      let first : P old next × IsHeap next = does x (inl refl) old next (Some fault) is g in (subst (P old) (sym rest.1) first.0, subst IsHeap (sym rest.1) first.1)
-
   pub any_do : (old new : Heap) (xs : List Filling) (failure : Option Failure) → IsHeap old
-      → ((x : Filling) → Member x xs → (a b : Heap) (bytes : List ℕ) → IsHeap a → length bytes ≡ length x.bytes → Fills a x.slot bytes true b → P a b) → InTurn GivesAny old xs failure new → P old new × IsHeap new
-  any_do old new xs failure is does f = all_do GivesAny old new xs failure is (λ x m a b fault h g. one_does is_of_read a x.slot g.0 fault b h (λ filled. does x m a b g.0 h g.1 filled) g.2) f
+      → ((x : Filling) → Member x xs → (a b : Heap) → IsHeap a → (read : List ℕ) → length read ≡ length x.bytes → answers.again x.bytes read → Fills a x.slot read true b → P a b)
+      → InTurn (GivesFrom Fills answers) old xs failure new → P old new × IsHeap new
+  any_do old new [] failure is does f = (subst (P old) (sym f.1) (same old), subst IsHeap (sym f.1) is)
+  any_do old new (x ∷ xs) failure is does (None, next, g, rest) =
+      let first = one_does old x.slot x.bytes None next is (does x (inl refl) old next is) g in
+      let more = any_do next new xs failure first.1 (λ y m. does y (inr m)) rest in (then old next new first.0 more.0, more.1)
+  any_do old new (x ∷ xs) failure is does (Some fault, next, g, rest) =
+      let first = one_does old x.slot x.bytes (Some fault) next is (does x (inl refl) old next is) g in (subst (P old) (sym rest.1) first.0, subst IsHeap (sym rest.1) first.1)
+
+-- the heap that is left
+pub one_heap : (answers : Answers) (old : Heap) (slot : ℕ) (held : List ℕ) (fault : Option FetchFault) (new : Heap) → IsHeap old → GivesFrom Fills answers old slot held fault new → IsHeap new
+one_heap answers old slot held fault new is f = (one_does answers (λ a b. Unit {0}) (λ h. tt) (λ a b c x y. tt) old slot held fault new is (λ read long again filled. tt) f).1
 
 -- One way to give bytes as another, in such heaps.
 pub in_turn_so : (f g : Giving) (Is : Heap → Type 0) → ((old : Heap) (slot : ℕ) (bytes : List ℕ) (fault : Option FetchFault) (new : Heap) → Is old → f old slot bytes fault new → g old slot bytes fault new × Is new)
@@ -97,10 +91,6 @@ in_turn_so f g Is turns old new (x ∷ xs) failure is (Some fault, next, one, re
 pub in_turn_as : (f g : Giving) → ((old : Heap) (slot : ℕ) (bytes : List ℕ) (fault : Option FetchFault) (new : Heap) → IsHeap old → f old slot bytes fault new → g old slot bytes fault new × IsHeap new)
     → (old new : Heap) (xs : List Filling) (failure : Option Failure) → IsHeap old → InTurn f old xs failure new → InTurn g old xs failure new
 in_turn_as f g = in_turn_so f g IsHeap
-
--- the heap that is left
-pub one_heap : (may_fail : FetchFault → Bool) (old : Heap) (slot : ℕ) (bytes : List ℕ) (fault : Option FetchFault) (new : Heap) → IsHeap old → FillsOne may_fail old slot bytes fault new → IsHeap new
-one_heap may_fail old slot bytes fault new is f = (one_does (λ a b. Unit {0}) (λ h. tt) (λ a b c x y. tt) may_fail old slot bytes fault new is (λ filled. tt) f).1
 
 -- Objects that get none are kept, or discarded.
 
@@ -121,12 +111,6 @@ kept_then old next new q (inr h) (inr g) = absurd (turn (object_at old q) h)
     turn None h = h
     turn (Some o) h = false≢true (subst (λ p. IsSomeAnd p (IsLost new q)) h.3 g).2
 
-pub any_kept : (old new : Heap) (xs : List Filling) (failure : Option Failure) → IsHeap old → InTurn GivesAny old xs failure new → IsHeap new × ((q : ℕ) → Each (λ x. q ≢ x.slot) xs → IsKeptOrDiscarded old new q)
-any_kept old new xs failure is f = (
-  (any_do (λ a b. Unit {0}) (λ h. tt) (λ a b c x y. tt) old new xs failure is (λ x m a b bytes h long g. tt) f).1,
-  λ q out. (any_do (λ a b. IsKeptOrDiscarded a b q) (λ h. inl refl) (λ a b c. kept_then a b c q) old new xs failure is (λ x m a b bytes h long g. filled_other a x.slot bytes b g h q (Each-at (λ (x : Filling). q ≢ x.slot) xs out x m)) f).0,
-)
-
 -- Each object is still there.
 
 pub lost : (old new : Heap) (q : ℕ) → IsKeptOrDiscarded old new q → is_some (object_at new q) ≡ is_some (object_at old q)
@@ -140,17 +124,11 @@ lost old new q (inr h) = turn (object_at old q) h
 abbrev AreThere : Heap → Heap → Type 0
 AreThere old new = (q : ℕ) → is_some (object_at new q) ≡ is_some (object_at old q)
 
-filled_there : (old : Heap) (slot : ℕ) (bytes : List ℕ) (new : Heap) → IsHeap old → Fills old slot bytes true new → AreThere old new
+pub filled_there : (old : Heap) (slot : ℕ) (bytes : List ℕ) (new : Heap) → IsHeap old → Fills old slot bytes true new → AreThere old new
 filled_there old slot bytes new is f q = elim (cases_eq q slot) [
   | inl e ↦ ap is_some (ap (object_at new) e ∙ filled_object old slot bytes new f) ∙ sym (ap is_some (ap (object_at old) e ∙ f.there))
   | inr d ↦ lost old new q (filled_other old slot bytes new f is q d)
 ]
-
-pub one_there : (may_fail : FetchFault → Bool) (old : Heap) (slot : ℕ) (bytes : List ℕ) (fault : Option FetchFault) (new : Heap) → IsHeap old → FillsOne may_fail old slot bytes fault new → AreThere old new
-one_there may_fail old slot bytes fault new is f = (one_does AreThere (λ h q. refl) (λ a b c x y q. y q ∙ x q) may_fail old slot bytes fault new is (filled_there old slot bytes new is) f).0
-
-pub any_there : (old new : Heap) (xs : List Filling) (failure : Option Failure) → IsHeap old → InTurn GivesAny old xs failure new → AreThere old new
-any_there old new xs failure is f = (any_do AreThere (λ h q. refl) (λ a b c x y q. y q ∙ x q) old new xs failure is (λ x m a b bytes h long g. filled_there a x.slot bytes b h g) f).0
 
 -- Where an object has as many slots as its new bytes need, it still has.
 
@@ -167,11 +145,6 @@ filled_sized old slot bytes new is f q n enough h = elim (cases_eq q slot) [
   | inl e ↦ sized_is refl (ap bytes_in (ap (object_at new) e ∙ filled_object old slot bytes new f)) (enough e)
   | inr d ↦ kept_sized old new q n (filled_other old slot bytes new f is q d) h
 ]
-
-pub any_sized : (old new : Heap) (xs : List Filling) (failure : Option Failure) → IsHeap old → InTurn GivesAny old xs failure new → (q n : ℕ) → ((x : Filling) → Member x xs → q ≡ x.slot → n ≡ slots_for (length x.bytes))
-    → IsSized n (bytes_at old q) → IsSized n (bytes_at new q)
-any_sized old new xs failure is f q n enough = (any_do (λ a b. IsSized n (bytes_at a q) → IsSized n (bytes_at b q)) (λ a k. k) (λ a b c x y k. y (x k)) old new xs failure is
-    (λ x m a b bytes h long g. filled_sized a x.slot bytes b h g q n (λ e. enough x m e ∙ ap slots_for (sym long))) f).0
 
 -- The range and the grain stay.
 
@@ -190,14 +163,26 @@ absents_range : (ids : List ℕ) (heap : Heap) → SameRange heap (fold absent h
 absents_range [] heap = same_range heap
 absents_range (id ∷ ids) heap = ranges heap (absent heap id) (fold absent (absent heap id) ids) (record { lo = refl; hi = refl; grain = refl }) (absents_range ids (absent heap id))
 
-filled_range : (old : Heap) (slot : ℕ) (bytes : List ℕ) (new : Heap) → Fills old slot bytes true new → SameRange old new
+pub filled_range : (old : Heap) (slot : ℕ) (bytes : List ℕ) (new : Heap) → Fills old slot bytes true new → SameRange old new
 filled_range old slot bytes new f =
     let s : (k : ℕ) × (o : Object) × Settles old (stays_for slot revival_options) (with_ordered (discarded old k (Some slot)) slot o (with_newest slot o)) new = settled_so old slot bytes new f in
     let d : SameRange old (discarded old s.0 (Some slot)) = absents_range (take s.0 (eligible (blocks old) old.order (Some slot))) old in
     record { lo = ap (λ (h : Heap). h.lo) s.2.same ∙ d.lo; hi = ap (λ (h : Heap). h.hi) s.2.same ∙ d.hi; grain = ap (λ (h : Heap). h.grain) s.2.same ∙ d.grain }
 
-pub one_range : (may_fail : FetchFault → Bool) (old : Heap) (slot : ℕ) (bytes : List ℕ) (fault : Option FetchFault) (new : Heap) → IsHeap old → FillsOne may_fail old slot bytes fault new → SameRange old new
-one_range may_fail old slot bytes fault new is f = (one_does SameRange same_range ranges may_fail old slot bytes fault new is (filled_range old slot bytes new) f).0
+-- All of a load's.
+module _ (answers : Answers) (old new : Heap) (xs : List Filling) (failure : Option Failure) (is : IsHeap old) (f : InTurn (GivesFrom Fills answers) old xs failure new) where
+  pub any_kept : IsHeap new × ((q : ℕ) → Each (λ x. q ≢ x.slot) xs → IsKeptOrDiscarded old new q)
+  any_kept = (
+    (any_do answers (λ a b. Unit {0}) (λ h. tt) (λ a b c x y. tt) old new xs failure is (λ x m a b h read long again g. tt) f).1,
+    λ q out. (any_do answers (λ a b. IsKeptOrDiscarded a b q) (λ h. inl refl) (λ a b c. kept_then a b c q) old new xs failure is (λ x m a b h read long again g. filled_other a x.slot read b g h q (Each-at (λ (x : Filling). q ≢ x.slot) xs out x m)) f).0,
+  )
 
-pub any_range : (old new : Heap) (xs : List Filling) (failure : Option Failure) → IsHeap old → InTurn GivesAny old xs failure new → SameRange old new
-any_range old new xs failure is f = (any_do SameRange same_range ranges old new xs failure is (λ x m a b bytes h long g. filled_range a x.slot bytes b g) f).0
+  pub any_there : AreThere old new
+  any_there = (any_do answers AreThere (λ h q. refl) (λ a b c x y q. y q ∙ x q) old new xs failure is (λ x m a b h read long again g. filled_there a x.slot read b h g) f).0
+
+  pub any_sized : (q n : ℕ) → ((x : Filling) → Member x xs → q ≡ x.slot → n ≡ slots_for (length x.bytes)) → IsSized n (bytes_at old q) → IsSized n (bytes_at new q)
+  any_sized q n enough = (any_do answers (λ a b. IsSized n (bytes_at a q) → IsSized n (bytes_at b q)) (λ a k. k) (λ a b c x y k. y (x k)) old new xs failure is
+      (λ x m a b h read long again g. filled_sized a x.slot read b h g q n (λ e. enough x m e ∙ ap slots_for (sym long))) f).0
+
+  pub any_range : SameRange old new
+  any_range = (any_do answers SameRange same_range ranges old new xs failure is (λ x m a b h read long again g. filled_range a x.slot read b g) f).0

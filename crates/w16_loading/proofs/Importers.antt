@@ -2,6 +2,7 @@
 use Rattle.w16_loading.proofs.Common.{◌≡◌, ◌≢◌, ℕ, zero, suc, ◌+◌, ◌<◌, inl, Bool, true, not, ◌&&◌, ◌==◌, List, [], ◌∷◌, length, filter, count_by, IsTrue, Option, Some, None, is_some, IfSome, refl, sym, ap, ◌∙◌, subst}
 use Rattle.w16_loading.proofs.Common.{arith, eqb-true, eq-eqb, ne_eqb, nat_cmp, FinMap, entries_sorted, get-entries, false≢true, and_parts, not-true, length-filter, Member, member_filter, filter_member, found_member}
 use Rattle.w16_loading.proofs.Common.{member_found, keys_rise, LoadingWorld, Module, Modules, Named, module_at, module_in, imports, importers, usage, usage_with, is_idle, Loaded, BuiltIn, IsLoadingWorld, IsModule}
+use Rattle.w16_loading.proofs.Common.{cond, false, find, handle_named, inr, is_named, name_of, option_map}
 use Rattle.std.specs.FinMap as finmap
 
 -- an entry is one of a map's just where the map has it
@@ -10,6 +11,27 @@ entry_there m q v mem = get-entries m q ∙ member_found (finmap.entries m) q v 
 
 pub there_entry : {X : Type 0} (m : FinMap nat_cmp X) (q : ℕ) (v : X) → finmap.get m q ≡ Some v → Member (q, v) (finmap.entries m)
 there_entry m q v e = found_member (finmap.entries m) q v (sym (get-entries m q) ∙ e)
+
+-- what is found is a member that passes
+pub found_passes : {X : Type 0} (p : X → Bool) (xs : List X) (x : X) → find p xs ≡ Some x → Member x xs × (p x ≡ true)
+found_passes p [] x e = cc
+found_passes p (y ∷ ys) x e = turn (p y) refl e (found_passes p ys x)
+  where
+    turn : (b : Bool) → p y ≡ b → cond b (Some y) (find p ys) ≡ Some x → (find p ys ≡ Some x → Member x ys × (p x ≡ true)) → Member x (y ∷ ys) × (p x ≡ true)
+    turn true t e rest = let same : y ≡ x = cc in (inl (sym same), ap p (sym same) ∙ t)
+    turn false t e rest = let h = rest e in (inr h.0, h.1)
+
+-- a handle that a name leads to names something of this name
+pub named_there : (modules : Modules) (name : List ℕ) (handle : ℕ) → handle_named modules name ≡ Some handle → (n : Named) × (finmap.get modules handle ≡ Some n) × (is_named (name_of n) name ≡ true)
+named_there modules name handle e = turn (find (λ (x : ℕ × Named). is_named (name_of x.1) name) (finmap.entries modules)) refl e
+  where
+    turn : (p : Option (ℕ × Named)) → find (λ (x : ℕ × Named). is_named (name_of x.1) name) (finmap.entries modules) ≡ p → option_map (λ (x : ℕ × Named). x.0) p ≡ Some handle
+        → (n : Named) × (finmap.get modules handle ≡ Some n) × (is_named (name_of n) name ≡ true)
+    turn None f e = cc
+    turn (Some x) f e =
+        let same : x.0 ≡ handle = cc in
+        let h = found_passes (λ (x : ℕ × Named). is_named (name_of x.1) name) (finmap.entries modules) x f in
+        (x.1, ap (finmap.get modules) (sym same) ∙ entry_there modules x.0 x.1 h.0, h.1)
 
 -- some are counted where one passes
 counted_some : {X : Type 0} (p : X → Bool) (xs : List X) → 0 < count_by p xs → (x : X) × Member x xs × (p x ≡ true)

@@ -1,9 +1,9 @@
 -- What keeps code as its files say it.
-use Rattle.w16_loading.proofs.Common.{◌≡◌, ℕ, ◌-◌, inl, inr, ◌⊎◌, Bool, true, List, [], length, Option, Some, None, IfSome, IsSomeAnd, option_map, slice_get, slice_index_or, Ok, Err, refl, sym, ap, ◌∙◌, subst}
+use Rattle.w16_loading.proofs.Common.{◌≡◌, ℕ, ◌-◌, inl, inr, ◌⊎◌, true, List, [], length, Option, Some, None, IfSome, IsSomeAnd, option_map, slice_get, slice_index_or, Ok, Err, refl, sym, ap, ◌∙◌, subst}
 use Rattle.w16_loading.proofs.Common.{AllZip, cases_eq, Heap, IsHeap, bytes_at, Member, bytes_in, file_of, FetchFault, Format, ModuleFile, SegmentData, Far, numbered, LoadingWorld, Module, IsSegmentOf, module_at}
-use Rattle.w16_loading.proofs.Common.{Fills, FillsOne, Filling, Failure, InTurn, is_of_device, Fetches, IsImage, read_of, segment_bytes, is_code, CodeIsItsFiles, IsItsFiles, ModulesAreItsFiles, IsOfFiles}
-use Rattle.w16_loading.proofs.Fillings.{filled_object, filled_other, one_does, all_do}
-use Rattle.w16_loading.proofs.KeptBytes.{KeepsBytes, kept_bytes}
+use Rattle.w16_loading.proofs.Common.{Fills, Filling, Failure, InTurn, Answers, FetchesFrom, GivesFrom, with_heap, read_of, segment_bytes, is_code, CodeIsItsFiles, IsItsFiles, ModulesAreItsFiles, IsOfFiles}
+use Rattle.w16_loading.proofs.Fillings.{any_do, fetch_outcome, filled_object, filled_other}
+use Rattle.w16_loading.proofs.KeptBytes.{KeepsBytes, kept_bytes, same_bytes}
 
 -- a module has the source of another: its file, the values that were bound for it, and its slots
 pub record SameSource (m before : Module) : Type 0 where
@@ -69,77 +69,57 @@ code_kept format old new keeps good = record { code = bytes_kept format old new 
 pub same_source : (m : Module) → SameSource m m
 same_source m = record { file = refl; values = refl; slots = refl; tables = refl }
 
+if_some : {P Q : List ℕ → Type 0} (p : Option (List ℕ)) → ((b : List ℕ) → P b → Q b) → IfSome p P → IfSome p Q
+if_some None f h = tt
+if_some (Some b) f h = f b h
+
 -- bytes that are kept
 pub as_it_was : (format : Format) (old : LoadingWorld) (new : Heap) (slot number : ℕ) (m : Module) → KeepsBytes old.handles.heap new slot
     → IfSome (bytes_at new slot) (λ b. (bytes_at old.handles.heap slot ≡ Some b) ⊎ (segment_bytes format old m number ≡ Some b))
-as_it_was format old new slot number m h = turn (bytes_at new slot) h
-  where
-    turn : (p : Option (List ℕ)) → IfSome p (λ b. bytes_at old.handles.heap slot ≡ Some b) → IfSome p (λ b. (bytes_at old.handles.heap slot ≡ Some b) ⊎ (segment_bytes format old m number ≡ Some b))
-    turn None h = tt
-    turn (Some b) h = inl h
+as_it_was format old new slot number m = if_some (bytes_at new slot) (λ b e. inl e)
+
+-- a world with another heap
+pub with_code : (format : Format) (old : LoadingWorld) (heap : Heap) → ((slot handle number : ℕ) (m : Module) → IsSegmentOf old slot handle number m → is_code old slot ≡ true
+    → IfSome (bytes_at heap slot) (λ b. (bytes_at old.handles.heap slot ≡ Some b) ⊎ (segment_bytes format old m number ≡ Some b))) → KeepsCode format old (with_heap old heap)
+with_code format old heap bytes = record { files = refl; modules = λ handle m e. (m, e, same_source m); coded = λ q t. t; bytes = bytes }
 
 -- what was filled has these bytes, and all else the bytes that it had, or none
-one_bytes : (old new : Heap) (slot : ℕ) (bytes : List ℕ) → IsHeap old → Fills old slot bytes true new → (q : ℕ) → IfSome (bytes_at new q) (λ b. (bytes_at old q ≡ Some b) ⊎ ((q ≡ slot) × (b ≡ bytes)))
-one_bytes old new slot bytes is f q = elim (cases_eq q slot) [
+one_bytes : (old : Heap) (slot : ℕ) (bytes : List ℕ) (new : Heap) → IsHeap old → Fills old slot bytes true new → (q : ℕ) → IfSome (bytes_at new q) (λ b. (bytes_at old q ≡ Some b) ⊎ ((q ≡ slot) × (b ≡ bytes)))
+one_bytes old slot bytes new is f q = elim (cases_eq q slot) [
   | inl same ↦ subst (λ p. IfSome p (λ b. (bytes_at old q ≡ Some b) ⊎ ((q ≡ slot) × (b ≡ bytes)))) (sym (ap (bytes_at new) same ∙ ap bytes_in (filled_object old slot bytes new f))) (inr (same, refl))
-  | inr other ↦ turn (bytes_at new q) (kept_bytes old new q (filled_other old slot bytes new f is q other))
+  | inr other ↦ if_some (bytes_at new q) (λ b e. inl e) (kept_bytes old new q (filled_other old slot bytes new f is q other))
 ]
-  where
-    turn : (p : Option (List ℕ)) → IfSome p (λ b. bytes_at old q ≡ Some b) → IfSome p (λ b. (bytes_at old q ≡ Some b) ⊎ ((q ≡ slot) × (b ≡ bytes)))
-    turn None h = tt
-    turn (Some b) h = inl h
 
--- all that was filled has its bytes
+-- all that was filled has its bytes, where these are read again
 abbrev pub IsFilled : List Filling → ℕ → List ℕ → Type 0
 IsFilled xs q b = (x : Filling) × Member x xs × (q ≡ x.slot) × (b ≡ x.bytes)
 
-module _ (Filled : ℕ → List ℕ → Type 0) where
-  abbrev HaveBytes : Heap → Heap → Type 0
-  HaveBytes old new = (q : ℕ) → IfSome (bytes_at new q) (λ b. (bytes_at old q ≡ Some b) ⊎ Filled q b)
+abbrev pub ReadsAgain : Answers → Type 0
+ReadsAgain answers = (held read : List ℕ) → answers.again held read → read ≡ held
 
-  same_bytes_all : (h : Heap) → HaveBytes h h
-  same_bytes_all h q = turn (bytes_at h q) refl
-    where
-      turn : (p : Option (List ℕ)) → bytes_at h q ≡ p → IfSome p (λ b. (bytes_at h q ≡ Some b) ⊎ Filled q b)
-      turn None e = tt
-      turn (Some b) e = inl e
-
-  bytes_all : (a b c : Heap) → HaveBytes a b → HaveBytes b c → HaveBytes a c
-  bytes_all a b c x y q = turn (bytes_at c q) (y q)
-    where
-      turn : (p : Option (List ℕ)) → IfSome p (λ d. (bytes_at b q ≡ Some d) ⊎ Filled q d) → IfSome p (λ d. (bytes_at a q ≡ Some d) ⊎ Filled q d)
-      turn None h = tt
-      turn (Some d) (inl e) = subst (λ p. IfSome p (λ d. (bytes_at a q ≡ Some d) ⊎ Filled q d)) e (x q)
-      turn (Some d) (inr f) = inr f
-
-  -- a filling whose bytes are of this kind
-  pub filling_bytes : (may_fail : FetchFault → Bool) (old : Heap) (slot : ℕ) (bytes : List ℕ) (fault : Option FetchFault) (new : Heap) → IsHeap old → Filled slot bytes → FillsOne may_fail old slot bytes fault new → HaveBytes old new × IsHeap new
-  filling_bytes may_fail old slot bytes fault new is filled f = one_does HaveBytes same_bytes_all bytes_all may_fail old slot bytes fault new is (λ g q. turn q (bytes_at new q) (one_bytes old new slot bytes is g q)) f
-    where
-      turn : (q : ℕ) (p : Option (List ℕ)) → IfSome p (λ b. (bytes_at old q ≡ Some b) ⊎ ((q ≡ slot) × (b ≡ bytes))) → IfSome p (λ b. (bytes_at old q ≡ Some b) ⊎ Filled q b)
-      turn q None h = tt
-      turn q (Some b) (inl e) = inl e
-      turn q (Some b) (inr e) = inr (subst (λ k. Filled k b) (sym e.0) (subst (Filled slot) (sym e.1) filled))
-
-pub fills_bytes : (may_fail : FetchFault → Bool) (old new : Heap) (xs : List Filling) (failure : Option Failure) → IsHeap old → InTurn (FillsOne may_fail) old xs failure new
+pub fills_bytes : (answers : Answers) → ReadsAgain answers → (old new : Heap) (xs : List Filling) (failure : Option Failure) → IsHeap old → InTurn (GivesFrom Fills answers) old xs failure new
     → (q : ℕ) → IfSome (bytes_at new q) (λ b. (bytes_at old q ≡ Some b) ⊎ IsFilled xs q b)
-fills_bytes may_fail old new xs failure is f = (all_do (HaveBytes (IsFilled xs)) (same_bytes_all (IsFilled xs)) (bytes_all (IsFilled xs)) (FillsOne may_fail) old new xs failure is
-    (λ x m a b fault h g. filling_bytes (IsFilled xs) may_fail a x.slot x.bytes fault b h (x, m, refl, refl) g) f).0
+fills_bytes answers exact old new xs failure is f q = (any_do answers Has (λ h. if_some (bytes_at h q) (λ b e. inl e) (same_bytes h h q refl)) then old new xs failure is
+    (λ x m a b h read long again g. if_some (bytes_at b q) (λ c k. elim k [ inl e ↦ inl e | inr e ↦ inr (x, m, e.0, e.1 ∙ exact x.bytes read again) ]) (one_bytes a x.slot read b h g q)) f).0
+  where
+    Has : Heap → Heap → Type 0
+    Has old new = IfSome (bytes_at new q) (λ b. (bytes_at old q ≡ Some b) ⊎ IsFilled xs q b)
+
+    then : (a b c : Heap) → Has a b → Has b c → Has a c
+    then a b c x y = if_some (bytes_at c q) (λ d k. elim k [ inl e ↦ subst (λ p. IfSome p (λ d. (bytes_at a q ≡ Some d) ⊎ IsFilled xs q d)) e x | inr f ↦ inr f ]) y
 
 -- what is fetched is the segment's image, where it is code
-abbrev pub FetchesCode : Format → LoadingWorld → ℕ → Type 0
-FetchesCode format old slot = (handle number : ℕ) (m : Module) (bytes : List ℕ) → IsSegmentOf old slot handle number m → is_code old slot ≡ true → IsImage format old slot bytes → segment_bytes format old m number ≡ Some bytes
+abbrev pub FetchesCode : Format → Answers → LoadingWorld → ℕ → Type 0
+FetchesCode format answers old slot = (handle number : ℕ) (m : Module) (bytes : List ℕ) → IsSegmentOf old slot handle number m → is_code old slot ≡ true → answers.gives old slot bytes → segment_bytes format old m number ≡ Some bytes
 
-pub fetched_code : (format : Format) (old : LoadingWorld) (slot : ℕ) (fault : Option FetchFault) (new : LoadingWorld) → IsHeap old.handles.heap → FetchesCode format old slot → Fetches format old slot fault new → KeepsCode format old new
-fetched_code format old slot fault new is fetches f = record {
-  files = ap (λ (w : LoadingWorld). w.files) f.rest;
-  modules = λ handle m e. (m, ap (λ (w : LoadingWorld). module_at w.modules handle) (sym f.rest) ∙ e, same_source m);
-  coded = λ q t. ap (λ (w : LoadingWorld). is_code w q) (sym f.rest) ∙ t;
-  bytes = λ q handle number m s coded. turn q handle number m s coded (bytes_at new.handles.heap q) ((filling_bytes (λ q b. (q ≡ slot) × (b ≡ f.bytes)) is_of_device old.handles.heap slot f.bytes fault new.handles.heap is (refl, refl) f.filled).0 q);
-}
+pub fetched_code : {answers : Answers} {old : LoadingWorld} {slot : ℕ} {fault : Option FetchFault} {new : LoadingWorld} (format : Format) → IsHeap old.handles.heap → FetchesCode format answers old slot → FetchesFrom Fills answers old slot fault new → KeepsCode format old new
+fetched_code {answers} {old} {slot} {fault} {new} format is fetches f = subst (KeepsCode format old) (sym f.rest) (with_code format old new.handles.heap bytes)
   where
-    turn : (q handle number : ℕ) (m : Module) → IsSegmentOf old q handle number m → is_code old q ≡ true → (p : Option (List ℕ)) → IfSome p (λ b. (bytes_at old.handles.heap q ≡ Some b) ⊎ ((q ≡ slot) × (b ≡ f.bytes)))
-        → IfSome p (λ b. (bytes_at old.handles.heap q ≡ Some b) ⊎ (segment_bytes format old m number ≡ Some b))
-    turn q handle number m s coded None h = tt
-    turn q handle number m s coded (Some b) (inl e) = inl e
-    turn q handle number m s coded (Some b) (inr e) = inr (fetches handle number m f.bytes (subst (λ k. IsSegmentOf old k handle number m) e.0 s) (subst (λ k. is_code old k ≡ true) e.0 coded) f.image ∙ ap Some (sym e.1))
+    bytes : (q handle number : ℕ) (m : Module) → IsSegmentOf old q handle number m → is_code old q ≡ true → IfSome (bytes_at new.handles.heap q) (λ b. (bytes_at old.handles.heap q ≡ Some b) ⊎ (segment_bytes format old m number ≡ Some b))
+    bytes q handle number m s coded = elim (fetch_outcome f).1 [
+      | inl e ↦ as_it_was format old new.handles.heap q number m (same_bytes old.handles.heap new.handles.heap q (ap (λ (w : LoadingWorld). bytes_at w.handles.heap q) e))
+      | inr (read, sized, given, g) ↦ if_some (bytes_at new.handles.heap q) (λ b k. elim k [
+        | inl e ↦ inl e
+        | inr e ↦ inr (fetches handle number m read (subst (λ k. IsSegmentOf old k handle number m) e.0 s) (subst (λ k. is_code old k ≡ true) e.0 coded) given ∙ ap Some (sym e.1))
+      ]) (one_bytes old.handles.heap slot read new.handles.heap is g q)
+    ]

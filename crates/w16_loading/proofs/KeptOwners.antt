@@ -1,6 +1,6 @@
 -- An object that is there keeps its owner, or is gone with it, whatever the store answers.
 use Rattle.w16_loading.proofs.Common.{◌≡◌, ◌≢◌, ℕ, inl, inr, ◌-◌, ◌==◌, Bool, true, false, cond, not, List, [], ◌∷◌, length, Option, Some, None, is_some, refl, sym, ap, ◌∙◌, subst, false≢true, FarFault, part, is_member, FarAnswer, far_fault}
-use Rattle.w16_loading.proofs.Common.{IsFreeSlot, Handles, object_at, after_touch, owned_in, owned_at, refuses_write, Member, inserted_other, AnyFetches, GivesAny, Closure, far_read, far_write, Segment, Failure, Frees, Go, used_less}
+use Rattle.w16_loading.proofs.Common.{IsFreeSlot, Handles, object_at, after_touch, owned_in, owned_at, refuses_write, Member, inserted_other, Answers, FetchesFrom, GivesFrom, LoadsFrom, Fills, told, Closure, far_read, far_write, Segment, Failure, Frees, Go, used_less}
 use Rattle.w16_loading.proofs.Common.{without_module, IsLoadingWorld, KeepsOwner, OwnersLaw, Answer, Fulfils, left, undone, LoadingWorld, Module, module_at, with_heap, Loaded, given, named, segments_of, without_objects, attributes_for, locked}
 use Rattle.w16_loading.proofs.Common.{unused_slot}
 use Rattle.std.specs.FinMap as finmap
@@ -11,11 +11,11 @@ use Rattle.w16_loading.proofs.Undone.{chosen}
 use Rattle.w16_loading.proofs.Named.{free_slot}
 use Rattle.w16_loading.proofs.CallsKept.{handles_owners, resizes_owners}
 use Rattle.w16_loading.proofs.OwnedKept as kept
-use Rattle.w16_loading.proofs.Stepping.{AnyLoading, Parts, any_loaded, family, nothing_asked}
-use Rattle.w16_loading.proofs.Answered.{any_step}
+use Rattle.w16_loading.proofs.Stepping.{Parts, family, nothing_asked}
+use Rattle.w16_loading.proofs.Answered.{AreAnswers, loaded_by, told_answers}
 use Rattle.w16_loading.proofs.Undone.{retained}
 
-module _ (old : LoadingWorld) (is : IsLoadingWorld old) (q : ℕ) (there : is_some (object_at old.handles.heap q) ≡ true) where
+module _ (answers : Answers) (are : AreAnswers answers) (old : LoadingWorld) (is : IsLoadingWorld old) (q : ℕ) (there : is_some (object_at old.handles.heap q) ≡ true) where
   abbrev Kept : LoadingWorld → Type 0
   Kept world = KeepsOwner old.handles world.handles q
 
@@ -79,7 +79,7 @@ module _ (old : LoadingWorld) (is : IsLoadingWorld old) (q : ℕ) (there : is_so
       turn (Some m) = inl refl
 
   -- objects that come get free slots
-  fulfilled : (closure : Closure) (answer : Answer) (new : LoadingWorld) → Fulfils GivesAny old closure answer new → Kept new
+  fulfilled : (closure : Closure) (answer : Answer) (new : LoadingWorld) → Fulfils (GivesFrom Fills answers) old closure answer new → Kept new
   fulfilled closure answer new f = subst Kept (sym f.after) (turn f.failure)
     where
       apart : (x : ℕ × Segment) → Member x (segments_of (given closure f.choice)) → q ≢ x.0
@@ -89,7 +89,7 @@ module _ (old : LoadingWorld) (is : IsLoadingWorld old) (q : ℕ) (there : is_so
       turn None = inl (same_owned old (segments_of (given closure f.choice)) q apart)
       turn (Some failure) = inl refl
 
-  parts : Parts AnyFetches AnyLoading (λ slice. Unit {0}) old Kept
+  parts : Parts (FetchesFrom Fills answers) (LoadsFrom Fills answers) (λ slice. Unit {0}) old Kept
   parts = record {
     start = inl refl;
     handles = λ command reply next step. inl (handles_owners old is command reply next step q);
@@ -98,7 +98,7 @@ module _ (old : LoadingWorld) (is : IsLoadingWorld old) (q : ℕ) (there : is_so
     writes = written;
     fetched = λ slot fault next f. subst Kept (sym f.rest) (inl refl);
     built = λ name handle none free. inl refl;
-    loaded = λ b file answer new f. any_loaded (λ answer. Kept) old (λ answer. inl refl) b new file answer (λ handle m here few. inl refl) (λ closure any h. fulfilled closure answer new h) f;
+    loaded = λ b file answer new f. loaded_by answers are old (λ answer. Kept) (λ answer. inl refl) b file answer new (λ handle m here few. inl refl) (λ closure facts. fulfilled closure answer new) f;
     freed = freed;
     counted = λ slot load count here some few. inl refl;
     made = λ slot handle place r fault next free at none f. subst Kept (sym f.rest) (inl (ap owned_in (inserted_other old.handles.attributes slot (attributes_for r) q (not_free slot free))));
@@ -107,5 +107,7 @@ module _ (old : LoadingWorld) (is : IsLoadingWorld old) (q : ℕ) (there : is_so
   }
 
 pub owners_law : (honest : Type 0) → OwnersLaw honest
-owners_law honest format old new command reply is step slot there = family AnyFetches AnyLoading (λ slice. Unit {0}) old (Kept old is slot there) (parts old is slot there) (record new { failures = old.failures }) reply command (nothing_asked command)
-    (any_step honest format old new command reply is step)
+owners_law honest format old new command reply is step slot there =
+    let answers : Answers = told honest format old.files old.failures new.failures in
+    family (FetchesFrom Fills answers) (LoadsFrom Fills answers) (λ slice. Unit {0}) old (λ w. KeepsOwner old.handles w.handles slot)
+    (parts answers (told_answers honest format old.files old.failures new.failures) old is slot there) (record new { failures = old.failures }) reply command (nothing_asked command) step.step

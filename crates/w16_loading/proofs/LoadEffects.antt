@@ -1,7 +1,7 @@
 -- What LoadModule and LoadLibrary are for, proved from their steps over any store.
 use Rattle.w16_loading.proofs.Common.{◌≡◌, ◌≢◌, ℕ, zero, suc, ◌+◌, ◌<◌, ◌≤◌, ◌==◌, ◌&&◌, ◌||◌, not, inl, inr, ◌⊎◌, Bool, true, false, cond, nat_lt, List, [], ◌∷◌, length, flat_map, map, Option, Some, None, IsSomeAnd, is_some, slice_get, slice_index_or, refl, sym, ap, ◌∙◌, subst, arith}
 use Rattle.w16_loading.proofs.Common.{AllZip, false≢true, cases_eq, eq-eqb, Kind, Discardable, Heap, Object, IsHeap, object_at, owned_at, bytes_at, bytes_in, is_fixed, IsKeptOrDiscarded, Member, inserted_here, inserted_other, FIRST_MODULE, MOST_USES, FetchFault, Store, Damaged, NoRoom}
-use Rattle.w16_loading.proofs.Common.{IsModuleFile, IsSegmentData, Segment, SegmentData, Far, LoadingWorld, Module, Named, Loaded, BuiltIn, with_heap, Filling, Failure, Fills, InTurn, is_of_read, GivesAny, Closure, Found, around, Choice, IsChoice, Given, given, segments_of}
+use Rattle.w16_loading.proofs.Common.{IsModuleFile, IsSegmentData, Segment, SegmentData, Far, LoadingWorld, Module, Named, Loaded, BuiltIn, with_heap, Filling, Failure, Fills, InTurn, Answers, GivesFrom, LoadsFrom, told, Closure, Found, around, Choice, IsChoice, Given, given, segments_of}
 use Rattle.w16_loading.proofs.Common.{bound, named, fills, fills_from, fills_of, Answer, Says, Fulfils, after_use, left, outcome_of, refusal_of, undone, used_again, Word, ModuleStep, LoadModule, LoadLibrary, IsLoadingWorld, ModuleCommand}
 use Rattle.std.specs.FinMap as finmap
 use Rattle.w16_model.specs.declared.Kind.TheVariants.{Fixed, Moveable}
@@ -11,10 +11,8 @@ use Rattle.w16_loading.specs.Effects.{IsUsedOnce, LoadLaw}
 use Rattle.w16_loading.specs.Families.{reply_of}
 use Rattle.w16_loading.specs.Load.Answer.{StoreFails}
 use Rattle.w16_loading.proofs.ClosureFacts.{IsClosure}
-use Rattle.w16_loading.proofs.Stepping.{AnyLoading}
-use Rattle.w16_loading.proofs.Answered.{any_step}
-use Rattle.w16_loading.specs.Families.LoadingCommand.{OfModules}
-use Rattle.w16_loading.proofs.Fillings.{IsLost, any_do, filled_object, filled_other, one_heap}
+use Rattle.w16_loading.proofs.Answered.{AreAnswers, closure_loads, told_answers}
+use Rattle.w16_loading.proofs.Fillings.{IsLost, any_do, filled_heap, filled_object, filled_other}
 use Rattle.w16_loading.proofs.Given.{at_place, given_found, given_segment, index_place, put_here, put_named, zip_member}
 use Rattle.w16_loading.proofs.LoadWorlds.{free_handle, handles_differ, named_new, segments_differ, sized, was_free}
 use Rattle.w16_loading.proofs.Named.{named_heap}
@@ -44,19 +42,19 @@ module _ (k : Kind) (firm : k ≢ Discardable) (q : ℕ) where
   HasBytes = Has (λ p. is_some p ≡ true)
 
   -- so it has bytes at the end
-  all_filled : (old new : Heap) (xs : List Filling) (x : Filling) → Member x xs → x.slot ≡ q → IsHeap old → InTurn GivesAny old xs None new → Has (λ p. Unit {0}) old → HasBytes new
-  all_filled old new [] x m e is f h = absurd m
-  all_filled old new (y ∷ xs) x m e is (Some fault, next, g, rest) h = let none : ◌≡◌ {A = Option Failure} None (Some (record { place = y.place; fault = fault })) = rest.0 in cc
-  all_filled old new (y ∷ xs) x (inl same) e is (None, next, g, rest) h = (any_do (λ a b. HasBytes a → HasBytes b) (λ a h. h) (λ a b c s t h. t (s h)) next new xs None (one_heap is_of_read old y.slot g.0 None next is g.2)
-      (λ z n a b bytes here long f. filled_keeps (λ p. is_some p ≡ true) (λ b. refl) a z.slot bytes b here f) rest).0 given_now
+  all_filled : (answers : Answers) (old new : Heap) (xs : List Filling) (x : Filling) → Member x xs → x.slot ≡ q → IsHeap old → InTurn (GivesFrom Fills answers) old xs None new → Has (λ p. Unit {0}) old → HasBytes new
+  all_filled answers old new [] x m e is f h = absurd m
+  all_filled answers old new (y ∷ xs) x m e is (Some fault, next, g, rest) h = let none : ◌≡◌ {A = Option Failure} None (Some (record { place = y.place; fault = fault })) = rest.0 in cc
+  all_filled answers old new (y ∷ xs) x (inl same) e is (None, next, g, rest) h = (any_do answers (λ a b. HasBytes a → HasBytes b) (λ a h. h) (λ a b c s t h. t (s h)) next new xs None (filled_heap old y.slot g.0 next g.3)
+      (λ z n a b here read long again f. filled_keeps (λ p. is_some p ≡ true) (λ b. refl) a z.slot read b here f) rest).0 given_now
     where
       at : y.slot ≡ q
       at = (λ i. (sym same i).slot) ∙ e
 
       given_now : HasBytes next
-      given_now = subst (λ p. IsSomeAnd p (λ (o : Object). (o.kind ≡ k) × (is_some o.bytes ≡ true))) (sym (ap (object_at next) (sym at) ∙ filled_object old y.slot g.0 next g.2))
-          ((subst (λ p. IsSomeAnd p (λ (o : Object). (o.kind ≡ k) × Unit {0})) (ap (object_at old) (sym at) ∙ g.2.there) h).0, refl)
-  all_filled old new (y ∷ xs) x (inr m) e is (None, next, g, rest) h = all_filled next new xs x m e (one_heap is_of_read old y.slot g.0 None next is g.2) rest (filled_keeps (λ p. Unit {0}) (λ b. tt) old y.slot g.0 next is g.2 h)
+      given_now = subst (λ p. IsSomeAnd p (λ (o : Object). (o.kind ≡ k) × (is_some o.bytes ≡ true))) (sym (ap (object_at next) (sym at) ∙ filled_object old y.slot g.0 next g.3))
+          ((subst (λ p. IsSomeAnd p (λ (o : Object). (o.kind ≡ k) × Unit {0})) (ap (object_at old) (sym at) ∙ g.3.there) h).0, refl)
+  all_filled answers old new (y ∷ xs) x (inr m) e is (None, next, g, rest) h = all_filled answers next new xs x m e (filled_heap old y.slot g.0 next g.3) rest (filled_keeps (λ p. Unit {0}) (λ b. tt) old y.slot g.0 next is g.3 h)
 
 -- A segment that is fixed or preload is filled.
 fill_there : (f : SegmentData → List Far) (place : ℕ) (slots : List ℕ) (segments : List Segment) (parts : List SegmentData) → AllZip IsSegmentData segments parts → (i slot : ℕ) (s : Segment) → slice_get slots i ≡ Some slot → slice_get segments i ≡ Some s
@@ -81,7 +79,7 @@ in_all module_of [] g x m n = absurd m
 in_all module_of (h ∷ gs) g x (inl e) n = in_first x (fills_of module_of h) (flat_map (fills_of module_of) gs) (subst (λ y. Member x (fills_of module_of y)) e n)
 in_all module_of (h ∷ gs) g x (inr m) n = in_second x (fills_of module_of h) (flat_map (fills_of module_of) gs) (in_all module_of gs g x m n)
 
-module _ (old : LoadingWorld) (is : IsLoadingWorld old) (answer : ℕ) (new : LoadingWorld) where
+module _ (answers : Answers) (are : AreAnswers answers) (old : LoadingWorld) (is : IsLoadingWorld old) (answer : ℕ) (new : LoadingWorld) where
   abbrev HasOrLost : Heap → ℕ → Segment → Type 0
   HasOrLost heap slot s = (is_some (bytes_at heap slot) ≡ true) ⊎ ((s.kind ≡ Discardable) × ((q : ℕ) → IsSomeAnd (object_at old.handles.heap q) (λ o. (o.kind ≡ Discardable) × (o.locks ≡ 0)) → bytes_at heap q ≡ None))
 
@@ -99,7 +97,7 @@ module _ (old : LoadingWorld) (is : IsLoadingWorld old) (answer : ℕ) (new : Lo
   first = refl
 
   -- A load that has come to its end.
-  module _ (closure : Closure) (facts : IsClosure (around old).named closure) (choice : Choice) (good : IsChoice old closure.found choice) (heap : Heap) (filled : InTurn GivesAny (named old closure choice).handles.heap (fills old closure choice) None heap) where
+  module _ (closure : Closure) (facts : IsClosure answers (around old).named closure) (choice : Choice) (good : IsChoice old closure.found choice) (heap : Heap) (filled : InTurn (GivesFrom Fills answers) (named old closure choice).handles.heap (fills old closure choice) None heap) where
     abbrev gs : List Given
     gs = given closure choice
 
@@ -111,7 +109,7 @@ module _ (old : LoadingWorld) (is : IsLoadingWorld old) (answer : ℕ) (new : Lo
 
     module _ (g : Given) (member : Member g gs) (i slot : ℕ) (s : Segment) (there : slice_get g.found.read.tables.segments i ≡ Some s) (at : slice_get g.slots i ≡ Some slot) (t : (is_fixed s.kind || s.is_preload) ≡ true) where
       file : IsModuleFile g.found.read
-      file = facts.files g.found (given_found 0 closure.found choice.handles choice.slots g member)
+      file = are.holds g.found.file g.found.read (facts.held g.found (given_found 0 closure.found choice.handles choice.slots g member))
 
       x : (x : Filling) × Member x (fills_of module_of g) × (x.slot ≡ slot)
       x = fill_there _ g.place g.slots g.found.read.tables.segments g.found.read.segments file.segments i slot s at there t
@@ -121,11 +119,11 @@ module _ (old : LoadingWorld) (is : IsLoadingWorld old) (answer : ℕ) (new : Lo
 
       given_bytes : s.kind ≢ Discardable → is_some (bytes_at heap slot) ≡ true
       given_bytes firm = has_some (object_at heap slot)
-          (all_filled s.kind firm slot (named old closure choice).handles.heap heap (fills old closure choice) x.0 filling x.2 (named_heap old closure choice is.handles good) filled
+          (all_filled s.kind firm slot answers (named old closure choice).handles.heap heap (fills old closure choice) x.0 filling x.2 (named_heap old closure choice is.handles good) filled
           (subst (λ p. IsSomeAnd p (λ (o : Object). (o.kind ≡ s.kind) × Unit {0})) (sym begun.0) (refl, tt)))
         where
           begun : (object_at (named old closure choice).handles.heap slot ≡ Some (record { kind = s.kind; locks = 0; bytes = None })) × (owned_at (named old closure choice).handles slot ≡ Some (record { size = s.size; code = s.is_code }))
-          begun = named_new old (segments_of gs) (segments_differ old is closure choice good facts heap filled) (slot, s) (given_segment gs g (slot, s) member (zip_member g.slots g.found.read.tables.segments i slot s at there))
+          begun = named_new old (segments_of gs) (segments_differ answers are old is closure choice good facts heap filled) (slot, s) (given_segment gs g (slot, s) member (zip_member g.slots g.found.read.tables.segments i slot s at there))
 
           has_some : (p : Option Object) → IsSomeAnd p (λ o. (o.kind ≡ s.kind) × (is_some o.bytes ≡ true)) → is_some (bytes_in p) ≡ true
           has_some None h = absurd h
@@ -133,11 +131,11 @@ module _ (old : LoadingWorld) (is : IsLoadingWorld old) (answer : ℕ) (new : Lo
 
       -- an object that was there is no new segment's
       not_new : (q : ℕ) → is_some (object_at old.handles.heap q) ≡ true → (z : ℕ × Segment) → Member z (segments_of gs) → q ≢ z.0
-      not_new q some z m e = false≢true (sym (ap is_some (ap (object_at old.handles.heap) e ∙ was_free old is closure choice good facts heap filled z m)) ∙ some)
+      not_new q some z m e = false≢true (sym (ap is_some (ap (object_at old.handles.heap) e ∙ was_free answers are old is closure choice good facts heap filled z m)) ∙ some)
 
       lost : bytes_at heap slot ≡ None → (q : ℕ) → IsSomeAnd (object_at old.handles.heap q) (λ o. (o.kind ≡ Discardable) × (o.locks ≡ 0)) → bytes_at heap q ≡ None
-      lost none q may = all_after slot q (named old closure choice).handles.heap heap (fills old closure choice) x.0 filling x.2
-          (λ z m e. let d = sized old is closure choice good facts heap filled z m in not_new q some (z.slot, d.0) d.1 e) (named_heap old closure choice is.handles good) filled
+      lost none q may = all_after slot q answers (named old closure choice).handles.heap heap (fills old closure choice) x.0 filling x.2
+          (λ z m e. let d = sized answers are old is closure choice good facts heap filled z m in not_new q some (z.slot, d.0) d.1 e) (named_heap old closure choice is.handles good) filled
           (subst (λ p. IsSomeAnd p (λ (o : Object). (o.kind ≡ Discardable) × (o.locks ≡ 0))) (sym ((fold_named old (segments_of gs)).others q (not_new q some))) may) none
         where
           there_is : (p : Option Object) → IsSomeAnd p (λ o. (o.kind ≡ Discardable) × (o.locks ≡ 0)) → is_some p ≡ true
@@ -189,14 +187,14 @@ module _ (old : LoadingWorld) (is : IsLoadingWorld old) (answer : ℕ) (new : Lo
             let g : (g : Given) × Member g gs × (g.place ≡ 0 + 0) × (slice_get choice.handles 0 ≡ Some g.handle) = at_place 0 closure.found choice.handles choice.slots good.many good.slots.many 0 (subst (λ xs. 0 < length xs) (sym e) (omega arith)) in
             let same : answer ≡ g.0.handle = says ∙ index_place choice.handles 0 g.0.handle 0 g.3 in
             let place : g.0.place ≡ 0 + 0 = g.2 in
-            subst (λ (a : ℕ). IsUsedOnce (finmap.get old.modules a) (finmap.get done.modules a)) (sym same) (subst (λ p. IsUsedOnce p (finmap.get done.modules g.0.handle)) (sym (free_handle old is closure choice good facts heap filled g.0 g.1).2)
-            (module_of g.0, put_here module_of 0 closure.found choice.handles choice.slots old.modules (handles_differ old is closure choice good facts heap filled) g.0 g.1, ap (λ b. cond b 1 0) (eq-eqb g.0.place 0 (omega (arith, place)))))
+            subst (λ (a : ℕ). IsUsedOnce (finmap.get old.modules a) (finmap.get done.modules a)) (sym same) (subst (λ p. IsUsedOnce p (finmap.get done.modules g.0.handle)) (sym (free_handle answers are old is closure choice good facts heap filled g.0 g.1).2)
+            (module_of g.0, put_here module_of 0 closure.found choice.handles choice.slots old.modules (handles_differ answers are old is closure choice good facts heap filled) g.0 g.1, ap (λ b. cond b 1 0) (eq-eqb g.0.place 0 (omega (arith, place)))))
 
   module _ (le : FIRST_MODULE ≤ answer) where
     small : {A : Type 0} (n : ℕ) → Says answer ≡ Says n → n < 33 → A
     small n e lt = let same : answer ≡ n = cc in absurd (omega (arith, same, lt, le, first))
 
-    fulfilled : (closure : Closure) → IsClosure (around old).named closure → Fulfils GivesAny old closure (Says answer) new → Does new
+    fulfilled : (closure : Closure) → IsClosure answers (around old).named closure → Fulfils (GivesFrom Fills answers) old closure (Says answer) new → Does new
     fulfilled closure facts f = by f.failure f.filled f.answered f.after
       where
         by_fault : (place : ℕ) (fault : FetchFault) → Says answer ≡ refusal_of place fault → Does new
@@ -208,7 +206,7 @@ module _ (old : LoadingWorld) (is : IsLoadingWorld old) (answer : ℕ) (new : Lo
             turn true e = small 11 e (omega arith)
             turn false e = small 20 e (omega arith)
 
-        by : (failure : Option Failure) → InTurn GivesAny (named old closure f.choice).handles.heap (fills old closure f.choice) failure f.heap → Says answer ≡ outcome_of failure (slice_index_or f.choice.handles 0 0)
+        by : (failure : Option Failure) → InTurn (GivesFrom Fills answers) (named old closure f.choice).handles.heap (fills old closure f.choice) failure f.heap → Says answer ≡ outcome_of failure (slice_index_or f.choice.handles 0 0)
             → new ≡ left failure (with_heap (named old closure f.choice) f.heap) (undone old f.choice f.heap) → Does new
         by (Some failure) filled says after = by_fault failure.place failure.fault says
         by None filled says after =
@@ -241,19 +239,22 @@ module _ (old : LoadingWorld) (is : IsLoadingWorld old) (answer : ℕ) (new : Lo
               ],
             )
 
-    loads : (b : Bool) (file : List ℕ) → AnyLoading b old file (Says answer) new → Does new
-    loads b file (inl f) = let few : answer < FIRST_MODULE = f.0 in absurd (omega (arith, few, le))
-    loads b file (inr (inl f)) = again b f.0 f.1 f.2 f.3
-    loads b file (inr (inr (closure, facts, f))) = fulfilled closure facts f
+    loads : (b : Bool) (file : List ℕ) → LoadsFrom Fills answers b old file (Says answer) new → Does new
+    loads b file f = elim (closure_loads answers are old b file (Says answer) new f) [
+      | inl f ↦ let few : answer < FIRST_MODULE = f.0 in absurd (omega (arith, few, le))
+      | inr (inl f) ↦ again b f.0 f.1 f.2 f.3
+      | inr (inr (closure, facts, f)) ↦ fulfilled closure facts f
+    ]
 
     -- the answer that is printed
-    printed : (b : Bool) (file : List ℕ) (a : Answer) → Word answer ≡ reply_of a → AnyLoading b old file a new → Does new
-    printed b file (Says n) e f = let same : n ≡ answer = cc in loads b file (subst (λ k. AnyLoading b old file (Says k) new) same f)
+    printed : (b : Bool) (file : List ℕ) (a : Answer) → Word answer ≡ reply_of a → LoadsFrom Fills answers b old file a new → Does new
+    printed b file (Says n) e f = let same : n ≡ answer = cc in loads b file (subst (λ k. LoadsFrom Fills answers b old file (Says k) new) same f)
     printed b file StoreFails e f = cc
 
-    steps : (command : ModuleCommand) (file : List ℕ) → (command ≡ LoadModule file) ⊎ (command ≡ LoadLibrary file) → ModuleStep AnyLoading old command (Word answer) new → Does new
-    steps command file (inl e) step = let f : ModuleStep AnyLoading old (LoadModule file) (Word answer) new = subst (λ c. ModuleStep AnyLoading old c (Word answer) new) e step in printed true file f.0 f.1 f.2
-    steps command file (inr e) step = let f : ModuleStep AnyLoading old (LoadLibrary file) (Word answer) new = subst (λ c. ModuleStep AnyLoading old c (Word answer) new) e step in printed false file f.0 f.1 f.2
+    steps : (command : ModuleCommand) (file : List ℕ) → (command ≡ LoadModule file) ⊎ (command ≡ LoadLibrary file) → ModuleStep (LoadsFrom Fills answers) old command (Word answer) new → Does new
+    steps command file (inl e) step = let f : ModuleStep (LoadsFrom Fills answers) old (LoadModule file) (Word answer) new = subst (λ c. ModuleStep (LoadsFrom Fills answers) old c (Word answer) new) e step in printed true file f.0 f.1 f.2
+    steps command file (inr e) step = let f : ModuleStep (LoadsFrom Fills answers) old (LoadLibrary file) (Word answer) new = subst (λ c. ModuleStep (LoadsFrom Fills answers) old c (Word answer) new) e step in printed false file f.0 f.1 f.2
 
 pub load_law : (honest : Type 0) → LoadLaw honest
-load_law honest format old new command file answer is which le step = steps old is answer (record new { failures = old.failures }) le command file which (any_step honest format old new (OfModules command) (Word answer) is step)
+load_law honest format old new command file answer is which le step =
+    steps (told honest format old.files old.failures new.failures) (told_answers honest format old.files old.failures new.failures) old is answer (record new { failures = old.failures }) le command file which step.step

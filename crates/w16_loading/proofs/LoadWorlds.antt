@@ -3,7 +3,7 @@ use Rattle.w16_loading.proofs.Common.{◌≡◌, ◌≢◌, ℕ, zero, suc, ◌+
 use Rattle.w16_loading.proofs.Common.{MatchOption, is_some, refl, sym, ap, ◌∙◌, subst, arith, eq-eqb, AllZip, nat_cmp, false≢true, cases_eq, AllZip-left, Kind, Heap, Object, IsHeap, object_at, AreHandles, owned_in, owned_at, Member, EachPair}
 use Rattle.w16_loading.proofs.Common.{Each-at, Each-from_All, EachPair-from_AllPairs, filter_member, true-is_member, inserted_here, other_handles, is_named, MOST_USES, IsModuleFile, IsSegmentData, Segment, LoadingWorld, Load, Module, Named}
 use Rattle.w16_loading.proofs.Common.{IsFreeModule, IsSegmentOf, name_of, module_at, module_in, importers, usage, usage_with, with_heap, Loaded, Filling, InTurn, Closure, Referent, around, New, attributes_of, Choice, IsChoice, Given, all_slots}
-use Rattle.w16_loading.proofs.Common.{given, segments_of, with_segment, bound, imports_at, handle_meant, named, fills, GivesAny, IsLoadingWorld, IsModule, IsObjectOf, slots_at, slots_for, owned_slots, unused_slot, Owned, SegmentData}
+use Rattle.w16_loading.proofs.Common.{given, segments_of, with_segment, bound, imports_at, handle_meant, named, fills, Answers, GivesFrom, Fills, IsLoadingWorld, IsModule, IsObjectOf, slots_at, slots_for, owned_slots, unused_slot, Owned, SegmentData}
 use Rattle.std.specs.FinMap as finmap
 use Rattle.w16_loading.proofs.Undone.{chosen, fold_named, same_owned}
 use Rattle.w16_loading.proofs.Fillings.{SameRange, any_do, any_kept, any_there, any_range, any_sized}
@@ -17,12 +17,13 @@ use Rattle.w16_loading.proofs.FetchWorlds.{filled_owned}
 use Rattle.w16_loading.proofs.Worlds.{IsNumber, AreNamesApart, HasOwner, same_module, is_used, is_load, owner_stays, extends}
 use Rattle.w16_loading.proofs.ModuleWorlds.{importers_stay, still_used, not_named}
 use Rattle.w16_loading.proofs.ClosureFacts.{IsClosure}
+use Rattle.w16_loading.proofs.Answered.{AreAnswers}
 use Rattle.w16_loading.proofs.Owners.{object_there}
 
 -- What is filled has its size, and all else what it had.
-all_owned : (old new : Heap) (xs : List Filling) → IsHeap old → InTurn GivesAny old xs None new → (q : ℕ) (kind : Kind) (size : ℕ) → ((x : Filling) → Member x xs → q ≡ x.slot → length x.bytes ≡ size) → IsOwned old q kind size → IsOwned new q kind size
-all_owned old new xs is f q kind size long = (any_do (λ a b. IsOwned a q kind size → IsOwned b q kind size) (λ a k. k) (λ a b c x y k. y (x k)) old new xs None is
-    (λ x m a b bytes h same g. filled_owned a x.slot bytes b h g q kind size (λ e. same ∙ long x m e)) f).0
+all_owned : (answers : Answers) (old new : Heap) (xs : List Filling) → IsHeap old → InTurn (GivesFrom Fills answers) old xs None new → (q : ℕ) (kind : Kind) (size : ℕ) → ((x : Filling) → Member x xs → q ≡ x.slot → length x.bytes ≡ size) → IsOwned old q kind size → IsOwned new q kind size
+all_owned answers old new xs is f q kind size long = (any_do answers (λ a b. IsOwned a q kind size → IsOwned b q kind size) (λ a k. k) (λ a b c x y k. y (x k)) old new xs None is
+    (λ x m a b h read same again g. filled_owned a x.slot read b h g q kind size (λ e. same ∙ long x m e)) f).0
 
 -- Names.
 
@@ -48,8 +49,8 @@ one_segment_of (z ∷ xs) apart x y (inr m) (inl f) e = absurd (Each-at (λ (k :
 one_segment_of (z ∷ xs) apart x y (inr m) (inr n) e = one_segment_of xs apart.1 x y m n e
 
 -- The world.
-module _ (old : LoadingWorld) (is : IsLoadingWorld old) (closure : Closure) (choice : Choice) (good : IsChoice old closure.found choice) (facts : IsClosure (around old).named closure)
-    (heap : Heap) (filled : InTurn GivesAny (named old closure choice).handles.heap (fills old closure choice) None heap) where
+module _ (answers : Answers) (are : AreAnswers answers) (old : LoadingWorld) (is : IsLoadingWorld old) (closure : Closure) (choice : Choice) (good : IsChoice old closure.found choice) (facts : IsClosure answers (around old).named closure)
+    (heap : Heap) (filled : InTurn (GivesFrom Fills answers) (named old closure choice).handles.heap (fills old closure choice) None heap) where
   abbrev gs : List Given
   gs = given closure choice
 
@@ -76,7 +77,7 @@ module _ (old : LoadingWorld) (is : IsLoadingWorld old) (closure : Closure) (cho
   small x m =
       let r : (g : Given) × Member g gs × Member x (zip g.slots g.found.read.tables.segments) = segment_given gs x m in
       let p : (i : ℕ) × (slice_get (zip r.0.slots r.0.found.read.tables.segments) i ≡ Some x) = member_place (zip r.0.slots r.0.found.read.tables.segments) x r.2 in
-      let file : IsModuleFile r.0.found.read = facts.files r.0.found (given_found 0 closure.found choice.handles choice.slots r.0 r.1) in
+      let file : IsModuleFile r.0.found.read = are.holds r.0.found.file r.0.found.read (facts.held r.0.found (given_found 0 closure.found choice.handles choice.slots r.0 r.1)) in
       of_data (slice_get r.0.found.read.segments p.0) (subst (λ a. MatchOption a (Unit {0}) (λ y. IsSomeAnd (slice_get r.0.found.read.segments p.0) (IsSegmentData y))) (zip_place r.0.slots r.0.found.read.tables.segments p.0 x p.1).1
       (AllZip-left IsSegmentData r.0.found.read.tables.segments r.0.found.read.segments file.segments p.0))
     where
@@ -105,7 +106,7 @@ module _ (old : LoadingWorld) (is : IsLoadingWorld old) (closure : Closure) (cho
   sized x m =
       let r : (g : Given) × Member g gs × IsFilledBy module_of g x = filled_by module_of gs x m in
       let f : IsFilledBy module_of r.0 x = r.2 in
-      let file : IsModuleFile r.0.found.read = facts.files r.0.found (given_found 0 closure.found choice.handles choice.slots r.0 r.1) in
+      let file : IsModuleFile r.0.found.read = are.holds r.0.found.file r.0.found.read (facts.held r.0.found (given_found 0 closure.found choice.handles choice.slots r.0 r.1)) in
       let both : IsSomeAnd (slice_get r.0.found.read.segments f.place) (IsSegmentData f.segment) = subst (λ p. MatchOption p (Unit {0}) (λ y. IsSomeAnd (slice_get r.0.found.read.segments f.place) (IsSegmentData y))) f.segment_at
       (AllZip-left IsSegmentData r.0.found.read.tables.segments r.0.found.read.segments file.segments f.place) in
       let is_data : IsSegmentData f.segment f.its_data = subst (λ p. IsSomeAnd p (IsSegmentData f.segment)) f.data_at both in
@@ -113,10 +114,10 @@ module _ (old : LoadingWorld) (is : IsLoadingWorld old) (closure : Closure) (cho
 
   filled_handles : AreHandles (record begun.handles { heap = heap })
   filled_handles =
-      let range : SameRange begun.handles.heap heap = any_range begun.handles.heap heap (fills old closure choice) None begun_handles.heap filled in
-      other_handles begun.handles begun_handles heap (any_kept begun.handles.heap heap (fills old closure choice) None begun_handles.heap filled).0 range.lo range.grain
-      (any_there begun.handles.heap heap (fills old closure choice) None begun_handles.heap filled)
-      (λ q. any_sized begun.handles.heap heap (fills old closure choice) None begun_handles.heap filled q (slots_at begun.handles.attributes q) (enough q) (begun_handles.sized q))
+      let range : SameRange begun.handles.heap heap = any_range answers begun.handles.heap heap (fills old closure choice) None begun_handles.heap filled in
+      other_handles begun.handles begun_handles heap (any_kept answers begun.handles.heap heap (fills old closure choice) None begun_handles.heap filled).0 range.lo range.grain
+      (any_there answers begun.handles.heap heap (fills old closure choice) None begun_handles.heap filled)
+      (λ q. any_sized answers begun.handles.heap heap (fills old closure choice) None begun_handles.heap filled q (slots_at begun.handles.attributes q) (enough q) (begun_handles.sized q))
     where
       enough : (q : ℕ) (y : Filling) → Member y (fills old closure choice) → q ≡ y.slot → slots_at begun.handles.attributes q ≡ slots_for (length y.bytes)
       enough q y n e =
@@ -128,7 +129,7 @@ module _ (old : LoadingWorld) (is : IsLoadingWorld old) (closure : Closure) (cho
   -- a new segment's object
   made : (x : ℕ × Segment) → Member x (segments_of gs) → IsObjectOf new x.0 x.1.kind x.1.size x.1.is_code
   made x m = record {
-    object = all_owned begun.handles.heap heap (fills old closure choice) begun_handles.heap filled x.0 x.1.kind x.1.size long
+    object = all_owned answers begun.handles.heap heap (fills old closure choice) begun_handles.heap filled x.0 x.1.kind x.1.size long
         (subst (λ p. IsSomeAnd p (λ (o : Object). (o.kind ≡ x.1.kind) × IfSome o.bytes (λ b. length b ≡ x.1.size))) (sym ((named_new old (segments_of gs) segments_differ x m).0)) (refl, tt));
     owned = (named_new old (segments_of gs) segments_differ x m).1;
   }
@@ -145,7 +146,7 @@ module _ (old : LoadingWorld) (is : IsLoadingWorld old) (closure : Closure) (cho
 
   kept : (q : ℕ) (kind : Kind) (size : ℕ) (code : Bool) → IsObjectOf old q kind size code → IsObjectOf new q kind size code
   kept q kind size code h = record {
-    object = all_owned begun.handles.heap heap (fills old closure choice) begun_handles.heap filled q kind size (λ y n e. absurd (out y n e))
+    object = all_owned answers begun.handles.heap heap (fills old closure choice) begun_handles.heap filled q kind size (λ y n e. absurd (out y n e))
         (subst (λ p. IsSomeAnd p (λ (o : Object). (o.kind ≡ kind) × IfSome o.bytes (λ b. length b ≡ size))) (sym ((fold_named old (segments_of gs)).others q (not_new q kind size code h))) h.object);
     owned = same_owned old (segments_of gs) q (not_new q kind size code h) ∙ h.owned;
   }

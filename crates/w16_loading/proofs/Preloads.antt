@@ -1,7 +1,7 @@
 -- A discardable segment that a load filled loses its bytes to a later one only after all that was there before and may be discarded.
 use Rattle.w16_loading.proofs.Common.{◌≡◌, ◌≢◌, ℕ, zero, suc, inl, inr, ◌⊎◌, ◌==◌, ◌&&◌, ◌||◌, Bool, true, false, cond, not, nat_lt, List, [], ◌∷◌, ◌++◌, fold, filter, take, Option, Some, None, IsSomeAnd, is_some, refl, sym, ap, ◌∙◌, subst, eqb-true, eq-eqb, ne_eqb}
 use Rattle.w16_loading.proofs.Common.{IsTrue, and_parts, false≢true, cases_Bool, cases_eq, Discardable, Heap, Object, IsHeap, object_at, bytes_at, bytes_in, absent, blocks, discarded, eligible, is_in_order, is_member, is_pinned_object, is_fixed, with_newest}
-use Rattle.w16_loading.proofs.Common.{stays_for, with_ordered, Settles, revival_options, KeepsOthers, Member, IsBlockOf, member_filter, filter_member, is_member-true, true-is_member, Filling, Failure, Fills, InTurn, GivesAny, is_of_read, Block}
+use Rattle.w16_loading.proofs.Common.{stays_for, with_ordered, Settles, revival_options, KeepsOthers, Member, IsBlockOf, member_filter, filter_member, is_member-true, true-is_member, Filling, Failure, Fills, InTurn, Answers, GivesFrom, Block}
 use Rattle.std.specs.List.{list_any}
 use Rattle.w16_model.specs.Discards.{is_about, is_pinned_id}
 use Rattle.w16_model.specs.Gap.{is_pinned, holds_still}
@@ -9,7 +9,7 @@ use Rattle.w16_model.specs.declared.Hold.TheVariants.{Pinned, Loose}
 use Rattle.w16_model.specs.Heap.{is_discardable}
 use Rattle.w16_model.proofs.Common.{hold_of_object}
 use Rattle.w16_model.proofs.Heaps.{member_block}
-use Rattle.w16_loading.proofs.Fillings.{IsLost, any_do, filled_object, filled_other, filled_others, one_heap, settled_so}
+use Rattle.w16_loading.proofs.Fillings.{IsLost, any_do, filled_heap, filled_object, filled_other, filled_others, settled_so}
 use Rattle.w16_loading.proofs.Undone.{parted}
 
 any_member : {X : Type 0} (p : X → Bool) (xs : List X) → list_any p xs ≡ true → (x : X) × Member x xs × (p x ≡ true)
@@ -167,12 +167,12 @@ module _ (x q : ℕ) where
             its_slot e = cc
 
   -- All of a load.
-  pub all_after : (old new : Heap) (xs : List Filling) (y : Filling) → Member y xs → y.slot ≡ x → ((z : Filling) → Member z xs → q ≢ z.slot) → IsHeap old → InTurn GivesAny old xs None new → MayLose old → bytes_at new x ≡ None → bytes_at new q ≡ None
-  all_after old new [] y m e out is f may none = absurd m
-  all_after old new (z ∷ zs) y m e out is (Some fault, next, g, rest) may lost = let none : ◌≡◌ {A = Option Failure} None (Some (record { place = z.place; fault = fault })) = rest.0 in cc
-  all_after old new (z ∷ zs) y (inl same) e out is (None, next, g, rest) may none =
-      let first : IsAfter next = filled_now old z.slot g.0 next is g.2 (out z (inl refl)) may ((λ i. (sym same i).slot) ∙ e) in
-      let last : IsAfter new = (any_do (λ a b. IsAfter a → IsAfter b) (λ a h. h) (λ a b c s t h. t (s h)) next new zs None (one_heap is_of_read old z.slot g.0 None next is g.2)
-      (λ w n a b bytes here long f h. filled_then a w.slot bytes b here f (out w (inr n)) h.may h) rest).0 first in
+  pub all_after : (answers : Answers) (old new : Heap) (xs : List Filling) (y : Filling) → Member y xs → y.slot ≡ x → ((z : Filling) → Member z xs → q ≢ z.slot) → IsHeap old → InTurn (GivesFrom Fills answers) old xs None new → MayLose old → bytes_at new x ≡ None → bytes_at new q ≡ None
+  all_after answers old new [] y m e out is f may none = absurd m
+  all_after answers old new (z ∷ zs) y m e out is (Some fault, next, g, rest) may lost = let none : ◌≡◌ {A = Option Failure} None (Some (record { place = z.place; fault = fault })) = rest.0 in cc
+  all_after answers old new (z ∷ zs) y (inl same) e out is (None, next, g, rest) may none =
+      let first : IsAfter next = filled_now old z.slot g.0 next is g.3 (out z (inl refl)) may ((λ i. (sym same i).slot) ∙ e) in
+      let last : IsAfter new = (any_do answers (λ a b. IsAfter a → IsAfter b) (λ a h. h) (λ a b c s t h. t (s h)) next new zs None (filled_heap old z.slot g.0 next g.3)
+      (λ w n a b here read long again f h. filled_then a w.slot read b here f (out w (inr n)) h.may h) rest).0 first in
       last.lost none
-  all_after old new (z ∷ zs) y (inr m) e out is (None, next, g, rest) may none = all_after next new zs y m e (λ w n. out w (inr n)) (one_heap is_of_read old z.slot g.0 None next is g.2) rest (may_then old z.slot g.0 next is g.2 (out z (inl refl)) may) none
+  all_after answers old new (z ∷ zs) y (inr m) e out is (None, next, g, rest) may none = all_after answers next new zs y m e (λ w n. out w (inr n)) (filled_heap old z.slot g.0 next g.3) rest (may_then old z.slot g.0 next is g.3 (out z (inl refl)) may) none

@@ -2,7 +2,7 @@
 use Rattle.w16_loading.proofs.Common.{◌≡◌, ◌≢◌, ℕ, ◌+◌, ◌<◌, ◌≤◌, inl, inr, ◌⊎◌, Bool, true, false, List, [], ◌∷◌, fold, flat_map, slice_index_or, All, Option, Some, None, IfSome, IsSomeAnd, refl, sym, ap, ◌∙◌, subst, arith, false≢true, cases_Bool}
 use Rattle.w16_loading.proofs.Common.{is_member, Heap, Object, IsHeap, object_at, IsKeptOrDiscarded, Member, Each-from, Each-from_All, is_member-true, true-is_member, FIRST_MODULE, MOST_MODULES, MOST_USES, FetchFault, LoadingWorld, Module, Named}
 use Rattle.w16_loading.proofs.Common.{IsFreeModule, with_heap, Loaded, Fills, Filling, Failure, InTurn, heap_without, Closure, Found, Choice, IsChoice, all_slots, given, given_from, segments_of, with_segment, with_modules}
-use Rattle.w16_loading.proofs.Common.{bound, named, fills_of, fills, Answer, Fulfils, after_use, undone, left, outcome_of, refusal_of, Says, GivesAny, IsLoadingWorld, OnlyDiscards, IsRefusal, RefusedLoadLaw, EarlyRefusalLaw}
+use Rattle.w16_loading.proofs.Common.{bound, named, fills_of, fills, Answer, Fulfils, after_use, undone, left, outcome_of, refusal_of, Says, Answers, GivesFrom, told, IsLoadingWorld, OnlyDiscards, IsRefusal, RefusedLoadLaw, EarlyRefusalLaw}
 use Rattle.w16_loading.proofs.Common.{unused_slot}
 use Rattle.std.specs.List.{AllByRecursion as Each}
 use Rattle.std.specs.FinMap as finmap
@@ -12,14 +12,12 @@ use Rattle.w16_loading.proofs.Undone.{chosen, IsNamed, fold_named}
 use Rattle.w16_loading.proofs.Fillings.{IsLost, SameRange, ranges, any_range, any_kept}
 use Rattle.w16_loading.proofs.Named.{named_heap, free_slot}
 use Rattle.w16_loading.proofs.Given.{filled_chosen}
-use Rattle.w16_loading.specs.Answers.{Answers, GivesFrom, told}
-use Rattle.w16_loading.proofs.Answered.{any_load, some_loads, told_answers}
-use Rattle.w16_loading.proofs.Stepping.{loaded, any_loaded}
+use Rattle.w16_loading.proofs.Answered.{loaded_by, told_answers}
 use Rattle.w16_loading.proofs.Released.{released_heap, left_object, gone_object}
 
 -- The load that is undone.
-module _ (old : LoadingWorld) (is : IsLoadingWorld old) (closure : Closure) (choice : Choice) (good : IsChoice old closure.found choice) (failure : Option Failure) (heap : Heap)
-    (filled : InTurn GivesAny (named old closure choice).handles.heap (fills old closure choice) failure heap) where
+module _ (answers : Answers) (old : LoadingWorld) (is : IsLoadingWorld old) (closure : Closure) (choice : Choice) (good : IsChoice old closure.found choice) (failure : Option Failure) (heap : Heap)
+    (filled : InTurn (GivesFrom Fills answers) (named old closure choice).handles.heap (fills old closure choice) failure heap) where
   abbrev gone : ℕ → Bool
   gone q = is_member q (all_slots choice)
 
@@ -33,7 +31,7 @@ module _ (old : LoadingWorld) (is : IsLoadingWorld old) (closure : Closure) (cho
   begun_is = (named_heap old closure choice is.handles good)
 
   kept : IsHeap heap × ((q : ℕ) → Each (λ x. q ≢ x.slot) (fills old closure choice) → IsKeptOrDiscarded begun heap q)
-  kept = any_kept begun heap (fills old closure choice) failure begun_is filled
+  kept = any_kept answers begun heap (fills old closure choice) failure begun_is filled
 
   -- other objects were there before, and are as the fills left them
   other_kept : (q : ℕ) → gone q ≡ false → IsKeptOrDiscarded old.handles.heap (heap_without gone heap) q
@@ -62,7 +60,7 @@ module _ (old : LoadingWorld) (is : IsLoadingWorld old) (closure : Closure) (cho
 
   range : SameRange old.handles.heap heap
   range = ranges old.handles.heap begun heap (record { lo = ap (λ (w : LoadingWorld). w.handles.heap.lo) named_is.rest; hi = ap (λ (w : LoadingWorld). w.handles.heap.hi) named_is.rest; grain = ap (λ (w : LoadingWorld). w.handles.heap.grain) named_is.rest })
-      (any_range begun heap (fills old closure choice) failure begun_is filled)
+      (any_range answers begun heap (fills old closure choice) failure begun_is filled)
 
   pub undone_discards : OnlyDiscards old.handles.heap (heap_without gone heap)
   undone_discards = record {
@@ -87,12 +85,12 @@ nothing_given : (place : ℕ) (fs : List Found) (ss : List (List ℕ)) → given
 nothing_given place [] ss = refl
 nothing_given place (f ∷ fs) ss = refl
 
-fulfilled : (old : LoadingWorld) → IsLoadingWorld old → (closure : Closure) (answer : Answer) (new : LoadingWorld) → Fulfils GivesAny old closure answer new → IsRefusal answer → Leaves old new
-fulfilled old is closure answer new f refusal = turn f.failure f.filled f.answered f.after
+fulfilled : (answers : Answers) (old : LoadingWorld) → IsLoadingWorld old → (closure : Closure) (answer : Answer) (new : LoadingWorld) → Fulfils (GivesFrom Fills answers) old closure answer new → IsRefusal answer → Leaves old new
+fulfilled answers old is closure answer new f refusal = turn f.failure f.filled f.answered f.after
   where
-    turn : (failure : Option Failure) → InTurn GivesAny (named old closure f.choice).handles.heap (fills old closure f.choice) failure f.heap → answer ≡ outcome_of failure (slice_index_or f.choice.handles 0 0)
+    turn : (failure : Option Failure) → InTurn (GivesFrom Fills answers) (named old closure f.choice).handles.heap (fills old closure f.choice) failure f.heap → answer ≡ outcome_of failure (slice_index_or f.choice.handles 0 0)
         → new ≡ left failure (with_heap (named old closure f.choice) f.heap) (undone old f.choice f.heap) → Leaves old new
-    turn (Some failure) filled answered after = subst (Leaves old) (sym after) (undone_discards old is closure f.choice f.is_choice (Some failure) f.heap filled, refl)
+    turn (Some failure) filled answered after = subst (Leaves old) (sym after) (undone_discards answers old is closure f.choice f.is_choice (Some failure) f.heap filled, refl)
     turn None filled answered after = elim (first_handle old f.choice.handles f.is_choice.free) [
       | inl e ↦ same_leaves old new is (after ∙ empty e)
       | inr le ↦ let few : slice_index_or f.choice.handles 0 0 < FIRST_MODULE = subst IsRefusal answered refusal in absurd (omega (arith, le, few))
@@ -103,7 +101,7 @@ fulfilled old is closure answer new f refusal = turn f.failure f.filled f.answer
         none_given e = ap (λ hs. given_from 0 closure.found hs f.choice.slots) e ∙ nothing_given 0 closure.found f.choice.slots
 
         same_heap : f.choice.handles ≡ [] → f.heap ≡ old.handles.heap
-        same_heap e = (subst (λ xs. InTurn GivesAny (named old closure f.choice).handles.heap xs None f.heap) (ap (λ gs. flat_map (fills_of (bound old closure f.choice)) gs) (none_given e)) filled).1
+        same_heap e = (subst (λ xs. InTurn (GivesFrom Fills answers) (named old closure f.choice).handles.heap xs None f.heap) (ap (λ gs. flat_map (fills_of (bound old closure f.choice)) gs) (none_given e)) filled).1
             ∙ ap (λ gs. (fold with_segment old (segments_of gs)).handles.heap) (none_given e)
 
         empty : f.choice.handles ≡ [] → with_heap (named old closure f.choice) f.heap ≡ old
@@ -127,8 +125,9 @@ module _ (old : LoadingWorld) (is : IsLoadingWorld old) where
   used handle m e few refusal = absurd (not_refused old is handle (Loaded m) e refusal)
 
 pub refused_load_law : (honest : Type 0) → RefusedLoadLaw honest
-refused_load_law honest format before after b old new file answer is f = any_loaded (Refused old is) old (same old is) b new file answer (used old is) (λ closure any h. fulfilled old is closure answer new h)
-    (any_load (told honest format old.files before after) (told_answers honest format old.files before after) old is b file answer new f)
+refused_load_law honest format before after b old new file answer is =
+    let answers : Answers = told honest format old.files before after in
+    loaded_by answers (told_answers honest format old.files before after) old (Refused old is) (same old is) b file answer new (used old is) (λ closure facts. fulfilled answers old is closure answer new)
 
 -- Early refusals.
 
@@ -172,13 +171,11 @@ module _ (old : LoadingWorld) where
           by faults.Damaged e out = absurd (false≢true (sym out))
 
 pub early_refusal_law : (honest : Type 0) → EarlyRefusalLaw honest
-early_refusal_law honest format before after b old new file number truly is f some few = loaded (Early old) old (λ answer n e x y. refl) (GivesFrom Fills answers) (λ closure. Unit {0}) b new file (Says number)
+early_refusal_law honest format before after b old new file number truly is f some few =
+    let answers : Answers = told honest format old.files before after in
+    loaded_by answers (told_answers honest format old.files before after) old (Early old) (λ answer n e x y. refl) b file (Says number) new
     (λ handle m e less n same x y. absurd (not_refused old is handle (Loaded m) e (small handle n same y)))
-    (λ closure any h. fulfilled_late old answers (λ fails. let e : Damaged ≡ Store = fails.2 truly in cc) closure (Says number) new h)
-    (some_loads answers (told_answers honest format old.files before after) old Fills b file (Says number) new f) number refl some few
+    (λ closure facts. fulfilled_late old answers (λ fails. let e : Damaged ≡ Store = fails.2 truly in cc) closure (Says number) new) f number refl some few
   where
-    answers : Answers
-    answers = told honest format old.files before after
-
     small : (handle n : ℕ) → Says handle ≡ Says n → n < FIRST_MODULE → handle < FIRST_MODULE
     small handle n e lt = let same : handle ≡ n = cc in omega (arith, same, lt)

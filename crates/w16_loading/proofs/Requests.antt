@@ -1,17 +1,17 @@
 -- Steps over an honest store are steps over any, and the requests of each discard as few objects as they can.
 use Rattle.w16_loading.proofs.Common.{◌≡◌, ℕ, zero, suc, inl, inr, Bool, List, [], Option, Some, None, MatchResult, Result, Ok, Err, Heap, IsHeap, FetchFault, Store, Damaged, NoRoom, Format, ModuleFile, Tables, LoadingWorld}
 use Rattle.w16_loading.proofs.Common.{Fills, Closure, Reading, Around, Found, around, begun, dll, meant, with_bound, Refused, Meant, Read, There, New, Answer, LoadsNew, Fulfils, Refuses, refusal_of, LoadingCommand, Reply}
-use Rattle.w16_loading.proofs.Common.{with_resource, IsLoadingWorld, AnyStepLaw, RequestsFewestLaw, ◌⊎◌, GivesAny, true, false, FillsLaw}
+use Rattle.w16_loading.proofs.Common.{with_resource, IsLoadingWorld, AnyStepLaw, RequestsFewestLaw, ◌⊎◌, true, false, FillsLaw}
 use Rattle.w16_loading.specs.Answers.{Answers, ClosesFrom, Ending, FetchesFrom, FillsFewest, GivesFrom, GivesRead, LoadsFileFrom, LoadsFrom, ReadsFile, StepOver, follow, told}
 use Rattle.w16_loading.specs.Fewest.{RequestsFewest}
-use Rattle.w16_loading.proofs.Fillings.{any_kept, in_turn_as}
+use Rattle.w16_loading.proofs.Fillings.{any_kept, one_heap}
 use Rattle.w16_loading.proofs.Cases.{IsLoadable, option_as}
 use Rattle.w16_loading.proofs.Common.{named, Choice, IsChoice, IsFreeSlot, Resource, load_of}
 use Rattle.w16_loading.specs.Answers.{StepFrom}
 use Rattle.w16_loading.proofs.Fewest.{fill_fewest}
 use Rattle.w16_loading.proofs.Named.{named_heap}
 use Rattle.w16_loading.proofs.ResourceWorlds.{made_world}
-use Rattle.w16_loading.proofs.Answered.{fulfils_as, given_any, turned}
+use Rattle.w16_loading.proofs.Answered.{fulfils_as, turned}
 
 result_as : (E : ℕ → Type 0) {X Y : Closure → Type 0} (r : Result Closure ℕ) → ((c : Closure) → X c → Y c) → MatchResult r X E → MatchResult r Y E
 result_as E (Ok c) go f = go c f
@@ -113,7 +113,7 @@ requests_fewest_law honest format old new command reply is =
     let a : Answers = told honest format old.files old.failures new.failures in
     step_as Fills FillsFewest IsHeap (λ old slot bytes answered new is f. (f, fill_fewest old slot bytes answered new is f)) a a
     (record { says = λ name said s. s; sound = λ name t sound s. s; holds = λ name read h. h; again = λ held read h. h; gives = λ world slot bytes h. h; fails = λ fault h. h })
-    (λ old slot held fault new is f. (given_any a old slot held fault new is f).1) old new command reply is.handles.heap
+    (one_heap a) old new command reply is.handles.heap
     (λ slot handle place r free at none. (made_world old is slot free handle place r at.0 at.1 none).handles.heap) (λ closure choice good. named_heap old closure choice is.handles good)
 
 pub any_requests_fewest : (honest : Type 0) (format : Format) (old new : LoadingWorld) (command : LoadingCommand) (reply : Reply) → IsLoadingWorld old → StepOver honest format old command reply new → RequestsFewest old command reply new
@@ -121,5 +121,4 @@ any_requests_fewest honest format old new command reply is step other = requests
 
 -- A load's requests keep what isn't its own.
 pub fills_law : (honest : Type 0) → FillsLaw honest
-fills_law honest format files before after old new xs failure is f =
-    any_kept old new xs failure is (in_turn_as (GivesFrom Fills (told honest format files before after)) GivesAny (given_any (told honest format files before after)) old new xs failure is f)
+fills_law honest format files before after = any_kept (told honest format files before after)

@@ -1,13 +1,10 @@
 -- What LoadResource and LockResource are for, proved from their steps over any store.
 use Rattle.w16_loading.proofs.Common.{◌≡◌, ◌≢◌, ℕ, ◌+◌, ◌-◌, ◌<◌, ◌≤◌, ◌==◌, ◌&&◌, inl, inr, ◌⊎◌, Bool, true, false, cond, not, nat_lt, List, length, Option, Some, None, IfSome, IsSomeAnd, MatchOption, is_some, option_map, slice_get, refl, sym, ap, ◌∙◌, subst, arith, eqb-true}
 use Rattle.w16_loading.proofs.Common.{false≢true, and_parts, IsTrue, Heap, Object, Handles, object_at, bytes_at, bytes_in, is_fixed, handle_of, slot_of_handle, selector_of, rounded_size, global_lock, owned_in, inserted_here, inserted_other}
-use Rattle.w16_loading.proofs.Common.{with_ordered, FetchFault, NoRoom, Store, Damaged, numbered, Resource, Load, LoadingWorld, Module, module_at, with_heap, Reply, Word, Dword, Failed, MOST_USES, IsLoad, IsLoadingWorld, IsObjectOf, AnyFetches, is_of_read}
+use Rattle.w16_loading.proofs.Common.{with_ordered, FetchFault, NoRoom, Store, Damaged, numbered, Resource, Load, LoadingWorld, Module, module_at, with_heap, Reply, Word, Dword, Failed, MOST_USES, IsLoad, IsLoadingWorld, IsObjectOf, Answers, FetchesFrom, Fills, told}
 use Rattle.w16_loading.proofs.Common.{AnswersNone, LoadsNewResource, LoadsResource, LocksResource, attributes_for, is_too_long, load_of, loaded_again, lock_outcome, locked, resource_at, resource_outcome, slot_of_resource, with_resource}
 use Rattle.std.proofs.Common.{Result, Ok, Err}
 use Rattle.w16_loading.proofs.Cases.{resource_cases}
-use Rattle.w16_loading.proofs.Answered.{any_step}
-use Rattle.w16_loading.specs.Families.LoadingCommand.{OfResources}
-use Rattle.w16_loading.specs.Families.ResourceCommand.{LoadResource, LockResource}
 use Rattle.std.specs.FinMap as finmap
 use Rattle.w16_model.specs.Changes.{touched}
 use Rattle.w16_model.specs.Calls as calls
@@ -19,8 +16,8 @@ use Rattle.w16_model.proofs.Fewest.{some_handle}
 use Rattle.w16_model.proofs.Naming.{names_law}
 use Rattle.w16_loading.specs.Effects.{IsLoadedAgain, IsLoadedFirst, IsLockedOnce, LoadResourceLaw, LockResourceLaw}
 use Rattle.w16_loading.specs.Resource.{reply_of_call}
-use Rattle.w16_loading.proofs.Effects.{found_passes}
-use Rattle.w16_loading.proofs.Fillings.{filled_object, one_outcome}
+use Rattle.w16_loading.proofs.Importers.{found_passes}
+use Rattle.w16_loading.proofs.Fillings.{fetch_outcome, filled_object}
 use Rattle.w16_loading.proofs.ResourceWorlds.{none_of_place}
 use Rattle.w16_loading.proofs.SparedByUses.{named_slot}
 use Rattle.w16_loading.proofs.Stepping.{found_load, resource_load, with_count}
@@ -31,7 +28,7 @@ finds handles slot o there = (names_law handles (handle_of o.kind slot) slot).0.
 
 -- Loads.
 
-module _ (old : LoadingWorld) (is : IsLoadingWorld old) (handle place answer : ℕ) (new : LoadingWorld) where
+module _ (answers : Answers) (old : LoadingWorld) (is : IsLoadingWorld old) (handle place answer : ℕ) (new : LoadingWorld) where
   abbrev Does : Type 0
   Does = (new.modules ≡ old.modules) × (answer ≡ 0 → (new.loads ≡ old.loads) × (new.handles ≡ old.handles))
       × (answer ≢ 0 → (slot : ℕ) × (slot_of_handle new.handles answer ≡ Some slot) × ((q : ℕ) → q ≢ slot → finmap.get new.loads q ≡ finmap.get old.loads q)
@@ -115,7 +112,7 @@ module _ (old : LoadingWorld) (is : IsLoadingWorld old) (handle place answer : �
       by None e f = cc
       by (Some m) e f = by_place m e (place == 0) refl f
 
-  first : (r : Resource) → resource_at old handle place ≡ Some r → is_too_long r ≡ false → load_of old handle place ≡ None → LoadsNewResource AnyFetches old handle place r (Word answer) new → Does
+  first : (r : Resource) → resource_at old handle place ≡ Some r → is_too_long r ≡ false → load_of old handle place ≡ None → LoadsNewResource (FetchesFrom Fills answers) old handle place r (Word answer) new → Does
   first r at short unloaded l = by l.fault l.fetched l.outcome
     where
       slot : ℕ
@@ -127,7 +124,7 @@ module _ (old : LoadingWorld) (is : IsLoadingWorld old) (handle place answer : �
       entered : Object
       entered = record { kind = r.kind; locks = 0; bytes = None }
 
-      by : (fault : Option FetchFault) → AnyFetches (with_resource old l.slot handle place r) l.slot fault l.next → ◌≡◌ {A = Reply × LoadingWorld} (Word answer, new) (resource_outcome fault (handle_of r.kind l.slot) l.next old) → Does
+      by : (fault : Option FetchFault) → FetchesFrom Fills answers (with_resource old l.slot handle place r) l.slot fault l.next → ◌≡◌ {A = Reply × LoadingWorld} (Word answer, new) (resource_outcome fault (handle_of r.kind l.slot) l.next old) → Does
       by (Some NoRoom) f e = none (reply_is _ e)
       by (Some Store) f e = let g : Word answer ≡ Failed Store = (reply_is _ e).0 in cc
       by (Some Damaged) f e = let g : Word answer ≡ Failed Damaged = (reply_is _ e).0 in cc
@@ -136,16 +133,16 @@ module _ (old : LoadingWorld) (is : IsLoadingWorld old) (handle place answer : �
           let says : answer ≡ handle_of r.kind l.slot = (let f : Word answer ≡ Word (handle_of r.kind l.slot) = both.0 in cc) in
           let rest : new ≡ with_heap (with_resource old l.slot handle place r) l.next.handles.heap = both.1 ∙ f.rest in
           let loads : new.loads ≡ finmap.insert old.loads l.slot (record { handle = handle; place = place; loads = 1 }) = ap (λ (w : LoadingWorld). w.loads) rest in
-          let before : f.filled.before ≡ entered = (let g : Some f.filled.before ≡ Some entered = sym f.filled.there ∙ inserted_here old.handles.heap.objects l.slot entered l.slot refl in cc) in
-          let object : object_at new.handles.heap l.slot ≡ Some (record entered { bytes = Some f.bytes }) = ap (λ (w : LoadingWorld). object_at w.handles.heap l.slot) rest
-          ∙ filled_object _ l.slot f.bytes l.next.handles.heap f.filled ∙ ap (λ (o : Object). Some (record o { bytes = Some f.bytes })) before in
-          let long : length f.bytes ≡ rounded_size r.length_in = subst (λ p. IsSomeAnd p (λ owned. length f.bytes ≡ owned.size)) (ap owned_in (inserted_here old.handles.attributes l.slot (attributes_for r) l.slot refl)) f.image in
+          let before : f.given.3.before ≡ entered = (let g : Some f.given.3.before ≡ Some entered = sym f.given.3.there ∙ inserted_here old.handles.heap.objects l.slot entered l.slot refl in cc) in
+          let object : object_at new.handles.heap l.slot ≡ Some (record entered { bytes = Some f.given.0 }) = ap (λ (w : LoadingWorld). object_at w.handles.heap l.slot) rest
+          ∙ filled_object _ l.slot f.given.0 l.next.handles.heap f.given.3 ∙ ap (λ (o : Object). Some (record o { bytes = Some f.given.0 })) before in
+          let long : length f.given.0 ≡ rounded_size r.length_in = subst (λ p. IsSomeAnd p (λ owned. length f.given.0 ≡ owned.size)) (ap owned_in (inserted_here old.handles.attributes l.slot (attributes_for r) l.slot refl)) f.given.1 in
           let m = its_module r at in (
             ap (λ (w : LoadingWorld). w.modules) rest,
             λ zero. absurd (some_handle r.kind l.slot (sym says ∙ zero)),
             λ some. (
               l.slot,
-              ap (slot_of_handle new.handles) says ∙ finds new.handles l.slot (record entered { bytes = Some f.bytes }) object,
+              ap (slot_of_handle new.handles) says ∙ finds new.handles l.slot (record entered { bytes = Some f.given.0 }) object,
               λ q d. ap (λ l. finmap.get l q) loads ∙ inserted_other old.loads l.slot (record { handle = handle; place = place; loads = 1 }) q d,
               inr (
                 none_of_place old is l.slot l.free handle place r at short unloaded,
@@ -161,15 +158,15 @@ module _ (old : LoadingWorld) (is : IsLoadingWorld old) (handle place answer : �
             ),
           )
 
-  loads : LoadsResource AnyFetches old handle place (Word answer) new → Does
-  loads step = elim (resource_cases AnyFetches old (Word answer) new handle place step) [
+  loads : LoadsResource (FetchesFrom Fills answers) old handle place (Word answer) new → Does
+  loads step = elim (resource_cases (FetchesFrom Fills answers) old (Word answer) new handle place step) [
     | inl f ↦ none f
     | inr (r, at, inl (x, e, f)) ↦ again r x at.0 e f
     | inr (r, at, inr (e, f)) ↦ first r at.0 at.1 e f
   ]
 
 pub load_resource_law : (honest : Type 0) → LoadResourceLaw honest
-load_resource_law honest format old new handle place answer is step = loads old is handle place answer (record new { failures = old.failures }) (any_step honest format old new (OfResources (LoadResource handle place)) (Word answer) is step)
+load_resource_law honest format old new handle place answer is step = loads (told honest format old.files old.failures new.failures) old is handle place answer (record new { failures = old.failures }) step.step
 
 -- Locks.
 
@@ -211,7 +208,7 @@ module _ (h : Handles) (slot : ℕ) (o : Object) (there : object_at h.heap slot 
 some_pointer : (slot : ℕ) → far_pointer (selector_of slot) 0 ≡ 0 → ⊥
 some_pointer slot e = omega (arith, e)
 
-module _ (old : LoadingWorld) (is : IsLoadingWorld old) (handle answer : ℕ) (new : LoadingWorld) where
+module _ (answers : Answers) (old : LoadingWorld) (is : IsLoadingWorld old) (handle answer : ℕ) (new : LoadingWorld) where
   -- a world is left as it was for want of a count; or the object has a lock more, unless it is fixed
   abbrev IsFull : LoadingWorld → Object → Type 0
   IsFull world o = (answer ≡ 0) × (new ≡ world) × (o.locks ≡ 255) × (is_fixed o.kind ≡ false)
@@ -256,7 +253,7 @@ module _ (old : LoadingWorld) (is : IsLoadingWorld old) (handle answer : ℕ) (n
       × (answer ≢ 0 → (slot : ℕ) × (load : Load) × (slot_of_handle old.handles handle ≡ Some slot) × (finmap.get old.loads slot ≡ Some load) × (answer ≡ far_pointer (selector_of slot) 0) × IsLockedOnce old slot new)
 
   abbrev Fetched : ℕ → Option (List ℕ) → Type 0
-  Fetched slot p = MatchOption p ((fault : Option FetchFault) × (next : LoadingWorld) × AnyFetches old slot fault next × ((Dword answer, new) ≡ lock_outcome fault handle next)) (λ _. (Dword answer, new) ≡ locked old handle)
+  Fetched slot p = MatchOption p ((fault : Option FetchFault) × (next : LoadingWorld) × FetchesFrom Fills answers old slot fault next × ((Dword answer, new) ≡ lock_outcome fault handle next)) (λ _. (Dword answer, new) ≡ locked old handle)
 
   unlocked : answer ≡ 0 → new ≡ old → Locks
   unlocked zero same = (ap (λ (w : LoadingWorld). w.modules) same, ap (λ (w : LoadingWorld). w.loads) same, λ z. ap (λ (w : LoadingWorld). w.handles) same, λ d. absurd (d zero))
@@ -282,22 +279,22 @@ module _ (old : LoadingWorld) (is : IsLoadingWorld old) (handle answer : ℕ) (n
     counts : (o.locks ≤ 255) × (IsTrue (is_fixed o.kind) → o.locks ≡ 0) × (o.bytes ≡ None → o.locks ≡ 0)
     counts = subst (λ p. IfSome p (λ o. (o.locks ≤ 255) × (IsTrue (is_fixed o.kind) → o.locks ≡ 0) × (o.bytes ≡ None → o.locks ≡ 0))) there (is.handles.heap.counted slot)
 
-    fetched : (fault : Option FetchFault) (next : LoadingWorld) → o.bytes ≡ None → AnyFetches old slot fault next → ◌≡◌ {A = Reply × LoadingWorld} (Dword answer, new) (lock_outcome fault handle next) → Locks
+    fetched : (fault : Option FetchFault) (next : LoadingWorld) → o.bytes ≡ None → FetchesFrom Fills answers old slot fault next → ◌≡◌ {A = Reply × LoadingWorld} (Dword answer, new) (lock_outcome fault handle next) → Locks
     fetched (Some NoRoom) next none f e =
         let zero : answer ≡ 0 = (let g : Dword answer ≡ Dword 0 = ap (λ (x : Reply × LoadingWorld). x.0) e in cc) in
-        unlocked zero (ap (λ (x : Reply × LoadingWorld). x.1) e ∙ f.rest ∙ ap (with_heap old) ((one_outcome old.handles.heap slot f.bytes next.handles.heap is_of_read (Some NoRoom) f.filled).0 refl))
+        unlocked zero (ap (λ (x : Reply × LoadingWorld). x.1) e ∙ (fetch_outcome f).0 refl)
     fetched (Some Store) next none f e = let g : Dword answer ≡ Failed Store = ap (λ (x : Reply × LoadingWorld). x.0) e in cc
     fetched (Some Damaged) next none f e = let g : Dword answer ≡ Failed Damaged = ap (λ (x : Reply × LoadingWorld). x.0) e in cc
-    fetched None next none f e = elim (lock_at next slot (record o { bytes = Some f.bytes }) object refl counts.0 (finds_next f.rest) e) [
+    fetched None next none f e = elim (lock_at next slot (record o { bytes = Some f.given.0 }) object refl counts.0 (finds_next f.rest) e) [
       | inl full ↦ absurd (omega (arith, full.2, counts.2 none))
-      | inr l ↦ locked_once f.bytes (subst (λ p. IfSome p (λ b. f.bytes ≡ b)) (sym none) tt) next (ap (λ (w : LoadingWorld). w.modules) f.rest) (ap (λ (w : LoadingWorld). w.loads) f.rest) l
+      | inr l ↦ locked_once f.given.0 (subst (λ p. IfSome p (λ b. f.given.0 ≡ b)) (sym none) tt) next (ap (λ (w : LoadingWorld). w.modules) f.rest) (ap (λ (w : LoadingWorld). w.loads) f.rest) l
     ]
       where
-        before : f.filled.before ≡ o
-        before = let g : Some f.filled.before ≡ Some o = sym f.filled.there ∙ there in cc
+        before : f.given.3.before ≡ o
+        before = let g : Some f.given.3.before ≡ Some o = sym f.given.3.there ∙ there in cc
 
-        object : object_at next.handles.heap slot ≡ Some (record o { bytes = Some f.bytes })
-        object = filled_object old.handles.heap slot f.bytes next.handles.heap f.filled ∙ ap (λ (x : Object). Some (record x { bytes = Some f.bytes })) before
+        object : object_at next.handles.heap slot ≡ Some (record o { bytes = Some f.given.0 })
+        object = filled_object old.handles.heap slot f.given.0 next.handles.heap f.given.3 ∙ ap (λ (x : Object). Some (record x { bytes = Some f.given.0 })) before
 
         names_it : IsSomeAnd (object_at old.handles.heap slot) (λ x. handle ≡ handle_of x.kind slot)
         names_it = (names_law old.handles handle slot).0.0 found
@@ -313,7 +310,7 @@ module _ (old : LoadingWorld) (is : IsLoadingWorld old) (handle answer : ℕ) (n
       | inr l ↦ locked_once bytes (subst (λ p. IfSome p (λ b. bytes ≡ b)) (sym e) refl) old refl refl (subst (λ (x : Object). IsLocked old slot x) (λ i. record o { bytes = e i }) l)
     ]
 
-  locks : LocksResource AnyFetches old handle (Dword answer) new → Locks
+  locks : LocksResource (FetchesFrom Fills answers) old handle (Dword answer) new → Locks
   locks step = by_slot (slot_of_resource old handle) refl step
     where
       by_object : (x : ℕ × Load) → slot_of_resource old handle ≡ Some x → (p : Option Object) → object_at old.handles.heap x.0 ≡ p → IsSomeAnd p (λ o. handle ≡ handle_of o.kind x.0)
@@ -326,9 +323,9 @@ module _ (old : LoadingWorld) (is : IsLoadingWorld old) (handle answer : ℕ) (n
       by_slot (Some x) e f = by_object x e (object_at old.handles.heap x.0) refl ((names_law old.handles handle x.0).0.0 (named_slot old handle x e)) f
 
   -- what has bytes is answered, unless its count is full
-  answers : (slot : ℕ) (load : Load) (o : Object) → slot_of_handle old.handles handle ≡ Some slot → finmap.get old.loads slot ≡ Some load → object_at old.handles.heap slot ≡ Some o → is_some o.bytes ≡ true → (is_fixed o.kind ≡ true) ⊎ (o.locks < 255)
-      → LocksResource AnyFetches old handle (Dword answer) new → answer ≢ 0
-  answers slot load o found loaded there bytes few step = by o.bytes bytes (subst (Fetched slot) (ap bytes_in there)
+  answered : (slot : ℕ) (load : Load) (o : Object) → slot_of_handle old.handles handle ≡ Some slot → finmap.get old.loads slot ≡ Some load → object_at old.handles.heap slot ≡ Some o → is_some o.bytes ≡ true → (is_fixed o.kind ≡ true) ⊎ (o.locks < 255)
+      → LocksResource (FetchesFrom Fills answers) old handle (Dword answer) new → answer ≢ 0
+  answered slot load o found loaded there bytes few step = by o.bytes bytes (subst (Fetched slot) (ap bytes_in there)
       (subst (λ p. MatchOption p ((◌≡◌ {A = Reply} (Dword answer) (Dword 0)) × (new ≡ old)) (λ x. Fetched x.0 (bytes_at old.handles.heap x.0))) is_it step))
     where
       is_it : slot_of_resource old handle ≡ Some (slot, load)
@@ -343,6 +340,6 @@ module _ (old : LoadingWorld) (is : IsLoadingWorld old) (handle answer : ℕ) (n
 
 pub lock_resource_law : (honest : Type 0) → LockResourceLaw honest
 lock_resource_law honest format old new handle answer is step =
-    let weak : LocksResource AnyFetches old handle (Dword answer) (record new { failures = old.failures }) = any_step honest format old new (OfResources (LockResource handle)) (Dword answer) is step in
-    let l = locks old is handle answer (record new { failures = old.failures }) weak in
-    (l.0, l.1, l.2, l.3, λ slot load o found loaded there bytes few. answers old is handle answer (record new { failures = old.failures }) slot load o found loaded there bytes few weak)
+    let answers : Answers = told honest format old.files old.failures new.failures in
+    let l = locks answers old is handle answer (record new { failures = old.failures }) step.step in
+    (l.0, l.1, l.2, l.3, λ slot load o found loaded there bytes few. answered answers old is handle answer (record new { failures = old.failures }) slot load o found loaded there bytes few step.step)

@@ -1,8 +1,8 @@
 -- What is left of an object that a step isn't about: it is kept or discarded, and stands where it stood if it is pinned.
-use Rattle.w16_loading.proofs.Common.{◌≡◌, ◌≢◌, ℕ, inl, inr, ◌⊎◌, ◌||◌, Bool, true, false, cond, not, nat_lt, List, Option, Some, None, IfSome, IsSomeAnd, is_some, refl, sym, ap, ◌∙◌, subst, nat_cmp, FinMap, false≢true, cases_eq, Heap, Object, IsHeap, object_at, bytes_at}
-use Rattle.w16_loading.proofs.Common.{is_fixed, is_pinned_object, with_ordered, with_newest, Settles, discarded, stays_for, IsKeptOrDiscarded, StandsStill, revival_options, bytes_in, address_law, FetchFault, LoadingWorld, Fills, is_of_read, AnyFetches, heap_without}
+use Rattle.w16_loading.proofs.Common.{◌≡◌, ◌≢◌, ℕ, inl, inr, ◌||◌, Bool, true, false, cond, not, nat_lt, List, Option, Some, None, IfSome, IsSomeAnd, is_some, refl, sym, ap, ◌∙◌, subst, nat_cmp, FinMap, false≢true, cases_eq, Heap, Object, IsHeap, object_at, bytes_at}
+use Rattle.w16_loading.proofs.Common.{is_fixed, is_pinned_object, with_ordered, with_newest, Settles, discarded, stays_for, IsKeptOrDiscarded, StandsStill, revival_options, bytes_in, address_law, FetchFault, LoadingWorld, Answers, FetchesFrom, Fills, heap_without}
 use Rattle.std.specs.FinMap as finmap
-use Rattle.w16_loading.proofs.Fillings.{IsLost, kept_then, settled_so, filled_other, one_does}
+use Rattle.w16_loading.proofs.Fillings.{IsLost, fetch_outcome, filled_other, kept_then, settled_so}
 use Rattle.w16_loading.proofs.Undone.{retained}
 
 -- a fixed or locked object is there
@@ -77,23 +77,19 @@ nowhere_still old new q is none = turn (finmap.get old.places q) refl
     turn None e = tt
     turn (Some at) e = absurd (false≢true (sym (is.at_bytes q ∙ ap is_some none) ∙ ap is_some e))
 
-module _ (old : LoadingWorld) (is : IsHeap old.handles.heap) (slot : ℕ) (fault : Option FetchFault) (next : LoadingWorld) (fetched : AnyFetches old slot fault next) (q : ℕ) where
-  abbrev heap_before : Heap
-  heap_before = old.handles.heap
-
-  abbrev heap_after : Heap
-  heap_after = next.handles.heap
-
-  pub fetch_spares : q ≢ slot → IsSpared heap_before heap_after q
-  fetch_spares d = (one_does (λ a b. IsSpared a b q) (λ h. same_spared h q) (λ a b c. spared_then a b c q) is_of_read heap_before slot fetched.bytes fault heap_after is (λ g. filled_spared heap_before slot fetched.bytes heap_after is g q d) fetched.filled).0
+module _ {answers : Answers} {old : LoadingWorld} {slot : ℕ} {fault : Option FetchFault} {next : LoadingWorld} (is : IsHeap old.handles.heap) (fetched : FetchesFrom Fills answers old slot fault next) (q : ℕ) where
+  pub fetch_spares : q ≢ slot → IsSpared old.handles.heap next.handles.heap q
+  fetch_spares d = elim (fetch_outcome fetched).1 [
+    | inl e ↦ subst (λ (w : LoadingWorld). IsSpared old.handles.heap w.handles.heap q) (sym e) (same_spared old.handles.heap q)
+    | inr (read, sized, given, g) ↦ filled_spared old.handles.heap slot read next.handles.heap is g q d
+  ]
 
   -- what is fetched had no place, so nothing that is pinned moves
-  pub fetch_stands : HasPinned heap_before q → StandsStill heap_before heap_after q
-  fetch_stands pinned = by_slot (cases_eq q slot)
-    where
-      itself : q ≡ slot → Fills heap_before slot fetched.bytes true heap_after → StandsStill heap_before heap_after q
-      itself e g = nowhere_still heap_before heap_after q is (ap bytes_in (ap (object_at heap_before) e ∙ g.there) ∙ g.absent)
-
-      by_slot : (q ≡ slot) ⊎ (q ≢ slot) → StandsStill heap_before heap_after q
-      by_slot (inl e) = (one_does (λ a b. StandsStill a b q) (λ h. stays_put h h q refl) (λ a b c. stands_then a b c q) is_of_read heap_before slot fetched.bytes fault heap_after is (itself e) fetched.filled).0
-      by_slot (inr d) = (fetch_spares d).1 pinned
+  pub fetch_stands : HasPinned old.handles.heap q → StandsStill old.handles.heap next.handles.heap q
+  fetch_stands pinned = elim (cases_eq q slot) [
+    | inr d ↦ (fetch_spares d).1 pinned
+    | inl e ↦ elim (fetch_outcome fetched).1 [
+      | inl same ↦ subst (λ (w : LoadingWorld). StandsStill old.handles.heap w.handles.heap q) (sym same) (stays_put old.handles.heap old.handles.heap q refl)
+      | inr (read, sized, given, g) ↦ nowhere_still old.handles.heap next.handles.heap q is (ap (bytes_at old.handles.heap) e ∙ ap bytes_in g.there ∙ g.absent)
+    ]
+  ]

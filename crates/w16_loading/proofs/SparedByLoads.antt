@@ -1,7 +1,7 @@
 -- Loads of modules and of resources spare every object that was there.
 use Rattle.w16_loading.proofs.Common.{◌≡◌, ◌≢◌, ℕ, inl, inr, Bool, true, false, cond, nat_lt, ◌+◌, fold, List, Option, Some, None, is_some, refl, sym, ap, ◌∙◌, subst, false≢true, cases_Bool}
 use Rattle.w16_loading.proofs.Common.{is_member, Heap, object_at, IsFreeSlot, handle_of, Member, is_member-true, inserted_other, FetchFault, Resource, LoadingWorld, Load, with_heap, Failure, InTurn, heap_without}
-use Rattle.w16_loading.proofs.Common.{Closure, Choice, IsChoice, all_slots, bound, fills, given, named, segments_of, with_segment, Answer, Fulfils, left, undone, AnyFetches, GivesAny, IsLoadingWorld, Reply}
+use Rattle.w16_loading.proofs.Common.{Closure, Choice, IsChoice, all_slots, bound, fills, given, named, segments_of, with_segment, Answer, Fulfils, left, undone, Answers, FetchesFrom, GivesFrom, LoadsFrom, Fills, IsLoadingWorld, Reply}
 use Rattle.w16_loading.proofs.Common.{Word, MOST_USES, LoadsResource, LoadsNewResource, loaded_again, resource_outcome, with_resource, unused_slot, IsHeap, entered_heap}
 use Rattle.std.specs.FinMap as finmap
 use Rattle.w16_loading.specs.declared.FetchFault.TheVariants as faults
@@ -10,10 +10,10 @@ use Rattle.w16_loading.proofs.Given.{filled_chosen}
 use Rattle.w16_loading.proofs.Named.{free_slot, named_heap}
 use Rattle.w16_loading.proofs.Spared.{IsSpared, left_alone, same_spared, spared_then, spared_without, filled_spared, fetch_spares}
 use Rattle.w16_loading.proofs.Cases.{resource_cases}
-use Rattle.w16_loading.proofs.Stepping.{AnyLoading, any_loaded}
+use Rattle.w16_loading.proofs.Answered.{AreAnswers, loaded_by}
 use Rattle.w16_loading.proofs.Undone.{IsNamed, chosen, fold_named}
 
-module _ (old : LoadingWorld) (is : IsLoadingWorld old) (q : ℕ) (there : is_some (object_at old.handles.heap q) ≡ true) where
+module _ (answers : Answers) (old : LoadingWorld) (is : IsLoadingWorld old) (q : ℕ) (there : is_some (object_at old.handles.heap q) ≡ true) where
   abbrev Spared : LoadingWorld → Type 0
   Spared world = IsSpared old.handles.heap world.handles.heap q
 
@@ -23,7 +23,7 @@ module _ (old : LoadingWorld) (is : IsLoadingWorld old) (q : ℕ) (there : is_so
   -- Modules.
 
   module _ (closure : Closure) (choice : Choice) (good : IsChoice old closure.found choice) (failure : Option Failure) (heap : Heap)
-      (filled : InTurn GivesAny (named old closure choice).handles.heap (fills old closure choice) failure heap) where
+      (filled : InTurn (GivesFrom Fills answers) (named old closure choice).handles.heap (fills old closure choice) failure heap) where
     abbrev begun : Heap
     begun = (named old closure choice).handles.heap
 
@@ -37,8 +37,8 @@ module _ (old : LoadingWorld) (is : IsLoadingWorld old) (q : ℕ) (there : is_so
     named_spared = left_alone old.handles.heap begun q (named_is.others q (λ x m. not_chosen x.0 (chosen 0 closure.found choice.handles choice.slots x m))) (ap (λ (w : LoadingWorld). finmap.get w.handles.heap.places q) named_is.rest)
 
     all_filled : IsSpared begun heap q
-    all_filled = (any_do (λ a b. IsSpared a b q) (λ h. same_spared h q) (λ a b c. spared_then a b c q) begun heap (fills old closure choice) failure (named_heap old closure choice is.handles good)
-        (λ x m a b bytes h long g. filled_spared a x.slot bytes b h g q (not_chosen x.slot (filled_chosen (bound old closure choice) closure.found choice.handles choice.slots x m))) filled).0
+    all_filled = (any_do answers (λ a b. IsSpared a b q) (λ h. same_spared h q) (λ a b c. spared_then a b c q) begun heap (fills old closure choice) failure (named_heap old closure choice is.handles good)
+        (λ x m a b h read long again g. filled_spared a x.slot read b h g q (not_chosen x.slot (filled_chosen (bound old closure choice) closure.found choice.handles choice.slots x m))) filled).0
 
     load_spared : IsSpared old.handles.heap heap q
     load_spared = spared_then old.handles.heap begun heap q named_spared all_filled
@@ -49,15 +49,15 @@ module _ (old : LoadingWorld) (is : IsLoadingWorld old) (q : ℕ) (there : is_so
         stays : is_member q (all_slots choice) ≡ false
         stays = elim (cases_Bool (is_member q (all_slots choice))) [ inl t ↦ absurd (not_chosen q (is_member-true q (all_slots choice) t) refl) | inr t ↦ t ]
 
-  fulfilled : (closure : Closure) (answer : Answer) (new : LoadingWorld) → Fulfils GivesAny old closure answer new → Spared new
+  fulfilled : (closure : Closure) (answer : Answer) (new : LoadingWorld) → Fulfils (GivesFrom Fills answers) old closure answer new → Spared new
   fulfilled closure answer new f = subst Spared (sym f.after) (turn f.failure f.filled)
     where
-      turn : (failure : Option Failure) → InTurn GivesAny (named old closure f.choice).handles.heap (fills old closure f.choice) failure f.heap → Spared (left failure (with_heap (named old closure f.choice) f.heap) (undone old f.choice f.heap))
+      turn : (failure : Option Failure) → InTurn (GivesFrom Fills answers) (named old closure f.choice).handles.heap (fills old closure f.choice) failure f.heap → Spared (left failure (with_heap (named old closure f.choice) f.heap) (undone old f.choice f.heap))
       turn None filled = load_spared closure f.choice f.is_choice None f.heap filled
       turn (Some failure) filled = undone_spared closure f.choice f.is_choice (Some failure) f.heap filled
 
-  pub modules_loaded : (b : Bool) (file : List ℕ) (answer : Answer) (new : LoadingWorld) → AnyLoading b old file answer new → Spared new
-  modules_loaded b file answer new f = any_loaded (λ answer. Spared) old (λ answer. same_spared old.handles.heap q) b new file answer (λ handle m here few. same_spared old.handles.heap q) (λ closure any h. fulfilled closure answer new h) f
+  pub modules_loaded : AreAnswers answers → (b : Bool) (file : List ℕ) (answer : Answer) (new : LoadingWorld) → LoadsFrom Fills answers b old file answer new → Spared new
+  modules_loaded are b file answer new = loaded_by answers are old (λ answer. Spared) (λ answer. same_spared old.handles.heap q) b file answer new (λ handle m here few. same_spared old.handles.heap q) (λ closure facts. fulfilled closure answer new)
 
   -- Resources.
 
@@ -68,7 +68,7 @@ module _ (old : LoadingWorld) (is : IsLoadingWorld old) (q : ℕ) (there : is_so
     outcome_is : (outcome : Reply × LoadingWorld) → ◌≡◌ {A = Reply × LoadingWorld} (reply, new) outcome → Spared outcome.1 → Spared new
     outcome_is outcome e good = subst (λ (p : Reply × LoadingWorld). Spared p.1) (sym e) good
 
-    fresh : (r : Resource) → LoadsNewResource AnyFetches old handle place r reply new → Spared new
+    fresh : (r : Resource) → LoadsNewResource (FetchesFrom Fills answers) old handle place r reply new → Spared new
     fresh r f = outcome_is (resource_outcome f.fault (handle_of r.kind f.slot) f.next old) f.outcome (turn f.fault)
       where
         are : IsHeap (with_resource old f.slot handle place r).handles.heap
@@ -77,7 +77,7 @@ module _ (old : LoadingWorld) (is : IsLoadingWorld old) (q : ℕ) (there : is_so
         next_spared : Spared f.next
         next_spared = spared_then old.handles.heap (with_resource old f.slot handle place r).handles.heap f.next.handles.heap q
             (left_alone old.handles.heap (with_resource old f.slot handle place r).handles.heap q (inserted_other old.handles.heap.objects f.slot (record { kind = r.kind; locks = 0; bytes = None }) q (not_free f.slot f.free)) refl)
-            (fetch_spares (with_resource old f.slot handle place r) are f.slot f.fault f.next f.fetched q (not_free f.slot f.free))
+            (fetch_spares are f.fetched q (not_free f.slot f.free))
 
         turn : (fault : Option FetchFault) → Spared (resource_outcome fault (handle_of r.kind f.slot) f.next old).1
         turn None = next_spared
@@ -92,8 +92,8 @@ module _ (old : LoadingWorld) (is : IsLoadingWorld old) (q : ℕ) (there : is_so
         turn true = same_spared old.handles.heap q
         turn false = same_spared old.handles.heap q
 
-    pub resource_loaded : LoadsResource AnyFetches old handle place reply new → Spared new
-    resource_loaded step = elim (resource_cases AnyFetches old reply new handle place step) [
+    pub resource_loaded : LoadsResource (FetchesFrom Fills answers) old handle place reply new → Spared new
+    resource_loaded step = elim (resource_cases (FetchesFrom Fills answers) old reply new handle place step) [
       | inl f ↦ same_world f.1
       | inr (r, at, inl (x, e, f)) ↦ outcome_is (loaded_again old r x) f (again r x)
       | inr (r, at, inr (none, f)) ↦ fresh r f

@@ -1,7 +1,7 @@
 -- Far accesses and locks of resources spare every object that isn't theirs, and leave theirs where it stands.
 use Rattle.w16_loading.proofs.Common.{inl, inr, ◌≡◌, ◌≢◌, ℕ, ◌/◌, ◌==◌, Bool, true, false, cond, MatchOption, List, Option, Some, None, is_some, option_map, unwrap_or, refl, sym, ap, ◌∙◌, subst, arith, put_part}
 use Rattle.w16_loading.proofs.Common.{repeated, KeepsContents, global_lock, GlobalLock, FarAnswer, FarCommand, after_write, far_slot, Write, Fill, Handles, AreHandles, handle_of, offset_in, selector_in, slot_of_handle}
-use Rattle.w16_loading.proofs.Common.{Object, object_at, StandsStill, after_touch, Calls, bystander, contents, call_outcome, get-update_other, FetchFault, AnyFetches, pointer_in, FarStep, Accesses, far_read}
+use Rattle.w16_loading.proofs.Common.{Object, object_at, StandsStill, after_touch, Calls, bystander, contents, call_outcome, get-update_other, FetchFault, Answers, FetchesFrom, Fetching, Fills, pointer_in, FarStep, Accesses, far_read}
 use Rattle.w16_loading.proofs.Common.{far_write, gives, IsLoadingWorld, LoadingWorld, Load, Reply, Failed, LocksResource, lock_outcome, locked, slot_of_resource, Part, part_of_selector, IsSomeAnd}
 use Rattle.w16_loading.proofs.Common.{far_at}
 use Rattle.std.specs.FinMap as finmap
@@ -15,10 +15,10 @@ use Rattle.w16_loading.proofs.Fillings.{lost}
 use Rattle.w16_loading.proofs.Spared.{HasPinned, IsSpared, fetch_spares, fetch_stands, left_alone, same_spared, spared_then, stands_then, stays_put}
 
 -- What holds of a world before an access or a lock, and of each that a fetch leaves, and so of what the access or the lock leaves.
-module _ (P Q : LoadingWorld → Type 0) (old new : LoadingWorld) (reply : Reply) (start : P old) where
-  accessed : (access : LoadingWorld → FarAnswer × LoadingWorld) (selector : ℕ) → ((fault : Option FetchFault) (next : LoadingWorld) → AnyFetches old (far_slot old.handles selector) fault next → P next)
-      → ((world : LoadingWorld) → P world → Q world × Q (access world).1) → Accesses AnyFetches access old selector reply new → Q new
-  accessed access selector fetched does step = elim (access_cases AnyFetches old reply new access selector step) [
+module _ (fetches : Fetching) (P Q : LoadingWorld → Type 0) (old new : LoadingWorld) (reply : Reply) (start : P old) where
+  accessed : (access : LoadingWorld → FarAnswer × LoadingWorld) (selector : ℕ) → ((fault : Option FetchFault) (next : LoadingWorld) → fetches old (far_slot old.handles selector) fault next → P next)
+      → ((world : LoadingWorld) → P world → Q world × Q (access world).1) → Accesses fetches access old selector reply new → Q new
+  accessed access selector fetched does step = elim (access_cases fetches old reply new access selector step) [
     | inl (fault, next, f, g) ↦ after next fault (fetched fault next f) g
     | inr g ↦ subst Q (sym g.1) (does old start).1
   ]
@@ -27,17 +27,17 @@ module _ (P Q : LoadingWorld → Type 0) (old new : LoadingWorld) (reply : Reply
       after next None good g = subst Q (sym g.1) (does next good).1
       after next (Some f) good g = subst Q (sym g.1) (does next good).0
 
-  access_does : (command : FarCommand) → ((fault : Option FetchFault) (next : LoadingWorld) → AnyFetches old (far_slot old.handles (selector_in (pointer_in command))) fault next → P next)
+  access_does : (command : FarCommand) → ((fault : Option FetchFault) (next : LoadingWorld) → fetches old (far_slot old.handles (selector_in (pointer_in command))) fault next → P next)
       → ((world : LoadingWorld) → P world → Q world) → ((offset n : ℕ) (world : LoadingWorld) → P world → Q (far_read (selector_in (pointer_in command)) offset n world).1)
-      → ((offset : ℕ) (slice : List ℕ) (world : LoadingWorld) → P world → Q (far_write (selector_in (pointer_in command)) offset slice world).1) → FarStep AnyFetches old command reply new → Q new
+      → ((offset : ℕ) (slice : List ℕ) (world : LoadingWorld) → P world → Q (far_write (selector_in (pointer_in command)) offset slice world).1) → FarStep fetches old command reply new → Q new
   access_does (Read pointer count) fetched same read written step = accessed (far_read (selector_in pointer) (offset_in pointer) count) (selector_in pointer) fetched (λ w p. (same w p, read (offset_in pointer) count w p)) step
   access_does (Write pointer bytes) fetched same read written step = accessed (far_write (selector_in pointer) (offset_in pointer) bytes) (selector_in pointer) fetched (λ w p. (same w p, written (offset_in pointer) bytes w p)) step
   access_does (Fill pointer count byte) fetched same read written step =
       accessed (far_write (selector_in pointer) (offset_in pointer) (repeated count byte)) (selector_in pointer) fetched (λ w p. (same w p, written (offset_in pointer) (repeated count byte) w p)) step
 
-  lock_does : (handle : ℕ) → ((x : ℕ × Load) (fault : Option FetchFault) (next : LoadingWorld) → slot_of_resource old handle ≡ Some x → AnyFetches old x.0 fault next → P next)
-      → ((world : LoadingWorld) → P world → Q world × Q (locked world handle).1) → LocksResource AnyFetches old handle reply new → Q new
-  lock_does handle fetched does step = elim (lock_cases AnyFetches old reply new handle step) [
+  lock_does : (handle : ℕ) → ((x : ℕ × Load) (fault : Option FetchFault) (next : LoadingWorld) → slot_of_resource old handle ≡ Some x → fetches old x.0 fault next → P next)
+      → ((world : LoadingWorld) → P world → Q world × Q (locked world handle).1) → LocksResource fetches old handle reply new → Q new
+  lock_does handle fetched does step = elim (lock_cases fetches old reply new handle step) [
     | inl f ↦ subst Q (sym f.1) (does old start).0
     | inr (x, e, inl (fault, next, f, g)) ↦ outcome_is (lock_outcome fault handle next) g (after fault next (fetched x fault next e f))
     | inr (x, e, inr f) ↦ outcome_is (locked old handle) f (does old start).1
@@ -79,7 +79,7 @@ named_slot old handle x = turn (slot_of_handle old.handles handle)
 lock_contents : (old : Handles) (handle : ℕ) → KeepsContents old (global_lock old handle).1
 lock_contents old handle = contents old (global_lock old handle).1 (Calls (GlobalLock handle)) (global_lock old handle).0 (call_outcome old (global_lock old handle).1 (GlobalLock handle) (global_lock old handle).0 (refl, refl)) refl
 
-module _ (old : LoadingWorld) (is : IsLoadingWorld old) (q : ℕ) (there : is_some (object_at old.handles.heap q) ≡ true) (new : LoadingWorld) (reply : Reply) where
+module _ (answers : Answers) (old : LoadingWorld) (is : IsLoadingWorld old) (q : ℕ) (there : is_some (object_at old.handles.heap q) ≡ true) (new : LoadingWorld) (reply : Reply) where
   abbrev Spared : LoadingWorld → Type 0
   Spared world = IsSpared old.handles.heap world.handles.heap q
 
@@ -100,12 +100,12 @@ module _ (old : LoadingWorld) (is : IsLoadingWorld old) (q : ℕ) (there : is_so
       turn (Some p) out e = out (sym e)
 
   -- a fetch leaves each selector's slot
-  same_slot : (slot selector : ℕ) (fault : Option FetchFault) (next : LoadingWorld) → AnyFetches old slot fault next → far_slot next.handles selector ≡ far_slot old.handles selector
+  same_slot : (slot selector : ℕ) (fault : Option FetchFault) (next : LoadingWorld) → FetchesFrom Fills answers old slot fault next → far_slot next.handles selector ≡ far_slot old.handles selector
   same_slot slot selector fault next f = ap (λ (w : LoadingWorld). far_slot w.handles selector) f.rest
 
-  pub access_spares : (command : FarCommand) → (IsSomeAnd (part_of_selector old.handles (selector_in (pointer_in command))) (λ (p : Part). p.slot ≡ q) → ⊥) → FarStep AnyFetches old command reply new → Spared new
-  access_spares command out step = access_does (λ w. Spared w × (q ≢ far_slot w.handles selector)) Spared old new reply (same_spared old.handles.heap q, other) command
-      (λ fault next f. (fetch_spares old is.handles.heap (far_slot old.handles selector) fault next f q other, λ e. other (e ∙ same_slot (far_slot old.handles selector) selector fault next f)))
+  pub access_spares : (command : FarCommand) → (IsSomeAnd (part_of_selector old.handles (selector_in (pointer_in command))) (λ (p : Part). p.slot ≡ q) → ⊥) → FarStep (FetchesFrom Fills answers) old command reply new → Spared new
+  access_spares command out step = access_does (FetchesFrom Fills answers) (λ w. Spared w × (q ≢ far_slot w.handles selector)) Spared old new reply (same_spared old.handles.heap q, other) command
+      (λ fault next f. (fetch_spares is.handles.heap f q other, λ e. other (e ∙ same_slot (far_slot old.handles selector) selector fault next f)))
       (λ w p. p.0) (λ offset n w p. read_cases Spared w p.0 selector offset n p.0)
       (λ offset slice w p. write_cases Spared w p.0 selector offset slice (λ t e. spared_then old.handles.heap w.handles.heap (after_touch (after_write w.handles.heap (far_slot w.handles selector) (far_at w.handles selector offset) slice) (far_slot w.handles selector)) q p.0
       (left_alone w.handles.heap (after_touch (after_write w.handles.heap (far_slot w.handles selector) (far_at w.handles selector offset) slice) (far_slot w.handles selector)) q
@@ -117,9 +117,9 @@ module _ (old : LoadingWorld) (is : IsLoadingWorld old) (q : ℕ) (there : is_so
       other : q ≢ far_slot old.handles (selector_in (pointer_in command))
       other = not_reached (selector_in (pointer_in command)) out
 
-  pub access_stands : HasPinned old.handles.heap q → (command : FarCommand) → FarStep AnyFetches old command reply new → Stands new
-  access_stands pinned command step = access_does Stands Stands old new reply stands_first command
-      (λ fault next f. fetch_stands old is.handles.heap (far_slot old.handles (selector_in (pointer_in command))) fault next f q pinned)
+  pub access_stands : HasPinned old.handles.heap q → (command : FarCommand) → FarStep (FetchesFrom Fills answers) old command reply new → Stands new
+  access_stands pinned command step = access_does (FetchesFrom Fills answers) Stands Stands old new reply stands_first command
+      (λ fault next f. fetch_stands is.handles.heap f q pinned)
       (λ w p. p) (λ offset n w p. read_cases Stands w p (selector_in (pointer_in command)) offset n p)
       (λ offset slice w p. write_cases Stands w p (selector_in (pointer_in command)) offset slice (λ t e. p)) step
 
@@ -135,16 +135,16 @@ module _ (old : LoadingWorld) (is : IsLoadingWorld old) (q : ℕ) (there : is_so
     λ pinned. lock_stands_of world handle,
   )
 
-  pub lock_spares : (handle : ℕ) → slot_of_handle old.handles handle ≢ Some q → LocksResource AnyFetches old handle reply new → Spared new
-  lock_spares handle out step = lock_does (λ w. Spared w × AreHandles w.handles × (slot_of_handle w.handles handle ≢ Some q)) Spared old new reply (same_spared old.handles.heap q, is.handles, out) handle
+  pub lock_spares : (handle : ℕ) → slot_of_handle old.handles handle ≢ Some q → LocksResource (FetchesFrom Fills answers) old handle reply new → Spared new
+  lock_spares handle out step = lock_does (FetchesFrom Fills answers) (λ w. Spared w × AreHandles w.handles × (slot_of_handle w.handles handle ≢ Some q)) Spared old new reply (same_spared old.handles.heap q, is.handles, out) handle
       (λ x fault next at f. (
-        fetch_spares old is.handles.heap x.0 fault next f q (λ e. out (named_slot old handle x at ∙ ap Some (sym e))),
-        (fetched_world old is x.0 fault next f).handles,
+        fetch_spares is.handles.heap f q (λ e. out (named_slot old handle x at ∙ ap Some (sym e))),
+        (fetched_world is f).handles,
         λ e. out (named_slot old handle x at ∙ ap Some (slot_in old.handles handle x.0 (named_slot old handle x at) ∙ sym (slot_in next.handles handle q e))),
       ))
       (λ w p. (p.0, spared_then old.handles.heap w.handles.heap (locked w handle).1.handles.heap q p.0 (lock_spares_of w handle p.1 p.2 (lost old.handles.heap w.handles.heap q p.0.0 ∙ there)))) step
 
-  pub lock_stands : HasPinned old.handles.heap q → (handle : ℕ) → LocksResource AnyFetches old handle reply new → Stands new
-  lock_stands pinned handle step = lock_does Stands Stands old new reply stands_first handle
-      (λ x fault next at f. fetch_stands old is.handles.heap x.0 fault next f q pinned)
+  pub lock_stands : HasPinned old.handles.heap q → (handle : ℕ) → LocksResource (FetchesFrom Fills answers) old handle reply new → Stands new
+  lock_stands pinned handle step = lock_does (FetchesFrom Fills answers) Stands Stands old new reply stands_first handle
+      (λ x fault next at f. fetch_stands is.handles.heap f q pinned)
       (λ w p. (p, stands_then old.handles.heap w.handles.heap (locked w handle).1.handles.heap q p (lock_stands_of w handle))) step

@@ -1,27 +1,18 @@
 -- What the parts of a step do to a world, the step does: fetches, loads, and changes of what is kept beside them.
-use Rattle.w16_loading.proofs.Common.{◌≡◌, ℕ, ◌+◌, ◌-◌, ◌<◌, ◌≤◌, inl, inr, ◌⊎◌, Bool, true, false, cond, ◌&&◌, ◌==◌, not, nat_lt, List, [], ◌∷◌, Option, Some, None, MatchOption, option_map, refl}
-use Rattle.w16_loading.proofs.Common.{sym, ap, ◌∙◌, subst, arith, ltb-true, find, Handles, IsFreeSlot, handle_of, slot_of_handle, selector_in, offset_in, repeated, HandleCommand, locks_at, FarAnswer, FarCommand, far_slot, Member}
-use Rattle.w16_loading.proofs.Common.{MOST_USES, FetchFault, Resource, LoadingWorld, Load, Module, Named, IsFreeModule, handle_named, Loaded, BuiltIn, Giving, without_objects, Closure, around}
-use Rattle.w16_loading.proofs.Common.{Answer, Fulfils, used_again, after_use, Says, Reply, HandleReplies, ResizeReplies, Word, Failed, ResizeCommand, Fetching, Accesses}
+use Rattle.w16_loading.proofs.Common.{◌≡◌, ℕ, ◌+◌, ◌-◌, ◌<◌, ◌≤◌, inl, inr, Bool, true, false, cond, ◌&&◌, ◌==◌, nat_lt, List, Option, Some, None, MatchOption, option_map, refl}
+use Rattle.w16_loading.proofs.Common.{sym, ap, ◌∙◌, subst, arith, ltb-true, Handles, IsFreeSlot, handle_of, slot_of_handle, selector_in, offset_in, repeated, HandleCommand, locks_at, FarAnswer, FarCommand, far_slot}
+use Rattle.w16_loading.proofs.Common.{MOST_USES, FetchFault, Resource, LoadingWorld, Load, IsFreeModule, handle_named, BuiltIn, without_objects}
+use Rattle.w16_loading.proofs.Common.{Answer, Reply, HandleReplies, ResizeReplies, Word, Failed, ResizeCommand, Fetching, Accesses}
 use Rattle.w16_loading.proofs.Common.{far_read, far_write, gives, Frees, LoadsResource, LoadsNewResource, LocksResource, load_of, loaded_again, with_resource, resource_outcome, locked, lock_outcome}
-use Rattle.w16_loading.proofs.Common.{slot_of_resource, free_resource, LoadingCommand, ModuleCommand, ResourceCommand, Loading, FamilyStep, ModuleStep, ResourceStep, FarStep, GivesBuiltIn, GivesAny, IsRefusal}
+use Rattle.w16_loading.proofs.Common.{slot_of_resource, free_resource, LoadingCommand, ModuleCommand, ResourceCommand, Loading, FamilyStep, ModuleStep, ResourceStep, FarStep, GivesBuiltIn}
 use Rattle.std.specs.FinMap as finmap
 use Rattle.w16_loading.specs.declared.FetchFault.TheVariants as faults
-use Rattle.w16_loading.proofs.Importers.{entry_there}
-use Rattle.w16_loading.proofs.ClosureFacts.{IsClosure}
+use Rattle.w16_loading.proofs.Importers.{entry_there, found_passes}
 use Rattle.w16_loading.proofs.Cases.{IsLoadable, access_cases, by_option, lock_cases, resource_cases}
 
 -- what is found among entries is there
 pub found_load : (old : LoadingWorld) (handle place : ℕ) (x : ℕ × Load) → load_of old handle place ≡ Some x → finmap.get old.loads x.0 ≡ Some x.1
-found_load old handle place x e = entry_there old.loads x.0 x.1 (found (λ (y : ℕ × Load). (y.1.handle == handle) && (y.1.place == place)) (finmap.entries old.loads) e)
-  where
-    found : (p : ℕ × Load → Bool) (xs : List (ℕ × Load)) → find p xs ≡ Some x → Member x xs
-    found p [] e = cc
-    found p (y ∷ xs) e = turn (p y) e (λ f. found p xs f)
-      where
-        turn : (b : Bool) → cond b (Some y) (find p xs) ≡ Some x → (find p xs ≡ Some x → Member x xs) → Member x (y ∷ xs)
-        turn true e rest = let same : y ≡ x = cc in inl (sym same)
-        turn false e rest = inr (rest e)
+found_load old handle place x e = entry_there old.loads x.0 x.1 (found_passes (λ (y : ℕ × Load). (y.1.handle == handle) && (y.1.place == place)) (finmap.entries old.loads) x e).0
 
 -- the slot of a resource has its load
 pub resource_load : (old : LoadingWorld) (handle : ℕ) (x : ℕ × Load) → slot_of_resource old handle ≡ Some x → finmap.get old.loads x.0 ≡ Some x.1
@@ -50,51 +41,6 @@ freed_by old p = elim p [
   | None ↦ (1, old)
   | Some x ↦ cond {A = ℕ × LoadingWorld} (nat_lt 1 x.1.loads) (0, with_count old x.0 x.1 (x.1.loads - 1)) (cond {A = ℕ × LoadingWorld} (nat_lt 0 (locks_at old.handles.heap x.0)) (1, old) (0, without_load old x.0))
 ]
-
--- A load is refused in the same world; or of a module that is there; or of a closure of new modules that is so.
-abbrev pub LoadsOf : Giving → (Closure → Type 0) → Bool → LoadingWorld → List ℕ → Answer → LoadingWorld → Type 0
-LoadsOf gives Is b old file answer new =
-    (IsRefusal answer × (new ≡ old))
-    ⊎ ((handle : ℕ) × (n : Named) × (finmap.get old.modules handle ≡ Some n) × ((answer, new) ≡ used_again b old handle (Some n)))
-    ⊎ ((closure : Closure) × Is closure × Fulfils gives old closure answer new)
-
-abbrev pub AnyLoading : Loading
-AnyLoading b old file answer new = LoadsOf GivesAny (IsClosure (around old).named) b old file answer new
-
-module _ (P : Answer → LoadingWorld → Type 0) (old : LoadingWorld) (good : (answer : Answer) → P answer old) where
-  same_world : (answer : Answer) (new : LoadingWorld) → new ≡ old → P answer new
-  same_world answer new e = subst (P answer) (sym e) (good answer)
-
-  -- a load of a module that is there
-  again : (b : Bool) (handle : ℕ) (p : Option Named) → ((m : Module) → p ≡ Some (Loaded m) → m.uses < MOST_USES → P (Says handle) (after_use old handle m)) → (answer : Answer) (new : LoadingWorld) → (answer, new) ≡ used_again b old handle p → P answer new
-  again b handle p more answer new e = subst (λ (x : Answer × LoadingWorld). P x.0 x.1) (sym e) (by p more)
-    where
-      by : (p : Option Named) → ((m : Module) → p ≡ Some (Loaded m) → m.uses < MOST_USES → P (Says handle) (after_use old handle m)) → P (used_again b old handle p).0 (used_again b old handle p).1
-      by None more = good (Says handle)
-      by (Some (BuiltIn name)) more = good (Says handle)
-      by (Some (Loaded m)) more = turn (b && not m.tables.is_library) (nat_lt m.uses MOST_USES) refl
-        where
-          outcome : Bool → Bool → Answer × LoadingWorld
-          outcome s t = cond {A = Answer × LoadingWorld} s (Says 16, old) (cond t (Says handle, after_use old handle m) (Says 0, old))
-
-          turn : (s t : Bool) → nat_lt m.uses MOST_USES ≡ t → P (outcome s t).0 (outcome s t).1
-          turn true t f = good (Says 16)
-          turn false true f = more m refl (ltb-true m.uses MOST_USES f)
-          turn false false f = good (Says 0)
-
-  pub loaded : (gives : Giving) (Is : Closure → Type 0) (b : Bool) (new : LoadingWorld) (file : List ℕ) (answer : Answer)
-      → ((handle : ℕ) (m : Module) → finmap.get old.modules handle ≡ Some (Loaded m) → m.uses < MOST_USES → P (Says handle) (after_use old handle m))
-      → ((closure : Closure) → Is closure → Fulfils gives old closure answer new → P answer new)
-      → LoadsOf gives Is b old file answer new → P answer new
-  loaded gives Is b new file answer more fulfil (inl f) = same_world answer new f.1
-  loaded gives Is b new file answer more fulfil (inr (inl f)) = again b f.0 (Some f.1) (λ m e. more f.0 m (f.2 ∙ e)) answer new f.3
-  loaded gives Is b new file answer more fulfil (inr (inr (closure, is, f))) = fulfil closure is f
-
-  pub any_loaded : (b : Bool) (new : LoadingWorld) (file : List ℕ) (answer : Answer)
-      → ((handle : ℕ) (m : Module) → finmap.get old.modules handle ≡ Some (Loaded m) → m.uses < MOST_USES → P (Says handle) (after_use old handle m))
-      → ((closure : Closure) → IsClosure (around old).named closure → Fulfils GivesAny old closure answer new → P answer new)
-      → AnyLoading b old file answer new → P answer new
-  any_loaded = loaded GivesAny (IsClosure (around old).named)
 
 -- What is to hold of the parts of a step from this world: fetches and loads by these definitions, and bytes that are written.
 pub record Parts (fetches : Fetching) (loads : Loading) (Ours : List ℕ → Type 0) (old : LoadingWorld) (P : LoadingWorld → Type 0) : Type 0 where

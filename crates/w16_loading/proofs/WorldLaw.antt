@@ -1,6 +1,6 @@
 -- Each step of each family keeps what holds of every world, whatever the store answers.
 use Rattle.w16_loading.proofs.Common.{◌<◌, All, Option, Some, None, refl, sym, ap, subst, Heap, FarCommand, other_handles, All-repeated, LoadingWorld, with_heap, Failure, InTurn, Closure, around, named, fills}
-use Rattle.w16_loading.proofs.Common.{Answer, Fulfils, undone, left, GivesAny, AnyFetches, LoadingCommand, IsLoadingCommand, IsLoadingWorld, OnlyDiscards, KeepsWorldsLaw, slots_at}
+use Rattle.w16_loading.proofs.Common.{Answer, Fulfils, undone, left, Answers, FetchesFrom, GivesFrom, LoadsFrom, Fills, told, LoadingCommand, IsLoadingCommand, IsLoadingWorld, OnlyDiscards, KeepsWorldsLaw, slots_at}
 use Rattle.w16_loading.proofs.Fillings.{lost, kept_sized}
 use Rattle.w16_loading.proofs.RefusedLoad.{undone_discards}
 use Rattle.w16_loading.proofs.KeptWorlds.{kept_left, left_owned, world_stays, recounted}
@@ -12,8 +12,8 @@ use Rattle.w16_loading.proofs.ResourceWorlds.{locked_world, counted_world, made_
 use Rattle.w16_loading.proofs.FreeWorlds.{free_world}
 use Rattle.w16_loading.proofs.ClosureFacts.{IsClosure}
 use Rattle.w16_loading.proofs.LoadWorlds.{loaded_world}
-use Rattle.w16_loading.proofs.Answered.{any_step}
-use Rattle.w16_loading.proofs.Stepping.{AnyLoading, Parts, Writes, family, any_loaded}
+use Rattle.w16_loading.proofs.Answered.{AreAnswers, loaded_by, told_answers}
+use Rattle.w16_loading.proofs.Stepping.{Parts, Writes, family}
 use Rattle.w16_loading.proofs.Owners.{object_there}
 
 -- what a refused load leaves
@@ -23,28 +23,27 @@ discards_world old is heap d = world_stays old is (record old.handles { heap = h
     (λ q. kept_sized old.handles.heap heap q (slots_at old.handles.attributes q) (d.objects q) (is.handles.sized q))) (λ q. refl)
     (λ q kind size code h. left_owned old.handles.heap heap q kind size (kept_left old.handles.heap heap q (object_there old q kind size code h) (d.objects q)) h.object)
 
-module _ (old : LoadingWorld) (is : IsLoadingWorld old) where
-  fulfilled : (closure : Closure) → IsClosure (around old).named closure → (answer : Answer) (new : LoadingWorld) → Fulfils GivesAny old closure answer new → IsLoadingWorld new
+module _ (answers : Answers) (are : AreAnswers answers) (old : LoadingWorld) (is : IsLoadingWorld old) where
+  fulfilled : (closure : Closure) → IsClosure answers (around old).named closure → (answer : Answer) (new : LoadingWorld) → Fulfils (GivesFrom Fills answers) old closure answer new → IsLoadingWorld new
   fulfilled closure facts answer new f = subst IsLoadingWorld (sym f.after) (turn f.failure f.filled)
     where
-      turn : (failure : Option Failure) → InTurn GivesAny (named old closure f.choice).handles.heap (fills old closure f.choice) failure f.heap → IsLoadingWorld (left failure (with_heap (named old closure f.choice) f.heap) (undone old f.choice f.heap))
-      turn None filled = loaded_world old is closure f.choice f.is_choice facts f.heap filled
-      turn (Some failure) filled = discards_world old is (undone old f.choice f.heap).handles.heap (undone_discards old is closure f.choice f.is_choice (Some failure) f.heap filled)
+      turn : (failure : Option Failure) → InTurn (GivesFrom Fills answers) (named old closure f.choice).handles.heap (fills old closure f.choice) failure f.heap → IsLoadingWorld (left failure (with_heap (named old closure f.choice) f.heap) (undone old f.choice f.heap))
+      turn None filled = loaded_world answers are old is closure f.choice f.is_choice facts f.heap filled
+      turn (Some failure) filled = discards_world old is (undone old f.choice f.heap).handles.heap (undone_discards answers old is closure f.choice f.is_choice (Some failure) f.heap filled)
 
-  parts : Parts AnyFetches AnyLoading (λ slice. All (λ b. b < 256) slice) old IsLoadingWorld
+  parts : Parts (FetchesFrom Fills answers) (LoadsFrom Fills answers) (λ slice. All (λ b. b < 256) slice) old IsLoadingWorld
   parts = record {
     start = is;
     handles = λ command reply next step. handles_world old is command reply next step;
     resizes = λ command reply next step. resizes_world old is command reply next step;
     reads = λ selector offset n world here. read_world selector offset n world here;
     writes = λ selector offset slice world ours here. write_world selector offset slice ours world here;
-    fetched = λ slot fault next f. fetched_world old is slot fault next f;
+    fetched = λ slot fault next f. fetched_world is f;
     built = λ name handle none free. built_world old is handle name free none;
-    loaded = λ b file answer new f. any_loaded (λ answer. IsLoadingWorld) old (λ answer. is) b new file answer (λ handle m there few. used_world old is handle m there few)
-        (λ closure facts h. fulfilled closure facts answer new h) f;
+    loaded = λ b file answer new f. loaded_by answers are old (λ answer. IsLoadingWorld) (λ answer. is) b file answer new (used_world old is) (λ closure facts. fulfilled closure facts answer new) f;
     freed = λ handle answer new f. free_world old new is handle answer f;
     counted = λ slot load count there some few. counted_world old is slot load there count some few;
-    made = λ slot handle place r fault next free at none f. fetched_world _ (made_world old is slot free handle place r at.0 at.1 none) slot fault next f;
+    made = λ slot handle place r fault next free at none f. fetched_world (made_world old is slot free handle place r at.0 at.1 none) f;
     locks = λ handle world here. locked_world world here handle;
     last = λ slot load there. last_world old is slot load there;
   }
@@ -55,5 +54,7 @@ ours (LoadingCommand.OfFar (FarCommand.Fill pointer count byte)) known = All-rep
 ours command known = tt
 
 pub keeps_worlds_law : (honest : Type 0) → KeepsWorldsLaw honest
-keeps_worlds_law honest format old new command reply is known step = recounted (record new { failures = old.failures })
-    (family AnyFetches AnyLoading (λ slice. All (λ b. b < 256) slice) old IsLoadingWorld (parts old is) (record new { failures = old.failures }) reply command (ours command known) (any_step honest format old new command reply is step)) new.failures
+keeps_worlds_law honest format old new command reply is known step =
+    let answers : Answers = told honest format old.files old.failures new.failures in
+    recounted (record new { failures = old.failures }) (family (FetchesFrom Fills answers) (LoadsFrom Fills answers) (λ slice. All (λ b. b < 256) slice) old IsLoadingWorld
+    (parts answers (told_answers honest format old.files old.failures new.failures) old is) (record new { failures = old.failures }) reply command (ours command known) step.step) new.failures

@@ -11,8 +11,7 @@ use Rattle.w16_loading.specs.Replies.{Reply}
 use Rattle.w16_loading.specs.Replies.Reply.{Failed}
 use Rattle.w16_store.specs.Files.{file_of}
 use Rattle.w16_loading.specs.File.{Format, ModuleFile, SegmentData, numbered}
-use Rattle.w16_loading.specs.Modules.{LoadingWorld, Module, IsSegmentOf, IsResourceOf, with_heap, is_owned}
-use Rattle.w16_loading.specs.Fill.{FillsOne, is_of_device}
+use Rattle.w16_loading.specs.Modules.{LoadingWorld, Module, IsSegmentOf, IsResourceOf, is_owned}
 
 -- What the file of a module says, and what it gives of a segment, under the values that were bound at load, and of a resource.
 abbrev pub read_of : Format → LoadingWorld → Module → Option ModuleFile
@@ -42,18 +41,6 @@ IsImage format world slot bytes =
 -- what a fetch of a slot's object is, over the store that it is made over
 abbrev pub Fetching : Type 1
 Fetching = LoadingWorld → ℕ → Option FetchFault → LoadingWorld → Type 0
-
--- A fetch: the bytes can't be read, or there is no room, and then it is the same world; or the object has them.
-pub record FetchesBy (may_fail : FetchFault → Bool) (IsBytes : List ℕ → Type 0)
-    (old : LoadingWorld) (slot : ℕ) (fault : Option FetchFault) (new : LoadingWorld) : Type 0 where
-  pub bytes : List ℕ
-  pub image : IsBytes bytes
-  pub filled : FillsOne may_fail old.handles.heap slot bytes fault new.handles.heap
-  pub rest : new ≡ with_heap old new.handles.heap
-
--- over files that stay the bytes are the object's image, and the device alone may fail
-abbrev pub Fetches : Format → Fetching
-Fetches format old slot fault new = FetchesBy is_of_device (IsImage format old slot) old slot fault new
 
 -- Far access.
 

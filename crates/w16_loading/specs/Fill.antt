@@ -5,7 +5,7 @@ use Rattle.w16_model.specs.Changes.{with_newest}
 use Rattle.w16_model.specs.Request.{Request, Asked, discards_needed}
 use Rattle.w16_model.specs.Owned.{revival_options}
 use Rattle.w16_loading.specs.declared.FetchFault.{FetchFault}
-use Rattle.w16_loading.specs.declared.FetchFault.TheVariants.{NoRoom, Store}
+use Rattle.w16_loading.specs.declared.FetchFault.TheVariants.{NoRoom}
 
 -- what is asked for the object: that it is as before, but has these bytes
 abbrev pub asked_of : Heap → ℕ → Object → List ℕ → Asked
@@ -26,12 +26,7 @@ pub record Fills (old : Heap) (slot : ℕ) (bytes : List ℕ) (answered : Bool) 
   pub are_bytes : All (λ b. b < 256) bytes
   pub request : Request old slot (asked_of old slot before bytes) answered new
 
--- why a read may fail: over files that stay, the store's device alone
-abbrev pub is_of_device : FetchFault → Bool
-is_of_device Store = true
-is_of_device other = false
-
--- over any store, also the file itself, which reads otherwise than it did
+-- why a read may fail: the store's device, or the file itself, which reads otherwise than it did
 abbrev pub is_of_read : FetchFault → Bool
 is_of_read NoRoom = false
 is_of_read other = true
@@ -39,12 +34,6 @@ is_of_read other = true
 -- how one object gets bytes, or doesn't and why
 abbrev pub Giving : Type 1
 Giving = Heap → ℕ → List ℕ → Option FetchFault → Heap → Type 0
-
--- It gets them; or there is no room; or they can't be read, for a reason that may be, and nothing changes.
-abbrev pub FillsOne : (FetchFault → Bool) → Giving
-FillsOne may_fail old slot bytes None new = Fills old slot bytes true new
-FillsOne may_fail old slot bytes (Some NoRoom) new = Fills old slot bytes false new
-FillsOne may_fail old slot bytes (Some fault) new = (may_fail fault ≡ true) × (new ≡ old)
 
 -- What a load gives bytes: the place of its module among the new ones, from 0, its slot and its bytes.
 pub record Filling : Type 0 where

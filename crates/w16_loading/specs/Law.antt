@@ -23,7 +23,7 @@ use Rattle.w16_loading.specs.File.{Saying, Format, ModuleFile, Segment, SegmentD
 use Rattle.w16_loading.specs.Modules.{with_heap, LoadingWorld, Lookup, Module, Load, Named, value_of, IsSegmentOf, IsResourceOf, name_of, module_at, usage, importers}
 use Rattle.w16_loading.specs.Modules.Named.{Loaded}
 use Rattle.w16_loading.specs.Fill.{Fills, Filling, Failure, InTurn}
-use Rattle.w16_loading.specs.Closure.{Around, Closure, Closes, Found}
+use Rattle.w16_loading.specs.Closure.{Around, Closure, Closes, Found, around}
 use Rattle.w16_model.specs.Discards.{is_member}
 use Rattle.w16_loading.specs.Release.{without_objects}
 use Rattle.w16_loading.specs.Naming.{Choice, IsChoice, AreSlots, free_slots, segments_in, given, with_modules, unbound, bound, named, with_segment}
@@ -33,7 +33,7 @@ use Rattle.w16_loading.specs.Replies.{Reply}
 use Rattle.w16_loading.specs.Fetch.{read_of, segment_bytes, is_code}
 use Rattle.w16_loading.specs.Free.{Go, Frees}
 use Rattle.w16_loading.specs.Resource.{is_too_long, resource_at}
-use Rattle.w16_loading.specs.Answers.{FetchesOver, GivesFrom, LoadsOver, StepOver, told}
+use Rattle.w16_loading.specs.Answers.{ClosesFrom, FetchesOver, GivesFrom, LoadsOver, StepOver, told}
 use Rattle.w16_loading.specs.Families.{LoadingCommand, IsLoadingCommand, HandleStep}
 use Rattle.w16_loading.specs.Families.LoadingCommand.{OfFar}
 
@@ -156,6 +156,11 @@ OneClosureLaw = (says : Saying) (a : Around) (closure : Closure) (x y : Result C
 -- and there is one, also where each file asks for another without end
 abbrev pub ClosureEndsLaw : Type 0
 ClosureEndsLaw = (says : Saying) (a : Around) (closure : Closure) → (outcome : Result Closure ℕ) × Closes says a closure outcome
+
+-- It is the one that a load gets from the answers of an honest store.
+abbrev pub ClosureFilesLaw : (honest : Type 0) → Type 0
+ClosureFilesLaw honest = (format : Format) (before after : ℕ) (old : LoadingWorld) (count : ℕ) (closure : Closure) (outcome : Result Closure ℕ) → honest
+    → ClosesFrom (told honest format old.files before after) (around old) count closure outcome → Closes format.says (around old) closure outcome
 
 -- a load over an honest store that is refused with no handle taken leaves the same world: every number but 0
 abbrev pub EarlyRefusalLaw : (honest : Type 0) → Type 0

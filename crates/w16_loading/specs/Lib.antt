@@ -12,7 +12,6 @@ pub mod Free
 pub mod Resource
 pub mod Families
 pub mod Answers
-pub mod AnyStore
 pub mod Law
 pub mod Owner
 pub mod Bystanders

@@ -1,19 +1,16 @@
 -- Loads: LoadModule and LoadLibrary.
-use Rattle.std.specs.Prelude.{◌≡◌, ℕ, ◌+◌, ◌<◌, ◌⊎◌, Bool, not, ◌&&◌, ◌==◌, if◌then◌else◌, nat_lt, List, [], length, Option, Some, None, Result, MatchResult, slice_index_or}
+use Rattle.std.specs.Prelude.{◌≡◌, ℕ, ◌+◌, ◌<◌, ◌⊎◌, Bool, not, ◌&&◌, ◌==◌, if◌then◌else◌, nat_lt, length, Option, Some, None, slice_index_or}
 use Rattle.std.specs.FinMap as finmap
 use Rattle.w16_model.specs.Heap.{Heap}
 use Rattle.w16_model.specs.Discards.{is_member}
 use Rattle.w16_loading.specs.declared.TheConstants.{MOST_USES}
 use Rattle.w16_loading.specs.declared.FetchFault.{FetchFault}
 use Rattle.w16_loading.specs.declared.FetchFault.TheVariants.{Store, Damaged, NoRoom}
-use Rattle.w16_loading.specs.File.{Format}
 use Rattle.w16_loading.specs.Modules.{LoadingWorld, Module, Named, with_heap}
 use Rattle.w16_loading.specs.Modules.Named.{Loaded}
-use Rattle.w16_loading.specs.Fill.{Giving, Failure, FillsOne, InTurn, is_of_device}
+use Rattle.w16_loading.specs.Fill.{Giving, Failure, InTurn}
 use Rattle.w16_loading.specs.Release.{heap_without}
-use Rattle.w16_loading.specs.Closure.{Closure, Reading, reading, around, begun, Closes}
-use Rattle.w16_loading.specs.Closure.Referent.{There, New}
-use Rattle.w16_loading.specs.Closure.Reading.{Refused, Meant, Read}
+use Rattle.w16_loading.specs.Closure.{Closure}
 use Rattle.w16_loading.specs.Naming.{free_slots, segments_in, IsChoice, Choice, all_slots, named, fills}
 
 -- a handle or a number of 32 or below, or that the store's device failed
@@ -66,20 +63,3 @@ pub record Fulfils (gives : Giving) (old : LoadingWorld) (closure : Closure) (an
 abbrev pub LoadsNew : Giving → LoadingWorld → Closure → Answer → LoadingWorld → Type 0
 LoadsNew gives old closure answer new =
     ((length (free_slots old.handles) < segments_in closure.found) × Refuses old 0 answer new) ⊎ Fulfils gives old closure answer new
-
--- A load, where the store may fail while files are read.
-abbrev pub LoadsFile : Giving → Format → Bool → LoadingWorld → List ℕ → Reading → Answer → LoadingWorld → Type 0
-LoadsFile gives format is_load_module old file (Refused number) answer new = Refuses old number answer new
-LoadsFile gives format is_load_module old file (Meant (There handle)) answer new = (answer, new) ≡ used_again is_load_module old handle (finmap.get old.modules handle)
-LoadsFile gives format is_load_module old file (Meant (New place)) answer new = ⊥
-LoadsFile gives format is_load_module old file (Read read) answer new =
-    (outcome : Result Closure ℕ) × Closes format.says (around old) (begun file read) outcome
-    × MatchResult outcome (λ closure. LoadsNew gives old closure answer new) (λ number. Refuses old number answer new)
-
-abbrev pub LoadsBy : Giving → Format → Bool → LoadingWorld → List ℕ → Answer → LoadingWorld → Type 0
-LoadsBy gives format is_load_module old file answer new =
-    ((answer ≡ StoreFails) × (new ≡ old)) ⊎ LoadsFile gives format is_load_module old file (reading format.says (around old) [] file) answer new
-
--- over files that stay
-abbrev pub Loads : Format → Bool → LoadingWorld → List ℕ → Answer → LoadingWorld → Type 0
-Loads format is_load_module old file answer new = LoadsBy (FillsOne is_of_device) format is_load_module old file answer new

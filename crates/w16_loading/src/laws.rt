@@ -9,6 +9,7 @@ ghost use Rattle.w16_loading.specs.Law.{
   BoundOnceLaw,
   CallsKeepWorldsLaw,
   ClosureEndsLaw,
+  ClosureFilesLaw,
   CodeLaw,
   CodeReadsLaw,
   EarlyRefusalLaw,
@@ -74,6 +75,11 @@ pub fn nothing_loaded_is_a_world()
 /// A load comes to an end over any files, also where each asks for one more: handles are few.
 pub fn each_closure_ends()
     ensures { ClosureEndsLaw }
+{}
+
+/// Over an honest store a load finds what the files say.
+pub fn closures_are_their_files<S: Store>()
+    ensures { ClosureFilesLaw S.is_honest }
 {}
 
 /// What a load that has got no bytes yet takes back leaves the world as it was.

@@ -1,5 +1,5 @@
 -- Bytes by their number, in parts of lists; and bytes of one object at two times.
-use Rattle.w16_model.proofs.Common.{◌≡◌, ℕ, zero, suc, ◌+◌, ◌-◌, ◌<◌, ◌≤◌, ◌⊎◌, inl, inr, Bool, true, false, List, [], ◌∷◌, length, take, drop, Option, Some, None, get_or, unwrap_or, is_some, IsSomeAnd, refl, sym, ap, ◌∙◌, arith, slice_get, slice_range, false≢true, part, MatchBool, MatchOption}
+use Rattle.w16_model.proofs.Common.{◌≡◌, ℕ, zero, suc, ◌+◌, ◌-◌, ◌<◌, ◌≤◌, ◌⊎◌, inl, inr, Bool, true, List, [], ◌∷◌, length, take, drop, Option, Some, None, get_or, unwrap_or, is_some, IsSomeAnd, refl, sym, ap, ◌∙◌, arith, slice_get, slice_range, false≢true, part, MatchOption}
 use Rattle.w16_model.proofs.Common.{IsWritten, AreResized}
 use Rattle.std.proofs.lemmas.Option.{slice_get_within, slice_get-get_or}
 use Rattle.w16_model.specs.Table.{IsSameOutside}
@@ -71,10 +71,6 @@ module _ (before : List ℕ) (at : ℕ) (slice after : List ℕ) (w : IsWritten 
 pub some_such : {A : Type 0} {P : A → Type 0} (p : Option A) → IsSomeAnd p P → (a : A) × (p ≡ Some a) × P a
 some_such None h = absurd h
 some_such (Some a) h = (a, refl, h)
-
-pub either : {P Q : Type 0} (b : Bool) → MatchBool b P Q → P ⊎ Q
-either true h = inl h
-either false h = inr h
 
 pub none_or : {A N : Type 0} {S : A → Type 0} (p : Option A) → MatchOption p N S → N ⊎ ((a : A) × S a)
 none_or None h = inl h

@@ -1,19 +1,18 @@
 -- Steps of loading: what they leave of the bytes of global objects, and what far accesses put there and read.
-use Rattle.w16_loading.proofs.Common.{REACH, ◌≡◌, ℕ, ◌+◌, ◌*◌, ◌⊎◌, inl, inr, true, IsSomeAnd, List, length, Option, Some, None, is_some, refl, sym, ap, ◌∙◌, subst, arith, drop, ◌<◌, cases_eq, part, repeated, Heap, object_at, bytes_at, bytes_in, Handles, AreHandles, selector_in, offset_in}
-use Rattle.w16_loading.proofs.Common.{FarAnswer, FarCommand, Write, Fill, far_slot, AnyFetches, FarStep, Accesses, far_read, far_write, gives, reply_of_far, is_of_read, IsLoadingWorld, LoadingWorld, LoadingCommand, OfHandles, OfResizes, OfFar, OfModules, OfResources}
+use Rattle.w16_loading.proofs.Common.{REACH, ◌≡◌, ℕ, ◌+◌, ◌*◌, ◌⊎◌, inl, inr, true, IsSomeAnd, List, length, Option, Some, None, is_some, refl, sym, ap, ◌∙◌, subst, arith, drop, ◌<◌, cases_eq, part, repeated, object_at, bytes_at, bytes_in, Handles, AreHandles, selector_in, offset_in}
+use Rattle.w16_loading.proofs.Common.{FarAnswer, FarCommand, Write, Fill, Answers, FetchesFrom, Fills, told, FarStep, Accesses, far_read, far_write, gives, reply_of_far, IsLoadingWorld, LoadingWorld, LoadingCommand, OfHandles, OfResizes, OfFar, OfModules, OfResources}
 use Rattle.w16_loading.proofs.Common.{LockResource, Reply, Failed, LocksResource, lock_outcome, locked, global_lock, GlobalLock, Calls, CallStep, ResizeCommand, ResizeReplies, ResizeStep, GlobalReAlloc, GlobalDiscard, HandleCommand}
 use Rattle.w16_loading.proofs.Common.{answer_in, call_of, call_outcome, contents, IsStepAbout}
 use Rattle.w16_model.proofs.Common.{slice_get, length-take, Done, FarEffect, IsWritten, Reaches, next_slot, Part, part_of_selector, Word}
 use Rattle.std.proofs.lemmas.Option.{slice_get_within}
 use Rattle.w16_model.specs.Far.{FarStep as HandlesFarStep}
 use Rattle.w16_loading.specs.Answers.{StepOver}
-use Rattle.w16_loading.proofs.Answered.{any_step}
 use Rattle.w16_loading.proofs.Cases.{access_cases, lock_cases}
 use Rattle.w16_machine.proofs.Common.{Bytes, Fault, Read, FetchFault, Answer, Format, bystanders_law, OfLoading}
 use Rattle.w16_model.proofs.FarLaws.{far_effect_law}
 use Rattle.w16_loading.proofs.CallsKept.{answered}
 use Rattle.w16_loading.proofs.FetchWorlds.{fetched_world}
-use Rattle.w16_loading.proofs.Fillings.{one_does}
+use Rattle.w16_loading.proofs.Fillings.{fetch_outcome}
 use Rattle.w16_loading.proofs.Spared.{fetch_spares}
 use Rattle.w16_writes.specs.LastWrite.{Access, byte_in, read, slot_after_step, written}
 use Rattle.w16_writes.proofs.Bytes.{some_such, none_or, which, only, Agree, agree_new, agree_same, get-part, get-written, get-unwritten}
@@ -55,21 +54,14 @@ calm : {old new : Handles} → HandlesAgree old new → Keeps old new (λ q. q) 
 calm agree = quiet agree (λ q. inl refl)
 
 -- A fetch gives bytes to an object that had none, and other objects keep theirs or lose them.
-pub fetch_agrees : (old : LoadingWorld) → IsLoadingWorld old → (slot : ℕ) (fault : Option FetchFault) (next : LoadingWorld) → AnyFetches old slot fault next → HandlesAgree old.handles next.handles
-fetch_agrees old is slot fault next fetched q = elim (cases_eq q slot) [
-  | inl e ↦
-      let had = one_does Had (λ h. inr refl) then is_of_read old.handles.heap slot fetched.bytes fault next.handles.heap is.handles.heap (λ g. inl (ap bytes_in g.there ∙ g.absent)) fetched.filled in
-      subst (HeapsAgree old.handles.heap next.handles.heap) (sym e) (elim had.0 [ inl none ↦ agree_new none | inr e ↦ agree_same e ])
-  | inr d ↦ kept_agrees old.handles.heap next.handles.heap q (fetch_spares old is.handles.heap slot fault next fetched q d).0
+fetch_agrees : {answers : Answers} {old : LoadingWorld} {slot : ℕ} {fault : Option FetchFault} {next : LoadingWorld} → IsLoadingWorld old → FetchesFrom Fills answers old slot fault next → HandlesAgree old.handles next.handles
+fetch_agrees {answers} {old} {slot} {fault} {next} is fetched q = elim (cases_eq q slot) [
+  | inl e ↦ subst (HeapsAgree old.handles.heap next.handles.heap) (sym e) (elim (fetch_outcome fetched).1 [
+    | inl same ↦ agree_same (ap (λ (w : LoadingWorld). bytes_at w.handles.heap slot) same)
+    | inr (read, sized, given, g) ↦ agree_new (ap bytes_in g.there ∙ g.absent)
+  ])
+  | inr d ↦ kept_agrees old.handles.heap next.handles.heap q (fetch_spares is.handles.heap fetched q d).0
 ]
-  where
-    Had : Heap → Heap → Type 0
-    Had a b = (bytes_at a slot ≡ None) ⊎ (bytes_at b slot ≡ bytes_at a slot)
-
-    then : (a b c : Heap) → Had a b → Had b c → Had a c
-    then a b c (inl none) h = inl none
-    then a b c (inr e) (inl none) = inl (sym e ∙ none)
-    then a b c (inr e) (inr f) = inr (f ∙ e)
 
 abbrev handles_of : LoadingWorld → Handles
 handles_of w = w.handles
@@ -81,15 +73,15 @@ record Made (old : LoadingWorld) (command : FarCommand) (reply : Reply) (new : L
   pub runs : mid.attributes ≡ old.handles.attributes
   pub made : ((answer : FarAnswer) × (reply ≡ reply_of_far answer) × FarEffect mid command answer new.handles) ⊎ ((fault : FetchFault) × (reply ≡ Failed fault) × (new.handles ≡ mid))
 
-module _ (old : LoadingWorld) (is : IsLoadingWorld old) {command : FarCommand} {reply : Reply} {new : LoadingWorld} where
+module _ (answers : Answers) (old : LoadingWorld) (is : IsLoadingWorld old) {command : FarCommand} {reply : Reply} {new : LoadingWorld} where
   accessed : (access : LoadingWorld → FarAnswer × LoadingWorld) (selector : ℕ) → ((w : LoadingWorld) → new.handles ≡ (access w).1.handles → HandlesFarStep w.handles command (access w).0 new.handles)
-      → Accesses AnyFetches access old selector reply new → Made old command reply new
-  accessed access selector does step = elim (access_cases AnyFetches old reply new access selector step) [
+      → Accesses (FetchesFrom Fills answers) access old selector reply new → Made old command reply new
+  accessed access selector does step = elim (access_cases (FetchesFrom Fills answers) old reply new access selector step) [
     | inl (fault, next, f, g) ↦
-        let agree = fetch_agrees old is slot fault next f in
+        let agree = fetch_agrees is f in
         let runs = ap (λ (w : LoadingWorld). w.handles.attributes) f.rest in
         elim (none_or fault g) [
-          | inl g ↦ in_world next (fetched_world old is slot fault next f) agree runs g
+          | inl g ↦ in_world next (fetched_world is f) agree runs g
           | inr (x, g) ↦ record { mid = next.handles; agree = agree; runs = runs; made = inr (x, g.0, ap handles_of g.1) }
         ]
     | inr g ↦ in_world old is (λ q. agree_same refl) refl g
@@ -98,13 +90,10 @@ module _ (old : LoadingWorld) (is : IsLoadingWorld old) {command : FarCommand} {
       in_world : (w : LoadingWorld) → IsLoadingWorld w → HandlesAgree old.handles w.handles → w.handles.attributes ≡ old.handles.attributes → gives (access w) reply new → Made old command reply new
       in_world w are agree runs g = record { mid = w.handles; agree = agree; runs = runs; made = inl ((access w).0, g.0, far_effect_law w.handles new.handles command (access w).0 are.handles (does w (ap handles_of g.1))) }
 
-      slot : ℕ
-      slot = far_slot old.handles selector
-
-far_made : (old : LoadingWorld) → IsLoadingWorld old → (command : FarCommand) (reply : Reply) (new : LoadingWorld) → FarStep AnyFetches old command reply new → Made old command reply new
-far_made old is (Read pointer count) reply new step = accessed old is (far_read (selector_in pointer) (offset_in pointer) count) (selector_in pointer) (λ w e. (refl, e)) step
-far_made old is (Write pointer bytes) reply new step = accessed old is (far_write (selector_in pointer) (offset_in pointer) bytes) (selector_in pointer) (λ w e. (refl, e)) step
-far_made old is (Fill pointer count byte) reply new step = accessed old is (far_write (selector_in pointer) (offset_in pointer) (repeated count byte)) (selector_in pointer) (λ w e. (refl, e)) step
+far_made : (answers : Answers) (old : LoadingWorld) → IsLoadingWorld old → (command : FarCommand) (reply : Reply) (new : LoadingWorld) → FarStep (FetchesFrom Fills answers) old command reply new → Made old command reply new
+far_made answers old is (Read pointer count) reply new step = accessed answers old is (far_read (selector_in pointer) (offset_in pointer) count) (selector_in pointer) (λ w e. (refl, e)) step
+far_made answers old is (Write pointer bytes) reply new step = accessed answers old is (far_write (selector_in pointer) (offset_in pointer) bytes) (selector_in pointer) (λ w e. (refl, e)) step
+far_made answers old is (Fill pointer count byte) reply new step = accessed answers old is (far_write (selector_in pointer) (offset_in pointer) (repeated count byte)) (selector_in pointer) (λ w e. (refl, e)) step
 
 -- What an access reached.
 module _ {mid new : Handles} {selector end : ℕ} {becomes : ℕ → List ℕ → List ℕ → Type 0} (r : Reaches mid selector end becomes new) where
@@ -234,10 +223,10 @@ module _ (honest : Type 0) (format : Format) (old new : LoadingWorld) (is : IsLo
   called command answer next step e = subst (λ (h : Handles). HeapsAgree old.handles.heap h.heap q) (sym e) (call_agrees old.handles next is.handles (Calls command) answer step q)
 
   -- a lock of a resource, after a fetch where it has no bytes
-  lock_agrees : (handle : ℕ) → LocksResource AnyFetches old handle reply new → Agrees new
-  lock_agrees handle step = elim (lock_cases AnyFetches old reply new handle step) [
+  lock_agrees : (answers : Answers) (handle : ℕ) → LocksResource (FetchesFrom Fills answers) old handle reply new → Agrees new
+  lock_agrees answers handle step = elim (lock_cases (FetchesFrom Fills answers) old reply new handle step) [
     | inl f ↦ subst Agrees (sym f.1) (agree_same refl)
-    | inr (x, e, inl (fault, next, f, g)) ↦ becomes g (after fault next (fetch_agrees old is x.0 fault next f q))
+    | inr (x, e, inl (fault, next, f, g)) ↦ becomes g (after fault next (fetch_agrees is f q))
     | inr (x, e, inr f) ↦ becomes f (locks old (agree_same refl))
   ]
     where
@@ -261,13 +250,16 @@ module _ (honest : Type 0) (format : Format) (old new : LoadingWorld) (is : IsLo
   ]
 
 module _ (honest : Type 0) (format : Format) (old new : LoadingWorld) (is : IsLoadingWorld old) where
+  abbrev answers : Answers
+  answers = told honest format old.files old.failures new.failures
+
   idle : {command : LoadingCommand} {reply : Reply} → StepOver honest format old command reply new → ((q : ℕ) → IsStepAbout old.handles command q → ⊥) → HandlesAgree old.handles new.handles
   idle {command} {reply} step out q = stands_by honest format old new is reply q command step (out q)
 
   pub loading_keeps : (command : LoadingCommand) (reply : Reply) → StepOver honest format old command reply new → KeepsSegments old.handles new.handles command reply
   loading_keeps (OfHandles command) reply step = calm (λ q. let f = step.step in let c = answered old is command reply f.0 f.1 in called honest format old new is reply q command c.0 f.0 c.1 (ap handles_of f.2))
   loading_keeps (OfResizes command) reply step = let f = step.step in subst (λ (h : Handles). KeepsSegments old.handles h (OfResizes command) reply) (sym (ap handles_of f.2)) (resizes_keep old.handles f.0 is.handles command reply f.1)
-  loading_keeps (OfFar command) reply step = far_keeps_by (far_made old is command reply (record new { failures = old.failures }) (any_step honest format old new (OfFar command) reply is step))
+  loading_keeps (OfFar command) reply step = far_keeps_by (far_made answers old is command reply (record new { failures = old.failures }) step.step)
   loading_keeps (OfModules command) reply step = calm (idle step (λ q about. about))
-  loading_keeps (OfResources (LockResource handle)) reply step = calm (λ q. lock_agrees honest format old (record new { failures = old.failures }) is reply q handle (any_step honest format old new (OfResources (LockResource handle)) reply is step))
+  loading_keeps (OfResources (LockResource handle)) reply step = calm (λ q. lock_agrees honest format old (record new { failures = old.failures }) is reply q answers handle step.step)
   loading_keeps (OfResources other) reply step = calm (idle step (λ q about. about))
