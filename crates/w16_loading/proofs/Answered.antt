@@ -10,7 +10,7 @@ use Rattle.std.specs.List.{AllByRecursion as Each}
 use Rattle.w16_loading.specs.Modules.{is_owned}
 use Rattle.w16_loading.specs.Families.{access_of}
 use Rattle.w16_loading.proofs.Common.{pointer_in}
-use Rattle.w16_loading.specs.Answers.{Answers, ClosesFrom, GivesFrom, LoadsFileFrom, LoadsFrom, ReadsFile, RefusesFile, follow, told}
+use Rattle.w16_loading.specs.Answers.{Answers, ClosesFrom, GivesFrom, LoadsFileFrom, LoadsFrom, ReadsFile, follow, told}
 use Rattle.w16_loading.proofs.Importers.{named_there}
 use Rattle.w16_loading.proofs.Fillings.{in_turn_so}
 use Rattle.w16_loading.proofs.ClosureFacts.{IsClosure, began, bound_more, found_more}
@@ -71,11 +71,11 @@ fulfils_as f g Is turns old closure answer new h is = record {
 
 -- answers as any store may give them
 pub record AreAnswers (answers : Answers) : Type 0 where
-  pub refuses : (name : List ℕ) (number : ℕ) → answers.says name (Err number) → RefusesFile number
+  pub refuses : (name : List ℕ) (number : ℕ) → answers.says name (Err number) → number ≤ 14
   pub holds : (name : List ℕ) (read : ModuleFile) → answers.holds name read → IsModuleFile read
 
 pub told_answers : (honest : Type 0) (format : Format) (files : List (List ℕ × List ℕ)) (before after : ℕ) → AreAnswers (told honest format files before after)
-told_answers honest format files before after = record { refuses = λ name number h. h.0; holds = λ name read h. h.0 }
+told_answers honest format files before after = record { refuses = λ name number h. elim h.0 [ inl e ↦ omega (arith, e.0) | inr f ↦ f.1 ]; holds = λ name read h. h.0 }
 
 small : (number : ℕ) → number ≤ 32 → number < FIRST_MODULE
 small number le = let first : FIRST_MODULE ≡ 33 = refl in omega (arith, first, le)
@@ -99,7 +99,7 @@ LoadsOf answers b old file answer new =
 module _ (answers : Answers) (are : AreAnswers answers) (old : LoadingWorld) where
   -- a number that refuses a load
   small_number : (found : List Found) (name : List ℕ) (number : ℕ) → ReadsFile answers (around old) found name (Refused number) → number < FIRST_MODULE
-  small_number found name number (inl says) = elim (are.refuses name number says) [ inl e ↦ small number (omega (arith, e)) | inr h ↦ let le : number ≤ 14 = h.1 in small number (omega (arith, le)) ]
+  small_number found name number (inl says) = let le = are.refuses name number says in small number (omega (arith, le))
   small_number found name number (inr (t, says, none, inl h)) = let e : number ≡ 11 = h.1 in small number (omega (arith, e))
   small_number found name number (inr (t, says, none, inr h)) = let e : number ≡ 0 = h.2 in small number (omega (arith, e))
 

@@ -123,9 +123,9 @@ abbrev pub said_by : Saying → Option (List ℕ) → Result ModuleFile ℕ
 said_by says None = Err 2
 said_by says (Some bytes) = says bytes
 
--- a number that refuses a file: 2 where there is none, 11 to 14 where it isn't accepted
-abbrev pub RefusesFile : ℕ → Type 0
-RefusesFile number = (number ≡ 2) ⊎ ((11 ≤ number) × (number ≤ 14))
+-- A number that refuses a file: 2 only where no file has the name, whatever the store; or 11 to 14, where it isn't accepted.
+abbrev pub RefusesFile : Option (List ℕ) → ℕ → Type 0
+RefusesFile file number = ((number ≡ 2) × (file ≡ None)) ⊎ ((11 ≤ number) × (number ≤ 14))
 
 -- it has these tables, or this number refuses it
 abbrev pub HasTables : Result ModuleFile ℕ → Result Tables ℕ → Type 0
@@ -140,7 +140,7 @@ MayFail honest before after fault = (is_of_read fault ≡ true) × (fault ≡ St
 -- Whatever the store: numbers that refuse files, files of modules, bytes of the right size. Where it is honest: what its files say.
 abbrev pub told : (honest : Type 0) → Format → (files : List (List ℕ × List ℕ)) → (before after : ℕ) → Answers
 told honest format files before after = record {
-  says = λ name said. MatchResult said (λ t. Unit {0}) RefusesFile × (honest → HasTables (said_by format.says (file_of files name)) said);
+  says = λ name said. MatchResult said (λ t. Unit {0}) (RefusesFile (file_of files name)) × (honest → HasTables (said_by format.says (file_of files name)) said);
   sound = λ name t b. honest → MatchResult (said_by format.says (file_of files name)) (λ read. are_sound read ≡ b) (λ number. ⊥);
   holds = λ name read. IsModuleFile read × (are_sound read ≡ true) × (honest → said_by format.says (file_of files name) ≡ Ok read);
   again = λ held read. honest → read ≡ held;
