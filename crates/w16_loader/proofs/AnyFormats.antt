@@ -1,5 +1,5 @@
 -- The format in which some file says whatever a load may have read.
-use Rattle.w16_loader.proofs.Common.{◌≡◌, ℕ, zero, suc, ◌<◌, ◌≤◌, List, [], ◌∷◌, All, Option, Some, None, MatchResult, refl, subst, arith, slice_get, All-head, All-tail, AreModuleFiles, IsModuleFile, IsGood, AreGood, said_by, any_format}
+use Rattle.w16_loader.proofs.Common.{◌≡◌, ℕ, zero, suc, ◌≤◌, List, [], ◌∷◌, Option, Some, None, MatchResult, refl, subst, arith, slice_get, All-head, All-tail, AreModuleFiles, IsModuleFile, IsGood, AreGood, said_by, any_format}
 use Rattle.w16_loading.specs.Closure as closing
 
 pub good_at : (all : List closing.Found) → AreGood all → (place : ℕ) (f : closing.Found) → slice_get all place ≡ Some f → IsGood f

@@ -1,8 +1,8 @@
 -- The code follows references as its store's answers have them.
 use Rattle.w16_loader.proofs.Common.{◌≡◌, ℕ, zero, suc, ◌+◌, ◌-◌, ◌<◌, ◌≤◌, inl, inr, Bool, true, false, nat_lt, List, [], ◌∷◌, ◌++◌, length, map, take, Option, Some, None, option_map, Result, Ok, Err, refl, sym, ap, ◌∙◌, subst, arith}
-use Rattle.w16_loader.proofs.Common.{add-one, ltb-true, ltb-false, slice_get, position, AllZip, MatchOption, MatchResult, option_or, length-append, length-take-le, length-map, map-append, take_all, take-append-le, append_assoc, is_named, ModuleFile, Tables, Modules}
-use Rattle.w16_loader.proofs.Common.{handle_named, free_modules, Around, dll, There, New, Refused, Meant, Read, Found, Referent, Bound, Followed, FileFault, around_in, found_in, meant_in, referent_of, references_of, IsFault}
-use Rattle.w16_loader.proofs.Common.{Files, answers_of, left_from, bound_in, references_at, found_after, referent_after, tables_in, IsFoundOf, Begins, reached_of, closed_of, AreAccepted, AreHeld, ClosesOf, ClosesTo, IsAccepted, IsClosureBy, IsNewIn, IsRefusedName, LeadsBy, LeadsTo, ReadsIn, RefusesBy}
+use Rattle.w16_loader.proofs.Common.{add-one, ltb-true, ltb-false, slice_get, position, AllZip, MatchOption, MatchResult, option_or, length-append, length-take-le, length-map, map-append, take_all, take-append-le, is_named, Tables, Modules}
+use Rattle.w16_loader.proofs.Common.{handle_named, Around, dll, There, New, Refused, Meant, Read, Found, Referent, Bound, Followed, FileFault, around_in, found_in, meant_in, referent_of, references_of, IsFault}
+use Rattle.w16_loader.proofs.Common.{Files, answers_of, left_from, bound_in, references_at, found_after, referent_after, tables_in, IsFoundOf, Begins, reached_of, closed_of, AreAccepted, AreHeld, ClosesOf, ClosesTo, IsAccepted, IsClosureBy, IsRefusedName, LeadsBy, LeadsTo, ReadsIn, RefusesBy}
 use Rattle.w16_loading.specs.Answers.{Answers, ClosesFrom, ReadsFile, follow}
 use Rattle.w16_loading.specs.Closure as closing
 use Rattle.w16_ne.specs.Modules as ne

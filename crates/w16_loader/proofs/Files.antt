@@ -1,6 +1,6 @@
 -- What a load makes of names and of files.
 use Rattle.w16_loader.proofs.Common.{◌≡◌, ℕ, zero, suc, ◌+◌, ◌<◌, ◌≤◌, Bool, true, not, cond, ◌&&◌, List, [], ◌∷◌, length, map, drop, Option, Some, None, option_map, Result, Ok, Err, refl, sym, ap, ◌∙◌, arith, add-one, nat_lt, position}
-use Rattle.w16_loader.proofs.Common.{is_ok, slice_get, prefix_len, position_or_len, list_all, option_or, length-map, drop_all, StoreFault, is_named, HasBytes, IsHonestFault, length_of, NeFault, tables_at, Modules, handle_named, There}
+use Rattle.w16_loader.proofs.Common.{is_ok, slice_get, prefix_len, position_or_len, list_all, option_or, length-map, drop_all, is_named, HasBytes, length_of, NeFault, tables_at, Modules, handle_named, There}
 use Rattle.w16_loader.proofs.Common.{New, are_sound, RelocFault, Held, Refuses, checked, module_file, accepted, refused, sound_law, Found, Files, around_in, found_in, said, fault_of, fault_of_check, IsRead, IsFault, IsUnsound}
 use Rattle.w16_store.specs.declared.store.StoreFault.TheVariants as stores
 use Rattle.w16_ne.specs.declared.fault.NeFault.TheVariants as faults

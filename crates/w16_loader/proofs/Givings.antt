@@ -1,5 +1,5 @@
 -- How a load's objects get their bytes, over a store that may be honest.
-use Rattle.w16_loader.proofs.Common.{◌≡◌, ℕ, ◌<◌, ◌≤◌, true, List, [], ◌∷◌, length, Option, Some, None, MatchOption, refl, sym, ap, ◌∙◌, arith, false≢true, Heap, FetchFault, Store, Damaged, NoRoom, Failure, Filling, FillsOne, GivesAny, InTurn, is_of_device, is_of_read}
+use Rattle.w16_loader.proofs.Common.{◌≡◌, ℕ, ◌<◌, ◌≤◌, List, [], ◌∷◌, Option, Some, None, refl, sym, ap, ◌∙◌, arith, false≢true, Heap, FetchFault, Store, Damaged, NoRoom, Failure, Filling, FillsOne, GivesAny, InTurn, is_of_device}
 use Rattle.w16_loader.proofs.Common.{gives_over}
 use Rattle.w16_loading.proofs.Common.{bytes_in}
 use Rattle.w16_loading.proofs.Fillings.{filled_object}

@@ -1,15 +1,15 @@
 -- What a load comes to, by what its store answered.
-use Rattle.w16_loader.proofs.Common.{◌≡◌, ℕ, ◌<◌, ◌≤◌, inl, inr, ◌⊎◌, zero, suc, Bool, true, List, [], ◌∷◌, length, map, fold, slice_index_or, All, All-nil, All-cons, Option, Some, None, IfOk, Result, Ok, Err, MatchOption, MatchResult, refl, sym, ap, ◌∙◌, subst, arith, AllZip, option_or, option_map}
+use Rattle.w16_loader.proofs.Common.{◌≡◌, ℕ, ◌<◌, ◌≤◌, inl, inr, zero, suc, Bool, true, List, [], ◌∷◌, length, map, fold, slice_index_or, All, All-nil, All-cons, Option, Some, None, IfOk, Result, Ok, Err, MatchOption, MatchResult, refl, sym, ap, ◌∙◌, subst, arith, AllZip, option_or, option_map}
 use Rattle.w16_loader.specs.Devices.{is_bind_device}
 use Rattle.w16_loading.specs.Fill.{is_of_device}
 use Rattle.w16_loading.specs.Load.{used_again}
 use Rattle.w16_loader.specs.Binding.{IsBindFailure, IsUnread}
-use Rattle.w16_loader.proofs.Common.{false, AllocError, is_member, AreHandles, Heap, IsHeap, Member, FetchFault, ModuleFile, IsModuleFile, Target, Tables, targets_of, Failure, Filling, InTurn, Fills, is_of_read, file_of, ne_format, tables_in, are_sound}
-use Rattle.w16_loader.proofs.Common.{There, New, Refused, Meant, Read, Given, given, LoadingWorld, Modules, Handles, handle_named, free_modules, without_values, without_module, Answer, Says, StoreFails, given_found, BindFault, FileFault, LoadAnswer, Around, around, begun, dll, Found}
+use Rattle.w16_loader.proofs.Common.{false, AllocError, is_member, AreHandles, Heap, IsHeap, Member, FetchFault, ModuleFile, IsModuleFile, Target, Tables, targets_of, Failure, InTurn, Fills, file_of, ne_format}
+use Rattle.w16_loader.proofs.Common.{There, New, Refused, Meant, Read, Given, given, LoadingWorld, Modules, Handles, handle_named, free_modules, without_values, without_module, Answer, Says, given_found, BindFault, FileFault, LoadAnswer, around, begun, dll, Found}
 use Rattle.w16_loader.proofs.Common.{AreTargets, AreItsFiles, AreReadAs, AreSaid, AreUnfilled, Files, IsFault, IsOfFile, all_bound, closed_in, found_in, fills_with, gives_over, said, around_in, in_store, IsAlike, IsFoundOf, AreUnbound, IsClosureOf, IsUnbound, LoadsHeld, answer_in, failed_by, of_fault, refused_by}
-use Rattle.w16_loader.proofs.Common.{AreAccepted, AreHeld, ClosesOf, ClosesTo, IsAccepted, IsClosureBy, answers_of}
+use Rattle.w16_loader.proofs.Common.{AreAccepted, AreHeld, ClosesOf, IsAccepted, IsClosureBy, answers_of}
 use Rattle.std.specs.FinMap as finmap
-use Rattle.w16_loading.specs.Answers.{Answers, ClosesFrom, FillsFewest, GivesFrom, LoadsFrom, MayFail, ReadsFile, follow, said_by, told}
+use Rattle.w16_loading.specs.Answers.{Answers, ClosesFrom, FillsFewest, GivesFrom, LoadsFrom, ReadsFile, follow, said_by, told}
 use Rattle.w16_loading.specs.Closure as closing
 use Rattle.w16_loading.specs.declared.FetchFault.TheVariants as fetches
 use Rattle.w16_loading.proofs.Answered.{given_any}

@@ -1,5 +1,5 @@
 -- What a store answered of files.
-use Rattle.w16_loader.proofs.Common.{◌≡◌, ℕ, ◌<◌, true, false, List, Option, Some, None, Result, Ok, Err, MatchResult, refl, sym, ap, ◌∙◌, subst, arith, file_of, tables_at, ModuleFile, are_sound, Tables, module_file, ne_format, tables_in}
+use Rattle.w16_loader.proofs.Common.{◌≡◌, ℕ, ◌<◌, true, false, List, Option, Some, None, Result, Ok, Err, MatchResult, refl, sym, ap, ◌∙◌, subst, file_of, tables_at, ModuleFile, are_sound, Tables, module_file, ne_format, tables_in}
 use Rattle.w16_loader.proofs.Common.{FileFault, Files, IsFault, IsRead, IsUnsound, said, answers_of, read_back, tables_apart}
 use Rattle.w16_ne.specs.Modules as ne
 use Rattle.w16_loading.specs.Answers.{HasTables, RefusesFile, said_by}

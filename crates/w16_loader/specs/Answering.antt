@@ -1,5 +1,5 @@
 -- What a load makes of files, and finds, by what its store answered.
-use Rattle.std.specs.Prelude.{◌≡◌, ◌<◌, ◌⊎◌, ℕ, true, List, [], ◌∷◌, map, length, All, None, Some, Result, Ok, Err}
+use Rattle.std.specs.Prelude.{◌≡◌, ◌<◌, ◌⊎◌, ℕ, true, List, [], ◌∷◌, map, length, All, None, Result, Ok, Err}
 use Rattle.std.specs.List.{AllZip}
 use Rattle.w16_loading.specs.Answers.{Answers, ClosesFrom, ReadsFile, told}
 use Rattle.w16_loading.specs.Closure as closing

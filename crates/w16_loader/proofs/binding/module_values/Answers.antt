@@ -1,5 +1,5 @@
 -- One segment more has its values.
-use Rattle.w16_loader.proofs.Common.{◌≡◌, segment_in, ◌+◌, ◌++◌, ◌∷◌, [], ◌≤◌, length, map, take, sym, ap, ◌∙◌, subst, arith, length-map, length_push, take_all, targets_of, far_of, IsSaid, values_for}
+use Rattle.w16_loader.proofs.Common.{◌≡◌, segment_in, ◌+◌, ◌++◌, ◌∷◌, [], ◌≤◌, length, map, sym, ap, ◌∙◌, subst, arith, length-map, length_push, take_all, targets_of, far_of, IsSaid}
 use Rattle.std.specs.FinMap as finmap
 use Rattle.w16_loading.specs.File as loading
 use Rattle.w16_loader.proofs.Values.{count_said, failure_since, front_more, numbered_there, segment_more}

@@ -1,5 +1,5 @@
 -- What holds of the module that the registry has.
-use Rattle.w16_loader.proofs.Common.{◌≡◌, ◌≢◌, ◌<◌, All, Err, ◌∙◌, subst, Store, InTurn, gives_over, IsItsFiles, Module, IsSaid, HasUnfilled, IsReadAs, IsUnfilled, failure_at, fills_in}
+use Rattle.w16_loader.proofs.Common.{◌≢◌, All, ◌∙◌, subst, Store, InTurn, gives_over, IsItsFiles, Module, IsSaid, HasUnfilled, IsReadAs, IsUnfilled, failure_at, fills_in}
 use Rattle.w16_loader.proofs.Fillings.{one_module, no_module}
 use Rattle.w16_loader.proofs.filling.fill_module.Goals as goal
 

@@ -1,5 +1,5 @@
 -- A module more: its objects get their bytes, and leave the others without, or one of them ends all.
-use Rattle.w16_loader.proofs.Common.{◌≡◌, ℕ, ◌<◌, ◌≤◌, length, get_or, slice_get, Some, Err, refl, ap, ◌∙◌, sym, arith, subst, gives_over, IsItsFiles, IsSaid, IsReadAs}
+use Rattle.w16_loader.proofs.Common.{◌≡◌, ℕ, ◌<◌, ◌≤◌, length, get_or, slice_get, Some, refl, ◌∙◌, sym, arith, subst, gives_over, IsItsFiles, IsSaid, IsReadAs}
 use Rattle.w16_loader.proofs.Fillings.{Named, here, its_at, named_at, module_unfilled, module_goes, module_ends, reached_first, reached_last, rest_then}
 use Rattle.w16_loader.proofs.Givings.{turn_since}
 use Rattle.w16_loader.proofs.filling.fill_modules.Goals as goal

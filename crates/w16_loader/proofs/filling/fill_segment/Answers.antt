@@ -1,6 +1,6 @@
 -- The object of a fixed or of a preload segment is fetched; any other is left.
-use Rattle.w16_loader.proofs.Common.{◌≤◌, true, false, length, sym, subst, arith, IsSoundIn, gives_over}
-use Rattle.w16_loader.proofs.Unfilled.{keeps, gives_any, unfilled, filled, part_long, many_segments, is_filled_by, is_named, no_slot, other_slot, sound, stored, gives_image}
+use Rattle.w16_loader.proofs.Common.{◌≤◌, true, false, length, arith, gives_over}
+use Rattle.w16_loader.proofs.Unfilled.{keeps, gives_any, unfilled, filled, part_long, many_segments, is_filled_by, is_named, no_slot, other_slot, gives_image}
 use Rattle.w16_loader.proofs.Fetches.{rises}
 use Rattle.w16_loader.proofs.Givings.{given_both}
 use Rattle.w16_loader.proofs.filling.fill_segment.Goals as goal

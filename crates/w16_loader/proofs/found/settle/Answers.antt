@@ -1,5 +1,5 @@
 -- A module whose name nothing has is new where its relocations are sound and a handle is left.
-use Rattle.w16_loader.proofs.Common.{FileFault, Some, referent_of, IsFault, Ok, false, ReadsIn, Refused, answers_of, tables_in, Modules, Found, Files, List, ℕ, ◌≤◌, ◌≡◌, None, length, refl, inl, inr, free_modules, length-map, found_in, [], ap, sym, ◌∙◌, arith, meant_in}
+use Rattle.w16_loader.proofs.Common.{FileFault, Some, referent_of, IsFault, Ok, false, ReadsIn, Refused, answers_of, tables_in, Modules, Found, List, ℕ, ◌≡◌, None, refl, inl, inr, length-map, found_in, [], ap, sym, ◌∙◌, arith, meant_in}
 use Rattle.w16_loader.proofs.Readings.{reads_new, reads_full}
 use Rattle.w16_loader.specs.declared.found.FileFault.TheVariants as faults
 use Rattle.w16_loading.specs.Answers.{Answers}

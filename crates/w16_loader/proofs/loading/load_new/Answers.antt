@@ -1,5 +1,5 @@
 -- A new module's load, by its closure.
-use Rattle.w16_loader.proofs.Common.{Bool, [], Err, map, IfOk, sym, subst, arith, tables_in, found_in, IsFault, closed_in, answer_in, in_store, ne_format, AreAccepted, ClosesOf, IsAccepted, IsClosureBy, LoadsHeld, answers_of}
+use Rattle.w16_loader.proofs.Common.{Bool, [], Err, IfOk, sym, subst, arith, tables_in, IsFault, closed_in, answer_in, in_store, ne_format, AreAccepted, ClosesOf, IsAccepted, IsClosureBy, LoadsHeld, answers_of}
 use Rattle.w16_loading.specs.Answers.{FillsFewest, LoadsFrom, told}
 use Rattle.w16_loader.proofs.HeldLoads.{closed_load, is_closure, refused_closure}
 use Rattle.w16_loader.proofs.loading.load_new.Goals as goal
