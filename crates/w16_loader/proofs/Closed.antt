@@ -1,10 +1,10 @@
 -- The new modules of a load, bound and filled, are what loading says of its closure.
-use Rattle.w16_loader.proofs.Common.{◌≡◌, ◌≢◌, ℕ, ◌+◌, ◌<◌, ◌≤◌, inl, inr, ◌⊎◌, true, false, List, [], ◌∷◌, ◌++◌, length, map, fold, zip, flat_map, All, AllPairs, slice_index_or, option_map, unwrap_or, Option, Some, None, IfOk, OnErr, IfSome, IsSomeAnd}
+use Rattle.w16_loader.proofs.Common.{◌≡◌, ◌≢◌, ℕ, ◌+◌, ◌<◌, ◌≤◌, inl, inr, ◌⊎◌, true, false, List, [], ◌∷◌, ◌++◌, length, map, fold, zip, flat_map, All, AllPairs, slice_index_or, option_map, unwrap_or, Option, Some, None, OnErr, IfSome, IsSomeAnd}
 use Rattle.w16_loader.proofs.Common.{Result, Ok, Err, MatchResult, refl, sym, ap, ◌∙◌, subst, arith, AllZip, length-map, All-from_recursion, file_of, is_member, AreHandles, is_member-true, true-is_member, cases_Bool, false≢true, Heap, Object, Owned, Member}
 use Rattle.w16_loader.proofs.Common.{EachPair, Each-at, Each-from_All, EachPair-from_AllPairs, Far, ModuleFile, IsModuleFile, Segment, Tables, Target, targets_of, Giving, InTurn, Closure, LoadingWorld, Lookup, Module, Modules, Named, module_in, module_at}
 use Rattle.w16_loader.proofs.Common.{value_of, with_heap, Loaded, BuiltIn, without_module, Choice, Given, given, given_from, with_modules, segments_of, unbound, bound, named, fills, FetchFault, Answer, Fulfils, outcome_of, refusal_of, undone, left, Says}
 use Rattle.w16_loader.proofs.Common.{IsItsFiles, without_values, same_values, undone_law, sound_values, named_new, given_slots_apart, given_found, given_handle, given_long, given_segment, put_all, put_here, ne_format, is_format, BindFault, AreSaid}
-use Rattle.w16_loader.proofs.Common.{AreTargets, IsBindFailure, IsSaid, all_bound, Files, found_in, said, closed_in, AreItsFiles, AreReadAs, AreUnfilled, IsReadAs, IsUnfilled, fills_with, slots_at, IsOfFile, LoadsClosed, answer_in, failed_by, of_fault}
+use Rattle.w16_loader.proofs.Common.{AreTargets, IsSaid, all_bound, Files, found_in, said, closed_in, AreItsFiles, AreReadAs, AreUnfilled, IsReadAs, IsUnfilled, fills_with, slots_at, IsOfFile, answer_in, failed_by, of_fault}
 use Rattle.w16_loader.proofs.Common.{IsUnbound}
 use Rattle.std.specs.List.{AllByRecursion as Each}
 use Rattle.std.specs.FinMap as finmap
@@ -184,13 +184,6 @@ module _ (old : LoadingWorld) (meant : Closure) (handles : List ℕ) (mid : Load
         (λ i. fold without_module (record (u.after i) { modules = partly i }) (sym u.handles i))
         ∙ undone_by_release old meant choice (part modules) (named old meant choice).handles.heap is u.is_choice (λ g. refl)
         ∙ undone_law old meant choice is u.is_choice
-
-    -- a load of which a module isn't bound
-    pub unbound_load : AreHandles old.handles → (before after : ℕ) (fault : BindFault) → IsBindFailure before after fault
-        → IfOk (failed_by fault) (λ answer. LoadsClosed old meant (answer_in answer) (fold without_module (record mid { modules = modules }) handles))
-    unbound_load is before after (binds.Failed f) h =
-        subst (λ k. LoadsClosed old meant (answer_in (of_fault f.place k)) (fold without_module (record mid { modules = modules }) handles)) (sym h.0) (inl (refl, taken_back is))
-    unbound_load is before after binds.OutOfMemory h = tt
 
   -- as many lists of targets as its segments
   pub targets_long : (targets : List (List (List Target))) → AreTargets mid.modules handles targets → AllZip (λ (f : Found) (ts : List (List Target)). length ts ≡ length f.read.tables.segments) fs targets

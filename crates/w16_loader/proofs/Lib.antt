@@ -19,7 +19,6 @@ pub mod Holdings
 pub mod Closings
 pub mod AnyFormats
 pub mod AnyFollowings
-pub mod SomeFiles
 pub mod Fulfilled
 pub mod Fillings
 pub mod Unfilled
@@ -32,7 +31,5 @@ pub mod FreeHandles
 pub mod NameSteps
 pub mod Imports
 pub mod Closed
-pub mod Loads
 pub mod HeldLoads
-pub mod AnyLoads
 pub mod UsedAgain

@@ -3,11 +3,16 @@ use Rattle.std.specs.Result.{IfErr}
 use Rattle.w16_store.specs.Later.{RoseIf}
 use Rattle.w16_loader.specs.Devices.{is_file_device}
 use Rattle.w16_loader.proofs.Common.{◌<◌, arith, inl, Modules, Found, List, MatchResult, MakesOf, ReadsIn, answers_of, tables_in, ◌≡◌, ℕ, ◌≤◌, IfOk, Result, Ok, Err, sym, subst, file_of, FileFault, IsFault, IsRead, Refused, reading_in, reading_of}
-use Rattle.w16_loader.proofs.Loads.{fault_since}
 use Rattle.w16_loader.proofs.Meanings.{all_there}
 use Rattle.w16_loading.specs.Answers.{Answers}
 use Rattle.w16_loader.specs.declared.found.FileFault.TheVariants as faults
 use Rattle.w16_loader.proofs.found.examine_file.Goals as goal
+
+-- A failure since a moment is one since an earlier moment.
+fault_since : (IsRefused : ℕ → Type 0) (before mid after : ℕ) (fault : FileFault) → before ≤ mid → IsFault IsRefused mid after fault → IsFault IsRefused before after fault
+fault_since IsRefused before mid after (faults.Refused number) le is = is
+fault_since IsRefused before mid after faults.Device le more = omega (arith, le, more)
+fault_since IsRefused before mid after faults.OutOfMemory le none = tt
 
 since : {X : Type 0} (IsRefused : ℕ → Type 0) (before mid after : ℕ) (r : Result X FileFault) → before ≤ mid → IfErr r (IsFault IsRefused mid after) → IfErr r (IsFault IsRefused before after)
 since IsRefused before mid after (Ok made) le h = h
