@@ -53,17 +53,17 @@ pub use Rattle.w16_loading.proofs.Absences.{none_gone, same_values}
 pub use Rattle.w16_loading.proofs.Bound.{world_without}
 pub use Rattle.w16_loading.proofs.Cascade.{gone_with, went}
 pub use Rattle.w16_loading.proofs.CodeLoads.{sound_values}
-pub use Rattle.w16_loading.proofs.Common.{All, All-from_Each, All-repeated, AllPairs-from_EachPair, AllZip, AllZip-left, Allocates, Answer, AnyCloses, AnyFetches, AnyLoadsBy, AreHandles, AreNew, AreSlots, Around, Bool, BuiltIn, Choice, Closes, Closure, Each-at}
-pub use Rattle.w16_loading.proofs.Common.{Each-from, Each-from_All, EachPair, EachPair-from_AllPairs, Failure, Far, FetchesFewest, Filling, Fills, FillsOne, FinMap, Fulfils, Given, GivesAny, GivesAnyFewest, Giving, Go, Handles, Heap, IfOk, IfSome, Import}
+pub use Rattle.w16_loading.proofs.Common.{All, All-from_Each, All-repeated, AllPairs-from_EachPair, AllZip, AllZip-left, Allocates, Answer, AreHandles, AreNew, AreSlots, Around, Bool, BuiltIn, Choice, Closes, Closure, Each-at}
+pub use Rattle.w16_loading.proofs.Common.{Each-from, Each-from_All, EachPair, EachPair-from_AllPairs, Failure, Far, Filling, Fills, FinMap, Fulfils, Given, Giving, Go, Handles, Heap, IfOk, IfSome, Import}
 pub use Rattle.w16_loading.proofs.Common.{ImportName, InTurn, Internal, InternalEntry, IsChoice, IsFreeModule, IsFreeSlot, IsHeap, IsItsFiles, IsKeptOrDiscarded, IsModuleFile, IsNew, IsObjectOf, IsOwnedSize, IsSegmentData, IsSomeAnd, IsTrue, List, Loaded}
-pub use Rattle.w16_loading.proofs.Common.{LoadingWorld, Loads, LoadsBy, LoadsFile, LoadsNew, Lookup, MatchOption, MatchResult, Meant, Member, Module, ModuleFile, Modules, Named, New, Object, Read, Refused, Request, Resource, Says, Segment, SegmentData, Tables}
+pub use Rattle.w16_loading.proofs.Common.{LoadingWorld, LoadsNew, Lookup, MatchOption, MatchResult, Meant, Member, Module, ModuleFile, Modules, Named, New, Object, Read, Refused, Request, Resource, Says, Segment, SegmentData, Tables}
 pub use Rattle.w16_loading.proofs.Common.{Target, There, [], address_at, after_use, after_write, all_slots, and_parts, ap, append-nil, append_assoc, are_sound, arith, around, attributes_of, begun, bound, bytes_at, cases_Bool, cases_eq, cond, count_by, discarded}
 pub use Rattle.w16_loading.proofs.Common.{discards_needed, dll, drop, drop_all, eq-eqb, false, false≢true, fills, fills_from, fills_of, filter, flat_map, fold, followed, free_slots, get_or, given, given_from, handle_meant, handle_named, handle_of, heap_without}
-pub use Rattle.w16_loading.proofs.Common.{if◌then◌else◌, imported, importers_among, imports, inl, inr, inserted_here, inserted_other, is_fixed, is_idle, is_in_order, is_member, is_member-true, is_of_device, is_of_read, is_owned, is_some, left, length, length-drop}
+pub use Rattle.w16_loading.proofs.Common.{if◌then◌else◌, imported, importers_among, imports, inl, inr, inserted_here, inserted_other, is_fixed, is_idle, is_in_order, is_member, is_member-true, is_of_read, is_owned, is_some, left, length, length-drop}
 pub use Rattle.w16_loading.proofs.Common.{length-map, length-take-le, list_all, ltb-false, ltb-true, map, member_filter, module_at, module_in, name_of, named, nat_cmp, nat_cmp-IsAntisymmetric, nat_cmp_total, nat_lt, ne_eqb, not, numbered, object_at, option_map}
 pub use Rattle.w16_loading.proofs.Common.{option_or, outcome_of, owned_at, pairs_filter, position, position_or_len, range_with_len, read_of, refl, refusal_of, replicate, revival_options, rounded_size, same_map, segment_among, segment_bytes, segments_in, segments_of}
 pub use Rattle.w16_loading.proofs.Common.{slice_get, slice_get-get_or, slice_index, slice_index_or, slot_of_handle, subst, suc, sum_by-cons, sym, take, taken_here, taken_other, targets_of, true, true-is_member, unbound, undone, unwrap_or, usage_with, used_again}
-pub use Rattle.w16_loading.proofs.Common.{used_less, with_files, with_heap, with_modules, with_newest, with_object, with_segment, without_module, without_objects, without_values, zero, zip, ℕ, ◌%◌, ◌&&◌, ◌++◌, ◌+◌, ◌-◌, ◌/◌, ◌<◌, ◌==◌, ◌||◌, ◌∙◌, ◌∷◌, ◌≡◌, ◌≢◌}
+pub use Rattle.w16_loading.proofs.Common.{used_less, with_heap, with_modules, with_newest, with_object, with_segment, without_module, without_objects, without_values, zero, zip, ℕ, ◌%◌, ◌&&◌, ◌++◌, ◌+◌, ◌-◌, ◌/◌, ◌<◌, ◌==◌, ◌||◌, ◌∙◌, ◌∷◌, ◌≡◌, ◌≢◌}
 pub use Rattle.w16_loading.proofs.Common.{◌≤◌, ◌⊎◌}
 unfoldable pub use Rattle.w16_loading.proofs.Common.{file_of, is_named, repeated}
 pub use Rattle.w16_loading.proofs.Filled.{fill_law}
@@ -73,7 +73,7 @@ pub use Rattle.w16_loading.proofs.Importers.{entry_there, there_entry}
 pub use Rattle.w16_loading.proofs.LoadWorlds.{named_new}
 pub use Rattle.w16_loading.proofs.Named.{apart_after, given_slots_apart}
 pub use Rattle.w16_loading.proofs.Owners.{of_segment}
-pub use Rattle.w16_loading.proofs.Readings.{follow_cases, from_list, from_next, read_by, read_cases}
+pub use Rattle.w16_loading.proofs.Readings.{follow_cases, from_list, from_next, read_cases}
 pub use Rattle.w16_loading.proofs.Undone.{chosen, fold_named, in_first, in_second, retained, taken_away, taken_back_law, undone_law, zipped}
 pub use Rattle.w16_loading.proofs.Values.{values_law}
 pub use Rattle.w16_loading.specs.Free.{EndsUse}
@@ -108,3 +108,4 @@ pub use Rattle.w16_reloc.specs.declared.fault.RelocFault.{RelocFault}
 pub use Rattle.w16_reloc.specs.declared.record.Record.{Record}
 pub use Rattle.w16_store.specs.Files.{HasBytes, IsHonestFault, length_of}
 pub use Rattle.w16_store.specs.declared.store.StoreFault.{StoreFault}
+pub use Rattle.w16_loader.specs.Devices.{is_of_device}

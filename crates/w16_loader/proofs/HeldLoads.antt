@@ -1,7 +1,6 @@
 -- What a load comes to, by what its store answered.
 use Rattle.w16_loader.proofs.Common.{◌≡◌, ℕ, ◌<◌, ◌≤◌, inl, inr, zero, suc, Bool, true, List, [], ◌∷◌, length, map, fold, slice_index_or, All, All-nil, All-cons, Option, Some, None, IfOk, Result, Ok, Err, MatchOption, MatchResult, refl, sym, ap, ◌∙◌, subst, arith, AllZip, option_or, option_map}
-use Rattle.w16_loader.specs.Devices.{is_bind_device}
-use Rattle.w16_loading.specs.Fill.{is_of_device}
+use Rattle.w16_loader.specs.Devices.{is_of_device, is_bind_device}
 use Rattle.w16_loading.specs.Load.{used_again}
 use Rattle.w16_loader.specs.Binding.{IsBindFailure, IsUnread}
 use Rattle.w16_loader.proofs.Common.{false, AllocError, is_member, AreHandles, Heap, IsHeap, Member, FetchFault, ModuleFile, IsModuleFile, Target, Tables, targets_of, Failure, InTurn, Fills, file_of, ne_format}
@@ -12,9 +11,8 @@ use Rattle.std.specs.FinMap as finmap
 use Rattle.w16_loading.specs.Answers.{Answers, ClosesFrom, FillsFewest, GivesFrom, LoadsFrom, ReadsFile, follow, said_by, told}
 use Rattle.w16_loading.specs.Closure as closing
 use Rattle.w16_loading.specs.declared.FetchFault.TheVariants as fetches
-use Rattle.w16_loading.proofs.Answered.{given_any}
 use Rattle.w16_loading.proofs.Fewest.{fill_fewest}
-use Rattle.w16_loading.proofs.Fillings.{in_turn_as}
+use Rattle.w16_loading.proofs.Fillings.{in_turn_so, one_heap}
 use Rattle.w16_loading.proofs.Named.{named_heap}
 use Rattle.w16_loader.specs.declared.binding.BindFault.TheVariants as binds
 use Rattle.w16_loader.specs.declared.closure.Closure.{Closure}
@@ -133,8 +131,8 @@ module _ (honest : Type 0) (files : Files) (start after : ℕ) (old : LoadingWor
     fewest : (before : ℕ) → start ≤ before → (failure : Option Failure) (heap : Heap) → AreFilled before failure heap → InTurn (GivesFrom FillsFewest answers) mid.handles.heap (fills_with modules 0 handles reads) failure heap
     fewest before le failure heap filled =
         let of_files = λ (h : honest). held_files honest files made.0 made.2 h in
-        in_turn_as (GivesFrom Fills answers) (GivesFrom FillsFewest answers)
-        (λ before slot bytes fault after sound f. (given_fewest answers before slot bytes fault after sound f, (given_any answers before slot bytes fault after sound f).1))
+        in_turn_so (GivesFrom Fills answers) (GivesFrom FillsFewest answers) IsHeap
+        (λ before slot bytes fault after sound f. (given_fewest answers before slot bytes fault after sound f, one_heap answers before slot bytes fault after sound f))
         mid.handles.heap heap (fills_with modules 0 handles reads) failure (subst (λ (w : LoadingWorld). IsHeap w.handles.heap) (sym u.after) (named_heap old closure u.choice is u.is_choice))
         (turn_since honest start before after after le (omega arith) mid.handles.heap (fills_with modules 0 handles reads) failure heap
         (filled reads (are_read old closure handles mid u is_file modules bound)

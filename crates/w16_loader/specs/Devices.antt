@@ -1,6 +1,7 @@
 -- Which faults of a load, and which answers, tell that the store's device failed.
 use Rattle.std.specs.Prelude.{Bool, true, false}
-use Rattle.w16_loading.specs.Fill.{is_of_device}
+use Rattle.w16_loading.specs.declared.FetchFault.{FetchFault}
+use Rattle.w16_loading.specs.declared.FetchFault.TheVariants as fetches
 use Rattle.w16_loader.specs.declared.binding.BindFault.{BindFault}
 use Rattle.w16_loader.specs.declared.binding.BindFault.TheVariants as binds
 use Rattle.w16_loader.specs.declared.fault.ValueFault.{ValueFault}
@@ -9,6 +10,10 @@ use Rattle.w16_loader.specs.declared.found.FileFault.{FileFault}
 use Rattle.w16_loader.specs.declared.found.FileFault.TheVariants as files
 use Rattle.w16_loader.specs.declared.loading.LoadAnswer.{LoadAnswer}
 use Rattle.w16_loader.specs.declared.loading.LoadAnswer.TheVariants as answers
+
+abbrev pub is_of_device : FetchFault → Bool
+is_of_device fetches.Store = true
+is_of_device other = false
 
 abbrev pub is_file_device : FileFault → Bool
 is_file_device files.Device = true

@@ -3,11 +3,12 @@ ghost use Rattle.std.specs.Prelude.{◌≡◌, ◌≢◌, ◌-◌, ◌<◌, ◌�
 ghost use Rattle.w16_store.specs.Later.{IsLater, RoseIf};
 ghost use Rattle.w16_loading.specs.declared.FetchFault.TheVariants.{Store as store_fails};
 ghost use Rattle.w16_loading.specs.File.{ModuleFile, Segment};
-ghost use Rattle.w16_loading.specs.Fill.{InTurn, is_of_device};
+ghost use Rattle.w16_loading.specs.Fill.{InTurn};
 ghost use Rattle.w16_loading.specs.Law.{IsItsFiles};
 ghost use Rattle.w16_loading.specs.Modules.{Module, module_at};
 ghost use Rattle.w16_loader.specs.Binding.{IsSaid, AreSaid};
 ghost use Rattle.w16_loader.specs.Filling.{Part, AreItsFiles, AreReadAs, AreUnfilled, HasUnfilled, IsReadAs, IsUnfilled, failure_at, failure_in, fills_in, fills_of_part, fills_with, gives_over};
+ghost use Rattle.w16_loader.specs.Devices.{is_of_device};
 
 use crate::entry::Loaded;
 use crate::fault::Failure;

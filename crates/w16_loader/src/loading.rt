@@ -1,8 +1,7 @@
 //! Loads of modules: `LoadModule` and `LoadLibrary`.
 ghost use Rattle.std.specs.Prelude.{◌≡◌, ◌≤◌, ◌<◌, ℕ, Bool, false, List, [], None, length, fold, All, IfOk, IfErr, OnErr};
-ghost use Rattle.w16_loading.specs.Fill.{is_of_device};
 ghost use Rattle.w16_store.specs.Later.{IsLater, RoseIf};
-ghost use Rattle.w16_loader.specs.Devices.{is_bind_device, is_load_device, is_file_device};
+ghost use Rattle.w16_loader.specs.Devices.{is_of_device, is_bind_device, is_load_device, is_file_device};
 ghost use Rattle.std.specs.FinMap as finmap;
 ghost use Rattle.w16_model.specs.Handles.{AreHandles};
 ghost use Rattle.w16_loading.specs.Closure as closing;

@@ -9,9 +9,10 @@ ghost use Rattle.w16_reloc.specs.Segments.{Held, checked, is_reloc_device};
 ghost use Rattle.w16_reloc.specs.Sound.{IsSound};
 ghost use Rattle.w16_global.specs.Owned.{LacksBytes};
 ghost use Rattle.w16_loading.specs.declared.FetchFault.TheVariants.{Store as store_fails};
-ghost use Rattle.w16_loading.specs.Fill.{is_of_device, is_of_read};
+ghost use Rattle.w16_loading.specs.Fill.{is_of_read};
 ghost use Rattle.w16_format.specs.Tables.{tables_in};
 ghost use Rattle.w16_loader.specs.Fetching.{fault_of, fault_in, IsWritten, IsSourceOf, GivesBytes, GivesSegment};
+ghost use Rattle.w16_loader.specs.Devices.{is_of_device};
 
 use crate::entry::Loaded;
 use crate::segment_work::SegmentWork;

@@ -7,7 +7,7 @@ ghost use Rattle.w16_ne.specs.Resources.{entry_of};
 ghost use Rattle.w16_global.specs.Owned.{LacksBytes};
 ghost use Rattle.w16_loading.specs.declared.FetchFault.TheVariants.{Store as store_fails};
 ghost use Rattle.w16_loading.specs.Answers.{FetchesFrom, FillsFewest, told};
-ghost use Rattle.w16_loading.specs.Fill.{is_of_read, is_of_device};
+ghost use Rattle.w16_loading.specs.Fill.{is_of_read};
 ghost use Rattle.w16_loading.specs.Modules.{LoadingWorld};
 ghost use Rattle.w16_loading.specs.Resource.{resource_at};
 ghost use Rattle.w16_format.specs.Ne.{ne_format};
@@ -15,6 +15,7 @@ ghost use Rattle.w16_loader.specs.Fetching.{fault_in};
 ghost use Rattle.w16_loader.specs.Registry.{in_world};
 ghost use Rattle.w16_resource.specs.Parts.{IsLoadingOver, loading_of};
 ghost use Rattle.w16_resource.specs.Sources.{GivesSource, IsSourceAt, is_long};
+ghost use Rattle.w16_loader.specs.Devices.{is_of_device};
 
 use crate::finding::{ResourceSource, source_of};
 use crate::resources::Resources;

@@ -1,7 +1,6 @@
 //! Loads of resources.
 ghost use Rattle.std.specs.Prelude.{◌≡◌, ◌≤◌, ◌<◌, true, false, IfErr};
 ghost use Rattle.w16_store.specs.Later.{IsLater, RoseIf};
-ghost use Rattle.w16_loading.specs.Fill.{is_of_device};
 ghost use Rattle.w16_model.specs.Calls.{rounded_size};
 ghost use Rattle.w16_ne.specs.Resources.{Label, entry_of};
 ghost use Rattle.w16_loading.specs.Answers.{FewestOver};
@@ -17,6 +16,7 @@ ghost use Rattle.w16_format.specs.Tables.{has, kind_of_flags, resource_in};
 ghost use Rattle.w16_resource.specs.Loads.{load_in};
 ghost use Rattle.w16_resource.specs.Parts.{IsLoadingOver, loading_of, word_in};
 ghost use Rattle.w16_resource.specs.Sources.{MakesNew, is_long, refusal};
+ghost use Rattle.w16_loader.specs.Devices.{is_of_device};
 
 use crate::fetching::{fetch_from, is_too_long};
 use crate::finding::{ResourceSource, source_of};

@@ -1,7 +1,6 @@
 //! Locks of resources, which fetch those that have no bytes.
 ghost use Rattle.std.specs.Prelude.{◌≡◌, ◌<◌, ℕ, true, Some, option_map, IfSome, IfErr};
 ghost use Rattle.w16_store.specs.Later.{IsLater, RoseIf};
-ghost use Rattle.w16_loading.specs.Fill.{is_of_device};
 ghost use Rattle.w16_loading.specs.Answers.{FewestOver};
 ghost use Rattle.w16_loading.specs.Families.LoadingCommand.{OfResources};
 ghost use Rattle.w16_loading.specs.Families.ResourceCommand.{LockResource};
@@ -10,6 +9,7 @@ ghost use Rattle.w16_loading.specs.Resource.{lock_outcome, slot_of_resource};
 ghost use Rattle.w16_format.specs.Ne.{ne_format};
 ghost use Rattle.w16_resource.specs.Loads.{load_in};
 ghost use Rattle.w16_resource.specs.Parts.{IsLoadingOver, loading_of, dword_in};
+ghost use Rattle.w16_loader.specs.Devices.{is_of_device};
 
 use crate::listing::Load;
 use crate::resources::Resources;
