@@ -27,13 +27,13 @@ pub use Rattle.w16_format.specs.Data.{target_of}
 pub use Rattle.w16_global.proofs.Common.{Global, IfNone, Lends, OnOk, cases_lt, common_steps, get-by_id, le-ltb, length-repeated, without_slot}
 pub use Rattle.w16_global.specs.Owned.{HasNoSlot, LacksBytes}
 pub use Rattle.w16_loader.specs.Answering.{AreAccepted, AreHeld, ClosesOf, ClosesTo, IsAccepted, IsClosureBy, IsNewIn, IsRefusedFile, IsRefusedName, LeadsBy, LeadsByAnswer, LeadsTo, MakesOf, ReadsIn, RefusesBy, answers_of}
-pub use Rattle.w16_loader.specs.AnyClosing.{AreGood, Begins, ClosesAny, IsAlike, IsFoundOf, IsGood, IsSomeClosure, LeadsAny, any_format, closed_of, reached_of, said_by}
+pub use Rattle.w16_loader.specs.Reached.{Begins, IsAlike, IsFoundOf, closed_of, reached_of}
 pub use Rattle.w16_loader.specs.Binding.{AreSaid, AreTargets, AreValuesOf, IsBindFailure, IsFailure, IsForEach, IsSaid, IsStoredAs, all_bound, bound_as, fault_of_name, values_for, with_values}
-pub use Rattle.w16_loader.specs.Closing.{Files, IsFault, IsNewOrMeant, IsRead, IsSmall, IsThere, IsUnsound, around_in, fault_of, fault_of_check, found_in, meant_in, read_in, reading_in, reading_of, referent_of, said}
+pub use Rattle.w16_loader.specs.Closing.{Files, IsFault, IsNewOrMeant, IsRead, IsThere, IsUnsound, around_in, fault_of, fault_of_check, found_in, meant_in, read_in, referent_of, said}
 pub use Rattle.w16_loader.specs.Entries.{named_of}
 pub use Rattle.w16_loader.specs.Fetching.{GivesBytes, IsFetchable, IsSoundIn, IsSourceOf, IsWritten, fault_in, image_in, in_parts}
 pub use Rattle.w16_loader.specs.Filling.{AreItsFiles, AreReadAs, AreUnfilled, HasUnfilled, IsReadAs, IsUnfilled, Part, failure_at, fills_in, fills_of_part, fills_with, gives_over, slots_at}
-pub use Rattle.w16_loader.specs.Following.{FindsFew, Leads, LeadsByFile, LeadsByName, LeadsSomewhere, bound_in, closed_in, found_after, left_from, pending_in, reached, references_at, references_from, references_of, referent_after, with_followed}
+pub use Rattle.w16_loader.specs.Following.{FindsFew, LeadsByName, bound_in, closed_in, found_after, left_from, pending_in, references_at, references_from, references_of, referent_after}
 pub use Rattle.w16_loader.specs.Idle.{first_unused, imports_in, is_imported, is_unused}
 pub use Rattle.w16_loader.specs.Loading.{IsGivenHeld, IsOfFile, LoadsHeld, answer_in, failed_by, in_store, is_application, of_fault, refused_by}
 pub use Rattle.w16_loader.specs.Naming.{AreFit, AreUnbound, GetNames, GetsName, IsClosureOf, IsFit, IsUnbound, Takes, free_handles, imports_among, unbound_by}

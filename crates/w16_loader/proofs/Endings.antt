@@ -118,9 +118,6 @@ module _ (rest : LoadingWorld) (modules left : Modules) (old new : Handles) (han
       ∙ ap (in_world (without_objects (λ q. is_member q m.slots) (in_world (with_handles rest old) modules))) removed
       ∙ ap (world_without (in_world (with_handles rest old) modules) handle) found
 
-  pub no_module : None ≡ module_at modules handle → left ≡ modules → new ≡ old → in_world (with_handles rest new) left ≡ without_module (in_world (with_handles rest old) modules) handle
-  no_module found same still = (λ i. in_world (with_handles rest (still i)) (same i)) ∙ ap (world_without (in_world (with_handles rest old) modules) handle) found
-
 loaded_some : (p : Option Named) (m : Module) → Some m ≡ module_in p → (n : Named) × (p ≡ Some n)
 loaded_some None m e = cc
 loaded_some (Some n) m e = (n, refl)

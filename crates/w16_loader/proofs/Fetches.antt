@@ -1,9 +1,9 @@
 -- What a fetch of a segment comes to.
-use Rattle.w16_loader.proofs.Common.{◌≡◌, ℕ, ◌-◌, ◌<◌, ◌≤◌, inl, inr, true, false, cond, List, [], length, map, All, Option, Some, None, IsSomeAnd, MatchOption, MatchResult, is_some, option_map, slice_get, slice_index_or, Result, Ok, Err, refl, sym}
+use Rattle.w16_loader.proofs.Common.{◌≡◌, ℕ, ◌-◌, ◌<◌, ◌≤◌, inl, inr, true, false, cond, List, [], length, map, All, Option, Some, None, IsSomeAnd, MatchOption, is_some, option_map, slice_get, slice_index_or, Result, Ok, Err, refl, sym}
 use Rattle.w16_loader.proofs.Common.{ap, ◌∙◌, subst, arith, ne_eqb, lit<, false≢true, length-map, slice_get-map, slice_get_cases, get_or_from_slice_get, AllZip-left, repeated, Owned, Handles, bytes_at, Revives, owned_at, is_owned, length-repeated}
 use Rattle.w16_loader.proofs.Common.{All-repeated, tables_at, RelocFault, Record, Held, checked, data_of, IsImage, naming, FetchFault, Store, Damaged, NoRoom, IsOwnedSize, read_of, segment_bytes}
-use Rattle.w16_loader.proofs.Common.{Far, ModuleFile, SegmentData, IsModuleFile, IsSegmentData, numbered, Fills, IsHeap, is_of_device, is_of_read, IsItsFiles, IsObjectOf, LoadingWorld, Module, of_segment, data_in, target_of, targets_in, far_of}
-use Rattle.w16_loader.proofs.Common.{IsFileOf, IsRelocated, ne_format, module_file, segment_in, accepted, has_room, is_format, stored_law, is_relocated, words_same, file_of, GivesBytes, IsFetchable, IsSoundIn, IsWritten, image_in}
+use Rattle.w16_loader.proofs.Common.{Far, ModuleFile, SegmentData, numbered, Fills, IsHeap, is_of_device, is_of_read, IsItsFiles, IsObjectOf, LoadingWorld, Module, of_segment, data_in, target_of, targets_in, far_of}
+use Rattle.w16_loader.proofs.Common.{IsFileOf, IsRelocated, ne_format, module_file, segment_in, accepted, has_room, stored_law, is_relocated, words_same, file_of, GivesBytes, IsFetchable, IsSoundIn, IsWritten, image_in}
 use Rattle.w16_loader.specs.Fetching.{GivesOwned, GivesSegment, IsRelocatedBy, IsSoundSource}
 use Rattle.w16_loading.specs.Answers.{FetchesFrom, FillsFewest, GivesRead, MayFail, told}
 use Rattle.w16_loading.specs.Fetch as fetching
@@ -61,15 +61,6 @@ module _ (file : List ℕ) (t : Tables) (number : ℕ) (values : List words.Far)
   -- what the file gives of it
   pub data_there : slice_get (map (data_in file t) t.segments) (number - 1) ≡ Some (data_in file t s)
   data_there = slice_get-map (data_in file t) t.segments (number - 1) ∙ ap (option_map (data_in file t)) sound.there
-
-  module_is : IsModuleFile (module_file file t)
-  module_is = subst (λ r. MatchResult r IsModuleFile (λ answer. (11 ≤ answer) × (answer ≤ 14))) (accepted file t sound.are_bytes sound.tables) (is_format.files file)
-
-  data_is : IsSegmentData (segment_in s) (data_in file t s)
-  data_is = subst (λ p. IsSomeAnd p (IsSegmentData (segment_in s))) data_there
-      (subst (λ p. MatchOption p (Unit {0}) (λ g. IsSomeAnd (slice_get (map (data_in file t) t.segments) (number - 1)) (IsSegmentData g)))
-      (slice_get-map segment_in t.segments (number - 1) ∙ ap (option_map segment_in) sound.there)
-      (AllZip-left IsSegmentData (map segment_in t.segments) (map (data_in file t) t.segments) module_is.segments (number - 1)))
 
   -- what was written over as many bytes as it has is its image
   image : (written : List ℕ) → length written ≡ s.size → IsWritten sound.held.bytes sound.held.records values written → bytes ≡ written

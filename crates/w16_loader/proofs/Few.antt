@@ -1,5 +1,6 @@
 -- A load finds modules after those that it had, and no more than handles are free.
-use Rattle.w16_loader.proofs.Common.{◌≡◌, ℕ, ◌<◌, ◌+◌, inl, inr, List, [], ◌∷◌, ◌++◌, length, sym, ap, ◌∙◌, subst, arith, length-append, append-nil, append_assoc, Modules, free_modules, dll, Found, Followed, FindsFew, LeadsByName, LeadsByFile, LeadsSomewhere, found_after}
+use Rattle.w16_loader.proofs.Common.{◌≡◌, ℕ, ◌<◌, ◌+◌, inl, inr, List, [], ◌∷◌, ◌++◌, length, sym, ap, ◌∙◌, subst, arith, length-append, append-nil, append_assoc, Modules, free_modules, dll, Found, Followed, FindsFew, LeadsByAnswer, LeadsByName, LeadsTo, found_after}
+use Rattle.w16_loading.specs.Answers.{Answers}
 use Rattle.w16_loader.specs.declared.closure.Followed.TheVariants as leads
 
 module _ {A : Type 0} (modules : Modules) where
@@ -24,9 +25,12 @@ module _ {A : Type 0} (modules : Modules) where
   by_name found name (leads.Meant referent) h = few_same found
   by_name found name (leads.New f) h = absurd h
 
-  by_file : (found : List (Found A)) (file : List ℕ) (f : Followed A) → LeadsByFile modules found file f → FindsFew modules found (found_after found f)
-  by_file found file (leads.Meant referent) h = few_same found
-  by_file found file (leads.New f) h = one_more found f h.2
+  by_file : (answers : Answers) (found : List (Found A)) (file : List ℕ) (f : Followed A) → LeadsByAnswer answers modules found file f → FindsFew modules found (found_after found f)
+  by_file answers found file (leads.Meant referent) h = few_same found
+  by_file answers found file (leads.New f) h = one_more found f h.1.2
 
-  pub few_after : (found : List (Found A)) (name : List ℕ) (f : Followed A) → LeadsSomewhere modules found name f → (new : List (Found A)) → new ≡ found_after found f → FindsFew modules found new
-  few_after found name f h new same = subst (FindsFew modules found) (sym same) (elim h [ inl k ↦ by_name found name f k | inr k ↦ by_file found (dll name) f k.1 ])
+  pub few_to : (answers : Answers) (found : List (Found A)) (name : List ℕ) (f : Followed A) → LeadsTo answers modules found name f → (new : List (Found A)) → new ≡ found_after found f → FindsFew modules found new
+  few_to answers found name f h new same = subst (FindsFew modules found) (sym same) (elim h [ inl k ↦ by_name found name f k | inr k ↦ by_file answers found (dll name) f k.1 ])
+
+pub few_after : {A : Type 0} (answers : Answers) (modules : Modules) (found : List (Found A)) (name : List ℕ) (f : Followed A) → LeadsTo answers modules found name f → (new : List (Found A)) → new ≡ found_after found f → FindsFew modules found new
+few_after answers modules = few_to modules answers

@@ -5,11 +5,9 @@ pub mod Listed
 pub mod Registered
 pub mod Uses
 pub mod Files
-pub mod Readings
 pub mod Idleness
 pub mod Endings
 pub mod Pending
-pub mod Steps
 pub mod Followings
 pub mod Meanings
 pub mod Few
@@ -17,8 +15,6 @@ pub mod Tellings
 pub mod Givings
 pub mod Holdings
 pub mod Closings
-pub mod AnyFormats
-pub mod AnyFollowings
 pub mod Fulfilled
 pub mod Fillings
 pub mod Unfilled

@@ -1,6 +1,6 @@
 -- What a name means is there.
 use Rattle.w16_loader.proofs.Common.{◌≡◌, ℕ, ◌<◌, inl, inr, Bool, true, false, cond, nat_lt, List, [], ◌∷◌, length, map, Option, Some, None, option_map, Result, Ok, Err, IfOk, refl, sym, ap, ◌∙◌, arith, ltb-true, position}
-use Rattle.w16_loader.proofs.Common.{position_or_len, option_or, length-map, Member, is_named, entry_there, Modules, Named, name_of, handle_named, There, New, Found, FileFault, Reading, found_in, meant_in, IsNewOrMeant, IsThere}
+use Rattle.w16_loader.proofs.Common.{position_or_len, option_or, length-map, Member, is_named, entry_there, Modules, Named, name_of, handle_named, There, New, Found, FileFault, Reading, found_in, IsNewOrMeant, IsThere}
 use Rattle.std.specs.List.{find}
 use Rattle.std.specs.FinMap as finmap
 use Rattle.w16_loading.specs.Closure as closing
@@ -54,11 +54,3 @@ module _ {A : Type 0} (modules : Modules) (found : List (Found A)) where
   pub all_there : (r : Result (Reading A) FileFault) → IfOk r (IsNewOrMeant modules found) → IfOk r (IsThere modules found)
   all_there (Ok made) h = is_there made h
   all_there (Err fault) h = tt
-
-  -- what means nothing is no name of a module that is there
-  pub unnamed : (name : List ℕ) → meant_in modules found name ≡ None → handle_named modules name ≡ None
-  unnamed name e = turn (handle_named modules name) (place_of name) e
-    where
-      turn : (p r : Option ℕ) → option_or (option_map There p) (option_map New r) ≡ None → p ≡ None
-      turn None r e = refl
-      turn (Some handle) r e = cc

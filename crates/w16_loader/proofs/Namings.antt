@@ -1,7 +1,7 @@
 -- New modules that get names, one after another.
 use Rattle.w16_loader.proofs.Common.{◌≡◌, ◌≢◌, ℕ, zero, suc, ◌+◌, ◌<◌, ◌≤◌, inl, inr, List, [], ◌∷◌, ◌++◌, length, map, fold, flat_map, zip, take, slice_get, Some, All, AllPairs, refl, sym, ap, ◌∙◌, subst, arith, append-nil, append_assoc, map-append}
 use Rattle.w16_loader.proofs.Common.{sum_by-cons, AreHandles, IsFreeSlot, Member, EachPair, All-from_Each, AllPairs-from_EachPair, Segment, LoadingWorld, Module, Modules, IsFreeModule, Loaded, Closure, AreSlots, Choice, IsChoice, Given, given_from}
-use Rattle.w16_loader.proofs.Common.{segments_in, segments_of, unbound, with_modules, with_segment, free_slots, without_module, given_index, undone_law, Takes, GetsName, GetNames, IsUnbound, imports_among, unbound_by, All-nil, All-push, IsFit}
+use Rattle.w16_loader.proofs.Common.{segments_in, segments_of, unbound, with_modules, with_segment, free_slots, without_module, given_index, undone_law, Takes, GetsName, GetNames, IsUnbound, imports_among, unbound_by, All-push, IsFit}
 use Rattle.std.proofs.Common.{length-append}
 use Rattle.std.specs.List.{AllByRecursion as Each}
 use Rattle.std.specs.FinMap as finmap
@@ -36,10 +36,6 @@ many_more [] [] f s many long = (long, tt)
 many_more [] (t ∷ ss) f s many long = absurd many
 many_more (g ∷ fs) [] f s many long = absurd many
 many_more (g ∷ fs) (t ∷ ss) f s many long = (many.0, many_more fs ss f s many.1 long)
-
--- no module has one yet
-pub none_named : (old : LoadingWorld) (module_of : Given → Module) → GetNames old module_of [] [] old
-none_named old module_of = record { slots = []; many = tt; fit = All-nil (λ (f : Found). All IsFit f.read.tables.segments); taken = refl; named = refl }
 
 module _ (imports : ℕ → List ℕ) where
   abbrev module_of : Given → Module

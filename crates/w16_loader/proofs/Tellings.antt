@@ -1,8 +1,13 @@
 -- What a store answered of files.
-use Rattle.w16_loader.proofs.Common.{◌≡◌, ℕ, ◌<◌, true, false, List, Option, Some, None, Result, Ok, Err, MatchResult, refl, sym, ap, ◌∙◌, subst, file_of, tables_at, ModuleFile, are_sound, Tables, module_file, ne_format, tables_in}
+use Rattle.w16_loader.proofs.Common.{◌≡◌, ℕ, ◌<◌, ◌≤◌, inl, inr, arith, true, false, List, Option, Some, None, Result, Ok, Err, MatchResult, refl, sym, ap, ◌∙◌, subst, file_of, tables_at, ModuleFile, are_sound, Tables, module_file, ne_format, tables_in}
 use Rattle.w16_loader.proofs.Common.{FileFault, Files, IsFault, IsRead, IsUnsound, said, answers_of, read_back, tables_apart}
 use Rattle.w16_ne.specs.Modules as ne
-use Rattle.w16_loading.specs.Answers.{HasTables, RefusesFile, said_by}
+use Rattle.w16_loading.specs.Answers.{HasTables, said_by}
+use Rattle.w16_store.specs.declared.store.StoreFault.{StoreFault}
+use Rattle.w16_store.specs.declared.store.StoreFault.TheVariants as stores
+use Rattle.w16_store.specs.Files.{IsHonestFault, IsMissing, length_of}
+use Rattle.w16_store.specs.Later.{RoseIf, is_device}
+use Rattle.w16_loader.specs.Closing.{fault_of_length}
 use Rattle.w16_loader.specs.declared.found.FileFault.TheVariants as faults
 
 -- What is said of a file that has these tables.
@@ -33,11 +38,22 @@ number_told None number e = cc
 number_told (Some bytes) number e = subst (λ r. HasTables r (Err number)) (sym e) refl
 
 module _ (honest : Type 0) (files : Files) (name : List ℕ) where
-  pub refuses_told : (before after : ℕ) (fault : FileFault) → IsFault RefusesFile 0 1 fault → (honest → IsFault (λ number. said (file_of files name) ≡ Err number) before after fault) → (fault ≡ faults.Device → before < after)
+  pub refuses_told : (before after : ℕ) (fault : FileFault) → IsFault (λ number. (11 ≤ number) × (number ≤ 14)) 0 1 fault → (honest → IsFault (λ number. said (file_of files name) ≡ Err number) before after fault) → (fault ≡ faults.Device → before < after)
       → IsFault (λ number. (answers_of honest files).says name (Err number)) before after fault
-  refuses_told before after (faults.Refused number) few exact rose = (few, λ h. number_told (file_of files name) number (exact h))
+  refuses_told before after (faults.Refused number) few exact rose = (inr few, λ h. number_told (file_of files name) number (exact h))
   refuses_told before after faults.Device few exact rose = rose refl
   refuses_told before after faults.OutOfMemory few exact rose = tt
+
+  -- its length can't be had
+  pub length_told : (before after : ℕ) (fault : StoreFault) → IsMissing (file_of files name) fault → (honest → IsHonestFault before after fault (length_of (file_of files name))) → RoseIf is_device before after fault
+      → IsFault (λ number. (answers_of honest files).says name (Err number)) before after (fault_of_length fault)
+  length_told before after stores.Missing none exact rose = (inl (refl, none refl), λ h. subst (λ p. HasTables (said_by ne_format.says p) (Err 2)) (sym (none refl)) refl)
+  length_told before after stores.Device none exact rose = rose refl
+  length_told before after stores.Short none exact rose = (inr (omega arith, omega arith), λ h. absurd (never (file_of files name) (exact h)))
+    where
+      never : (p : Option (List ℕ)) → length_of p ≡ Err stores.Short → ⊥
+      never None e = cc
+      never (Some bytes) e = cc
 
   module _ (t : ne.Tables) (says : (answers_of honest files).says name (Ok (tables_in t))) where
     pub sound_told : ((bytes : List ℕ) → honest → file_of files name ≡ Some bytes → tables_at (Some bytes) ≡ Ok t → are_sound (module_file bytes t) ≡ true) → (answers_of honest files).sound name (tables_in t) true

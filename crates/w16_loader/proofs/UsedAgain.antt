@@ -2,11 +2,6 @@
 use Rattle.w16_loader.proofs.Common.{◌≡◌, ℕ, true, false, cond, Option, Some, None, refl, ap, nat_lt, MOST_USES, LoadingWorld, Named, module_in, Loaded, BuiltIn, Answer, after_use, used_again, Says, is_application}
 
 module _ (old : LoadingWorld) (handle : ℕ) where
-  -- an application isn't loaded twice by LoadModule
-  pub twice : (p : Option Named) → is_application (module_in p) ≡ true → used_again true old handle p ≡ (Says 16, old)
-  twice None e = cc
-  twice (Some (Loaded m)) e = ap (λ b. cond {A = Answer × LoadingWorld} b (Says 16, old) (cond (nat_lt m.uses MOST_USES) (Says handle, after_use old handle m) (Says 0, old))) e
-  twice (Some (BuiltIn name)) e = cc
 
   -- all else is as by LoadLibrary
   pub once : (p : Option Named) → is_application (module_in p) ≡ false → used_again true old handle p ≡ used_again false old handle p

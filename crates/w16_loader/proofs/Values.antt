@@ -1,6 +1,6 @@
 -- The values of relocation records, and what a file says of them.
-use Rattle.w16_loader.proofs.Common.{◌≡◌, ℕ, zero, suc, ◌+◌, ◌-◌, ◌<◌, ◌≤◌, Bool, true, List, [], ◌∷◌, ◌++◌, length, take, drop, get_or, map, Some, slice_get, slice_index, Result, Ok, Err, refl, sym, ap, ◌∙◌, subst, arith, add-one, All, MatchResult}
-use Rattle.w16_loader.proofs.Common.{is_ok, nat_lt, unwrap_or, list_all, and_parts, length-map, length-take, length-drop, map_push, map_more, All-nil, All-cons, file_of, NeFault, text_at, text_in, tables_at, imported_place, text_read, RelocFault}
+use Rattle.w16_loader.proofs.Common.{◌≡◌, ℕ, zero, suc, ◌+◌, ◌-◌, ◌<◌, ◌≤◌, Bool, true, List, [], ◌∷◌, ◌++◌, length, take, drop, map, Some, slice_get, slice_index, Result, Ok, Err, refl, sym, ap, ◌∙◌, subst, arith, add-one, All}
+use Rattle.w16_loader.proofs.Common.{is_ok, nat_lt, unwrap_or, list_all, and_parts, length-map, length-take, length-drop, map_push, All-nil, All-cons, file_of, NeFault, text_at, text_in, tables_at, imported_place, text_read, RelocFault}
 use Rattle.w16_loader.proofs.Common.{Record, ◌>>=◌, check_from, Offer, Held, checked, data_of, records_of, offer_of, has_text_at, AreRecords, passed_is_sound, are_sound, Far, ModuleFile, SegmentData, Target, targets_of, Lookup, Module, value_of}
 use Rattle.w16_loader.proofs.Common.{data_in, target_of, targets_in, far_of, module_file, segment_in, tables_in, sound_law, read_back, tables_apart, ValueFault, Device, OutOfMemory, Files, AreValuesOf, IsFailure, IsSaid, IsStoredAs, fault_of_name}
 use Rattle.w16_loader.proofs.Common.{values_for}
@@ -26,10 +26,6 @@ pub failure_since : (start before after : ℕ) (fault : ValueFault) → start �
 failure_since start before after Device le more = omega arith
 failure_since start before after Damaged le h = h
 failure_since start before after OutOfMemory le h = tt
-
-pub answer_since : {X : Type 0} (IsRight : X → Type 0) (start before after : ℕ) (r : Result X ValueFault) → start ≤ before → MatchResult r IsRight (IsFailure before after) → MatchResult r IsRight (IsFailure start after)
-answer_since IsRight start before after (Ok x) le h = h
-answer_since IsRight start before after (Err e) le h = failure_since start before after e le h
 
 -- a name that is there isn't refused but by the device, or for want of memory
 pub name_failed : (file : List ℕ) (before after : ℕ) (text : List ℕ) (e : NeFault) → Refuses (Some file) before after e (Ok text) → IsFailure before after (fault_of_name e)
@@ -112,14 +108,6 @@ module _ (named : Lookup) (m : Module) where
   value_more targets target fars far one are =
       map_push far_of fars far ∙ (λ i. are i ++ one i ∷ []) ∙ sym (map_push (value_of named m) targets target)
 
-  -- of the first records those of one more
-  pub record_more : (file : List ℕ) (t : Tables) (records : List Record) (place : ℕ) (r d : Record) (fars : List words.Far) (far : words.Far) → place < length records → r ≡ get_or records place d
-      → far_of far ≡ value_of named m (target_of file t r) → AreValuesOf named m (map (target_of file t) (take place records)) fars
-      → AreValuesOf named m (map (target_of file t) (take (place + 1) records)) (fars ++ far ∷ [])
-  record_more file t records place r d fars far lt at one are =
-      value_more (map (target_of file t) (take place records)) (target_of file t r) fars far one are
-      ∙ ap (map (value_of named m)) ((λ i. map (target_of file t) (take place records) ++ target_of file t (at i) ∷ []) ∙ sym (map_more (target_of file t) records place d lt))
-
   module _ {V : Type 0} (view : V → List Far) where
     pub segment_more : (targets : List (List Target)) (ts : List Target) (vs : List V) (v : V) → view v ≡ map (value_of named m) ts → map view vs ≡ values_for named m targets
         → map view (vs ++ v ∷ []) ≡ values_for named m (targets ++ ts ∷ [])
@@ -164,9 +152,6 @@ module _ (files : Files) (m : Module) (read : ModuleFile) (is : IsSaid files m r
 
   read_is : read ≡ module_file is.file t
   read_is = back.2 ∙ ap (module_file is.file) one
-
-  many : length read.segments ≡ length t.segments
-  many = ap (λ (r : ModuleFile). length r.segments) read_is ∙ length-map t.segments (data_in is.file t)
 
   all_pass : list_all (λ s. is_ok (checked is.file t s)) t.segments ≡ true
   all_pass = sym (sound_law is.file t) ∙ ap are_sound (sym read_is) ∙ is.sound

@@ -18,7 +18,7 @@ use Rattle.w16_loader.specs.declared.closure.Followed.{Followed}
 use Rattle.w16_loader.specs.declared.closure.Followed.TheVariants as leads
 use Rattle.w16_loader.specs.Closing.{Files, around_in, found_in, meant_in, referent_of}
 use Rattle.w16_loader.specs.Following.{LeadsByName, bound_in, number_of_reference}
-use Rattle.w16_loader.specs.AnyClosing.{Begins, IsFoundOf}
+use Rattle.w16_loader.specs.Reached.{Begins, IsFoundOf}
 use Rattle.w16_loader.specs.Naming.{IsFit}
 
 -- a store's answers of what it read, whatever its count of failures

@@ -33,9 +33,6 @@ abbrev pub values_for : Lookup → Module → List (List Target) → List (List 
 values_for named m targets = map (λ ts. map (value_of named m) ts) targets
 
 module _ (named : Lookup) (m : Module) where
-  -- a far pointer is the value of some target, and several are the values of these
-  abbrev pub IsValue : words.Far → Type 0
-  IsValue far = (target : Target) × (far_of far ≡ value_of named m target)
 
   abbrev pub AreValuesOf : List Target → List words.Far → Type 0
   AreValuesOf targets fars = map far_of fars ≡ map (value_of named m) targets

@@ -10,7 +10,6 @@ use Rattle.w16_ne.specs.Modules.{tables_at}
 use Rattle.w16_reloc.specs.declared.fault.RelocFault.{RelocFault}
 use Rattle.w16_reloc.specs.declared.fault.RelocFault.TheVariants as relocs
 use Rattle.w16_loading.specs.File.{ModuleFile}
-use Rattle.w16_loading.specs.declared.TheConstants.{FIRST_MODULE}
 use Rattle.w16_loading.specs.Modules.{Modules, Named, handle_named, free_modules}
 use Rattle.w16_loading.specs.Closure as closing
 use Rattle.w16_loading.specs.Closure.{Around, are_sound}
@@ -59,11 +58,15 @@ IsFault IsRefused before after (Refused number) = IsRefused number
 IsFault IsRefused before after Device = before < after
 IsFault IsRefused before after OutOfMemory = Unit {0}
 
--- what a fault of a file, and of its relocations, is to a load
+-- what a fault of a file's length is to a load, of a file that is there, and of its relocations
+abbrev pub fault_of_length : StoreFault → FileFault
+fault_of_length stores.Missing = Refused 2
+fault_of_length stores.Device = Device
+fault_of_length stores.Short = Refused 11
+
 abbrev pub fault_of : NeFault → FileFault
 fault_of faults.OutOfMemory = OutOfMemory
 fault_of (faults.Store stores.Device) = Device
-fault_of (faults.Store stores.Missing) = Refused 2
 fault_of e = Refused (number_of e)
 
 abbrev pub fault_of_check : RelocFault → FileFault
@@ -75,9 +78,6 @@ abbrev pub IsUnsound : List ℕ → ne.Tables → ℕ → Type 0
 IsUnsound bytes tables number = (number ≡ 11) × (are_sound (module_file bytes tables) ≡ false)
 
 module _ {A : Type 0} where
-  -- what a load of these modules, which has found others, makes of the file of a name
-  abbrev pub reading_in : Modules → Files → List (Found A) → List ℕ → closing.Reading
-  reading_in modules files found name = closing.reading ne_format.says (around_in modules files) (map (found_in files) found) name
 
   -- what a name means to a load of these modules that has found others
   abbrev pub meant_in : Modules → List (Found A) → List ℕ → Option closing.Referent
@@ -93,13 +93,3 @@ module _ {A : Type 0} where
   IsThere modules found (makes.Meant (refers.There handle)) = (n : Named) × (finmap.get modules handle ≡ Some n)
   IsThere modules found (makes.Meant (refers.New place)) = place < length found
   IsThere modules found (makes.Read tables) = Unit {0}
-
--- a number that refuses a load is none of a handle
-abbrev pub IsSmall : FileFault → Type 0
-IsSmall (Refused number) = number < FIRST_MODULE
-IsSmall Device = Unit {0}
-IsSmall OutOfMemory = Unit {0}
-
-abbrev pub reading_of : {A : Type 0} → Files → List ℕ → Reading A → closing.Reading
-reading_of files name (makes.Meant referent) = Meant (referent_of referent)
-reading_of files name (makes.Read tables) = Read (read_in files name tables)

@@ -1,11 +1,9 @@
 -- How a load follows the references of the modules that it finds, as the code keeps it.
-use Rattle.std.specs.Prelude.{◌≡◌, ◌⊎◌, ◌≤◌, ◌<◌, ◌==◌, if◌then◌else◌, ℕ, suc, List, [], ◌∷◌, ◌++◌, map, drop, length, slice_get, None, Some, Result}
-use Rattle.w16_loading.specs.File.{Saying}
+use Rattle.std.specs.Prelude.{◌≡◌, ◌≤◌, ◌==◌, if◌then◌else◌, ℕ, suc, List, [], ◌∷◌, ◌++◌, map, drop, length, slice_get, None, Some}
 use Rattle.w16_loading.specs.Modules.{Modules, free_modules}
 use Rattle.w16_loading.specs.Closure as closing
-use Rattle.w16_loading.specs.Closure.{Around, Closes, dll, with_bound, with_found}
 use Rattle.w16_loading.specs.Closure.Referent.{New}
-use Rattle.w16_loading.specs.Closure.Reading.{Meant, Read}
+use Rattle.w16_loading.specs.Closure.Reading.{Meant}
 use Rattle.w16_loader.specs.declared.found.Found.{Found}
 use Rattle.w16_loader.specs.declared.found.FileFault.{FileFault}
 use Rattle.w16_loader.specs.declared.found.FileFault.TheVariants.{Refused, Device, OutOfMemory}
@@ -15,7 +13,7 @@ use Rattle.w16_loader.specs.declared.closure.Bound.{Bound}
 use Rattle.w16_loader.specs.declared.closure.Closure.{Closure}
 use Rattle.w16_loader.specs.declared.closure.Followed.{Followed}
 use Rattle.w16_loader.specs.declared.closure.Followed.TheVariants as leads
-use Rattle.w16_loader.specs.Closing.{Files, referent_of, found_in, read_in, meant_in}
+use Rattle.w16_loader.specs.Closing.{Files, referent_of, found_in, meant_in}
 
 -- a file that a reference leads to and that is refused gives 20, want of a handle 0
 abbrev pub number_of_reference : ℕ → ℕ
@@ -25,10 +23,6 @@ abbrev pub fault_of_reference : FileFault → FileFault
 fault_of_reference (Refused answer) = Refused (number_of_reference answer)
 fault_of_reference Device = Device
 fault_of_reference OutOfMemory = OutOfMemory
-
--- the number that a refused file gives
-abbrev pub IsRefusedReference : closing.Reading → ℕ → Type 0
-IsRefusedReference reading number = (answer : ℕ) × (reading ≡ closing.Reading.Refused answer) × (number ≡ number_of_reference answer)
 
 -- the references of a module, each with the module's place
 abbrev pub references_of : ℕ → closing.Found → List (ℕ × List ℕ)
@@ -55,37 +49,15 @@ module _ {A : Type 0} where
   abbrev pub closed_in : Files → Closure A → closing.Closure
   closed_in files c = pending_in files [] c
 
-  -- where the references of the modules before a place are followed, and that many of the module at that place
-  abbrev pub reached : Files → ℕ → ℕ → Closure A → closing.Closure
-  reached files place done c = pending_in files (left_from place done (map (found_in files) c.found.items)) c
-
-  -- what a reference of the module at a place leaves, by what it leads to
-  abbrev pub with_followed : Files → closing.Closure → ℕ → Followed A → closing.Closure
-  with_followed files closure place (leads.Meant referent) = with_bound closure place (referent_of referent)
-  with_followed files closure place (leads.New f) = with_bound (with_found closure f.file.items (read_in files f.file.items f.module)) place (New (length closure.found))
-
   -- the references of the module at a place; none where there is none
   abbrev pub references_at : List (Found A) → ℕ → List (List ℕ)
   references_at found place = elim (slice_get found place) [ None ↦ [] | Some f ↦ f.module.references ]
-
-  -- what was made of the file that a reference is looked for in
-  abbrev pub IsReadOf : Files → List ℕ → closing.Reading → Followed A → Type 0
-  IsReadOf files file reading (leads.Meant referent) = reading ≡ Meant (referent_of referent)
-  IsReadOf files file reading (leads.New f) = (reading ≡ Read (read_in files f.file.items f.module)) × (f.file.items ≡ file)
 
   -- Where a reference leads by its name alone; and by a file, whatever that says: to what some name means, or to a new module of that file, whose name
   -- means nothing and for which a handle is left.
   abbrev pub LeadsByName : Modules → List (Found A) → List ℕ → Followed A → Type 0
   LeadsByName modules found name (leads.Meant referent) = meant_in modules found name ≡ Some (referent_of referent)
   LeadsByName modules found name (leads.New f) = ⊥
-
-  abbrev pub LeadsByFile : Modules → List (Found A) → List ℕ → Followed A → Type 0
-  LeadsByFile modules found file (leads.Meant referent) = (name : List ℕ) × (meant_in modules found name ≡ Some (referent_of referent))
-  LeadsByFile modules found file (leads.New f) = (f.file.items ≡ file) × (meant_in modules found f.module.name ≡ None) × (length found < free_modules modules)
-
-  -- a name that means nothing is looked for in its file
-  abbrev pub LeadsSomewhere : Modules → List (Found A) → List ℕ → Followed A → Type 0
-  LeadsSomewhere modules found name followed = LeadsByName modules found name followed ⊎ ((meant_in modules found name ≡ None) × LeadsByFile modules found (dll name) followed)
 
   -- Modules are found after those that were there, and no more than handles are free, or than there were.
   pub record FindsFew (modules : Modules) (before after : List (Found A)) : Type 0 where
@@ -101,9 +73,3 @@ module _ {A : Type 0} where
   abbrev pub referent_after : ℕ → Followed A → kept.Referent
   referent_after many (leads.Meant referent) = referent
   referent_after many (leads.New f) = refers.New many
-
--- One closure comes of another while a load follows references: what it closes to, the other does. No more modules are found than handles are free,
--- or than there were.
-pub record Leads (says : Saying) (a : Around) (before after : closing.Closure) : Type 0 where
-  pub closes : (outcome : Result closing.Closure ℕ) → Closes says a after outcome → Closes says a before outcome
-  pub few : (most : ℕ) → a.free ≤ most → length before.found ≤ most → length after.found ≤ most

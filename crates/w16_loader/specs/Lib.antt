@@ -3,7 +3,7 @@ pub mod Registry
 pub mod Closing
 pub mod Idle
 pub mod Following
-pub mod AnyClosing
+pub mod Reached
 pub mod Fetching
 pub mod Binding
 pub mod Filling

@@ -21,7 +21,7 @@ use Rattle.w16_loader.specs.declared.binding.BindFault.TheVariants as binds
 use Rattle.w16_loading.specs.declared.FetchFault.{FetchFault}
 use Rattle.w16_loading.specs.declared.FetchFault.TheVariants as fetches
 use Rattle.w16_loader.specs.Closing.{Files, said}
-use Rattle.w16_loader.specs.AnyClosing.{IsAlike}
+use Rattle.w16_loader.specs.Reached.{IsAlike}
 use Rattle.w16_loader.specs.Answering.{AreHeld, answers_of}
 use Rattle.w16_loader.specs.Fetching.{in_parts}
 use Rattle.w16_loader.specs.Registry.{in_world}

@@ -12,7 +12,7 @@ use Rattle.w16_loading.specs.Modules.Named.{Loaded}
 use Rattle.w16_loading.specs.Closure as closing
 use Rattle.w16_loading.specs.Naming.{Choice, IsChoice, Given, given, given_from, imports_at, unbound, with_modules, with_segment, segments_of}
 use Rattle.w16_loader.specs.declared.closure.Closure.{Closure}
-use Rattle.w16_loader.specs.AnyClosing.{IsAlike, IsFoundOf}
+use Rattle.w16_loader.specs.Reached.{IsAlike, IsFoundOf}
 use Rattle.w16_loader.specs.Following.{bound_in}
 
 module _ {A : Type 0} where

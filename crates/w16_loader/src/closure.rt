@@ -6,12 +6,12 @@ ghost use Rattle.w16_loading.specs.Closure as closing;
 ghost use Rattle.w16_loading.specs.Closure.{Closes, begun, dll};
 ghost use Rattle.w16_loading.specs.Modules.{free_modules, handle_named};
 ghost use Rattle.w16_format.specs.Ne.{ne_format};
-ghost use Rattle.w16_loader.specs.Closing.{around_in, reading_in, found_in, read_in, IsFault, IsSmall};
-ghost use Rattle.w16_loader.specs.Following.{Leads, IsReadOf, IsRefusedReference, pending_in, closed_in, reached, with_followed, LeadsByFile, LeadsSomewhere, FindsFew, references_at, found_after, referent_after};
+ghost use Rattle.w16_loader.specs.Closing.{around_in, found_in, read_in, IsFault};
+ghost use Rattle.w16_loader.specs.Following.{pending_in, closed_in, FindsFew, references_at, found_after, referent_after};
 ghost use Rattle.w16_loader.specs.Following as following;
 ghost use Rattle.w16_format.specs.Tables.{tables_in};
 ghost use Rattle.w16_loader.specs.Answering.{AreAccepted, ClosesOf, IsAccepted, IsClosureBy, IsRefusedFile, IsRefusedName, LeadsBy, LeadsByAnswer, LeadsTo, RefusesBy, answers_of};
-ghost use Rattle.w16_loader.specs.AnyClosing.{LeadsAny, IsSomeClosure, reached_of, closed_of};
+ghost use Rattle.w16_loader.specs.Reached.{reached_of, closed_of};
 
 use crate::found::{FileFault, Found, Reading, Referent, examine_file, meant};
 use crate::registry::Registry;
@@ -92,11 +92,6 @@ fn follow_file<S: Store, A: Allocator + Copy>(
     ensures device { IfErr result (RoseIf is_file_device (S.failures store.old) (S.failures store.new)) }
     ensures leads { IfOk result (LeadsByAnswer (answers_of S.is_honest (S.files store.old)) registry.now found.now file.items) }
     ensures refused { IfErr result (IsFault (IsRefusedFile (answers_of S.is_honest (S.files store.old)) registry.now found.now file.items) (S.failures store.old) (S.failures store.new)) }
-    ensures any { IfOk result (LeadsByFile registry.now found.now file.items) }
-    ensures small { IfErr result IsSmall }
-    ensures ok { S.is_honest → IfOk result (IsReadOf (S.files store.old) file.items (reading_in registry.now (S.files store.old) found.now file.items)) }
-    ensures err { S.is_honest → IfErr result (IsFault (IsRefusedReference (reading_in registry.now (S.files store.old) found.now file.items))
-        (S.failures store.old) (S.failures store.new)) }
 {
     match examine_file(alloc, registry, store, found, scratch, file.as_slice()) {
         Err(fault) => Err(fault_of_reference(fault)),
@@ -134,12 +129,6 @@ impl<A: Allocator + Copy> Closure<A> {
         ensures device { IfErr result (RoseIf is_file_device (S.failures store.old) (S.failures store.new)) }
         ensures leads { IfOk result (LeadsTo (answers_of S.is_honest (S.files store.old)) registry.now self.now.found.items name.now) }
         ensures refused { IfErr result (IsFault (IsRefusedName (answers_of S.is_honest (S.files store.old)) registry.now self.now.found.items name.now) (S.failures store.old) (S.failures store.new)) }
-        ensures any { IfOk result (LeadsSomewhere registry.now self.now.found.items name.now) }
-        ensures small { IfErr result IsSmall }
-        ensures ok { S.is_honest → IfOk result (λ made. (pending : List (ℕ × List ℕ)) (place : ℕ) → closing.followed ne_format.says (around_in registry.now (S.files store.old)) (pending_in (S.files store.old) pending self.now) place name.now
-            ≡ Ok (with_followed (S.files store.old) (pending_in (S.files store.old) pending self.now) place made)) }
-        ensures err { S.is_honest → IfErr result (IsFault (λ number. (pending : List (ℕ × List ℕ)) (place : ℕ) → closing.followed ne_format.says (around_in registry.now (S.files store.old)) (pending_in (S.files store.old) pending self.now) place name.now
-            ≡ Err number) (S.failures store.old) (S.failures store.new)) }
     {
         let found = self.found.as_slice();
         if let Some(referent) = meant(registry, found, name) {
@@ -187,11 +176,6 @@ impl<A: Allocator + Copy> Closure<A> {
         ensures accepted { OnOk result (AreAccepted (answers_of S.is_honest (S.files store.old)) (map (found_in []) self.old.found.items) → AreAccepted (answers_of S.is_honest (S.files store.old)) (map (found_in []) self.new.found.items)) }
         ensures leads { OnOk result (LeadsBy (answers_of S.is_honest (S.files store.old)) registry.now self.new.found.items (reached_of place (number - 1) self.old) (reached_of place number self.new)) }
         ensures refused { IfErr result (IsFault (RefusesBy (answers_of S.is_honest (S.files store.old)) registry.now self.old.found.items (reached_of place (number - 1) self.old)) (S.failures store.old) (S.failures store.new)) }
-        ensures any { OnOk result (LeadsAny registry.now self.new.found.items (reached_of place (number - 1) self.old) (reached_of place number self.new)) }
-        ensures small { IfErr result IsSmall }
-        ensures ok { S.is_honest → OnOk result (Leads ne_format.says (around_in registry.now (S.files store.old)) (reached (S.files store.old) place (number - 1) self.old) (reached (S.files store.old) place number self.new)) }
-        ensures err { S.is_honest → IfErr result (IsFault (λ answer. Closes ne_format.says (around_in registry.now (S.files store.old)) (reached (S.files store.old) place (number - 1) self.old) (Err answer))
-            (S.failures store.old) (S.failures store.new)) }
     {
         let name = self.found[place].module.reference(number);
         match self.follow(alloc, registry, store, scratch, name) {
@@ -228,11 +212,6 @@ impl<A: Allocator + Copy> Closure<A> {
         ensures accepted { OnOk result (AreAccepted (answers_of S.is_honest (S.files store.old)) (map (found_in []) self.old.found.items) → AreAccepted (answers_of S.is_honest (S.files store.old)) (map (found_in []) self.new.found.items)) }
         ensures leads { OnOk result (LeadsBy (answers_of S.is_honest (S.files store.old)) registry.now self.new.found.items (reached_of place 0 self.old) (reached_of (place + 1) 0 self.new)) }
         ensures refused { IfErr result (IsFault (RefusesBy (answers_of S.is_honest (S.files store.old)) registry.now self.old.found.items (reached_of place 0 self.old)) (S.failures store.old) (S.failures store.new)) }
-        ensures any { OnOk result (LeadsAny registry.now self.new.found.items (reached_of place 0 self.old) (reached_of (place + 1) 0 self.new)) }
-        ensures small { IfErr result IsSmall }
-        ensures ok { S.is_honest → OnOk result (Leads ne_format.says (around_in registry.now (S.files store.old)) (reached (S.files store.old) place 0 self.old) (reached (S.files store.old) (place + 1) 0 self.new)) }
-        ensures err { S.is_honest → IfErr result (IsFault (λ number. Closes ne_format.says (around_in registry.now (S.files store.old)) (reached (S.files store.old) place 0 self.old) (Err number))
-            (S.failures store.old) (S.failures store.new)) }
     {
         let count = self.reference_count(place);
         for done in 0..count {
@@ -259,11 +238,6 @@ impl<A: Allocator + Copy> Closure<A> {
         ensures accepted { OnOk result (AreAccepted (answers_of S.is_honest (S.files store.old)) (map (found_in []) self.old.found.items) → AreAccepted (answers_of S.is_honest (S.files store.old)) (map (found_in []) self.new.found.items)) }
         ensures leads { OnOk result (LeadsBy (answers_of S.is_honest (S.files store.old)) registry.now self.new.found.items (reached_of 0 0 self.old) (closed_of self.new)) }
         ensures refused { IfErr result (IsFault (RefusesBy (answers_of S.is_honest (S.files store.old)) registry.now self.old.found.items (reached_of 0 0 self.old)) (S.failures store.old) (S.failures store.new)) }
-        ensures any { OnOk result (LeadsAny registry.now self.new.found.items (reached_of 0 0 self.old) (closed_of self.new)) }
-        ensures small { IfErr result IsSmall }
-        ensures ok { S.is_honest → OnOk result (Closes ne_format.says (around_in registry.now (S.files store.old)) (reached (S.files store.old) 0 0 self.old) (Ok (closed_in (S.files store.old) self.new))) }
-        ensures err { S.is_honest → IfErr result (IsFault (λ number. Closes ne_format.says (around_in registry.now (S.files store.old)) (reached (S.files store.old) 0 0 self.old) (Err number))
-            (S.failures store.old) (S.failures store.new)) }
     {
         for place in 0..usize::from(MOST_MODULES) {
             match self.follow_module(alloc, registry, store, scratch, place) {
@@ -296,11 +270,6 @@ pub fn close<S: Store, A: Allocator + Copy>(
     ensures accepted { IsAccepted (answers_of S.is_honest (S.files store.old)) first.file.items (tables_in first.module) → IfOk result (λ made. AreAccepted (answers_of S.is_honest (S.files store.old)) (map (found_in []) made.found.items)) }
     ensures closes { IfOk result (IsClosureBy (answers_of S.is_honest (S.files store.old)) registry.now first.file.items (tables_in first.module)) }
     ensures refused { IsAccepted (answers_of S.is_honest (S.files store.old)) first.file.items (tables_in first.module) → IfErr result (IsFault (λ number. ClosesOf (answers_of S.is_honest (S.files store.old)) registry.now first.file.items (tables_in first.module) (Err number)) (S.failures store.old) (S.failures store.new)) }
-    ensures any { handle_named registry.now first.module.name ≡ None → 0 < free_modules registry.now → IfOk result (IsSomeClosure registry.now first.file.items) }
-    ensures small { IfErr result IsSmall }
-    ensures ok { S.is_honest → IfOk result (λ made. Closes ne_format.says (around_in registry.now (S.files store.old)) (begun first.file.items (read_in (S.files store.old) first.file.items first.module)) (Ok (closed_in (S.files store.old) made))) }
-    ensures err { S.is_honest → IfErr result (IsFault (λ number. Closes ne_format.says (around_in registry.now (S.files store.old)) (begun first.file.items (read_in (S.files store.old) first.file.items first.module)) (Err number))
-        (S.failures store.old) (S.failures store.new)) }
 {
     let Ok(mut closure) = Closure::begin(first) else {
         return Err(FileFault::OutOfMemory);

@@ -11,12 +11,11 @@ ghost use Rattle.w16_loading.specs.Closure as closing;
 ghost use Rattle.w16_loading.specs.Closure.{are_sound};
 ghost use Rattle.w16_loading.specs.Closure.Reading.{Refused};
 ghost use Rattle.w16_format.specs.Ne as ne;
-ghost use Rattle.w16_loading.specs.Answers.{RefusesFile};
 ghost use Rattle.w16_format.specs.Tables.{segment_in, tables_in};
 ghost use Rattle.w16_loader.specs.Answering.{IsAccepted, MakesOf, ReadsIn, answers_of};
 ghost use Rattle.w16_loader.specs.Naming.{IsFit};
 ghost use Rattle.w16_loader.specs.Closing as loads;
-ghost use Rattle.w16_loader.specs.Closing.{Files, around_in, referent_of, found_in, reading_in, reading_of, said, IsRead, IsFault, IsSmall, IsUnsound, IsNewOrMeant, IsThere};
+ghost use Rattle.w16_loader.specs.Closing.{Files, around_in, referent_of, found_in, said, IsRead, IsFault, IsUnsound, IsNewOrMeant, IsThere};
 
 use crate::registry::Registry;
 use std::alloc::{Allocator, Global};
@@ -86,16 +85,27 @@ pub fn meant<A: Allocator>(
     }
 }
 
-/// What a fault of a file is to a load: 12, 13 or 14 where it is for another target system, 2 where there is no file, else 11.
+/// Why a load makes no module of a file whose length can't be had: 2 where no file has the name.
+fn fault_of_length(fault: StoreFault) -> FileFault
+    ensures fault { result ≡ loads.fault_of_length fault }
+    ensures device { is_file_device result ≡ is_device fault }
+{
+    match fault {
+        StoreFault::Missing => FileFault::Refused(NO_FILE),
+        StoreFault::Device => FileFault::Device,
+        StoreFault::Short => FileFault::Refused(BAD_FILE),
+    }
+}
+
+/// What a fault of a file that is there is to a load: 12, 13 or 14 where it is for another target system, else 11.
 fn fault_of(fault: NeFault) -> FileFault
     ensures fault { result ≡ loads.fault_of fault }
-    ensures refuses { IsFault RefusesFile 0 1 result }
+    ensures refuses { IsFault (λ number. (11 ≤ number) × (number ≤ 14)) 0 1 result }
     ensures device { is_file_device result ≡ is_ne_device fault }
 {
     match fault {
         NeFault::OutOfMemory => FileFault::OutOfMemory,
         NeFault::Store(StoreFault::Device) => FileFault::Device,
-        NeFault::Store(StoreFault::Missing) => FileFault::Refused(NO_FILE),
         NeFault::Target(1) => FileFault::Refused(12),
         NeFault::Target(3) => FileFault::Refused(13),
         NeFault::Target(_) => FileFault::Refused(14),
@@ -123,13 +133,10 @@ pub fn read_file<S: Store, A: Allocator + Copy>(
 ) -> Result<Module<A>, FileFault>
     ensures stays { IsLater (S.files store.old) (S.failures store.old) (S.files store.new) (S.failures store.new) }
     ensures device { IfErr result (RoseIf is_file_device (S.failures store.old) (S.failures store.new)) }
-    ensures small { IfErr result IsSmall }
     ensures says { MatchResult result (λ read. (answers_of S.is_honest (S.files store.old)).says name.now (Ok (tables_in read))) (IsFault (λ number. (answers_of S.is_honest (S.files store.old)).says name.now (Err number)) (S.failures store.old) (S.failures store.new)) }
-    ensures read { S.is_honest → IfOk result (IsRead (file_of (S.files store.old) name.now)) }
-    ensures err { S.is_honest → IfErr result (IsFault (λ number. said (file_of (S.files store.old) name.now) ≡ Err number) (S.failures store.old) (S.failures store.new)) }
 {
     match store.len_of(name) {
-        Err(fault) => Err(fault_of(NeFault::Store(fault))),
+        Err(fault) => Err(fault_of_length(fault)),
         Ok(_) => match read_module(alloc, store, name) {
             Err(fault) => Err(fault_of(fault)),
             Ok(module) => Ok(module),
@@ -146,15 +153,8 @@ pub fn check_segments<S: Store, A: Allocator>(
 ) -> Result<(), FileFault>
     ensures stays { IsLater (S.files store.old) (S.failures store.old) (S.files store.new) (S.failures store.new) }
     ensures device { IfErr result (RoseIf is_file_device (S.failures store.old) (S.failures store.new)) }
-    ensures small { IfErr result IsSmall }
-    ensures fit { OnOk result (All IsFit (map segment_in module_file.now.segments)) }
-    ensures number { IfErr result (IsFault (λ number. number ≡ 11) 0 1) }
     ensures checked { (answers_of S.is_honest (S.files store.old)).says name.now (Ok (tables_in module_file.now)) → MatchResult result (λ _. IsAccepted (answers_of S.is_honest (S.files store.old)) name.now (tables_in module_file.now))
         (IsFault (λ number. (answers_of S.is_honest (S.files store.old)).sound name.now (tables_in module_file.now) false × (number ≡ 11)) (S.failures store.old) (S.failures store.new)) }
-    ensures sound { (bytes : List ℕ) → S.is_honest → file_of (S.files store.old) name.now ≡ Some bytes → tables_at (Some bytes) ≡ Ok module_file.now
-        → OnOk result (are_sound (ne.module_file bytes module_file.now) ≡ true) }
-    ensures err { (bytes : List ℕ) → S.is_honest → file_of (S.files store.old) name.now ≡ Some bytes → tables_at (Some bytes) ≡ Ok module_file.now
-        → IfErr result (IsFault (IsUnsound bytes module_file.now) (S.failures store.old) (S.failures store.new)) }
 {
     for place in 0..module_file.segment_count() {
         // Its size is one that an object may have.
@@ -188,12 +188,6 @@ fn settle<S: Store, A: Allocator>(
     ensures stays { IsLater (S.files store.old) (S.failures store.old) (S.files store.new) (S.failures store.new) }
     ensures device { IfErr result (RoseIf is_file_device (S.failures store.old) (S.failures store.new)) }
     ensures makes { (answers_of S.is_honest (S.files store.old)).says name.now (Ok (tables_in read)) → MatchResult result (MakesOf (answers_of S.is_honest (S.files store.old)) registry.now found.now name.now) (IsFault (λ number. ReadsIn (answers_of S.is_honest (S.files store.old)) registry.now found.now name.now (Refused number)) (S.failures store.old) (S.failures store.new)) }
-    ensures new { IfOk result (IsNewOrMeant registry.now found.now) }
-    ensures small { IfErr result IsSmall }
-    ensures read { S.is_honest → IsRead (file_of (S.files store.old) name.now) read
-        → IfOk result (λ made. reading_in registry.now (S.files store.old) found.now name.now ≡ reading_of (S.files store.old) name.now made) }
-    ensures err { S.is_honest → IsRead (file_of (S.files store.old) name.now) read
-        → IfErr result (IsFault (λ number. reading_in registry.now (S.files store.old) found.now name.now ≡ Refused number) (S.failures store.old) (S.failures store.new)) }
 {
     match meant(registry, found, read.name()) {
         Some(referent) => Ok(Reading::Meant(referent)),
@@ -223,12 +217,7 @@ pub fn examine_file<S: Store, A: Allocator + Copy>(
     ensures stays { IsLater (S.files store.old) (S.failures store.old) (S.files store.new) (S.failures store.new) }
     ensures device { IfErr result (RoseIf is_file_device (S.failures store.old) (S.failures store.new)) }
     ensures makes { MatchResult result (MakesOf (answers_of S.is_honest (S.files store.old)) registry.now found.now name.now) (IsFault (λ number. ReadsIn (answers_of S.is_honest (S.files store.old)) registry.now found.now name.now (Refused number)) (S.failures store.old) (S.failures store.new)) }
-    ensures new { IfOk result (IsNewOrMeant registry.now found.now) }
     ensures there { IfOk result (IsThere registry.now found.now) }
-    ensures small { IfErr result IsSmall }
-    ensures read { S.is_honest → IfOk result (λ made. reading_in registry.now (S.files store.old) found.now name.now ≡ reading_of (S.files store.old) name.now made) }
-    ensures err { S.is_honest
-        → IfErr result (IsFault (λ number. reading_in registry.now (S.files store.old) found.now name.now ≡ Refused number) (S.failures store.old) (S.failures store.new)) }
 {
     match read_file(alloc, store, name) {
         Err(fault) => Err(fault),

@@ -16,7 +16,7 @@ ghost use Rattle.w16_format.specs.Tables.{segment_in, tables_in};
 ghost use Rattle.w16_loader.specs.declared.naming.NameFault.TheVariants.{NoSlot};
 ghost use Rattle.w16_loader.specs.Closing.{referent_of};
 ghost use Rattle.w16_loader.specs.Following.{bound_in};
-ghost use Rattle.w16_loader.specs.AnyClosing.{IsFoundOf};
+ghost use Rattle.w16_loader.specs.Reached.{IsFoundOf};
 ghost use Rattle.w16_loader.specs.Naming.{IsClosureOf, IsFit, IsUnbound, Takes, GetsName, GetNames, free_handles, imports_among, unbound_by};
 ghost use Rattle.w16_loader.specs.Registry.{in_world};
 

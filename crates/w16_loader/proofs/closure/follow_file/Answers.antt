@@ -1,41 +1,11 @@
 -- A file that a reference leads to is what a load makes of it.
 use Rattle.w16_loading.specs.Closure as closing
-use Rattle.w16_loader.proofs.Common.{List, Modules, Found, IsNewIn, IsRefusedFile, MakesOf, ReadsIn, answers_of, ◌≡◌, ℕ, refl, sym, ap, ◌∙◌, subst, FileFault, IsFault, Refused, Meant, Read, reading_in, reading_of, read_in, referent_of}
+use Rattle.w16_loader.proofs.Common.{List, Modules, Found, IsNewIn, IsRefusedFile, MakesOf, ReadsIn, answers_of, ℕ, refl, sym, subst, FileFault, IsFault, Refused, Meant, referent_of}
 use Rattle.w16_loader.specs.Following as following
-use Rattle.w16_loader.specs.Following.{IsRefusedReference}
 use Rattle.w16_loader.specs.declared.found.FileFault.TheVariants as faults
 use Rattle.w16_loading.specs.Answers.{Answers}
 use Rattle.w16_loader.specs.declared.found.Reading.TheVariants as makes
 use Rattle.w16_loader.proofs.closure.follow_file.Goals as goal
-
-refused : (r : closing.Reading) (before after : ℕ) (fault : FileFault) → IsFault (λ number. r ≡ Refused number) before after fault
-    → IsFault (IsRefusedReference r) before after (following.fault_of_reference fault)
-refused r before after (faults.Refused number) h = (number, h, refl)
-refused r before after faults.Device h = h
-refused r before after faults.OutOfMemory h = h
-
-pub returns-in-Err-clause-err : goal.returns-in-Err-clause-err
-returns-in-Err-clause-err g c = λ honest.
-    let files = g.S.Store.files c.args.store.now in
-    let before = g.S.Store.failures c.args.store.now in
-    let after = g.S.Store.failures c.examine_file.new.store in
-    subst (λ fault. IsFault (IsRefusedReference (reading_in c.args.registry.now files c.args.found.now c.args.file.items)) before after fault) (sym c.fault_of_reference.ensures)
-    (refused (reading_in c.args.registry.now files c.args.found.now c.args.file.items) before after c.in-Err.fault
-    (subst (λ name. IsFault (λ number. reading_in c.args.registry.now files c.args.found.now name ≡ Refused number) before after c.in-Err.fault) c.as_slice.ensures.value (c.in-Err.ensures.err honest)))
-
-pub returns-in-Ok-Meant-clause-ok : goal.returns-in-Ok-Meant-clause-ok
-returns-in-Ok-Meant-clause-ok g c = λ honest.
-    let files = g.S.Store.files c.args.store.now in
-    subst (λ name. reading_in c.args.registry.now files c.args.found.now name ≡ Meant (referent_of c.in-Ok-Meant.referent)) c.as_slice.ensures.value
-    (c.in-Ok-Meant.ensures.read honest ∙ ap (reading_of files c.as_slice.result.now) c.in-Ok-Meant.field-0-is)
-
-pub returns-in-Ok-Read-clause-ok : goal.returns-in-Ok-Read-clause-ok
-returns-in-Ok-Read-clause-ok g c = λ honest.
-    let files = g.S.Store.files c.args.store.now in (
-      subst (λ name. reading_in c.args.registry.now files c.args.found.now name ≡ Read (read_in files name c.in-Ok-Read.module)) c.as_slice.ensures.value
-          (c.in-Ok-Read.ensures.read honest ∙ ap (reading_of files c.as_slice.result.now) c.in-Ok-Read.field-0-is),
-      refl,
-    )
 
 refused_by : {A : Type 0} (answers : Answers) (modules : Modules) (found : List (Found A)) (file : List ℕ) (before after : ℕ) (fault : FileFault)
     → IsFault (λ number. ReadsIn answers modules found file (Refused number)) before after fault → IsFault (IsRefusedFile answers modules found file) before after (following.fault_of_reference fault)

@@ -6,16 +6,6 @@ use Rattle.w16_loader.proofs.NameSteps.{fit_more, fits}
 use Rattle.w16_loader.proofs.Tellings.{sound_told, unsound_told}
 use Rattle.w16_loader.proofs.found.check_segments.Goals as goal
 
-pub returns-in-Err-clause-err : goal.returns-in-Err-clause-err
-returns-in-Err-clause-err g c = λ bytes honest has tables.
-    let lt : c.loop-place.place < length c.args.module_file.now.segments = omega (arith, c.segment_count-place-end.ensures.count) in
-    let s = there c.args.module_file.now.segments c.loop-place.place lt in
-    let place : c.loop-place.place + 1 - 1 ≡ c.loop-place.place = omega arith in
-    let here : slice_get c.args.module_file.now.segments (c.loop-place.place + 1 - 1) ≡ Some s.0 = ap (λ k. slice_get c.args.module_file.now.segments k) place ∙ s.1 in
-    rw c.fault_of_check.ensures.fault
-    (is_unsound bytes c.args.module_file.now c.loop-place.place s.0 s.1 (c.loop-place.invariant.sound bytes honest has tables) _ _ _ c.in-Err.fault c.loop-place.invariant.failures
-    (c.in-Err.ensures.exact bytes s.0 honest (rw c.loop-place.invariant.files has) tables here))
-
 pub loop-place-preserved : goal.loop-place-preserved
 loop-place-preserved g c = record {
   files = c.in-Ok.ensures.stays.same ∙ c.loop-place.invariant.files;
@@ -34,24 +24,24 @@ loop-place-preserved g c = record {
       (c.in-Ok.ensures.exact bytes s.0 honest (rw c.loop-place.invariant.files has) tables here);
 }
 
-pub returns-clause-sound : goal.returns-clause-sound
-returns-clause-sound g c = λ bytes honest has tables.
-    let past : length c.args.module_file.now.segments ≤ c.loop-place.place = omega (arith, c.segment_count-place-end.ensures.count) in
-    all_sound bytes c.args.module_file.now c.loop-place.place past (c.loop-place.invariant.sound bytes honest has tables)
-
 pub loop-place-init : goal.loop-place-init
 loop-place-init g c = record { files = refl; failures = omega arith; fit = All-nil IsFit; sound = λ bytes honest has tables. refl }
 
-pub returns-clause-fit : goal.returns-clause-fit
-returns-clause-fit g c =
-    let past : length (map segment_in c.args.module_file.now.segments) ≤ c.loop-place.place = omega (arith, c.segment_count-place-end.ensures.count, length-map c.args.module_file.now.segments segment_in) in
-    subst (All IsFit) (take_all c.loop-place.place (map segment_in c.args.module_file.now.segments) past) c.loop-place.invariant.fit
-
 pub returns-clause-checked : goal.returns-clause-checked
 returns-clause-checked g c = λ says.
-    (says, sound_told g.S.Store.is_honest (g.S.Store.files c.args.store.now) c.args.name.now c.args.module_file.now says (returns-clause-sound g c), returns-clause-fit g c)
+    (says, sound_told g.S.Store.is_honest (g.S.Store.files c.args.store.now) c.args.name.now c.args.module_file.now says (λ bytes honest has tables.
+    let past : length c.args.module_file.now.segments ≤ c.loop-place.place = omega (arith, c.segment_count-place-end.ensures.count) in
+    all_sound bytes c.args.module_file.now c.loop-place.place past (c.loop-place.invariant.sound bytes honest has tables)), (let past : length (map segment_in c.args.module_file.now.segments) ≤ c.loop-place.place = omega (arith, c.segment_count-place-end.ensures.count, length-map c.args.module_file.now.segments segment_in) in
+    subst (All IsFit) (take_all c.loop-place.place (map segment_in c.args.module_file.now.segments) past) c.loop-place.invariant.fit))
 
 pub returns-in-Err-clause-checked : goal.returns-in-Err-clause-checked
 returns-in-Err-clause-checked g c = λ says.
-    unsound_told g.S.Store.is_honest (g.S.Store.files c.args.store.now) c.args.name.now c.args.module_file.now says _ _ c.fault_of_check.result c.fault_of_check.ensures.number (returns-in-Err-clause-err g c)
+    unsound_told g.S.Store.is_honest (g.S.Store.files c.args.store.now) c.args.name.now c.args.module_file.now says _ _ c.fault_of_check.result c.fault_of_check.ensures.number (λ bytes honest has tables.
+    let lt : c.loop-place.place < length c.args.module_file.now.segments = omega (arith, c.segment_count-place-end.ensures.count) in
+    let s = there c.args.module_file.now.segments c.loop-place.place lt in
+    let place : c.loop-place.place + 1 - 1 ≡ c.loop-place.place = omega arith in
+    let here : slice_get c.args.module_file.now.segments (c.loop-place.place + 1 - 1) ≡ Some s.0 = ap (λ k. slice_get c.args.module_file.now.segments k) place ∙ s.1 in
+    rw c.fault_of_check.ensures.fault
+    (is_unsound bytes c.args.module_file.now c.loop-place.place s.0 s.1 (c.loop-place.invariant.sound bytes honest has tables) _ _ _ c.in-Err.fault c.loop-place.invariant.failures
+    (c.in-Err.ensures.exact bytes s.0 honest (rw c.loop-place.invariant.files has) tables here)))
     (λ e. let rose = c.in-Err.ensures.device (sym c.fault_of_check.ensures.device ∙ ap is_file_device e) in omega (arith, rose, c.loop-place.invariant.failures))

@@ -3,22 +3,20 @@ use Rattle.w16_store.specs.Files.{file_of}
 use Rattle.w16_loader.proofs.Files.{is_read, is_refused}
 use Rattle.w16_loader.proofs.Common.{sym, ap, ◌∙◌, arith}
 use Rattle.w16_loader.specs.Devices.{is_file_device}
-use Rattle.w16_loader.proofs.Tellings.{read_told, refuses_told}
+use Rattle.w16_loader.proofs.Tellings.{length_told, read_told, refuses_told}
 use Rattle.w16_loader.proofs.found.read_file.Goals as goal
 
-pub returns-in-Err-read_module-clause-err : goal.returns-in-Err-read_module-clause-err
-returns-in-Err-read_module-clause-err g c = λ honest. rw c.fault_of-in-Err-read_module.ensures.fault
-    (is_refused (file_of (g.S.Store.files c.args.store.now) c.args.name.now) c.in-Ok.field-0 _ _ _ c.in-Err-read_module.fault c.in-Ok.ensures.stays.counted
-    (c.in-Ok.ensures.honest honest) (c.in-Ok.ensures.bytes honest) (rw c.in-Ok.ensures.stays.same at c.in-Err-read_module.ensures.exact honest))
-
-pub returns-in-Ok-read_module-clause-read : goal.returns-in-Ok-read_module-clause-read
-returns-in-Ok-read_module-clause-read g c = λ honest. is_read (file_of (g.S.Store.files c.args.store.now) c.args.name.now) c.in-Ok.field-0 c.in-Ok-read_module.module
-    (c.in-Ok.ensures.honest honest) (c.in-Ok.ensures.bytes honest) (rw c.in-Ok.ensures.stays.same at c.in-Ok-read_module.ensures.exact honest)
+pub returns-in-Err-clause-says : goal.returns-in-Err-clause-says
+returns-in-Err-clause-says g c = rw c.fault_of_length.ensures.fault
+    (length_told g.S.Store.is_honest (g.S.Store.files c.args.store.now) c.args.name.now _ _ c.in-Err.fault c.in-Err.ensures.missing c.in-Err.ensures.honest c.in-Err.ensures.device)
 
 pub returns-in-Err-read_module-clause-says : goal.returns-in-Err-read_module-clause-says
 returns-in-Err-read_module-clause-says g c = refuses_told g.S.Store.is_honest (g.S.Store.files c.args.store.now) c.args.name.now _ _ c.fault_of-in-Err-read_module.result c.fault_of-in-Err-read_module.ensures.refuses
-    (returns-in-Err-read_module-clause-err g c)
+    (λ honest. rw c.fault_of-in-Err-read_module.ensures.fault
+    (is_refused (file_of (g.S.Store.files c.args.store.now) c.args.name.now) c.in-Ok.field-0 _ _ _ c.in-Err-read_module.fault c.in-Ok.ensures.stays.counted
+    (c.in-Ok.ensures.honest honest) (c.in-Ok.ensures.bytes honest) (rw c.in-Ok.ensures.stays.same at c.in-Err-read_module.ensures.exact honest)))
     (λ e. let rose = c.in-Err-read_module.ensures.device (sym c.fault_of-in-Err-read_module.ensures.device ∙ ap is_file_device e) in omega (arith, rose, c.in-Ok.ensures.stays.counted))
 
 pub returns-in-Ok-read_module-clause-says : goal.returns-in-Ok-read_module-clause-says
-returns-in-Ok-read_module-clause-says g c = (tt, λ honest. read_told (file_of (g.S.Store.files c.args.store.now) c.args.name.now) c.in-Ok-read_module.module (returns-in-Ok-read_module-clause-read g c honest))
+returns-in-Ok-read_module-clause-says g c = (tt, λ honest. read_told (file_of (g.S.Store.files c.args.store.now) c.args.name.now) c.in-Ok-read_module.module (is_read (file_of (g.S.Store.files c.args.store.now) c.args.name.now) c.in-Ok.field-0 c.in-Ok-read_module.module
+    (c.in-Ok.ensures.honest honest) (c.in-Ok.ensures.bytes honest) (rw c.in-Ok.ensures.stays.same at c.in-Ok-read_module.ensures.exact honest)))

@@ -1,28 +1,9 @@
 -- A module whose name nothing has is new where its relocations are sound and a handle is left.
 use Rattle.w16_loader.proofs.Common.{FileFault, Some, referent_of, IsFault, Ok, false, ReadsIn, Refused, answers_of, tables_in, Modules, Found, List, ℕ, ◌≡◌, None, refl, inl, inr, length-map, found_in, [], ap, sym, ◌∙◌, arith, meant_in}
-use Rattle.w16_loader.proofs.Readings.{reads_new, reads_full}
 use Rattle.w16_loader.specs.declared.found.FileFault.TheVariants as faults
 use Rattle.w16_loading.specs.Answers.{Answers}
 use Rattle.w16_ne.specs.Modules as ne
 use Rattle.w16_loader.proofs.found.settle.Goals as goal
-
-pub returns-in-Ok-clause-read : goal.returns-in-Ok-clause-read
-returns-in-Ok-clause-read g c = λ honest is.
-    reads_new c.args.registry.now (g.S.Store.files c.args.store.now) c.args.found.now c.args.name.now c.args.read is c.name.result.now c.name.ensures
-    (c.in-None.ensures (g.S.Store.files c.args.store.now)) (λ bytes there tables. c.in-Ok.ensures.sound bytes honest there tables) c.free_count.result c.free_count.ensures c.if-found-free_count.true
-
-pub returns-in-Ok-2-clause-err : goal.returns-in-Ok-2-clause-err
-returns-in-Ok-2-clause-err g c = λ honest is.
-    reads_full c.args.registry.now (g.S.Store.files c.args.store.now) c.args.found.now c.args.name.now c.args.read is c.name.result.now c.name.ensures
-    (c.in-None.ensures (g.S.Store.files c.args.store.now)) (λ bytes there tables. c.in-Ok.ensures.sound bytes honest there tables) c.free_count.result c.free_count.ensures c.if-found-free_count.false
-
-pub returns-in-Some-clause-new : goal.returns-in-Some-clause-new
-returns-in-Some-clause-new g c = (c.name.result.now, sym (c.in-Some.ensures []))
-
-pub returns-in-Ok-clause-new : goal.returns-in-Ok-clause-new
-returns-in-Ok-clause-new g c =
-    let none = sym (c.in-None.ensures []) in
-    (ap (λ n. meant_in c.args.registry.now c.args.found.now n) (sym c.name.ensures) ∙ none, omega (arith, c.free_count.ensures, c.if-found-free_count.true))
 
 pub returns-in-Some-clause-makes : goal.returns-in-Some-clause-makes
 returns-in-Some-clause-makes g c = λ says.
@@ -30,7 +11,9 @@ returns-in-Some-clause-makes g c = λ says.
     (tables_in c.args.read, says, ap (λ n. meant_in c.args.registry.now c.args.found.now n) (sym c.name.ensures) ∙ meant)
 
 pub returns-in-Ok-clause-makes : goal.returns-in-Ok-clause-makes
-returns-in-Ok-clause-makes g c = λ says. (c.in-Ok.ensures.checked says, (returns-in-Ok-clause-new g c).0, (returns-in-Ok-clause-new g c).1)
+returns-in-Ok-clause-makes g c = λ says.
+    let none = sym (c.in-None.ensures []) in
+    (c.in-Ok.ensures.checked says, ap (λ n. meant_in c.args.registry.now c.args.found.now n) (sym c.name.ensures) ∙ none, omega (arith, c.free_count.ensures, c.if-found-free_count.true))
 
 pub returns-in-Ok-2-clause-makes : goal.returns-in-Ok-2-clause-makes
 returns-in-Ok-2-clause-makes g c = λ says.

@@ -1,47 +1,23 @@
 -- Each module leads on, and after the last place none is left.
-use Rattle.w16_loader.proofs.Common.{[], map, subst, found_in, AreAccepted, IsFault, LeadsBy, RefusesBy, answers_of, ◌+◌, ◌≤◌, ◌∙◌, refl, arith, MOST_MODULES, free_modules, ne_format, around_in, reached, reached_of}
-use Rattle.w16_loader.proofs.Steps.{leads_nowhere}
-use Rattle.w16_loader.proofs.Followings.{all_done, leads_through, few_free}
+use Rattle.w16_loader.proofs.Common.{[], map, subst, found_in, AreAccepted, IsFault, LeadsBy, RefusesBy, answers_of, ◌+◌, ◌≤◌, ◌∙◌, refl, arith, MOST_MODULES, free_modules, reached_of}
+use Rattle.w16_loader.proofs.Followings.{few_free}
 use Rattle.w16_loader.proofs.Followings as old
-use Rattle.w16_loader.proofs.AnyFollowings.{any_through, any_all, any_nowhere}
 use Rattle.w16_loader.proofs.Few.{few_through, few_same}
 use Rattle.w16_loader.proofs.Closings.{all_followed, nowhere, refused_through, through}
 use Rattle.w16_loader.proofs.closure.Closure.follow_all.Goals as goal
-
-pub returns-in-Err-clause-err : goal.returns-in-Err-clause-err
-returns-in-Err-clause-err g c = λ honest.
-    old.refused_through ne_format.says c.args.registry.now (g.S.Store.files c.args.store.now) (g.S.Store.files c.loop-place.store) c.loop-place.invariant.files (reached (g.S.Store.files c.args.store.now) 0 0 c.args.self.now)
-    (λ fs. reached fs c.loop-place.place 0 c.loop-place.self) (c.loop-place.invariant.leads honest) _ _ _ c.loop-place.invariant.failures c.in-Err.fault (c.in-Err.ensures.err honest)
 
 pub loop-place-preserved : goal.loop-place-preserved
 loop-place-preserved g c = record {
   files = c.in-Ok.ensures.stays.same ∙ c.loop-place.invariant.files;
   failures = omega (arith, c.in-Ok.ensures.stays.counted, c.loop-place.invariant.failures);
   few = few_through c.args.registry.now c.args.self.now.found.items c.loop-place.self.found.items c.follow_module.new.self.found.items c.loop-place.invariant.few c.in-Ok.ensures.few;
-  any = any_through c.args.registry.now c.loop-place.self.found.items c.follow_module.new.self.found.items c.in-Ok.ensures.few.since (reached_of 0 0 c.args.self.now) (reached_of c.loop-place.place 0 c.loop-place.self)
-      (reached_of (c.loop-place.place + 1) 0 c.follow_module.new.self) c.in-Ok.ensures.few.kept c.loop-place.invariant.any c.in-Ok.ensures.any;
   accepted = λ all. subst (λ fs. AreAccepted (answers_of g.S.Store.is_honest fs) (map (found_in []) c.loop-place.self.found.items) → AreAccepted (answers_of g.S.Store.is_honest fs) (map (found_in []) c.follow_module.new.self.found.items)) c.loop-place.invariant.files
       c.in-Ok.ensures.accepted (c.loop-place.invariant.accepted all);
   answered = through (answers_of g.S.Store.is_honest (g.S.Store.files c.args.store.now)) c.args.registry.now c.loop-place.self.found.items c.follow_module.new.self.found.items c.in-Ok.ensures.few.since (reached_of 0 0 c.args.self.now) (reached_of c.loop-place.place 0 c.loop-place.self)
       (reached_of (c.loop-place.place + 1) 0 c.follow_module.new.self) c.in-Ok.ensures.few.kept c.loop-place.invariant.answered
       (subst (λ fs. LeadsBy (answers_of g.S.Store.is_honest fs) c.args.registry.now c.follow_module.new.self.found.items (reached_of c.loop-place.place 0 c.loop-place.self) (reached_of (c.loop-place.place + 1) 0 c.follow_module.new.self))
       c.loop-place.invariant.files c.in-Ok.ensures.leads);
-  leads = λ honest. leads_through ne_format.says c.args.registry.now (g.S.Store.files c.args.store.now) (g.S.Store.files c.loop-place.store) c.loop-place.invariant.files (reached (g.S.Store.files c.args.store.now) 0 0 c.args.self.now)
-      (λ fs. reached fs c.loop-place.place 0 c.loop-place.self) (λ fs. reached fs (c.loop-place.place + 1) 0 c.follow_module.new.self) (c.loop-place.invariant.leads honest) (c.in-Ok.ensures.ok honest);
 }
-
-pub returns-clause-ok : goal.returns-clause-ok
-returns-clause-ok g c = λ honest.
-    let most : MOST_MODULES ≤ c.loop-place.place = omega (arith, c.from-place-end.ensures, c.loop-place-test.false) in
-    let free : free_modules c.args.registry.now ≤ MOST_MODULES = few_free c.args.registry.now in
-    all_done (g.S.Store.files c.args.store.now) ne_format.says (around_in c.args.registry.now (g.S.Store.files c.args.store.now)) c.loop-place.place c.args.self.now c.loop-place.self
-    (omega (arith, most, free)) (omega (arith, most, c.requires)) (c.loop-place.invariant.leads honest)
-
-pub returns-clause-any : goal.returns-clause-any
-returns-clause-any g c =
-    let most : MOST_MODULES ≤ c.loop-place.place = omega (arith, c.from-place-end.ensures, c.loop-place-test.false) in
-    let free : free_modules c.args.registry.now ≤ MOST_MODULES = few_free c.args.registry.now in
-    any_all c.args.registry.now c.loop-place.place (reached_of 0 0 c.args.self.now) c.loop-place.self (c.loop-place.invariant.few.few c.loop-place.place (omega (arith, most, free)) (omega (arith, most, c.requires))) c.loop-place.invariant.any
 
 pub returns-clause-few : goal.returns-clause-few
 returns-clause-few g c = c.loop-place.invariant.few
@@ -51,10 +27,8 @@ loop-place-init g c = record {
   files = refl;
   failures = omega arith;
   few = few_same c.args.registry.now c.args.self.now.found.items;
-  any = any_nowhere c.args.registry.now c.args.self.now.found.items (reached_of 0 0 c.args.self.now);
   accepted = λ all. all;
   answered = nowhere (answers_of g.S.Store.is_honest (g.S.Store.files c.args.store.now)) c.args.registry.now c.args.self.now.found.items (reached_of 0 0 c.args.self.now);
-  leads = λ honest. leads_nowhere ne_format.says (around_in c.args.registry.now (g.S.Store.files c.args.store.now)) (reached (g.S.Store.files c.args.store.now) 0 0 c.args.self.now);
 }
 
 pub returns-clause-leads : goal.returns-clause-leads

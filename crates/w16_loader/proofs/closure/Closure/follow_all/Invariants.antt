@@ -1,5 +1,5 @@
 -- The references of the modules so far are followed.
-use Rattle.w16_loader.proofs.Common.{[], map, found_in, AreAccepted, LeadsBy, answers_of, ◌≡◌, ◌≤◌, ne_format, around_in, FindsFew, Leads, reached, LeadsAny, reached_of}
+use Rattle.w16_loader.proofs.Common.{[], map, found_in, AreAccepted, LeadsBy, answers_of, ◌≡◌, ◌≤◌, FindsFew, reached_of}
 use Rattle.w16_loader.proofs.closure.Closure.follow_all.Given as goal
 
 abbrev pub invariant-loop-place : goal.invariant-loop-place
@@ -7,8 +7,6 @@ invariant-loop-place g l = record {
   files : g.S.Store.files l.store ≡ g.S.Store.files l.fn.store;
   failures : g.S.Store.failures l.fn.store ≤ g.S.Store.failures l.store;
   few : FindsFew l.registry l.fn.self.found.items l.self.found.items;
-  any : LeadsAny l.registry l.self.found.items (reached_of 0 0 l.fn.self) (reached_of l.place 0 l.self);
   accepted : AreAccepted (answers_of g.S.Store.is_honest (g.S.Store.files l.fn.store)) (map (found_in []) l.fn.self.found.items) → AreAccepted (answers_of g.S.Store.is_honest (g.S.Store.files l.fn.store)) (map (found_in []) l.self.found.items);
   answered : LeadsBy (answers_of g.S.Store.is_honest (g.S.Store.files l.fn.store)) l.registry l.self.found.items (reached_of 0 0 l.fn.self) (reached_of l.place 0 l.self);
-  leads : g.S.Store.is_honest → Leads ne_format.says (around_in l.registry (g.S.Store.files l.fn.store)) (reached (g.S.Store.files l.fn.store) 0 0 l.fn.self) (reached (g.S.Store.files l.fn.store) l.place 0 l.self);
 }

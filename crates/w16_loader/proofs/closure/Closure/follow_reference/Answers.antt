@@ -1,37 +1,17 @@
 -- A reference that is followed is the next of those that are left.
-use Rattle.w16_loader.proofs.Common.{answers_of, ap, ◌∙◌, ne_format, around_in, left_from, references_at, map, found_in}
-use Rattle.w16_loader.proofs.Followings.{indexed, same_after, follows, refused}
-use Rattle.w16_loader.proofs.AnyFollowings.{follows_any}
+use Rattle.w16_loader.proofs.Common.{answers_of, ap, ◌∙◌, references_at}
+use Rattle.w16_loader.proofs.Followings.{indexed, same_after}
 use Rattle.w16_loader.proofs.Few.{few_after}
 use Rattle.w16_loader.proofs.Closings.{accepts_more, leads_on, refused_at}
 use Rattle.w16_loader.proofs.closure.Closure.follow_reference.Goals as goal
-
-pub returns-in-Err-clause-err : goal.returns-in-Err-clause-err
-returns-in-Err-clause-err g c = λ honest.
-    let at = indexed c.args.self.now.found.items c.args.place c.args.number c.index.result.now c.requires.first c.requires.last c.index.ensures in
-    refused (g.S.Store.files c.args.store.now) c.args.place ne_format.says (around_in c.args.registry.now (g.S.Store.files c.args.store.now)) c.args.self.now c.index.result.now at.0 c.args.number c.requires.first at.1
-    c.reference-name.result.now c.reference-name.ensures _ _ c.in-Err.fault (c.in-Err.ensures.err honest)
 
 pub returns-in-Ok-bind-clause-same : goal.returns-in-Ok-bind-clause-same
 returns-in-Ok-bind-clause-same g c =
     let at = indexed c.args.self.now.found.items c.args.place c.args.number c.index.result.now c.requires.first c.requires.last c.index.ensures in
     ap (λ found. references_at found c.args.place) c.in-Ok-bind.ensures.found ∙ same_after c.args.self.now.found.items c.args.place c.index.result.now c.in-Ok.followed at.0
 
-pub returns-in-Ok-bind-clause-ok : goal.returns-in-Ok-bind-clause-ok
-returns-in-Ok-bind-clause-ok g c = λ honest.
-    let at = indexed c.args.self.now.found.items c.args.place c.args.number c.index.result.now c.requires.first c.requires.last c.index.ensures in
-    follows (g.S.Store.files c.args.store.now) c.args.place ne_format.says (around_in c.args.registry.now (g.S.Store.files c.args.store.now)) c.args.self.now c.index.result.now at.0 c.args.number c.requires.first at.1
-    c.reference-name.result.now c.reference-name.ensures c.bind.new.self c.in-Ok.followed c.in-Ok-bind.ensures.found c.in-Ok-bind.ensures.bound
-    (c.in-Ok.ensures.ok honest (left_from c.args.place c.args.number (map (found_in (g.S.Store.files c.args.store.now)) c.args.self.now.found.items)) c.args.place)
-
 pub returns-in-Ok-bind-clause-few : goal.returns-in-Ok-bind-clause-few
-returns-in-Ok-bind-clause-few g c = few_after c.args.registry.now c.args.self.now.found.items c.reference-name.result.now c.in-Ok.followed c.in-Ok.ensures.any c.bind.new.self.found.items c.in-Ok-bind.ensures.found
-
-pub returns-in-Ok-bind-clause-any : goal.returns-in-Ok-bind-clause-any
-returns-in-Ok-bind-clause-any g c =
-    let at = indexed c.args.self.now.found.items c.args.place c.args.number c.index.result.now c.requires.first c.requires.last c.index.ensures in
-    follows_any c.args.registry.now c.args.place c.args.self.now c.bind.new.self c.index.result.now at.0 c.args.number c.requires.first at.1 c.reference-name.result.now c.reference-name.ensures c.in-Ok.followed c.in-Ok.ensures.any
-    c.in-Ok-bind.ensures.found c.in-Ok-bind.ensures.bound
+returns-in-Ok-bind-clause-few g c = few_after (answers_of g.S.Store.is_honest (g.S.Store.files c.args.store.now)) c.args.registry.now c.args.self.now.found.items c.reference-name.result.now c.in-Ok.followed c.in-Ok.ensures.leads c.bind.new.self.found.items c.in-Ok-bind.ensures.found
 
 pub returns-in-Err-clause-refused : goal.returns-in-Err-clause-refused
 returns-in-Err-clause-refused g c =
