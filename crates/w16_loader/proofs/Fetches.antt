@@ -45,9 +45,9 @@ module _ (Known : Type 0) (IsRead : List ℕ → Type 0) (before after : ℕ) (o
     }
 
 -- what was written over as many bytes as the segment has
-pub relocated : (data : List ℕ) (records : List Record) (values : List words.Far) (bytes : List ℕ) (n : ℕ) → IsWritten data records values bytes → (named : List (List ℕ)) × IsSound data records named → length data ≤ n → length bytes ≡ n → IsRelocatedBy values bytes
-relocated data records values bytes n are sound room long =
-    let fits : length data ≤ length bytes = omega (arith, room, long) in record { data = data; records = records; named = sound.0; sound = sound.1; fits = fits; image = are.image sound.0 sound.1 fits }
+pub relocated : (source : List ℕ) (records : List Record) (values : List words.Far) (bytes : List ℕ) (n : ℕ) → IsWritten source records values bytes → (named : List (List ℕ)) × IsSound source records named → length source ≤ n → length bytes ≡ n → IsRelocatedBy values bytes
+relocated source records values bytes n are sound room long =
+    let fits : length source ≤ length bytes = omega (arith, room, long) in record { source = source; records = records; named = sound.0; sound = sound.1; fits = fits; image = are.image sound.0 sound.1 fits }
 
 -- Over a file that says what it said at load.
 

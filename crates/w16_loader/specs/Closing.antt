@@ -5,6 +5,7 @@ use Rattle.w16_store.specs.declared.store.StoreFault.TheVariants as stores
 use Rattle.w16_store.specs.Files.{file_of}
 use Rattle.w16_ne.specs.declared.fault.NeFault.{NeFault}
 use Rattle.w16_ne.specs.declared.fault.NeFault.TheVariants as faults
+use Rattle.w16_store.specs.declared.store.StoreFault.{StoreFault}
 use Rattle.w16_ne.specs.Modules as ne
 use Rattle.w16_ne.specs.Modules.{tables_at}
 use Rattle.w16_reloc.specs.declared.fault.RelocFault.{RelocFault}

@@ -84,12 +84,12 @@ pub record GivesOwned (Known : Type 0) (IsRead : List ℕ → Type 0) (before af
 
 -- Bytes that are some data, zeros after it, and these values at the sites of records that are sound in it.
 pub record IsRelocatedBy (values : List words.Far) (bytes : List ℕ) : Type 0 where
-  pub data : List ℕ
+  pub source : List ℕ
   pub records : List Record
   pub named : List (List ℕ)
-  pub sound : IsSound data records named
-  pub fits : length data ≤ length bytes
-  pub image : IsImage data records values named bytes
+  pub sound : IsSound source records named
+  pub fits : length source ≤ length bytes
+  pub image : IsImage source records values named bytes
 
 -- Where the store is honest: the file of this name has the segment, sound and of the size that the slot's owner says.
 pub record IsSoundSource (honest : Type 0) (files : List (List ℕ × List ℕ)) (name : List ℕ) (t : Tables) (number : ℕ) (values : List words.Far) (handles : Handles) (slot : ℕ) : Type 0 where

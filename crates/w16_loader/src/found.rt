@@ -1,10 +1,10 @@
 //! New modules of a load, and what it makes of a name and of a file.
-ghost use Rattle.std.specs.Prelude.{◌≡◌, List, ℕ, Some, Ok, Err, true, false, map, option_map, position, IfOk, IfErr, OnOk, All, MatchResult};
+ghost use Rattle.std.specs.Prelude.{◌≡◌, ◌≤◌, List, ℕ, Some, Ok, Err, true, false, map, option_map, position, IfOk, IfErr, OnOk, All, MatchResult};
 ghost use Rattle.w16_store.specs.Names as names;
 ghost use Rattle.w16_store.specs.Files.{file_of};
 ghost use Rattle.w16_ne.specs.Reading.{is_ne_device};
 ghost use Rattle.w16_reloc.specs.Segments.{is_reloc_device};
-ghost use Rattle.w16_store.specs.Later.{IsLater, RoseIf};
+ghost use Rattle.w16_store.specs.Later.{IsLater, RoseIf, is_device};
 ghost use Rattle.w16_loader.specs.Devices.{is_file_device};
 ghost use Rattle.w16_ne.specs.Modules.{tables_at};
 ghost use Rattle.w16_loading.specs.Closure as closing;
