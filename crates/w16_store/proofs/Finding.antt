@@ -1,7 +1,7 @@
 -- Files that are found by name.
-use Rattle.std.proofs.Common.{◌≡◌, ℕ, zero, suc, ◌+◌, ◌<◌, ◌≤◌, Bool, true, false, cond, List, [], ◌∷◌, ◌++◌, Option, Some, None, Ok, Err, length, get_or, position, refl, sym, ◌∙◌, subst, arith, ltb}
-use Rattle.std.specs.Prelude.{option_map}
-use Rattle.std.specs.List.{find, position_or_len, cons_option}
+use Rattle.std.proofs.Common.{◌≡◌, ℕ, zero, suc, ◌+◌, ◌<◌, ◌≤◌, Bool, true, false, cond, List, [], ◌∷◌, ◌++◌, Option, Some, None, Ok, Err, length, get_or, position, refl, sym, ap, ◌∙◌, subst, arith, ltb}
+use Rattle.std.specs.Prelude.{option_map, unwrap_or}
+use Rattle.std.specs.List.{find, position_or_len}
 use Rattle.std.proofs.Math.ListN.{set}
 use Rattle.std.proofs.lemmas.Bool.Decides.{nat_tests}
 use Rattle.std.proofs.lemmas.List.Sums.{fails_before_first}
@@ -75,36 +75,24 @@ with_added name bytes (f ∷ fs) g none e b n =
 
 -- In a folder.
 
-listed-cons : (n : List ℕ) (ns : List (List ℕ)) (held : List (List ℕ × List ℕ)) → listed (n ∷ ns) held ≡ cons_option (option_map (λ bytes. (n, bytes)) (content_of held n)) (listed ns held)
+-- the first listed name that fits, and what the folder has of it
+pub in_folder : (names : List (List ℕ)) (held : List (List ℕ × List ℕ)) (name : List ℕ) → file_of (listed names held) name ≡ option_map (λ n. unwrap_or (content_of held n) []) (find (λ m. is_named m name) names)
 unfolding listed
-listed-cons n ns held = refl
+in_folder [] held name = file_of-nil name
+in_folder (m ∷ ms) held name = file_of-cons (m, unwrap_or (content_of held m) []) (listed ms held) name ∙ turn (is_named m name) (in_folder ms held name)
+  where
+    turn : (b : Bool) → file_of (listed ms held) name ≡ option_map (λ n. unwrap_or (content_of held n) []) (find (λ k. is_named k name) ms)
+        → cond b (Some (unwrap_or (content_of held m) [])) (file_of (listed ms held) name) ≡ option_map (λ n. unwrap_or (content_of held n) []) (cond b (Some m) (find (λ k. is_named k name) ms))
+    turn true rest = refl
+    turn false rest = rest
 
 -- where the first listed name that fits is a file's, that file is found
 pub found_in_folder : (names : List (List ℕ)) (held : List (List ℕ × List ℕ)) (name n bytes : List ℕ) → find (λ m. is_named m name) names ≡ Some n → content_of held n ≡ Some bytes → file_of (listed names held) name ≡ Some bytes
-found_in_folder [] held name n bytes h e = cc
-found_in_folder (m ∷ ms) held name n bytes h e =
-    elim (is_named m name) as (λ b. is_named m name ≡ b → cond b (Some m) (find (λ k. is_named k name) ms) ≡ Some n → file_of (listed (m ∷ ms) held) name ≡ Some bytes) [
-      | true ↦ λ t s. (let same : m ≡ n = cc in let content : content_of held m ≡ Some bytes = rw same e in rw (listed-cons m ms held, content, file_of-cons (m, bytes) (listed ms held) name, t) refl)
-      | false ↦ λ t s. rw (listed-cons m ms held) (passes m ms held name (content_of held m) t ∙ found_in_folder ms held name n bytes s e)
-    ] refl h
-  where
-    passes : (m : List ℕ) (ms : List (List ℕ)) (held : List (List ℕ × List ℕ)) (name : List ℕ) (content : Option (List ℕ)) → is_named m name ≡ false → file_of (cons_option (option_map (λ bytes. (m, bytes)) content) (listed ms held)) name ≡ file_of (listed ms held) name
-    passes m ms held name None t = refl
-    passes m ms held name (Some bytes) t = rw (file_of-cons (m, bytes) (listed ms held) name, t) refl
+found_in_folder names held name n bytes h e = in_folder names held name ∙ ap (option_map (λ n. unwrap_or (content_of held n) [])) h ∙ ap (λ p. Some (unwrap_or p [])) e
 
 -- where no listed name fits, no file is found
 pub not_in_folder : (names : List (List ℕ)) (held : List (List ℕ × List ℕ)) (name : List ℕ) → find (λ m. is_named m name) names ≡ None → file_of (listed names held) name ≡ None
-unfolding listed
-not_in_folder [] held name h = file_of-nil name
-not_in_folder (m ∷ ms) held name h =
-    elim (is_named m name) as (λ b. is_named m name ≡ b → cond b (Some m) (find (λ k. is_named k name) ms) ≡ None → file_of (listed (m ∷ ms) held) name ≡ None) [
-      | true ↦ λ t s. (cc s)
-      | false ↦ λ t s. passes_none m ms held name (content_of held m) t (not_in_folder ms held name s)
-    ] refl h
-  where
-    passes_none : (m : List ℕ) (ms : List (List ℕ)) (held : List (List ℕ × List ℕ)) (name : List ℕ) (content : Option (List ℕ)) → is_named m name ≡ false → file_of (listed ms held) name ≡ None → file_of (cons_option (option_map (λ bytes. (m, bytes)) content) (listed ms held)) name ≡ None
-    passes_none m ms held name None t h = h
-    passes_none m ms held name (Some bytes) t h = rw (file_of-cons (m, bytes) (listed ms held) name, t) h
+not_in_folder names held name h = in_folder names held name ∙ ap (option_map (λ n. unwrap_or (content_of held n) [])) h
 
 -- What is answered of the file of a listed name, once it was read.
 abbrev IsListedAs : List (List ℕ) → List ℕ → List ℕ → Type 0

@@ -28,6 +28,10 @@ abbrev pub IsHonestAnswer : {X Y : Type 0} → (X → Y) → ℕ → ℕ → Res
 IsHonestAnswer view before after (Ok x) said = said ≡ Ok (view x)
 IsHonestAnswer view before after (Err fault) said = IsHonestFault before after fault said
 
+-- a fault says that there is no file only where there is none
+abbrev pub IsMissing : Option (List ℕ) → StoreFault → Type 0
+IsMissing file fault = fault ≡ Missing → file ≡ None
+
 -- the new files are the old ones, but that the file of this name has these bytes
 abbrev pub AreWith : List ℕ → List ℕ → List (List ℕ × List ℕ) → List (List ℕ × List ℕ) → Type 0
 AreWith name bytes old new = (n : List ℕ) → file_of new n ≡ (if is_named name n then Some bytes else file_of old n)

@@ -1,10 +1,13 @@
 //! The files of a folder.
-ghost use Rattle.std.specs.Prelude.{◌≡◌, ℕ, ◌≤◌, List, map, option_map, IfOk, IfErr};
+ghost use Rattle.std.specs.Prelude.{◌≡◌, ℕ, ◌≤◌, List, map, option_map, None, Err, IfOk, IfErr};
 ghost use Rattle.std.specs.List.{find};
 ghost use Rattle.std.specs.List.Sorted.{IsPermutation, IsSorted};
 ghost use Rattle.std.specs.String.{string_bytes, string_cmp};
 ghost use Rattle.w16_store.specs.Names.{is_named};
+ghost use Rattle.w16_store.specs.Files.{file_of, length_of, IsHonestAnswer, IsMissing, HasBytes};
 ghost use Rattle.w16_store.specs.Folder.{listed};
+ghost use Rattle.w16_store.specs.Later.{IsLater, RoseIf, is_device};
+ghost use Rattle.w16_store.specs.declared.store.StoreFault.TheVariants.{Missing};
 ghost use Rattle.w16_store.specs.Places.{AreInOrder, AreWhole};
 ghost use Rattle.w16_store.specs.declared.folder.DirFault.TheVariants.{Memory};
 
@@ -117,7 +120,17 @@ impl<D: Disk + Drop> Store for DirStore<D> {
         }
     }
 
-    fn len_of(&mut self, name: &[u8]) -> Result<u64, StoreFault> {
+    /// `Missing` exactly where no listed name is this one, whatever the disk.
+    fn len_of(&mut self, name: &[u8]) -> Result<u64, StoreFault>
+        ensures stays { IsLater (listed (map string_bytes self.old.names.items) (D.files self.old.disk)) (D.failures self.old.disk)
+            (listed (map string_bytes self.new.names.items) (D.files self.new.disk)) (D.failures self.new.disk) }
+        ensures device { IfErr result (RoseIf is_device (D.failures self.old.disk) (D.failures self.new.disk)) }
+        ensures honest { D.is_honest → IsHonestAnswer (λ n. n) (D.failures self.old.disk) (D.failures self.new.disk) result
+            (length_of (file_of (listed (map string_bytes self.old.names.items) (D.files self.old.disk)) name.now)) }
+        ensures missing { IfErr result (IsMissing (file_of (listed (map string_bytes self.old.names.items) (D.files self.old.disk)) name.now)) }
+        ensures bytes { D.is_honest → IfOk result (λ _. HasBytes (file_of (listed (map string_bytes self.old.names.items) (D.files self.old.disk)) name.now)) }
+        ensures unlisted { find (λ n. is_named n name.now) (map string_bytes self.old.names.items) ≡ None → result ≡ Err Missing }
+    {
         match listed_as(self.names.as_slice(), self.places.as_slice(), name) {
             None => Err(StoreFault::Missing),
             Some(listed) => match self.disk.read(listed, 0, &mut []) {

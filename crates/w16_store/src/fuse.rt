@@ -1,6 +1,6 @@
 //! A store that fails once.
 ghost use Rattle.std.specs.Prelude.{◌≡◌, ℕ, ◌+◌, ◌≢◌, length, min, IfOk, IfErr};
-ghost use Rattle.w16_store.specs.Files.{file_of, bytes_of, length_of, IsHonestAnswer, HasBytes};
+ghost use Rattle.w16_store.specs.Files.{file_of, bytes_of, length_of, IsHonestAnswer, IsMissing, HasBytes};
 ghost use Rattle.w16_store.specs.Fuse.{blown};
 ghost use Rattle.w16_store.specs.Later.{IsLater, RoseIf, is_device};
 ghost use Rattle.w16_store.specs.declared.store.StoreFault.TheVariants.{Device};
@@ -71,6 +71,7 @@ impl<S: Store + Drop> Store for FuseStore<S> {
             (S.failures self.new.inner + blown self.new.fuse self.new.reads)) }
         ensures honest { S.is_honest → IsHonestAnswer (λ n. n) (S.failures self.old.inner + blown self.old.fuse self.old.reads)
             (S.failures self.new.inner + blown self.new.fuse self.new.reads) result (length_of (file_of (S.files self.old.inner) name.now)) }
+        ensures missing { IfErr result (IsMissing (file_of (S.files self.old.inner) name.now)) }
         ensures bytes { S.is_honest → IfOk result (λ _. HasBytes (file_of (S.files self.old.inner) name.now)) }
         ensures fuse { self.new.fuse ≡ self.old.fuse }
         ensures reads { self.new.reads ≡ self.old.reads }

@@ -1,6 +1,6 @@
 //! What a store is.
 ghost use Rattle.std.specs.Prelude.{ℕ, List, length, IfOk, IfErr};
-ghost use Rattle.w16_store.specs.Files.{file_of, bytes_of, length_of, IsHonestAnswer, HasBytes};
+ghost use Rattle.w16_store.specs.Files.{file_of, bytes_of, length_of, IsHonestAnswer, IsMissing, HasBytes};
 ghost use Rattle.w16_store.specs.Later.{IsLater, RoseIf, is_device};
 
 use thiserror::Error;
@@ -37,11 +37,12 @@ pub trait Store {
         ensures honest { is_honest → IsHonestAnswer (λ _. buf.new) (failures self.old) (failures self.new) result
             (bytes_of (file_of (files self.old) name.now) at (length buf.old)) };
 
-    /// The length of a file in bytes.
+    /// The length of a file in bytes. Whatever the store, `Missing` says that no file has the name.
     fn len_of(&mut self, name: &[u8]) -> Result<u64, StoreFault>
         ensures stays { IsLater (files self.old) (failures self.old) (files self.new) (failures self.new) }
         ensures device { IfErr result (RoseIf is_device (failures self.old) (failures self.new)) }
         ensures honest { is_honest → IsHonestAnswer (λ n. n) (failures self.old) (failures self.new) result
             (length_of (file_of (files self.old) name.now)) }
+        ensures missing { IfErr result (IsMissing (file_of (files self.old) name.now)) }
         ensures bytes { is_honest → IfOk result (λ _. HasBytes (file_of (files self.old) name.now)) };
 }
