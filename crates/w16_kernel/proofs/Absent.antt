@@ -6,8 +6,8 @@ use Rattle.std.specs.FinMap as finmap
 use Rattle.w16_model.specs.declared.FarFault.TheVariants.{BadSelector, ReadOnly, NotPresent, Limit}
 use Rattle.w16_model.specs.Effects.{pointer_in}
 use Rattle.w16_model.specs.Far as far
-use Rattle.w16_model.specs.Far.{far_at, is_past}
-use Rattle.w16_model.specs.Far.FarAnswer.{Bytes, Done, Fault}
+use Rattle.w16_model.specs.Far.{is_past}
+use Rattle.w16_model.specs.Far.FarAnswer.{Fault}
 use Rattle.w16_model.specs.Handles.{part_of_selector}
 use Rattle.w16_loading.specs.Replies as replies
 
