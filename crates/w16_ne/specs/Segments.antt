@@ -14,9 +14,10 @@ or_64k n = if n == 0 then 65536 else n
 abbrev pub rounded : ℕ → ℕ
 rounded n = (n + 31) / 32 * 32
 
--- A segment has at most 65,536 bytes of data. Its object's size is a multiple of 32, from 32 to 65,536 (profile).
+-- A segment has at most 65,536 bytes of data. Its object has room for them; its size is a multiple of 32, from 32 to 65,536 (profile).
 pub record IsSized (s : Segment) : Type 0 where
   pub short : s.len ≤ LARGEST_SEGMENT
+  pub room : s.len ≤ s.size
   pub some : SEGMENT_UNIT ≤ s.size
   pub small : s.size ≤ LARGEST_SEGMENT
   pub whole : s.size % SEGMENT_UNIT ≡ 0

@@ -50,6 +50,7 @@ fn size_of(len: u32, least: u32) -> u32
     requires some { 0 < least }
     requires least { least ≤ LARGEST_SEGMENT }
     ensures value { result ≡ rounded (max len least) }
+    ensures room { len ≤ result }
     ensures some { SEGMENT_UNIT ≤ result }
     ensures small { result ≤ LARGEST_SEGMENT }
     ensures whole { result % SEGMENT_UNIT ≡ 0 }
