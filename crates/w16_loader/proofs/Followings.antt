@@ -1,10 +1,8 @@
 -- What the code has reached, reference by reference.
 use Rattle.w16_loader.proofs.Common.{◌≡◌, ℕ, zero, suc, ◌+◌, ◌-◌, ◌<◌, ◌≤◌, List, [], ◌∷◌, ◌++◌, length, Some, refl, sym, ap, subst, arith}
 use Rattle.w16_loader.proofs.Common.{slice_get, slice_index_or, New, Found, Followed, MOST_MODULES, Modules}
-use Rattle.w16_loader.proofs.Common.{free_modules, reached, references_at, found_after}
-use Rattle.w16_loading.specs.Closure as closing
+use Rattle.w16_loader.proofs.Common.{free_modules, references_at, found_after}
 use Rattle.w16_loader.specs.declared.closure.Followed.TheVariants as leads
-use Rattle.w16_loader.specs.declared.found.FileFault.TheVariants as faults
 use Rattle.std.specs.FinMap as finmap
 use Rattle.w16_loader.proofs.Files.{there}
 
