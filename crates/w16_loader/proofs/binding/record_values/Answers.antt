@@ -31,4 +31,4 @@ loop-relocation-preserved g c =
 pub returns-in-Err-clause-failed : goal.returns-in-Err-clause-failed
 returns-in-Err-clause-failed g c = λ file t honest is all.
     let still = subst (λ files. IsStoredAs files c.args.loaded.now file t) (sym c.loop-relocation.invariant.files) is in
-    failure_since _ _ _ c.in-Err-record_value.fault c.loop-relocation.invariant.failures (c.in-Err-record_value.ensures.failed file t honest still (all c.loop-relocation.relocation-index _ (omega arith)))
+    failure_since _ _ _ c.in-Err.fault c.loop-relocation.invariant.failures (c.in-Err.ensures.failed file t honest still (all c.loop-relocation.relocation-index _ (omega arith)))

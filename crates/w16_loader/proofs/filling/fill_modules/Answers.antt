@@ -25,8 +25,11 @@ loop-place-preserved g c =
           let n : Named c.args.registry.now h reads c.loop-place.place = named_at c.args.registry.now IsReadAs c.args.handles.now reads are c.loop-place.place inside in
           let gives = gives_over g.S.Store.is_honest (g.S.Store.failures c.args.store.now) after in
           let reached = c.loop-place.invariant.given reads after (omega (arith, c.in-Ok.ensures.stays.counted, le)) are its empty in
-          let still = λ (honest : g.S.Store.is_honest). (subst (λ files. IsSaid files n.m n.read) (sym c.loop-place.invariant.files) (its_at c.args.registry.now (IsSaid (g.S.Store.files c.args.store.now)) c.args.handles.now reads (its honest).0 c.loop-place.place h at n),
-          its_at c.args.registry.now IsItsFiles c.args.handles.now reads (its honest).1 c.loop-place.place h at n) in
+          let still : g.S.Store.is_honest → IsSaid (g.S.Store.files c.loop-place.store) n.m n.read × IsItsFiles n.m n.read =
+          λ honest. (
+            subst (λ files. IsSaid files n.m n.read) (sym c.loop-place.invariant.files) (its_at c.args.registry.now (IsSaid (g.S.Store.files c.args.store.now)) c.args.handles.now reads (its honest).0 c.loop-place.place h at n),
+            its_at c.args.registry.now IsItsFiles c.args.handles.now reads (its honest).1 c.loop-place.place h at n,
+          ) in
           module_goes gives c.args.registry.now c.args.global.now.handles c.loop-place.global.handles c.fill_module.new.global.handles c.args.handles.now reads c.loop-place.place h n.read n.m at n.read_at n.found reached
           (λ slot s all is. c.in-Ok.ensures.kept n.m slot s n.found all is)
           (turn_since g.S.Store.is_honest (g.S.Store.failures c.args.store.now) (g.S.Store.failures c.loop-place.store) (g.S.Store.failures c.fill_module.new.store) after c.loop-place.invariant.failures le _ _ _ _
@@ -45,8 +48,11 @@ returns-in-Err-clause-given g c = λ reads are its empty.
     let n : Named c.args.registry.now h reads c.loop-place.place = named_at c.args.registry.now IsReadAs c.args.handles.now reads are c.loop-place.place inside in
     let gives = gives_over g.S.Store.is_honest (g.S.Store.failures c.args.store.now) (g.S.Store.failures c.fill_module.new.store) in
     let reached = c.loop-place.invariant.given reads (g.S.Store.failures c.fill_module.new.store) c.in-Err.ensures.stays.counted are its empty in
-    let still = λ (honest : g.S.Store.is_honest). (subst (λ files. IsSaid files n.m n.read) (sym c.loop-place.invariant.files) (its_at c.args.registry.now (IsSaid (g.S.Store.files c.args.store.now)) c.args.handles.now reads (its honest).0 c.loop-place.place h at n),
-    its_at c.args.registry.now IsItsFiles c.args.handles.now reads (its honest).1 c.loop-place.place h at n) in
+    let still : g.S.Store.is_honest → IsSaid (g.S.Store.files c.loop-place.store) n.m n.read × IsItsFiles n.m n.read =
+    λ honest. (
+      subst (λ files. IsSaid files n.m n.read) (sym c.loop-place.invariant.files) (its_at c.args.registry.now (IsSaid (g.S.Store.files c.args.store.now)) c.args.handles.now reads (its honest).0 c.loop-place.place h at n),
+      its_at c.args.registry.now IsItsFiles c.args.handles.now reads (its honest).1 c.loop-place.place h at n,
+    ) in
     module_ends gives c.args.registry.now c.args.global.now.handles c.loop-place.global.handles c.fill_module.new.global.handles c.args.handles.now reads c.loop-place.place h n.read n.m at n.read_at n.found reached
     (record { place = c.loop-place.place; fault = c.in-Err.fault })
     (turn_since g.S.Store.is_honest (g.S.Store.failures c.args.store.now) (g.S.Store.failures c.loop-place.store) (g.S.Store.failures c.fill_module.new.store) (g.S.Store.failures c.fill_module.new.store) c.loop-place.invariant.failures (omega arith) _ _ _ _

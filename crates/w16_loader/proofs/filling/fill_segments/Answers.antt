@@ -1,5 +1,5 @@
 -- A segment more: its object gets its bytes, and leaves the others without, or it ends all.
-use Rattle.w16_loader.proofs.Common.{◌≡◌, ◌+◌, ◌-◌, ◌<◌, ◌≤◌, length, refl, ◌∙◌, sym, arith, subst, IsSaid, gives_over}
+use Rattle.w16_loader.proofs.Common.{◌≡◌, ◌+◌, ◌-◌, ◌<◌, ◌≤◌, length, refl, ◌∙◌, sym, arith, subst, IsItsFiles, IsSaid, gives_over}
 use Rattle.w16_loader.proofs.Fillings.{part_at, part_unfilled, part_goes, part_ends, parts_done, at_none, rest_then}
 use Rattle.w16_loader.proofs.Givings.{turn_since}
 use Rattle.w16_loader.proofs.filling.fill_segments.Goals as goal
@@ -25,7 +25,8 @@ loop-done-preserved g c =
       given = λ read place after le is_read its empty.
           let part = part_at c.args.loaded.now read is_read (c.loop-done.done + 1 - 1) inside in
           let before : g.S.Store.failures c.loop-done.store ≤ after = omega (arith, c.in-Ok.ensures.stays.counted, le) in
-          let still = λ (honest : g.S.Store.is_honest). (subst (λ files. IsSaid files c.args.loaded.now read) (sym c.loop-done.invariant.files) (its honest).0, (its honest).1) in
+          let still : g.S.Store.is_honest → IsSaid (g.S.Store.files c.loop-done.store) c.args.loaded.now read × IsItsFiles c.args.loaded.now read =
+          λ honest. (subst (λ files. IsSaid files c.args.loaded.now read) (sym c.loop-done.invariant.files) (its honest).0, (its honest).1) in
           part_goes place c.args.loaded.now read (gives_over g.S.Store.is_honest (g.S.Store.failures c.args.store.now) after) c.args.global.now.handles.heap c.loop-done.global.handles.heap c.fill_segment.new.global.handles.heap c.loop-done.done (c.loop-done.done + 1 - 1) same part
           (c.loop-done.invariant.given read place after before is_read its empty)
           (turn_since g.S.Store.is_honest (g.S.Store.failures c.args.store.now) (g.S.Store.failures c.loop-done.store) (g.S.Store.failures c.fill_segment.new.store) after c.loop-done.invariant.failures le _ _ _ _ (c.in-Ok.ensures.given read place part is_read still (part_unfilled c.args.loaded.now read c.args.global.now.handles c.loop-done.global.handles c.loop-done.done (c.loop-done.done + 1 - 1) same empty part c.loop-done.invariant.kept)));
@@ -43,7 +44,8 @@ returns-in-Err-clause-given g c = λ read place is_read its empty.
     let inside : c.loop-done.done + 1 - 1 < length c.args.loaded.now.tables.segments = omega (arith, c.segment_count-count.ensures, c.loop-done-test.true) in
     let part = part_at c.args.loaded.now read is_read (c.loop-done.done + 1 - 1) inside in
     let after = g.S.Store.failures c.fill_segment.new.store in
-    let still = λ (honest : g.S.Store.is_honest). (subst (λ files. IsSaid files c.args.loaded.now read) (sym c.loop-done.invariant.files) (its honest).0, (its honest).1) in
+    let still : g.S.Store.is_honest → IsSaid (g.S.Store.files c.loop-done.store) c.args.loaded.now read × IsItsFiles c.args.loaded.now read =
+    λ honest. (subst (λ files. IsSaid files c.args.loaded.now read) (sym c.loop-done.invariant.files) (its honest).0, (its honest).1) in
     part_ends place c.args.loaded.now read (gives_over g.S.Store.is_honest (g.S.Store.failures c.args.store.now) after) c.args.global.now.handles.heap c.loop-done.global.handles.heap c.fill_segment.new.global.handles.heap c.loop-done.done (c.loop-done.done + 1 - 1) same part
     (c.loop-done.invariant.given read place after c.in-Err.ensures.stays.counted is_read its empty) (record { place = place; fault = c.in-Err.fault })
     (turn_since g.S.Store.is_honest (g.S.Store.failures c.args.store.now) (g.S.Store.failures c.loop-done.store) (g.S.Store.failures c.fill_segment.new.store) after c.loop-done.invariant.failures (omega arith) _ _ _ _ (c.in-Err.ensures.given read place part is_read still (part_unfilled c.args.loaded.now read c.args.global.now.handles c.loop-done.global.handles c.loop-done.done (c.loop-done.done + 1 - 1) same empty part c.loop-done.invariant.kept)))
