@@ -216,7 +216,10 @@ module _ {A : Type 0} (answers : Answers) (modules : Modules) where
         let b : Begins (found_after old.found.items followed) all = subst (λ xs. Begins xs all) found begins in
         let was : Begins old.found.items all = before old.found.items followed all b in
         let same : reached_of place number new all
-        ≡ record { found = take (length (found_after old.found.items followed)) all; pending = left_from place number (take (length (found_after old.found.items followed)) all); bound = map bound_in (old.bound.items ++ record { place = place; referent = referent_after (length old.found.items) followed } ∷ []) } =
+        ≡ record { found = take (length (found_after old.found.items followed)) all; pending = left_from place number
+          (take (length (found_after old.found.items followed)) all); bound = map bound_in
+          (old.bound.items ++ record { place = place; referent = referent_after (length old.found.items) followed } ∷
+          []) } =
         (λ i. record { found = take (length (found i)) all; pending = left_from place number (take (length (found i)) all); bound = map bound_in (bound i) }) in
         (suc c.0, follows_on answers modules all held old.found.items was place f at (number - 1) number le old.bound.items name (next_pending all was) followed leads_there b c.0 outcome
         (subst (λ x. ClosesFrom answers (around_in modules []) c.0 x outcome) same c.1))

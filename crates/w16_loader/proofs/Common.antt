@@ -29,7 +29,7 @@ pub use Rattle.w16_global.specs.Owned.{HasNoSlot, LacksBytes}
 pub use Rattle.w16_loader.specs.Answering.{AreAccepted, AreHeld, ClosesOf, ClosesTo, IsAccepted, IsClosureBy, IsNewIn, IsRefusedFile, IsRefusedName, LeadsBy, LeadsByAnswer, LeadsTo, MakesOf, ReadsIn, RefusesBy, answers_of}
 pub use Rattle.w16_loader.specs.Reached.{Begins, IsAlike, IsFoundOf, closed_of, reached_of}
 pub use Rattle.w16_loader.specs.Binding.{AreSaid, AreTargets, AreValuesOf, IsBindFailure, IsFailure, IsForEach, IsSaid, IsStoredAs, all_bound, bound_as, fault_of_name, values_for, with_values}
-pub use Rattle.w16_loader.specs.Closing.{Files, IsFault, IsNewOrMeant, IsRead, IsThere, IsUnsound, around_in, fault_of, fault_of_check, found_in, meant_in, read_in, referent_of, said}
+pub use Rattle.w16_loader.specs.Closing.{Files, IsFault, IsRead, IsThere, IsUnsound, around_in, fault_of, fault_of_check, found_in, meant_in, read_in, referent_of, said}
 pub use Rattle.w16_loader.specs.Entries.{named_of}
 pub use Rattle.w16_loader.specs.Fetching.{GivesBytes, IsFetchable, IsSoundIn, IsSourceOf, IsWritten, fault_in, image_in, in_parts}
 pub use Rattle.w16_loader.specs.Filling.{AreItsFiles, AreReadAs, AreUnfilled, HasUnfilled, IsReadAs, IsUnfilled, Part, failure_at, fills_in, fills_of_part, fills_with, gives_over, slots_at}

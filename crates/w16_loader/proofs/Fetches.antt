@@ -4,6 +4,7 @@ use Rattle.w16_loader.proofs.Common.{ap, ◌∙◌, subst, arith, ne_eqb, lit<, 
 use Rattle.w16_loader.proofs.Common.{All-repeated, tables_at, RelocFault, Record, Held, checked, data_of, IsImage, naming, FetchFault, Store, Damaged, NoRoom, IsOwnedSize, read_of, segment_bytes}
 use Rattle.w16_loader.proofs.Common.{Far, ModuleFile, SegmentData, numbered, Fills, IsHeap, is_of_device, is_of_read, IsItsFiles, IsObjectOf, LoadingWorld, Module, of_segment, data_in, target_of, targets_in, far_of}
 use Rattle.w16_loader.proofs.Common.{IsFileOf, IsRelocated, ne_format, module_file, segment_in, accepted, has_room, stored_law, is_relocated, words_same, file_of, GivesBytes, IsFetchable, IsSoundIn, IsWritten, image_in}
+use Rattle.w16_reloc.specs.Sound.{IsSound}
 use Rattle.w16_loader.specs.Fetching.{GivesOwned, GivesSegment, IsRelocatedBy, IsSoundSource}
 use Rattle.w16_loading.specs.Answers.{FetchesFrom, FillsFewest, GivesRead, MayFail, told}
 use Rattle.w16_loading.specs.Fetch as fetching
@@ -170,6 +171,7 @@ module _ (honest : Type 0) (Known : Type 0) (known : honest → Known) (IsRead :
 
 pub fetches : (honest : Type 0) (world : LoadingWorld) (slot number : ℕ) (name : List ℕ) (t : Tables) (values : List words.Far) → number ≤ length t.segments → (honest → IsFetchable world slot number name t values) → (before after : ℕ) (fault : Option FetchFault) (new : Handles)
     → GivesSegment honest world.files name t number values before after world.handles slot fault new → FetchesFrom FillsFewest (told honest ne_format world.files before after) world slot fault (record world { handles = new })
+unfolding sound source
 fetches honest world slot number name t values last is before after fault new =
     let known : honest → IsSoundSource honest world.files name t number values world.handles slot = λ h. source world slot number name t values (is h) last honest h in
     owned_fetch honest (IsSoundSource honest world.files name t number values world.handles slot) known _ world slot

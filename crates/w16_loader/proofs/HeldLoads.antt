@@ -5,7 +5,8 @@ use Rattle.w16_loading.specs.Load.{used_again}
 use Rattle.w16_loader.specs.Binding.{IsBindFailure, IsUnread}
 use Rattle.w16_loader.proofs.Common.{false, AllocError, is_member, AreHandles, Heap, IsHeap, Member, FetchFault, ModuleFile, IsModuleFile, Target, Tables, targets_of, Failure, InTurn, Fills, file_of, ne_format}
 use Rattle.w16_loader.proofs.Common.{There, New, Refused, Meant, Read, Given, given, LoadingWorld, Modules, Handles, handle_named, free_modules, without_values, without_module, Answer, Says, given_found, BindFault, FileFault, LoadAnswer, around, begun, dll, Found}
-use Rattle.w16_loader.proofs.Common.{AreTargets, AreItsFiles, AreReadAs, AreSaid, AreUnfilled, Files, IsFault, IsOfFile, all_bound, closed_in, found_in, fills_with, gives_over, said, around_in, in_store, IsAlike, IsFoundOf, AreUnbound, IsClosureOf, IsUnbound, LoadsHeld, answer_in, failed_by, of_fault, refused_by}
+use Rattle.w16_loader.proofs.Common.{AreTargets, AreItsFiles, AreReadAs, AreSaid, AreUnfilled, Files, IsFault, IsOfFile, all_bound, closed_in, found_in, fills_with, gives_over}
+use Rattle.w16_loader.proofs.Common.{said, around_in, in_store, IsAlike, IsFoundOf, AreUnbound, IsClosureOf, IsUnbound, LoadsHeld, answer_in, failed_by, of_fault, refused_by}
 use Rattle.w16_loader.proofs.Common.{AreAccepted, AreHeld, ClosesOf, IsAccepted, IsClosureBy, answers_of}
 use Rattle.std.specs.FinMap as finmap
 use Rattle.w16_loading.specs.Answers.{Answers, ClosesFrom, FillsFewest, GivesFrom, LoadsFrom, ReadsFile, follow, said_by, told}

@@ -1,6 +1,7 @@
 -- What a name means is there.
-use Rattle.w16_loader.proofs.Common.{◌≡◌, ℕ, ◌<◌, inl, inr, Bool, true, false, cond, nat_lt, List, [], ◌∷◌, length, map, Option, Some, None, option_map, Result, Ok, Err, IfOk, refl, sym, ap, ◌∙◌, arith, ltb-true, position}
-use Rattle.w16_loader.proofs.Common.{position_or_len, option_or, length-map, Member, is_named, entry_there, Modules, Named, name_of, handle_named, There, New, Found, FileFault, Reading, found_in, IsNewOrMeant, IsThere}
+use Rattle.w16_loader.proofs.Common.{◌≡◌, ℕ, ◌<◌, inl, inr, Bool, true, false, cond, nat_lt, List, [], ◌∷◌, length, map, Option, Some, None, option_map, Result, Ok, Err, IfOk, MatchResult, refl, sym, ap, ◌∙◌, arith, ltb-true, position}
+use Rattle.w16_loader.proofs.Common.{position_or_len, option_or, length-map, Member, is_named, entry_there, Modules, Named, name_of, handle_named, There, New, Found, FileFault, Reading, found_in, IsThere, MakesOf}
+use Rattle.w16_loading.specs.Answers.{Answers}
 use Rattle.std.specs.List.{find}
 use Rattle.std.specs.FinMap as finmap
 use Rattle.w16_loading.specs.Closure as closing
@@ -46,11 +47,12 @@ module _ {A : Type 0} (modules : Modules) (found : List (Found A)) where
       omega (arith, lt, same, length-map found (found_in []))
   place_there name place None None at e = cc
 
-  is_there : (r : Reading A) → IsNewOrMeant modules found r → IsThere modules found r
-  is_there (makes.Meant (refers.There handle)) h = handle_there h.0 handle (handle_named modules h.0) (place_of h.0) refl h.1
-  is_there (makes.Meant (refers.New place)) h = place_there h.0 place (handle_named modules h.0) (place_of h.0) refl h.1
-  is_there (makes.Read tables) h = tt
+  module _ (answers : Answers) (name : List ℕ) where
+    is_there : (r : Reading A) → MakesOf answers modules found name r → IsThere modules found r
+    is_there (makes.Meant (refers.There handle)) h = handle_there h.0.name handle (handle_named modules h.0.name) (place_of h.0.name) refl h.2
+    is_there (makes.Meant (refers.New place)) h = place_there h.0.name place (handle_named modules h.0.name) (place_of h.0.name) refl h.2
+    is_there (makes.Read tables) h = tt
 
-  pub all_there : (r : Result (Reading A) FileFault) → IfOk r (IsNewOrMeant modules found) → IfOk r (IsThere modules found)
-  all_there (Ok made) h = is_there made h
-  all_there (Err fault) h = tt
+    pub all_there : (IsRefused : FileFault → Type 0) (r : Result (Reading A) FileFault) → MatchResult r (MakesOf answers modules found name) IsRefused → IfOk r (IsThere modules found)
+    all_there IsRefused (Ok made) h = is_there made h
+    all_there IsRefused (Err fault) h = tt

@@ -84,11 +84,6 @@ module _ {A : Type 0} where
   abbrev pub meant_in : Modules → List (Found A) → List ℕ → Option closing.Referent
   meant_in modules found name = closing.meant (around_in modules []) (map (found_in []) found) name
 
-  -- Whatever a file says, a load makes of it what some name means, or a new module, whose name means nothing and for which a handle is left.
-  abbrev pub IsNewOrMeant : Modules → List (Found A) → Reading A → Type 0
-  IsNewOrMeant modules found (makes.Meant referent) = (name : List ℕ) × (meant_in modules found name ≡ Some (referent_of referent))
-  IsNewOrMeant modules found (makes.Read tables) = (meant_in modules found tables.name ≡ None) × (length found < free_modules modules)
-
   -- a handle that a name means is one of these modules, and a place one of those found
   abbrev pub IsThere : Modules → List (Found A) → Reading A → Type 0
   IsThere modules found (makes.Meant (refers.There handle)) = (n : Named) × (finmap.get modules handle ≡ Some n)

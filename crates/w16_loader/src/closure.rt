@@ -269,7 +269,8 @@ pub fn close<S: Store, A: Allocator + Copy>(
     ensures few { 0 < free_modules registry.now → IfOk result (λ made. length made.found.items ≤ free_modules registry.now) }
     ensures accepted { IsAccepted (answers_of S.is_honest (S.files store.old)) first.file.items (tables_in first.module) → IfOk result (λ made. AreAccepted (answers_of S.is_honest (S.files store.old)) (map (found_in []) made.found.items)) }
     ensures closes { IfOk result (IsClosureBy (answers_of S.is_honest (S.files store.old)) registry.now first.file.items (tables_in first.module)) }
-    ensures refused { IsAccepted (answers_of S.is_honest (S.files store.old)) first.file.items (tables_in first.module) → IfErr result (IsFault (λ number. ClosesOf (answers_of S.is_honest (S.files store.old)) registry.now first.file.items (tables_in first.module) (Err number)) (S.failures store.old) (S.failures store.new)) }
+    ensures refused { IsAccepted (answers_of S.is_honest (S.files store.old)) first.file.items (tables_in first.module) → IfErr result
+        (IsFault (λ number. ClosesOf (answers_of S.is_honest (S.files store.old)) registry.now first.file.items (tables_in first.module) (Err number)) (S.failures store.old) (S.failures store.new)) }
 {
     let Ok(mut closure) = Closure::begin(first) else {
         return Err(FileFault::OutOfMemory);

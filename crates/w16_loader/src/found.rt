@@ -15,7 +15,7 @@ ghost use Rattle.w16_format.specs.Tables.{segment_in, tables_in};
 ghost use Rattle.w16_loader.specs.Answering.{IsAccepted, MakesOf, ReadsIn, answers_of};
 ghost use Rattle.w16_loader.specs.Naming.{IsFit};
 ghost use Rattle.w16_loader.specs.Closing as loads;
-ghost use Rattle.w16_loader.specs.Closing.{Files, around_in, referent_of, found_in, said, IsRead, IsFault, IsUnsound, IsNewOrMeant, IsThere};
+ghost use Rattle.w16_loader.specs.Closing.{Files, around_in, referent_of, found_in, said, IsRead, IsFault, IsUnsound, IsThere};
 
 use crate::registry::Registry;
 use std::alloc::{Allocator, Global};
@@ -187,7 +187,8 @@ fn settle<S: Store, A: Allocator>(
 ) -> Result<Reading<A>, FileFault>
     ensures stays { IsLater (S.files store.old) (S.failures store.old) (S.files store.new) (S.failures store.new) }
     ensures device { IfErr result (RoseIf is_file_device (S.failures store.old) (S.failures store.new)) }
-    ensures makes { (answers_of S.is_honest (S.files store.old)).says name.now (Ok (tables_in read)) → MatchResult result (MakesOf (answers_of S.is_honest (S.files store.old)) registry.now found.now name.now) (IsFault (λ number. ReadsIn (answers_of S.is_honest (S.files store.old)) registry.now found.now name.now (Refused number)) (S.failures store.old) (S.failures store.new)) }
+    ensures makes { (answers_of S.is_honest (S.files store.old)).says name.now (Ok (tables_in read)) → MatchResult result (MakesOf (answers_of S.is_honest (S.files store.old)) registry.now found.now name.now)
+        (IsFault (λ number. ReadsIn (answers_of S.is_honest (S.files store.old)) registry.now found.now name.now (Refused number)) (S.failures store.old) (S.failures store.new)) }
 {
     match meant(registry, found, read.name()) {
         Some(referent) => Ok(Reading::Meant(referent)),

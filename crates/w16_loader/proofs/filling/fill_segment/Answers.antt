@@ -1,5 +1,5 @@
 -- The object of a fixed or of a preload segment is fetched; any other is left.
-use Rattle.w16_loader.proofs.Common.{◌≤◌, true, false, length, arith, gives_over}
+use Rattle.w16_loader.proofs.Common.{◌≤◌, ◌∙◌, true, false, length, arith, gives_over}
 use Rattle.w16_loader.proofs.Unfilled.{keeps, gives_held, unfilled, filled, part_long, many_segments, is_filled_by, is_named, no_slot, other_slot, source_image}
 use Rattle.w16_loader.proofs.filling.fill_segment.Goals as goal
 

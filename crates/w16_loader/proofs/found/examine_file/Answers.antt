@@ -14,9 +14,6 @@ fault_since IsRefused before mid after (faults.Refused number) le is = is
 fault_since IsRefused before mid after faults.Device le more = omega (arith, le, more)
 fault_since IsRefused before mid after faults.OutOfMemory le none = tt
 
-pub returns-in-Ok-clause-there : goal.returns-in-Ok-clause-there
-returns-in-Ok-clause-there g c = all_there c.args.registry.now c.args.found.now c.settle.result (returns-in-Ok-clause-makes g c)
-
 refused : {A : Type 0} (answers : Answers) (modules : Modules) (found : List (Found A)) (name : List ℕ) (before after : ℕ) (fault : FileFault)
     → IsFault (λ number. answers.says name (Err number)) before after fault → IsFault (λ number. ReadsIn answers modules found name (Refused number)) before after fault
 refused answers modules found name before after (faults.Refused number) h = inl h
@@ -43,3 +40,8 @@ rose_since (Err fault) before mid after le h = λ e. (let lt : mid < after = h e
 
 pub returns-in-Ok-clause-device : goal.returns-in-Ok-clause-device
 returns-in-Ok-clause-device g c = rose_since c.settle.result _ _ _ c.read_file.ensures.stays.counted c.settle.ensures.device
+
+pub returns-in-Ok-clause-there : goal.returns-in-Ok-clause-there
+returns-in-Ok-clause-there g c =
+    let says = subst (λ fs. (answers_of g.S.Store.is_honest fs).says c.args.name.now (Ok (tables_in c.in-Ok.read))) (sym c.read_file.ensures.stays.same) c.in-Ok.ensures.says in
+    all_there c.args.registry.now c.args.found.now (answers_of g.S.Store.is_honest (g.S.Store.files c.read_file.new.store)) c.args.name.now _ c.settle.result (c.settle.ensures.makes says)

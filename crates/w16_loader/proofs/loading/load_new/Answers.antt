@@ -2,7 +2,17 @@
 use Rattle.w16_loader.proofs.Common.{Bool, [], Err, IfOk, sym, subst, arith, tables_in, IsFault, closed_in, answer_in, in_store, ne_format, AreAccepted, ClosesOf, IsAccepted, IsClosureBy, LoadsHeld, answers_of}
 use Rattle.w16_loading.specs.Answers.{FillsFewest, LoadsFrom, told}
 use Rattle.w16_loader.proofs.HeldLoads.{closed_load, is_closure, refused_closure}
+use Rattle.w16_store.specs.Later.{RoseIf}
+use Rattle.w16_loader.specs.Devices.{is_load_device}
+use Rattle.w16_loader.proofs.Common.{◌<◌, ◌≤◌, ℕ, Ok, Result, AllocError, LoadAnswer}
 use Rattle.w16_loader.proofs.loading.load_new.Goals as goal
+
+rose_since : (r : Result LoadAnswer AllocError) (before mid after : ℕ) → before ≤ mid → IfOk r (RoseIf is_load_device mid after) → IfOk r (RoseIf is_load_device before after)
+rose_since (Ok answer) before mid after le h = λ e. (let lt : mid < after = h e in omega (arith, le, lt))
+rose_since (Err e) before mid after le h = h
+
+pub returns-in-Ok-clause-device : goal.returns-in-Ok-clause-device
+returns-in-Ok-clause-device g c = rose_since c.load_closure.result _ _ _ c.in-Ok.ensures.stays.counted c.load_closure.ensures.device
 
 pub returns-in-Err-clause-loads : goal.returns-in-Err-clause-loads
 returns-in-Err-clause-loads g c = λ rest start le accepted unnamed.

@@ -16,7 +16,7 @@ returns-then-give-clause-given g c = λ lacks. filled _ _ _ _ _ _ c.reveal_handl
       (rw (← c.bytes.ensures) at c.in_ok-read.ensures.room s there) long,
       λ s.
           let read = c.in_ok-read.ensures.exact s.file s.sound.segment s.sound.held s.truly s.stored s.sound.tables s.sound.there s.sound.passed s.sound.many in
-          written_image _ _ _ _ s.sound _ _ s.sized c.bytes.result.now c.records.result.now (c.bytes.ensures ∙ (λ i. (read i).bytes)) (c.records.ensures ∙ (λ i. (read i).records)) bytes are sized,
+          written_image _ _ _ _ s.sound c.args.global.now.handles (c.args.handle / 8) s.sized c.bytes.result.now c.records.result.now (c.bytes.ensures ∙ (λ i. (read i).bytes)) (c.records.ensures ∙ (λ i. (read i).records)) bytes are sized,
     )) c.give.new.global.handles (c.if-give.ensures.given refl)
 
 pub returns-else-give-clause-given : goal.returns-else-give-clause-given
