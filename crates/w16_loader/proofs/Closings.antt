@@ -216,13 +216,19 @@ module _ {A : Type 0} (answers : Answers) (modules : Modules) where
         let b : Begins (found_after old.found.items followed) all = subst (λ xs. Begins xs all) found begins in
         let was : Begins old.found.items all = before old.found.items followed all b in
         let same : reached_of place number new all
-        ≡ record { found = take (length (found_after old.found.items followed)) all; pending = left_from place number
-          (take (length (found_after old.found.items followed)) all); bound = map bound_in
-          (old.bound.items ++ record { place = place; referent = referent_after (length old.found.items) followed } ∷
-          []) } =
-        (λ i. record { found = take (length (found i)) all; pending = left_from place number (take (length (found i)) all); bound = map bound_in (bound i) }) in
-        (suc c.0, follows_on answers modules all held old.found.items was place f at (number - 1) number le old.bound.items name (next_pending all was) followed leads_there b c.0 outcome
-        (subst (λ x. ClosesFrom answers (around_in modules []) c.0 x outcome) same c.1))
+        ≡ record {
+          found = take (length (found_after old.found.items followed)) all;
+          pending = left_from place number
+              (take (length (found_after old.found.items followed)) all);
+          bound = map bound_in
+              (old.bound.items ++ record { place = place; referent = referent_after (length old.found.items) followed } ∷
+              []);
+        } =
+        (λ i. record { found = take (length (found i)) all; pending = left_from place number (take (length (found i)) all); bound = map bound_in (bound i) }) in (
+          suc c.0,
+          follows_on answers modules all held old.found.items was place f at (number - 1) number le old.bound.items name (next_pending all was) followed leads_there b c.0 outcome
+              (subst (λ x. ClosesFrom answers (around_in modules []) c.0 x outcome) same c.1),
+        )
 
     pub refused_at : (start after : ℕ) (fault : FileFault) → IsFault (IsRefusedName answers modules old.found.items name) start after fault → IsFault (RefusesBy answers modules old.found.items (reached_of place (number - 1) old)) start after fault
     refused_at start after (faults.Refused answer) h = λ accepted all begins held. refused_on answers modules all held old.found.items begins place f at (number - 1) number le old.bound.items name (next_pending all begins) answer h
@@ -278,7 +284,7 @@ module _ {A : Type 0} (answers : Answers) (modules : Modules) where
     refused_of accepted start after faults.Device h = h
     refused_of accepted start after faults.OutOfMemory h = tt
 
--- What is found is accepted.
+  -- What is found is accepted.
 
   all_accepted : (xs ys : List (Found A)) → AreAccepted answers (map (found_in []) xs) → AreAccepted answers (map (found_in []) ys) → AreAccepted answers (map (found_in []) (xs ++ ys))
   all_accepted [] ys h k = k

@@ -73,7 +73,6 @@ pub use Rattle.w16_loading.proofs.Importers.{entry_there, there_entry}
 pub use Rattle.w16_loading.proofs.LoadWorlds.{named_new}
 pub use Rattle.w16_loading.proofs.Named.{apart_after, given_slots_apart}
 pub use Rattle.w16_loading.proofs.Owners.{of_segment}
-
 pub use Rattle.w16_loading.proofs.Undone.{chosen, fold_named, in_first, in_second, retained, taken_away, taken_back_law, undone_law, zipped}
 pub use Rattle.w16_loading.proofs.Values.{values_law}
 pub use Rattle.w16_loading.specs.Free.{EndsUse}

@@ -93,9 +93,13 @@ module _ (honest : Type 0) (files : Files) (start after : ℕ) (old : LoadingWor
     some.0,
     some.1,
     some.2,
-    inr (f.place, f.fault,
-        (unread.0, (λ e. let lt = rose (ap is_of_device e) in omega (arith, le, lt)), λ h. (exact (map (λ (x : closing.Found). x.read) some.0) h (some_said h)).0),
-        refusal_is f.place f.fault, taken_back old (record meant { found = some.0 }) handles mid some_unbound modules alike same is),
+    inr (
+      f.place,
+      f.fault,
+      (unread.0, (λ e. let lt = rose (ap is_of_device e) in omega (arith, le, lt)), λ h. (exact (map (λ (x : closing.Found). x.read) some.0) h (some_said h)).0),
+      refusal_is f.place f.fault,
+      taken_back old (record meant { found = some.0 }) handles mid some_unbound modules alike same is,
+    ),
   )
   unbound_held modules alike same before le binds.OutOfMemory unread rose exact = tt
 

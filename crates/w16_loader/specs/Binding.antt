@@ -33,7 +33,6 @@ abbrev pub values_for : Lookup → Module → List (List Target) → List (List 
 values_for named m targets = map (λ ts. map (value_of named m) ts) targets
 
 module _ (named : Lookup) (m : Module) where
-
   abbrev pub AreValuesOf : List Target → List words.Far → Type 0
   AreValuesOf targets fars = map far_of fars ≡ map (value_of named m) targets
 

@@ -79,7 +79,6 @@ abbrev pub IsUnsound : List ℕ → ne.Tables → ℕ → Type 0
 IsUnsound bytes tables number = (number ≡ 11) × (are_sound (module_file bytes tables) ≡ false)
 
 module _ {A : Type 0} where
-
   -- what a name means to a load of these modules that has found others
   abbrev pub meant_in : Modules → List (Found A) → List ℕ → Option closing.Referent
   meant_in modules found name = closing.meant (around_in modules []) (map (found_in []) found) name

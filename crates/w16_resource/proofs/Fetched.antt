@@ -2,7 +2,7 @@
 use Rattle.w16_resource.proofs.Common.{listed_resources, nat_eq, resource_in, resource_given, stored_law, IsFileOf, ne_format, label_in, Bool, FetchFault, Handles, IfSome, IsObjectOf, IsSomeAnd, List, LoadingWorld, Module, None, Option, Some, [], ap}
 use Rattle.w16_resource.proofs.Common.{arith, cond, false, inr, length-map, map, nat_lt, not, numbered, option_map, owned_at, position, prefix_len, refl, rounded_size, slice_get, slice_get-map, subst, suc, sym, tables_in, unwrap_or, zero, ℕ}
 use Rattle.w16_resource.proofs.Common.{◌&&◌, ◌+◌, ◌-◌, ◌∙◌, ◌∷◌, ◌≡◌, file_of, FetchesFrom, FillsFewest, told, Resource, IsLoad, IsLoadingWorld, IsOfFiles, with_handles, is_too_long, resource_at, Entry}
-use Rattle.w16_resource.proofs.Common.{GivesSource, IsSourceAt, IsSourceOf, bytes_in, is_long}
+use Rattle.w16_resource.proofs.Common.{GivesSource, IsImage, IsSourceAt, IsSourceOf, is_long}
 use Rattle.std.specs.FinMap as finmap
 use Rattle.w16_loading.specs.File as file
 use Rattle.w16_ne.specs.Modules as ne
@@ -50,8 +50,11 @@ module _ (honest : Type 0) (world : LoadingWorld) (before later slot handle plac
     (sized : owned_at world.handles slot ≡ Some (record { size = rounded_size entry.len; code = false })) where
   pub fetches : (fault : Option FetchFault) (new : Handles) → GivesSource honest world.files name entry before later world.handles slot fault new
       → FetchesFrom FillsFewest (told honest ne_format world.files before later) world slot fault (with_handles world new)
-  fetches = owned_fetch honest (IsSourceOf honest world.files name world.handles slot entry) (λ h. source_in h world handle place name entry s (of h) short world.handles slot sized) (λ k. bytes_in k.file entry) world slot
-      (λ h. inr (handle, place, s.m, record { loaded = s.loaded; loads = loads; has = has }, resource_given world s.m (of h).0 s.t place (s.kind, entry) (of h).1 s.there)) before later
+  unfolding source_in
+  fetches fault new f =
+      let known : honest → IsSourceOf honest world.files name world.handles slot entry = λ h. source_in h world handle place name entry s (of h) short world.handles slot sized in
+      owned_fetch honest (IsSourceOf honest world.files name world.handles slot entry) known _ world slot (λ bytes read h. subst (IsImage ne_format world slot) (sym (read (known h)))
+      (inr (handle, place, s.m, record { loaded = s.loaded; loads = loads; has = has }, resource_given world s.m (of h).0 s.t place (s.kind, entry) (of h).1 s.there))) before later fault new f
 
 -- In each world the resource of a load is there.
 module _ (world : LoadingWorld) (slot : ℕ) (load : loading.Load) (has : finmap.get world.loads slot ≡ Some load) where

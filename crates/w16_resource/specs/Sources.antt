@@ -54,7 +54,8 @@ pub record IsSourceOf (honest : Type 0) (files : List (List ℕ × List ℕ)) (n
 
 -- The object of a resource gets what its file gives it.
 abbrev pub GivesSource : (honest : Type 0) → List (List ℕ × List ℕ) → List ℕ → Entry → (before after : ℕ) → Handles → ℕ → Option FetchFault → Handles → Type 0
-GivesSource honest files name entry before after old slot fault new = GivesOwned (IsSourceOf honest files name old slot entry) (λ s. bytes_in s.file entry) before after old slot fault new
+GivesSource honest files name entry before after old slot fault new =
+    GivesOwned (IsSourceOf honest files name old slot entry) (λ bytes. (s : IsSourceOf honest files name old slot entry) → bytes ≡ bytes_in s.file entry) before after old slot fault new
 
 -- the handles with a new object for a resource
 abbrev pub with_new : Handles → ℕ → Resource → Handles

@@ -13,8 +13,8 @@ returns-in-Err-clause-refused g c = λ accepted.
 pub returns-in-Ok-follow_all-clause-closes : goal.returns-in-Ok-follow_all-clause-closes
 returns-in-Ok-follow_all-clause-closes g c =
     closes_by (answers_of g.S.Store.is_honest (g.S.Store.files c.args.store.now)) c.args.registry.now c.in-Ok.closure
-      c.args.first c.in-Ok.ensures.found c.in-Ok.ensures.bound c.follow_all.new.self
-      c.in-Ok-follow_all.ensures.few.since c.in-Ok-follow_all.ensures.few.kept c.in-Ok-follow_all.ensures.leads
+    c.args.first c.in-Ok.ensures.found c.in-Ok.ensures.bound c.follow_all.new.self
+    c.in-Ok-follow_all.ensures.few.since c.in-Ok-follow_all.ensures.few.kept c.in-Ok-follow_all.ensures.leads
 
 pub returns-in-Ok-follow_all-clause-accepted : goal.returns-in-Ok-follow_all-clause-accepted
 returns-in-Ok-follow_all-clause-accepted g c = λ accepted.

@@ -30,6 +30,8 @@ returns-in-Ok-Meant-clause-leads g c =
 
 pub returns-in-Ok-Read-clause-leads : goal.returns-in-Ok-Read-clause-leads
 returns-in-Ok-Read-clause-leads g c =
-    let answers = answers_of g.S.Store.is_honest (g.S.Store.files c.args.store.now) in
-    (refl, subst (λ name. IsNewIn answers c.args.registry.now c.args.found.now name c.in-Ok-Read.module) c.as_slice.ensures.value
-    (subst (MakesOf answers c.args.registry.now c.args.found.now c.as_slice.result.now) c.in-Ok-Read.field-0-is c.in-Ok-Read.ensures.makes))
+    let answers = answers_of g.S.Store.is_honest (g.S.Store.files c.args.store.now) in (
+      refl,
+      subst (λ name. IsNewIn answers c.args.registry.now c.args.found.now name c.in-Ok-Read.module) c.as_slice.ensures.value
+          (subst (MakesOf answers c.args.registry.now c.args.found.now c.as_slice.result.now) c.in-Ok-Read.field-0-is c.in-Ok-Read.ensures.makes),
+    )

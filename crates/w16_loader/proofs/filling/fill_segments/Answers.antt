@@ -30,10 +30,10 @@ loop-done-preserved g c =
           part_goes place c.args.loaded.now read (gives_over g.S.Store.is_honest (g.S.Store.failures c.args.store.now) after) c.args.global.now.handles.heap c.loop-done.global.handles.heap c.fill_segment.new.global.handles.heap c.loop-done.done (c.loop-done.done + 1 - 1) same part
           (c.loop-done.invariant.given read place after before is_read its empty)
           (turn_since g.S.Store.is_honest (g.S.Store.failures c.args.store.now) (g.S.Store.failures c.loop-done.store)
-            (g.S.Store.failures c.fill_segment.new.store) after c.loop-done.invariant.failures le _ _ _ _
-            (c.in-Ok.ensures.given read place part is_read still
-            (part_unfilled c.args.loaded.now read c.args.global.now.handles c.loop-done.global.handles c.loop-done.done
-            (c.loop-done.done + 1 - 1) same empty part c.loop-done.invariant.kept)));
+          (g.S.Store.failures c.fill_segment.new.store) after c.loop-done.invariant.failures le _ _ _ _
+          (c.in-Ok.ensures.given read place part is_read still
+          (part_unfilled c.args.loaded.now read c.args.global.now.handles c.loop-done.global.handles c.loop-done.done
+          (c.loop-done.done + 1 - 1) same empty part c.loop-done.invariant.kept)));
     }
 
 pub returns-in-Err-clause-rest : goal.returns-in-Err-clause-rest
@@ -53,10 +53,10 @@ returns-in-Err-clause-given g c = λ read place is_read its empty.
     part_ends place c.args.loaded.now read (gives_over g.S.Store.is_honest (g.S.Store.failures c.args.store.now) after) c.args.global.now.handles.heap c.loop-done.global.handles.heap c.fill_segment.new.global.handles.heap c.loop-done.done (c.loop-done.done + 1 - 1) same part
     (c.loop-done.invariant.given read place after c.in-Err.ensures.stays.counted is_read its empty) (record { place = place; fault = c.in-Err.fault })
     (turn_since g.S.Store.is_honest (g.S.Store.failures c.args.store.now) (g.S.Store.failures c.loop-done.store)
-      (g.S.Store.failures c.fill_segment.new.store) after c.loop-done.invariant.failures (omega arith) _ _ _ _
-      (c.in-Err.ensures.given read place part is_read still
-      (part_unfilled c.args.loaded.now read c.args.global.now.handles c.loop-done.global.handles c.loop-done.done
-      (c.loop-done.done + 1 - 1) same empty part c.loop-done.invariant.kept)))
+    (g.S.Store.failures c.fill_segment.new.store) after c.loop-done.invariant.failures (omega arith) _ _ _ _
+    (c.in-Err.ensures.given read place part is_read still
+    (part_unfilled c.args.loaded.now read c.args.global.now.handles c.loop-done.global.handles c.loop-done.done
+    (c.loop-done.done + 1 - 1) same empty part c.loop-done.invariant.kept)))
 
 pub returns-clause-kept : goal.returns-clause-kept
 returns-clause-kept g c = λ slot s all is. c.loop-done.invariant.kept slot s (λ i lt. at_none c.args.loaded.now.slots slot all i) is

@@ -28,14 +28,16 @@ pub loop-place-init : goal.loop-place-init
 loop-place-init g c = record { files = refl; failures = omega arith; fit = All-nil IsFit; sound = λ bytes honest has tables. refl }
 
 pub returns-clause-checked : goal.returns-clause-checked
-returns-clause-checked g c = λ says.
-    (says, sound_told g.S.Store.is_honest (g.S.Store.files c.args.store.now) c.args.name.now c.args.module_file.now says (λ bytes honest has tables.
-    let past : length c.args.module_file.now.segments ≤ c.loop-place.place = omega (arith, c.segment_count-place-end.ensures.count) in
-    all_sound bytes c.args.module_file.now c.loop-place.place past
+returns-clause-checked g c = λ says. (
+  says,
+  sound_told g.S.Store.is_honest (g.S.Store.files c.args.store.now) c.args.name.now c.args.module_file.now says (λ bytes honest has tables.
+      let past : length c.args.module_file.now.segments ≤ c.loop-place.place = omega (arith, c.segment_count-place-end.ensures.count) in
+      all_sound bytes c.args.module_file.now c.loop-place.place past
       (c.loop-place.invariant.sound bytes honest has tables)),
-      (let past : length (map segment_in c.args.module_file.now.segments) ≤ c.loop-place.place = omega
+  (let past : length (map segment_in c.args.module_file.now.segments) ≤ c.loop-place.place = omega
       (arith, c.segment_count-place-end.ensures.count, length-map c.args.module_file.now.segments segment_in) in
-    subst (All IsFit) (take_all c.loop-place.place (map segment_in c.args.module_file.now.segments) past) c.loop-place.invariant.fit))
+      subst (All IsFit) (take_all c.loop-place.place (map segment_in c.args.module_file.now.segments) past) c.loop-place.invariant.fit),
+)
 
 pub returns-in-Err-clause-checked : goal.returns-in-Err-clause-checked
 returns-in-Err-clause-checked g c = λ says.

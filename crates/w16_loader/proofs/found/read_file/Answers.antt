@@ -18,5 +18,8 @@ returns-in-Err-read_module-clause-says g c = refuses_told g.S.Store.is_honest (g
     (λ e. let rose = c.in-Err-read_module.ensures.device (sym c.fault_of.ensures.device ∙ ap is_file_device e) in omega (arith, rose, c.in-Ok.ensures.stays.counted))
 
 pub returns-in-Ok-read_module-clause-says : goal.returns-in-Ok-read_module-clause-says
-returns-in-Ok-read_module-clause-says g c = (tt, λ honest. read_told (file_of (g.S.Store.files c.args.store.now) c.args.name.now) c.in-Ok-read_module.module (is_read (file_of (g.S.Store.files c.args.store.now) c.args.name.now) c.in-Ok.field-0 c.in-Ok-read_module.module
-    (c.in-Ok.ensures.honest honest) (c.in-Ok.ensures.bytes honest) (rw c.in-Ok.ensures.stays.same at c.in-Ok-read_module.ensures.exact honest)))
+returns-in-Ok-read_module-clause-says g c = (
+  tt,
+  λ honest. read_told (file_of (g.S.Store.files c.args.store.now) c.args.name.now) c.in-Ok-read_module.module (is_read (file_of (g.S.Store.files c.args.store.now) c.args.name.now) c.in-Ok.field-0 c.in-Ok-read_module.module
+      (c.in-Ok.ensures.honest honest) (c.in-Ok.ensures.bytes honest) (rw c.in-Ok.ensures.stays.same at c.in-Ok-read_module.ensures.exact honest)),
+)

@@ -11,7 +11,7 @@ returns-in_err-read-clause-given g c = λ lacks.
 
 pub returns-then-give-clause-given : goal.returns-then-give-clause-given
 returns-then-give-clause-given g c = λ lacks. filled _ _ _ _ _ _ c.reveal_handles.ensures.heap _
-    (λ s. written_resource s c.bytes.result.now (c.bytes.ensures ∙ c.in_ok-read.ensures.exact s.file s.truly s.stored s.short s.inside)) c.give.new.global.handles (c.if-give.ensures.given refl)
+    (λ bytes are sized s. written_resource s c.bytes.result.now (c.bytes.ensures ∙ c.in_ok-read.ensures.exact s.file s.truly s.stored s.short s.inside) bytes are sized) c.give.new.global.handles (c.if-give.ensures.given refl)
 
 pub returns-else-give-clause-given : goal.returns-else-give-clause-given
 returns-else-give-clause-given g c = λ lacks.

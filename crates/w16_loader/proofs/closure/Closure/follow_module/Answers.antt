@@ -39,9 +39,9 @@ pub returns-clause-leads : goal.returns-clause-leads
 returns-clause-leads g c =
     let end : c.loop-done.done ≡ c.reference_count-count.result = omega arith in
     module_followed (answers_of g.S.Store.is_honest (g.S.Store.files c.args.store.now)) c.args.registry.now
-      c.args.place c.loop-done.done (reached_of c.args.place 0 c.args.self.now) c.loop-done.self
-      (end ∙ c.reference_count-count.ensures ∙ ap length (sym c.loop-done.invariant.same))
-      c.loop-done.invariant.answered
+    c.args.place c.loop-done.done (reached_of c.args.place 0 c.args.self.now) c.loop-done.self
+    (end ∙ c.reference_count-count.ensures ∙ ap length (sym c.loop-done.invariant.same))
+    c.loop-done.invariant.answered
 
 pub returns-clause-accepted : goal.returns-clause-accepted
 returns-clause-accepted g c = c.loop-done.invariant.accepted
@@ -52,7 +52,7 @@ returns-in-Err-clause-refused g c =
     refused_through g.S.Store.is_honest (g.S.Store.files c.args.store.now) c.args.registry.now c.args.place 0 c.args.self.now c.loop-done.self.found.items c.loop-done.invariant.few.since (reached_of c.args.place c.loop-done.done c.loop-done.self) c.loop-done.invariant.few.kept
     c.loop-done.invariant.accepted c.loop-done.invariant.answered _ _ _ c.loop-done.invariant.failures c.in-Err.fault
     (subst (λ n. IsFault (RefusesBy (answers_of g.S.Store.is_honest (g.S.Store.files c.args.store.now))
-      c.args.registry.now c.loop-done.self.found.items (reached_of c.args.place n c.loop-done.self))
-      (g.S.Store.failures c.loop-done.store) (g.S.Store.failures c.follow_reference.new.store) c.in-Err.fault) back
+    c.args.registry.now c.loop-done.self.found.items (reached_of c.args.place n c.loop-done.self))
+    (g.S.Store.failures c.loop-done.store) (g.S.Store.failures c.follow_reference.new.store) c.in-Err.fault) back
     (subst (λ fs. IsFault (RefusesBy (answers_of g.S.Store.is_honest fs) c.args.registry.now c.loop-done.self.found.items (reached_of c.args.place (c.loop-done.done + 1 - 1) c.loop-done.self)) (g.S.Store.failures c.loop-done.store) (g.S.Store.failures c.follow_reference.new.store) c.in-Err.fault)
     c.loop-done.invariant.files c.in-Err.ensures.refused))
