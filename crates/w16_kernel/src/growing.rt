@@ -1,6 +1,6 @@
 //! A store in memory that takes new files while a machine runs.
 ghost use Rattle.std.specs.Prelude.{◌≡◌, [], None, IfErr, IfSome, OnOk, OnErr, option_map, IfOk};
-ghost use Rattle.w16_store.specs.Files.{file_of, length_of, AreWith, HasBytes, IsHonestAnswer};
+ghost use Rattle.w16_store.specs.Files.{file_of, length_of, AreWith, HasBytes, IsHonestAnswer, IsMissing};
 ghost use Rattle.w16_store.specs.Later.{IsLater, RoseIf, is_device};
 ghost use Rattle.w16_kernel.specs.Growing.{missed_by, IsNotAdded};
 
