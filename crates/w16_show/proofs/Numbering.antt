@@ -1,5 +1,5 @@
 -- Loops that go over things by their numbers.
-use Rattle.std.proofs.Common.{◌≡◌, ℕ, zero, suc, ◌+◌, ◌-◌, ◌<◌, ◌≤◌, List, [], ◌∷◌, ◌++◌, length, drop, slice_get, slice_index_or, Option, Some, None, sym, ◌∙◌, refl, ap, subst, add-one, map, length-append, arith}
+use Rattle.std.proofs.Common.{◌≡◌, ℕ, zero, suc, ◌+◌, ◌-◌, ◌<◌, ◌≤◌, List, [], ◌∷◌, ◌++◌, length, drop, slice_get, slice_index_or, sum_by, Option, Some, None, sym, ◌∙◌, refl, ap, subst, add-one, map, length-append, arith}
 use Rattle.std.proofs.lemmas.List.{append_assoc, append-nil}
 use Rattle.std.proofs.lemmas.List.Sums.{sum_by-cons}
 use Rattle.std.proofs.Math.ListN.{drop_of_length-le}
@@ -63,3 +63,18 @@ got-some (x ∷ xs) (suc i) h = got-some xs i (omega arith)
 -- behind the last one
 pub at-end : {X Y : Type 0} (gives : ℕ → X → List Y) (front total : List Y) (n : ℕ) (xs : List X) (i : ℕ) → length xs ≤ i → front ++ numbered gives n (drop i xs) ≡ total → front ≡ total
 at-end {X} {Y} gives front total n xs i h before = sym (append-nil front) ∙ (rw (drop_of_length-le xs h) at before)
+
+next-summand : {X : Type 0} (f : X → ℕ) (x : X) (ys : List X) (k : ℕ) → slice_get ys k ≡ Some x → sum_by f (drop k ys) ≡ f x + sum_by f (drop (suc k) ys)
+next-summand f x [] k h = cc
+next-summand f x (y ∷ ys) zero h = let same : y ≡ x = cc in rw same (sum_by-cons f x ys)
+next-summand f x (y ∷ ys) (suc k) h = next-summand f x ys k h
+
+-- a sum over all, of which those before an index are done
+pub sum-step : {X : Type 0} (f : X → ℕ) (xs : List X) (i : ℕ) (x : X) (total one : ℕ) → slice_get xs i ≡ Some x → one ≡ f x → total + sum_by f (drop i xs) ≡ sum_by f xs → (total + one) + sum_by f (drop (i + 1) xs) ≡ sum_by f xs
+sum-step f xs i x total one got is before = rw (add-one i) (omega (arith, next-summand f x xs i got, is, before))
+
+pub sum-end : {X : Type 0} (f : X → ℕ) (xs : List X) (i : ℕ) (total : ℕ) → length xs ≤ i → total + sum_by f (drop i xs) ≡ sum_by f xs → total ≡ sum_by f xs
+sum-end f xs i total none before = let done : total + sum_by f [] ≡ sum_by f xs = rw (drop_of_length-le xs none) at before in omega (arith, done, sum_by-nil f)
+  where
+    sum_by-nil : {X : Type 0} (f : X → ℕ) → sum_by f [] ≡ 0
+    sum_by-nil f = refl

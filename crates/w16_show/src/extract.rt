@@ -1,9 +1,9 @@
 //! Resources that are taken out of a module file.
-ghost use Rattle.std.specs.Prelude.{◌≡◌, ◌≤◌, Some, Ok, Err, IfOk, OnOk, length, option_map, string_bytes};
-ghost use Rattle.std.specs.List.{flat_map};
+ghost use Rattle.std.specs.Prelude.{◌≡◌, ◌<◌, ◌≤◌, ◌^◌, Some, Ok, Err, IfOk, OnOk, length, option_map, string_bytes};
+ghost use Rattle.std.specs.List.{flat_map, sum_by};
 ghost use Rattle.std.specs.Result.{result_ok};
-ghost use Rattle.w16_ne.specs.Modules.{resource_at, tables_at};
-ghost use Rattle.w16_ne.specs.Resources.{Entry, label_of, resource_count};
+ghost use Rattle.w16_ne.specs.Modules.{listed_resources, resource_at, tables_at};
+ghost use Rattle.w16_ne.specs.Resources.{Label, Entry, label_of, resource_count};
 ghost use Rattle.w16_show.specs.Words.{Adds};
 ghost use Rattle.w16_show.specs.Extract.{name_byte, label_part, kind_part, file_name, resource_bytes};
 
@@ -97,9 +97,32 @@ impl Resources {
 
     /// How many there are.
     pub fn len(&self) -> usize
-        ensures { result ≡ resource_count self.now.resources }
+        ensures count { result ≡ resource_count self.now.resources }
+        ensures few { result ≤ 65535 }
     {
         self.tables.resource_count()
+    }
+
+    /// How many bytes one has, by its number from 1; 0 where there are fewer.
+    fn size(&self, number: usize) -> u32
+        ensures len { (r : Label × Entry) → resource_at self.now.resources number ≡ Some r → result ≡ r.1.len }
+        ensures small { result < 2 ^ 32 }
+    {
+        match self.tables.resource(number) {
+            None => 0,
+            Some((_, resource)) => resource.len,
+        }
+    }
+
+    /// How many bytes all of them have together.
+    pub fn total(&self) -> u64
+        ensures { result ≡ sum_by (λ r. r.1.len) (listed_resources self.now.resources) }
+    {
+        let mut total = 0;
+        for i in 0..self.len() {
+            total += self.size(i + 1) as u64;
+        }
+        total
     }
 
     /// The name of the file for a resource, by its number from 1; none where there are fewer. No two resources have one name.

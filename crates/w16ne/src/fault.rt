@@ -13,6 +13,9 @@ pub enum Fault {
     /// Standard output takes no more.
     #[error("write fault")]
     Write,
+    /// The folder takes no more resources.
+    #[error("no more resources are written")]
+    Folder,
     /// The host has no memory.
     #[error("out of memory")]
     Memory,
@@ -38,7 +41,7 @@ impl Fault {
     /// The exit status.
     fn status(self) -> u8 {
         match self {
-            Fault::Write => 1,
+            Fault::Write | Fault::Folder => 1,
             Fault::Argument => 2,
             Fault::Memory => 3,
         }

@@ -4,7 +4,7 @@ use crate::fault::Fault;
 use crate::options::Options;
 use std::alloc::AllocError;
 use std::fs::File;
-use std::io::{self, BufWriter, ErrorKind, Read, Write};
+use std::io::{self, BufWriter, Error, ErrorKind, Read, Write};
 use w16_show::{Shown, Verdict, show_json, show_text};
 
 /// The statuses of a file: it is sound; it can't be read, or what is taken out of it can't be written; it isn't accepted or isn't sound.
@@ -14,20 +14,26 @@ const UNREAD: u8 = 1;
 
 const UNSOUND: u8 = 4;
 
-/// The bytes of a reader to its end.
-fn bytes_of(rt: &HostRuntime, reader: &mut impl Read) -> io::Result<Vec<u8>> {
+/// The bytes of a reader to its end, at most so many.
+fn bytes_of(rt: &HostRuntime, reader: impl Read + Drop, limit: u64) -> io::Result<Vec<u8>> {
     let mut bytes = Vec::new(rt.alloc());
-    reader.read_to_end(&mut bytes)?;
+    // One more than the limit shows that there are too many.
+    reader
+        .take(limit.saturating_add(1))
+        .read_to_end(&mut bytes)?;
+    if bytes.len() as u64 > limit {
+        let message = "more bytes than --file-limit allows";
+        return Err(Error::new(ErrorKind::FileTooLarge, message));
+    }
     Ok(bytes)
 }
 
 /// The bytes of a file, or of standard input for `-`.
-fn read(rt: &HostRuntime, path: &str) -> io::Result<Vec<u8>> {
+fn read(rt: &HostRuntime, path: &str, limit: u64) -> io::Result<Vec<u8>> {
     if path == "-" {
-        return bytes_of(rt, &mut rt.reader());
+        return bytes_of(rt, rt.reader(), limit);
     }
-    let mut file = File::open(rt, path)?;
-    bytes_of(rt, &mut file)
+    bytes_of(rt, File::open(rt, path)?, limit)
 }
 
 /// The name that a file is printed under: the last part of its path.
@@ -77,9 +83,10 @@ fn show(
     rt: &HostRuntime,
     options: &Options<'_>,
     path: &str,
+    left: &mut u64,
     writer: &mut impl Write,
 ) -> Result<u8, Fault> {
-    let file = match read(rt, path) {
+    let file = match read(rt, path, options.file_limit) {
         Ok(file) => file,
         Err(error) => return unread(rt, path, error),
     };
@@ -88,21 +95,35 @@ fn show(
         return Err(Fault::Write);
     }
     let status = status_of(&shown.verdict);
-    match options.extract {
+    match &options.taken {
         None => Ok(status),
-        Some(folder) => Ok(status.max(extract(rt, folder, options.force, &file)?)),
+        Some(taken) => Ok(status.max(extract(rt, taken, path, &file, left)?)),
     }
 }
 
-/// Prints all files of a command line, and answers the highest of their statuses.
+/// Prints each file in turn, and answers the highest of their statuses.
+fn show_each(
+    rt: &HostRuntime,
+    options: &Options<'_>,
+    writer: &mut impl Write,
+) -> Result<u8, Fault> {
+    let mut status = SOUND;
+    let mut left = match &options.taken {
+        None => 0,
+        Some(taken) => taken.limit,
+    };
+    for path in options.files.iter() {
+        status = status.max(show(rt, options, path, &mut left, writer)?);
+    }
+    Ok(status)
+}
+
+/// Prints all files of a command line, and answers the highest of their statuses. What was printed before a fault stays printed.
 pub fn show_all(rt: &HostRuntime, options: &Options<'_>) -> Result<u8, Fault> {
     let mut writer = BufWriter::new(rt.alloc(), io::writer(rt))?;
-    let mut status = SOUND;
-    for path in options.files.iter() {
-        status = status.max(show(rt, options, path, &mut writer)?);
-    }
+    let shown = show_each(rt, options, &mut writer);
     match writer.flush() {
-        Ok(()) => Ok(status),
-        Err(_) => Err(Fault::Write),
+        Ok(()) => shown,
+        Err(_) => shown.and(Err(Fault::Write)),
     }
 }

@@ -1,8 +1,19 @@
 //! The command line of `w16ne`.
-use clap::{Arg, ArgAction, ArgMatches, Command, Error};
+use clap::builder::ValueParser;
+use clap::{Arg, ArgAction, ArgMatches, Command, Error, value_parser};
 use std::alloc::{AllocError, Global};
 use std::convert::AsStr;
 use w16_show::Parts;
+
+/// Where resources are written to.
+#[derive(Debug, Clone, Copy, Drop)]
+pub struct Taken<'a> {
+    pub folder: &'a str,
+    /// Whether files there are removed first.
+    pub force: bool,
+    /// The most bytes of all of them together.
+    pub limit: u64,
+}
 
 /// What the command line asks for.
 #[derive(Debug, Drop)]
@@ -13,10 +24,10 @@ pub struct Options<'a> {
     pub json: bool,
     /// Which parts are printed as text.
     pub parts: Parts,
-    /// The folder that resources are written to; none where they aren't taken out.
-    pub extract: Option<&'a str>,
-    /// Whether files there are written over.
-    pub force: bool,
+    /// The most bytes of a file.
+    pub file_limit: u64,
+    /// Where resources are written to; none where they aren't taken out.
+    pub taken: Option<Taken<'a>>,
 }
 
 /// The program's version.
@@ -40,19 +51,42 @@ fn part<'a>(alloc: Global, name: &'a str, help: &'a str) -> Result<Arg<'a>, Allo
     switch(alloc, name, help).conflicts_with("json")
 }
 
-/// The command line that the program takes.
-fn command<'a>(alloc: Global) -> Result<Command<'a>, AllocError> {
+/// A number of bytes, which is `value` where it isn't given.
+fn bytes<'a>(alloc: Global, name: &'a str, value: &'a str, help: &'a str) -> Arg<'a> {
+    Arg::new(alloc, name)
+        .long(name)
+        .value_name("N")
+        .value_parser(value_parser!(u64))
+        .default_value(value)
+        .help(help)
+}
+
+/// The words on resources that are taken out, put to a command line.
+fn with_extract<'a>(alloc: Global, command: Command<'a>) -> Result<Command<'a>, AllocError> {
     let folder = Arg::new(alloc, "extract")
         .long("extract")
         .value_name("DIR")
+        .value_parser(ValueParser::NonEmptyString)
         .help("Writes each resource into a file of its own in this folder, which must exist");
-    let force = switch(alloc, "force", "Writes over files that are there").requires_arg("extract")?;
+    let force = switch(alloc, "force", "Removes files that are there first").requires_arg(
+        "extract",
+    )?;
+    command.arg(folder)?.arg(force)?.arg(bytes(
+        alloc,
+        "limit",
+        "1000000000",
+        "The most bytes of all resources that are written",
+    ))
+}
+
+/// The command line that the program takes.
+fn command<'a>(alloc: Global) -> Result<Command<'a>, AllocError> {
     let files = Arg::new(alloc, "FILE")
         .required(true)
         .action(ArgAction::Append)
         .num_args(1..)
         .help("Module files of 16-bit Windows");
-    Command::new(alloc, "w16ne")
+    let command = Command::new(alloc, "w16ne")
         .version(VERSION)
         .about("Says what module files of 16-bit Windows have in them, with a verdict on each")
         .after_help(NOTES)
@@ -69,9 +103,14 @@ fn command<'a>(alloc: Global) -> Result<Command<'a>, AllocError> {
             "references",
             "Prints the modules that are referred to",
         )?)?
-        .arg(part(alloc, "resources", "Prints the resources")?)?
-        .arg(folder)?
-        .arg(force)?
+        .arg(part(alloc, "resources", "Prints the resources")?)?;
+    with_extract(alloc, command)?
+        .arg(bytes(
+            alloc,
+            "file-limit",
+            "256000000",
+            "The most bytes of a file that is read",
+        ))?
         .arg(files)
 }
 
@@ -91,6 +130,17 @@ fn parts_of(matches: &ArgMatches<'_>) -> Parts {
     }
 }
 
+/// Where resources are written to, where this is asked for.
+fn taken_of<'a>(matches: &ArgMatches<'a>) -> Option<Taken<'a>> {
+    let folder = matches.get_str("extract")?;
+    // clap gives a default where no limit is asked for, so it is there.
+    Some(Taken {
+        folder,
+        force: matches.get_flag("force"),
+        limit: matches.get_one("limit").unwrap_or_default(),
+    })
+}
+
 /// Reads the words of a command line, the program's name first. An error is `clap`'s, also where help or the version is asked for.
 pub fn parse<'a, S: AsStr>(alloc: Global, words: &'a [S]) -> Result<Options<'a>, Error> {
     let matches = command(alloc)?.try_get_matches_from(words)?;
@@ -102,7 +152,7 @@ pub fn parse<'a, S: AsStr>(alloc: Global, words: &'a [S]) -> Result<Options<'a>,
         files,
         json: matches.get_flag("json"),
         parts: parts_of(&matches),
-        extract: matches.get_str("extract"),
-        force: matches.get_flag("force"),
+        file_limit: matches.get_one("file-limit").unwrap_or_default(),
+        taken: taken_of(&matches),
     })
 }
