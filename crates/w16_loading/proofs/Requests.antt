@@ -95,13 +95,13 @@ module _ (E F : Ending) (Is : Heap → Type 0) (ends : (old : Heap) (slot : ℕ)
     }
 
 -- what is told where the store is honest is told where nothing is known of it
-told_within : (honest : Type 0) (format other : Format) (files : List (List ℕ × List ℕ)) (before after : ℕ) → IsWithin (told honest format files before after) (told ⊥ other files before after)
-told_within honest format other files before after = record {
+told_within : (honest : Type 0) (format : Format) (files : List (List ℕ × List ℕ)) (before after : ℕ) → IsWithin (told honest format files before after) (told ⊥ format files before after)
+told_within honest format files before after = record {
   says = λ name said s. (s.0, λ no. absurd no);
   sound = λ name t sound s no. absurd no;
   holds = λ name read h. (h.0, h.1, λ no. absurd no);
   again = λ held read h no. absurd no;
-  gives = λ world slot bytes h no. absurd no;
+  gives = λ world slot bytes h. (h.0, λ no. absurd no);
   fails = λ fault h. (h.0, h.1, λ no. absurd no);
 }
 
@@ -109,8 +109,8 @@ itself : (a : Answers) → IsWithin a a
 itself a = record { says = λ name said s. s; sound = λ name t sound s. s; holds = λ name read h. h; again = λ held read h. h; gives = λ world slot bytes h. h; fails = λ fault h. h }
 
 pub any_step_law : (honest : Type 0) → AnyStepLaw honest
-any_step_law honest format other old new command reply = step_as Fills Fills (λ heap. Unit {0}) (λ old slot bytes answered new is f. f) (told honest format old.files old.failures new.failures) (told ⊥ other old.files old.failures new.failures)
-    (told_within honest format other old.files old.failures new.failures) (λ old slot held fault new is f. tt) old (λ closure choice is. tt) new command reply tt (λ slot handle place r free at none. tt)
+any_step_law honest format old new command reply = step_as Fills Fills (λ heap. Unit {0}) (λ old slot bytes answered new is f. f) (told honest format old.files old.failures new.failures) (told ⊥ format old.files old.failures new.failures)
+    (told_within honest format old.files old.failures new.failures) (λ old slot held fault new is f. tt) old (λ closure choice is. tt) new command reply tt (λ slot handle place r free at none. tt)
 
 pub requests_fewest_law : (honest : Type 0) → RequestsFewestLaw honest
 requests_fewest_law honest format old new command reply is =
@@ -130,7 +130,7 @@ module _ (a : Answers) (old : LoadingWorld) where
   step_fills new command reply = step_as FillsFewest Fills (λ heap. Unit {0}) (λ old slot bytes answered new is f. f.0) a a (itself a) (λ old slot held fault new is f. tt) old (λ closure choice is. tt) new command reply tt (λ slot handle place r free at none. tt)
 
 pub any_requests_fewest : (honest : Type 0) (format : Format) (old new : LoadingWorld) (command : LoadingCommand) (reply : Reply) → IsLoadingWorld old → StepOver honest format old command reply new → RequestsFewest old command reply new
-any_requests_fewest honest format old new command reply is step other = requests_fewest_law ⊥ other old new command reply is (any_step_law honest format other old new command reply step)
+any_requests_fewest honest format old new command reply is step = (format, requests_fewest_law ⊥ format old new command reply is (any_step_law honest format old new command reply step))
 
 -- A load's requests keep what isn't its own.
 pub fills_law : (honest : Type 0) → FillsLaw honest
