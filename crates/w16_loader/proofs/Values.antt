@@ -2,7 +2,7 @@
 use Rattle.w16_loader.proofs.Common.{◌≡◌, ℕ, zero, suc, ◌+◌, ◌-◌, ◌<◌, ◌≤◌, Bool, true, List, [], ◌∷◌, ◌++◌, length, take, drop, map, Some, slice_get, slice_index, Result, Ok, Err, refl, sym, ap, ◌∙◌, subst, arith, add-one, All}
 use Rattle.w16_loader.proofs.Common.{is_ok, nat_lt, unwrap_or, list_all, and_parts, length-map, length-take, length-drop, map_push, All-nil, All-cons, file_of, NeFault, text_at, text_in, tables_at, imported_place, text_read, RelocFault}
 use Rattle.w16_loader.proofs.Common.{Record, ◌>>=◌, check_from, Offer, Held, checked, data_of, records_of, offer_of, has_text_at, AreRecords, passed_is_sound, are_sound, Far, ModuleFile, SegmentData, Target, targets_of, Lookup, Module, value_of}
-use Rattle.w16_loader.proofs.Common.{data_in, target_of, targets_in, far_of, module_file, segment_in, tables_in, sound_law, read_back, tables_apart, ValueFault, Device, OutOfMemory, Files, AreValuesOf, IsFailure, IsSaid, IsStoredAs, fault_of_name}
+use Rattle.w16_loader.proofs.Common.{data_in, target_of, targets_in, far_of, module_file, segment_in, tables_in, sound_law, read_back, tables_apart, FileFault, Device, OutOfMemory, Files, AreValuesOf, IsFailure, IsSaid, IsStoredAs, fault_of}
 use Rattle.w16_loader.proofs.Common.{values_for}
 use Rattle.std.proofs.lemmas.Bool.{ltb-true}
 use Rattle.w16_store.specs.declared.store.StoreFault.TheVariants as stores
@@ -16,19 +16,19 @@ use Rattle.w16_reloc.specs.Records.{is_named}
 use Rattle.w16_reloc.specs.Segments as segments
 use Rattle.w16_loading.specs.File as loading
 use Rattle.w16_loader.proofs.Files.{there}
-use Rattle.w16_loader.specs.declared.fault.ValueFault.TheVariants.{Damaged}
-use Rattle.w16_loader.specs.Binding.{fault_of_check}
+use Rattle.w16_loader.specs.declared.found.FileFault.TheVariants.{Refused}
+use Rattle.w16_loader.specs.Closing.{IsFault, fault_of_check}
 
 -- Faults.
 
--- a failure in a call is one since any time before it
-pub failure_since : (start before after : ℕ) (fault : ValueFault) → start ≤ before → IsFailure before after fault → IsFailure start after fault
-failure_since start before after Device le more = omega arith
-failure_since start before after Damaged le h = h
-failure_since start before after OutOfMemory le h = tt
+-- A fault in a call is one since any time before it.
+pub fault_since : (IsRefused : ℕ → Type 0) (before mid after : ℕ) (fault : FileFault) → before ≤ mid → IsFault IsRefused mid after fault → IsFault IsRefused before after fault
+fault_since IsRefused before mid after (Refused number) le is = is
+fault_since IsRefused before mid after Device le more = omega (arith, le, more)
+fault_since IsRefused before mid after OutOfMemory le none = tt
 
 -- a name that is there isn't refused but by the device, or for want of memory
-pub name_failed : (file : List ℕ) (before after : ℕ) (text : List ℕ) (e : NeFault) → Refuses (Some file) before after e (Ok text) → IsFailure before after (fault_of_name e)
+pub name_failed : (file : List ℕ) (before after : ℕ) (text : List ℕ) (e : NeFault) → Refuses (Some file) before after e (Ok text) → IsFailure before after (fault_of e)
 name_failed file before after text ne_faults.OutOfMemory h = tt
 name_failed file before after text (ne_faults.Store stores.Device) h = h
 name_failed file before after text (ne_faults.Store stores.Missing) h = cc
@@ -81,7 +81,7 @@ module _ (files : Files) (m : Module) (file : List ℕ) (t : Tables) (is : IsSto
     pub name_read : (text : List ℕ) → text_at ne_faults.Truncated (file_of files name) (imported_place u + offset) ≡ Ok text → text ≡ text_in file (imported_place t + offset)
     name_read text h = same_text text (text_in file (imported_place t + offset)) (sym h ∙ ap (λ p. text_at ne_faults.Truncated p (imported_place u + offset)) stored_there ∙ name_at)
 
-    pub name_refused : (before after : ℕ) (e : NeFault) → Refuses (file_of files name) before after e (text_at ne_faults.Truncated (file_of files name) (imported_place u + offset)) → IsFailure before after (fault_of_name e)
+    pub name_refused : (before after : ℕ) (e : NeFault) → Refuses (file_of files name) before after e (text_at ne_faults.Truncated (file_of files name) (imported_place u + offset)) → IsFailure before after (fault_of e)
     name_refused before after e h = name_failed file before after (text_in file (imported_place t + offset)) e
         (subst (λ r. Refuses (Some file) before after e r) name_at (subst (λ p. Refuses p before after e (text_at ne_faults.Truncated p (imported_place u + offset))) stored_there h))
 

@@ -7,7 +7,7 @@ use Rattle.w16_loader.proofs.binding.address_named.Goals as goal
 
 pub returns-in-Err-clause-failed : goal.returns-in-Err-clause-failed
 returns-in-Err-clause-failed g c = λ file t honest is has.
-    rw c.fault_of_name.ensures.fault
+    rw c.fault_of.ensures.fault
     (name_refused (g.S.Store.files c.args.store.now) c.args.loaded.now file t is c.file.result.now c.file.ensures c.module.result.now c.module.ensures c.args.name has _ _ c.in-Err.fault (c.in-Err.ensures.exact honest))
 
 pub returns-in-Ok-clause-any : goal.returns-in-Ok-clause-any

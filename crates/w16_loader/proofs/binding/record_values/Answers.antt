@@ -1,7 +1,7 @@
 -- One record more has its value.
 use Rattle.w16_loader.proofs.Common.{◌+◌, ◌++◌, ◌∷◌, [], ◌<◌, length, map_more, sym, ap, ◌∙◌, subst, arith, target_of, AreValuesOf, IsStoredAs}
 use Rattle.std.specs.FinMap as finmap
-use Rattle.w16_loader.proofs.Values.{failure_since, value_more}
+use Rattle.w16_loader.proofs.Values.{fault_since, value_more}
 use Rattle.w16_loader.proofs.binding.record_values.Goals as goal
 
 pub loop-relocation-preserved : goal.loop-relocation-preserved
@@ -31,4 +31,4 @@ loop-relocation-preserved g c =
 pub returns-in-Err-clause-failed : goal.returns-in-Err-clause-failed
 returns-in-Err-clause-failed g c = λ file t honest is all.
     let still = subst (λ files. IsStoredAs files c.args.loaded.now file t) (sym c.loop-relocation.invariant.files) is in
-    failure_since _ _ _ c.in-Err.fault c.loop-relocation.invariant.failures (c.in-Err.ensures.failed file t honest still (all c.loop-relocation.relocation-index _ (omega arith)))
+    fault_since _ _ _ _ c.in-Err.fault c.loop-relocation.invariant.failures (c.in-Err.ensures.failed file t honest still (all c.loop-relocation.relocation-index _ (omega arith)))
