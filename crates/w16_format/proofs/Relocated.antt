@@ -48,11 +48,11 @@ words_same (v ∷ vs) all = ap (λ x. x ∷ map far_in (map far_of vs)) (far_sam
 pub relocated_law : (t : Tables) (source table : List ℕ) (records : List Record) (values : List words.Far) (bytes : List ℕ)
     → (sound : IsSoundSegment (any_offer (length t.segments) (length t.references)) source table (length values) records) → All IsFar values → length source ≤ length bytes
     → IsImage source records values sound.sound.0 bytes → ne_format.relocated (tables_in t) source table (map far_of values) (length bytes) ≡ Some bytes
-relocated_law t source table records values bytes sound words room image =
+relocated_law t source table records values bytes sound are_words room image =
     let check = λ (segments count : ℕ). check_from (any_offer segments (length t.references)) source table count 0 [] in
     let write = λ (fs : List words.Far). Some (image_of source records fs (length bytes)) in
     ap (written source (map far_of values) (length bytes))
     (ap (λ n. check n (length (map far_of values))) (length-map t.segments segment_in) ∙ ap (check (length t.segments)) (length-map values far_of)
     ∙ sound_passes (any_offer (length t.segments) (length t.references)) source table (length values) records sound)
     ∙ ap (λ b. cond b (write (map far_in (map far_of values))) None) (le-leb (length source) (length bytes) room)
-    ∙ ap write (words_same values words) ∙ ap Some (sym (image_is_of source records values sound.sound.0 bytes sound.sound.1 image))
+    ∙ ap write (words_same values are_words) ∙ ap Some (sym (image_is_of source records values sound.sound.0 bytes sound.sound.1 image))

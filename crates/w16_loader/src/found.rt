@@ -99,7 +99,7 @@ fn fault_of_length(fault: StoreFault) -> FileFault
 }
 
 /// What a fault of a file that is there is to a load: 12, 13 or 14 where it is for another target system, else 11.
-pub(crate) fn fault_of(fault: NeFault) -> FileFault
+fn fault_of(fault: NeFault) -> FileFault
     ensures fault { result ≡ loads.fault_of fault }
     ensures refuses { IsFault (λ number. (11 ≤ number) × (number ≤ 14)) 0 1 result }
     ensures device { is_file_device result ≡ is_ne_device fault }
