@@ -5,9 +5,11 @@ ghost use Rattle.w16_reloc.specs.Check.{AreMarks, IsOfRecords, formed, check_fro
 ghost use Rattle.w16_reloc.specs.Segments.{offer_in};
 
 use crate::fault::RelocFault;
+use crate::flags::RelocationType;
 use crate::reading::has_text;
 use crate::record::{Record, Target, record_at};
 use crate::sites::take_sites;
+use bitflags::Flags;
 use std::alloc::Allocator;
 
 /// What a module offers to its records.
@@ -46,7 +48,11 @@ pub fn import_by_name(table: &[u8], count: u16) -> bool
     ensures { IsFalse result → (i : ℕ) → i < count → bit_and (slice_index table.now (8 * i + 1)) 3 ≢ 2 }
 {
     for i in 0..usize::from(count) {
-        if table[8 * i + 1] & 3 == 2 {
+        if RelocationType(table[8 * i + 1])
+            .intersection(RelocationType::TARGET)
+            .0
+            == 2
+        {
             return true;
         }
     }
