@@ -12,7 +12,12 @@ use Rattle.w16_ne.specs.Reading.{Refuses}
 use Rattle.w16_ne.specs.Modules.{Tables}
 use Rattle.w16_reloc.specs.declared.fault.RelocFault.TheVariants as relocs
 use Rattle.w16_reloc.specs.declared.value.Far as words
-use Rattle.w16_reloc.specs.Records.{is_named}
+use Rattle.w16_reloc.specs.Records.{name_in, text_of}
+use Rattle.w16_reloc.specs.declared.record.Record.TheVariants.{Stored, Added, System}
+use Rattle.w16_reloc.specs.declared.record.Target as pointing
+use Rattle.w16_reloc.specs.declared.record.Target.TheVariants as points
+use Rattle.w16_format.specs.Data.{record_target, target_by}
+use Rattle.w16_loader.proofs.Common.{All-head, All-tail, IfSome}
 use Rattle.w16_reloc.specs.Segments as segments
 use Rattle.w16_loading.specs.File as loading
 use Rattle.w16_loader.proofs.Files.{there}

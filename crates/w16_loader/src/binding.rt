@@ -139,12 +139,12 @@ fn segment_values<S: Store, A: Allocator + Clone>(
         × ((read : ModuleFile) (s : SegmentData) → S.is_honest → IsSaid (S.files store.old) loaded.now read → slice_get read.segments (number - 1) ≡ Some s → targets ≡ targets_of s)) }
     ensures failed { (read : ModuleFile) (s : SegmentData) → S.is_honest → IsSaid (S.files store.old) loaded.now read → slice_get read.segments (number - 1) ≡ Some s → IfErr result (IsFailure (S.failures store.old) (S.failures store.new)) }
 {
-    if let Err(fault) = check(store, loaded.file(), loaded.module(), number, scratch) {
-        return Err(fault_of_check(fault));
-    }
-    match record_values(registry, loaded, scratch) {
-        Err(_) => Err(FileFault::OutOfMemory),
-        Ok(values) => Ok(values),
+    match check(store, loaded.file(), loaded.module(), number, scratch) {
+        Err(fault) => Err(fault_of_check(fault)),
+        Ok(()) => match record_values(registry, loaded, scratch) {
+            Err(_) => Err(FileFault::OutOfMemory),
+            Ok(values) => Ok(values),
+        },
     }
 }
 
