@@ -49,9 +49,9 @@ module _ (Known : Type 0) (IsRead : List ℕ → Type 0) (before after : ℕ) (o
     }
 
 -- bytes of an object's size
-as_long : {bytes : List ℕ} {n : ℕ} (p : Option Owned) → IsSomeAnd p (λ w. length bytes ≡ w.size) → IsSomeAnd p (λ w. w.size ≡ n) → length bytes ≡ n
-as_long None h k = absurd h
-as_long (Some w) h k = h ∙ k
+as_long : (bytes : List ℕ) (n : ℕ) (p : Option Owned) → IsSomeAnd p (λ w. length bytes ≡ w.size) → IsSomeAnd p (λ w. w.size ≡ n) → length bytes ≡ n
+as_long bytes n None h k = absurd h
+as_long bytes n (Some w) h k = h ∙ k
 
 -- a segment by its number
 within : (t : Tables) (number : ℕ) → 0 < number → number ≤ length t.segments → (s : Segment) × (slice_get t.segments (number - 1) ≡ Some s)
@@ -96,7 +96,7 @@ module _ (file : List ℕ) (t : Tables) (number : ℕ) (values : List words.Far)
   -- so are the bytes of an object of its size
   pub written_image : (old : Handles) (slot : ℕ) → IsSomeAnd (owned_at old slot) (λ (w : Owned). w.size ≡ s.size) → (read : List ℕ) (records : List Record) → read ≡ sound.held.bytes → records ≡ sound.held.records
       → (written : List ℕ) → IsWritten read records values written → IsSomeAnd (owned_at old slot) (λ (w : Owned). length written ≡ w.size) → written ≡ bytes
-  written_image old slot sized read records same_bytes same_records written are is_long = sym (image written (as_long (owned_at old slot) is_long sized)
+  written_image old slot sized read records same_bytes same_records written are is_long = sym (image written (as_long written s.size (owned_at old slot) is_long sized)
       (subst (λ rs. IsWritten sound.held.bytes rs values written) same_records (subst (λ bs. IsWritten bs records values written) same_bytes are)))
 
 -- A segment of a module that is as this file says it is sound in the file.
@@ -144,7 +144,7 @@ module _ (honest : Type 0) (world : LoadingWorld) (slot number : ℕ) (name : Li
       ∙ ap (λ vs. ne_format.relocated (tables_in t) r.source r.table vs (length bytes)) is.source.bound ∙ relocated_law t r.source r.table r.records values bytes r.sound r.words r.fits r.image)
     where
       r : IsRelocatedBy t values bytes
-      r = are found.0 found.1 (as_long (owned_at world.handles slot) sized (owned_size found.0 found.1))
+      r = are found.0 found.1 (as_long bytes found.0.size (owned_at world.handles slot) sized (owned_size found.0 found.1))
 
   module _ (h : honest) where
     stored : (file : List ℕ) × IsFileOf world m file t
