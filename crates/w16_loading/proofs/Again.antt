@@ -20,7 +20,7 @@ segment_image format world slot handle number m bytes is s (inr i) = absurd (is.
 pub fetch_again_law : (honest : Type 0) → FetchAgainLaw honest
 fetch_again_law honest format from to before absent after slot handle number m bytes truly is code segment coded has modules files f =
     let read : List ℕ = f.given.0 in
-    ap bytes_in (filled_object absent.handles.heap slot read after.handles.heap f.given.3) ∙ sym (segment_image format absent slot handle number m read is here (f.given.2 truly)) ∙ same_bytes ∙ had
+    ap bytes_in (filled_object absent.handles.heap slot read after.handles.heap f.given.3) ∙ sym (segment_image format absent slot handle number m read is here (f.given.2.1 truly)) ∙ same_bytes ∙ had
   where
     here : IsSegmentOf absent slot handle number m
     here = record { loaded = ap (λ (all : Modules). module_at all handle) modules ∙ segment.loaded; has = segment.has }

@@ -1,37 +1,29 @@
 -- Steps by answers: what they are by other answers, and what a load leaves, whatever is answered.
 use Rattle.w16_loading.proofs.Common.{◌≡◌, ℕ, zero, suc, ◌<◌, ◌≤◌, inl, inr, ◌⊎◌, Bool, true, false, cond, ◌==◌, List, [], ◌∷◌, length, Option, Some, None, MatchOption, MatchResult, option_map, Result, Ok, Err, refl, sym}
-use Rattle.w16_loading.proofs.Common.{ap, ◌∙◌, subst, arith, and_parts, option_or, Heap, bytes_at, IsFreeSlot, selector_in, FarAnswer, far_slot, FIRST_MODULE}
+use Rattle.w16_loading.proofs.Common.{ap, ◌∙◌, subst, arith, option_or, Heap, bytes_at, IsFreeSlot, selector_in, FarAnswer, far_slot, FIRST_MODULE}
 use Rattle.w16_loading.proofs.Common.{FetchFault, Store, Damaged, NoRoom, Format, IsModuleFile, ModuleFile, Resource, LoadingWorld, Load, Named, handle_named, Reply, Giving, Fills}
 use Rattle.w16_loading.proofs.Common.{Closure, Reading, Referent, Found, around, begun, dll, with_bound, with_found, meant, Refused, Meant, Read, There, New, named, fills, Answer, LoadsNew, Fulfils, Refuses, refusal_of, used_again}
-use Rattle.w16_loading.proofs.Common.{Fetching, Accesses, is_not_present, needs_fetch, LoadsResource, LoadsNewResource, LocksResource, AnswersNone, is_too_long, resource_at, load_of, loaded_again, with_resource}
+use Rattle.w16_loading.proofs.Common.{Fetching, Accesses, needs_fetch, LoadsResource, LoadsNewResource, LocksResource, AnswersNone, is_too_long, resource_at, load_of, loaded_again, with_resource}
 use Rattle.w16_loading.proofs.Common.{slot_of_resource, LoadingCommand, ModuleCommand, ResourceCommand, Loading, FamilyStep, OfFar, OfModules, OfResources, IsRefusal}
 use Rattle.std.specs.FinMap as finmap
 use Rattle.std.specs.List.{AllByRecursion as Each}
-use Rattle.w16_loading.specs.Modules.{is_owned}
 use Rattle.w16_loading.specs.Families.{access_of}
 use Rattle.w16_loading.proofs.Common.{pointer_in}
 use Rattle.w16_loading.specs.Answers.{Answers, ClosesFrom, GivesFrom, LoadsFileFrom, LoadsFrom, ReadsFile, follow, told}
 use Rattle.w16_loading.proofs.Importers.{named_there}
 use Rattle.w16_loading.proofs.Fillings.{in_turn_so}
 use Rattle.w16_loading.proofs.ClosureFacts.{IsClosure, began, bound_more, found_more}
-use Rattle.w16_loading.proofs.Stepping.{resource_load}
 use Rattle.w16_loading.proofs.Common.{BuiltIn, Loaded, Module, MOST_USES, Says, after_use, ltb-true, nat_lt, not, ◌&&◌}
 use Rattle.w16_loading.proofs.Cases.{IsLoadable, bool_as, option_as}
 
 -- A family's step by some fetches and loads is one by others, where these are those.
 
--- what is fetched is a module's
-abbrev pub IsFetchable : LoadingWorld → ℕ → Type 0
-IsFetchable old slot = (is_owned old slot ≡ true) ⊎ ((load : Load) × (finmap.get old.loads slot ≡ Some load))
-
-module _ (F G : Fetching) (L M : Loading) (old new : LoadingWorld) (reply : Reply) (fetch : (slot : ℕ) (fault : Option FetchFault) (next : LoadingWorld) → IsFetchable old slot → F old slot fault next → G old slot fault next) where
+module _ (F G : Fetching) (L M : Loading) (old new : LoadingWorld) (reply : Reply) (fetch : (slot : ℕ) (fault : Option FetchFault) (next : LoadingWorld) → F old slot fault next → G old slot fault next) where
   accesses : (access : LoadingWorld → FarAnswer × LoadingWorld) (selector : ℕ) → Accesses F access old selector reply new → Accesses G access old selector reply new
-  accesses access selector = bool_as (needs_fetch (access old).0 old selector)
-      (λ e h. (h.0, h.1, fetch (far_slot old.handles selector) h.0 h.1 (inl (and_parts (is_not_present (access old).0) (is_owned old (far_slot old.handles selector)) e).1) h.2, h.3)) (λ e h. h)
+  accesses access selector = bool_as (needs_fetch (access old).0 old selector) (λ e h. (h.0, h.1, fetch (far_slot old.handles selector) h.0 h.1 h.2, h.3)) (λ e h. h)
 
   locks : (handle : ℕ) → LocksResource F old handle reply new → LocksResource G old handle reply new
-  locks handle = option_as (slot_of_resource old handle) (λ f. f)
-      (λ x e. option_as (bytes_at old.handles.heap x.0) (λ f. (f.0, f.1, fetch x.0 f.0 f.1 (inr (x.1, resource_load old handle x e)) f.2, f.3)) (λ bytes some f. f))
+  locks handle = option_as (slot_of_resource old handle) (λ f. f) (λ x e. option_as (bytes_at old.handles.heap x.0) (λ f. (f.0, f.1, fetch x.0 f.0 f.1 f.2, f.3)) (λ bytes some f. f))
 
   module _ (made : (handle place slot : ℕ) (r : Resource) → IsFreeSlot old.handles slot → IsLoadable old handle place r → load_of old handle place ≡ None → (fault : Option FetchFault) (next : LoadingWorld)
       → F (with_resource old slot handle place r) slot fault next → G (with_resource old slot handle place r) slot fault next) (load : (b : Bool) (file : List ℕ) (answer : Answer) → L b old file answer new → M b old file answer new) where

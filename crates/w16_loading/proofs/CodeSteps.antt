@@ -77,7 +77,7 @@ module _ (format : Format) where
 
   -- what an honest store gives is the object's image
   pub world_fetches : {honest : Type 0} → honest → (before after : ℕ) (old : LoadingWorld) → IsLoadingWorld old → (slot : ℕ) → FetchesCode format (told honest format old.files before after) old slot
-  world_fetches truly before after old is slot handle number m bytes s coded given = segment_image format old slot handle number m bytes is s (given truly)
+  world_fetches truly before after old is slot handle number m bytes s coded given = segment_image format old slot handle number m bytes is s (given.1 truly)
 
   -- Uses.
 

@@ -77,47 +77,60 @@ module _ (E F : Ending) (Is : Heap → Type 0) (ends : (old : Heap) (slot : ℕ)
   fetch_as : (old : LoadingWorld) → Is old.handles.heap → (slot : ℕ) (fault : Option FetchFault) (new : LoadingWorld) → FetchesFrom E a old slot fault new → FetchesFrom F b old slot fault new
   fetch_as old is slot fault new f = record { given = gives_as _ (a.gives old slot) (b.gives old slot) (within.gives old slot) old.handles.heap slot fault new.handles.heap is f.given; rest = f.rest }
 
-  step_as : ((old : Heap) (slot : ℕ) (held : List ℕ) (fault : Option FetchFault) (new : Heap) → Is old → GivesFrom E a old slot held fault new → Is new)
-      → (old new : LoadingWorld) (command : LoadingCommand) (reply : Reply) → Is old.handles.heap
-      → ((slot handle place : ℕ) (r : Resource) → IsFreeSlot old.handles slot → IsLoadable old handle place r → load_of old handle place ≡ None → Is (with_resource old slot handle place r).handles.heap)
-      → ((closure : Closure) (choice : Choice) → IsChoice old closure.found choice → Is (named old closure choice).handles.heap)
-      → StepFrom E a old command reply new → StepFrom F b old command reply new
-  step_as next old new command reply is made chosen step = record {
-    counted = step.counted;
-    files = step.files;
-    step = turned (FetchesFrom E a) (FetchesFrom F b) (LoadsFrom E a) (LoadsFrom F b) old (record new { failures = old.failures }) reply
-        (λ slot fault next may f. fetch_as old is slot fault next f)
-        (λ handle place slot r free at none fault next f. fetch_as (with_resource old slot handle place r) (made slot handle place r free at none) slot fault next f)
-        (λ load file answer f. loads_as a b within E F old (λ closure answer new h. fulfils_as (GivesFrom E a) (GivesFrom F b) Is
+  module _ (next : (old : Heap) (slot : ℕ) (held : List ℕ) (fault : Option FetchFault) (new : Heap) → Is old → GivesFrom E a old slot held fault new → Is new) (old : LoadingWorld)
+      (chosen : (closure : Closure) (choice : Choice) → IsChoice old closure.found choice → Is (named old closure choice).handles.heap) where
+    load_as : (load : Bool) (file : List ℕ) (answer : Answer) (new : LoadingWorld) → LoadsFrom E a load old file answer new → LoadsFrom F b load old file answer new
+    load_as = loads_as a b within E F old (λ closure answer new h. fulfils_as (GivesFrom E a) (GivesFrom F b) Is
         (λ old slot held fault new is f. (gives_as _ (a.again held) (b.again held) (within.again held) old slot fault new is f, next old slot held fault new is f)) old closure answer new h (chosen closure h.choice h.is_choice))
-        load file answer (record new { failures = old.failures }) f) command step.step;
-  }
+
+    step_as : (new : LoadingWorld) (command : LoadingCommand) (reply : Reply) → Is old.handles.heap
+        → ((slot handle place : ℕ) (r : Resource) → IsFreeSlot old.handles slot → IsLoadable old handle place r → load_of old handle place ≡ None → Is (with_resource old slot handle place r).handles.heap)
+        → StepFrom E a old command reply new → StepFrom F b old command reply new
+    step_as new command reply is made step = record {
+      counted = step.counted;
+      files = step.files;
+      step = turned (FetchesFrom E a) (FetchesFrom F b) (LoadsFrom E a) (LoadsFrom F b) old (record new { failures = old.failures }) reply (fetch_as old is)
+          (λ handle place slot r free at none. fetch_as (with_resource old slot handle place r) (made slot handle place r free at none) slot)
+          (λ load file answer. load_as load file answer (record new { failures = old.failures })) command step.step;
+    }
 
 -- what is told where the store is honest is told where nothing is known of it
-told_within : (honest : Type 0) (format other : Format) (files : List (List ℕ × List ℕ)) (before after : ℕ) → IsWithin (told honest format files before after) (told ⊥ other files before after)
-told_within honest format other files before after = record {
+told_within : (honest : Type 0) (format : Format) (files : List (List ℕ × List ℕ)) (before after : ℕ) → IsWithin (told honest format files before after) (told ⊥ format files before after)
+told_within honest format files before after = record {
   says = λ name said s. (s.0, λ no. absurd no);
   sound = λ name t sound s no. absurd no;
   holds = λ name read h. (h.0, h.1, λ no. absurd no);
   again = λ held read h no. absurd no;
-  gives = λ world slot bytes h no. absurd no;
+  gives = λ world slot bytes h. (h.0, λ no. absurd no);
   fails = λ fault h. (h.0, h.1, λ no. absurd no);
 }
 
+itself : (a : Answers) → IsWithin a a
+itself a = record { says = λ name said s. s; sound = λ name t sound s. s; holds = λ name read h. h; again = λ held read h. h; gives = λ world slot bytes h. h; fails = λ fault h. h }
+
 pub any_step_law : (honest : Type 0) → AnyStepLaw honest
-any_step_law honest format other old new command reply = step_as Fills Fills (λ heap. Unit {0}) (λ old slot bytes answered new is f. f) (told honest format old.files old.failures new.failures) (told ⊥ other old.files old.failures new.failures)
-    (told_within honest format other old.files old.failures new.failures) (λ old slot held fault new is f. tt) old new command reply tt (λ slot handle place r free at none. tt) (λ closure choice is. tt)
+any_step_law honest format old new command reply = step_as Fills Fills (λ heap. Unit {0}) (λ old slot bytes answered new is f. f) (told honest format old.files old.failures new.failures) (told ⊥ format old.files old.failures new.failures)
+    (told_within honest format old.files old.failures new.failures) (λ old slot held fault new is f. tt) old (λ closure choice is. tt) new command reply tt (λ slot handle place r free at none. tt)
 
 pub requests_fewest_law : (honest : Type 0) → RequestsFewestLaw honest
 requests_fewest_law honest format old new command reply is =
     let a : Answers = told honest format old.files old.failures new.failures in
-    step_as Fills FillsFewest IsHeap (λ old slot bytes answered new is f. (f, fill_fewest old slot bytes answered new is f)) a a
-    (record { says = λ name said s. s; sound = λ name t sound s. s; holds = λ name read h. h; again = λ held read h. h; gives = λ world slot bytes h. h; fails = λ fault h. h })
-    (one_heap a) old new command reply is.handles.heap
-    (λ slot handle place r free at none. (made_world old is slot free handle place r at.0 at.1 none).handles.heap) (λ closure choice good. named_heap old closure choice is.handles good)
+    step_as Fills FillsFewest IsHeap (λ old slot bytes answered new is f. (f, fill_fewest old slot bytes answered new is f)) a a (itself a) (one_heap a) old (λ closure choice good. named_heap old closure choice is.handles good) new command reply is.handles.heap
+    (λ slot handle place r free at none. (made_world old is slot free handle place r at.0 at.1 none).handles.heap)
+
+-- A step, a fetch or a load whose requests discard as few objects as they can is one.
+module _ (a : Answers) (old : LoadingWorld) where
+  pub fetch_fills : (slot : ℕ) (fault : Option FetchFault) (new : LoadingWorld) → FetchesFrom FillsFewest a old slot fault new → FetchesFrom Fills a old slot fault new
+  fetch_fills = fetch_as FillsFewest Fills (λ heap. Unit {0}) (λ old slot bytes answered new is f. f.0) a a (itself a) old tt
+
+  pub load_fills : (load : Bool) (file : List ℕ) (answer : Answer) (new : LoadingWorld) → LoadsFrom FillsFewest a load old file answer new → LoadsFrom Fills a load old file answer new
+  load_fills = load_as FillsFewest Fills (λ heap. Unit {0}) (λ old slot bytes answered new is f. f.0) a a (itself a) (λ old slot held fault new is f. tt) old (λ closure choice is. tt)
+
+  pub step_fills : (new : LoadingWorld) (command : LoadingCommand) (reply : Reply) → StepFrom FillsFewest a old command reply new → StepFrom Fills a old command reply new
+  step_fills new command reply = step_as FillsFewest Fills (λ heap. Unit {0}) (λ old slot bytes answered new is f. f.0) a a (itself a) (λ old slot held fault new is f. tt) old (λ closure choice is. tt) new command reply tt (λ slot handle place r free at none. tt)
 
 pub any_requests_fewest : (honest : Type 0) (format : Format) (old new : LoadingWorld) (command : LoadingCommand) (reply : Reply) → IsLoadingWorld old → StepOver honest format old command reply new → RequestsFewest old command reply new
-any_requests_fewest honest format old new command reply is step other = requests_fewest_law ⊥ other old new command reply is (any_step_law honest format other old new command reply step)
+any_requests_fewest honest format old new command reply is step = (format, requests_fewest_law ⊥ format old new command reply is (any_step_law honest format old new command reply step))
 
 -- A load's requests keep what isn't its own.
 pub fills_law : (honest : Type 0) → FillsLaw honest

@@ -16,7 +16,7 @@ use Rattle.w16_loading.specs.Closure.Referent.{There, New}
 use Rattle.w16_loading.specs.Closure.Reading.{Refused, Meant, Read}
 use Rattle.w16_loading.specs.Load.{Answer, LoadsNew, Refuses, refusal_of, used_again}
 use Rattle.w16_loading.specs.Load.Answer.{StoreFails}
-use Rattle.w16_loading.specs.Fetch.{IsImage}
+use Rattle.w16_loading.specs.Fetch.{IsImage, IsRead}
 use Rattle.w16_loading.specs.Replies.{Reply}
 use Rattle.w16_loading.specs.Families.{LoadingCommand, FamilyStep}
 
@@ -137,14 +137,15 @@ HasTables other said = ⊥
 abbrev pub MayFail : (honest : Type 0) → (before after : ℕ) → FetchFault → Type 0
 MayFail honest before after fault = (is_of_read fault ≡ true) × (fault ≡ Store → before < after) × (honest → fault ≡ Store)
 
--- Whatever the store: numbers that refuse files, files of modules, bytes of the right size. Where it is honest: what its files say.
+-- Whatever the store: numbers that refuse files, files of modules, bytes of the right size, relocated as the load bound them. Where it is honest:
+-- what its files say.
 abbrev pub told : (honest : Type 0) → Format → (files : List (List ℕ × List ℕ)) → (before after : ℕ) → Answers
 told honest format files before after = record {
   says = λ name said. MatchResult said (λ t. Unit {0}) (RefusesFile (file_of files name)) × (honest → HasTables (said_by format.says (file_of files name)) said);
   sound = λ name t b. honest → MatchResult (said_by format.says (file_of files name)) (λ read. are_sound read ≡ b) (λ number. ⊥);
   holds = λ name read. IsModuleFile read × (are_sound read ≡ true) × (honest → said_by format.says (file_of files name) ≡ Ok read);
   again = λ held read. honest → read ≡ held;
-  gives = λ world slot bytes. honest → IsImage format world slot bytes;
+  gives = λ world slot bytes. IsRead format world slot bytes × (honest → IsImage format world slot bytes);
   fails = MayFail honest before after;
 }
 

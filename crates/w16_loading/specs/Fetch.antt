@@ -1,5 +1,5 @@
 -- Fetches: an object that a module owns gets its bytes again; and the far accesses that ask for them.
-use Rattle.std.specs.Prelude.{◌≡◌, ℕ, ◌-◌, ◌⊎◌, Bool, true, false, ◌&&◌, MatchBool, List, [], Option, Some, None, MatchOption, Ok, Err, option_map, slice_index_or}
+use Rattle.std.specs.Prelude.{◌≡◌, ℕ, ◌-◌, ◌⊎◌, Bool, true, false, ◌&&◌, MatchBool, List, [], length, Option, Some, None, MatchOption, Ok, Err, option_map, slice_index_or}
 use Rattle.w16_model.specs.declared.FarFault.TheVariants as far
 use Rattle.w16_model.specs.Handles.{Handles}
 use Rattle.w16_model.specs.Owned as owned
@@ -37,6 +37,14 @@ abbrev pub IsImage : Format → LoadingWorld → ℕ → List ℕ → Type 0
 IsImage format world slot bytes =
     ((handle number : ℕ) × (m : Module) × IsSegmentOf world slot handle number m × (segment_bytes format world m number ≡ Some bytes))
     ⊎ ((handle place : ℕ) × (m : Module) × IsResourceOf world slot handle place m × (resource_bytes format world m place ≡ Some bytes))
+
+-- Over any store these bytes are given to a segment or a resource of a module: those of a segment are some data, relocated under the values that
+-- were bound at load.
+abbrev pub IsRead : Format → LoadingWorld → ℕ → List ℕ → Type 0
+IsRead format world slot bytes =
+    ((handle number : ℕ) × (m : Module) × IsSegmentOf world slot handle number m
+    × (source table : List ℕ) × (format.relocated m.tables source table (slice_index_or m.values (number - 1) []) (length bytes) ≡ Some bytes))
+    ⊎ ((handle place : ℕ) × (m : Module) × IsResourceOf world slot handle place m)
 
 -- what a fetch of a slot's object is, over the store that it is made over
 abbrev pub Fetching : Type 1

@@ -11,6 +11,6 @@ abbrev pub RequestsFewestLaw : (honest : Type 0) → Type 0
 RequestsFewestLaw honest = (format : Format) (old new : LoadingWorld) (command : LoadingCommand) (reply : Reply) → IsLoadingWorld old → StepOver honest format old command reply new
     → FewestOver honest format old command reply new
 
--- whatever files say
+-- whatever a store answers
 abbrev pub RequestsFewest : LoadingWorld → LoadingCommand → Reply → LoadingWorld → Type 0
-RequestsFewest old command reply new = (format : Format) → FewestOver ⊥ format old command reply new
+RequestsFewest old command reply new = (format : Format) × FewestOver ⊥ format old command reply new

@@ -95,11 +95,13 @@ targets_of s = unwrap_or s.targets []
 abbrev pub Saying : Type 0
 Saying = List ℕ → Result ModuleFile ℕ
 
--- A format: what files say, and the bytes of the object of each resource of a file that is accepted, by its number: those of the file, and zeros
--- after them. A load doesn't read these.
+-- A format: what files say; the bytes of the object of each resource of a file that is accepted, by its number: those of the file, and zeros
+-- after them (a load doesn't read these); and as many bytes as are asked for of the object of a segment of a module with some tables, by the
+-- segment's data, its table of relocation records, and a value for each: none where the records aren't sound in the data.
 pub record Format : Type 0 where
   pub says : Saying
   pub contents : List ℕ → ℕ → Option (List ℕ)
+  pub relocated : Tables → (source table : List ℕ) → List Far → (size : ℕ) → Option (List ℕ)
 
 -- What a load relies on in a file that is accepted: as much data as there are segments, sizes and images that go together.
 pub record IsSegmentData (segment : Segment) (s : SegmentData) : Type 0 where

@@ -112,10 +112,10 @@ abbrev pub KeepsWorldsLaw : (honest : Type 0) → Type 0
 KeepsWorldsLaw honest = (format : Format) (old new : LoadingWorld) (command : LoadingCommand) (reply : Reply) → IsLoadingWorld old → IsLoadingCommand command
     → StepOver honest format old command reply new → IsLoadingWorld new
 
--- and one over an honest store is one over any, whatever the format.
+-- and one over an honest store is one over any.
 abbrev pub AnyStepLaw : (honest : Type 0) → Type 0
-AnyStepLaw honest = (format other : Format) (old new : LoadingWorld) (command : LoadingCommand) (reply : Reply) → StepOver honest format old command reply new
-    → StepOver ⊥ other old command reply new
+AnyStepLaw honest = (format : Format) (old new : LoadingWorld) (command : LoadingCommand) (reply : Reply) → StepOver honest format old command reply new
+    → StepOver ⊥ format old command reply new
 
 -- Of the calls on handles this is proved by themselves: what a module owns keeps its kind and its size, whatever is moved or discarded
 abbrev pub CallsKeepWorldsLaw : Type 0

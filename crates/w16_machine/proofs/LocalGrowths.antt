@@ -10,7 +10,7 @@ use Rattle.w16_machine.proofs.Stepped.{handles_step}
 
 -- a format that accepts nothing
 abbrev nothing : Format
-nothing = record { says = λ file. Err 11; contents = λ file number. None }
+nothing = record { says = λ file. Err 11; contents = λ file number. None; relocated = λ t source table values size. None }
 
 module _ (old : World) (at : LocalHeap) (options : RoomOptions) (size : ℕ) (l : Lengthens old at options size) where
   -- the world that the reallocation leaves
