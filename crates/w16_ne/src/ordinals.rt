@@ -1,4 +1,4 @@
-//! Which ordinal a name has: a map whose hashes nobody can foresee but by the file itself.
+//! The ordinals of names: a map whose hashes are keyed by the file's names.
 ghost use Rattle.std.specs.Prelude.{◌≡◌, List, ◌++◌, [], ◌∷◌, IfOk, OnOk, IfErr};
 ghost use Rattle.w16_ne.specs.declared.fault.NeFault.TheVariants.{OutOfMemory};
 ghost use Rattle.w16_ne.specs.Names.{Entry, IsUpper, Finds};
@@ -12,8 +12,8 @@ use std::hash::{BuildHasher, DefaultHasher};
 /// The ordinals of names by their texts, upper-cased, in the order of the tables.
 pub type Ordinals<A> = IndexMap<Vec<u8, A>, u16, NameSeed, A>;
 
-/// What each hash of a name begins with: a SipHash that was fed all texts of the file's names. So the key of the hashes changes with every name,
-/// and names that collide under one key don't under that of the file that has them.
+/// What each hash of a name goes on from: a SipHash that was fed all texts of the file's names. So who chooses the names chooses the key with them,
+/// and names that were made to collide under a known key don't collide here.
 #[derive(Clone, Copy)]
 pub struct NameSeed {
     pub fed: DefaultHasher,

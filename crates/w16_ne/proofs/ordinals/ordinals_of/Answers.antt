@@ -1,4 +1,4 @@
-use Rattle.w16_ne.proofs.Common.{◌≡◌, ◌++◌, ◌+◌, ◌∷◌, [], ◌∙◌, ap, sym, subst, take, arith, add-one, Entry, Finds}
+use Rattle.w16_ne.proofs.Common.{◌++◌, ◌∷◌, [], ◌∙◌, ap, sym, subst, take, arith, add-one, Entry, Finds}
 use Rattle.std.proofs.Math.Seq.{take-suc}
 use Rattle.std.proofs.lemmas.Option.{get_or_from_slice_get}
 use Rattle.w16_ne.proofs.ordinals.ordinals_of.Goals as goal

@@ -1,4 +1,4 @@
-use Rattle.w16_ne.proofs.Common.{◌≡◌, ◌-◌, ◌<◌, [], length, map, All, arith, ap, sym, subst, ◌∙◌, take_all, length-map, length-drop, drop, IsUpper, at_place}
+use Rattle.w16_ne.proofs.Common.{◌-◌, ◌<◌, [], length, arith, ap, sym, subst, ◌∙◌, take_all, length-map, length-drop, drop, IsUpper, at_place}
 use Rattle.w16_ne.proofs.Texts.{at_index}
 use Rattle.w16_ne.proofs.names.Names.name.Goals as goal
 
