@@ -1,5 +1,5 @@
 -- Reading bundles one after the other, as a loop does.
-use Rattle.w16_ne.proofs.Common.{◌≡◌, ℕ, zero, suc, ◌-◌, ◌+◌, ◌≤◌, ◌<◌, ◌==◌, ◌||◌, Bool, true, false, List, Option, [], ◌∷◌, ◌++◌, length, Ok, Err, refl, sym, ap, ◌∙◌, append_assoc, arith, nat_lt, nat_le, slice_index, append-nil, NeFault, Reading, ◌>>=◌, each, bundle_end, bundle_in, bundles_from}
+use Rattle.w16_ne.proofs.Common.{◌≡◌, ℕ, zero, suc, ◌-◌, ◌+◌, ◌<◌, ◌==◌, ◌||◌, Bool, true, false, List, Option, [], ◌∷◌, ◌++◌, length, Ok, Err, refl, sym, ap, ◌∙◌, append_assoc, arith, nat_lt, nat_le, slice_index, append-nil, NeFault, Reading, ◌>>=◌, each, bundle_end, bundle_in, bundles_from}
 use Rattle.w16_ne.specs.declared.fault.NeFault.TheVariants as faults
 use Rattle.w16_ne.specs.declared.entry_table.Entry.{Entry}
 use Rattle.w16_ne.proofs.Each.{with_front}

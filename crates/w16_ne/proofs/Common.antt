@@ -4,28 +4,16 @@ pub use Rattle.std.proofs.Common.{min, not, option_map, refl, rules, slice_get, 
 pub use Rattle.std.proofs.Math.ListN.{drop_of_length-le}
 pub use Rattle.std.proofs.Math.Seq.{drop-cons}
 pub use Rattle.std.proofs.lemmas.Bool.Decides.{nat_tests, same_from_decides}
-pub use Rattle.std.proofs.lemmas.Cmp.{nat_cmp_total, nat_list_cmp_total, on_total, ranked, then_total, tied_itself}
-pub use Rattle.std.proofs.lemmas.Fn.{always_returns_same}
 pub use Rattle.std.proofs.lemmas.Grind.{common_steps}
 pub use Rattle.std.proofs.lemmas.List.{append-nil, append_cancel_left, drop-append-le, drop-drop, drop-take, get_or-drop, get_or-take, get_or_past, length-map, length-take, map-append, map_push, take-append-drop, take-append-le, take-take, take_min}
 pub use Rattle.std.proofs.lemmas.List.Elements.{All-append, All-push, filter-append, recursion_from_All}
-pub use Rattle.std.proofs.lemmas.List.FromFn.{get_or-range_with_len, length-range_with_len}
-pub use Rattle.std.proofs.lemmas.List.Sorted.{All-permutation, IsPartitionPoint-from_clause, list_any-IsPermutation, ranks_by, sorted_far}
 pub use Rattle.std.proofs.lemmas.List.Sums.{sum_by-cons}
-pub use Rattle.std.proofs.lemmas.Option.{slice_get-get_or}
 pub use Rattle.std.proofs.lemmas.Result.{err_from_is_err_and}
 pub use Rattle.std.proofs.lemmas.Slice.Eq.{bytes_eq-Decides}
 pub use Rattle.std.specs.Char.{to_ascii_uppercase}
-pub use Rattle.std.specs.Cmp.{IsStrictWeakOrder}
-pub use Rattle.std.specs.Cmp.Lexicographic.{slice_cmp}
-pub use Rattle.std.specs.Fn.{Called, ComparesAs}
-pub use Rattle.std.specs.List.{AllByRecursion, find, flat_map, list_any, range_with_len}
-pub use Rattle.std.specs.List.Sorted.{IsPartitionPoint, IsPartitionedBy, IsPermutation, IsSortedBy}
-pub use Rattle.std.specs.Ordering.{is_lt, nat_cmp, ordering_then}
+pub use Rattle.std.specs.List.{AllByRecursion, find, flat_map, list_any}
 pub use Rattle.std.specs.Prelude.{nat_eq, nat_le, nat_lt, slice_index}
 pub use Rattle.std.specs.Str.{bytes_eq, str_to_ascii_uppercase}
-pub use Rattle.std.specs.declared.cmp.Ordering.{Ordering}
-pub use Rattle.std.specs.declared.cmp.Ordering.TheVariants.{Equal, Greater, Less}
 pub use Rattle.w16_ne.specs.Entries.{bundle_end, bundles_from, entry_size, is_astray, sound_entry}
 unfoldable pub use Rattle.w16_ne.specs.Entries.{bundle_in, entries_in, table_at}
 pub use Rattle.w16_ne.specs.EntriesFormat.{AreBundles, AreEntries, IsEntryTable, IsInside}
@@ -37,7 +25,7 @@ pub use Rattle.w16_ne.specs.Listing.{IsListing}
 pub use Rattle.w16_ne.specs.ModuleFormat.{IsModule, IsPart}
 pub use Rattle.w16_ne.specs.Modules.{Tables, listed_resources, tables_of}
 unfoldable pub use Rattle.w16_ne.specs.Modules.{tables_at, tables_behind}
-pub use Rattle.w16_ne.specs.Names.{Entry, IsOrder, IsPiece, IsUpper, at_place, comes_before, compared, first_text, found_in, names_from, names_in, ordinal_in, piece_at, size, text_of, upper}
+pub use Rattle.w16_ne.specs.Names.{Entry, Finds, IsPiece, IsUpper, at_place, first_text, found_in, names_from, names_in, ordinal_in, piece_at, size, upper}
 unfoldable pub use Rattle.w16_ne.specs.Names.{name_at, names_at, nonresident_at, resident_at, table_names}
 pub use Rattle.w16_ne.specs.NamesFormat.{AreListed, AreNames, IsName}
 pub use Rattle.w16_ne.specs.Reading.{Gives, IsFailure, IsOfFile, Reading, Refused, Refuses, Tells, bytes_or, dword_of, each, front_at, length_at, reaches, word_of, ◌>>=◌}

@@ -14,7 +14,7 @@ pub mod Filled
 pub mod Tables
 pub mod Parts
 pub mod Texts
-pub mod Ordered
+pub mod FoundNames
 pub mod NamesFormat
 pub mod SegmentsFormat
 pub mod EntriesFormat

@@ -1,5 +1,5 @@
 -- Reading the names of a table one after the other, as a loop does.
-use Rattle.w16_ne.proofs.Common.{◌≡◌, ℕ, suc, ◌-◌, ◌+◌, ◌≤◌, ◌<◌, ◌==◌, ◌||◌, Bool, true, false, List, [], ◌∷◌, ◌++◌, length, take, drop, Ok, Err, refl, sym, ap, ◌∙◌, arith, nat_lt, nat_le, slice_index, append-nil, Reading, word_of, Entry, names_in}
+use Rattle.w16_ne.proofs.Common.{◌≡◌, ℕ, suc, ◌-◌, ◌+◌, ◌<◌, ◌==◌, ◌||◌, Bool, true, false, List, [], ◌∷◌, ◌++◌, length, take, drop, Ok, Err, refl, sym, ap, ◌∙◌, arith, nat_lt, nat_le, slice_index, append-nil, Reading, word_of, Entry, names_in}
 use Rattle.w16_ne.specs.declared.fault.NeFault.TheVariants as faults
 use Rattle.w16_ne.proofs.Each.{with_front, regroup}
 

@@ -1,6 +1,6 @@
 -- Names at places among texts.
-use Rattle.w16_ne.proofs.Common.{◌≡◌, ℕ, zero, suc, ◌+◌, ◌<◌, ◌≤◌, List, [], ◌∷◌, ◌++◌, length, map, take, drop, get_or, Some, refl, ap, ◌∙◌, arith, take_all, length-append}
-use Rattle.w16_ne.proofs.Common.{length-drop, All, slice_get, AllByRecursion, take-append-le, drop-append-le, map_push, recursion_from_All, Place, Entry, at_place}
+use Rattle.w16_ne.proofs.Common.{◌≡◌, ℕ, zero, suc, ◌+◌, ◌<◌, ◌≤◌, List, [], ◌∷◌, ◌++◌, length, map, take, drop, get_or, refl, ap, ◌∙◌, arith, take_all, length-append}
+use Rattle.w16_ne.proofs.Common.{length-drop, All, AllByRecursion, take-append-le, drop-append-le, map_push, recursion_from_All, Place, Entry, at_place}
 
 abbrev pub IsInside : List ℕ → Place → Type 0
 IsInside texts p = p.start + p.len ≤ length texts
@@ -37,11 +37,6 @@ module _ (texts up : List ℕ) where
 
   pub new_inside : (p : Place) → p.start ≡ length texts → p.len ≡ length up → IsInside (texts ++ up) p
   new_inside p start len = omega (arith, start, len, length-append texts up)
-
-pub got : (xs : List ℕ) (i x : ℕ) → slice_get xs i ≡ Some x → (i < length xs) × (get_or xs i 0 ≡ x)
-got [] i x h = cc
-got (y ∷ ys) zero x h = (omega arith, (cc))
-got (y ∷ ys) (suc i) x h = let r = got ys i x h in (omega (arith, r.0), r.1)
 
 pub at_index : (texts : List ℕ) (ps : List Place) (i : ℕ) (d : Place) (e : Entry) → i < length ps → get_or (map (at_place texts) ps) i e ≡ at_place texts (get_or ps i d)
 at_index texts [] i d e lt = absurd (omega arith)

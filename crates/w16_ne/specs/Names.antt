@@ -1,11 +1,8 @@
 -- Tables of names: an entry is a length byte, the text and an ordinal word; a length of 0 ends the table (volume 4).
-use Rattle.std.specs.Prelude.{◌≡◌, ℕ, zero, suc, ◌+◌, ◌<◌, List, [], ◌∷◌, length, take, drop, Option, Some, None, Ok, Err, ◌==◌, nat_lt, nat_le, nat_eq, ◌||◌, Bool, true, All, if◌then◌else◌, slice_index, slice_index_or, option_map, unwrap_or}
-use Rattle.std.specs.List.{find, list_any}
-use Rattle.std.specs.List.Sorted.{IsSortedBy}
-use Rattle.std.specs.Ordering.{nat_cmp, is_lt, ordering_then}
-use Rattle.std.specs.Cmp.Lexicographic.{slice_cmp}
-use Rattle.std.specs.declared.cmp.Ordering.{Ordering}
-use Rattle.std.specs.Str.{str_to_ascii_uppercase}
+use Rattle.std.specs.Prelude.{◌≡◌, ℕ, zero, suc, ◌+◌, List, [], ◌∷◌, length, take, drop, Vec, Option, Some, None, Ok, Err, ◌==◌, nat_lt, nat_le, ◌||◌, if◌then◌else◌, slice_index, option_map, unwrap_or}
+use Rattle.std.specs.List.{find}
+use Rattle.std.specs.Str.{bytes_eq, str_to_ascii_uppercase}
+use Rattle.indexmap.specs.IndexMap.{IndexMap, get_by}
 use Rattle.w16_store.specs.Names.{is_named}
 use Rattle.w16_ne.specs.declared.name_piece.TheConstants.{PIECE}
 use Rattle.w16_ne.specs.declared.fault.NeFault.TheVariants.{Truncated, BadTable}
@@ -89,6 +86,10 @@ nonresident_at file header = if nonresident_length header == 0 then Ok [] else d
 abbrev pub ordinal_in : List Entry → List ℕ → ℕ
 ordinal_in names name = unwrap_or (option_map (λ e. e.1) (find (λ e. is_named e.0 name) names)) 0
 
+-- A map from texts finds the names: under a name, upper-cased, it has the ordinal of the first that is equal.
+abbrev pub Finds : {Z S : Type 0} → IndexMap (Vec ℕ Z) ℕ S → List Entry → Type 0
+Finds map names = (name : List ℕ) → get_by (λ text. bytes_eq (str_to_ascii_uppercase name) text.items) map ≡ option_map (λ e. e.1) (find (λ e. is_named e.0 name) names)
+
 -- a name as a module keeps it, upper-cased
 abbrev pub upper : Entry → Entry
 upper e = (str_to_ascii_uppercase e.0, e.1)
@@ -104,20 +105,3 @@ first_text (e ∷ es) = e.0
 -- the name at a place among texts
 abbrev pub at_place : List ℕ → Place → Entry
 at_place texts p = (take p.len (drop p.start texts), p.ordinal)
-
--- the text of a name by its number; none where there are fewer
-abbrev pub text_of : List Entry → ℕ → List ℕ
-text_of names i = (slice_index_or names i ([], 0)).0
-
--- Names are ordered by their texts, and those of equal texts as they stand.
-abbrev pub compared : List Entry → ℕ → ℕ → Ordering
-compared names i j = ordering_then (slice_cmp nat_cmp (text_of names i) (text_of names j)) (nat_cmp i j)
-
-abbrev pub comes_before : List Entry → ℕ → ℕ → Bool
-comes_before names i j = is_lt (compared names i j)
-
--- the numbers of all names, in this order
-pub record IsOrder (names : List Entry) (order : List ℕ) : Type 0 where
-  pub inside : All (λ i. i < length names) order
-  pub whole : (i : ℕ) → i < length names → list_any (nat_eq i) order ≡ true
-  pub ascending : IsSortedBy (comes_before names) order

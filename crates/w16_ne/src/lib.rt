@@ -13,6 +13,7 @@ mod name_piece;
 mod name_table;
 mod names;
 mod nonresident;
+mod ordinals;
 mod part;
 mod read;
 mod reading;

@@ -9,6 +9,7 @@ ghost use Rattle.w16_ne.specs.Modules.{imported_place, entry_at, listed_resource
 
 use crate::entry_table::Entry;
 use crate::names::Names;
+use crate::ordinals::Ordinals;
 use crate::reading::word;
 use crate::reference_table::ReferenceTable;
 use crate::resource_places::{Resource, ResourceName, ResourceTable};
@@ -26,8 +27,7 @@ pub struct Module<A: Allocator = Global> {
     pub(crate) names: Names<A>,
     /// How many of the names are resident.
     pub(crate) resident: u32,
-    /// The numbers of the names, ascending by their texts.
-    pub(crate) order: Vec<u32, A>,
+    pub(crate) ordinals: Ordinals<A>,
     pub(crate) segments: Vec<Segment, A>,
     pub(crate) references: ReferenceTable<A>,
     pub(crate) entries: Vec<Option<Entry>, A>,
@@ -36,7 +36,7 @@ pub struct Module<A: Allocator = Global> {
 
 impl<A: Allocator> Model for Module<A> {
     ghost use Rattle.std.specs.Prelude.{◌≡◌, ◌≤◌, length, All};
-    ghost use Rattle.w16_ne.specs.Names.{IsOrder};
+    ghost use Rattle.w16_ne.specs.Names.{Finds};
     ghost use Rattle.w16_ne.specs.Segments.{IsSized};
     ghost use Rattle.w16_ne.specs.Modules.{Tables};
 
@@ -55,7 +55,7 @@ impl<A: Allocator> Model for Module<A> {
       resources = s.resources;
     } };
 
-    ghost invariant = { λ s. (length s.header ≡ 64) × IsOrder s.names s.order.items
+    ghost invariant = { λ s. (length s.header ≡ 64) × Finds s.ordinals s.names
         × (length s.segments.items ≤ 253) × All IsSized s.segments.items × (length s.entries.items ≤ 65535) };
 }
 
@@ -135,7 +135,7 @@ impl<A: Allocator> Module<A> {
     pub fn ordinal_of(&self, name: &[u8]) -> u16
         ensures { result ≡ ordinal_in self.now.names name.now }
     {
-        self.names.ordinal_of(self.order.as_slice(), name)
+        self.names.ordinal_of(&self.ordinals, name)
     }
 
     /// How many names of entries there are.

@@ -1,15 +1,13 @@
 //! Names of entries with their ordinals, and how one is found.
-ghost use Rattle.std.specs.Prelude.{◌≡◌, ℕ, ◌<◌, ◌≤◌, ◌++◌, [], ◌∷◌, length, All, option_map, unwrap_or, slice_get, slice_index_or, Some, IfOk, IfErr, OnOk};
-ghost use Rattle.std.specs.List.{find};
-ghost use Rattle.std.specs.Ordering.{nat_cmp, is_lt};
-ghost use Rattle.std.specs.Cmp.Lexicographic.{slice_cmp};
-ghost use Rattle.std.specs.Str.{bytes_eq, str_to_ascii_uppercase};
+ghost use Rattle.std.specs.Prelude.{◌≡◌, ◌<◌, ◌≤◌, ◌++◌, [], ◌∷◌, length, All, slice_get, Some, IfOk, IfErr, OnOk};
+ghost use Rattle.std.specs.Str.{str_to_ascii_uppercase};
 ghost use Rattle.w16_ne.specs.declared.fault.NeFault.TheVariants.{OutOfMemory};
-ghost use Rattle.w16_ne.specs.Names.{upper, IsUpper, IsOrder, text_of, compared, ordinal_in};
+ghost use Rattle.w16_ne.specs.Names.{IsUpper, Finds, ordinal_in};
 
 use crate::fault::NeFault;
+use crate::ordinals::{NameSeed, Ordinals};
 use std::alloc::{AllocError, Allocator};
-use std::cmp::Ordering;
+use std::hash::{DefaultHasher, Hasher};
 use std::marker::Model;
 
 /// Where a name's text lies among the texts, and its ordinal.
@@ -85,94 +83,47 @@ impl<A: Allocator> Names<A> {
         Ok(())
     }
 
-    /// The text of a name by its number, from 0; empty where there are fewer.
-    pub fn text(&self, i: u32) -> &[u8]
-        ensures { result.now ≡ text_of self.now i }
-    {
-        match self.places.get(i as usize) {
-            None => &[],
-            Some(place) => &self.texts[place.start as usize..][..usize::from(place.len)],
-        }
-    }
-
-    /// The ordinal of a name by its number, from 0; 0 where there are fewer.
-    fn ordinal(&self, i: u32) -> u16
-        ensures { result ≡ (slice_index_or self.now i ([], 0)).1 }
-    {
-        match self.places.get(i as usize) {
-            None => 0,
-            Some(place) => place.ordinal,
-        }
-    }
-
     /// The name of a number, from 0: its text and its ordinal.
     pub fn name(&self, i: usize) -> (&[u8], u16)
         requires { i < length self.now }
         ensures found { slice_get self.now i ≡ Some (result.0.now, result.1) }
         ensures upper { str_to_ascii_uppercase result.0.now ≡ result.0.now }
     {
-        let ordinal = self.places[i].ordinal;
-        (self.text(i as u32), ordinal)
+        let place = self.places[i];
+        (
+            &self.texts[place.start as usize..][..usize::from(place.len)],
+            place.ordinal,
+        )
     }
 
     /// The ordinal of a name, 0 where there is none. Case doesn't count, and of equal names the first does.
-    pub fn ordinal_of(&self, order: &[u32], name: &[u8]) -> u16
-        requires { IsOrder self.now order.now }
+    pub fn ordinal_of(&self, ordinals: &Ordinals<A>, name: &[u8]) -> u16
+        requires { Finds ordinals.now self.now }
         ensures { result ≡ ordinal_in self.now name.now }
     {
-        self.reveal_names();
+        self.reveal_short();
         if name.len() > 255 {
             return 0;
         }
         let mut room = [0u8; 255];
         let key = &mut room[..name.len()];
         write_upper(name, key);
-        ordinal_of_text(self, order, &*key)
+        ordinals.get(&*key).copied().unwrap_or(0)
     }
 
-    /// Tells the prover what holds of all names: each is short, and upper-cased.
-    fn reveal_names(&self)
-        ensures short { All (λ e. length e.0 ≤ 255) self.now }
-        ensures upper { All IsUpper self.now }
+    /// Tells the prover that each name is short.
+    fn reveal_short(&self)
+        ensures { All (λ e. length e.0 ≤ 255) self.now }
     {
         let _ = &self.places;
     }
 
-    /// How two names are ordered: by their texts, and those of equal texts as they stand.
-    fn compare(&self, i: u32, j: u32) -> Ordering
-        ensures { result ≡ compared self.now i j }
-    {
-        self.text(i).cmp(self.text(j)).then(i.cmp(&j))
+    /// The key of the names' hashes, from all their texts.
+    pub fn seed(&self) -> NameSeed {
+        let mut fed = DefaultHasher::new();
+        fed.write(self.texts.as_slice());
+        NameSeed { fed }
     }
-}
-
-/// A text that is looked for among names.
-#[derive(Drop)]
-struct Sought<'a, A: Allocator> {
-    names: &'a Names<A>,
-    text: &'a [u8],
-}
-
-impl<'a, A: Allocator> Sought<'a, A> {
-    /// Whether a name comes before the text.
-    fn is_behind(&self, i: u32) -> bool
-        ensures { result ≡ is_lt (slice_cmp nat_cmp (text_of self.now.names.now i) self.now.text.now) }
-    {
-        self.names.text(i).cmp(self.text).is_lt()
-    }
-}
-
-/// The numbers of names, ascending by their texts, and those of equal texts by number.
-pub fn order_of<A: Allocator + Copy>(alloc: A, names: &Names<A>) -> Result<Vec<u32, A>, NeFault>
-    ensures order { IfOk result (λ order. IsOrder names.now order.items) }
-    ensures err { IfErr result (λ e. e ≡ OutOfMemory) }
-{
-    let mut order = Vec::with_capacity(alloc, names.len())?;
-    for i in 0..names.len() as u32 {
-        order.push(i)?;
-    }
-    order.sort_unstable_by(|i, j| names.compare(*i, *j));
-    Ok(order)
 }
 
 /// Writes a text, upper-cased.
@@ -182,18 +133,5 @@ fn write_upper(text: &[u8], room: &mut [u8])
 {
     for (i, byte) in text.iter().enumerate() {
         room[i] = byte.to_ascii_uppercase();
-    }
-}
-
-/// The ordinal of the first name of an upper-cased text, 0 where there is none.
-fn ordinal_of_text<A: Allocator>(names: &Names<A>, order: &[u32], text: &[u8]) -> u16
-    requires { IsOrder names.now order.now }
-    ensures { result ≡ unwrap_or (option_map (λ e. e.1) (find (λ e. bytes_eq e.0 text.now) names.now)) 0 }
-{
-    let sought = Sought { names, text };
-    let first = order.partition_point(|i| sought.is_behind(*i));
-    match order.get(first) {
-        Some(i) if names.text(*i) == text => names.ordinal(*i),
-        _ => 0,
     }
 }

@@ -2,6 +2,7 @@
 ghost use Rattle.std.specs.Prelude.{◌≡◌, Ok, Err, IfOk, IfErr};
 
 use crate::fault::NeFault;
+use thiserror::Error;
 
 /// The parts of a module file, in the order in which they are read.
 #[derive(Debug, Clone, Copy, PartialEq, Eq)]
@@ -25,7 +26,8 @@ pub enum FilePart {
 }
 
 /// A fault, and the part of the file that was read when it was met.
-#[derive(Debug, Clone, Copy, PartialEq, Eq)]
+#[derive(Debug, Clone, Copy, PartialEq, Eq, Drop, Error)]
+#[error("{fault}")]
 pub struct PartFault {
     pub part: FilePart,
     pub fault: NeFault,

@@ -13,8 +13,8 @@ use crate::head::{header, place, test_fields};
 use crate::listing::Listing;
 use crate::module_file::Module;
 use crate::name_table::resident;
-use crate::names::order_of;
 use crate::nonresident::add_nonresident;
+use crate::ordinals::ordinals_of;
 use crate::part::{FilePart, PartFault, in_part};
 use crate::reference_table::references;
 use crate::resource_table::resources;
@@ -70,7 +70,10 @@ fn tables<A: Allocator + Copy, S: Store>(
         FilePart::ResourceTable,
         resources(alloc, store, name, ne, &header),
     )?;
-    let order = in_part(FilePart::NonresidentNames, order_of(alloc, &listing.names))?;
+    let ordinals = in_part(
+        FilePart::NonresidentNames,
+        ordinals_of(alloc, &listing.names),
+    )?;
     Ok(Module {
         place: ne,
         header,
@@ -78,7 +81,7 @@ fn tables<A: Allocator + Copy, S: Store>(
         description: listing.first,
         names: listing.names,
         resident,
-        order,
+        ordinals,
         segments,
         references,
         entries,

@@ -3,12 +3,13 @@
 
 usage: hostile.py FOLDER COUNT
 
-Each of the five files has COUNT of what it is of, or as many as such a file may have. It prints the rows of `hostile.txt` for them:
+Each of the six files has COUNT of what it is of, or as many as such a file may have. It prints the rows of `hostile.txt` for them:
 `./hostile.py ../data 1000 > ../data/hostile.txt`. How long one takes to be read, and how much memory, GNU's `time` tells:
 `/usr/bin/time -v w16ne FOLDER/LETTERS.DLL > /dev/null`.
 """
 import struct
 import sys
+from itertools import product
 from pathlib import Path
 
 from expected import answer
@@ -17,6 +18,26 @@ from expected import answer
 def letters(number):
     """Five letters for the low 20 bits of a number."""
     return bytes(65 + (number >> 4 * i) % 16 for i in range(5))
+
+
+def colliding_texts():
+    """Texts of six letters that a map of 65,000 names under the kit's default hasher, whose seed is fixed, puts into 64 of its 8,192 groups."""
+
+    def fed(state, part, factor):
+        folded = (state ^ part) * factor
+        return (folded ^ folded >> 64) & 2**64 - 1
+
+    for head in product(range(65, 81), repeat=5):
+        state = fed(0x243F6A8885A308D3, 6, 0x9E3779B97F4A7C15 ^ 16)
+        for letter in head:
+            state = fed(state, letter * 0x10101, 0x9E3779B97F4A7C15 ^ 2)
+        for last in range(65, 81):
+            found = fed(state, last * 0x10101, 0x9E3779B97F4A7C15 ^ 2)
+            if (found ^ found >> 32) & 0x1FC0 == 0:
+                yield bytes([*head, last])
+
+
+COLLIDING = colliding_texts()
 
 
 def texts(number):
@@ -29,6 +50,7 @@ def texts(number):
 FILES = {
     "LETTERS.DLL": ("names of one letter", 262_144, lambda n: bytes([1, 65 + n % 256 % 26]) + struct.pack("<H", n % 65_536)),
     "ALIKE.DLL": ("names that begin alike", 80_000, lambda n: b"\x0dCOLLIDES" + letters(n) + struct.pack("<H", n % 65_536)),
+    "COLLIDES.DLL": ("names that collide", 65_000, lambda n: b"\x06" + next(COLLIDING) + struct.pack("<H", n % 65_536)),
     # The text of the type begins at such a block, whose first byte is its length.
     "BLOCKS.DLL": ("blocks without resources", 131_072, lambda n: bytes([250, 0, 0, 0, 0, 0, 0, 0])),
     "REFS.DLL": ("references to one name of 255 bytes", 65_535, lambda n: bytes(2)),

@@ -1,6 +1,6 @@
 use Rattle.w16_ne.proofs.Common.{◌≡◌, ◌≤◌, ◌∙◌, [], ◌∷◌, ◌++◌, length, map, sym, ap, arith, rules, length-append, to_ascii_uppercase, str_to_ascii_uppercase, length-map, All-push, Place, Entry, IsUpper, at_place}
 use Rattle.w16_ne.proofs.Texts.{IsInside, pushed, still_inside, new_inside}
-use Rattle.w16_ne.proofs.Ordered.{upper_twice}
+use Rattle.w16_ne.proofs.FoundNames.{upper_twice}
 use Rattle.w16_ne.proofs.names.Names.push.Goals as goal
 
 pub invariant_of-self-2 : goal.invariant_of-self-2
