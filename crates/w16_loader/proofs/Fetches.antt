@@ -140,8 +140,16 @@ module _ (honest : Type 0) (world : LoadingWorld) (slot number : ℕ) (name : Li
 
   -- what it is given over any store
   given : (bytes : List ℕ) → IsOwnedSize world slot bytes → ((s : Segment) → slice_get t.segments (number - 1) ≡ Some s → length bytes ≡ s.size → IsRelocatedBy t values bytes) → fetching.IsRead ne_format world slot bytes
-  given bytes sized are = inl (is.handle, number, m, is.segment, r.source, r.table, ap (λ (u : loading.Tables). ne_format.relocated u r.source r.table (slice_index_or m.values (number - 1) []) (length bytes)) is.tables
-      ∙ ap (λ vs. ne_format.relocated (tables_in t) r.source r.table vs (length bytes)) is.source.bound ∙ relocated_law t r.source r.table r.records values bytes r.sound r.words r.fits r.image)
+  given bytes sized are = inl (
+    is.handle,
+    number,
+    m,
+    is.segment,
+    r.source,
+    r.table,
+    ap (λ (u : loading.Tables). ne_format.relocated u r.source r.table (slice_index_or m.values (number - 1) []) (length bytes)) is.tables
+        ∙ ap (λ vs. ne_format.relocated (tables_in t) r.source r.table vs (length bytes)) is.source.bound ∙ relocated_law t r.source r.table r.records values bytes r.sound r.words r.fits r.image,
+  )
     where
       r : IsRelocatedBy t values bytes
       r = are found.0 found.1 (as_long bytes found.0.size (owned_at world.handles slot) sized (owned_size found.0 found.1))

@@ -17,16 +17,19 @@ use crate::fault::Failure;
 use crate::found::{FileFault, fault_of_check};
 use crate::registry::Registry;
 use std::alloc::{AllocError, Allocator};
+use thiserror::Error;
 use w16_loading::FetchFault;
 use w16_reloc::{Far, Record, Scratch, Target, check};
 use w16_store::Store;
 
 /// Why the modules of a load aren't bound.
-#[derive(Clone, Copy, Debug, PartialEq, Eq)]
+#[derive(Clone, Copy, Debug, PartialEq, Eq, Drop, Error)]
 pub enum BindFault {
     /// The records of a module can't be read: the device failed, or the file reads otherwise than it did.
+    #[error("{0}")]
     Failed(Failure),
     /// There was no memory.
+    #[error("out of memory")]
     OutOfMemory,
 }
 

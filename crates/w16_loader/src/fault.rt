@@ -1,8 +1,10 @@
 //! Why a module of a load gets no values, or an object of it no bytes.
+use thiserror::Error;
 use w16_loading::FetchFault;
 
 /// Why a module of a load can't be bound, or an object of it isn't given its bytes.
-#[derive(Clone, Copy, Debug, PartialEq, Eq)]
+#[derive(Clone, Copy, Debug, PartialEq, Eq, Drop, Error)]
+#[error("new module {place}: {fault}")]
 pub struct Failure {
     /// The place of the module among the new ones, from 0.
     pub place: usize,

@@ -19,6 +19,7 @@ ghost use Rattle.w16_loader.specs.Closing.{Files, around_in, referent_of, found_
 
 use crate::registry::Registry;
 use std::alloc::{Allocator, Global};
+use thiserror::Error;
 use w16_ne::{Module, NeFault, read_module};
 use w16_reloc::{RelocFault, Scratch, check};
 use w16_store::{Store, StoreFault, is_named};
@@ -50,13 +51,16 @@ pub enum Referent {
 
 /// Why a load makes no module of a file, or the records of a module that it made have no values: a file that reads otherwise than it did is one
 /// that is refused.
-#[derive(Clone, Copy, Debug, PartialEq, Eq)]
+#[derive(Clone, Copy, Debug, PartialEq, Eq, Drop, Error)]
 pub enum FileFault {
     /// The load is refused, with this number.
+    #[error("the load is refused with {0}")]
     Refused(u16),
     /// The store's device failed.
+    #[error("the store's device failed")]
     Device,
     /// There was no memory.
+    #[error("out of memory")]
     OutOfMemory,
 }
 

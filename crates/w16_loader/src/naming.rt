@@ -28,17 +28,20 @@ use crate::registry::Registry;
 use crate::segment::{is_code, segment_kind};
 use std::alloc::{AllocError, Allocator};
 use std::mem;
+use thiserror::Error;
 use w16_global::Global16;
 use w16_model::Owned;
 use w16_model::names::slot_of;
 use w16_ne::{Module, Segment};
 
 /// Why new modules get no names.
-#[derive(Clone, Copy, Debug, PartialEq, Eq)]
+#[derive(Clone, Copy, Debug, PartialEq, Eq, Drop, Error)]
 pub enum NameFault {
     /// There are too few free slots for their segments.
+    #[error("too few free slots")]
     NoSlot,
     /// There was no memory.
+    #[error("out of memory")]
     OutOfMemory,
 }
 

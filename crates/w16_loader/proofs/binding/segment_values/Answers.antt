@@ -30,12 +30,16 @@ pub returns-in-Err-record_values-clause-failed : goal.returns-in-Err-record_valu
 returns-in-Err-record_values-clause-failed g c = λ read s honest is at. tt
 
 pub returns-in-Ok-record_values-clause-any : goal.returns-in-Ok-record_values-clause-any
-returns-in-Ok-record_values-clause-any g c = (map (record_target (text_in c.check.new.scratch.texts)) c.check.new.scratch.held.records, c.in-Ok-record_values.ensures, λ read s honest is at.
-    let files = g.S.Store.files c.args.store.now in
-    let m = c.args.loaded.now in
-    let t = c.module.result.now in
-    let stored = stored_as files m read is t c.module.ensures in
-    let segment = found files m read is t c.module.ensures (c.args.number - 1) s at in
-    let there = stored_there files m is.file t stored c.file.result.now c.file.ensures t c.module.ensures in
-    let passed = c.in-Ok.ensures.exact is.file segment.0 honest there stored.read segment.1 in
-    targets_alike _ _ c.check.new.scratch.held.records (c.in-Ok.ensures.names is.file honest there) ∙ sym (targets_are files m read is t c.module.ensures (c.args.number - 1) s at c.check.new.scratch.held passed))
+returns-in-Ok-record_values-clause-any g c = (
+  map (record_target (text_in c.check.new.scratch.texts)) c.check.new.scratch.held.records,
+  c.in-Ok-record_values.ensures,
+  λ read s honest is at.
+      let files = g.S.Store.files c.args.store.now in
+      let m = c.args.loaded.now in
+      let t = c.module.result.now in
+      let stored = stored_as files m read is t c.module.ensures in
+      let segment = found files m read is t c.module.ensures (c.args.number - 1) s at in
+      let there = stored_there files m is.file t stored c.file.result.now c.file.ensures t c.module.ensures in
+      let passed = c.in-Ok.ensures.exact is.file segment.0 honest there stored.read segment.1 in
+      targets_alike _ _ c.check.new.scratch.held.records (c.in-Ok.ensures.names is.file honest there) ∙ sym (targets_are files m read is t c.module.ensures (c.args.number - 1) s at c.check.new.scratch.held passed),
+)
