@@ -1,9 +1,10 @@
 -- The finite map of a table by handle.
-use Rattle.w16_loader.proofs.Common.{◌≡◌, ℕ, zero, suc, ◌+◌, ◌-◌, ◌<◌, ◌≤◌, inl, inr, List, [], ◌∷◌, length, get_or, set, drop, replicate, Bool, cond, Bor, Option, Some, None, option_copied, option_map, is_some, refl, sym, ap}
+use Rattle.w16_loader.proofs.Common.{◌≡◌, ℕ, zero, suc, ◌+◌, ◌-◌, ◌<◌, ◌≤◌, inl, inr, List, [], ◌∷◌, length, get_or, set, drop, replicate, Bool, cond, Option, Some, None, option_map, is_some, refl, sym, ap}
 use Rattle.w16_loader.proofs.Common.{◌∙◌, arith, cases_lt, subst, OnSome, IfNone, count_by, is_none, nat_cmp, nat_cmp_total, nat_cmp_is, Less, entries-insert, len-empty, len-entries, same_map, nat_cmp-IsAntisymmetric, put}
 use Rattle.w16_loader.proofs.Common.{by_order, cases_eq, get_or_past, get_or-set_same, get_or-set_other, get_or-replicate, length-set, length-replicate, sum_by-cons, by_id}
 use Rattle.w16_loader.proofs.Common.{get-by_id, inserted_here, inserted_other, taken_here, taken_other, FIRST_MODULE, MOST_MODULES, Module, Named, free_modules, module_in, Entry, named_of, listed, registered}
 use Rattle.w16_loader.proofs.Common.{IsTable}
+use Rattle.std.proofs.Common.{Bor, option_copied}
 use Rattle.std.specs.FinMap as finmap
 
 -- nothing is before the first
