@@ -6,7 +6,7 @@ ghost use Rattle.w16_c.specs.Makes.{WordCalls, DwordCalls};
 use crate::asked::{dword, word};
 use crate::held::Held;
 use std::alloc::Global;
-use w16_kernel::Call;
+use w16_kernel::{Call, GlobalAllocFlags, GlobalReAllocFlags};
 
 /// `GlobalAlloc`: a new object of at most 16,711,680 bytes, and its handle; 0 where there is no room for it.
 #[unsafe(no_mangle)]
@@ -17,8 +17,9 @@ pub extern "C" fn w16_global_alloc(
     size: u32,
     handle: &mut u16,
 ) -> u8
-    ensures { WordCalls held.old (command_of (calls.GlobalAlloc flags size)) result handle.old handle.new held.new }
+    ensures { WordCalls held.old (command_of (calls.GlobalAlloc (record { 0 = flags }) size)) result handle.old handle.new held.new }
 {
+    let flags = GlobalAllocFlags(flags);
     word(alloc, held, &Call::GlobalAlloc { flags, size }, handle)
 }
 
@@ -79,7 +80,7 @@ pub extern "C" fn w16_global_realloc(
     flags: u16,
     same: &mut u16,
 ) -> u8
-    ensures { WordCalls held.old (command_of (calls.GlobalReAlloc handle size flags)) result same.old same.new held.new }
+    ensures { WordCalls held.old (command_of (calls.GlobalReAlloc handle size (record { 0 = flags }))) result same.old same.new held.new }
 {
     word(
         alloc,
@@ -87,7 +88,7 @@ pub extern "C" fn w16_global_realloc(
         &Call::GlobalReAlloc {
             handle,
             size,
-            flags,
+            flags: GlobalReAllocFlags(flags),
         },
         same,
     )

@@ -7,7 +7,7 @@ ghost use Rattle.w16_c.specs.Makes.{WordCalls, FarCalls};
 use crate::asked::{done, word};
 use crate::held::Held;
 use std::alloc::Global;
-use w16_kernel::Call;
+use w16_kernel::{Call, LocalAllocFlags, LocalReAllocFlags};
 
 /// `LocalInit`: begins a local heap in the bytes from `start` up to `end` of the selector's object, or of that of DS where the selector is 0. It
 /// answers 1, or 0. `NO_MEMORY` is for want of the host's memory for the heap's entries.
@@ -51,8 +51,9 @@ pub extern "C" fn w16_local_alloc(
     size: u16,
     name: &mut u16,
 ) -> u8
-    ensures { WordCalls held.old (command_of (calls.LocalAlloc flags size)) result name.old name.new held.new }
+    ensures { WordCalls held.old (command_of (calls.LocalAlloc (record { 0 = flags }) size)) result name.old name.new held.new }
 {
+    let flags = LocalAllocFlags(flags);
     word(alloc, held, &Call::LocalAlloc { flags, size }, name)
 }
 
@@ -66,8 +67,9 @@ pub extern "C" fn w16_local_realloc(
     flags: u16,
     now: &mut u16,
 ) -> u8
-    ensures { WordCalls held.old (command_of (calls.LocalReAlloc name size flags)) result now.old now.new held.new }
+    ensures { WordCalls held.old (command_of (calls.LocalReAlloc name size (record { 0 = flags }))) result now.old now.new held.new }
 {
+    let flags = LocalReAllocFlags(flags);
     word(alloc, held, &Call::LocalReAlloc { name, size, flags }, now)
 }
 

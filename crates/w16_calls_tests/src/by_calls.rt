@@ -4,7 +4,7 @@ ghost use Rattle.w16_kernel.specs.Runs.{IsCall};
 
 use std::alloc::{AllocError, Global};
 use std::test::Fail;
-use w16_kernel::{Answer, Call, Kernel, Label, Reply};
+use w16_kernel::{Answer, Call, GlobalAllocFlags, Kernel, Label, Reply};
 use w16_loading::FetchFault;
 use w16_model::FarFault;
 use w16_play::files::store_of;
@@ -18,7 +18,7 @@ fn life() -> [Call<'static>; 6]
 {
     [
         Call::GlobalAlloc {
-            flags: 0x42,
+            flags: GlobalAllocFlags::MOVEABLE | GlobalAllocFlags::ZEROINIT,
             size: 100,
         },
         Call::GlobalLock { handle: 0x106 },

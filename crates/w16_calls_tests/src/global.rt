@@ -2,16 +2,16 @@
 
 use std::alloc::{AllocError, Global};
 use std::test::Fail;
-use w16_global::Global16;
+use w16_global::{Global16, GlobalAllocFlags, GlobalReAllocFlags};
 use w16_play::held::HeldGlobal;
 
 /// How many bytes were written: nothing yet, after an object of zeros, and after its growth to another place.
 fn counts(global: &mut Global16) -> [u64; 3] {
     let begun = global.written();
-    let _ = global.global_alloc(0x42, 32);
+    let _ = global.global_alloc(GlobalAllocFlags::MOVEABLE | GlobalAllocFlags::ZEROINIT, 32);
     let zeroed = global.written();
-    let _ = global.global_alloc(2, 32);
-    let _ = global.global_realloc(0x106, 64, 0);
+    let _ = global.global_alloc(GlobalAllocFlags::MOVEABLE, 32);
+    let _ = global.global_realloc(0x106, 64, GlobalReAllocFlags(0));
     [begun, zeroed, global.written()]
 }
 
@@ -37,19 +37,19 @@ fn rise(global: &Global16, before: u64) -> (u64, u64) {
 /// The rises of three calls: an allocation for which two objects slide, a growth into another hole, and one for which another object slides.
 fn rises(global: &mut Global16) -> [(u64, u64); 3] {
     for _ in 0..4 {
-        let _ = global.global_alloc(2, 32);
+        let _ = global.global_alloc(GlobalAllocFlags::MOVEABLE, 32);
     }
     let _ = global.global_free(0x10e);
     let before = global.written();
-    let _ = global.global_alloc(2, 64);
+    let _ = global.global_alloc(GlobalAllocFlags::MOVEABLE, 64);
     let slide = rise(global, before);
     let _ = global.global_free(0x10e);
     let before = global.written();
-    let _ = global.global_realloc(0x106, 64, 0);
+    let _ = global.global_realloc(0x106, 64, GlobalReAllocFlags(0));
     let growth = rise(global, before);
     let _ = global.global_free(0x116);
     let before = global.written();
-    let _ = global.global_realloc(0x106, 128, 0);
+    let _ = global.global_realloc(0x106, 128, GlobalReAllocFlags(0));
     [slide, growth, rise(global, before)]
 }
 
@@ -69,7 +69,10 @@ fn bytes_that_move_are_written_once(rt: HostRuntime) -> Result<(), Fail> {
 
 /// Whether an object without bytes that no module owns is brought back.
 fn is_brought_back(global: &mut Global16) -> bool {
-    let handle = global.global_alloc(0x102, 0);
+    let handle = global.global_alloc(
+        GlobalAllocFlags::MOVEABLE | GlobalAllocFlags::DISCARDABLE,
+        0,
+    );
     global.revive(handle)
 }
 

@@ -2,7 +2,7 @@
 
 use std::alloc::{AllocError, Global};
 use std::test::Fail;
-use w16_global::Global16;
+use w16_global::{Global16, GlobalAllocFlags};
 use w16_local::LocalHeaps;
 use w16_play::held::{HeldGlobal, HeldLocals};
 
@@ -20,7 +20,7 @@ fn told(
     local: &mut LocalHeaps,
     global: &mut Global16,
 ) -> Result<[[Option<u32>; 3]; 3], AllocError> {
-    let _ = global.global_alloc(0x42, 64);
+    let _ = global.global_alloc(GlobalAllocFlags::MOVEABLE | GlobalAllocFlags::ZEROINIT, 64);
     let _ = local.local_init(global, 0, 0x107, 5, 63)?;
     let begun = ends(local, global);
     local.drop_heap(global, 0x107);

@@ -6,7 +6,7 @@ use std::alloc::{AllocError, Global};
 use std::test::Fail;
 use w16_fuse::{Fuse, growths};
 use w16_global::Global16;
-use w16_kernel::{Call, Kernel};
+use w16_kernel::{Call, GlobalAllocFlags, Kernel};
 use w16_local::LocalHeaps;
 use w16_play::held::{HeldGlobal, HeldKernel, HeldLocals};
 use w16_store::MemStore;
@@ -57,7 +57,7 @@ fn calls() -> [Call<'static>; 3]
 {
     [
         Call::GlobalAlloc {
-            flags: 0x42,
+            flags: GlobalAllocFlags::MOVEABLE | GlobalAllocFlags::ZEROINIT,
             size: 4096,
         },
         Call::Builtin { name: b"KERNEL" },

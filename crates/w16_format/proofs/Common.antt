@@ -1,13 +1,13 @@
 -- The names of definitions and of lower crates that the proofs of this crate cite, passed on from one place. Declares nothing.
 pub use Rattle.std.proofs.Common.{Err, Ok, Result}
-pub use Rattle.std.proofs.lemmas.Bool.{lt-ltb, ltb-true}
+pub use Rattle.std.proofs.lemmas.Bool.{le-leb, lt-ltb, ltb-true}
 pub use Rattle.std.proofs.lemmas.List.Elements.{All-map}
 pub use Rattle.std.proofs.lemmas.Option.{slice_get-map}
 pub use Rattle.std.specs.Prelude.{None, Option, Some, find, is_ok}
 pub use Rattle.w16_format.specs.Data.{contents_in, data_in, far_in, far_of, padded, records_in, targets_in}
 pub use Rattle.w16_format.specs.Law.{IsFileOf, IsRelocated}
 pub use Rattle.w16_format.specs.Layout.{layout_code}
-pub use Rattle.w16_format.specs.Ne.{content_at, has_bytes, module_file, ne_format, number_of, plain_format, read_as}
+pub use Rattle.w16_format.specs.Ne.{content_at, has_bytes, module_file, ne_format, number_of, plain_format, read_as, written}
 pub use Rattle.w16_format.specs.Samples.{HasResource, IsLibrary, IsProgram, SamplesLaw}
 unfoldable pub use Rattle.w16_format.specs.Samples.{tapp, tlib, tres}
 pub use Rattle.w16_format.specs.Tables.{entry_in, resource_in, segment_in, tables_in}
@@ -31,7 +31,9 @@ pub use Rattle.w16_ne.specs.declared.segment_table.Segment.{Segment}
 pub use Rattle.w16_reloc.proofs.Common.{All-cons, All-head, All-nil, All-tail, Held, IsFar, IsImage, IsSound, byte, data_of, get_or-map-range_with_len, image_at, image_of, length-map-range_with_len, naming, offer_of, patches, records_of, ◌%◌, ◌/◌, ◌>>=◌}
 unfoldable pub use Rattle.w16_reloc.proofs.Common.{chain_at, check_from, checked, record_at, site_at, sites_at, target_at}
 pub use Rattle.w16_reloc.proofs.NamingLemmas.{image_bytes, image_is_of, naming_is}
-pub use Rattle.w16_reloc.proofs.SoundLemmas.{passed_is_sound}
+pub use Rattle.w16_reloc.proofs.SoundLemmas.{passed_is_sound, sound_passes}
+pub use Rattle.w16_reloc.specs.Segments.{any_offer}
+pub use Rattle.w16_reloc.specs.Sound.{IsSoundSegment}
 pub use Rattle.w16_reloc.specs.declared.fault.RelocFault.{RelocFault}
 pub use Rattle.w16_reloc.specs.declared.record.Record.{Record}
 pub use Rattle.w16_store.specs.declared.store.StoreFault.TheVariants.{Missing}

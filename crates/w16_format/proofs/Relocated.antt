@@ -1,6 +1,8 @@
 -- What a check and a relocation give is what the format says.
 use Rattle.w16_format.proofs.Common.{◌≡◌, ℕ, ◌<◌, ◌%◌, List, [], ◌∷◌, length, map, Result, Ok, Err, refl, sym, ◌∙◌, ap, subst, arith, All, All-head, All-tail, Segment, Tables, RelocFault, Record, Held, checked, data_of}
 use Rattle.w16_format.proofs.Common.{records_of, offer_of, ◌>>=◌, check_from, IsSound, IsImage, naming, image_of, IsFar, passed_is_sound, naming_is, image_is_of, targets_in, records_in, far_in, far_of, IsRelocated}
+use Rattle.w16_format.proofs.Common.{Some, None, cond, ◌≤◌, le-leb, sound_passes, any_offer, IsSoundSegment, ne_format, segment_in, tables_in, written}
+use Rattle.std.proofs.lemmas.List.{length-map}
 use Rattle.w16_reloc.specs.declared.value.Far as words
 
 -- a check that passes holds the segment's data, and the records that passed
@@ -41,3 +43,16 @@ far_same far is = let a = word_same far.selector is.0 in let b = word_same far.o
 pub words_same : (values : List words.Far) → All IsFar values → map far_in (map far_of values) ≡ values
 words_same [] all = refl
 words_same (v ∷ vs) all = ap (λ x. x ∷ map far_in (map far_of vs)) (far_same v (All-head IsFar v vs all)) ∙ ap (λ xs. v ∷ xs) (words_same vs (All-tail IsFar v vs all))
+
+-- The image of data in which the records of a table are sound.
+pub relocated_law : (t : Tables) (source table : List ℕ) (records : List Record) (values : List words.Far) (bytes : List ℕ)
+    → (sound : IsSoundSegment (any_offer (length t.segments) (length t.references)) source table (length values) records) → All IsFar values → length source ≤ length bytes
+    → IsImage source records values sound.sound.0 bytes → ne_format.relocated (tables_in t) source table (map far_of values) (length bytes) ≡ Some bytes
+relocated_law t source table records values bytes sound are_words room image =
+    let check = λ (segments count : ℕ). check_from (any_offer segments (length t.references)) source table count 0 [] in
+    let write = λ (fs : List words.Far). Some (image_of source records fs (length bytes)) in
+    ap (written source (map far_of values) (length bytes))
+    (ap (λ n. check n (length (map far_of values))) (length-map t.segments segment_in) ∙ ap (check (length t.segments)) (length-map values far_of)
+    ∙ sound_passes (any_offer (length t.segments) (length t.references)) source table (length values) records sound)
+    ∙ ap (λ b. cond b (write (map far_in (map far_of values))) None) (le-leb (length source) (length bytes) room)
+    ∙ ap write (words_same values are_words) ∙ ap Some (sym (image_is_of source records values sound.sound.0 bytes sound.sound.1 image))

@@ -17,16 +17,21 @@ use Rattle.w16_reloc.specs.Naming.{image_of}
 use Rattle.w16_loading.specs.File.{Far, Target, SegmentData}
 use Rattle.w16_loading.specs.File as loading
 
-abbrev pub target_in : List ℕ → Tables → pointing.Target → Target
-target_in file tables (points.Internal segment offset) = loading.Target.Internal segment offset
-target_in file tables (points.Entry ordinal) = loading.Target.InternalEntry ordinal
-target_in file tables (points.ByOrdinal reference ordinal) = loading.Target.Import reference ordinal
-target_in file tables (points.ByName reference name) = loading.Target.ImportName reference (text_in file (imported_place tables + name))
+-- where a target and a record point, by the text that stands at the offset of a name
+abbrev pub target_by : (ℕ → List ℕ) → pointing.Target → Target
+target_by text (points.Internal segment offset) = loading.Target.Internal segment offset
+target_by text (points.Entry ordinal) = loading.Target.InternalEntry ordinal
+target_by text (points.ByOrdinal reference ordinal) = loading.Target.Import reference ordinal
+target_by text (points.ByName reference name) = loading.Target.ImportName reference (text name)
 
+abbrev pub record_target : (ℕ → List ℕ) → Record → Target
+record_target text (Stored fixup) = target_by text fixup.target
+record_target text (Added fixup) = target_by text fixup.target
+record_target text System = loading.Target.System
+
+-- in the file of a module with these tables
 abbrev pub target_of : List ℕ → Tables → Record → Target
-target_of file tables (Stored fixup) = target_in file tables fixup.target
-target_of file tables (Added fixup) = target_in file tables fixup.target
-target_of file tables System = loading.Target.System
+target_of file tables = record_target (λ name. text_in file (imported_place tables + name))
 
 -- a far pointer by the low words of its numbers
 abbrev pub far_in : Far → words.Far

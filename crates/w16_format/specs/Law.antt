@@ -9,8 +9,9 @@ use Rattle.w16_ne.specs.declared.segment_table.Segment.{Segment}
 use Rattle.w16_ne.specs.Resources.{Label, Entry}
 use Rattle.w16_ne.specs.Modules.{Tables, tables_at, entry_at, resource_at}
 use Rattle.w16_ne.specs.Names.{ordinal_in}
-use Rattle.w16_reloc.specs.Segments.{Held, checked, data_of}
-use Rattle.w16_reloc.specs.Sound.{IsSound}
+use Rattle.w16_reloc.specs.declared.record.Record.{Record}
+use Rattle.w16_reloc.specs.Segments.{Held, any_offer, checked, data_of}
+use Rattle.w16_reloc.specs.Sound.{IsSound, IsSoundSegment}
 use Rattle.w16_reloc.specs.Images.{IsImage}
 use Rattle.w16_reloc.specs.Naming.{naming}
 use Rattle.w16_reloc.specs.Law.{IsFar}
@@ -46,6 +47,12 @@ SegmentLaw = (file : List ℕ) (t : Tables) (s : Segment) (held : Held) → chec
 -- values that are words are written as they are
 abbrev pub WordsLaw : Type 0
 WordsLaw = (values : List words.Far) → All IsFar values → map far_in (map far_of values) ≡ values
+
+-- Some data and a table of records that is sound in it, in a module with these tables: where the data have room, their image is what the format says.
+abbrev pub RelocatedLaw : Type 0
+RelocatedLaw = (t : Tables) (source table : List ℕ) (records : List Record) (values : List words.Far) (bytes : List ℕ)
+    → (sound : IsSoundSegment (any_offer (length t.segments) (length t.references)) source table (length values) records) → All IsFar values → length source ≤ length bytes
+    → IsImage source records values sound.sound.0 bytes → ne_format.relocated (tables_in t) source table (map far_of values) (length bytes) ≡ Some bytes
 
 -- The data of a segment have room in its object.
 abbrev pub RoomLaw : Type 0

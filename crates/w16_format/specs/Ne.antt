@@ -1,12 +1,17 @@
 -- NE files as a format.
-use Rattle.std.specs.Prelude.{ℕ, Bool, nat_lt, List, map, ◌==◌, if◌then◌else◌, Option, Some, None, option_map, Result, Ok, Err}
+use Rattle.std.specs.Prelude.{ℕ, Bool, nat_le, nat_lt, List, [], length, map, ◌==◌, if◌then◌else◌, Option, Some, None, option_map, Result, Ok, Err}
 use Rattle.std.specs.List.{list_all}
 use Rattle.w16_ne.specs.declared.fault.NeFault.{NeFault}
 use Rattle.w16_ne.specs.declared.fault.NeFault.TheVariants.{Target}
 use Rattle.w16_ne.specs.Modules.{Tables, tables_at, resource_at}
-use Rattle.w16_loading.specs.File.{Saying, Format, ModuleFile}
+use Rattle.w16_reloc.specs.declared.fault.RelocFault.{RelocFault}
+use Rattle.w16_reloc.specs.declared.record.Record.{Record}
+use Rattle.w16_reloc.specs.Check.{check_from}
+use Rattle.w16_reloc.specs.Naming.{image_of}
+use Rattle.w16_reloc.specs.Segments.{any_offer}
+use Rattle.w16_loading.specs.File.{Far, Saying, Format, ModuleFile}
 use Rattle.w16_format.specs.Tables.{tables_in}
-use Rattle.w16_format.specs.Data.{data_in, contents_in}
+use Rattle.w16_format.specs.Data.{data_in, contents_in, far_in}
 
 abbrev pub module_file : List ℕ → Tables → ModuleFile
 module_file file t = record {
@@ -35,8 +40,14 @@ plain_format file = read_as file (tables_at (Some file))
 abbrev pub has_bytes : List ℕ → Bool
 has_bytes file = list_all (λ b. nat_lt b 256) file
 
+-- so many bytes of data that have room in them, with these values at the sites of records that passed their check
+abbrev pub written : List ℕ → List Far → ℕ → Result (List Record) RelocFault → Option (List ℕ)
+written source values size (Ok records) = if nat_le (length source) size then Some (image_of source records (map far_in values) size) else None
+written source values size (Err e) = None
+
 abbrev pub ne_format : Format
 ne_format = record {
   says = λ file. if has_bytes file then plain_format file else Err 11;
   contents = λ file number. content_at file number (tables_at (Some file));
+  relocated = λ t source table values size. written source values size (check_from (any_offer (length t.segments) (length t.references)) source table (length values) 0 []);
 }

@@ -1,5 +1,5 @@
 //! The laws of the format. Each function does nothing: its contract is the law.
-ghost use Rattle.w16_format.specs.Law.{AcceptedLaw, ApartLaw, EntryLaw, FormatLaw, MissingLaw, NameLaw, PlaceLaw, PlainLaw, RefusedLaw, ResourceBytesLaw, RoomLaw, SegmentBytesLaw, SegmentLaw, SoundLaw, StoredLaw, WordsLaw};
+ghost use Rattle.w16_format.specs.Law.{AcceptedLaw, ApartLaw, EntryLaw, FormatLaw, MissingLaw, NameLaw, PlaceLaw, PlainLaw, RefusedLaw, RelocatedLaw, ResourceBytesLaw, RoomLaw, SegmentBytesLaw, SegmentLaw, SoundLaw, StoredLaw, WordsLaw};
 ghost use Rattle.w16_format.specs.Samples.{SamplesLaw};
 
 /// NE files are a format as loading asks it: sizes and images go together, and refusals are numbers of files.
@@ -19,6 +19,7 @@ pub fn bytes_are_themselves()
 pub fn segments_are_relocated()
     ensures segments { SegmentLaw }
     ensures words { WordsLaw }
+    ensures relocated { RelocatedLaw }
     ensures room { RoomLaw }
 {}
 

@@ -13,14 +13,15 @@ ghost use Rattle.w16_model.specs.Owned as owned;
 ghost use Rattle.w16_region.specs.Bytes.{counted};
 ghost use Rattle.w16_global.specs.Joined.{zeroed};
 
+use crate::flags::GlobalAllocFlags;
 use crate::global::Global16;
 use crate::runs::slots_for;
+use bitflags::Flags;
 use std::alloc::Allocator;
 use w16_model::names::{dword_of, handle_of, selector_of, slot_of};
 use w16_model::{
-    Attributes, Entry, GMEM_DDESHARE, GMEM_DISCARDABLE, GMEM_DISCARDED, GMEM_MOVEABLE,
-    GMEM_NOCOMPACT, GMEM_NODISCARD, GMEM_ZEROINIT, GRAIN, Item, Kind, LARGEST_SIZE, Owned, Owner,
-    Refusal, RoomOptions, bit_if, has_flag,
+    Attributes, Entry, GMEM_DDESHARE, GMEM_DISCARDABLE, GMEM_DISCARDED, GRAIN, Item, Kind,
+    LARGEST_SIZE, Owned, Owner, Refusal, RoomOptions, bit_if,
 };
 
 /// What a selector reaches: an object, by its first slot, and which of the object's selectors it is, from 0.
@@ -149,19 +150,19 @@ impl<A: Allocator + Copy> Global16<A> {
     /// bytes. Objects that aren't fixed or locked slide where that makes room, and of the discardable ones as few as are needed are discarded,
     /// the least recently used first. With `GMEM_NODISCARD` none is discarded, with `GMEM_NOCOMPACT` none slides either. `GMEM_DISCARDABLE`
     /// counts beside `GMEM_MOVEABLE` alone.
-    pub fn global_alloc(&mut self, flags: u16, size: u32) -> u16
-        ensures step { GlobalAllocs self.old.handles flags size result self.new.handles }
-        ensures written { self.new.written ≡ counted (counted self.old.written self.new.handles.moved) (zeroed flags size result) }
-        ensures fewest { AllocFewest self.old.handles flags size result self.new.handles }
+    pub fn global_alloc(&mut self, flags: GlobalAllocFlags, size: u32) -> u16
+        ensures step { GlobalAllocs self.old.handles flags.0 size result self.new.handles }
+        ensures written { self.new.written ≡ counted (counted self.old.written self.new.handles.moved) (zeroed flags.0 size result) }
+        ensures fewest { AllocFewest self.old.handles flags.0 size result self.new.handles }
     {
         self.reveal_handles();
         self.new_object(flags, size)
     }
 
     /// The same: a new object, and its handle.
-    fn new_object(&mut self, flags: u16, size: u32) -> u16
-        ensures step { GlobalAllocs self.old.handles flags size result self.new.handles }
-        ensures written { self.new.written ≡ counted (counted self.old.written self.new.handles.moved) (zeroed flags size result) }
+    fn new_object(&mut self, flags: GlobalAllocFlags, size: u32) -> u16
+        ensures step { GlobalAllocs self.old.handles flags.0 size result self.new.handles }
+        ensures written { self.new.written ≡ counted (counted self.old.written self.new.handles.moved) (zeroed flags.0 size result) }
     {
         self.moved = 0;
         if size > LARGEST_SIZE {
@@ -175,7 +176,7 @@ impl<A: Allocator + Copy> Global16<A> {
         let kind = kind_asked(flags);
         let attributes = attributes_asked(flags, slots);
         if size == 0 {
-            if !has_flag(flags, GMEM_MOVEABLE) {
+            if !flags.intersects(GlobalAllocFlags::MOVEABLE) {
                 return 0;
             }
             self.enter(slot, kind, attributes);
@@ -400,12 +401,12 @@ impl<A: Allocator + Copy> Global16<A> {
 }
 
 /// The kind of object that flags ask for. Only a moveable one can be discardable.
-fn kind_asked(flags: u16) -> Kind
-    ensures { result ≡ calls.kind_asked flags }
+fn kind_asked(flags: GlobalAllocFlags) -> Kind
+    ensures { result ≡ calls.kind_asked flags.0 }
 {
-    if !has_flag(flags, GMEM_MOVEABLE) {
+    if !flags.intersects(GlobalAllocFlags::MOVEABLE) {
         Kind::Fixed
-    } else if has_flag(flags, GMEM_DISCARDABLE) {
+    } else if flags.intersects(GlobalAllocFlags::DISCARDABLE) {
         Kind::Discardable
     } else {
         Kind::Moveable
@@ -413,23 +414,23 @@ fn kind_asked(flags: u16) -> Kind
 }
 
 /// How flags let room be made.
-pub(crate) fn alloc_options(flags: u16) -> RoomOptions
-    ensures { result ≡ calls.alloc_options flags }
+pub(crate) fn alloc_options(flags: GlobalAllocFlags) -> RoomOptions
+    ensures { result ≡ calls.alloc_options flags.0 }
 {
     RoomOptions {
-        compact: !has_flag(flags, GMEM_NOCOMPACT),
-        discard: !has_flag(flags, GMEM_NODISCARD),
-        zero: has_flag(flags, GMEM_ZEROINIT),
+        compact: !flags.intersects(GlobalAllocFlags::NOCOMPACT),
+        discard: !flags.intersects(GlobalAllocFlags::NODISCARD),
+        zero: flags.intersects(GlobalAllocFlags::ZEROINIT),
         may_move: false,
     }
 }
 
 /// The attributes that flags ask for, of an object that no module owns and that has so many slots.
-fn attributes_asked(flags: u16, slots: u16) -> Attributes
-    ensures { result ≡ record { shared = calls.has_flag flags GMEM_DDESHARE; owned = None; slots = slots } }
+fn attributes_asked(flags: GlobalAllocFlags, slots: u16) -> Attributes
+    ensures { result ≡ record { shared = calls.has_flag flags.0 GMEM_DDESHARE; owned = None; slots = slots } }
 {
     Attributes {
-        shared: has_flag(flags, GMEM_DDESHARE),
+        shared: flags.intersects(GlobalAllocFlags::DDESHARE),
         owned: None,
         slots,
     }

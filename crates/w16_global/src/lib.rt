@@ -3,6 +3,7 @@
 
 mod calls;
 mod far;
+mod flags;
 mod follow;
 mod global;
 mod lend;
@@ -11,6 +12,7 @@ mod owned;
 mod realloc;
 mod runs;
 
+pub use flags::{GlobalAllocFlags, GlobalReAllocFlags};
 pub use global::Global16;
 pub use lend::{Segment, Work};
 pub use w16_model::FarFault;

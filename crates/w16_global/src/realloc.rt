@@ -8,12 +8,12 @@ ghost use Rattle.w16_global.specs.Joined.{zeroed_behind};
 ghost use Rattle.w16_global.specs.Lengthened.{Lengthens};
 
 use crate::calls::{alloc_options, rounded};
+use crate::flags::{GlobalAllocFlags, GlobalReAllocFlags};
 use crate::global::Global16;
+use bitflags::Flags;
 use std::alloc::Allocator;
 use w16_model::names::handle_of;
-use w16_model::{
-    GMEM_DISCARDABLE, GMEM_MODIFY, GMEM_MOVEABLE, Kind, LARGEST_SIZE, RoomOptions, has_flag,
-};
+use w16_model::{Kind, LARGEST_SIZE, RoomOptions};
 
 impl<A: Allocator + Copy> Global16<A> {
     /// `GlobalReAlloc`: the object's handle, which may be another one, or 0 where the handle is bad, a module owns the object, or the request is
@@ -29,10 +29,10 @@ impl<A: Allocator + Copy> Global16<A> {
     /// The object then has as many slots as the size needs. It gives up its last ones, or gets those directly behind its own. Where these
     /// aren't free it gets as many others, the lowest in a row, and the handle of the first, and its old handle is bad: not if it is
     /// locked, and if it is fixed with `GMEM_MOVEABLE` alone. It is refused where there are none for it.
-    pub fn global_realloc(&mut self, handle: u16, size: u32, flags: u16) -> u16
-        ensures step { resizes.GlobalReAllocs self.old.handles handle size flags result self.new.handles }
-        ensures written { self.new.written ≡ counted (counted self.old.written self.new.handles.moved) (zeroed_behind self.old.handles handle size flags result) }
-        ensures fewest { resizes.ReallocFewest self.old.handles handle size flags result self.new.handles }
+    pub fn global_realloc(&mut self, handle: u16, size: u32, flags: GlobalReAllocFlags) -> u16
+        ensures step { resizes.GlobalReAllocs self.old.handles handle size flags.0 result self.new.handles }
+        ensures written { self.new.written ≡ counted (counted self.old.written self.new.handles.moved) (zeroed_behind self.old.handles handle size flags.0 result) }
+        ensures fewest { resizes.ReallocFewest self.old.handles handle size flags.0 result self.new.handles }
     {
         self.reveal_handles();
         self.change_object(handle, size, flags)
@@ -40,9 +40,9 @@ impl<A: Allocator + Copy> Global16<A> {
 
     /// Gives a slot's object another size as [`Global16::global_realloc`] does by its handle, and answers the same, for a local heap that grows in
     /// it. This is no call of a program: the bytes that were slid count as written, and not as moved by a call.
-    pub fn lengthen(&mut self, slot: u16, size: u32, flags: u16) -> u16
+    pub fn lengthen(&mut self, slot: u16, size: u32, flags: GlobalReAllocFlags) -> u16
         requires { IsSome (object_at self.old.handles.heap slot) }
-        ensures step { (handle : ℕ) → handles.slot_of_handle self.old.handles handle ≡ Some slot → Lengthens self.old handle size flags result self.new }
+        ensures step { (handle : ℕ) → handles.slot_of_handle self.old.handles handle ≡ Some slot → Lengthens self.old handle size flags.0 result self.new }
         ensures refused { result ≡ 0 → self.new ≡ self.old }
     {
         let handle = self.handle_at(slot);
@@ -53,9 +53,9 @@ impl<A: Allocator + Copy> Global16<A> {
     }
 
     /// Does what `global_realloc` says. Its contract leaves out that it discards as few objects as it can.
-    fn change_object(&mut self, handle: u16, size: u32, flags: u16) -> u16
-        ensures step { resizes.GlobalReAllocs self.old.handles handle size flags result self.new.handles }
-        ensures written { self.new.written ≡ counted (counted self.old.written self.new.handles.moved) (zeroed_behind self.old.handles handle size flags result) }
+    fn change_object(&mut self, handle: u16, size: u32, flags: GlobalReAllocFlags) -> u16
+        ensures step { resizes.GlobalReAllocs self.old.handles handle size flags.0 result self.new.handles }
+        ensures written { self.new.written ≡ counted (counted self.old.written self.new.handles.moved) (zeroed_behind self.old.handles handle size flags.0 result) }
     {
         self.moved = 0;
         let Some(slot) = self.slot_of_handle(handle) else {
@@ -64,7 +64,7 @@ impl<A: Allocator + Copy> Global16<A> {
         if self.is_owned(slot) {
             return 0;
         }
-        if has_flag(flags, GMEM_MODIFY) {
+        if flags.intersects(GlobalReAllocFlags::MODIFY) {
             self.modify(slot, kind_modified(flags));
             return handle;
         }
@@ -92,14 +92,14 @@ impl<A: Allocator + Copy> Global16<A> {
     }
 
     /// The same for a size of 0: the handle of an object that was discarded, or 0. Nothing is moved.
-    fn realloc_to_zero(&mut self, slot: u16, handle: u16, flags: u16) -> u16
+    fn realloc_to_zero(&mut self, slot: u16, handle: u16, flags: GlobalReAllocFlags) -> u16
         requires object { IsSome (object_at self.old.handles.heap slot) }
         requires unmoved { self.old.handles.moved ≡ 0 }
-        ensures step { resizes.Empties self.old.handles handle slot flags result self.new.handles }
+        ensures step { resizes.Empties self.old.handles handle slot flags.0 result self.new.handles }
         ensures written { self.new.written ≡ self.old.written }
         ensures unmoved { self.new.handles.moved ≡ 0 }
     {
-        if !has_flag(flags, GMEM_MOVEABLE) {
+        if !flags.intersects(GlobalReAllocFlags::MOVEABLE) {
             return 0;
         }
         match self.discard(slot) {
@@ -114,25 +114,25 @@ impl<A: Allocator + Copy> Global16<A> {
         ensures step { resizes.GlobalDiscards self.old.handles handle result self.new.handles }
         ensures written { self.new.written ≡ self.old.written }
     {
-        self.change_object(handle, 0, GMEM_MOVEABLE)
+        self.change_object(handle, 0, GlobalReAllocFlags::MOVEABLE)
     }
 }
 
 /// How flags of a reallocation let room be made: with `GMEM_MOVEABLE` the object itself may be moved, fixed or locked.
-fn realloc_options(flags: u16) -> RoomOptions
-    ensures { result ≡ resizes.realloc_options flags }
+fn realloc_options(flags: GlobalReAllocFlags) -> RoomOptions
+    ensures { result ≡ resizes.realloc_options flags.0 }
 {
     RoomOptions {
-        may_move: has_flag(flags, GMEM_MOVEABLE),
-        ..alloc_options(flags)
+        may_move: flags.intersects(GlobalReAllocFlags::MOVEABLE),
+        ..alloc_options(GlobalAllocFlags(flags.0))
     }
 }
 
 /// The kind that `GMEM_MODIFY` asks for.
-fn kind_modified(flags: u16) -> Kind
-    ensures { result ≡ resizes.kind_modified flags }
+fn kind_modified(flags: GlobalReAllocFlags) -> Kind
+    ensures { result ≡ resizes.kind_modified flags.0 }
 {
-    if has_flag(flags, GMEM_DISCARDABLE) {
+    if flags.intersects(GlobalReAllocFlags::DISCARDABLE) {
         Kind::Discardable
     } else {
         Kind::Moveable

@@ -15,7 +15,6 @@ pub use Rattle.w16_kernel.specs.Runs.{TakesMemory, answer_of, command_of, label_
 pub use Rattle.w16_kernel.specs.Stops.{StopsEarly}
 pub use Rattle.w16_kernel.specs.declared.call.Answer.{Answer}
 pub use Rattle.w16_kernel.specs.declared.call.Call.{Call}
-pub use Rattle.w16_kernel.specs.declared.call.Call.TheVariants.{GlobalAlloc}
 pub use Rattle.w16_loader.proofs.Common.{IsFetchable, IsSourceOf, LacksBytes}
 pub use Rattle.w16_loader.specs.Registry.{owner_in}
 pub use Rattle.w16_loading.proofs.CodeReads.{code_reads_law}

@@ -2,7 +2,6 @@ pub mod Absent
 pub mod Adding
 pub mod Common
 pub mod FarSteps
-pub mod Fewest
 pub mod Modules
 pub mod Refetching
 pub mod Running

@@ -5,7 +5,7 @@ use Rattle.w16_loading.specs.Load.{Answer}
 use Rattle.w16_loading.specs.Replies as printed
 use Rattle.w16_loading.specs.Answers.{Answers, FillsFewest}
 use Rattle.w16_machine.proofs.Stepped.{fetching, loading}
-use Rattle.w16_kernel.proofs.Fewest.{load_fills}
+use Rattle.w16_loading.proofs.Requests.{load_fills}
 
 -- a step that reads no file
 pub unread : (honest : Type 0) (old new : LoadingWorld) (command : LoadingCommand) (reply : printed.Reply) → new.files ≡ old.files → new.failures ≡ old.failures
@@ -21,7 +21,7 @@ module _ {honest : Type 0} {old : LoadingWorld} {next : Handles} {loaded : Modul
     counted = later.counted;
     files = later.same;
     step = turn is_load_module (subst (λ (fs : List (List ℕ × List ℕ)). LoadsFrom Fills answers is_load_module old file answer (record old { handles = next; modules = loaded; files = fs })) (sym later.same)
-        (load_fills answers is_load_module old file answer (record old { handles = next; modules = loaded }) (over old)));
+        (load_fills answers old is_load_module file answer (record old { handles = next; modules = loaded }) (over old)));
   }
     where
       answers : Answers

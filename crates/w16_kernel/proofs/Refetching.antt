@@ -11,7 +11,7 @@ use Rattle.w16_loader.specs.Fetching.{GivesSegment}
 use Rattle.w16_loader.proofs.Fetches.{fetches}
 use Rattle.w16_loading.specs.Answers.{FillsFewest}
 use Rattle.w16_kernel.proofs.Absent.{lacks, slot_is}
-use Rattle.w16_kernel.proofs.Fewest.{fetch_fills}
+use Rattle.w16_loading.proofs.Requests.{fetch_fills}
 
 -- Look-ups that find nothing, and a module.
 
@@ -90,4 +90,4 @@ module _ {honest : Type 0} {old : LoadingWorld} (is : IsLoadingOver honest old) 
           let s : IsSourceFor old (name / 8) source = subst (λ q. IsSourceFor old q source) at (found unloaded) in
           let owned = ap is_some (segment_owned old is.0 (name / 8) s.handle source.number s.m s.segment).1.owned in
           resource_fetched owned fault stays (λ l. fetches honest old (name / 8) source.number source.file.now source.module.now source.values.now within.1
-          (λ h. record { sound = is.0; of_files = is.1 h; handle = s.handle; m = s.m; segment = s.segment; source = s.source_of; tables = s.tables }) old.failures count fault next (given l))
+          (record { sound = is.0; of_files = is.1; handle = s.handle; m = s.m; segment = s.segment; source = s.source_of; tables = s.tables }) old.failures count fault next (given l))

@@ -38,7 +38,7 @@ load_command false file = families.ModuleCommand.LoadLibrary file
 
 -- the command of a call
 abbrev pub command_of : Call → Command
-command_of (GlobalAlloc flags size) = OfLoading (OfHandles (calls.HandleCommand.GlobalAlloc flags size))
+command_of (GlobalAlloc flags size) = OfLoading (OfHandles (calls.HandleCommand.GlobalAlloc flags.0 size))
 command_of (GlobalFree handle) = OfLoading (OfHandles (calls.HandleCommand.GlobalFree handle))
 command_of (GlobalLock handle) = OfLoading (OfHandles (calls.HandleCommand.GlobalLock handle))
 command_of (GlobalUnlock handle) = OfLoading (OfHandles (calls.HandleCommand.GlobalUnlock handle))
@@ -48,7 +48,7 @@ command_of (GlobalHandle selector) = OfLoading (OfHandles (calls.HandleCommand.G
 command_of (GetSelectorBase selector) = OfLoading (OfHandles (calls.HandleCommand.GetSelectorBase selector))
 command_of (GetSelectorLimit selector) = OfLoading (OfHandles (calls.HandleCommand.GetSelectorLimit selector))
 command_of (GlobalCompact size) = OfLoading (OfHandles (calls.HandleCommand.GlobalCompact size))
-command_of (GlobalReAlloc handle size flags) = OfLoading (OfResizes (resizes.ResizeCommand.GlobalReAlloc handle size flags))
+command_of (GlobalReAlloc handle size flags) = OfLoading (OfResizes (resizes.ResizeCommand.GlobalReAlloc handle size flags.0))
 command_of (GlobalDiscard handle) = OfLoading (OfResizes (resizes.ResizeCommand.GlobalDiscard handle))
 command_of (GlobalLRUNewest handle) = OfLoading (OfHandles (calls.HandleCommand.GlobalLRUNewest handle))
 command_of (GlobalLRUOldest handle) = OfLoading (OfHandles (calls.HandleCommand.GlobalLRUOldest handle))
@@ -58,8 +58,8 @@ command_of (Read pointer count) = OfLoading (OfFar (far.FarCommand.Read pointer 
 command_of (Write pointer bytes) = OfLoading (OfFar (far.FarCommand.Write pointer bytes.now))
 command_of (Fill pointer count byte) = OfLoading (OfFar (far.FarCommand.Fill pointer count byte))
 command_of (LocalInit selector start end) = OfLocals (locals.LocalCommand.LocalInit selector start end)
-command_of (LocalAlloc flags size) = OfLocals (locals.LocalCommand.LocalAlloc flags size)
-command_of (LocalReAlloc name size flags) = OfLocals (locals.LocalCommand.LocalReAlloc name size flags)
+command_of (LocalAlloc flags size) = OfLocals (locals.LocalCommand.LocalAlloc flags.0 size)
+command_of (LocalReAlloc name size flags) = OfLocals (locals.LocalCommand.LocalReAlloc name size flags.0)
 command_of (LocalDiscard name) = OfLocals (locals.LocalCommand.LocalDiscard name)
 command_of (LocalFree name) = OfLocals (locals.LocalCommand.LocalFree name)
 command_of (LocalLock name) = OfLocals (locals.LocalCommand.LocalLock name)

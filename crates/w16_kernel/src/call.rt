@@ -2,7 +2,9 @@
 ghost use Rattle.std.specs.Prelude.{◌≡◌, ◌≤◌, length};
 
 use arrayvec::ArrayVec;
+use w16_global::{GlobalAllocFlags, GlobalReAllocFlags};
 use w16_loading::FetchFault;
+use w16_local::{LocalAllocFlags, LocalReAllocFlags};
 use w16_model::FarFault;
 use w16_model::names::slot_of;
 
@@ -26,7 +28,7 @@ pub enum Label<'a> {
 #[derive(Debug, Clone, Copy)]
 pub enum Call<'a> {
     GlobalAlloc {
-        flags: u16,
+        flags: GlobalAllocFlags,
         size: u32,
     },
     GlobalFree {
@@ -59,7 +61,7 @@ pub enum Call<'a> {
     GlobalReAlloc {
         handle: u16,
         size: u32,
-        flags: u16,
+        flags: GlobalReAllocFlags,
     },
     GlobalDiscard {
         handle: u16,
@@ -94,13 +96,13 @@ pub enum Call<'a> {
         end: u32,
     },
     LocalAlloc {
-        flags: u16,
+        flags: LocalAllocFlags,
         size: u16,
     },
     LocalReAlloc {
         name: u16,
         size: u16,
-        flags: u16,
+        flags: LocalReAllocFlags,
     },
     LocalDiscard {
         name: u16,

@@ -28,7 +28,7 @@ pub use Rattle.w16_global.proofs.Common.{Global, IfNone, Lends, OnOk, cases_lt, 
 pub use Rattle.w16_global.specs.Owned.{HasNoSlot, LacksBytes}
 pub use Rattle.w16_loader.specs.Answering.{AreAccepted, AreHeld, ClosesOf, ClosesTo, IsAccepted, IsClosureBy, IsNewIn, IsRefusedFile, IsRefusedName, LeadsBy, LeadsByAnswer, LeadsTo, MakesOf, ReadsIn, RefusesBy, answers_of}
 pub use Rattle.w16_loader.specs.Reached.{Begins, IsAlike, IsFoundOf, closed_of, reached_of}
-pub use Rattle.w16_loader.specs.Binding.{AreSaid, AreTargets, AreValuesOf, IsBindFailure, IsFailure, IsForEach, IsSaid, IsStoredAs, all_bound, bound_as, fault_of_name, values_for, with_values}
+pub use Rattle.w16_loader.specs.Binding.{AreSaid, AreTargets, AreValuesOf, IsBindFailure, IsFailure, IsForEach, IsSaid, IsStoredAs, all_bound, bound_as, values_for, with_values}
 pub use Rattle.w16_loader.specs.Closing.{Files, IsFault, IsRead, IsThere, IsUnsound, around_in, fault_of, fault_of_check, found_in, meant_in, read_in, referent_of, said}
 pub use Rattle.w16_loader.specs.Entries.{named_of}
 pub use Rattle.w16_loader.specs.Fetching.{GivesBytes, IsFetchable, IsSoundIn, IsSourceOf, IsWritten, fault_in, image_in, in_parts}
@@ -42,8 +42,7 @@ pub use Rattle.w16_loader.specs.declared.binding.BindFault.{BindFault}
 pub use Rattle.w16_loader.specs.declared.closure.Bound.{Bound}
 pub use Rattle.w16_loader.specs.declared.closure.Followed.{Followed}
 pub use Rattle.w16_loader.specs.declared.entry.Entry.{Entry}
-pub use Rattle.w16_loader.specs.declared.fault.ValueFault.{ValueFault}
-pub use Rattle.w16_loader.specs.declared.fault.ValueFault.TheVariants.{Device, OutOfMemory}
+pub use Rattle.w16_loader.specs.declared.found.FileFault.TheVariants.{Device, OutOfMemory}
 pub use Rattle.w16_loader.specs.declared.found.FileFault.{FileFault}
 pub use Rattle.w16_loader.specs.declared.found.Found.{Found}
 pub use Rattle.w16_loader.specs.declared.found.Reading.{Reading}

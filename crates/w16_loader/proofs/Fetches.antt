@@ -4,7 +4,10 @@ use Rattle.w16_loader.proofs.Common.{ap, ◌∙◌, subst, arith, ne_eqb, lit<, 
 use Rattle.w16_loader.proofs.Common.{All-repeated, tables_at, RelocFault, Record, Held, checked, data_of, IsImage, naming, FetchFault, Store, Damaged, NoRoom, IsOwnedSize, read_of, segment_bytes}
 use Rattle.w16_loader.proofs.Common.{Far, ModuleFile, SegmentData, numbered, Fills, IsHeap, is_of_device, is_of_read, IsItsFiles, IsObjectOf, LoadingWorld, Module, of_segment, data_in, target_of, targets_in, far_of}
 use Rattle.w16_loader.proofs.Common.{IsFileOf, IsRelocated, ne_format, module_file, segment_in, accepted, has_room, stored_law, is_relocated, words_same, file_of, GivesBytes, IsFetchable, IsSoundIn, IsWritten, image_in}
-use Rattle.w16_reloc.specs.Sound.{IsSound}
+use Rattle.w16_format.proofs.Relocated.{relocated_law}
+use Rattle.w16_format.specs.Tables.{tables_in}
+use Rattle.w16_reloc.specs.Segments.{any_offer}
+use Rattle.w16_reloc.specs.Sound.{IsSoundSegment}
 use Rattle.w16_loader.specs.Fetching.{GivesOwned, GivesSegment, IsRelocatedBy, IsSoundSource}
 use Rattle.w16_loading.specs.Answers.{FetchesFrom, FillsFewest, GivesRead, MayFail, told}
 use Rattle.w16_loading.specs.Fetch as fetching
@@ -45,10 +48,24 @@ module _ (Known : Type 0) (IsRead : List ℕ → Type 0) (before after : ℕ) (o
       rest = g.rest;
     }
 
+-- bytes of an object's size
+as_long : {bytes : List ℕ} {n : ℕ} (p : Option Owned) → IsSomeAnd p (λ w. length bytes ≡ w.size) → IsSomeAnd p (λ w. w.size ≡ n) → length bytes ≡ n
+as_long None h k = absurd h
+as_long (Some w) h k = h ∙ k
+
+-- a segment by its number
+within : (t : Tables) (number : ℕ) → 0 < number → number ≤ length t.segments → (s : Segment) × (slice_get t.segments (number - 1) ≡ Some s)
+within t number first last = elim (slice_get_cases t.segments (number - 1)).1 [
+  | inl some ↦ (some.0, some.2)
+  | inr none ↦ absurd (omega (arith, none.0, first, last))
+]
+
 -- what was written over as many bytes as the segment has
-pub relocated : (source : List ℕ) (records : List Record) (values : List words.Far) (bytes : List ℕ) (n : ℕ) → IsWritten source records values bytes → (named : List (List ℕ)) × IsSound source records named → length source ≤ n → length bytes ≡ n → IsRelocatedBy values bytes
-relocated source records values bytes n are sound room long =
-    let fits : length source ≤ length bytes = omega (arith, room, long) in record { source = source; records = records; named = sound.0; sound = sound.1; fits = fits; image = are.image sound.0 sound.1 fits }
+pub relocated : (t : Tables) (source : List ℕ) (records : List Record) (values : List words.Far) (bytes : List ℕ) (n : ℕ) → IsWritten source records values bytes
+    → (table : List ℕ) × IsSoundSegment (any_offer (length t.segments) (length t.references)) source table (length values) records → length source ≤ n → length bytes ≡ n → IsRelocatedBy t values bytes
+relocated t source records values bytes n are (table, sound) room long =
+    let fits : length source ≤ length bytes = omega (arith, room, long) in
+    record { source = source; table = table; records = records; sound = sound; fits = fits; image = are.image sound.sound.0 sound.sound.1 fits; words = are.words }
 
 -- Over a file that says what it said at load.
 
@@ -79,12 +96,8 @@ module _ (file : List ℕ) (t : Tables) (number : ℕ) (values : List words.Far)
   -- so are the bytes of an object of its size
   pub written_image : (old : Handles) (slot : ℕ) → IsSomeAnd (owned_at old slot) (λ (w : Owned). w.size ≡ s.size) → (read : List ℕ) (records : List Record) → read ≡ sound.held.bytes → records ≡ sound.held.records
       → (written : List ℕ) → IsWritten read records values written → IsSomeAnd (owned_at old slot) (λ (w : Owned). length written ≡ w.size) → written ≡ bytes
-  written_image old slot sized read records same_bytes same_records written are as_long = sym (image written (long (owned_at old slot) as_long sized)
+  written_image old slot sized read records same_bytes same_records written are is_long = sym (image written (as_long (owned_at old slot) is_long sized)
       (subst (λ rs. IsWritten sound.held.bytes rs values written) same_records (subst (λ bs. IsWritten bs records values written) same_bytes are)))
-    where
-      long : (p : Option Owned) → IsSomeAnd p (λ w. length written ≡ w.size) → IsSomeAnd p (λ w. w.size ≡ s.size) → length written ≡ s.size
-      long None h k = absurd h
-      long (Some w) h k = h ∙ k
 
 -- A segment of a module that is as this file says it is sound in the file.
 module _ (file : List ℕ) (t : Tables) (m : Module) (its : IsItsFiles m (module_file file t)) (number : ℕ) (values : List words.Far) (bound : slice_index_or m.values (number - 1) [] ≡ map far_of values) where
@@ -105,74 +118,84 @@ module _ (file : List ℕ) (t : Tables) (m : Module) (its : IsItsFiles m (module
 
   pub sound_in : All (λ b. b < 256) file → tables_at (Some file) ≡ Ok t → 0 < number → number ≤ length t.segments → IsSoundIn file t number values
   sound_in are_bytes tables first last =
-      let p = passed found.0 found.1 in record { are_bytes = are_bytes; tables = tables; segment = found.0; there = found.1; held = p.0; passed = p.1; many = p.2 }
-    where
-      found : (s : Segment) × (slice_get t.segments (number - 1) ≡ Some s)
-      found = elim (slice_get_cases t.segments (number - 1)).1 [
-        | inl some ↦ (some.0, some.2)
-        | inr none ↦ absurd (omega (arith, none.0, first, last))
-      ]
+      let found = within t number first last in let p = passed found.0 found.1 in record { are_bytes = are_bytes; tables = tables; segment = found.0; there = found.1; held = p.0; passed = p.1; many = p.2 }
 
 -- In a world of its files.
 
-module _ (world : LoadingWorld) (slot number : ℕ) (name : List ℕ) (t : Tables) (values : List words.Far) (is : IsFetchable world slot number name t values) (last : number ≤ length t.segments) where
+module _ (honest : Type 0) (world : LoadingWorld) (slot number : ℕ) (name : List ℕ) (t : Tables) (values : List words.Far) (is : IsFetchable honest world slot number name t values) (last : number ≤ length t.segments) where
   abbrev m : Module
   m = is.m
 
-  stored : (file : List ℕ) × IsFileOf world m file t
-  stored = stored_law world is.handle m t is.of_files is.segment.loaded is.tables
+  found : (s : Segment) × (slice_get t.segments (number - 1) ≡ Some s)
+  found = within t number is.segment.has.0 last
 
-  abbrev file : List ℕ
-  file = stored.0
+  -- its object is of the segment's size
+  owned_size : (s : Segment) → slice_get t.segments (number - 1) ≡ Some s → IsSomeAnd (owned_at world.handles slot) (λ (w : Owned). w.size ≡ s.size)
+  owned_size s there = subst (λ p. IsSomeAnd p (λ (w : Owned). w.size ≡ s.size)) (sym object.owned) refl
+    where
+      object : IsObjectOf world slot (segment_in s).kind (segment_in s).size (segment_in s).is_code
+      object = subst (λ p. IsSomeAnd p (λ g. IsObjectOf world slot g.kind g.size g.is_code))
+          (ap (λ (u : loading.Tables). slice_get u.segments (number - 1)) is.tables ∙ slice_get-map segment_in t.segments (number - 1) ∙ ap (option_map segment_in) there)
+          (of_segment world is.sound slot is.handle number m is.segment)
 
-  read_is : read_of ne_format world m ≡ Some (module_file file t)
-  read_is =
-      ap (λ (p : Option (List ℕ)). elim p as (λ _. Option ModuleFile) [ None ↦ None | Some bytes ↦ elim (ne_format.says bytes) as (λ _. Option ModuleFile) [ Ok read ↦ Some read | Err _ ↦ None ] ]) stored.1.stored
-      ∙ ap (λ (r : Result ModuleFile ℕ). elim r as (λ _. Option ModuleFile) [ Ok read ↦ Some read | Err _ ↦ None ]) (accepted file t stored.1.bytes stored.1.tables)
+  -- what it is given over any store
+  given : (bytes : List ℕ) → IsOwnedSize world slot bytes → ((s : Segment) → slice_get t.segments (number - 1) ≡ Some s → length bytes ≡ s.size → IsRelocatedBy t values bytes) → fetching.IsRead ne_format world slot bytes
+  given bytes sized are = inl (is.handle, number, m, is.segment, r.source, r.table, ap (λ (u : loading.Tables). ne_format.relocated u r.source r.table (slice_index_or m.values (number - 1) []) (length bytes)) is.tables
+      ∙ ap (λ vs. ne_format.relocated (tables_in t) r.source r.table vs (length bytes)) is.source.bound ∙ relocated_law t r.source r.table r.records values bytes r.sound r.words r.fits r.image)
+    where
+      r : IsRelocatedBy t values bytes
+      r = are found.0 found.1 (as_long (owned_at world.handles slot) sized (owned_size found.0 found.1))
 
-  its : IsItsFiles m (module_file file t)
-  its = subst (λ p. IsSomeAnd p (IsItsFiles m)) read_is (is.of_files.modules is.handle m is.segment.loaded)
+  module _ (h : honest) where
+    stored : (file : List ℕ) × IsFileOf world m file t
+    stored = stored_law world is.handle m t (is.of_files h) is.segment.loaded is.tables
 
-  sound : IsSoundIn file t number values
-  sound = sound_in file t m its number values is.source.bound stored.1.bytes stored.1.tables is.segment.has.0 last
+    abbrev file : List ℕ
+    file = stored.0
 
-  object : IsObjectOf world slot (segment_in sound.segment).kind (segment_in sound.segment).size (segment_in sound.segment).is_code
-  object = subst (λ p. IsSomeAnd p (λ g. IsObjectOf world slot g.kind g.size g.is_code))
-      (ap (λ (u : loading.Tables). slice_get u.segments (number - 1)) (sym its.tables) ∙ slice_get-map segment_in t.segments (number - 1) ∙ ap (option_map segment_in) sound.there)
-      (of_segment world is.sound slot is.handle number m is.segment)
+    read_is : read_of ne_format world m ≡ Some (module_file file t)
+    read_is =
+        ap (λ (p : Option (List ℕ)). elim p as (λ _. Option ModuleFile) [ None ↦ None | Some bytes ↦ elim (ne_format.says bytes) as (λ _. Option ModuleFile) [ Ok read ↦ Some read | Err _ ↦ None ] ]) stored.1.stored
+        ∙ ap (λ (r : Result ModuleFile ℕ). elim r as (λ _. Option ModuleFile) [ Ok read ↦ Some read | Err _ ↦ None ]) (accepted file t stored.1.bytes stored.1.tables)
 
-  owned_size : IsSomeAnd (owned_at world.handles slot) (λ (w : Owned). w.size ≡ sound.segment.size)
-  owned_size = subst (λ p. IsSomeAnd p (λ (w : Owned). w.size ≡ sound.segment.size)) (sym object.owned) refl
+    its : IsItsFiles m (module_file file t)
+    its = subst (λ p. IsSomeAnd p (IsItsFiles m)) read_is ((is.of_files h).modules is.handle m is.segment.loaded)
 
-  by_number : {X : Type 0} (xs : List X) → numbered xs number ≡ slice_get xs (number - 1)
-  by_number xs = let some : 0 < number = is.segment.has.0 in ap (λ b. cond b None (slice_get xs (number - 1))) (ne_eqb number 0 (λ e. omega (arith, some, e)))
+    sound : IsSoundIn file t number values
+    sound = sound_in file t m its number values is.source.bound stored.1.bytes stored.1.tables is.segment.has.0 last
 
-  bytes_are : segment_bytes ne_format world m number ≡ Some (image_in file t sound.segment values)
-  bytes_are =
-      ap (λ (p : Option ModuleFile). elim p as (λ _. Option (List ℕ)) [ None ↦ None | Some r ↦ option_map (λ (d : SegmentData). d.image (slice_index_or m.values (number - 1) [])) (numbered r.segments number) ]) read_is
-      ∙ ap (option_map (λ (d : SegmentData). d.image (slice_index_or m.values (number - 1) []))) (by_number (map (data_in file t) t.segments) ∙ data_there file t number values sound)
-      ∙ ap (λ vs. Some ((data_in file t sound.segment).image vs)) is.source.bound
+    by_number : {X : Type 0} (xs : List X) → numbered xs number ≡ slice_get xs (number - 1)
+    by_number xs = let some : 0 < number = is.segment.has.0 in ap (λ b. cond b None (slice_get xs (number - 1))) (ne_eqb number 0 (λ e. omega (arith, some, e)))
 
-  pub source : (honest : Type 0) → honest → IsSoundSource honest world.files name t number values world.handles slot
-  source honest h = record { truly = h; file = file; stored = ap (file_of world.files) (sym is.source.named) ∙ stored.1.stored; sound = sound; sized = owned_size }
+    bytes_are : segment_bytes ne_format world m number ≡ Some (image_in file t sound.segment values)
+    bytes_are =
+        ap (λ (p : Option ModuleFile). elim p as (λ _. Option (List ℕ)) [ None ↦ None | Some r ↦ option_map (λ (d : SegmentData). d.image (slice_index_or m.values (number - 1) [])) (numbered r.segments number) ]) read_is
+        ∙ ap (option_map (λ (d : SegmentData). d.image (slice_index_or m.values (number - 1) []))) (by_number (map (data_in file t) t.segments) ∙ data_there file t number values sound)
+        ∙ ap (λ vs. Some ((data_in file t sound.segment).image vs)) is.source.bound
+
+    pub source : IsSoundSource honest world.files name t number values world.handles slot
+    source = record { truly = h; file = file; stored = ap (file_of world.files) (sym is.source.named) ∙ stored.1.stored; sound = sound; sized = owned_size sound.segment sound.there }
 
 -- What gives an object its image is a fetch.
-module _ (honest : Type 0) (Known : Type 0) (known : honest → Known) (IsRead : List ℕ → Type 0) (world : LoadingWorld) (slot : ℕ) (are : (bytes : List ℕ) → IsRead bytes → honest → fetching.IsImage ne_format world slot bytes) (before after : ℕ) where
+module _ (honest : Type 0) (Known : Type 0) (known : honest → Known) (IsRead : List ℕ → Type 0) (world : LoadingWorld) (slot : ℕ)
+    (are : (bytes : List ℕ) → IsOwnedSize world slot bytes → IsRead bytes → fetching.IsRead ne_format world slot bytes × (honest → fetching.IsImage ne_format world slot bytes)) (before after : ℕ) where
   pub owned_fetch : (fault : Option FetchFault) (new : Handles) → GivesOwned Known IsRead before after world.handles slot fault new
       → FetchesFrom FillsFewest (told honest ne_format world.files before after) world slot fault (record world { handles = new })
   owned_fetch fault new f = record { given = turn fault f.given; rest = ap (λ (h : Handles). record world { handles = h }) f.rest }
     where
       turn : (fault : Option FetchFault) → GivesRead FillsFewest (MayFail Known before after) (IsOwnedSize world slot) IsRead world.handles.heap slot fault new.heap
-          → GivesRead FillsFewest (MayFail honest before after) (IsOwnedSize world slot) (λ bytes. honest → fetching.IsImage ne_format world slot bytes) world.handles.heap slot fault new.heap
-      turn None g = (g.0, g.1, are g.0 g.2, g.3)
+          → GivesRead FillsFewest (MayFail honest before after) (IsOwnedSize world slot) (λ bytes. fetching.IsRead ne_format world slot bytes × (honest → fetching.IsImage ne_format world slot bytes)) world.handles.heap slot fault new.heap
+      turn None g = (g.0, g.1, are g.0 g.1 g.2, g.3)
       turn (Some NoRoom) g = g
       turn (Some Store) g = ((g.0.0, g.0.1, λ h. g.0.2 (known h)), g.1)
       turn (Some Damaged) g = ((g.0.0, g.0.1, λ h. g.0.2 (known h)), g.1)
 
-pub fetches : (honest : Type 0) (world : LoadingWorld) (slot number : ℕ) (name : List ℕ) (t : Tables) (values : List words.Far) → number ≤ length t.segments → (honest → IsFetchable world slot number name t values) → (before after : ℕ) (fault : Option FetchFault) (new : Handles)
+pub fetches : (honest : Type 0) (world : LoadingWorld) (slot number : ℕ) (name : List ℕ) (t : Tables) (values : List words.Far) → number ≤ length t.segments → IsFetchable honest world slot number name t values → (before after : ℕ) (fault : Option FetchFault) (new : Handles)
     → GivesSegment honest world.files name t number values before after world.handles slot fault new → FetchesFrom FillsFewest (told honest ne_format world.files before after) world slot fault (record world { handles = new })
 unfolding sound source
 fetches honest world slot number name t values last is before after fault new =
-    let known : honest → IsSoundSource honest world.files name t number values world.handles slot = λ h. source world slot number name t values (is h) last honest h in
-    owned_fetch honest (IsSoundSource honest world.files name t number values world.handles slot) known _ world slot
-    (λ bytes read h. inl ((is h).handle, number, (is h).m, (is h).segment, bytes_are world slot number name t values (is h) last ∙ ap Some (sym (read.1 (known h))))) before after fault new
+    owned_fetch honest (IsSoundSource honest world.files name t number values world.handles slot) (source honest world slot number name t values is last) _ world slot
+    (λ bytes sized read. (
+      given honest world slot number name t values is last bytes sized read.0,
+      λ h. inl (is.handle, number, is.m, is.segment, bytes_are honest world slot number name t values is last h ∙ ap Some (sym (read.1 (source honest world slot number name t values is last h)))),
+    )) before after fault new

@@ -2,7 +2,7 @@
 use Rattle.w16_loader.proofs.Common.{◌≡◌, ℕ, zero, suc, ◌+◌, ◌-◌, ◌<◌, ◌≤◌, Bool, true, List, [], ◌∷◌, ◌++◌, length, take, drop, map, Some, slice_get, slice_index, Result, Ok, Err, refl, sym, ap, ◌∙◌, subst, arith, add-one, All}
 use Rattle.w16_loader.proofs.Common.{is_ok, nat_lt, unwrap_or, list_all, and_parts, length-map, length-take, length-drop, map_push, All-nil, All-cons, file_of, NeFault, text_at, text_in, tables_at, imported_place, text_read, RelocFault}
 use Rattle.w16_loader.proofs.Common.{Record, ◌>>=◌, check_from, Offer, Held, checked, data_of, records_of, offer_of, has_text_at, AreRecords, passed_is_sound, are_sound, Far, ModuleFile, SegmentData, Target, targets_of, Lookup, Module, value_of}
-use Rattle.w16_loader.proofs.Common.{data_in, target_of, targets_in, far_of, module_file, segment_in, tables_in, sound_law, read_back, tables_apart, ValueFault, Device, OutOfMemory, Files, AreValuesOf, IsFailure, IsSaid, IsStoredAs, fault_of_name}
+use Rattle.w16_loader.proofs.Common.{data_in, target_of, targets_in, far_of, module_file, segment_in, tables_in, sound_law, read_back, tables_apart, FileFault, Device, OutOfMemory, Files, AreValuesOf, IsFailure, IsSaid, IsStoredAs, fault_of}
 use Rattle.w16_loader.proofs.Common.{values_for}
 use Rattle.std.proofs.lemmas.Bool.{ltb-true}
 use Rattle.w16_store.specs.declared.store.StoreFault.TheVariants as stores
@@ -16,31 +16,18 @@ use Rattle.w16_reloc.specs.Records.{is_named}
 use Rattle.w16_reloc.specs.Segments as segments
 use Rattle.w16_loading.specs.File as loading
 use Rattle.w16_loader.proofs.Files.{there}
-use Rattle.w16_loader.specs.declared.fault.ValueFault.TheVariants.{Damaged}
-use Rattle.w16_loader.specs.Binding.{fault_of_check}
+use Rattle.w16_loader.specs.declared.found.FileFault.TheVariants.{Refused}
+use Rattle.w16_loader.specs.Closing.{IsFault, fault_of_check}
 
 -- Faults.
 
--- a failure in a call is one since any time before it
-pub failure_since : (start before after : ℕ) (fault : ValueFault) → start ≤ before → IsFailure before after fault → IsFailure start after fault
-failure_since start before after Device le more = omega arith
-failure_since start before after Damaged le h = h
-failure_since start before after OutOfMemory le h = tt
+-- A fault in a call is one since any time before it.
+pub fault_since : (IsRefused : ℕ → Type 0) (before mid after : ℕ) (fault : FileFault) → before ≤ mid → IsFault IsRefused mid after fault → IsFault IsRefused before after fault
+fault_since IsRefused before mid after (Refused number) le is = is
+fault_since IsRefused before mid after Device le more = omega (arith, le, more)
+fault_since IsRefused before mid after OutOfMemory le none = tt
 
--- a name that is there isn't refused but by the device, or for want of memory
-pub name_failed : (file : List ℕ) (before after : ℕ) (text : List ℕ) (e : NeFault) → Refuses (Some file) before after e (Ok text) → IsFailure before after (fault_of_name e)
-name_failed file before after text ne_faults.OutOfMemory h = tt
-name_failed file before after text (ne_faults.Store stores.Device) h = h
-name_failed file before after text (ne_faults.Store stores.Missing) h = cc
-name_failed file before after text (ne_faults.Store stores.Short) h = absurd h
-name_failed file before after text ne_faults.NotMz h = cc
-name_failed file before after text ne_faults.NotNe h = cc
-name_failed file before after text (ne_faults.Target system) h = cc
-name_failed file before after text ne_faults.Unsupported h = cc
-name_failed file before after text ne_faults.Truncated h = cc
-name_failed file before after text ne_faults.BadTable h = cc
-
--- neither is a segment that passes its check
+-- a segment that passes its check isn't refused but by the device
 pub check_failed : (before after : ℕ) (held : Held) (e : RelocFault) → segments.Refuses before after e (Ok held) → IsFailure before after (fault_of_check e)
 check_failed before after held relocs.BadRecord h = cc
 check_failed before after held relocs.SiteOutside h = cc
@@ -48,23 +35,6 @@ check_failed before after held relocs.Overlap h = cc
 check_failed before after held (relocs.Store stores.Device) h = h
 check_failed before after held (relocs.Store stores.Missing) h = absurd h
 check_failed before after held (relocs.Store stores.Short) h = absurd h
-
--- Names.
-
-pub text_there : (file : List ℕ) (at : ℕ) → has_text_at file at ≡ true → text_at ne_faults.Truncated (Some file) at ≡ Ok (text_in file at)
-text_there file at has =
-    let parts = and_parts (nat_lt at (length file)) (nat_lt (at + slice_index file at) (length file)) has in
-    let inside : at + slice_index file at < length file = ltb-true _ _ parts.1 in
-    let long : length (text_in file at) ≡ slice_index file at =
-    grind (arith, length-take (slice_index file at) (drop (at + 1) file), length-drop (at + 1) file, inside) in
-    text_read ne_faults.Truncated file at (text_in file at) (record {
-      inside = omega (arith, long, inside);
-      len = sym long;
-      bytes = ap (λ n. take n (drop (at + 1) file)) long;
-    })
-
-same_text : (x y : List ℕ) → ◌≡◌ {A = Result (List ℕ) NeFault} (Ok x) (Ok y) → x ≡ y
-same_text x y h = cc
 
 -- The file of a module by its name, and with the tables that the module keeps.
 module _ (files : Files) (m : Module) (file : List ℕ) (t : Tables) (is : IsStoredAs files m file t) (name : List ℕ) (named : name ≡ m.file) (u : Tables) (kept : tables_in u ≡ m.tables) where
@@ -74,40 +44,25 @@ module _ (files : Files) (m : Module) (file : List ℕ) (t : Tables) (is : IsSto
   same_tables : u ≡ t
   same_tables = tables_apart u t (kept ∙ sym is.tables)
 
-  module _ (offset : ℕ) (has : has_text_at file (imported_place t + offset) ≡ true) where
-    name_at : text_at ne_faults.Truncated (Some file) (imported_place u + offset) ≡ Ok (text_in file (imported_place t + offset))
-    name_at = ap (λ (x : Tables). text_at ne_faults.Truncated (Some file) (imported_place x + offset)) same_tables ∙ text_there file (imported_place t + offset) has
+-- Records whose names stand in some bytes as in the file point where the file says.
+target_alike : (f g : ℕ → List ℕ) (x : pointing.Target) → IfSome (text_of x) (λ name. f name ≡ g name) → target_by f x ≡ target_by g x
+target_alike f g (points.Internal segment offset) h = refl
+target_alike f g (points.Entry ordinal) h = refl
+target_alike f g (points.ByOrdinal reference ordinal) h = refl
+target_alike f g (points.ByName reference name) h = ap (loading.Target.ImportName reference) h
 
-    pub name_read : (text : List ℕ) → text_at ne_faults.Truncated (file_of files name) (imported_place u + offset) ≡ Ok text → text ≡ text_in file (imported_place t + offset)
-    name_read text h = same_text text (text_in file (imported_place t + offset)) (sym h ∙ ap (λ p. text_at ne_faults.Truncated p (imported_place u + offset)) stored_there ∙ name_at)
+record_alike : (f g : ℕ → List ℕ) (r : Record) → IfSome (name_in r) (λ name. f name ≡ g name) → record_target f r ≡ record_target g r
+record_alike f g (Stored fixup) h = target_alike f g fixup.target h
+record_alike f g (Added fixup) h = target_alike f g fixup.target h
+record_alike f g System h = refl
 
-    pub name_refused : (before after : ℕ) (e : NeFault) → Refuses (file_of files name) before after e (text_at ne_faults.Truncated (file_of files name) (imported_place u + offset)) → IsFailure before after (fault_of_name e)
-    name_refused before after e h = name_failed file before after (text_in file (imported_place t + offset)) e
-        (subst (λ r. Refuses (Some file) before after e r) name_at (subst (λ p. Refuses p before after e (text_at ne_faults.Truncated p (imported_place u + offset))) stored_there h))
-
--- the names of all records of a segment that passes its check are there
-held_by : (file : List ℕ) (s : Segment) (r : Result (List Record) RelocFault) (held : Held) → (r >>= λ records. Ok (record { bytes = data_of file s; records = records })) ≡ Ok held → r ≡ Ok held.records
-held_by file s (Ok records) held h = let same : ◌≡◌ {A = Held} (record { bytes = data_of file s; records = records }) held = cc in ap (λ (x : Held). Ok x.records) same
-held_by file s (Err e) held h = cc
-
-all_formed : (offer : Offer) (raw : List ℕ) (i : ℕ) (records : List Record) → AreRecords offer raw i records → All (λ r. is_named offer r ≡ true) records
-all_formed offer raw i [] are = All-nil (λ r. is_named offer r ≡ true)
-all_formed offer raw i (r ∷ records) are = All-cons (λ r. is_named offer r ≡ true) r records are.0.1 (all_formed offer raw (i + 1) records are.1)
-
-pub all_named : (file : List ℕ) (t : Tables) (s : Segment) (held : Held) → checked file t s ≡ Ok held → All (λ r. is_named (offer_of file t) r ≡ true) held.records
-unfolding checked
-all_named file t s held h =
-    let records = held_by file s (check_from (offer_of file t) (data_of file s) (records_of file s) s.records 0 []) held h in
-    all_formed (offer_of file t) (records_of file s) 0 held.records (passed_is_sound (offer_of file t) (data_of file s) (records_of file s) s.records held.records records).formed
+pub targets_alike : (f g : ℕ → List ℕ) (records : List Record) → All (λ r. IfSome (name_in r) (λ name. f name ≡ g name)) records → map (record_target f) records ≡ map (record_target g) records
+targets_alike f g [] all = refl
+targets_alike f g (r ∷ rs) all = λ i. record_alike f g r (All-head (λ r. IfSome (name_in r) (λ name. f name ≡ g name)) r rs all) i ∷ targets_alike f g rs (All-tail (λ r. IfSome (name_in r) (λ name. f name ≡ g name)) r rs all) i
 
 -- Values, one more.
 
 module _ (named : Lookup) (m : Module) where
-  pub value_more : (targets : List Target) (target : Target) (fars : List words.Far) (far : words.Far) → far_of far ≡ value_of named m target → AreValuesOf named m targets fars
-      → AreValuesOf named m (targets ++ target ∷ []) (fars ++ far ∷ [])
-  value_more targets target fars far one are =
-      map_push far_of fars far ∙ (λ i. are i ++ one i ∷ []) ∙ sym (map_push (value_of named m) targets target)
-
   module _ {V : Type 0} (view : V → List Far) where
     pub segment_more : (targets : List (List Target)) (ts : List Target) (vs : List V) (v : V) → view v ≡ map (value_of named m) ts → map view vs ≡ values_for named m targets
         → map view (vs ++ v ∷ []) ≡ values_for named m (targets ++ ts ∷ [])

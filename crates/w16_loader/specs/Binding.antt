@@ -2,14 +2,9 @@
 use Rattle.std.specs.Prelude.{◌≡◌, ℕ, ◌<◌, true, List, ◌∷◌, length, map, Some, None, IfSome, IsSomeAnd, Ok}
 use Rattle.std.specs.List.{AllZip}
 use Rattle.std.specs.FinMap as finmap
-use Rattle.w16_store.specs.declared.store.StoreFault.TheVariants as stores
 use Rattle.w16_store.specs.Files.{file_of}
-use Rattle.w16_ne.specs.declared.fault.NeFault.{NeFault}
-use Rattle.w16_ne.specs.declared.fault.NeFault.TheVariants as ne_faults
 use Rattle.w16_ne.specs.Modules as ne
 use Rattle.w16_ne.specs.Modules.{tables_at}
-use Rattle.w16_reloc.specs.declared.fault.RelocFault.{RelocFault}
-use Rattle.w16_reloc.specs.declared.fault.RelocFault.TheVariants as relocs
 use Rattle.w16_reloc.specs.declared.value.Far as words
 use Rattle.w16_loading.specs.declared.FetchFault.TheVariants.{Store}
 use Rattle.w16_loading.specs.Closure.{are_sound}
@@ -20,9 +15,8 @@ use Rattle.w16_loading.specs.Modules.Named.{Loaded}
 use Rattle.w16_format.specs.Data.{far_of}
 use Rattle.w16_format.specs.Ne.{ne_format}
 use Rattle.w16_format.specs.Tables.{tables_in}
-use Rattle.w16_loader.specs.Closing.{Files}
-use Rattle.w16_loader.specs.declared.fault.ValueFault.{ValueFault}
-use Rattle.w16_loader.specs.declared.fault.ValueFault.TheVariants.{Device, Damaged, OutOfMemory}
+use Rattle.w16_loader.specs.Closing.{Files, IsFault}
+use Rattle.w16_loader.specs.declared.found.FileFault.{FileFault}
 use Rattle.w16_loader.specs.declared.binding.BindFault.{BindFault}
 use Rattle.w16_loader.specs.declared.binding.BindFault.TheVariants as binds
 
@@ -79,21 +73,9 @@ AreSaid files modules handles reads = AllZip (λ handle read. IsSomeAnd (module_
 
 -- Faults.
 
--- why records have no values, by a fault of their segment's check, and of the read of a name
-abbrev pub fault_of_check : RelocFault → ValueFault
-fault_of_check (relocs.Store stores.Device) = Device
-fault_of_check other = Damaged
-
-abbrev pub fault_of_name : NeFault → ValueFault
-fault_of_name ne_faults.OutOfMemory = OutOfMemory
-fault_of_name (ne_faults.Store stores.Device) = Device
-fault_of_name other = Damaged
-
--- Over files that still say what they said, the device failed, and then its count of failures rose; or there was no memory, which says nothing.
-abbrev pub IsFailure : ℕ → ℕ → ValueFault → Type 0
-IsFailure before after Device = before < after
-IsFailure before after Damaged = ⊥
-IsFailure before after OutOfMemory = Unit {0}
+-- Over files that still say what they said no number refuses a module: the device failed, or there was no memory.
+abbrev pub IsFailure : ℕ → ℕ → FileFault → Type 0
+IsFailure = IsFault (λ number. ⊥)
 
 abbrev pub IsBindFailure : ℕ → ℕ → BindFault → Type 0
 IsBindFailure before after (binds.Failed f) = (f.fault ≡ Store) × (before < after)

@@ -4,8 +4,6 @@ use Rattle.w16_loading.specs.declared.FetchFault.{FetchFault}
 use Rattle.w16_loading.specs.declared.FetchFault.TheVariants as fetches
 use Rattle.w16_loader.specs.declared.binding.BindFault.{BindFault}
 use Rattle.w16_loader.specs.declared.binding.BindFault.TheVariants as binds
-use Rattle.w16_loader.specs.declared.fault.ValueFault.{ValueFault}
-use Rattle.w16_loader.specs.declared.fault.ValueFault.TheVariants as values
 use Rattle.w16_loader.specs.declared.found.FileFault.{FileFault}
 use Rattle.w16_loader.specs.declared.found.FileFault.TheVariants as files
 use Rattle.w16_loader.specs.declared.loading.LoadAnswer.{LoadAnswer}
@@ -18,10 +16,6 @@ is_of_device other = false
 abbrev pub is_file_device : FileFault → Bool
 is_file_device files.Device = true
 is_file_device other = false
-
-abbrev pub is_value_device : ValueFault → Bool
-is_value_device values.Device = true
-is_value_device other = false
 
 abbrev pub is_bind_device : BindFault → Bool
 is_bind_device (binds.Failed failure) = is_of_device failure.fault

@@ -12,8 +12,8 @@ use Rattle.w16_reloc.specs.declared.record.Record.{Record}
 use Rattle.w16_reloc.specs.declared.value.Far as words
 use Rattle.w16_reloc.specs.Images.{IsImage}
 use Rattle.w16_reloc.specs.Law.{IsFar}
-use Rattle.w16_reloc.specs.Segments.{Held, checked}
-use Rattle.w16_reloc.specs.Sound.{IsSound}
+use Rattle.w16_reloc.specs.Segments.{Held, any_offer, checked}
+use Rattle.w16_reloc.specs.Sound.{IsSound, IsSoundSegment}
 use Rattle.w16_loading.specs.declared.FetchFault.{FetchFault}
 use Rattle.w16_loading.specs.declared.FetchFault.TheVariants.{Store, Damaged}
 use Rattle.w16_loading.specs.Answers.{FillsFewest, GivesRead, MayFail}
@@ -52,10 +52,10 @@ pub record IsSourceOf (m : Module) (number : ℕ) (file : List ℕ) (values : Li
   pub named : m.file ≡ file
   pub bound : slice_index_or m.values (number - 1) [] ≡ map far_of values
 
--- In a world where all is of its file, a slot's object is that segment of a module that was loaded with these tables.
-pub record IsFetchable (world : LoadingWorld) (slot number : ℕ) (name : List ℕ) (t : Tables) (values : List words.Far) : Type 0 where
+-- In a world where all is of its file, if the store is honest, a slot's object is that segment of a module that was loaded with these tables.
+pub record IsFetchable (honest : Type 0) (world : LoadingWorld) (slot number : ℕ) (name : List ℕ) (t : Tables) (values : List words.Far) : Type 0 where
   pub sound : IsLoadingWorld world
-  pub of_files : IsOfFiles ne_format world
+  pub of_files : honest → IsOfFiles ne_format world
   pub handle : ℕ
   pub m : Module
   pub segment : IsSegmentOf world slot handle number m
@@ -82,14 +82,16 @@ pub record GivesOwned (Known : Type 0) (IsRead : List ℕ → Type 0) (before af
   pub given : GivesRead FillsFewest (MayFail Known before after) (λ bytes. IsSomeAnd (owned_at old slot) (λ owned. length bytes ≡ owned.size)) IsRead old.heap slot fault new.heap
   pub rest : new ≡ record old { heap = new.heap }
 
--- Bytes that are some data, zeros after it, and these values at the sites of records that are sound in it.
-pub record IsRelocatedBy (values : List words.Far) (bytes : List ℕ) : Type 0 where
+-- Bytes that are some data, zeros after it, and these values at the sites of the records of some table, which are sound in it, in a module with
+-- these tables.
+pub record IsRelocatedBy (t : Tables) (values : List words.Far) (bytes : List ℕ) : Type 0 where
   pub source : List ℕ
+  pub table : List ℕ
   pub records : List Record
-  pub named : List (List ℕ)
-  pub sound : IsSound source records named
+  pub sound : IsSoundSegment (any_offer (length t.segments) (length t.references)) source table (length values) records
   pub fits : length source ≤ length bytes
-  pub image : IsImage source records values named bytes
+  pub image : IsImage source records values sound.sound.0 bytes
+  pub words : All IsFar values
 
 -- Where the store is honest: the file of this name has the segment, sound and of the size that the slot's owner says.
 pub record IsSoundSource (honest : Type 0) (files : List (List ℕ × List ℕ)) (name : List ℕ) (t : Tables) (number : ℕ) (values : List words.Far) (handles : Handles) (slot : ℕ) : Type 0 where
@@ -103,7 +105,7 @@ pub record IsSoundSource (honest : Type 0) (files : List (List ℕ × List ℕ))
 abbrev pub GivesSegment : (honest : Type 0) → List (List ℕ × List ℕ) → List ℕ → Tables → ℕ → List words.Far → (before after : ℕ) → Handles → ℕ → Option FetchFault → Handles → Type 0
 GivesSegment honest files name t number values before after old slot fault new =
     GivesOwned (IsSoundSource honest files name t number values old slot)
-    (λ bytes. ((s : Segment) → slice_get t.segments (number - 1) ≡ Some s → length bytes ≡ s.size → IsRelocatedBy values bytes)
+    (λ bytes. ((s : Segment) → slice_get t.segments (number - 1) ≡ Some s → length bytes ≡ s.size → IsRelocatedBy t values bytes)
     × ((k : IsSoundSource honest files name t number values old slot) → bytes ≡ image_in k.file t k.sound.segment values)) before after old slot fault new
 
 -- a world that has these handles, these files and this count of failures, whatever else

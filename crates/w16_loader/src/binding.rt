@@ -1,34 +1,25 @@
 //! Binding: all relocation records of the new modules of a load get their values, once.
 ghost use Rattle.std.specs.Prelude.{◌≡◌, ◌<◌, ◌≤◌, ◌+◌, ◌-◌, ℕ, List, [], map, length, true, false, Some, Ok, All, IfOk, IfErr, IsSomeAnd, OnOk, OnErr, MatchResult, slice_get, vec_capacity};
-ghost use Rattle.w16_ne.specs.Reading.{is_ne_device};
 ghost use Rattle.w16_store.specs.Later.{IsLater, RoseIf};
-ghost use Rattle.w16_loader.specs.Devices.{is_bind_device, is_value_device};
+ghost use Rattle.w16_loader.specs.Devices.{is_bind_device, is_file_device};
 ghost use Rattle.std.specs.FinMap as finmap;
 ghost use Rattle.w16_model.specs.Discards.{is_member};
-ghost use Rattle.w16_ne.specs.Modules.{Tables, imported_place};
 ghost use Rattle.w16_ne.specs.Texts.{text_in};
-ghost use Rattle.w16_reloc.specs.Records.{has_text, is_named, text_of};
-ghost use Rattle.w16_reloc.specs.Segments.{has_text_at, offer_of, is_reloc_device};
 ghost use Rattle.w16_loading.specs.File as loading;
 ghost use Rattle.w16_loading.specs.File.{ModuleFile, SegmentData, targets_of};
-ghost use Rattle.w16_loading.specs.File.Target.{ImportName};
 ghost use Rattle.w16_loading.specs.Law.{without_values};
 ghost use Rattle.w16_loading.specs.Modules.{imported, module_at, value_of};
-ghost use Rattle.w16_format.specs.Data.{far_of, target_in, target_of};
-ghost use Rattle.w16_loader.specs.Binding as binding;
-ghost use Rattle.w16_loader.specs.Binding.{AreValuesOf, IsForEach, AreTargets, IsStoredAs, IsSaid, AreSaid, IsFailure, IsBindFailure, IsUnread, values_for, bound_as, all_bound};
+ghost use Rattle.w16_format.specs.Data.{far_of, record_target, target_by};
+ghost use Rattle.w16_loader.specs.Binding.{AreValuesOf, IsForEach, AreTargets, IsSaid, AreSaid, IsFailure, IsBindFailure, IsUnread, values_for, bound_as, all_bound};
 
 use crate::entry::{Loaded, NOWHERE};
-use crate::fault::{Failure, ValueFault};
+use crate::fault::Failure;
+use crate::found::{FileFault, fault_of_check};
 use crate::registry::Registry;
 use std::alloc::{AllocError, Allocator};
 use w16_loading::FetchFault;
-use w16_ne::{NeFault, imported_name};
-use w16_reloc::{Far, Record, RelocFault, Scratch, Target, check};
-use w16_store::{Store, StoreFault};
-
-/// The most bytes that an imported name has.
-const MOST_NAME: usize = 255;
+use w16_reloc::{Far, Record, Scratch, Target, check};
+use w16_store::Store;
 
 /// Why the modules of a load aren't bound.
 #[derive(Clone, Copy, Debug, PartialEq, Eq)]
@@ -39,42 +30,20 @@ pub enum BindFault {
     OutOfMemory,
 }
 
-/// Why records have no values whose segment doesn't pass its check.
-fn fault_of_check(fault: RelocFault) -> ValueFault
-    ensures fault { result ≡ binding.fault_of_check fault }
-    ensures device { is_value_device result ≡ is_reloc_device fault }
-{
-    match fault {
-        RelocFault::Store(StoreFault::Device) => ValueFault::Device,
-        _ => ValueFault::Damaged,
-    }
-}
-
-/// Why a record has no value whose name can't be read.
-fn fault_of_name(fault: NeFault) -> ValueFault
-    ensures fault { result ≡ binding.fault_of_name fault }
-    ensures device { is_value_device result ≡ is_ne_device fault }
-{
-    match fault {
-        NeFault::OutOfMemory => ValueFault::OutOfMemory,
-        NeFault::Store(StoreFault::Device) => ValueFault::Device,
-        _ => ValueFault::Damaged,
-    }
-}
-
 /// Why the modules of a load aren't bound, by why the one at a place has no values.
-fn fault_at(place: usize, fault: ValueFault) -> BindFault
+fn fault_at(place: usize, fault: FileFault) -> BindFault
     ensures failure { (before : ℕ) (after : ℕ) → IsFailure before after fault → IsBindFailure before after result }
     ensures unread { (many : ℕ) → place < many → IsUnread many result }
-    ensures device { is_bind_device result ≡ is_value_device fault }
+    ensures device { is_bind_device result ≡ is_file_device fault }
 {
     match fault {
-        ValueFault::OutOfMemory => BindFault::OutOfMemory,
-        ValueFault::Device => BindFault::Failed(Failure {
+        FileFault::OutOfMemory => BindFault::OutOfMemory,
+        FileFault::Device => BindFault::Failed(Failure {
             place,
             fault: FetchFault::Store,
         }),
-        ValueFault::Damaged => BindFault::Failed(Failure {
+        // The file reads otherwise than it did.
+        FileFault::Refused(_) => BindFault::Failed(Failure {
             place,
             fault: FetchFault::Damaged,
         }),
@@ -97,95 +66,59 @@ fn imported<A: Allocator>(loaded: &Loaded<A>, reference: u16) -> u16
     loaded.imports().get(place).copied().unwrap_or(0)
 }
 
-/// The address of an entry of an imported module or built-in, by its name, which is read from the importing module's file.
-fn address_named<S: Store, A: Allocator>(
+/// The value of a target of a module: by its own slots and entries, or by what the handles that it imports name. The scratch has the names that
+/// its segment imports by.
+fn target_value<A: Allocator>(
     registry: &Registry<A>,
-    store: &mut S,
     loaded: &Loaded<A>,
-    reference: u16,
-    name: u16,
-) -> Result<Far, ValueFault>
-    ensures stays { IsLater (S.files store.old) (S.failures store.old) (S.files store.new) (S.failures store.new) }
-    ensures device { IfErr result (RoseIf is_value_device (S.failures store.old) (S.failures store.new)) }
-    ensures any { IfOk result (λ far. (target : loading.Target) × (far_of far ≡ value_of (finmap.get registry.now) loaded.now target)
-        × ((file : List ℕ) (t : Tables) → S.is_honest → IsStoredAs (S.files store.old) loaded.now file t → has_text_at file (imported_place t + name) ≡ true → target ≡ ImportName reference (text_in file (imported_place t + name)))) }
-    ensures failed { (file : List ℕ) (t : Tables) → S.is_honest → IsStoredAs (S.files store.old) loaded.now file t → has_text_at file (imported_place t + name) ≡ true → IfErr result (IsFailure (S.failures store.old) (S.failures store.new)) }
-{
-    let mut text = [0u8; MOST_NAME];
-    match imported_name(store, loaded.file(), loaded.module(), name, &mut text) {
-        Err(fault) => Err(fault_of_name(fault)),
-        Ok(len) => Ok(registry.proc_address_by_name(imported(loaded, reference), &text[..len])),
-    }
-}
-
-/// The value of a target of a module: by its own slots and entries, or by what the handles that it imports name.
-fn target_value<S: Store, A: Allocator>(
-    registry: &Registry<A>,
-    store: &mut S,
-    loaded: &Loaded<A>,
+    scratch: &Scratch<A>,
     target: Target,
-) -> Result<Far, ValueFault>
-    ensures stays { IsLater (S.files store.old) (S.failures store.old) (S.files store.new) (S.failures store.new) }
-    ensures device { IfErr result (RoseIf is_value_device (S.failures store.old) (S.failures store.new)) }
-    ensures any { IfOk result (λ far. (meant : loading.Target) × (far_of far ≡ value_of (finmap.get registry.now) loaded.now meant)
-        × ((file : List ℕ) (t : Tables) → S.is_honest → IsStoredAs (S.files store.old) loaded.now file t → has_text (offer_of file t) (text_of target) ≡ true → meant ≡ target_in file t target)) }
-    ensures failed { (file : List ℕ) (t : Tables) → S.is_honest → IsStoredAs (S.files store.old) loaded.now file t → has_text (offer_of file t) (text_of target) ≡ true → IfErr result (IsFailure (S.failures store.old) (S.failures store.new)) }
+) -> Far
+    ensures { far_of result ≡ value_of (finmap.get registry.now) loaded.now (target_by (text_in scratch.now.texts) target) }
 {
     match target {
-        Target::Internal { segment, offset } => Ok(loaded.address_in_segment(segment, offset)),
-        Target::Entry { ordinal } => Ok(loaded.address_by_ordinal(ordinal)),
+        Target::Internal { segment, offset } => loaded.address_in_segment(segment, offset),
+        Target::Entry { ordinal } => loaded.address_by_ordinal(ordinal),
         Target::ByOrdinal { reference, ordinal } => {
             let handle = imported(loaded, reference);
-            Ok(registry.proc_address_by_ordinal(handle, ordinal))
+            registry.proc_address_by_ordinal(handle, ordinal)
         }
         Target::ByName { reference, name } => {
-            address_named(registry, store, loaded, reference, name)
+            let handle = imported(loaded, reference);
+            registry.proc_address_by_name(handle, scratch.imported_name(name))
         }
     }
 }
 
 /// The value of a relocation record of a module; nowhere for a fixup of the system's.
-fn record_value<S: Store, A: Allocator>(
+fn record_value<A: Allocator>(
     registry: &Registry<A>,
-    store: &mut S,
     loaded: &Loaded<A>,
+    scratch: &Scratch<A>,
     relocation: Record,
-) -> Result<Far, ValueFault>
-    ensures stays { IsLater (S.files store.old) (S.failures store.old) (S.files store.new) (S.failures store.new) }
-    ensures device { IfErr result (RoseIf is_value_device (S.failures store.old) (S.failures store.new)) }
-    ensures any { IfOk result (λ far. (target : loading.Target) × (far_of far ≡ value_of (finmap.get registry.now) loaded.now target)
-        × ((file : List ℕ) (t : Tables) → S.is_honest → IsStoredAs (S.files store.old) loaded.now file t → is_named (offer_of file t) relocation ≡ true → target ≡ target_of file t relocation)) }
-    ensures failed { (file : List ℕ) (t : Tables) → S.is_honest → IsStoredAs (S.files store.old) loaded.now file t → is_named (offer_of file t) relocation ≡ true → IfErr result (IsFailure (S.failures store.old) (S.failures store.new)) }
+) -> Far
+    ensures { far_of result ≡ value_of (finmap.get registry.now) loaded.now (record_target (text_in scratch.now.texts) relocation) }
 {
     match relocation {
         Record::Stored(fixup) | Record::Added(fixup) => {
-            target_value(registry, store, loaded, fixup.target)
+            target_value(registry, loaded, scratch, fixup.target)
         }
-        Record::System => Ok(NOWHERE),
+        Record::System => NOWHERE,
     }
 }
 
-/// A value for each of some relocation records of a module.
-fn record_values<S: Store, A: Allocator + Clone>(
+/// A value for each relocation record of a module's segment, which the scratch has. An error is that memory ran out.
+fn record_values<A: Allocator + Clone>(
     registry: &Registry<A>,
-    store: &mut S,
     loaded: &Loaded<A>,
-    records: &[Record],
-) -> Result<Vec<Far, A>, ValueFault>
-    ensures stays { IsLater (S.files store.old) (S.failures store.old) (S.files store.new) (S.failures store.new) }
-    ensures device { IfErr result (RoseIf is_value_device (S.failures store.old) (S.failures store.new)) }
-    ensures any { IfOk result (λ values. (targets : List loading.Target) × AreValuesOf (finmap.get registry.now) loaded.now targets values.items
-        × ((file : List ℕ) (t : Tables) → S.is_honest → IsStoredAs (S.files store.old) loaded.now file t → All (λ r. is_named (offer_of file t) r ≡ true) records.now → targets ≡ map (target_of file t) records.now)) }
-    ensures failed { (file : List ℕ) (t : Tables) → S.is_honest → IsStoredAs (S.files store.old) loaded.now file t → All (λ r. is_named (offer_of file t) r ≡ true) records.now → IfErr result (IsFailure (S.failures store.old) (S.failures store.new)) }
+    scratch: &Scratch<A>,
+) -> Result<Vec<Far, A>, AllocError>
+    ensures { IfOk result (λ values. AreValuesOf (finmap.get registry.now) loaded.now (map (record_target (text_in scratch.now.texts)) scratch.now.held.records) values.items) }
 {
-    let Ok(mut values) = room_for(registry.allocator(), records.len()) else {
-        return Err(ValueFault::OutOfMemory);
-    };
+    let records = scratch.records();
+    let mut values = room_for(registry.allocator(), records.len())?;
     for relocation in records {
-        match record_value(registry, store, loaded, *relocation) {
-            Err(fault) => return Err(fault),
-            Ok(value) => values.push_reserved(value),
-        }
+        values.push_reserved(record_value(registry, loaded, scratch, *relocation));
     }
     Ok(values)
 }
@@ -197,18 +130,21 @@ fn segment_values<S: Store, A: Allocator + Clone>(
     scratch: &mut Scratch<A>,
     loaded: &Loaded<A>,
     number: usize,
-) -> Result<Vec<Far, A>, ValueFault>
+) -> Result<Vec<Far, A>, FileFault>
     requires first { 0 < number }
     requires last { number ≤ length loaded.now.tables.segments }
     ensures stays { IsLater (S.files store.old) (S.failures store.old) (S.files store.new) (S.failures store.new) }
-    ensures device { IfErr result (RoseIf is_value_device (S.failures store.old) (S.failures store.new)) }
+    ensures device { IfErr result (RoseIf is_file_device (S.failures store.old) (S.failures store.new)) }
     ensures any { IfOk result (λ values. (targets : List loading.Target) × AreValuesOf (finmap.get registry.now) loaded.now targets values.items
         × ((read : ModuleFile) (s : SegmentData) → S.is_honest → IsSaid (S.files store.old) loaded.now read → slice_get read.segments (number - 1) ≡ Some s → targets ≡ targets_of s)) }
     ensures failed { (read : ModuleFile) (s : SegmentData) → S.is_honest → IsSaid (S.files store.old) loaded.now read → slice_get read.segments (number - 1) ≡ Some s → IfErr result (IsFailure (S.failures store.old) (S.failures store.new)) }
 {
-    match check(store, loaded.file(), loaded.module(), number, scratch) {
-        Err(fault) => Err(fault_of_check(fault)),
-        Ok(()) => record_values(registry, store, loaded, scratch.records()),
+    if let Err(fault) = check(store, loaded.file(), loaded.module(), number, scratch) {
+        return Err(fault_of_check(fault));
+    }
+    match record_values(registry, loaded, scratch) {
+        Err(_) => Err(FileFault::OutOfMemory),
+        Ok(values) => Ok(values),
     }
 }
 
@@ -218,9 +154,9 @@ fn module_values<S: Store, A: Allocator + Clone>(
     store: &mut S,
     scratch: &mut Scratch<A>,
     loaded: &Loaded<A>,
-) -> Result<Vec<Vec<Far, A>, A>, ValueFault>
+) -> Result<Vec<Vec<Far, A>, A>, FileFault>
     ensures stays { IsLater (S.files store.old) (S.failures store.old) (S.files store.new) (S.failures store.new) }
-    ensures device { IfErr result (RoseIf is_value_device (S.failures store.old) (S.failures store.new)) }
+    ensures device { IfErr result (RoseIf is_file_device (S.failures store.old) (S.failures store.new)) }
     ensures any { IfOk result (λ values. (targets : List (List loading.Target)) × (length targets ≡ length loaded.now.tables.segments)
         × (map (λ v. map far_of v.items) values.items ≡ values_for (finmap.get registry.now) loaded.now targets)
         × ((read : ModuleFile) → S.is_honest → IsSaid (S.files store.old) loaded.now read → targets ≡ map targets_of read.segments)) }
@@ -228,7 +164,7 @@ fn module_values<S: Store, A: Allocator + Clone>(
 {
     let count = loaded.module().segment_count();
     let Ok(mut values) = room_for(registry.allocator(), count) else {
-        return Err(ValueFault::OutOfMemory);
+        return Err(FileFault::OutOfMemory);
     };
     for place in 0..count {
         match segment_values(registry, store, scratch, loaded, place + 1) {
@@ -245,9 +181,9 @@ fn bind_module<S: Store, A: Allocator + Clone>(
     store: &mut S,
     scratch: &mut Scratch<A>,
     handle: u16,
-) -> Result<(), ValueFault>
+) -> Result<(), FileFault>
     ensures stays { IsLater (S.files store.old) (S.failures store.old) (S.files store.new) (S.failures store.new) }
-    ensures device { IfErr result (RoseIf is_value_device (S.failures store.old) (S.failures store.new)) }
+    ensures device { IfErr result (RoseIf is_file_device (S.failures store.old) (S.failures store.new)) }
     ensures any { OnOk result ((targets : List (List loading.Target)) × IsForEach registry.old handle targets × (registry.new ≡ bound_as (finmap.get registry.old) registry.old handle targets)
         × ((read : ModuleFile) → S.is_honest → IsSomeAnd (module_at registry.old handle) (λ m. IsSaid (S.files store.old) m read) → targets ≡ map targets_of read.segments)) }
     ensures failed { (read : ModuleFile) → S.is_honest → IsSomeAnd (module_at registry.old handle) (λ m. IsSaid (S.files store.old) m read) → IfErr result (IsFailure (S.failures store.old) (S.failures store.new)) }

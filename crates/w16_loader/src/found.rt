@@ -48,7 +48,8 @@ pub enum Referent {
     New(usize),
 }
 
-/// Why a load makes no module of a file.
+/// Why a load makes no module of a file, or the records of a module that it made have no values: a file that reads otherwise than it did is one
+/// that is refused.
 #[derive(Clone, Copy, Debug, PartialEq, Eq)]
 pub enum FileFault {
     /// The load is refused, with this number.
@@ -114,7 +115,7 @@ fn fault_of(fault: NeFault) -> FileFault
 }
 
 /// What a fault of a segment's relocations is to a load.
-fn fault_of_check(fault: RelocFault) -> FileFault
+pub(crate) fn fault_of_check(fault: RelocFault) -> FileFault
     ensures fault { result ≡ loads.fault_of_check fault }
     ensures number { IsFault (λ number. number ≡ 11) 0 1 result }
     ensures device { is_file_device result ≡ is_reloc_device fault }

@@ -5,8 +5,8 @@ ghost use Rattle.w16_store.specs.Files.{file_of};
 ghost use Rattle.w16_store.specs.Later.{IsLater, RoseIf};
 ghost use Rattle.w16_ne.specs.declared.segment_table.Segment.{Segment};
 ghost use Rattle.w16_ne.specs.Modules.{tables_at};
-ghost use Rattle.w16_reloc.specs.Segments.{Held, checked, is_reloc_device};
-ghost use Rattle.w16_reloc.specs.Sound.{IsSound};
+ghost use Rattle.w16_reloc.specs.Segments.{Held, any_offer, checked, is_reloc_device};
+ghost use Rattle.w16_reloc.specs.Sound.{IsSoundSegment};
 ghost use Rattle.w16_global.specs.Owned.{LacksBytes};
 ghost use Rattle.w16_loading.specs.declared.FetchFault.TheVariants.{Store as store_fails};
 ghost use Rattle.w16_loading.specs.Fill.{is_of_read};
@@ -57,14 +57,15 @@ fn read<S: Store, A: Allocator>(
     requires last { source.now.number ≤ length source.now.module.now.segments }
     ensures stays { IsLater (S.files store.old) (S.failures store.old) (S.files store.new) (S.failures store.new) }
     ensures device { IfErr result (RoseIf is_of_device (S.failures store.old) (S.failures store.new)) }
-    ensures many { OnOk result (length scratch.new.records ≡ length source.now.values.now) }
+    ensures many { OnOk result (length scratch.new.held.records ≡ length source.now.values.now) }
     ensures faults { IfErr result (λ fault. is_of_read fault ≡ true) }
-    ensures sound { OnOk result ((named : List (List ℕ)) × IsSound scratch.new.bytes scratch.new.records named) }
-    ensures room { (s : Segment) → slice_get source.now.module.now.segments (source.now.number - 1) ≡ Some s → OnOk result (length scratch.new.bytes ≤ s.size) }
+    ensures sound { OnOk result ((table : List ℕ)
+        × IsSoundSegment (any_offer (length source.now.module.now.segments) (length source.now.module.now.references)) scratch.new.held.bytes table (length source.now.values.now) scratch.new.held.records) }
+    ensures room { (s : Segment) → slice_get source.now.module.now.segments (source.now.number - 1) ≡ Some s → OnOk result (length scratch.new.held.bytes ≤ s.size) }
     ensures exact { (file : List ℕ) (s : Segment) (held : Held) → S.is_honest → file_of (S.files store.old) source.now.file.now ≡ Some file
         → tables_at (Some file) ≡ Ok source.now.module.now → slice_get source.now.module.now.segments (source.now.number - 1) ≡ Some s
         → checked file source.now.module.now s ≡ Ok held → length held.records ≡ length source.now.values.now
-        → MatchResult result (λ _. scratch.new ≡ held) (λ fault. fault ≡ store_fails) }
+        → MatchResult result (λ _. scratch.new.held ≡ held) (λ fault. fault ≡ store_fails) }
 {
     if let Err(fault) = check(store, source.file, source.module, source.number, scratch) {
         return Err(fault_of(fault));

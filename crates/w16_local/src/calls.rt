@@ -10,24 +10,32 @@ ghost use Rattle.w16_local.specs.Parts.{Calls};
 use crate::LocalHeaps;
 use crate::acts::ByteOp;
 use crate::current::{CurrentHeap, Named};
-use crate::flags::{local_kind, local_options, moveable_or_discardable, rounded_up};
+use crate::flags::{
+    LocalAllocFlags, LocalReAllocFlags, local_kind, local_options, moveable_or_discardable,
+    rounded_up,
+};
 use crate::growth::Request;
 use crate::look::{may_discard, may_free};
 use crate::steps::TableOp;
+use bitflags::Flags;
 use std::alloc::Allocator;
 use w16_global::Global16;
-use w16_machine::local::{LMEM_MODIFY, LMEM_MOVEABLE};
-use w16_model::has_flag;
 
 impl<A: Allocator + Copy> LocalHeaps<A> {
     /// `LocalAlloc`: a new object's name, or 0: for a fixed object of size 0, where no entry is free, and where there is no room. The size
     /// is rounded up to 4 bytes; a moveable object of size 0 has no bytes. Others slide or are discarded for it as in the global heap, as few as
     /// make room. Where none do, the heap grows with its segment, by the least that serves and to at most 65,536 bytes, if it ends where the
     /// segment does, others may slide for the request, and the segment gets the bytes.
-    pub fn local_alloc(&mut self, global: &mut Global16<A>, ds: u16, flags: u16, size: u16) -> u16
-        ensures step { Calls global.old.handles self.old ds (LocalAlloc flags size) result global.new.handles self.new }
-        ensures fewest { InWorlds global.old.handles self.old ds global.new.handles self.new (AllocsFewest flags size result) }
-        ensures written { IsLentOrGrown (λ at id. IsLowestFree (heap_of at) id) flags size global.old self.old ds global.new }
+    pub fn local_alloc(
+        &mut self,
+        global: &mut Global16<A>,
+        ds: u16,
+        flags: LocalAllocFlags,
+        size: u16,
+    ) -> u16
+        ensures step { Calls global.old.handles self.old ds (LocalAlloc flags.0 size) result global.new.handles self.new }
+        ensures fewest { InWorlds global.old.handles self.old ds global.new.handles self.new (AllocsFewest flags.0 size result) }
+        ensures written { IsLentOrGrown (λ at id. IsLowestFree (heap_of at) id) flags.0 size global.old self.old ds global.new }
     {
         let Some(CurrentHeap { slot, .. }) = self.current_heap(global, ds) else {
             return 0;
@@ -36,7 +44,7 @@ impl<A: Allocator + Copy> LocalHeaps<A> {
             return 0;
         };
         if size == 0 {
-            if !has_flag(flags, LMEM_MOVEABLE) {
+            if !flags.intersects(LocalAllocFlags::MOVEABLE) {
                 return 0;
             }
             let _ = self.step(slot, id, TableOp::Enter(moveable_or_discardable(flags)));
@@ -60,17 +68,19 @@ impl<A: Allocator + Copy> LocalHeaps<A> {
         ds: u16,
         name: u16,
         size: u16,
-        flags: u16,
+        flags: LocalReAllocFlags,
     ) -> u16
-        ensures step { Calls global.old.handles self.old ds (LocalReAlloc name size flags) result global.new.handles self.new }
-        ensures fewest { InWorlds global.old.handles self.old ds global.new.handles self.new (ReallocsFewest name size flags result) }
-        ensures written { IsLentOrGrown (λ at id. id_named (heap_of at) name ≡ Some id) flags size global.old self.old ds global.new }
+        ensures step { Calls global.old.handles self.old ds (LocalReAlloc name size flags.0) result global.new.handles self.new }
+        ensures fewest { InWorlds global.old.handles self.old ds global.new.handles self.new (ReallocsFewest name size flags.0 result) }
+        ensures written { IsLentOrGrown (λ at id. id_named (heap_of at) name ≡ Some id) flags.0 size global.old self.old ds global.new }
     {
         let Some(Named { slot, heap, id }) = self.named(global, ds, name) else {
             return 0;
         };
-        if has_flag(flags, LMEM_MODIFY) {
-            let _ = self.step(slot, id, TableOp::Modify(moveable_or_discardable(flags)));
+        // The kind and the options are read from the same bits as those of `LocalAlloc`.
+        let asked = LocalAllocFlags(flags.0);
+        if flags.intersects(LocalReAllocFlags::MODIFY) {
+            let _ = self.step(slot, id, TableOp::Modify(moveable_or_discardable(asked)));
             return name;
         }
         if size > 0 {
@@ -78,11 +88,11 @@ impl<A: Allocator + Copy> LocalHeaps<A> {
                 id,
                 size: rounded_up(size),
                 kind: None,
-                options: local_options(flags),
+                options: local_options(asked),
             };
             return self.serve(global, slot, request);
         }
-        if !has_flag(flags, LMEM_MOVEABLE) {
+        if !flags.intersects(LocalReAllocFlags::MOVEABLE) {
             return 0;
         }
         if !may_discard(heap, id) {
@@ -97,7 +107,7 @@ impl<A: Allocator + Copy> LocalHeaps<A> {
         ensures step { Calls global.old.handles self.old ds (LocalDiscard name) result global.new.handles self.new }
         ensures written { IsLentOnce global.old self.old ds global.new }
     {
-        self.local_realloc(global, ds, name, 0, LMEM_MOVEABLE)
+        self.local_realloc(global, ds, name, 0, LocalReAllocFlags::MOVEABLE)
     }
 
     /// `LocalFree`: 0, and the object is gone; or the name, where it is bad or the object locked.

@@ -11,9 +11,10 @@ ghost use Rattle.w16_local.specs.Growth.{Grown, InSlot, MayGrowIn, Served, SizeT
 use crate::LocalHeaps;
 use crate::acts::ByteOp;
 use crate::heap::LocalHeap;
+use bitflags::Flags;
 use std::alloc::Allocator;
-use w16_global::{Global16, Work};
-use w16_model::{GMEM_NODISCARD, GRAIN, Kind, RoomOptions};
+use w16_global::{Global16, GlobalReAllocFlags, Work};
+use w16_model::{GRAIN, Kind, RoomOptions};
 use w16_region::{Space, reveal_bytes};
 
 /// A request for so many bytes, above 0 and a multiple of 4, for an entry: for a new object of a kind, or for the one that it has.
@@ -176,8 +177,12 @@ impl<A: Allocator + Copy> LocalHeaps<A> {
 }
 
 /// The flags with which a segment is reallocated for a request: no object is discarded for it where the request may discard none.
-fn growth_flags(options: RoomOptions) -> u16
-    ensures { result ≡ growth.growth_flags options }
+fn growth_flags(options: RoomOptions) -> GlobalReAllocFlags
+    ensures { result.0 ≡ growth.growth_flags options }
 {
-    if options.discard { 0 } else { GMEM_NODISCARD }
+    if options.discard {
+        GlobalReAllocFlags::empty()
+    } else {
+        GlobalReAllocFlags::NODISCARD
+    }
 }

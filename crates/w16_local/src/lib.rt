@@ -23,6 +23,7 @@ mod steps;
 mod sweep;
 
 use crate::heap::LocalHeap;
+pub use flags::{LocalAllocFlags, LocalReAllocFlags};
 use std::alloc::{AllocError, Allocator, Global};
 use std::marker::Model;
 use w16_arena::Arena;

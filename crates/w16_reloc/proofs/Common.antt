@@ -21,7 +21,7 @@ pub use Rattle.w16_reloc.specs.Law.{IsFar}
 pub use Rattle.w16_reloc.specs.Naming.{chain_from, image_of, naming, offsets_of}
 pub use Rattle.w16_reloc.specs.Records.{IsRecord, Offer, is_named}
 unfoldable pub use Rattle.w16_reloc.specs.Records.{record_at, target_at}
-pub use Rattle.w16_reloc.specs.Segments.{Answers, Held, LiesIn, Refuses, any_offer, data_of, is_reloc_device, offer_at, offer_of, records_of}
+pub use Rattle.w16_reloc.specs.Segments.{Answers, Held, LiesIn, Refuses, any_offer, data_of, is_reloc_device, offer_in, offer_of, records_of}
 unfoldable pub use Rattle.w16_reloc.specs.Segments.{checked}
 pub use Rattle.w16_reloc.specs.Sites.{AreApart, AreSound, Site, covers, meets}
 pub use Rattle.w16_reloc.specs.Sound.{AreNamed, AreRecords, IsChain, IsSound, IsSoundSegment, Names, all_sites, chain_width, of_width, value_width, width_of}

@@ -7,6 +7,7 @@ pub mod ApartLemmas
 pub mod RecordLemmas
 pub mod ImageLemmas
 pub mod Refusals
+pub mod ImportedNames
 pub mod FileLemmas
 pub mod SoundLemmas
 pub mod FaultLemmas

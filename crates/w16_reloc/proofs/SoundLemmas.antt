@@ -129,11 +129,5 @@ all_pass offer bytes table i before (r ∷ rs) (ats ∷ others) formed names sou
     let rest = all_pass offer bytes table (i + 1) (joined before (of_width (width_of r) ats)) rs others formed.1 names.1 parts.1 in
     rw (formed.0.0, formed.0.1, sites_pass bytes before r ats names.0 parts.0, rest) refl
 
--- what passed is sound in the data
-pub sound_passed : {A : Type 0} (r : Result A RelocFault) (offer : Offer) (bytes table : List ℕ) (count : ℕ) (records : List Record) → OnOk r (check_from offer bytes table count 0 [] ≡ Ok records)
-    → OnOk r ((table : List ℕ) × (count : ℕ) × IsSoundSegment offer bytes table count records)
-sound_passed (Ok a) offer bytes table count records h = (table, count, passed_is_sound offer bytes table count records h)
-sound_passed (Err e) offer bytes table count records h = tt
-
 pub sound_passes : (offer : Offer) (bytes table : List ℕ) (count : ℕ) (records : List Record) → IsSoundSegment offer bytes table count records → check_from offer bytes table count 0 [] ≡ Ok records
 sound_passes offer bytes table count records s = rw (← s.many) (all_pass offer bytes table 0 [] records s.sound.0 s.formed s.sound.1.0 (sound_steps bytes records s.sound.0 s.sound.1.0 s.sound.1.1))

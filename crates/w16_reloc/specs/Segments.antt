@@ -1,27 +1,30 @@
 -- A segment of a module's file, and what a check of it answers.
-use Rattle.std.specs.Prelude.{◌≡◌, ℕ, ◌+◌, ◌*◌, ◌<◌, ◌≤◌, List, [], length, take, drop, Some, Result, Ok, Err, nat_lt, ◌&&◌, Bool, true, false, slice_index}
+use Rattle.std.specs.Prelude.{◌≡◌, ◌≢◌, ◌⊎◌, bit_and, ℕ, ◌+◌, ◌*◌, ◌<◌, ◌≤◌, List, [], length, take, drop, All, Some, IfSome, Result, Ok, Err, nat_lt, ◌&&◌, Bool, true, false, slice_index}
 use Rattle.w16_store.specs.declared.store.StoreFault.{StoreFault}
 use Rattle.w16_store.specs.declared.store.StoreFault.TheVariants as stores
 use Rattle.w16_store.specs.Later.{is_device}
 use Rattle.w16_ne.specs.declared.segment_table.Segment.{Segment}
 use Rattle.w16_ne.specs.Segments.{records_at}
+use Rattle.w16_ne.specs.declared.text_window.TheConstants.{TEXTS}
+use Rattle.w16_ne.specs.Texts.{text_in}
 use Rattle.w16_ne.specs.Modules.{Tables, imported_place}
 use Rattle.w16_reloc.specs.declared.fault.RelocFault.{RelocFault}
 use Rattle.w16_reloc.specs.declared.fault.RelocFault.TheVariants as faults
 use Rattle.w16_reloc.specs.declared.record.Record.{Record}
-use Rattle.w16_reloc.specs.Records.{Offer}
+use Rattle.w16_reloc.specs.Records.{Offer, name_in}
 use Rattle.w16_reloc.specs.Check.{◌>>=◌, check_from}
 
--- a length byte at an offset and the text behind it lie in the file
+-- a length byte at an offset and the text after it lie in the file
 abbrev pub has_text_at : List ℕ → ℕ → Bool
 has_text_at file at = nat_lt at (length file) && nat_lt (at + slice_index file at) (length file)
 
--- what a module offers whose imported names begin at an offset of its file
-abbrev pub offer_at : List ℕ → ℕ → ℕ → ℕ → Offer
-offer_at file segments references names = record { segments = segments; references = references; has_name = λ name. has_text_at file (names + name) }
-
+-- what a module offers by its file
 abbrev pub offer_of : List ℕ → Tables → Offer
-offer_of file tables = offer_at file (length tables.segments) (length tables.references) (imported_place tables)
+offer_of file tables = record { segments = length tables.segments; references = length tables.references; has_name = λ name. has_text_at file (imported_place tables + name) }
+
+-- what one offers whose imported names stand in these bytes
+abbrev pub offer_in : List ℕ → ℕ → ℕ → Offer
+offer_in texts segments references = record { segments = segments; references = references; has_name = has_text_at texts }
 
 -- one in whose file each name is taken to have a text
 abbrev pub any_offer : ℕ → ℕ → Offer
@@ -38,16 +41,33 @@ records_of file s = take (8 * s.records) (drop (s.place + s.len + 2) file)
 abbrev pub LiesIn : List ℕ → Segment → Type 0
 LiesIn file s = (s.len ≡ 0 → s.records ≡ 0) × (0 < s.len → (s.place + s.len ≤ length file) × (records_at (Some file) s.flags.0 (s.place + s.len) ≡ Ok s.records))
 
--- what a scratch holds
+-- what is known of a segment that was checked
 pub record Held : Type 0 where
   pub bytes : List ℕ
   pub records : List Record
+
+-- what a scratch holds: that, and bytes of the file in which the names stand that the records ask for
+pub record Scratched : Type 0 where
+  pub held : Held
+  pub texts : List ℕ
 
 -- the check of a segment: its data and records, or the first fault
 unfoldable pub checked : List ℕ → Tables → Segment → Result Held RelocFault
 checked file tables s = do
   records ← check_from (offer_of file tables) (data_of file s) (records_of file s) s.records 0 []
   Ok (record { bytes = data_of file s; records = records })
+
+-- The imported names of a module begin at an offset of its file: as many bytes from there as a name can reach.
+abbrev pub names_from : List ℕ → ℕ → List ℕ
+names_from file at = take TEXTS (drop at file)
+
+-- The bytes read for so many records of a table: those, or none where no record imports by name.
+abbrev pub AreNamesFor : List ℕ → Tables → List ℕ → ℕ → List ℕ → Type 0
+AreNamesFor file tables raw count texts = (texts ≡ names_from file (imported_place tables)) ⊎ ((i : ℕ) → i < count → bit_and (slice_index raw (8 * i + 1)) 3 ≢ 2)
+
+-- where these records ask for names, they stand in such bytes as in the file
+abbrev pub AreTextsOf : List ℕ → Tables → List Record → List ℕ → Type 0
+AreTextsOf file tables records texts = All (λ r. IfSome (name_in r) (λ name. text_in texts name ≡ text_in file (imported_place tables + name))) records
 
 -- a fault of the store's device
 abbrev pub is_reloc_device : RelocFault → Bool

@@ -3,6 +3,7 @@
 
 mod chain;
 mod fault;
+mod flags;
 mod image;
 pub mod laws;
 mod marks;

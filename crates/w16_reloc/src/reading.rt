@@ -1,13 +1,14 @@
 //! Parts of a module's file, read through a store.
-ghost use Rattle.std.specs.Prelude.{◌≡◌, ℕ, ◌<◌, ◌≤◌, ◌+◌, ◌^◌, length, List, take, drop, Some, Ok, Result, None, nat_lt, slice_index, IfOk, if◌then◌else◌, IfErr};
+ghost use Rattle.std.specs.Prelude.{◌≡◌, ℕ, ◌<◌, ◌≤◌, ◌+◌, ◌^◌, length, List, take, drop, Some, Ok, IfErr};
 ghost use Rattle.w16_store.specs.Files.{file_of};
 ghost use Rattle.w16_store.specs.Later.{IsLater, RoseIf};
 ghost use Rattle.w16_ne.specs.Segments.{records_at};
+ghost use Rattle.w16_ne.specs.Texts.{text_in};
 ghost use Rattle.w16_reloc.specs.Segments.{Answers, has_text_at, is_reloc_device};
 
 use crate::chain::word;
 use crate::fault::RelocFault;
-use w16_store::{Store, StoreFault};
+use w16_store::Store;
 
 /// Fills the buffer from an offset of the file on.
 pub fn read<S: Store>(store: &mut S, name: &[u8], at: u64, buf: &mut [u8]) -> Result<(), RelocFault>
@@ -35,36 +36,31 @@ pub fn len_of<S: Store>(store: &mut S, name: &[u8]) -> Result<u64, RelocFault>
     }
 }
 
-/// The byte at an offset, or none where the file ends before.
-fn byte_at<S: Store>(store: &mut S, name: &[u8], at: u64) -> Result<Option<u8>, RelocFault>
-    ensures stays { IsLater (S.files store.old) (S.failures store.old) (S.files store.new) (S.failures store.new) }
-    ensures device { IfErr result (RoseIf is_reloc_device (S.failures store.old) (S.failures store.new)) }
-    ensures exact { (file : List ℕ) → S.is_honest → file_of (S.files store.old) name.now ≡ Some file
-        → Answers (λ b. b) (S.failures store.old) (S.failures store.new) result (Ok (if nat_lt at (length file) then Some (slice_index file at) else None)) }
+/// Whether a length byte at an index, and the text after it, lie in some bytes.
+pub fn has_text(texts: &[u8], at: u16) -> bool
+    ensures { result ≡ has_text_at texts.now at }
 {
-    let mut byte = [0u8; 1];
-    match store.read_at(name, at, &mut byte) {
-        Ok(()) => Ok(Some(byte[0])),
-        Err(StoreFault::Short) => Ok(None),
-        Err(e) => Err(RelocFault::Store(e)),
+    match texts.get(usize::from(at)) {
+        None => false,
+        Some(len) => usize::from(at) + usize::from(*len) < texts.len(),
     }
 }
 
-/// Whether a length byte at an offset, and the text behind it, lie in the file.
-pub fn has_text<S: Store>(store: &mut S, name: &[u8], at: u64) -> Result<bool, RelocFault>
-    requires { at + 255 < 2 ^ 64 }
-    ensures stays { IsLater (S.files store.old) (S.failures store.old) (S.files store.new) (S.failures store.new) }
-    ensures device { IfErr result (RoseIf is_reloc_device (S.failures store.old) (S.failures store.new)) }
-    ensures exact { (file : List ℕ) → S.is_honest → file_of (S.files store.old) name.now ≡ Some file
-        → Answers (λ b. b) (S.failures store.old) (S.failures store.new) result (Ok (has_text_at file at)) }
+/// The text whose length byte stands at an index: none where that is past the end, and as much of it as there is.
+pub fn text(texts: &[u8], at: u16) -> &[u8]
+    ensures { result.now ≡ text_in texts.now at }
 {
-    match byte_at(store, name, at)? {
-        None => Ok(false),
-        Some(len) => Ok(byte_at(store, name, at + u64::from(len))?.is_some()),
+    let at = usize::from(at);
+    match texts.get(at) {
+        None => &[],
+        Some(len) => {
+            let rest = &texts[at + 1..];
+            &rest[..usize::from(*len).min(rest.len())]
+        }
     }
 }
 
-/// How many records stand behind the data that end at an offset, by their count there.
+/// How many records stand after the data that end at an offset, by their count there.
 #[tactic(auto, unfolding(w16_ne::specs::Segments::records_at))]
 pub fn count_at<S: Store>(
     store: &mut S,

@@ -4,6 +4,8 @@ ghost use Rattle.w16_reloc.specs.declared.record.Record.TheVariants.{Stored, Add
 ghost use Rattle.w16_reloc.specs.Records.{part_of, internal_of, imported_of, target_at, record_at};
 
 use crate::chain::word;
+use crate::flags::RelocationType;
+use bitflags::Flags;
 
 /// What of its target a record writes.
 #[derive(Debug, Clone, Copy, PartialEq, Eq)]
@@ -106,7 +108,9 @@ fn target_at(segments: usize, references: usize, bytes: &[u8], at: usize) -> Opt
     requires { at + 7 < length bytes.now }
     ensures { result ≡ target_at segments references bytes.now at }
 {
-    let kind = bytes[at + 1] & 3;
+    let kind = RelocationType(bytes[at + 1])
+        .intersection(RelocationType::TARGET)
+        .0;
     if kind == 0 {
         internal(segments, bytes[at + 4], word(bytes, at + 6))
     } else {
@@ -120,13 +124,13 @@ fn target_at(segments: usize, references: usize, bytes: &[u8], at: usize) -> Opt
 }
 
 /// The record of a fixup, by its relocation type.
-fn of_fixup(kind: u8, fixup: Fixup) -> Record
-    ensures { result ≡ (if bit_and kind 4 == 0 then Stored fixup else Added fixup) }
+fn of_fixup(kind: RelocationType, fixup: Fixup) -> Record
+    ensures { result ≡ (if bit_and kind.0 4 == 0 then Stored fixup else Added fixup) }
 {
-    if kind & 4 == 0 {
-        Record::Stored(fixup)
-    } else {
+    if kind.intersects(RelocationType::ADDITIVE) {
         Record::Added(fixup)
+    } else {
+        Record::Stored(fixup)
     }
 }
 
@@ -137,7 +141,8 @@ pub fn record_at(segments: usize, references: usize, bytes: &[u8], at: usize) ->
     requires { at + 7 < length bytes.now }
     ensures { result ≡ record_at segments references bytes.now at }
 {
-    if bytes[at + 1] & 3 == 3 {
+    let kind = RelocationType(bytes[at + 1]);
+    if kind.contains(RelocationType::TARGET) {
         return Some(Record::System);
     }
     let part = part_of(bytes[at])?;
@@ -147,5 +152,5 @@ pub fn record_at(segments: usize, references: usize, bytes: &[u8], at: usize) ->
         offset: word(bytes, at + 2),
         target,
     };
-    Some(of_fixup(bytes[at + 1], fixup))
+    Some(of_fixup(kind, fixup))
 }

@@ -7,7 +7,7 @@ ghost use Rattle.w16_reloc.specs.Check.{AreMarks};
 ghost use Rattle.w16_reloc.specs.Segments.{Answers, LiesIn, data_of, records_of, is_reloc_device};
 
 use crate::fault::RelocFault;
-use crate::reading::{count_at, read};
+use crate::reading::{count_at, len_of, read};
 use std::alloc::Allocator;
 use w16_ne::Segment;
 use w16_store::Store;
@@ -46,7 +46,28 @@ pub fn read_bytes<A: Allocator, S: Store>(
     read(store, name, at, room.as_mut_slice())
 }
 
-/// Reads the records behind the data that end at an offset, and tells how many there are.
+/// Reads so many bytes of the file from an offset on, or those up to its end where it comes first, within the vector's room.
+pub fn read_front<A: Allocator, S: Store>(
+    store: &mut S,
+    name: &[u8],
+    at: u64,
+    most: usize,
+    room: &mut Vec<u8, A>,
+) -> Result<(), RelocFault>
+    requires { most ≤ vec_capacity room.old }
+    ensures stays { IsLater (S.files store.old) (S.failures store.old) (S.files store.new) (S.failures store.new) }
+    ensures device { IfErr result (RoseIf is_reloc_device (S.failures store.old) (S.failures store.new)) }
+    ensures len { OnOk result (vec_len room.new ≤ most) }
+    ensures capacity { vec_capacity room.old ≤ vec_capacity room.new }
+    ensures exact { (file : List ℕ) → S.is_honest → file_of (S.files store.old) name.now ≡ Some file
+        → Answers (λ _. room.new.items) (S.failures store.old) (S.failures store.new) result (Ok (take most (drop at file))) }
+{
+    let file_len = len_of(store, name)?;
+    let count = file_len.saturating_sub(at).min(most as u64) as usize;
+    read_bytes(store, name, at, count, room)
+}
+
+/// Reads the records after the data that end at an offset, and tells how many there are.
 fn read_table<A: Allocator, S: Store>(
     store: &mut S,
     name: &[u8],

@@ -46,7 +46,7 @@ pub(crate) fn read<S: Store, A: Allocator>(
     ensures faults { IfErr result (λ fault. is_of_read fault ≡ true) }
     ensures exact { (file : List ℕ) → S.is_honest → file_of (S.files store.old) source.now.file.now ≡ Some file
         → is_long source.now.resource.len ≡ false → source.now.resource.place < length file
-        → MatchResult result (λ _. scratch.new.bytes ≡ take source.now.resource.len (drop source.now.resource.place file))
+        → MatchResult result (λ _. scratch.new.held.bytes ≡ take source.now.resource.len (drop source.now.resource.place file))
         (λ fault. fault ≡ store_fails) }
 {
     let resource = source.resource;

@@ -12,7 +12,10 @@ use crate::bytes::MOST_BYTES;
 use crate::name::{Name, find};
 use crate::registers::{Registers, register};
 use crate::words::split_word;
-use w16_kernel::{Call, Label, MOST_FILLED, MOST_READ};
+use w16_kernel::{
+    Call, GlobalAllocFlags, GlobalReAllocFlags, Label, LocalAllocFlags, LocalReAllocFlags,
+    MOST_FILLED, MOST_READ,
+};
 
 /// The most bytes that a `Read` may ask for.
 const READ_AT_MOST: u32 = MOST_READ as u32;
@@ -83,7 +86,7 @@ fn with_words<'a>(name: Name, first: u16, second: u16) -> Option<Call<'a>>
 {
     match name {
         Name::LocalAlloc => Some(Call::LocalAlloc {
-            flags: first,
+            flags: LocalAllocFlags(first),
             size: second,
         }),
         Name::LoadResource => Some(Call::LoadResource {
@@ -164,7 +167,10 @@ fn call<'a>(
     match name {
         Name::GlobalAlloc => {
             let (flags, size) = two::<u16, u32>(text, registers)?;
-            Some(Call::GlobalAlloc { flags, size })
+            Some(Call::GlobalAlloc {
+                flags: GlobalAllocFlags(flags),
+                size,
+            })
         }
         Name::GlobalCompact => {
             let size = one::<u32>(text, registers)?;
@@ -175,7 +181,7 @@ fn call<'a>(
             Some(Call::GlobalReAlloc {
                 handle,
                 size,
-                flags,
+                flags: GlobalReAllocFlags(flags),
             })
         }
         Name::Moved => nothing(text, registers).map(|()| Call::Moved),
@@ -195,7 +201,11 @@ fn call<'a>(
         }
         Name::LocalReAlloc => {
             let (name, size, flags) = three::<u16, u16, u16>(text, registers)?;
-            Some(Call::LocalReAlloc { name, size, flags })
+            Some(Call::LocalReAlloc {
+                name,
+                size,
+                flags: LocalReAllocFlags(flags),
+            })
         }
         Name::GetProcAddress => {
             let (handle, label) = two::<u16, Label<'_>>(text, registers)?;

@@ -159,7 +159,7 @@ fn relocations_value(
 ) -> Result<Value, AllocError>
     ensures same { store.new ≡ store.old }
     ensures value { (file : List ℕ) → file_of store.old name.now ≡ Some file → tables_at (Some file) ≡ Ok tables.now
-        → IfOk result (λ v. view v ≡ list (map (relocation_json file tables.now scratch.now.bytes) scratch.now.records)) }
+        → IfOk result (λ v. view v ≡ list (map (relocation_json file tables.now scratch.now.held.bytes) scratch.now.held.records)) }
 {
     let mut sites = Vec::new(alloc);
     let mut values = Vec::new(alloc);

@@ -161,7 +161,7 @@ pub fn push_relocations(
 ) -> Result<(), AllocError>
     ensures same { store.new ≡ store.old }
     ensures text { (file : List ℕ) → file_of store.old name.now ≡ Some file → tables_at (Some file) ≡ Ok tables.now
-        → Adds result (string_bytes out.old) (string_bytes out.new) (relocations_text file tables.now (Ok scratch.now)) }
+        → Adds result (string_bytes out.old) (string_bytes out.new) (relocations_text file tables.now (Ok scratch.now.held)) }
 {
     let mut sites = Vec::new(*out.allocator());
     for relocation in scratch.records() {

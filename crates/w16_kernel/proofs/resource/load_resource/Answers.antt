@@ -1,4 +1,4 @@
-use Rattle.w16_kernel.proofs.Fewest.{step_fills}
+use Rattle.w16_loading.proofs.Requests.{step_fills}
 use Rattle.w16_kernel.proofs.resource.load_resource.Goals as goal
 
 pub returns-in-Ok-clause-step : goal.returns-in-Ok-clause-step

@@ -1,7 +1,7 @@
 -- One module more is bound.
 use Rattle.w16_loader.proofs.Common.{◌∷◌, ◌<◌, ◌≤◌, [], drop, get_or, length, sym, ap, ◌∙◌, subst, arith, IsSomeAnd, drop_more, drop_all, without_values, Modules, module_at, AreTargets, IsSaid, all_bound}
 use Rattle.std.specs.FinMap as finmap
-use Rattle.w16_loader.proofs.Values.{failure_since}
+use Rattle.w16_loader.proofs.Values.{fault_since}
 use Rattle.w16_loader.proofs.Bindings.{no_more, none_left, others_next, read_here, said_here, step, still_alike, targets_in_all, targets_left, targets_next}
 use Rattle.w16_loader.proofs.binding.bind_modules.Goals as goal
 
@@ -56,7 +56,7 @@ returns-in-Err-clause-faults g c = λ reads honest said.
     let read = read_here old now now handles place handle here before.values files reads said lt in
     let is = said_here old now now handles place handle here before.values files reads said lt in
     let still = subst (λ fs. IsSomeAnd (module_at now handle) (λ m. IsSaid fs m read)) (sym before.files) is in
-    c.fault_at.ensures.failure _ _ (failure_since _ _ _ c.in-Err.fault before.failures (c.in-Err.ensures.failed read honest still))
+    c.fault_at.ensures.failure _ _ (fault_since _ _ _ _ c.in-Err.fault before.failures (c.in-Err.ensures.failed read honest still))
 
 pub returns-clause-any : goal.returns-clause-any
 returns-clause-any g c =

@@ -1,11 +1,11 @@
 -- A segment that passes its check has the records that its file says.
-use Rattle.w16_loader.proofs.Common.{◌≡◌, ◌-◌, List, IfOk, Some, slice_get, ModuleFile, SegmentData, targets_of, AreValuesOf, IsSaid, length, map, sym, ap, ◌∙◌, subst, arith, true, All, ◌≤◌, ℕ, Result, Ok, Err, ValueFault, length-map, offer_of, target_of, segment_in, IsFailure, IsStoredAs}
+use Rattle.w16_loader.proofs.Common.{◌≡◌, ◌-◌, List, IfOk, Some, slice_get, ModuleFile, SegmentData, targets_of, AreValuesOf, IsSaid, length, map, sym, ap, ◌∙◌, subst, arith, true, All, ◌≤◌, ℕ, Result, Ok, Err, FileFault, length-map, offer_of, target_of, segment_in, IsFailure, IsStoredAs}
 use Rattle.std.specs.Result.{IfErr}
 use Rattle.std.specs.FinMap as finmap
 use Rattle.w16_ne.specs.Modules.{Tables}
 use Rattle.w16_reloc.specs.Records.{is_named}
 use Rattle.w16_loading.specs.File as loading
-use Rattle.w16_loader.proofs.Values.{all_named, failure_since, found, segment_refused, stored_as, stored_there, targets_are}
+use Rattle.w16_loader.proofs.Values.{all_named, fault_since, found, segment_refused, stored_as, stored_there, targets_are}
 use Rattle.w16_loader.proofs.binding.segment_values.Goals as goal
 
 pub check-requires-clause-last : goal.check-requires-clause-last
@@ -24,11 +24,11 @@ returns-in-Err-clause-failed g c = λ read s honest is at.
     (segment_refused files m read is t c.module.ensures (c.args.number - 1) s at _ _ c.in-Err.fault
     (c.in-Err.ensures.exact is.file (found files m read is t c.module.ensures (c.args.number - 1) s at).0 honest (stored_there files m is.file t stored c.file.result.now c.file.ensures t c.module.ensures) stored.read (found files m read is t c.module.ensures (c.args.number - 1) s at).1))
 
-refused_since : {X : Type 0} (r : Result X ValueFault) (before mid after : ℕ) → before ≤ mid → IfErr r (IsFailure mid after) → IfErr r (IsFailure before after)
+refused_since : {X : Type 0} (r : Result X FileFault) (before mid after : ℕ) → before ≤ mid → IfErr r (IsFailure mid after) → IfErr r (IsFailure before after)
 refused_since (Ok values) before mid after le h = h
-refused_since (Err fault) before mid after le h = failure_since before mid after fault le h
+refused_since (Err fault) before mid after le h = fault_since (λ number. ⊥) before mid after fault le h
 
-of_targets : {V : Type 0} (r : Result V ValueFault) (Are : List loading.Target → V → Type 0) (P Q : List loading.Target → Type 0) → ((ts : List loading.Target) → P ts → Q ts)
+of_targets : {V : Type 0} (r : Result V FileFault) (Are : List loading.Target → V → Type 0) (P Q : List loading.Target → Type 0) → ((ts : List loading.Target) → P ts → Q ts)
     → IfOk r (λ v. (ts : List loading.Target) × Are ts v × P ts) → IfOk r (λ v. (ts : List loading.Target) × Are ts v × Q ts)
 of_targets (Ok v) Are P Q f (ts, are, p) = (ts, are, f ts p)
 of_targets (Err e) Are P Q f h = h

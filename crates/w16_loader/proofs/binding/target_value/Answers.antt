@@ -1,15 +1,12 @@
--- The value is that of the target that the code has.
-use Rattle.w16_loader.proofs.Common.{ap, sym, ◌∙◌, Internal, InternalEntry, Import, address_at}
+-- An import is looked for by the handle of its reference.
+use Rattle.w16_loader.proofs.Common.{ap, sym, ◌∙◌, address_at}
 use Rattle.std.specs.FinMap as finmap
-use Rattle.w16_format.specs.Data.{target_in}
+use Rattle.w16_ne.specs.Texts.{text_in}
+use Rattle.w16_loading.specs.Modules.{address_named}
 use Rattle.w16_loader.proofs.binding.target_value.Goals as goal
 
-pub returns-in-Internal-clause-any : goal.returns-in-Internal-clause-any
-returns-in-Internal-clause-any g c = (Internal c.in-Internal.segment c.in-Internal.offset, c.address_in_segment.ensures, λ file t honest is has. ap (target_in file t) (sym c.in-Internal.is))
+pub returns-in-ByOrdinal : goal.returns-in-ByOrdinal
+returns-in-ByOrdinal g c = c.proc_address_by_ordinal.ensures ∙ ap (λ h. address_at (finmap.get c.args.registry.now) h c.in-ByOrdinal.ordinal) c.imported-handle.ensures
 
-pub returns-in-Entry-clause-any : goal.returns-in-Entry-clause-any
-returns-in-Entry-clause-any g c = (InternalEntry c.in-Entry.ordinal, c.address_by_ordinal.ensures, λ file t honest is has. ap (target_in file t) (sym c.in-Entry.is))
-
-pub returns-in-ByOrdinal-clause-any : goal.returns-in-ByOrdinal-clause-any
-returns-in-ByOrdinal-clause-any g c =
-    (Import c.in-ByOrdinal.reference c.in-ByOrdinal.ordinal, c.proc_address_by_ordinal.ensures ∙ ap (λ h. address_at (finmap.get c.args.registry.now) h c.in-ByOrdinal.ordinal) c.imported-handle.ensures, λ file t honest is has. ap (target_in file t) (sym c.in-ByOrdinal.is))
+pub returns-in-ByName : goal.returns-in-ByName
+returns-in-ByName g c = c.proc_address_by_name.ensures ∙ ap (λ h. address_named (finmap.get c.args.registry.now) h (text_in c.args.scratch.now.texts c.in-ByName.name)) c.imported-handle-in-ByName.ensures

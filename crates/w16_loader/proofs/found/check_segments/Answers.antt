@@ -20,7 +20,7 @@ loop-place-preserved g c = record {
       let s = there c.args.module_file.now.segments c.loop-place.place lt in
       let place : c.loop-place.place + 1 - 1 ≡ c.loop-place.place = omega arith in
       let here : slice_get c.args.module_file.now.segments (c.loop-place.place + 1 - 1) ≡ Some s.0 = ap (λ k. slice_get c.args.module_file.now.segments k) place ∙ s.1 in
-      sound_next bytes c.args.module_file.now c.loop-place.place s.0 s.1 (c.loop-place.invariant.sound bytes honest has tables) c.check.new.scratch
+      sound_next bytes c.args.module_file.now c.loop-place.place s.0 s.1 (c.loop-place.invariant.sound bytes honest has tables) c.check.new.scratch.held
       (c.in-Ok.ensures.exact bytes s.0 honest (rw c.loop-place.invariant.files has) tables here);
 }
 

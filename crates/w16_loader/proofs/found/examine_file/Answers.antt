@@ -4,15 +4,10 @@ use Rattle.w16_store.specs.Later.{RoseIf}
 use Rattle.w16_loader.specs.Devices.{is_file_device}
 use Rattle.w16_loader.proofs.Common.{◌<◌, arith, inl, Modules, Found, List, MatchResult, MakesOf, ReadsIn, answers_of, tables_in, ℕ, ◌≤◌, Result, Ok, Err, sym, subst, FileFault, IsFault, Refused}
 use Rattle.w16_loader.proofs.Meanings.{all_there}
+use Rattle.w16_loader.proofs.Values.{fault_since}
 use Rattle.w16_loading.specs.Answers.{Answers}
 use Rattle.w16_loader.specs.declared.found.FileFault.TheVariants as faults
 use Rattle.w16_loader.proofs.found.examine_file.Goals as goal
-
--- A failure since a moment is one since an earlier moment.
-fault_since : (IsRefused : ℕ → Type 0) (before mid after : ℕ) (fault : FileFault) → before ≤ mid → IsFault IsRefused mid after fault → IsFault IsRefused before after fault
-fault_since IsRefused before mid after (faults.Refused number) le is = is
-fault_since IsRefused before mid after faults.Device le more = omega (arith, le, more)
-fault_since IsRefused before mid after faults.OutOfMemory le none = tt
 
 refused : {A : Type 0} (answers : Answers) (modules : Modules) (found : List (Found A)) (name : List ℕ) (before after : ℕ) (fault : FileFault)
     → IsFault (λ number. answers.says name (Err number)) before after fault → IsFault (λ number. ReadsIn answers modules found name (Refused number)) before after fault

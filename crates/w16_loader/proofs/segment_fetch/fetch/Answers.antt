@@ -12,7 +12,7 @@ returns-in_err-read-clause-given g c = λ lacks.
 
 pub returns-then-give-clause-given : goal.returns-then-give-clause-given
 returns-then-give-clause-given g c = λ lacks. filled _ _ _ _ _ _ c.reveal_handles.ensures.heap _ (λ bytes are sized. (
-  λ s there long. relocated c.bytes.result.now c.records.result.now c.args.source.now.values.now bytes s.size are (rw (← c.bytes.ensures, ← c.records.ensures) at c.in_ok-read.ensures.sound)
+  λ s there long. relocated _ c.bytes.result.now c.records.result.now c.args.source.now.values.now bytes s.size are (rw (← c.bytes.ensures, ← c.records.ensures) at c.in_ok-read.ensures.sound)
       (rw (← c.bytes.ensures) at c.in_ok-read.ensures.room s there) long,
   λ s.
       let read = c.in_ok-read.ensures.exact s.file s.sound.segment s.sound.held s.truly s.stored s.sound.tables s.sound.there s.sound.passed s.sound.many in

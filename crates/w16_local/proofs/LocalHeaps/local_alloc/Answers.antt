@@ -7,13 +7,13 @@ use Rattle.w16_local.proofs.Stepping.{holds_in}
 use Rattle.w16_local.proofs.LocalHeaps.local_alloc.Goals as goal
 
 pub returns-in_default-clause-step : goal.returns-in_default-clause-step
-returns-in_default-clause-step g c = alloc_none c.args.global.now.handles c.args.self.now c.args.ds c.args.flags c.args.size c.in_default.ensures.none
+returns-in_default-clause-step g c = alloc_none c.args.global.now.handles c.args.self.now c.args.ds c.args.flags.0 c.args.size c.in_default.ensures.none
 
 pub returns-in_default-free_entry-clause-step : goal.returns-in_default-free_entry-clause-step
-returns-in_default-free_entry-clause-step g c = let is = c.in-Some.ensures.some in alloc_full is c.args.flags c.args.size (holds_in IsFull is.kept c.in_default-free_entry.ensures.none)
+returns-in_default-free_entry-clause-step g c = let is = c.in-Some.ensures.some in alloc_full is c.args.flags.0 c.args.size (holds_in IsFull is.kept c.in_default-free_entry.ensures.none)
 
-pub returns-then-not-has_flag-clause-step : goal.returns-then-not-has_flag-clause-step
-returns-then-not-has_flag-clause-step g c = alloc_empty c.in-Some.ensures.some c.args.flags c.args.size c.if-size-eq0.true (sym c.has_flag.ensures ∙ c.if-not-has_flag.true)
+pub returns-then-not-intersects-clause-step : goal.returns-then-not-intersects-clause-step
+returns-then-not-intersects-clause-step g c = alloc_empty c.in-Some.ensures.some c.args.flags.0 c.args.size c.if-size-eq0.true (sym (c.intersects.ensures tt) ∙ c.if-not-intersects.true)
 
 pub step-requires : goal.step-requires
 step-requires g c =
@@ -28,7 +28,7 @@ pub returns-then-size-eq0-clause-step : goal.returns-then-size-eq0-clause-step
 returns-then-size-eq0-clause-step g c =
     let is = c.in-Some.ensures.some in
     let lowest = holds_in (λ (t : Table). IsLowest t c.in-Some-free_entry.id) is.kept c.in-Some-free_entry.ensures.found in
-    enter_calls is c.args.flags c.args.size c.in-Some-free_entry.id lowest c.if-size-eq0.true (sym c.has_flag.ensures ∙ c.if-not-has_flag.false) c.step.result c.step.new.self
+    enter_calls is c.args.flags.0 c.args.size c.in-Some-free_entry.id lowest c.if-size-eq0.true (sym (c.intersects.ensures tt) ∙ c.if-not-intersects.false) c.step.result c.step.new.self
     (subst (λ (k : Kind). Stepped c.args.self.now c.in-Some.field-0.slot
     (λ a b. ◌≡◌ {A = Result Heap Refusal} (Ok (with_object a c.in-Some-free_entry.id
     (record { kind = k; locks = 0; bytes = None }))) (outcome c.step.result b)) c.step.new.self)
@@ -45,33 +45,33 @@ pub returns-clause-step : goal.returns-clause-step
 returns-clause-step g c =
     let is = c.in-Some.ensures.some in
     let lowest = holds_in (λ (t : Table). IsLowest t c.in-Some-free_entry.id) is.kept c.in-Some-free_entry.ensures.found in
-    alloc_calls is c.args.flags c.args.size c.in-Some-free_entry.id lowest
+    alloc_calls is c.args.flags.0 c.args.size c.in-Some-free_entry.id lowest
     (let some = c.if-size-eq0.false in omega (arith, some))
     (subst (λ (r : Request). InSlot c.args.global.now.handles c.args.self.now c.in-Some.field-0.slot
     c.serve.new.global.handles c.serve.new.self (λ old at left. Served r old at c.serve.result left))
     (λ i. record { id = c.in-Some-free_entry.id; size = c.rounded_up.ensures i; kind = Some (c.local_kind.ensures i); options = c.local_options.ensures i }) c.serve.ensures.served)
 
 pub returns-in_default-clause-fewest : goal.returns-in_default-clause-fewest
-returns-in_default-clause-fewest g c = λ rest is at current. local_alloc_law _ _ c.args.flags c.args.size _ at is (returns-in_default-clause-step g c rest) current
+returns-in_default-clause-fewest g c = λ rest is at current. local_alloc_law _ _ c.args.flags.0 c.args.size _ at is (returns-in_default-clause-step g c rest) current
 
 pub returns-in_default-free_entry-clause-fewest : goal.returns-in_default-free_entry-clause-fewest
-returns-in_default-free_entry-clause-fewest g c = λ rest is at current. local_alloc_law _ _ c.args.flags c.args.size _ at is (returns-in_default-free_entry-clause-step g c rest) current
+returns-in_default-free_entry-clause-fewest g c = λ rest is at current. local_alloc_law _ _ c.args.flags.0 c.args.size _ at is (returns-in_default-free_entry-clause-step g c rest) current
 
-pub returns-then-not-has_flag-clause-fewest : goal.returns-then-not-has_flag-clause-fewest
-returns-then-not-has_flag-clause-fewest g c = λ rest is at current. local_alloc_law _ _ c.args.flags c.args.size _ at is (returns-then-not-has_flag-clause-step g c rest) current
+pub returns-then-not-intersects-clause-fewest : goal.returns-then-not-intersects-clause-fewest
+returns-then-not-intersects-clause-fewest g c = λ rest is at current. local_alloc_law _ _ c.args.flags.0 c.args.size _ at is (returns-then-not-intersects-clause-step g c rest) current
 
 pub returns-then-size-eq0-clause-fewest : goal.returns-then-size-eq0-clause-fewest
-returns-then-size-eq0-clause-fewest g c = λ rest is at current. local_alloc_law _ _ c.args.flags c.args.size _ at is (returns-then-size-eq0-clause-step g c rest) current
+returns-then-size-eq0-clause-fewest g c = λ rest is at current. local_alloc_law _ _ c.args.flags.0 c.args.size _ at is (returns-then-size-eq0-clause-step g c rest) current
 
 pub returns-clause-fewest : goal.returns-clause-fewest
-returns-clause-fewest g c = λ rest is at current. local_alloc_law _ _ c.args.flags c.args.size _ at is (returns-clause-step g c rest) current
+returns-clause-fewest g c = λ rest is at current. local_alloc_law _ _ c.args.flags.0 c.args.size _ at is (returns-clause-step g c rest) current
 
 pub returns-clause-written : goal.returns-clause-written
 returns-clause-written g c =
     let is = c.in-Some.ensures.some in
     let lowest = holds_in (λ (t : Table). IsLowest t c.in-Some-free_entry.id) is.kept c.in-Some-free_entry.ensures.found in
     let some = c.if-size-eq0.false in
-    served_in is c.serve.new.global c.args.flags c.args.size (λ at id. IsLowestFree (heap_of at) id) (Some (local_kind c.args.flags)) c.in-Some-free_entry.id (is_lowest is c.args.flags c.args.size c.in-Some-free_entry.id lowest) (omega (arith, some))
+    served_in is c.serve.new.global c.args.flags.0 c.args.size (λ at id. IsLowestFree (heap_of at) id) (Some (local_kind c.args.flags.0)) c.in-Some-free_entry.id (is_lowest is c.args.flags.0 c.args.size c.in-Some-free_entry.id lowest) (omega (arith, some))
     (subst (λ (r : Request). InSlot c.args.global.now.handles c.args.self.now c.in-Some.field-0.slot
     c.serve.new.global.handles c.serve.new.self (λ old at left. WritesServed r old at c.args.global.now.written left.loading.handles c.serve.new.global.written))
     (λ i. record { id = c.in-Some-free_entry.id; size = c.rounded_up.ensures i; kind = Some (c.local_kind.ensures i); options = c.local_options.ensures i }) c.serve.ensures.written)

@@ -5,29 +5,29 @@ use Rattle.w16_global.proofs.global.Global16.new_object.Goals as goal
 
 pub returns-then-size-eq0-clause-step : goal.returns-then-size-eq0-clause-step
 returns-then-size-eq0-clause-step g c =
-    absent_answered c.args.self.now.handles c.free_run.new.self.handles (handles_shown c.free_run.ensures.same ∙ ap (λ (x : Handles). record x { moved = 0 }) (handles_shown c.self.view_is)) c.args.flags c.in-Some.slot c.args.size c.enter.new.self.handles
+    absent_answered c.args.self.now.handles c.free_run.new.self.handles (handles_shown c.free_run.ensures.same ∙ ap (λ (x : Handles). record x { moved = 0 }) (handles_shown c.self.view_is)) c.args.flags.0 c.in-Some.slot c.args.size c.enter.new.self.handles
     (subst (λ x. IsFreeRun x c.in-Some.slot (slots_for (rounded_size c.args.size)))
     (sym (handles_shown c.free_run.ensures.same)) (subst
     (IsFreeRun (handles_of c.self.inside.objects c.self.inside.attributes.items 0) c.in-Some.slot)
     (c.slots_for-slots.ensures.value ∙ ap slots_for c.rounded-rounded_size.ensures) c.in-Some.ensures.found))
     c.kind_asked-kind.result c.kind_asked-kind.ensures c.attributes_asked-attributes.result
     (c.attributes_asked-attributes.ensures ∙ ap (λ n. let a : Attributes = record
-    { shared = has_flag c.args.flags GMEM_DDESHARE; owned = None; slots = n } in a)
+    { shared = has_flag c.args.flags.0 GMEM_DDESHARE; owned = None; slots = n } in a)
     (c.slots_for-slots.ensures.value ∙ ap slots_for c.rounded-rounded_size.ensures)) c.handle_of.result
     c.handle_of.ensures c.if-size-eq0.true
-    (sym c.if-not-has_flag.ensures) c.enter.ensures.entered c.enter.ensures.rest
+    (sym (c.if-not-intersects.ensures tt)) c.enter.ensures.entered c.enter.ensures.rest
 
 pub returns-then-allocate-clause-step : goal.returns-then-allocate-clause-step
 returns-then-allocate-clause-step g c =
     let s = c.if-allocate.ensures in
-    bytes_answered c.args.self.now.handles c.free_run.new.self.handles (handles_shown c.free_run.ensures.same ∙ ap (λ (x : Handles). record x { moved = 0 }) (handles_shown c.self.view_is)) c.args.flags c.in-Some.slot c.args.size c.allocate.new.self.handles
+    bytes_answered c.args.self.now.handles c.free_run.new.self.handles (handles_shown c.free_run.ensures.same ∙ ap (λ (x : Handles). record x { moved = 0 }) (handles_shown c.self.view_is)) c.args.flags.0 c.in-Some.slot c.args.size c.allocate.new.self.handles
     (subst (λ x. IsFreeRun x c.in-Some.slot (slots_for (rounded_size c.args.size)))
     (sym (handles_shown c.free_run.ensures.same)) (subst
     (IsFreeRun (handles_of c.self.inside.objects c.self.inside.attributes.items 0) c.in-Some.slot)
     (c.slots_for-slots.ensures.value ∙ ap slots_for c.rounded-rounded_size.ensures) c.in-Some.ensures.found))
     c.kind_asked-kind.result c.kind_asked-kind.ensures c.attributes_asked-attributes.result
     (c.attributes_asked-attributes.ensures ∙ ap (λ n. let a : Attributes = record
-    { shared = has_flag c.args.flags GMEM_DDESHARE; owned = None; slots = n } in a)
+    { shared = has_flag c.args.flags.0 GMEM_DDESHARE; owned = None; slots = n } in a)
     (c.slots_for-slots.ensures.value ∙ ap slots_for c.rounded-rounded_size.ensures)) c.handle_of-then-allocate.result
     c.handle_of-then-allocate.ensures
     c.rounded-rounded_size.result c.rounded-rounded_size.ensures c.alloc_options.result c.alloc_options.ensures c.if-size-eq0.false
@@ -36,19 +36,19 @@ returns-then-allocate-clause-step g c =
 pub returns-else-allocate-clause-step : goal.returns-else-allocate-clause-step
 returns-else-allocate-clause-step g c =
     let s = c.if-allocate.ensures in
-    bytes_refused c.args.self.now.handles c.free_run.new.self.handles (handles_shown c.free_run.ensures.same ∙ ap (λ (x : Handles). record x { moved = 0 }) (handles_shown c.self.view_is)) c.args.flags c.in-Some.slot c.args.size c.allocate.new.self.handles
+    bytes_refused c.args.self.now.handles c.free_run.new.self.handles (handles_shown c.free_run.ensures.same ∙ ap (λ (x : Handles). record x { moved = 0 }) (handles_shown c.self.view_is)) c.args.flags.0 c.in-Some.slot c.args.size c.allocate.new.self.handles
     (subst (λ x. IsFreeRun x c.in-Some.slot (slots_for (rounded_size c.args.size)))
     (sym (handles_shown c.free_run.ensures.same)) (subst
     (IsFreeRun (handles_of c.self.inside.objects c.self.inside.attributes.items 0) c.in-Some.slot)
     (c.slots_for-slots.ensures.value ∙ ap slots_for c.rounded-rounded_size.ensures) c.in-Some.ensures.found))
     c.kind_asked-kind.result c.kind_asked-kind.ensures c.attributes_asked-attributes.result
     (c.attributes_asked-attributes.ensures ∙ ap (λ n. let a : Attributes = record
-    { shared = has_flag c.args.flags GMEM_DDESHARE; owned = None; slots = n } in a)
+    { shared = has_flag c.args.flags.0 GMEM_DDESHARE; owned = None; slots = n } in a)
     (c.slots_for-slots.ensures.value ∙ ap slots_for c.rounded-rounded_size.ensures)) _ refl
     c.rounded-rounded_size.result c.rounded-rounded_size.ensures c.alloc_options.result c.alloc_options.ensures c.if-size-eq0.false
     (subst AreHandles (sym (handles_shown c.free_run.ensures.same)) c.self.invariant.handles) s.allocated s.rest
 
 pub returns-in_default-clause-step : goal.returns-in_default-clause-step
 returns-in_default-clause-step g c =
-    refuses_slots c.args.self.now.handles (handles_of c.self.inside.objects c.self.inside.attributes.items 0) (ap (λ (x : Handles). record x { moved = 0 }) (handles_shown c.self.view_is)) c.args.flags c.args.size c.free_run.new.self.handles
+    refuses_slots c.args.self.now.handles (handles_of c.self.inside.objects c.self.inside.attributes.items 0) (ap (λ (x : Handles). record x { moved = 0 }) (handles_shown c.self.view_is)) c.args.flags.0 c.args.size c.free_run.new.self.handles
     (subst (HasNoRun (handles_of c.self.inside.objects c.self.inside.attributes.items 0)) (c.slots_for-slots.ensures.value ∙ ap slots_for c.rounded-rounded_size.ensures) c.in_default.ensures.none) (handles_shown c.free_run.ensures.same)
