@@ -32,7 +32,7 @@ fn mark(marks: &mut [bool], imports: &[u16], importer: usize)
 
 /// The handles that what stands at a place imports: none where that is a built-in, or nothing.
 fn imports_of<A: Allocator>(place: Option<&Entry<A>>) -> &[u16]
-    ensures { (handle : ℕ) → is_member handle result.now ≡ imports_in (option_map (λ e. named_of e.now) place) handle }
+    ensures { (handle : ℕ) → is_member handle result.now ≡ imports_in (option_map (λ e. named_of e.now) place.entry) handle }
 {
     match place {
         Some(Entry::Loaded(loaded)) => loaded.imports(),
