@@ -113,9 +113,9 @@ module _ {A : Type 0} (es : List (Option (Entry A))) (marks : List Bool) (marked
       turn (Some e) f = tt
 
 -- Where nothing was marked, what is marked is what is imported.
-module _ {A : Type 0} (es slice : List (Option (Entry A))) (n : ℕ) (marks : List Bool) (same : slice ≡ es) (many : length es ≡ n) where
-  pub all_marked : ((handle : ℕ) → handle < n → get_or marks handle false ≡ (get_or (replicate n false) handle false || is_imported (listed slice) handle))
+module _ {A : Type 0} (es : List (Option (Entry A))) (n : ℕ) (marks : List Bool) (many : length es ≡ n) where
+  pub all_marked : ((handle : ℕ) → handle < n → get_or marks handle false ≡ (get_or (replicate n false) handle false || is_imported (listed es) handle))
       → (handle : ℕ) → handle < length es → get_or marks handle false ≡ is_imported (listed es) handle
   all_marked marked handle lt =
       let inside : handle < n = omega arith in
-      marked handle inside ∙ ap (λ b. b || is_imported (listed slice) handle) (get_or-replicate {A = Bool} n handle false false inside) ∙ ap (λ xs. is_imported (listed xs) handle) same
+      marked handle inside ∙ ap (λ b. b || is_imported (listed es) handle) (get_or-replicate {A = Bool} n handle false false inside)

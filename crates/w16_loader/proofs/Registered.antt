@@ -1,9 +1,10 @@
 -- The finite map of a table by handle.
-use Rattle.w16_loader.proofs.Common.{◌≡◌, ℕ, zero, suc, ◌+◌, ◌-◌, ◌<◌, ◌≤◌, inl, inr, List, [], ◌∷◌, length, get_or, set, take, drop, replicate, Bool, cond, Option, Some, None, option_map, is_some, refl, sym, ap}
-use Rattle.w16_loader.proofs.Common.{◌∙◌, arith, ◌⊎◌, OnSome, IfNone, count_by, is_none, nat_cmp, nat_cmp_total, nat_cmp_is, Less, entries-insert, len-empty, len-entries, same_map, nat_cmp-IsAntisymmetric, put}
-use Rattle.w16_loader.proofs.Common.{by_order, cases_eq, get_or_past, get_or-set_same, get_or-set_other, get_or-replicate, set-get_or, length-set, length-replicate, length-drop, take-length, sum_by-cons, by_id}
+use Rattle.w16_loader.proofs.Common.{◌≡◌, ℕ, zero, suc, ◌+◌, ◌-◌, ◌<◌, ◌≤◌, inl, inr, List, [], ◌∷◌, length, get_or, set, drop, replicate, Bool, cond, Option, Some, None, option_map, is_some, refl, sym, ap}
+use Rattle.w16_loader.proofs.Common.{◌∙◌, arith, cases_lt, subst, OnSome, IfNone, count_by, is_none, nat_cmp, nat_cmp_total, nat_cmp_is, Less, entries-insert, len-empty, len-entries, same_map, nat_cmp-IsAntisymmetric, put}
+use Rattle.w16_loader.proofs.Common.{by_order, cases_eq, get_or_past, get_or-set_same, get_or-set_other, get_or-replicate, length-set, length-replicate, sum_by-cons, by_id}
 use Rattle.w16_loader.proofs.Common.{get-by_id, inserted_here, inserted_other, taken_here, taken_other, FIRST_MODULE, MOST_MODULES, Module, Named, free_modules, module_in, Entry, named_of, listed, registered}
 use Rattle.w16_loader.proofs.Common.{IsTable}
+use Rattle.std.proofs.Common.{Bor, option_copied}
 use Rattle.std.specs.FinMap as finmap
 
 -- nothing is before the first
@@ -15,10 +16,6 @@ no_entries (x ∷ xs) e = absurd (omega arith)
 count_first : {X : Type 0} (p : X → Bool) (x : X) (xs : List X) → count_by p (x ∷ xs) ≡ cond (p x) 1 0 + count_by p xs
 count_first p x xs = sum_by-cons (λ y. cond (p y) 1 0) x xs
 
--- a list from a place on
-pub rest_behind : {X : Type 0} (k : ℕ) (xs : List X) → take (length xs - k) (drop k xs) ≡ drop k xs
-rest_behind k xs = ap (λ n. take n (drop k xs)) (sym (length-drop k xs)) ∙ take-length (drop k xs)
-
 some_is_not_none : {X : Type 0} (x : X) → Some x ≡ None → ⊥
 some_is_not_none x e = cc
 
@@ -27,15 +24,26 @@ module _ {A : Type 0} where
   pub named_at : (es : List (Option (Entry A))) (handle : ℕ) → finmap.get (registered es) handle ≡ option_map named_of (get_or es handle None)
   named_at es handle = get-by_id (λ _ e. named_of e) es handle
 
+  -- what a look at it gives
+  pub named_copied : (r : Option (Bor (Entry A))) → option_map (λ e. named_of e.now) r ≡ option_map named_of (option_copied r)
+  named_copied None = refl
+  named_copied (Some e) = refl
+
   pub named_set : (es : List (Option (Entry A))) (handle : ℕ) (e : Entry A) → handle < length es → registered (set es handle (Some e)) ≡ finmap.insert (registered es) handle (named_of e)
   named_set es handle e lt = same_map nat_cmp_total nat_cmp-IsAntisymmetric (registered (set es handle (Some e))) (finmap.insert (registered es) handle (named_of e)) (λ q. elim (cases_eq q handle) [
     | inl i ↦ named_at (set es handle (Some e)) q ∙ ap (λ k. option_map named_of (get_or (set es handle (Some e)) k None)) i ∙ ap (option_map named_of) (get_or-set_same es handle (Some e) None lt) ∙ sym (inserted_here (registered es) handle (named_of e) q i)
     | inr d ↦ named_at (set es handle (Some e)) q ∙ ap (option_map named_of) (get_or-set_other es handle q (Some e) None d) ∙ sym (named_at es q) ∙ sym (inserted_other (registered es) handle (named_of e) q d)
   ])
 
-  pub named_unset : (es : List (Option (Entry A))) (handle : ℕ) → handle < length es → registered (set es handle None) ≡ finmap.remove (registered es) handle
-  named_unset es handle lt = same_map nat_cmp_total nat_cmp-IsAntisymmetric (registered (set es handle None)) (finmap.remove (registered es) handle) (λ q. elim (cases_eq q handle) [
-    | inl i ↦ named_at (set es handle None) q ∙ ap (λ k. option_map named_of (get_or (set es handle None) k None)) i ∙ ap (option_map named_of) (get_or-set_same es handle None None lt) ∙ sym (taken_here (registered es) handle q i)
+  none_left : (es : List (Option (Entry A))) (handle : ℕ) → get_or (set es handle None) handle None ≡ None
+  none_left es handle = elim (cases_lt handle (length es)) [
+    | inl lt ↦ get_or-set_same es handle None None lt
+    | inr le ↦ get_or_past (set es handle None) handle None (omega (arith, le, length-set es handle None))
+  ]
+
+  named_unset : (es : List (Option (Entry A))) (handle : ℕ) → registered (set es handle None) ≡ finmap.remove (registered es) handle
+  named_unset es handle = same_map nat_cmp_total nat_cmp-IsAntisymmetric (registered (set es handle None)) (finmap.remove (registered es) handle) (λ q. elim (cases_eq q handle) [
+    | inl i ↦ named_at (set es handle None) q ∙ ap (λ k. option_map named_of (get_or (set es handle None) k None)) i ∙ ap (option_map named_of) (none_left es handle) ∙ sym (taken_here (registered es) handle q i)
     | inr d ↦ named_at (set es handle None) q ∙ ap (option_map named_of) (get_or-set_other es handle q None None d) ∙ sym (named_at es q) ∙ sym (taken_other (registered es) handle q d)
   ])
 
@@ -82,11 +90,17 @@ module _ {A : Type 0} where
       omega arith
   free_behind (suc k) (Some e ∷ es) le none = absurd (some_is_not_none e (none 0 (omega arith)))
 
+  pub len_is : (es : List (Option (Entry A))) → finmap.len (registered es) ≡ count_by is_some es
+  len_is es = len-entries (registered es) ∙ ap length (entries_are es) ∙ many_from 0 es
+
+  some_and_none : (es : List (Option (Entry A))) → IsTable es → count_by is_some es + count_by is_none (drop FIRST_MODULE es) ≡ MOST_MODULES
+  some_and_none es is = omega (arith, free_behind FIRST_MODULE es (omega (arith, is.many)) is.none_below, is.many)
+
+  pub few : (es : List (Option (Entry A))) → IsTable es → count_by is_some es ≤ MOST_MODULES
+  few es is = omega (arith, some_and_none es is)
+
   pub free_are : (es : List (Option (Entry A))) → IsTable es → count_by is_none (drop FIRST_MODULE es) ≡ free_modules (registered es)
-  free_are es is =
-      let many = len-entries (registered es) ∙ ap length (entries_are es) ∙ many_from 0 es in
-      let free = free_behind FIRST_MODULE es (omega (arith, is.many)) is.none_below in
-      omega (arith, many, free, is.many)
+  free_are es is = omega (arith, len_is es, some_and_none es is)
 
   -- A new table.
   none_listed : (id : ℕ) (es : List (Option (Entry A))) (n : ℕ) → es ≡ replicate n None → by_id (λ _ e. named_of e) id es ≡ []
@@ -99,23 +113,6 @@ module _ {A : Type 0} where
   pub none_registered : (es : List (Option (Entry A))) (n : ℕ) → es ≡ replicate n None → registered es ≡ finmap.empty
   none_registered es n e = ap finmap.from_entries (none_listed 0 es n e)
 
-  -- A table in which a module is taken out of its place.
-  either : {M : Type 0} (result : Option M) (old new : Option (Entry A)) → OnSome result (new ≡ None) → IfNone result (new ≡ old) → (new ≡ None) ⊎ (new ≡ old)
-  either (Some m) old new gone none = inl gone
-  either None old new gone none = inr none
-
-  one_table : (es : List (Option (Entry A))) (place : ℕ) (old new : Option (Entry A)) → old ≡ get_or es place None → IsTable es → (new ≡ None) ⊎ (new ≡ old) → place < length es → IsTable (set es place new)
-  one_table es place old new was is cases lt = record {
-    many = length-set es place new ∙ is.many;
-    none_below = λ q below. elim (cases_eq q place) [
-      | inl e ↦ ap (λ k. get_or (set es place new) k None) e ∙ get_or-set_same es place new None lt ∙ elim cases [
-        | inl none ↦ none
-        | inr same ↦ same ∙ was ∙ ap (λ k. get_or es k None) (sym e) ∙ is.none_below q below
-      ]
-      | inr d ↦ get_or-set_other es place q new None d ∙ is.none_below q below
-    ];
-  }
-
   -- only a handle from the first to the last names a module
   pub named_inside : {M : Type 0} (es : List (Option (Entry A))) (handle : ℕ) (result : Option M) (value : M → Module) → IsTable es
       → option_map value result ≡ module_in (option_map named_of (get_or es handle None)) → OnSome result ((FIRST_MODULE ≤ handle) × (handle < FIRST_MODULE + MOST_MODULES))
@@ -126,24 +123,25 @@ module _ {A : Type 0} where
       let last : length es ≤ handle → ⊥ = λ le. none (get_or_past es handle None le) in
       (omega arith, omega (arith, is.many))
 
-  module _ {M : Type 0} (es : List (Option (Entry A))) (place : ℕ) (lt : place < length es) (old : Option (Entry A)) (was : old ≡ get_or es place None) where
-    module _ (result : Option M) (new : Option (Entry A)) (gone : OnSome result (new ≡ None)) (none : IfNone result (new ≡ old)) where
-      pub taken_table : IsTable es → IsTable (set es place new)
-      taken_table is = one_table es place old new was is (either result old new gone none) lt
+  -- A table in which a module is taken out of its place.
+  module _ {M : Type 0} (es new : List (Option (Entry A))) (place : ℕ) where
+    pub taken_table : (result : Option M) → OnSome result (new ≡ set es place None) → IfNone result (new ≡ es) → IsTable es → IsTable new
+    taken_table None gone none is = subst IsTable (sym none) is
+    taken_table (Some m) gone none is = subst IsTable (sym gone) (record {
+      many = length-set es place None ∙ is.many;
+      none_below = λ q below. elim (cases_eq q place) [
+        | inl e ↦ ap (λ k. get_or (set es place None) k None) e ∙ none_left es place
+        | inr d ↦ get_or-set_other es place q None None d ∙ is.none_below q below
+      ];
+    })
 
-      pub taken_gone : OnSome result (registered (set es place new) ≡ finmap.remove (registered es) place)
-      taken_gone = from result gone
-        where
-          from : (result : Option M) → OnSome result (new ≡ None) → OnSome result (registered (set es place new) ≡ finmap.remove (registered es) place)
-          from None gone = tt
-          from (Some m) gone = ap (λ x. registered (set es place x)) gone ∙ named_unset es place lt
+    pub taken_gone : (result : Option M) → OnSome result (new ≡ set es place None) → OnSome result (registered new ≡ finmap.remove (registered es) place)
+    taken_gone None gone = tt
+    taken_gone (Some m) gone = ap registered gone ∙ named_unset es place
 
-      pub taken_none : IfNone result (registered (set es place new) ≡ registered es)
-      taken_none = from result none
-        where
-          from : (result : Option M) → IfNone result (new ≡ old) → IfNone result (registered (set es place new) ≡ registered es)
-          from None none = ap (λ x. registered (set es place x)) (none ∙ was) ∙ ap registered (set-get_or es place None)
-          from (Some m) none = tt
+    pub taken_none : (result : Option M) → IfNone result (new ≡ es) → IfNone result (registered new ≡ registered es)
+    taken_none None none = ap registered none
+    taken_none (Some m) none = tt
 
   pub new_table : (es : List (Option (Entry A))) → es ≡ replicate (FIRST_MODULE + MOST_MODULES) None → IsTable es
   new_table es e = record {

@@ -1,4 +1,5 @@
 pub mod Entries
+pub mod Places
 pub mod Registry
 pub mod Closing
 pub mod Idle

@@ -6,14 +6,15 @@ ghost use Rattle.w16_loader.specs.Registry.{listed};
 ghost use Rattle.w16_loader.specs.Idle.{imports_in, is_unused, is_imported, first_unused};
 
 use crate::entry::Entry;
+use crate::places::Places;
 use std::alloc::Allocator;
 
 /// Marks what these entries import, at the place of its handle. What a module imports of itself isn't marked.
-pub fn mark_imports<A: Allocator>(entries: &[Option<Entry<A>>], marks: &mut [bool])
+pub fn mark_imports<A: Allocator>(entries: &Places<Entry<A>, A>, marks: &mut [bool])
     ensures { (handle : ℕ) → handle < length marks.old → slice_index_or marks.new handle false ≡ (slice_index_or marks.old handle false || is_imported (listed entries.now) handle) }
 {
-    for (importer, place) in entries.iter().enumerate() {
-        mark(marks, imports_of(place), importer);
+    for importer in 0..entries.len() {
+        mark(marks, imports_of(entries.get(importer)), importer);
     }
 }
 
@@ -30,8 +31,8 @@ fn mark(marks: &mut [bool], imports: &[u16], importer: usize)
 }
 
 /// The handles that what stands at a place imports: none where that is a built-in, or nothing.
-fn imports_of<A: Allocator>(place: &Option<Entry<A>>) -> &[u16]
-    ensures { (handle : ℕ) → is_member handle result.now ≡ imports_in (option_map named_of place.now) handle }
+fn imports_of<A: Allocator>(place: Option<&Entry<A>>) -> &[u16]
+    ensures { (handle : ℕ) → is_member handle result.now ≡ imports_in (option_map (λ e. named_of e.now) place.entry) handle }
 {
     match place {
         Some(Entry::Loaded(loaded)) => loaded.imports(),
@@ -40,12 +41,12 @@ fn imports_of<A: Allocator>(place: &Option<Entry<A>>) -> &[u16]
 }
 
 /// The first module without explicit uses whose place isn't marked.
-pub fn first_unused<A: Allocator>(entries: &[Option<Entry<A>>], marks: &[bool]) -> Option<u16>
+pub fn first_unused<A: Allocator>(entries: &Places<Entry<A>, A>, marks: &[bool]) -> Option<u16>
     requires { length entries.now ≤ 65536 }
     ensures { result ≡ first_unused (listed entries.now) marks.now }
 {
-    for (handle, entry) in entries.iter().enumerate() {
-        if let Some(entry) = entry
+    for handle in 0..entries.len() {
+        if let Some(entry) = entries.get(handle)
             && is_unused(entry)
             && !marks.get(handle).copied().unwrap_or(false)
         {

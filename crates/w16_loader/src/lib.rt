@@ -11,6 +11,7 @@ mod found;
 mod idle;
 mod loading;
 mod naming;
+mod places;
 mod registry;
 mod segment;
 mod segment_fetch;

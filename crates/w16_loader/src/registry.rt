@@ -16,6 +16,7 @@ ghost use Rattle.w16_loader.specs.Registry.{in_world, owner_in, IsLowest};
 ghost use Rattle.w16_loader.specs.Binding.{with_values};
 
 use crate::entry::{Entry, Loaded, NOWHERE};
+use crate::places::Places;
 use crate::table::SegmentOf;
 use crate::{idle, table};
 use std::alloc::{AllocError, Allocator, Global};
@@ -28,10 +29,11 @@ const PLACES: usize = (FIRST_MODULE + MOST_MODULES) as usize;
 
 /// Modules and built-ins by module handle, at most 200, from 33 on. Its value is the finite map of them.
 ///
-/// They stand in a table, each at the place of its handle. No call but the constructor and `builtin` takes memory.
+/// They stand in a slab, under keys of its own, and a table has the key of each handle. There is room for all of them from the start: no call but the
+/// constructor and `builtin` takes memory.
 #[derive(Drop)]
 pub struct Registry<A: Allocator = Global> {
-    entries: Vec<Option<Entry<A>>, A>,
+    entries: Places<Entry<A>, A>,
 }
 
 impl<A: Allocator> Model for Registry<A> {
@@ -45,25 +47,17 @@ impl<A: Allocator> Model for Registry<A> {
 
     ghost coded = { finmap.code coded_ℕ named_code };
 
-    ghost view = { λ r. registered r.entries.items };
+    ghost view = { λ r. registered r.entries };
 
-    ghost invariant = { λ r. IsTable r.entries.items };
+    ghost invariant = { λ r. IsTable r.entries };
 }
 
 impl<A: Allocator> Registry<A> {
-    /// Nothing is loaded, and there is no built-in. An error is that memory ran out.
-    pub fn new(alloc: A) -> Result<Registry<A>, AllocError>
-        ensures { IfOk result (λ made. made ≡ finmap.empty) }
-    {
-        let entries = table::untaken(alloc, PLACES)?;
-        Ok(Registry { entries })
-    }
-
     /// What a handle names; none where it is bad.
     pub fn get(&self, handle: u16) -> Option<&Entry<A>>
         ensures { option_map (λ e. named_of e.now) result ≡ finmap.get self.now handle }
     {
-        table::entry_at(self.entries.as_slice(), usize::from(handle))
+        self.entries.get(usize::from(handle))
     }
 
     /// The module of a handle; none where it is a built-in's, or bad.
@@ -80,13 +74,13 @@ impl<A: Allocator> Registry<A> {
     pub fn free_count(&self) -> usize
         ensures { result ≡ free_modules self.now }
     {
-        table::free_count(&self.entries[usize::from(FIRST_MODULE)..])
+        usize::from(MOST_MODULES) - self.entries.taken()
     }
 
     /// The lowest free handle from a number on; none where all are taken.
     pub fn free_from(&self, from: u16) -> Option<u16>
         ensures found { IfSome result (λ handle. IsFreeModule self.now handle) }
-        ensures behind { IfSome result (λ handle. from ≤ handle) }
+        ensures after { IfSome result (λ handle. from ≤ handle) }
         ensures lowest { IfSome result (λ handle. (lower : ℕ) → from ≤ lower → lower < handle → IsFreeModule self.now lower → ⊥) }
         ensures none { IfNone result ((handle : ℕ) → from ≤ handle → IsFreeModule self.now handle → ⊥) }
     {
@@ -102,7 +96,7 @@ impl<A: Allocator> Registry<A> {
     pub fn handle_of(&self, name: &[u8]) -> Option<u16>
         ensures { result ≡ handle_named self.now name.now }
     {
-        table::first_named(self.entries.as_slice(), name)
+        table::first_named(&self.entries, name)
     }
 
     /// How many modules import what a handle names; a module doesn't count itself.
@@ -110,7 +104,7 @@ impl<A: Allocator> Registry<A> {
         ensures many { result ≡ loading.importers self.now handle }
         ensures few { result ≤ FIRST_MODULE + MOST_MODULES }
     {
-        table::importers(self.entries.as_slice(), handle)
+        table::importers(&self.entries, handle)
     }
 
     /// `GetModuleUsage`: explicit uses and importers together; 0 of a bad handle. It goes over the imports of all modules once.
@@ -130,8 +124,8 @@ impl<A: Allocator> Registry<A> {
         ensures none { IfNone result ((handle : ℕ) → loading.is_idle self.now handle ≡ false) }
     {
         let mut marks = [false; PLACES];
-        idle::mark_imports(self.entries.as_slice(), &mut marks);
-        idle::first_unused(self.entries.as_slice(), &marks)
+        idle::mark_imports(&self.entries, &mut marks);
+        idle::first_unused(&self.entries, &marks)
     }
 
     /// `GetProcAddress` by ordinal: nowhere of a bad handle, and where there is no entry; a built-in's ordinals lead to its handle.
@@ -158,7 +152,7 @@ impl<A: Allocator> Registry<A> {
     pub fn segment_of(&self, slot: u16) -> Option<SegmentOf>
         ensures { owner_in result ≡ segment_among (finmap.entries self.now) slot }
     {
-        table::segment_of(self.entries.as_slice(), slot)
+        table::segment_of(&self.entries, slot)
     }
 
     /// A handle of modules names something from now on, whatever it named.
@@ -167,7 +161,7 @@ impl<A: Allocator> Registry<A> {
         requires last { handle < FIRST_MODULE + MOST_MODULES }
         ensures { self.new ≡ finmap.insert self.old handle (named_of entry) }
     {
-        self.entries[usize::from(handle)] = Some(entry);
+        self.entries.put(usize::from(handle), entry);
     }
 
     /// A free handle names a module from now on. It takes no memory.
@@ -185,11 +179,7 @@ impl<A: Allocator> Registry<A> {
         ensures inside { OnSome result ((FIRST_MODULE ≤ handle) × (handle < FIRST_MODULE + MOST_MODULES)) }
         ensures none { IfNone result (self.new ≡ self.old) }
     {
-        let place = usize::from(handle);
-        if place >= self.entries.len() {
-            return None;
-        }
-        table::take_module(&mut self.entries[place])
+        table::take_module(&mut self.entries, usize::from(handle))
     }
 
     /// One explicit use more of what a handle names, as a load of it asks; whether it had fewer than 65,000. A built-in counts none.
@@ -255,6 +245,14 @@ impl<A: Allocator> Registry<A> {
 }
 
 impl<A: Allocator + Clone> Registry<A> {
+    /// Nothing is loaded, and there is no built-in. An error is that memory ran out.
+    pub fn new(alloc: A) -> Result<Registry<A>, AllocError>
+        ensures { IfOk result (λ made. made ≡ finmap.empty) }
+    {
+        let entries = Places::untaken(alloc, PLACES)?;
+        Ok(Registry { entries })
+    }
+
     /// A copy of a name, in memory of the allocator from which the registry has its own. An error is that memory ran out.
     pub(crate) fn copy_of(&self, name: &[u8]) -> Result<Vec<u8, A>, AllocError>
         ensures { IfOk result (λ copy. copy.items ≡ name.now) }

@@ -1,11 +1,10 @@
--- The free places from the first handle on are the free handles.
-use Rattle.w16_loader.proofs.Common.{◌-◌, ap, ◌∙◌, length, take, drop, count_by, is_none, FIRST_MODULE}
-use Rattle.w16_loader.proofs.Registered.{rest_behind, free_are}
+-- The places that are taken are the handles that name something.
+use Rattle.w16_loader.proofs.Common.{arith}
+use Rattle.w16_loader.proofs.Registered.{len_is, few}
 use Rattle.w16_loader.proofs.registry.Registry.free_count.Goals as goal
 
+pub overflow_sub-result : goal.overflow_sub-result
+overflow_sub-result g c = omega (arith, few c.self.inside.entries c.self.invariant, c.taken.ensures, c.from.ensures)
+
 pub returns : goal.returns
-returns g c = rw (← c.self.view_is) (c.free_count.ensures
-    ∙ ap (λ k. count_by is_none (take (length c.deref.result.now - k) (drop k c.deref.result.now))) c.from.ensures
-    ∙ ap (count_by is_none) (rest_behind FIRST_MODULE c.deref.result.now)
-    ∙ ap (λ entries. count_by is_none (drop FIRST_MODULE entries)) c.deref.ensures.value
-    ∙ free_are c.self.inside.entries.items c.self.invariant)
+returns g c = rw (← c.self.view_is) (omega (arith, len_is c.self.inside.entries, c.taken.ensures, c.from.ensures))

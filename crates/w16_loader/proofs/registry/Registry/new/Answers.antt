@@ -4,7 +4,7 @@ use Rattle.w16_loader.proofs.Registered.{new_table, none_registered}
 use Rattle.w16_loader.proofs.registry.Registry.new.Goals as goal
 
 pub invariant_of-result : goal.invariant_of-result
-invariant_of-result g c = new_table c.in_ok-entries.entries.items c.in_ok-entries.ensures
+invariant_of-result g c = new_table c.in_ok-entries.entries c.in_ok-entries.ensures
 
 pub returns : goal.returns
-returns g c = none_registered c.in_ok-entries.entries.items (FIRST_MODULE + MOST_MODULES) c.in_ok-entries.ensures
+returns g c = none_registered c.in_ok-entries.entries (FIRST_MODULE + MOST_MODULES) c.in_ok-entries.ensures

@@ -3,4 +3,4 @@ use Rattle.w16_loader.proofs.Registered.{entries_are}
 use Rattle.w16_loader.proofs.registry.Registry.segment_of.Goals as goal
 
 pub returns : goal.returns
-returns g c = rw (← c.self.view_is, entries_are c.self.inside.entries.items, ← c.as_slice.ensures.value) c.segment_of.ensures
+returns g c = rw (← c.self.view_is, entries_are c.self.inside.entries) c.segment_of.ensures
