@@ -61,7 +61,8 @@ fn number_of_reference(answer: u16) -> u16
 
 /// What a fault of a file that a reference leads to is to a load.
 fn fault_of_reference(fault: FileFault) -> FileFault
-    ensures { result ≡ following.fault_of_reference fault }
+    ensures fault { result ≡ following.fault_of_reference fault }
+    ensures device { is_file_device result ≡ is_file_device fault }
 {
     match fault {
         FileFault::Refused(answer) => FileFault::Refused(number_of_reference(answer)),

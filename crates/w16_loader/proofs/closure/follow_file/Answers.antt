@@ -1,6 +1,6 @@
 -- A file that a reference leads to is what a load makes of it.
 use Rattle.w16_loading.specs.Closure as closing
-use Rattle.w16_loader.proofs.Common.{List, Modules, Found, IsNewIn, IsRefusedFile, MakesOf, ReadsIn, answers_of, ℕ, refl, sym, subst, FileFault, IsFault, Refused, Meant, referent_of}
+use Rattle.w16_loader.proofs.Common.{List, Modules, Found, IsNewIn, IsRefusedFile, MakesOf, ReadsIn, answers_of, ℕ, refl, sym, subst, ◌∙◌, FileFault, IsFault, Refused, Meant, referent_of}
 use Rattle.w16_loader.specs.Following as following
 use Rattle.w16_loader.specs.declared.found.FileFault.TheVariants as faults
 use Rattle.w16_loading.specs.Answers.{Answers}
@@ -18,9 +18,12 @@ returns-in-Err-clause-refused g c =
     let answers = answers_of g.S.Store.is_honest (g.S.Store.files c.args.store.now) in
     let before = g.S.Store.failures c.args.store.now in
     let after = g.S.Store.failures c.examine_file.new.store in
-    subst (λ fault. IsFault (IsRefusedFile answers c.args.registry.now c.args.found.now c.args.file.items) before after fault) (sym c.fault_of_reference.ensures)
+    subst (λ fault. IsFault (IsRefusedFile answers c.args.registry.now c.args.found.now c.args.file.items) before after fault) (sym c.fault_of_reference.ensures.fault)
     (refused_by answers c.args.registry.now c.args.found.now c.args.file.items before after c.in-Err.fault
     (subst (λ name. IsFault (λ number. ReadsIn answers c.args.registry.now c.args.found.now name (Refused number)) before after c.in-Err.fault) c.as_slice.ensures.value c.in-Err.ensures.makes))
+
+pub returns-in-Err-clause-device : goal.returns-in-Err-clause-device
+returns-in-Err-clause-device g c = λ e. c.in-Err.ensures.device (sym c.fault_of_reference.ensures.device ∙ e)
 
 pub returns-in-Ok-Meant-clause-leads : goal.returns-in-Ok-Meant-clause-leads
 returns-in-Ok-Meant-clause-leads g c =

@@ -38,3 +38,6 @@ returns-in-Ok-clause-loads g c = λ rest start le accepted unnamed.
     (subst (λ f. IsClosureBy (answers_of g.S.Store.is_honest (g.S.Store.files c.args.store.now)) c.args.registry.now f t c.in-Ok.closure) c.in_ok-name.ensures c.in-Ok.ensures.closes) new c.load_closure.result
     (subst (λ fs. IfOk c.load_closure.result (λ answer. LoadsHeld g.S.Store.is_honest fs start after world meant (answer_in answer) new)) c.in-Ok.ensures.stays.same
     (c.load_closure.ensures.loads (record rest { files = files; failures = start }) meant start (omega (arith, le, c.in-Ok.ensures.stays.counted)) (is_closure [] c.in-Ok.closure) all))
+
+pub load_closure-requires-clause-few : goal.load_closure-requires-clause-few
+load_closure-requires-clause-few g c = c.in-Ok.ensures.few c.requires
