@@ -34,10 +34,9 @@ pub use Rattle.w16_loader.specs.Entries.{named_of}
 pub use Rattle.w16_loader.specs.Fetching.{GivesBytes, IsFetchable, IsSoundIn, IsSourceOf, IsWritten, fault_in, image_in, in_parts}
 pub use Rattle.w16_loader.specs.Filling.{AreItsFiles, AreReadAs, AreUnfilled, HasUnfilled, IsReadAs, IsUnfilled, Part, failure_at, fills_in, fills_of_part, fills_with, gives_over, slots_at}
 pub use Rattle.w16_loader.specs.Following.{FindsFew, LeadsByName, bound_in, closed_in, found_after, left_from, pending_in, references_at, references_from, references_of, referent_after}
-pub use Rattle.w16_loader.specs.Idle.{first_unused, imports_in, is_imported, is_unused}
 pub use Rattle.w16_loader.specs.Loading.{IsGivenHeld, IsOfFile, LoadsHeld, answer_in, failed_by, in_store, is_application, of_fault, refused_by}
 pub use Rattle.w16_loader.specs.Naming.{AreFit, AreUnbound, GetNames, GetsName, IsClosureOf, IsFit, IsUnbound, Takes, free_handles, imports_among, unbound_by}
-pub use Rattle.w16_loader.specs.Registry.{IsTable, first_named, in_world, listed, registered}
+pub use Rattle.w16_loader.specs.Registry.{AreCounts, IsTable, counted_of, first_named, in_world, listed, registered}
 pub use Rattle.w16_loader.specs.declared.binding.BindFault.{BindFault}
 pub use Rattle.w16_loader.specs.declared.closure.Bound.{Bound}
 pub use Rattle.w16_loader.specs.declared.closure.Followed.{Followed}
