@@ -1,5 +1,5 @@
 -- An entry that comes to a place, or goes from one.
-use Rattle.std.proofs.Common.{◌≡◌, ◌≢◌, ℕ, zero, suc, ◌+◌, ◌<◌, ◌≤◌, List, [], ◌∷◌, length, get_or, set, replicate, Option, Some, None, is_some, cond, count_by, inl, inr, refl, sym, ap, ◌∙◌, arith, OnSome}
+use Rattle.std.proofs.Common.{◌≡◌, ◌≢◌, ℕ, zero, suc, ◌+◌, ◌<◌, List, [], ◌∷◌, length, get_or, set, replicate, Option, Some, None, is_some, cond, count_by, inl, inr, refl, sym, ap, ◌∙◌, arith, OnSome}
 use Rattle.std.proofs.Math.ListN.{get_or-map}
 use Rattle.std.proofs.lemmas.Bool.{cases_eq}
 use Rattle.std.proofs.lemmas.List.{get_or-set_same, get_or-set_other, get_or_past, length-map, length-set, map-set, set-get_or}
@@ -36,8 +36,10 @@ module _ {T : Type 0} {slab : Slab T} {keys : List (Option ℕ)} (is : IsKeyed s
 
   -- the place, where what stood there was taken away, has no key
   pub place_left : (old : List (Option T)) → placed slab keys ≡ set old place None → place < length old → (place < length keys) × (get_or keys place None ≡ None)
-  place_left old left lt = (grind (arith, length-map keys (under slab), length-set),
-      free_key _ refl (sym placed_at ∙ ap (λ l. get_or l place None) left ∙ get_or-set_same old place None None lt))
+  place_left old left lt = (
+    grind (arith, length-map keys (under slab), length-set),
+    free_key _ refl (sym placed_at ∙ ap (λ l. get_or l place None) left ∙ get_or-set_same old place None None lt),
+  )
 
   pub untouched : get_or keys place None ≡ None → placed slab keys ≡ set (placed slab keys) place None
   untouched e = sym (ap (set (placed slab keys) place) (sym (placed_at ∙ ap (under slab) e)) ∙ set-get_or (placed slab keys) place None)

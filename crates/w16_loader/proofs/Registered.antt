@@ -1,5 +1,5 @@
 -- The finite map of a table by handle.
-use Rattle.w16_loader.proofs.Common.{◌≡◌, ℕ, zero, suc, ◌+◌, ◌-◌, ◌<◌, ◌≤◌, inl, inr, List, [], ◌∷◌, length, get_or, set, drop, replicate, Bool, cond, Option, Some, None, option_map, is_some, refl, sym, ap}
+use Rattle.w16_loader.proofs.Common.{◌≡◌, ◌≢◌, ℕ, zero, suc, ◌+◌, ◌-◌, ◌<◌, ◌≤◌, inl, inr, List, [], ◌∷◌, length, get_or, set, drop, replicate, Bool, cond, Option, Some, None, option_map, is_some, refl, sym, ap}
 use Rattle.w16_loader.proofs.Common.{◌∙◌, arith, OnSome, count_by, is_none, nat_cmp, nat_cmp_total, nat_cmp_is, Less, entries-insert, len-empty, len-entries, same_map, nat_cmp-IsAntisymmetric, put}
 use Rattle.w16_loader.proofs.Common.{by_order, cases_eq, get_or_past, get_or-set_same, get_or-set_other, get_or-replicate, length-set, length-replicate, sum_by-cons, by_id}
 use Rattle.w16_loader.proofs.Common.{get-by_id, inserted_here, inserted_other, taken_here, taken_other, FIRST_MODULE, MOST_MODULES, Module, Named, free_modules, module_in, Entry, named_of, listed, registered}
@@ -29,24 +29,25 @@ module _ {A : Type 0} where
   named_copied None = refl
   named_copied (Some e) = refl
 
-  pub named_set : (es : List (Option (Entry A))) (handle : ℕ) (e : Entry A) → handle < length es → registered (set es handle (Some e)) ≡ finmap.insert (registered es) handle (named_of e)
-  named_set es handle e lt = same_map nat_cmp_total nat_cmp-IsAntisymmetric (registered (set es handle (Some e))) (finmap.insert (registered es) handle (named_of e)) (λ q. elim (cases_eq q handle) [
-    | inl i ↦ named_at (set es handle (Some e)) q ∙ ap (λ k. option_map named_of (get_or (set es handle (Some e)) k None)) i ∙ ap (option_map named_of) (get_or-set_same es handle (Some e) None lt) ∙ sym (inserted_here (registered es) handle (named_of e) q i)
-    | inr d ↦ named_at (set es handle (Some e)) q ∙ ap (option_map named_of) (get_or-set_other es handle q (Some e) None d) ∙ sym (named_at es q) ∙ sym (inserted_other (registered es) handle (named_of e) q d)
+  named_change : (es : List (Option (Entry A))) (handle : ℕ) (o : Option (Entry A)) (after : Modules) → handle < length es → ((q : ℕ) → q ≡ handle → finmap.get after q ≡ option_map named_of o)
+      → ((q : ℕ) → q ≢ handle → finmap.get after q ≡ finmap.get (registered es) q) → registered (set es handle o) ≡ after
+  named_change es handle o after lt here other = same_map nat_cmp_total nat_cmp-IsAntisymmetric (registered (set es handle o)) after (λ q. named_at (set es handle o) q ∙ elim (cases_eq q handle) [
+    | inl i ↦ ap (λ k. option_map named_of (get_or (set es handle o) k None)) i ∙ ap (option_map named_of) (get_or-set_same es handle o None lt) ∙ sym (here q i)
+    | inr d ↦ ap (option_map named_of) (get_or-set_other es handle q o None d) ∙ sym (named_at es q) ∙ sym (other q d)
   ])
+
+  pub named_set : (es : List (Option (Entry A))) (handle : ℕ) (e : Entry A) → handle < length es → registered (set es handle (Some e)) ≡ finmap.insert (registered es) handle (named_of e)
+  named_set es handle e lt = named_change es handle (Some e) _ lt (inserted_here (registered es) handle (named_of e)) (inserted_other (registered es) handle (named_of e))
 
   pub named_unset : (es : List (Option (Entry A))) (handle : ℕ) → handle < length es → registered (set es handle None) ≡ finmap.remove (registered es) handle
-  named_unset es handle lt = same_map nat_cmp_total nat_cmp-IsAntisymmetric (registered (set es handle None)) (finmap.remove (registered es) handle) (λ q. elim (cases_eq q handle) [
-    | inl i ↦ named_at (set es handle None) q ∙ ap (λ k. option_map named_of (get_or (set es handle None) k None)) i ∙ ap (option_map named_of) (get_or-set_same es handle None None lt) ∙ sym (taken_here (registered es) handle q i)
-    | inr d ↦ named_at (set es handle None) q ∙ ap (option_map named_of) (get_or-set_other es handle q None None d) ∙ sym (named_at es q) ∙ sym (taken_other (registered es) handle q d)
-  ])
+  named_unset es handle lt = named_change es handle None _ lt (taken_here (registered es) handle) (taken_other (registered es) handle)
 
   -- which module is there, and that a free handle has nothing at its place
-  pub module_there : (es : List (Option (Entry A))) (old : Modules) (handle : ℕ) (p : Option Module) → registered es ≡ old → p ≡ module_in (option_map named_of (get_or es handle None)) → p ≡ module_at old handle
-  module_there es old handle p view found = found ∙ ap module_in (sym (named_at es handle)) ∙ ap (λ m. module_in (finmap.get m handle)) view
+  pub module_there : (es : List (Option (Entry A))) {old : Modules} (handle : ℕ) {p : Option Module} → registered es ≡ old → p ≡ module_in (option_map named_of (get_or es handle None)) → p ≡ module_at old handle
+  module_there es handle view found = found ∙ ap module_in (sym (named_at es handle)) ∙ ap (λ m. module_in (finmap.get m handle)) view
 
-  pub free_place : (es : List (Option (Entry A))) (old : Modules) (handle : ℕ) → registered es ≡ old → finmap.get old handle ≡ None → get_or es handle None ≡ None
-  free_place es old handle view free = turn (get_or es handle None) (sym (named_at es handle) ∙ ap (λ m. finmap.get m handle) view ∙ free)
+  pub free_place : (es : List (Option (Entry A))) {old : Modules} (handle : ℕ) → registered es ≡ old → finmap.get old handle ≡ None → get_or es handle None ≡ None
+  free_place es handle view free = turn (get_or es handle None) (sym (named_at es handle) ∙ ap (λ m. finmap.get m handle) view ∙ free)
     where
       turn : (o : Option (Entry A)) → option_map named_of o ≡ None → o ≡ None
       turn None e = refl

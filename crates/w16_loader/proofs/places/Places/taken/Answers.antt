@@ -1,5 +1,5 @@
 -- The slab has an entry for each key.
-use Rattle.std.proofs.Common.{is_some, count_by, sym, ap, ◌∙◌}
+use Rattle.std.proofs.Common.{sym, ◌∙◌}
 use Rattle.w16_loader.proofs.Keyed.{counted}
 use Rattle.w16_loader.proofs.places.Places.taken.Goals as goal
 

@@ -18,4 +18,4 @@ returns-clause-few g c =
     let inside : c.args.handle < length c.self.inside.counts.items = omega arith in
     let lt : c.args.handle < FIRST_MODULE + MOST_MODULES = omega (arith, c.self.invariant.1.many) in
     let is = c.from.ensures ∙ c.index.ensures ∙ get_or_default c.self.inside.counts.items c.args.handle _ 0 inside in
-    omega (arith, is, few c.self.inside.entries c.self.inside.counts.items c.self.invariant 0 c.args.handle lt)
+    omega (arith, is, few c.self.invariant 0 c.args.handle lt)

@@ -6,13 +6,13 @@ use Rattle.w16_loader.proofs.Registered.{free_place, named_set}
 use Rattle.w16_loader.proofs.registry.Registry.put.Goals as goal
 
 pub recount-requires-clause-few : goal.recount-requires-clause-few
-recount-requires-clause-few g c = few c.self.inside.entries c.self.inside.counts.items c.self.invariant c.args.handle
+recount-requires-clause-few g c = few c.self.invariant c.args.handle
 
 pub invariant_of-self : goal.invariant_of-self
 invariant_of-self g c =
     let inside : c.args.handle < length c.self.inside.entries = omega (arith, c.requires, c.self.invariant.0.many) in
-    put_counts c.self.inside.entries c.self.inside.counts.items c.self.invariant c.args.handle c.args.entry c.put.new.self c.imports_of.result.now c.recount.new.counts.items c.requires.0 inside
-    (free_place c.self.inside.entries c.args.self.now c.args.handle c.self.view_is c.requires.2) c.put.ensures c.imports_of.ensures c.recount.ensures.many c.recount.ensures.each
+    put_counts c.self.invariant c.args.handle c.args.entry c.imports_of.result.now c.recount.new.counts.items c.requires.0 inside
+    (free_place c.self.inside.entries c.args.handle c.self.view_is c.requires.2) c.put.ensures c.imports_of.ensures c.recount.ensures.many c.recount.ensures.each
 
 pub returns : goal.returns
 returns g c =

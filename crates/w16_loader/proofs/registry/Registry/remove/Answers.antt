@@ -1,32 +1,31 @@
 -- The table's entry is the map's, and what it imported isn't counted any more.
-use Rattle.w16_loader.proofs.Common.{Some, None, ap, ◌∙◌, registered}
+use Rattle.w16_loader.proofs.Common.{ap, ◌∙◌, registered}
 use Rattle.w16_loader.proofs.Counting.{few, gone_counts, gone_named, inside, was_counted}
 use Rattle.w16_loader.proofs.Registered.{module_there}
 use Rattle.w16_loader.proofs.registry.Registry.remove.Goals as goal
 
 pub returns-in-None-clause-found : goal.returns-in-None-clause-found
-returns-in-None-clause-found g c = module_there c.self.inside.entries c.args.self.now c.args.handle None c.self.view_is c.in-None.ensures.found
+returns-in-None-clause-found g c = module_there c.self.inside.entries c.args.handle c.self.view_is c.in-None.ensures.found
 
 pub returns-in-None-clause-none : goal.returns-in-None-clause-none
 returns-in-None-clause-none g c = ap registered c.in-None.ensures.none ∙ c.self.view_is
 
 pub recount-requires-clause-counted : goal.recount-requires-clause-counted
-recount-requires-clause-counted g c = was_counted c.self.inside.entries c.self.inside.counts.items c.self.invariant c.args.handle c.in-Some.loaded.value c.in-Some.ensures.found
-    c.imports.result.now (c.imports.ensures ∙ ap (λ m. m.imports) c.deref.ensures)
+recount-requires-clause-counted g c = was_counted c.self.invariant c.args.handle c.in-Some.ensures.found
+    (c.imports.ensures ∙ ap (λ m. m.imports) c.deref.ensures)
 
 pub recount-requires-clause-few : goal.recount-requires-clause-few
-recount-requires-clause-few g c = few c.self.inside.entries c.self.inside.counts.items c.self.invariant c.args.handle
+recount-requires-clause-few g c = few c.self.invariant c.args.handle
 
 pub invariant_of-self-in-Some : goal.invariant_of-self-in-Some
-invariant_of-self-in-Some g c = gone_counts c.self.inside.entries c.self.inside.counts.items c.self.invariant c.args.handle c.in-Some.loaded.value c.in-Some.ensures.found
-    c.imports.result.now (c.imports.ensures ∙ ap (λ m. m.imports) c.deref.ensures) c.take_module.new.entries c.recount.new.counts.items c.in-Some.ensures.gone c.recount.ensures.many c.recount.ensures.each
+invariant_of-self-in-Some g c = gone_counts c.self.invariant c.args.handle c.in-Some.ensures.found
+    (c.imports.ensures ∙ ap (λ m. m.imports) c.deref.ensures) c.recount.new.counts.items c.in-Some.ensures.gone c.recount.ensures.many c.recount.ensures.each
 
 pub returns-in-Some-clause-found : goal.returns-in-Some-clause-found
-returns-in-Some-clause-found g c = module_there c.self.inside.entries c.args.self.now c.args.handle (Some c.in-Some.loaded.value) c.self.view_is c.in-Some.ensures.found
+returns-in-Some-clause-found g c = module_there c.self.inside.entries c.args.handle c.self.view_is c.in-Some.ensures.found
 
 pub returns-in-Some-clause-gone : goal.returns-in-Some-clause-gone
-returns-in-Some-clause-gone g c = gone_named c.self.inside.entries c.self.inside.counts.items c.self.invariant c.args.handle c.in-Some.loaded.value c.in-Some.ensures.found
-    c.args.self.now c.take_module.new.entries c.self.view_is c.in-Some.ensures.gone
+returns-in-Some-clause-gone g c = gone_named c.self.invariant c.args.handle c.in-Some.ensures.found c.self.view_is c.in-Some.ensures.gone
 
 pub returns-in-Some-clause-inside : goal.returns-in-Some-clause-inside
-returns-in-Some-clause-inside g c = inside c.self.inside.entries c.self.inside.counts.items c.self.invariant c.args.handle c.in-Some.loaded.value c.in-Some.ensures.found
+returns-in-Some-clause-inside g c = inside c.self.invariant c.args.handle c.in-Some.ensures.found
