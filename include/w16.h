@@ -8,7 +8,7 @@
  *
  * What the caller has to keep:
  * - A struct w16 is changed by these functions alone, and is not copied: a copy would be freed twice.
- * - One call at a time for each machine.
+ * - One call at a time for each machine. Machines on several threads don't touch each other.
  * - Each pointer is valid, and so is each buffer for the number of bytes that is given with it; none overlaps another one or the struct w16.
  * - The program has rattle_alloc, rattle_realloc and rattle_dealloc, by which the library takes memory of it (examples/c/heap.c has them over malloc).
  *   It does so in w16_new, w16_add_file, w16_local_init, w16_builtin, w16_load_module and w16_load_library alone.
@@ -49,6 +49,85 @@ enum {
     W16_EXISTS = 12,           /* a file has the name already: nothing was done */
     W16_NONE_MISSING = 13      /* no file is known to be missing */
 };
+
+/* What a status says, as a text that ends with a zero. */
+static inline const char *w16_status_text(uint8_t status) {
+    switch (status) {
+    case W16_DONE: return "done";
+    case W16_NO_MACHINE: return "no machine is held";
+    case W16_NO_MEMORY: return "out of memory";
+    case W16_BAD_SIZE: return "bad size";
+    case W16_FAULT_SELECTOR: return "no object has the selector";
+    case W16_FAULT_READ_ONLY: return "the object is code, which can't be written";
+    case W16_FAULT_NOT_PRESENT: return "the object has no bytes";
+    case W16_FAULT_LIMIT: return "the access goes past the object's end";
+    case W16_END: return "no part of the heap is left";
+    case W16_FAULT_ROOM: return "no room for the bytes of a module's object";
+    case W16_FAULT_STORE: return "a module's file can't be read";
+    case W16_FAULT_DAMAGED: return "a module's file isn't what it was at load";
+    case W16_EXISTS: return "there is a file of that name";
+    case W16_NONE_MISSING: return "no file is missing";
+    default: return "no status";
+    }
+}
+
+/* Names of objects. A handle is a word; a fixed object's is its selector, and any other's selector is one above it. A far pointer has the selector
+ * in its high word. An object has a selector for each 65,536 bytes, 8 apart. */
+#define W16_FIRST_SELECTOR 0x0107
+#define W16_SELECTOR(handle) ((uint16_t)((handle) | 1))
+#define W16_FAR(selector, offset) ((uint32_t)(selector) << 16 | (uint16_t)(offset))
+#define W16_SELECTOR_OF(pointer) ((uint16_t)((pointer) >> 16))
+#define W16_OFFSET_OF(pointer) ((uint16_t)(pointer))
+
+/* Flags of w16_global_alloc and w16_global_realloc, and what w16_global_flags answers. Bits without a name are ignored. */
+enum {
+    W16_GMEM_FIXED = 0x0000,
+    W16_GMEM_MOVEABLE = 0x0002,    /* it moves while it isn't locked; of a reallocation: a fixed or locked object may move to grow */
+    W16_GMEM_NOCOMPACT = 0x0010,   /* no other object is moved or discarded */
+    W16_GMEM_NODISCARD = 0x0020,   /* no other object is discarded */
+    W16_GMEM_ZEROINIT = 0x0040,    /* new bytes are zeros */
+    W16_GMEM_MODIFY = 0x0080,      /* of a reallocation: the kind is changed, and not the size */
+    W16_GMEM_DISCARDABLE = 0x0100, /* beside MOVEABLE: it may lose its bytes to another's request */
+    W16_GMEM_DDESHARE = 0x2000,    /* other tasks share it */
+    W16_GMEM_DISCARDED = 0x4000,   /* answered: it has no bytes */
+    W16_GMEM_LOCKCOUNT = 0x00ff    /* answered: the bits of the lock count */
+};
+
+/* The same of w16_local_alloc, w16_local_realloc and w16_local_flags. */
+enum {
+    W16_LMEM_FIXED = 0x0000,
+    W16_LMEM_MOVEABLE = 0x0002,
+    W16_LMEM_NOCOMPACT = 0x0010,
+    W16_LMEM_NODISCARD = 0x0020,
+    W16_LMEM_ZEROINIT = 0x0040,
+    W16_LMEM_MODIFY = 0x0080,
+    W16_LMEM_DISCARDABLE = 0x0f00, /* any of these bits */
+    W16_LMEM_DISCARDED = 0x4000,
+    W16_LMEM_LOCKCOUNT = 0x00ff
+};
+
+/* The numbers, of 32 and less, by which w16_load_module and w16_load_library refuse a load. */
+enum {
+    W16_LOAD_NO_ROOM = 0,        /* no room, no handle or no use is left */
+    W16_LOAD_NO_FILE = 2,        /* no file has the name */
+    W16_LOAD_BAD_FILE = 11,      /* the file isn't a module, or its relocations aren't sound */
+    W16_LOAD_TARGET_1 = 12,      /* for another target system: 1, 3, or any other */
+    W16_LOAD_TARGET_3 = 13,
+    W16_LOAD_TARGET_OTHER = 14,
+    W16_LOAD_TWICE = 16,         /* w16_load_module of an application that is loaded */
+    W16_LOAD_BAD_REFERENCE = 20  /* a module that it refers to is refused */
+};
+
+/* The functions by which the library takes memory of the program that links it. A block that is asked for is aligned to 16 bytes; ok says whether
+ * there was memory; a block that can't get another size stays as it is, and at is its address still. */
+struct rattle_tried {
+    bool ok;
+    void *at;
+};
+
+struct rattle_tried rattle_alloc(size_t size, size_t align);
+struct rattle_tried rattle_realloc(void *at, size_t kept, size_t size, size_t align);
+void rattle_dealloc(void *at);
 
 /* A new machine of this many bytes of memory, a multiple of 32 from 32 to 16,777,216, and this many selectors, from 1 to 8,160. It replaces one that
  * is held, which is freed. W16_BAD_SIZE, W16_NO_MEMORY: the struct stays as it was. */
@@ -91,7 +170,7 @@ uint8_t w16_get_selector_base(w16 *machine, uint16_t selector, uint32_t *base);
 uint8_t w16_get_selector_limit(w16 *machine, uint16_t selector, uint32_t *limit);
 /* Reads count bytes from a far pointer on; W16_BAD_SIZE for more than 1,024. */
 uint8_t w16_read(w16 *machine, uint32_t pointer, uint8_t *into, size_t count);
-/* Writes count bytes from a far pointer on. */
+/* Writes count bytes from a far pointer on, as many as the object has from there. */
 uint8_t w16_write(w16 *machine, uint32_t pointer, const uint8_t *bytes, size_t count);
 /* Writes the same byte count times from a far pointer on; W16_BAD_SIZE for more than 65,536. */
 uint8_t w16_fill(w16 *machine, uint32_t pointer, uint32_t count, uint8_t byte);
@@ -109,8 +188,9 @@ uint8_t w16_missing_file(w16 *machine, char *name, size_t room, size_t *length);
 
 /* Modules. Far accesses and calls on resources fetch bytes from their files, and may meet W16_FAULT_ROOM, _STORE and _DAMAGED. */
 
-/* What names an entry of a module, a resource or a type: three arguments at once, a text and its length, or no text and a number. */
-#define W16_TEXT(text) (text), sizeof(text) - 1, 0
+/* What names an entry of a module, a resource or a type: three arguments at once, a text and its length, or no text and a number. The text is a
+ * literal; another one is given as its address, its length and 0. */
+#define W16_TEXT(literal) "" literal, sizeof(literal) - 1, 0
 #define W16_NUMBER(number) "", 0, (number)
 
 /* A module of a name without a file: its handle, or 0. */
