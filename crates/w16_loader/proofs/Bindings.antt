@@ -39,6 +39,9 @@ module _ (modules : Modules) (handle : ℕ) where
     pub bound_alike : (f g : Lookup) → AreAlike f g → bound_as f modules handle targets ≡ bound_as g modules handle targets
     bound_alike f g same = ap (put_in (module_at modules handle)) (λ i m. values_alike f g m targets same i)
 
+pub none_bound : (old new : Modules) (handle : ℕ) (values : List (List Far)) → None ≡ module_at old handle → new ≡ old → new ≡ with_values old handle values
+none_bound old new handle values none same = same ∙ ap (λ p. put_in old handle p (λ _. values)) none
+
 -- A module that was taken out, lent to be given values, and put back.
 module _ (old between new : Modules) (handle : ℕ) (values : List (List Far)) where
   pub bound_again : (m lent other : Module) → Some m ≡ module_at old handle → between ≡ finmap.remove old handle → new ≡ finmap.insert between handle (Loaded other)

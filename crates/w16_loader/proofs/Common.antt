@@ -1,7 +1,5 @@
 -- The names of definitions and of lower crates that the proofs of this crate cite, passed on from one place. Declares nothing.
-pub use Rattle.std.proofs.Common.{AllPairs, Err, None, Ok, OnErr, Option, Result, Some, add-one, lit<, rules, set, vec_capacity, vec_len, zero-add, ◌*◌}
-pub use Rattle.std.proofs.Math.Bool.{or_assoc}
-pub use Rattle.std.proofs.Math.Seq.{take-length}
+pub use Rattle.std.proofs.Common.{AllPairs, Err, None, Ok, OnErr, Option, Result, Some, add-one, lit<, rules, set, vec_capacity, vec_len, ◌*◌}
 pub use Rattle.std.proofs.lemmas.Iterator.Adapters.{YieldsList-from_vec}
 pub use Rattle.std.proofs.lemmas.Iterator.Consumers.{YieldsList-end, YieldsList-from_enumerate, YieldsList-turn}
 pub use Rattle.std.proofs.lemmas.List.{drop-append-le, drop_more, get_or-append_right, get_or-map, get_or-replicate, get_or-set_other, get_or-set_same, get_or_append_left, get_or_default, get_or_past}
@@ -34,10 +32,9 @@ pub use Rattle.w16_loader.specs.Entries.{named_of}
 pub use Rattle.w16_loader.specs.Fetching.{GivesBytes, IsFetchable, IsSoundIn, IsSourceOf, IsWritten, fault_in, image_in, in_parts}
 pub use Rattle.w16_loader.specs.Filling.{AreItsFiles, AreReadAs, AreUnfilled, HasUnfilled, IsReadAs, IsUnfilled, Part, failure_at, fills_in, fills_of_part, fills_with, gives_over, slots_at}
 pub use Rattle.w16_loader.specs.Following.{FindsFew, LeadsByName, bound_in, closed_in, found_after, left_from, pending_in, references_at, references_from, references_of, referent_after}
-pub use Rattle.w16_loader.specs.Idle.{first_unused, imports_in, is_imported, is_unused}
 pub use Rattle.w16_loader.specs.Loading.{IsGivenHeld, IsOfFile, LoadsHeld, answer_in, failed_by, in_store, is_application, of_fault, refused_by}
 pub use Rattle.w16_loader.specs.Naming.{AreFit, AreUnbound, GetNames, GetsName, IsClosureOf, IsFit, IsUnbound, Takes, free_handles, imports_among, unbound_by}
-pub use Rattle.w16_loader.specs.Registry.{IsTable, first_named, in_world, listed, registered}
+pub use Rattle.w16_loader.specs.Registry.{AreCounts, IsTable, counted_of, first_named, in_world, listed, registered}
 pub use Rattle.w16_loader.specs.declared.binding.BindFault.{BindFault}
 pub use Rattle.w16_loader.specs.declared.closure.Bound.{Bound}
 pub use Rattle.w16_loader.specs.declared.closure.Followed.{Followed}
@@ -94,7 +91,7 @@ pub use Rattle.w16_model.specs.declared.Kind.{Kind}
 pub use Rattle.w16_model.specs.declared.Kind.TheVariants.{Discardable, Fixed, Moveable}
 pub use Rattle.w16_model.specs.declared.Owned.{Owned}
 pub use Rattle.w16_model.specs.declared.TheConstants.{FIRST_SLOT, GRAIN}
-pub use Rattle.w16_ne.proofs.Common.{IsSized, drop-cons, err_from_is_err_and, filter-append, list_any, text_in}
+pub use Rattle.w16_ne.proofs.Common.{IsSized, drop-cons, err_from_is_err_and, filter-append, text_in}
 pub use Rattle.w16_loading.specs.File.{AreModuleFiles, Saying}
 pub use Rattle.w16_ne.proofs.ReferencesFormat.{text_read}
 pub use Rattle.w16_ne.specs.Modules.{imported_place}

@@ -6,7 +6,7 @@ pub mod Keyed
 pub mod Registered
 pub mod Uses
 pub mod Files
-pub mod Idleness
+pub mod Counting
 pub mod Endings
 pub mod Pending
 pub mod Followings

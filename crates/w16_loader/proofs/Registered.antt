@@ -1,9 +1,9 @@
 -- The finite map of a table by handle.
-use Rattle.w16_loader.proofs.Common.{◌≡◌, ℕ, zero, suc, ◌+◌, ◌-◌, ◌<◌, ◌≤◌, inl, inr, List, [], ◌∷◌, length, get_or, set, drop, replicate, Bool, cond, Option, Some, None, option_map, is_some, refl, sym, ap}
-use Rattle.w16_loader.proofs.Common.{◌∙◌, arith, cases_lt, subst, OnSome, IfNone, count_by, is_none, nat_cmp, nat_cmp_total, nat_cmp_is, Less, entries-insert, len-empty, len-entries, same_map, nat_cmp-IsAntisymmetric, put}
+use Rattle.w16_loader.proofs.Common.{◌≡◌, ◌≢◌, ℕ, zero, suc, ◌+◌, ◌-◌, ◌<◌, ◌≤◌, inl, inr, List, [], ◌∷◌, length, get_or, set, drop, replicate, Bool, cond, Option, Some, None, option_map, is_some, refl, sym, ap}
+use Rattle.w16_loader.proofs.Common.{◌∙◌, arith, OnSome, count_by, is_none, nat_cmp, nat_cmp_total, nat_cmp_is, Less, entries-insert, len-empty, len-entries, same_map, nat_cmp-IsAntisymmetric, put}
 use Rattle.w16_loader.proofs.Common.{by_order, cases_eq, get_or_past, get_or-set_same, get_or-set_other, get_or-replicate, length-set, length-replicate, sum_by-cons, by_id}
 use Rattle.w16_loader.proofs.Common.{get-by_id, inserted_here, inserted_other, taken_here, taken_other, FIRST_MODULE, MOST_MODULES, Module, Named, free_modules, module_in, Entry, named_of, listed, registered}
-use Rattle.w16_loader.proofs.Common.{IsTable}
+use Rattle.w16_loader.proofs.Common.{IsTable, Modules, module_at, is_idle, usage_with, importers_among, false, ◌&&◌, ◌==◌}
 use Rattle.std.proofs.Common.{Bor, option_copied}
 use Rattle.std.specs.FinMap as finmap
 
@@ -29,23 +29,32 @@ module _ {A : Type 0} where
   named_copied None = refl
   named_copied (Some e) = refl
 
+  named_change : (es : List (Option (Entry A))) (handle : ℕ) (o : Option (Entry A)) (after : Modules) → handle < length es → ((q : ℕ) → q ≡ handle → finmap.get after q ≡ option_map named_of o)
+      → ((q : ℕ) → q ≢ handle → finmap.get after q ≡ finmap.get (registered es) q) → registered (set es handle o) ≡ after
+  named_change es handle o after lt here other = same_map nat_cmp_total nat_cmp-IsAntisymmetric (registered (set es handle o)) after (λ q. named_at (set es handle o) q ∙ elim (cases_eq q handle) [
+    | inl i ↦ ap (λ k. option_map named_of (get_or (set es handle o) k None)) i ∙ ap (option_map named_of) (get_or-set_same es handle o None lt) ∙ sym (here q i)
+    | inr d ↦ ap (option_map named_of) (get_or-set_other es handle q o None d) ∙ sym (named_at es q) ∙ sym (other q d)
+  ])
+
   pub named_set : (es : List (Option (Entry A))) (handle : ℕ) (e : Entry A) → handle < length es → registered (set es handle (Some e)) ≡ finmap.insert (registered es) handle (named_of e)
-  named_set es handle e lt = same_map nat_cmp_total nat_cmp-IsAntisymmetric (registered (set es handle (Some e))) (finmap.insert (registered es) handle (named_of e)) (λ q. elim (cases_eq q handle) [
-    | inl i ↦ named_at (set es handle (Some e)) q ∙ ap (λ k. option_map named_of (get_or (set es handle (Some e)) k None)) i ∙ ap (option_map named_of) (get_or-set_same es handle (Some e) None lt) ∙ sym (inserted_here (registered es) handle (named_of e) q i)
-    | inr d ↦ named_at (set es handle (Some e)) q ∙ ap (option_map named_of) (get_or-set_other es handle q (Some e) None d) ∙ sym (named_at es q) ∙ sym (inserted_other (registered es) handle (named_of e) q d)
-  ])
+  named_set es handle e lt = named_change es handle (Some e) _ lt (inserted_here (registered es) handle (named_of e)) (inserted_other (registered es) handle (named_of e))
 
-  none_left : (es : List (Option (Entry A))) (handle : ℕ) → get_or (set es handle None) handle None ≡ None
-  none_left es handle = elim (cases_lt handle (length es)) [
-    | inl lt ↦ get_or-set_same es handle None None lt
-    | inr le ↦ get_or_past (set es handle None) handle None (omega (arith, le, length-set es handle None))
-  ]
+  pub named_unset : (es : List (Option (Entry A))) (handle : ℕ) → handle < length es → registered (set es handle None) ≡ finmap.remove (registered es) handle
+  named_unset es handle lt = named_change es handle None _ lt (taken_here (registered es) handle) (taken_other (registered es) handle)
 
-  named_unset : (es : List (Option (Entry A))) (handle : ℕ) → registered (set es handle None) ≡ finmap.remove (registered es) handle
-  named_unset es handle = same_map nat_cmp_total nat_cmp-IsAntisymmetric (registered (set es handle None)) (finmap.remove (registered es) handle) (λ q. elim (cases_eq q handle) [
-    | inl i ↦ named_at (set es handle None) q ∙ ap (λ k. option_map named_of (get_or (set es handle None) k None)) i ∙ ap (option_map named_of) (none_left es handle) ∙ sym (taken_here (registered es) handle q i)
-    | inr d ↦ named_at (set es handle None) q ∙ ap (option_map named_of) (get_or-set_other es handle q None None d) ∙ sym (named_at es q) ∙ sym (taken_other (registered es) handle q d)
-  ])
+  -- which module is there, and that a free handle has nothing at its place
+  pub module_there : (es : List (Option (Entry A))) {old : Modules} (handle : ℕ) {p : Option Module} → registered es ≡ old → p ≡ module_in (option_map named_of (get_or es handle None)) → p ≡ module_at old handle
+  module_there es handle view found = found ∙ ap module_in (sym (named_at es handle)) ∙ ap (λ m. module_in (finmap.get m handle)) view
+
+  pub free_place : (es : List (Option (Entry A))) {old : Modules} (handle : ℕ) → registered es ≡ old → finmap.get old handle ≡ None → get_or es handle None ≡ None
+  free_place es handle view free = turn (get_or es handle None) (sym (named_at es handle) ∙ ap (λ m. finmap.get m handle) view ∙ free)
+    where
+      turn : (o : Option (Entry A)) → option_map named_of o ≡ None → o ≡ None
+      turn None e = refl
+      turn (Some x) e = cc
+
+  pub past_idle : (es : List (Option (Entry A))) (handle : ℕ) → length es ≤ handle → is_idle (registered es) handle ≡ false
+  past_idle es handle le = ap (λ p. is_some (module_in p) && (usage_with p (importers_among (finmap.entries (registered es)) handle) == 0)) (named_at es handle ∙ ap (option_map named_of) (get_or_past es handle None le))
 
   -- The entries of the map are those of the table, in its order.
   before_all : (id j : ℕ) (x : Named) (es : List (Option (Entry A))) → id < j → put nat_cmp id x (by_id (λ _ e. named_of e) j es) ≡ (id, x) ∷ by_id (λ _ e. named_of e) j es
@@ -65,7 +74,7 @@ module _ {A : Type 0} where
   entries_are es = entries_from 0 es
 
   -- How many there are, and how many handles are free.
-  many_from : (id : ℕ) (es : List (Option (Entry A))) → length (by_id (λ _ e. named_of e) id es) ≡ count_by is_some es
+  pub many_from : (id : ℕ) (es : List (Option (Entry A))) → length (by_id (λ _ e. named_of e) id es) ≡ count_by is_some es
   many_from id [] = refl
   many_from id (None ∷ es) = many_from (id + 1) es
   many_from id (Some e ∷ es) = ap suc (many_from (id + 1) es) ∙ omega arith ∙ sym (count_first is_some (Some e) es)
@@ -103,7 +112,7 @@ module _ {A : Type 0} where
   free_are es is = omega (arith, len_is es, some_and_none es is)
 
   -- A new table.
-  none_listed : (id : ℕ) (es : List (Option (Entry A))) (n : ℕ) → es ≡ replicate n None → by_id (λ _ e. named_of e) id es ≡ []
+  pub none_listed : (id : ℕ) (es : List (Option (Entry A))) (n : ℕ) → es ≡ replicate n None → by_id (λ _ e. named_of e) id es ≡ []
   none_listed id [] n e = refl
   none_listed id (None ∷ es) zero e = cc
   none_listed id (None ∷ es) (suc n) e = let rest : es ≡ replicate n None = cc in none_listed (id + 1) es n rest
@@ -123,25 +132,12 @@ module _ {A : Type 0} where
       let last : length es ≤ handle → ⊥ = λ le. none (get_or_past es handle None le) in
       (omega arith, omega (arith, is.many))
 
-  -- A table in which a module is taken out of its place.
-  module _ {M : Type 0} (es new : List (Option (Entry A))) (place : ℕ) where
-    pub taken_table : (result : Option M) → OnSome result (new ≡ set es place None) → IfNone result (new ≡ es) → IsTable es → IsTable new
-    taken_table None gone none is = subst IsTable (sym none) is
-    taken_table (Some m) gone none is = subst IsTable (sym gone) (record {
-      many = length-set es place None ∙ is.many;
-      none_below = λ q below. elim (cases_eq q place) [
-        | inl e ↦ ap (λ k. get_or (set es place None) k None) e ∙ none_left es place
-        | inr d ↦ get_or-set_other es place q None None d ∙ is.none_below q below
-      ];
-    })
-
-    pub taken_gone : (result : Option M) → OnSome result (new ≡ set es place None) → OnSome result (registered new ≡ finmap.remove (registered es) place)
-    taken_gone None gone = tt
-    taken_gone (Some m) gone = ap registered gone ∙ named_unset es place
-
-    pub taken_none : (result : Option M) → IfNone result (new ≡ es) → IfNone result (registered new ≡ registered es)
-    taken_none None none = ap registered none
-    taken_none (Some m) none = tt
+  -- a place for a module gets something, or is left
+  pub set_table : (es : List (Option (Entry A))) (place : ℕ) (o : Option (Entry A)) → FIRST_MODULE ≤ place → IsTable es → IsTable (set es place o)
+  set_table es place o first is = record {
+    many = length-set es place o ∙ is.many;
+    none_below = λ q below. get_or-set_other es place q o None (λ e. omega arith) ∙ is.none_below q below;
+  }
 
   pub new_table : (es : List (Option (Entry A))) → es ≡ replicate (FIRST_MODULE + MOST_MODULES) None → IsTable es
   new_table es e = record {

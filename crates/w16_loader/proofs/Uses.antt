@@ -4,10 +4,27 @@ use Rattle.w16_loader.proofs.Common.{MOST_USES, LoadingWorld, Module, Modules, N
 use Rattle.std.specs.FinMap as finmap
 use Rattle.w16_model.proofs.Maps.{put_same, put_where_taken}
 
-loaded_in : (named : Option Named) (m : Module) → module_in named ≡ Some m → named ≡ Some (Loaded m)
+pub loaded_in : (named : Option Named) (m : Module) → module_in named ≡ Some m → named ≡ Some (Loaded m)
 loaded_in None m e = cc
 loaded_in (Some (Loaded n)) m e = cc
 loaded_in (Some (BuiltIn name)) m e = cc
+
+-- Where there is no module, nothing changes.
+module _ (rest : LoadingWorld) (old new : Modules) (handle : ℕ) (none : None ≡ module_at old handle) (same : new ≡ old) where
+  pub none_used : used_again false (in_world rest old) handle (finmap.get old handle) ≡ (Says handle, in_world rest new)
+  none_used = turn (finmap.get old handle) none ∙ ap (λ x. (Says handle, in_world rest x)) (sym same)
+    where
+      turn : (p : Option Named) → None ≡ module_in p → used_again false (in_world rest old) handle p ≡ (Says handle, in_world rest old)
+      turn None e = refl
+      turn (Some (Loaded m)) e = cc
+      turn (Some (BuiltIn name)) e = refl
+
+  pub none_less : in_world rest new ≡ used_less (in_world rest old) handle
+  none_less = rw (same, sym none, used_less) refl
+
+pub use_imports : (room : Bool) (lent other : Module) → (IsTrue room → other ≡ record lent { uses = lent.uses + 1 }) → (IsFalse room → other ≡ lent) → other.imports ≡ lent.imports
+use_imports true lent other more full = ap (λ (x : Module). x.imports) (more refl)
+use_imports false lent other more full = ap (λ (x : Module). x.imports) (full refl)
 
 -- A module that was taken out, lent to be changed, and put back as another.
 module _ (rest : LoadingWorld) (old between new : Modules) (handle : ℕ) (m lent other : Module) (there : Some m ≡ module_at old handle) (gone : between ≡ finmap.remove old handle) (put : new ≡ finmap.insert between handle (Loaded other)) (same : lent ≡ m) where

@@ -2,7 +2,6 @@ pub mod Entries
 pub mod Places
 pub mod Registry
 pub mod Closing
-pub mod Idle
 pub mod Following
 pub mod Reached
 pub mod Fetching

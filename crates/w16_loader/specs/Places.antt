@@ -15,5 +15,5 @@ module _ {T : Type 0} where
   pub record IsKeyed (slab : Slab T) (keys : List (Option ℕ)) : Type 0 where
     pub there : (place key : ℕ) → slice_index_or keys place None ≡ Some key → ContainsKey slab key
     pub apart : (place other key : ℕ) → slice_index_or keys place None ≡ Some key → slice_index_or keys other None ≡ Some key → place ≡ other
-    pub many : slab_len slab ≡ count_by is_some (placed slab keys)
+    pub many : slab_len slab ≡ count_by is_some keys
     pub room : length keys ≤ slab.capacity

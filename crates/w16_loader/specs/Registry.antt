@@ -1,10 +1,11 @@
 -- Modules in a table by handle.
-use Rattle.std.specs.Prelude.{◌≡◌, ℕ, ◌+◌, ◌<◌, List, length, Option, None, Some, slice_index_or, find, option_map}
+use Rattle.std.specs.Prelude.{◌≡◌, ℕ, ◌+◌, ◌<◌, ◌==◌, ◌&&◌, not, if◌then◌else◌, List, length, Option, None, Some, slice_index, slice_index_or, find, option_map}
 use Rattle.std.specs.FinMap as finmap
+use Rattle.w16_model.specs.Discards.{is_member}
 use Rattle.w16_model.specs.Table.{by_id}
 use Rattle.w16_store.specs.Names.{is_named}
 use Rattle.w16_loading.specs.declared.TheConstants.{FIRST_MODULE, MOST_MODULES}
-use Rattle.w16_loading.specs.Modules.{LoadingWorld, Modules, Named, IsFreeModule, name_of}
+use Rattle.w16_loading.specs.Modules.{LoadingWorld, Modules, Named, IsFreeModule, importers_among, name_of}
 use Rattle.w16_loading.specs.Owner.{Owner}
 use Rattle.w16_loading.specs.Owner.Owner.{Script, OfSegment}
 use Rattle.w16_loader.specs.declared.entry.Entry.{Entry}
@@ -23,6 +24,15 @@ module _ {A : Type 0} where
   pub record IsTable (entries : List (Option (Entry A))) : Type 0 where
     pub many : length entries ≡ FIRST_MODULE + MOST_MODULES
     pub none_below : (handle : ℕ) → handle < FIRST_MODULE → slice_index_or entries handle None ≡ None
+
+  -- for each place, how many others import what has its number
+  pub record AreCounts (entries : List (Option (Entry A))) (counts : List ℕ) : Type 0 where
+    pub many : length counts ≡ FIRST_MODULE + MOST_MODULES
+    pub each : (handle : ℕ) → handle < FIRST_MODULE + MOST_MODULES → slice_index counts handle ≡ importers_among (listed entries) handle
+
+-- 1 where a module of a handle has another among its imports
+abbrev pub counted_of : ℕ → List ℕ → ℕ → ℕ
+counted_of own imports handle = if not (own == handle) && is_member handle imports then 1 else 0
 
 -- a world that has these modules, whatever else
 abbrev pub in_world : LoadingWorld → Modules → LoadingWorld

@@ -3,12 +3,12 @@
 
 mod binding;
 mod closure;
+mod counts;
 mod ending;
 mod entry;
 mod fault;
 mod filling;
 mod found;
-mod idle;
 mod loading;
 mod naming;
 mod places;

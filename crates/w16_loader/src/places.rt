@@ -34,17 +34,6 @@ fn key_at(keys: &[Option<usize>], place: usize) -> Option<usize>
     keys.get(place).copied().unwrap_or(None)
 }
 
-/// That many places without a key. An error is that memory ran out.
-fn no_keys<A: Allocator>(alloc: A, places: usize) -> Result<Vec<Option<usize>, A>, AllocError>
-    ensures { IfOk result (λ keys. keys.items ≡ replicate places None) }
-{
-    let mut keys = Vec::with_capacity(alloc, places)?;
-    for _ in 0..places {
-        keys.push(None)?;
-    }
-    Ok(keys)
-}
-
 impl<T, A: Allocator> Places<T, A> {
     /// How many places there are.
     pub fn len(&self) -> usize
@@ -101,7 +90,7 @@ impl<T, A: Allocator + Clone> Places<T, A> {
     pub fn untaken(alloc: A, places: usize) -> Result<Places<T, A>, AllocError>
         ensures { IfOk result (λ made. made ≡ replicate places None) }
     {
-        let keys = no_keys(alloc.clone()?, places)?;
+        let keys = Vec::from_elem(alloc.clone()?, None, places)?;
         let entries = Slab::with_capacity(alloc, places)?;
         Ok(Places { entries, keys })
     }

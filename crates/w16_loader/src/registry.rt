@@ -18,21 +18,22 @@ ghost use Rattle.w16_loader.specs.Binding.{with_values};
 use crate::entry::{Entry, Loaded, NOWHERE};
 use crate::places::Places;
 use crate::table::SegmentOf;
-use crate::{idle, table};
+use crate::{counts, table};
 use std::alloc::{AllocError, Allocator, Global};
 use std::marker::Model;
 use w16_loading::{FIRST_MODULE, MOST_MODULES};
 use w16_reloc::Far;
 
 /// The numbers up to the last module handle.
-const PLACES: usize = (FIRST_MODULE + MOST_MODULES) as usize;
+pub(crate) const PLACES: usize = (FIRST_MODULE + MOST_MODULES) as usize;
 
 /// Modules and built-ins by module handle, at most 200, from 33 on. Its value is the finite map of them.
 ///
 /// They stand in a slab, under keys of its own, and a table has the key of each handle. There is room for all of them from the start: no call but the
-/// constructor and `builtin` takes memory.
+/// constructor and `builtin` takes memory. For each handle the modules that import it are counted, as modules come and go.
 #[derive(Drop)]
 pub struct Registry<A: Allocator = Global> {
+    counts: Vec<u16, A>,
     entries: Places<Entry<A>, A>,
 }
 
@@ -41,7 +42,7 @@ impl<A: Allocator> Model for Registry<A> {
     ghost use Rattle.std.specs.FinMap as finmap;
     ghost use Rattle.w16_loading.specs.Modules.{Modules};
     ghost use Rattle.w16_loading.specs.Codes.{named_code};
-    ghost use Rattle.w16_loader.specs.Registry.{registered, IsTable};
+    ghost use Rattle.w16_loader.specs.Registry.{registered, AreCounts, IsTable};
 
     ghost Value = { Modules };
 
@@ -49,7 +50,7 @@ impl<A: Allocator> Model for Registry<A> {
 
     ghost view = { λ r. registered r.entries };
 
-    ghost invariant = { λ r. IsTable r.entries };
+    ghost invariant = { λ r. IsTable r.entries × AreCounts r.entries r.counts.items };
 }
 
 impl<A: Allocator> Registry<A> {
@@ -104,10 +105,14 @@ impl<A: Allocator> Registry<A> {
         ensures many { result ≡ loading.importers self.now handle }
         ensures few { result ≤ FIRST_MODULE + MOST_MODULES }
     {
-        table::importers(&self.entries, handle)
+        let place = handle as usize;
+        if place >= self.counts.len() {
+            return table::importers(&self.entries, handle);
+        }
+        usize::from(self.counts[place])
     }
 
-    /// `GetModuleUsage`: explicit uses and importers together; 0 of a bad handle. It goes over the imports of all modules once.
+    /// `GetModuleUsage`: explicit uses and importers together; 0 of a bad handle.
     pub fn usage(&self, handle: u16) -> u16
         ensures { result ≡ loading.usage self.now handle }
     {
@@ -117,15 +122,25 @@ impl<A: Allocator> Registry<A> {
         }
     }
 
-    /// A module that nobody uses: it has no explicit use, and no other imports it. None where each is used. It goes over the imports of all
-    /// modules once.
+    /// Whether it is a module that nobody uses: it has no explicit use, and no other imports it.
+    fn is_idle(&self, handle: u16) -> bool
+        ensures { result ≡ loading.is_idle self.now handle }
+    {
+        self.module(handle).is_some() && self.usage(handle) == 0
+    }
+
+    /// A module that nobody uses: it has no explicit use, and no other imports it. None where each is used. It goes over the handles once.
     pub fn first_idle(&self) -> Option<u16>
         ensures found { IfSome result (λ handle. loading.is_idle self.now handle ≡ true) }
         ensures none { IfNone result ((handle : ℕ) → loading.is_idle self.now handle ≡ false) }
     {
-        let mut marks = [false; PLACES];
-        idle::mark_imports(&self.entries, &mut marks);
-        idle::first_unused(&self.entries, &marks)
+        let _ = &self.entries;
+        for handle in 0..FIRST_MODULE + MOST_MODULES {
+            if self.is_idle(handle) {
+                return Some(handle);
+            }
+        }
+        None
     }
 
     /// `GetProcAddress` by ordinal: nowhere of a bad handle, and where there is no entry; a built-in's ordinals lead to its handle.
@@ -155,13 +170,14 @@ impl<A: Allocator> Registry<A> {
         table::segment_of(&self.entries, slot)
     }
 
-    /// A handle of modules names something from now on, whatever it named.
+    /// A free handle names something from now on.
     fn put(&mut self, handle: u16, entry: Entry<A>)
-        requires first { FIRST_MODULE ≤ handle }
-        requires last { handle < FIRST_MODULE + MOST_MODULES }
+        requires { IsFreeModule self.old handle }
         ensures { self.new ≡ finmap.insert self.old handle (named_of entry) }
     {
-        self.entries.put(usize::from(handle), entry);
+        let place = handle as usize;
+        counts::recount(&mut self.counts, place, &[], counts::imports_of(&entry));
+        self.entries.put(place, entry);
     }
 
     /// A free handle names a module from now on. It takes no memory.
@@ -179,28 +195,42 @@ impl<A: Allocator> Registry<A> {
         ensures inside { OnSome result ((FIRST_MODULE ≤ handle) × (handle < FIRST_MODULE + MOST_MODULES)) }
         ensures none { IfNone result (self.new ≡ self.old) }
     {
-        table::take_module(&mut self.entries, usize::from(handle))
+        let place = handle as usize;
+        match table::take_module(&mut self.entries, place) {
+            None => None,
+            Some(loaded) => {
+                counts::recount(&mut self.counts, place, loaded.imports(), &[]);
+                Some(loaded)
+            }
+        }
     }
 
     /// One explicit use more of what a handle names, as a load of it asks; whether it had fewer than 65,000. A built-in counts none.
     pub fn use_again(&mut self, handle: u16) -> bool
         ensures { (rest : LoadingWorld) → load.used_again false (in_world rest self.old) handle (finmap.get self.old handle) ≡ (Says (if result then handle else 0), in_world rest self.new) }
     {
-        let Some(mut loaded) = self.remove(handle) else {
-            return true;
-        };
-        let had_room = loaded.use_again();
-        self.put(handle, Entry::Loaded(loaded));
-        had_room
+        let place = handle as usize;
+        match table::take_module(&mut self.entries, place) {
+            None => true,
+            Some(mut loaded) => {
+                let had_room = loaded.use_again();
+                self.entries.put(place, Entry::Loaded(loaded));
+                had_room
+            }
+        }
     }
 
     /// One explicit use less of a module, if it has one. The module stays, whether it is still used or not.
     pub fn end_use(&mut self, handle: u16)
         ensures { (rest : LoadingWorld) → in_world rest self.new ≡ free.used_less (in_world rest self.old) handle }
     {
-        if let Some(mut loaded) = self.remove(handle) {
-            loaded.end_use();
-            self.put(handle, Entry::Loaded(loaded));
+        let place = handle as usize;
+        match table::take_module(&mut self.entries, place) {
+            None => {}
+            Some(mut loaded) => {
+                loaded.end_use();
+                self.entries.put(place, Entry::Loaded(loaded));
+            }
         }
     }
 
@@ -208,9 +238,13 @@ impl<A: Allocator> Registry<A> {
     pub fn bind(&mut self, handle: u16, values: Vec<Vec<Far, A>, A>)
         ensures { self.new ≡ with_values self.old handle (map (λ v. map far_of v.items) values.items) }
     {
-        if let Some(mut loaded) = self.remove(handle) {
-            loaded.bind(values);
-            self.put(handle, Entry::Loaded(loaded));
+        let place = handle as usize;
+        match table::take_module(&mut self.entries, place) {
+            None => {}
+            Some(mut loaded) => {
+                loaded.bind(values);
+                self.entries.put(place, Entry::Loaded(loaded));
+            }
         }
     }
 
@@ -249,8 +283,9 @@ impl<A: Allocator + Clone> Registry<A> {
     pub fn new(alloc: A) -> Result<Registry<A>, AllocError>
         ensures { IfOk result (λ made. made ≡ finmap.empty) }
     {
+        let counts = Vec::from_elem(alloc.clone()?, 0, PLACES)?;
         let entries = Places::untaken(alloc, PLACES)?;
-        Ok(Registry { entries })
+        Ok(Registry { counts, entries })
     }
 
     /// A copy of a name, in memory of the allocator from which the registry has its own. An error is that memory ran out.

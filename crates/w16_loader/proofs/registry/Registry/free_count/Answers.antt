@@ -4,7 +4,7 @@ use Rattle.w16_loader.proofs.Registered.{len_is, few}
 use Rattle.w16_loader.proofs.registry.Registry.free_count.Goals as goal
 
 pub overflow_sub-result : goal.overflow_sub-result
-overflow_sub-result g c = omega (arith, few c.self.inside.entries c.self.invariant, c.taken.ensures, c.from.ensures)
+overflow_sub-result g c = omega (arith, few c.self.inside.entries c.self.invariant.0, c.taken.ensures, c.from.ensures)
 
 pub returns : goal.returns
 returns g c = rw (← c.self.view_is) (omega (arith, len_is c.self.inside.entries, c.taken.ensures, c.from.ensures))

@@ -43,7 +43,7 @@ returns-clause-lowest g c =
 pub returns-clause-many : goal.returns-clause-many
 returns-clause-many g c =
     let past : FIRST_MODULE + MOST_MODULES ≤ c.loop-handle.handle = omega arith in
-    as_many c.args.self.now c.self.inside.entries c.args.count c.loop-handle.handles.items c.self.view_is c.self.invariant
+    as_many c.args.self.now c.self.inside.entries c.args.count c.loop-handle.handles.items c.self.view_is c.self.invariant.0
     (sym (all_through c.args.self.now c.args.count c.loop-handle.handle c.loop-handle.handles.items past c.loop-handle.invariant.few) ∙ c.loop-handle.invariant.lowest)
 
 pub loop-handle-init : goal.loop-handle-init

@@ -1,20 +1,31 @@
--- The table's entry is the map's.
-use Rattle.w16_loader.proofs.Registered.{named_at, named_inside, taken_table, taken_gone, taken_none}
+-- The table's entry is the map's, and what it imported isn't counted any more.
+use Rattle.w16_loader.proofs.Common.{ap, ◌∙◌, registered}
+use Rattle.w16_loader.proofs.Counting.{few, gone_counts, gone_named, inside, was_counted}
+use Rattle.w16_loader.proofs.Registered.{module_there}
 use Rattle.w16_loader.proofs.registry.Registry.remove.Goals as goal
 
-pub invariant_of-self : goal.invariant_of-self
-invariant_of-self g c =
-    let r = c.take_module.ensures in
-    taken_table c.self.inside.entries c.take_module.new.entries c.from.result c.take_module.result r.gone r.none c.self.invariant
+pub returns-in-None-clause-found : goal.returns-in-None-clause-found
+returns-in-None-clause-found g c = module_there c.self.inside.entries c.args.handle c.self.view_is c.in-None.ensures.found
 
-pub returns-clause-found : goal.returns-clause-found
-returns-clause-found g c = rw (← c.self.view_is, named_at c.self.inside.entries c.args.handle, ← c.from.ensures) c.take_module.ensures.found
+pub returns-in-None-clause-none : goal.returns-in-None-clause-none
+returns-in-None-clause-none g c = ap registered c.in-None.ensures.none ∙ c.self.view_is
 
-pub returns-clause-gone : goal.returns-clause-gone
-returns-clause-gone g c = rw (← c.self.view_is, ← c.from.ensures) (taken_gone c.self.inside.entries c.take_module.new.entries c.from.result c.take_module.result c.take_module.ensures.gone)
+pub recount-requires-clause-counted : goal.recount-requires-clause-counted
+recount-requires-clause-counted g c = was_counted c.self.invariant c.args.handle c.in-Some.ensures.found
+    (c.imports.ensures ∙ ap (λ m. m.imports) c.deref.ensures)
 
-pub returns-clause-none : goal.returns-clause-none
-returns-clause-none g c = rw (← c.self.view_is) (taken_none c.self.inside.entries c.take_module.new.entries c.from.result c.take_module.result c.take_module.ensures.none)
+pub recount-requires-clause-few : goal.recount-requires-clause-few
+recount-requires-clause-few g c = few c.self.invariant c.args.handle
 
-pub returns-clause-inside : goal.returns-clause-inside
-returns-clause-inside g c = rw (← c.from.ensures) (named_inside c.self.inside.entries c.from.result c.take_module.result (λ loaded. loaded.value) c.self.invariant c.take_module.ensures.found)
+pub invariant_of-self-in-Some : goal.invariant_of-self-in-Some
+invariant_of-self-in-Some g c = gone_counts c.self.invariant c.args.handle c.in-Some.ensures.found
+    (c.imports.ensures ∙ ap (λ m. m.imports) c.deref.ensures) c.recount.new.counts.items c.in-Some.ensures.gone c.recount.ensures.many c.recount.ensures.each
+
+pub returns-in-Some-clause-found : goal.returns-in-Some-clause-found
+returns-in-Some-clause-found g c = module_there c.self.inside.entries c.args.handle c.self.view_is c.in-Some.ensures.found
+
+pub returns-in-Some-clause-gone : goal.returns-in-Some-clause-gone
+returns-in-Some-clause-gone g c = gone_named c.self.invariant c.args.handle c.in-Some.ensures.found c.self.view_is c.in-Some.ensures.gone
+
+pub returns-in-Some-clause-inside : goal.returns-in-Some-clause-inside
+returns-in-Some-clause-inside g c = inside c.self.invariant c.args.handle c.in-Some.ensures.found

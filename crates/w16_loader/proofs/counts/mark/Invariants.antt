@@ -1,6 +1,6 @@
 -- What is marked, or is among the imports that are left, is all that was marked or is imported.
 use Rattle.w16_loader.proofs.Common.{◌≡◌, ℕ, ◌<◌, ◌||◌, ◌&&◌, ◌==◌, not, false, length, drop, slice_index_or, is_member}
-use Rattle.w16_loader.proofs.idle.mark.Given as goal
+use Rattle.w16_loader.proofs.counts.mark.Given as goal
 
 abbrev pub invariant-loop-import : goal.invariant-loop-import
 invariant-loop-import l = (handle : ℕ) → handle < length l.initial.marks
