@@ -18,7 +18,7 @@ use w16_model::names::selector_of;
 /// 1 where the handle names something still, as a built-in's always does, else 0. It reads no file, takes no memory of the host, and writes no
 /// byte of the heap's.
 ///
-/// Each module that goes costs one pass over the imports of all modules.
+/// Each module that goes costs one pass over its own imports, and one over the handles.
 pub fn free<A: Allocator + Copy>(
     registry: &mut Registry<A>,
     global: &mut Global16<A>,
