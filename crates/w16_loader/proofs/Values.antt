@@ -1,10 +1,9 @@
 -- The values of relocation records, and what a file says of them.
-use Rattle.w16_loader.proofs.Common.{◌≡◌, ℕ, zero, suc, ◌+◌, ◌-◌, ◌<◌, ◌≤◌, Bool, true, List, [], ◌∷◌, ◌++◌, length, take, drop, map, Some, slice_get, slice_index, Result, Ok, Err, refl, sym, ap, ◌∙◌, subst, arith, add-one, All}
-use Rattle.w16_loader.proofs.Common.{is_ok, nat_lt, unwrap_or, list_all, and_parts, length-map, length-take, length-drop, map_push, All-nil, All-cons, file_of, NeFault, text_at, text_in, tables_at, imported_place, text_read, RelocFault}
-use Rattle.w16_loader.proofs.Common.{Record, ◌>>=◌, check_from, Offer, Held, checked, data_of, records_of, offer_of, has_text_at, AreRecords, passed_is_sound, are_sound, Far, ModuleFile, SegmentData, Target, targets_of, Lookup, Module, value_of}
-use Rattle.w16_loader.proofs.Common.{data_in, target_of, targets_in, far_of, module_file, segment_in, tables_in, sound_law, read_back, tables_apart, FileFault, Device, OutOfMemory, Files, AreValuesOf, IsFailure, IsSaid, IsStoredAs, fault_of}
+use Rattle.w16_loader.proofs.Common.{◌≡◌, ℕ, zero, suc, ◌+◌, ◌-◌, ◌<◌, ◌≤◌, Bool, true, List, [], ◌∷◌, ◌++◌, length, take, map, Some, slice_get, Result, Ok, Err, refl, sym, ap, ◌∙◌, subst, arith, add-one, All}
+use Rattle.w16_loader.proofs.Common.{is_ok, unwrap_or, list_all, and_parts, length-map, map_push, file_of, tables_at, RelocFault}
+use Rattle.w16_loader.proofs.Common.{Record, Held, checked, are_sound, Far, ModuleFile, SegmentData, Target, targets_of, Lookup, Module, value_of}
+use Rattle.w16_loader.proofs.Common.{data_in, target_of, targets_in, module_file, segment_in, tables_in, sound_law, read_back, tables_apart, FileFault, Device, OutOfMemory, Files, IsFailure, IsSaid, IsStoredAs}
 use Rattle.w16_loader.proofs.Common.{values_for}
-use Rattle.std.proofs.lemmas.Bool.{ltb-true}
 use Rattle.w16_store.specs.declared.store.StoreFault.TheVariants as stores
 use Rattle.w16_ne.specs.declared.fault.NeFault.TheVariants as ne_faults
 use Rattle.w16_ne.specs.declared.segment_table.Segment.{Segment}
@@ -45,9 +44,6 @@ check_failed before after held (relocs.Store stores.Short) h = absurd h
 module _ (files : Files) (m : Module) (file : List ℕ) (t : Tables) (is : IsStoredAs files m file t) (name : List ℕ) (named : name ≡ m.file) (u : Tables) (kept : tables_in u ≡ m.tables) where
   pub stored_there : file_of files name ≡ Some file
   stored_there = ap (file_of files) named ∙ is.stored
-
-  same_tables : u ≡ t
-  same_tables = tables_apart u t (kept ∙ sym is.tables)
 
 -- Records whose names stand in some bytes as in the file point where the file says.
 target_alike : (f g : ℕ → List ℕ) (x : pointing.Target) → IfSome (text_of x) (λ name. f name ≡ g name) → target_by f x ≡ target_by g x

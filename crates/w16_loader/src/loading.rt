@@ -231,7 +231,7 @@ fn load_new<S: Store, A: Allocator + Copy>(
 /// by a request of its own: others slide and are discarded for it, as few as can be. A load that is refused takes back all that it made, but the
 /// discards.
 ///
-/// Whatever the store answers, also where it reads otherwise each time, it is a load of modules that some files say.
+/// Whatever the store answers, also where it reads otherwise each time, it is a load of what the store answered.
 pub fn load<S: Store, A: Allocator + Copy>(
     alloc: A,
     registry: &mut Registry<A>,

@@ -1,9 +1,7 @@
 -- A segment that passes its check has the records that its file says.
-use Rattle.w16_loader.proofs.Common.{◌≡◌, ◌-◌, List, IfOk, Some, slice_get, ModuleFile, SegmentData, targets_of, AreValuesOf, IsSaid, length, map, sym, ap, ◌∙◌, subst, arith, true, All, ◌≤◌, ℕ, Result, Ok, Err, FileFault, length-map, offer_of, target_of, segment_in, IsFailure, IsStoredAs}
-use Rattle.std.specs.Result.{IfErr}
+use Rattle.w16_loader.proofs.Common.{◌≡◌, ◌-◌, length, map, sym, ap, ◌∙◌, arith, length-map, segment_in}
 use Rattle.std.specs.FinMap as finmap
 use Rattle.w16_ne.specs.Modules.{Tables}
-use Rattle.w16_reloc.specs.Records.{is_named}
 use Rattle.w16_loading.specs.File as loading
 use Rattle.w16_ne.specs.Texts.{text_in}
 use Rattle.w16_format.specs.Data.{record_target}
