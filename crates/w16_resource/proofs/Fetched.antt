@@ -54,8 +54,11 @@ module _ (honest : Type 0) (world : LoadingWorld) (before later slot handle plac
   unfolding source_in
   fetches fault new f =
       let known : honest → IsSourceOf honest world.files name world.handles slot entry = λ h. source_in h world handle place name entry s (of h) short world.handles slot sized in
-      owned_fetch honest (IsSourceOf honest world.files name world.handles slot entry) known _ world slot (λ bytes sized read. (inr (handle, place, s.m, here), λ h. subst (IsImage ne_format world slot) (sym (read (known h)))
-      (inr (handle, place, s.m, here, resource_given world s.m (of h).0 s.t place (s.kind, entry) (of h).1 s.there)))) before later fault new f
+      owned_fetch honest (IsSourceOf honest world.files name world.handles slot entry) known _ world slot (λ bytes sized read. (
+        inr (handle, place, s.m, here),
+        λ h. subst (IsImage ne_format world slot) (sym (read (known h)))
+            (inr (handle, place, s.m, here, resource_given world s.m (of h).0 s.t place (s.kind, entry) (of h).1 s.there)),
+      )) before later fault new f
     where
       here : IsResourceOf world slot handle place s.m
       here = record { loaded = s.loaded; loads = loads; has = has }
