@@ -100,34 +100,28 @@ pub fn imports(
 /// Puts the line of an import behind a text.
 fn push_import(
     out: &mut String,
-    store: &mut MemStore,
-    name: &[u8],
+    file: &[u8],
     tables: &Module,
     import: Target,
 ) -> Result<(), AllocError>
-    ensures same { store.new ≡ store.old }
-    ensures text { (file : List ℕ) → file_of store.old name.now ≡ Some file → tables_at (Some file) ≡ Ok tables.now
-        → Adds result (string_bytes out.old) (string_bytes out.new) (import_text file tables.now import) }
+    ensures { Adds result (string_bytes out.old) (string_bytes out.new) (import_text file.now tables.now import) }
 {
     out.push_str("import ")?;
-    push_target(out, store, name, tables, import)?;
+    push_target(out, file, tables, import)?;
     out.push_str("\n")
 }
 
 /// Puts the lines of what a module imports behind a text.
 pub fn push_imports(
     out: &mut String,
-    store: &mut MemStore,
-    name: &[u8],
+    file: &[u8],
     tables: &Module,
     imports: &BTreeMap<u64, Target>,
 ) -> Result<(), AllocError>
-    ensures same { store.new ≡ store.old }
-    ensures text { (file : List ℕ) → file_of store.old name.now ≡ Some file → tables_at (Some file) ≡ Ok tables.now
-        → Adds result (string_bytes out.old) (string_bytes out.new) (flat_map (import_text file tables.now) (values imports.now)) }
+    ensures { Adds result (string_bytes out.old) (string_bytes out.new) (flat_map (import_text file.now tables.now) (values imports.now)) }
 {
     for import in imports.values() {
-        push_import(out, store, name, tables, *import)?;
+        push_import(out, file, tables, *import)?;
     }
     Ok(())
 }

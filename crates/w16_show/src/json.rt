@@ -33,20 +33,21 @@ fn is_sound(verdict: &Verdict) -> bool
 #[tactic(auto, unfolding(crate::specs::Json::module_json))]
 fn module_value(
     alloc: Global,
+    file: &[u8],
     store: &mut MemStore,
     tables: &Module,
     scratch: &mut Scratch,
 ) -> Result<Value, AllocError>
-    ensures { (file : List ℕ) → file_of store.old FILE.now ≡ Some file → tables_at (Some file) ≡ Ok tables.now
-        → IfOk result (λ v. view v ≡ module_json file tables.now) }
+    ensures { file_of store.old FILE.now ≡ Some file.now → tables_at (Some file.now) ≡ Ok tables.now
+        → IfOk result (λ v. view v ≡ module_json file.now tables.now) }
 {
     let entries = entries_value(alloc, tables)?;
     let header = header_value(alloc, tables)?;
-    let imports = imports_value(alloc, store, FILE, tables, scratch)?;
+    let imports = imports_value(alloc, file, store, FILE, tables, scratch)?;
     let names = names_value(alloc, tables)?;
     let references = references_value(alloc, tables)?;
     let resources = resources_value(alloc, tables)?;
-    let segments = segments_value(alloc, store, FILE, tables, scratch)?;
+    let segments = segments_value(alloc, file, store, FILE, tables, scratch)?;
     json!(in alloc; {
         "entries": entries,
         "header": header,
@@ -82,18 +83,19 @@ fn fault_value(alloc: Global, name: &str, e: PartFault) -> Result<Value, AllocEr
 fn module_shown(
     alloc: Global,
     name: &str,
+    file: &[u8],
     store: &mut MemStore,
     tables: &Module,
 ) -> Result<Shown, AllocError>
-    ensures text { (file : List ℕ) → file_of store.old FILE.now ≡ Some file → tables_at (Some file) ≡ Ok tables.now
-        → IfOk result (λ shown. read (string_bytes shown.text) ≡ Some (json_of name.now file (Ok tables.now))) }
-    ensures verdict { (file : List ℕ) → file_of store.old FILE.now ≡ Some file → tables_at (Some file) ≡ Ok tables.now
-        → IfOk result (λ shown. shown.verdict ≡ verdict_of file (Ok tables.now)) }
+    ensures text { file_of store.old FILE.now ≡ Some file.now → tables_at (Some file.now) ≡ Ok tables.now
+        → IfOk result (λ shown. read (string_bytes shown.text) ≡ Some (json_of name.now file.now (Ok tables.now))) }
+    ensures verdict { file_of store.old FILE.now ≡ Some file.now → tables_at (Some file.now) ≡ Ok tables.now
+        → IfOk result (λ shown. shown.verdict ≡ verdict_of file.now (Ok tables.now)) }
 {
     let mut scratch = Scratch::new(alloc)?;
     let verdict = verdict(store, FILE, tables, &mut scratch);
     let sound = is_sound(&verdict);
-    let tables = module_value(alloc, store, tables, &mut scratch)?;
+    let tables = module_value(alloc, file, store, tables, &mut scratch)?;
     let value = whole_value(alloc, name, tables, sound)?;
     let text = value.to_string(alloc)?;
     Ok(Shown { text, verdict })
@@ -118,7 +120,7 @@ pub fn show_json(alloc: Global, name: &str, file: &[u8]) -> Result<Shown, AllocE
 {
     let mut store = store_of(alloc, file)?;
     match module_of(alloc, &mut store, FILE)? {
-        Ok(tables) => module_shown(alloc, name, &mut store, &tables),
+        Ok(tables) => module_shown(alloc, name, file, &mut store, &tables),
         Err(e) => fault_shown(alloc, name, e),
     }
 }
