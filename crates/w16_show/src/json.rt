@@ -2,11 +2,10 @@
 ghost use Rattle.std.specs.Prelude.{◌≡◌, ℕ, List, Some, Ok, Err, IfOk, string_bytes};
 ghost use Rattle.serde_json.specs.Read.{read};
 ghost use Rattle.serde_json.specs.View.{view};
-ghost use Rattle.w16_store.specs.Files.{file_of};
-ghost use Rattle.w16_ne.specs.Modules.{Tables, tables_at};
+ghost use Rattle.w16_ne.specs.Modules.{Tables};
 ghost use Rattle.w16_ne.specs.Parts.{parts_at};
 ghost use Rattle.w16_show.specs.Json.{module_json, whole_json, fault_json, is_sound};
-ghost use Rattle.w16_show.specs.Report.{verdict_of, json_of};
+ghost use Rattle.w16_show.specs.Report.{IsOpened, verdict_of, json_of};
 
 use crate::json_header::header_value;
 use crate::json_segments::{imports_value, segments_value};
@@ -38,7 +37,7 @@ fn module_value(
     tables: &Module,
     scratch: &mut Scratch,
 ) -> Result<Value, AllocError>
-    ensures { file_of store.old FILE.now ≡ Some file.now → tables_at (Some file.now) ≡ Ok tables.now
+    ensures { IsOpened store.old FILE.now file.now tables.now
         → IfOk result (λ v. view v ≡ module_json file.now tables.now) }
 {
     let entries = entries_value(alloc, tables)?;
@@ -87,9 +86,9 @@ fn module_shown(
     store: &mut MemStore,
     tables: &Module,
 ) -> Result<Shown, AllocError>
-    ensures text { file_of store.old FILE.now ≡ Some file.now → tables_at (Some file.now) ≡ Ok tables.now
+    ensures text { IsOpened store.old FILE.now file.now tables.now
         → IfOk result (λ shown. read (string_bytes shown.text) ≡ Some (json_of name.now file.now (Ok tables.now))) }
-    ensures verdict { file_of store.old FILE.now ≡ Some file.now → tables_at (Some file.now) ≡ Ok tables.now
+    ensures verdict { IsOpened store.old FILE.now file.now tables.now
         → IfOk result (λ shown. shown.verdict ≡ verdict_of file.now (Ok tables.now)) }
 {
     let mut scratch = Scratch::new(alloc)?;

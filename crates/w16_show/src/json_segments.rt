@@ -1,14 +1,12 @@
 //! Segments and their relocation records as JSON.
-ghost use Rattle.std.specs.BTreeMap.{values};
-ghost use Rattle.std.specs.Prelude.{◌≡◌, ℕ, ◌<◌, ◌≤◌, ◌-◌, List, [], ◌∷◌, Some, Ok, length, map, slice_get, IfOk};
+ghost use Rattle.std.specs.Prelude.{◌≡◌, ◌<◌, ◌≤◌, ◌-◌, List, Some, length, map, slice_get, IfOk};
 ghost use Rattle.serde_json.specs.Data.{Data};
 ghost use Rattle.serde_json.specs.View.{view};
-ghost use Rattle.w16_store.specs.Files.{file_of};
-ghost use Rattle.w16_ne.specs.Modules.{tables_at};
 ghost use Rattle.w16_reloc.specs.Segments.{checked};
 ghost use Rattle.w16_show.specs.Imports.{imports};
+ghost use Rattle.w16_show.specs.Report.{IsOpened};
 ghost use Rattle.w16_show.specs.Numbered.{numbered};
-ghost use Rattle.w16_show.specs.Json.{text, list, target_json, fixup_json, relocation_json, segment_object, segment_said, segment_json};
+ghost use Rattle.w16_show.specs.Json.{list, target_json, fixup_json, relocation_json, segment_object, segment_said, segment_json};
 
 use crate::imports::imports;
 use crate::json_values::{offsets_value, text_value, word_value};
@@ -17,7 +15,6 @@ use crate::sites::sites_of;
 use crate::words::{part_word, unsound_word};
 use serde_json::{Value, json};
 use std::alloc::{AllocError, Global};
-use std::collections::BTreeMap;
 use w16_ne::{Module, Segment};
 use w16_reloc::{Fixup, Record, Scratch, Target, check};
 use w16_store::MemStore;
@@ -40,31 +37,12 @@ fn target_value(
             let from = text_value(alloc, reference_name(tables, reference))?;
             json!(in alloc; {"module": from, "ordinal": ordinal})
         }
-        Target::ByName {
-            reference,
-            name: text,
-        } => {
+        Target::ByName { reference, name } => {
             let from = text_value(alloc, reference_name(tables, reference))?;
-            let imported = text_value(alloc, imported_name(file, tables, text))?;
-            json!(in alloc; {"module": from, "name": imported})
+            let name = text_value(alloc, imported_name(file, tables, name))?;
+            json!(in alloc; {"module": from, "name": name})
         }
     }
-}
-
-/// Imports that were found in a module.
-fn targets_value(
-    alloc: Global,
-    file: &[u8],
-    tables: &Module,
-    imports: &BTreeMap<u64, Target>,
-) -> Result<Value, AllocError>
-    ensures { IfOk result (λ v. view v ≡ list (map (target_json file.now tables.now) (values imports.now))) }
-{
-    let mut targets = Vec::with_capacity(alloc, imports.len())?;
-    for target in imports.values() {
-        targets.push(target_value(alloc, file, tables, *target)?)?;
-    }
-    Ok(Value::Array(targets))
 }
 
 /// What a module imports.
@@ -77,11 +55,15 @@ pub fn imports_value(
     scratch: &mut Scratch,
 ) -> Result<Value, AllocError>
     ensures same { store.new ≡ store.old }
-    ensures value { file_of store.old name.now ≡ Some file.now → tables_at (Some file.now) ≡ Ok tables.now
+    ensures value { IsOpened store.old name.now file.now tables.now
         → IfOk result (λ v. view v ≡ list (map (target_json file.now tables.now) (imports file.now tables.now))) }
 {
     let imports = imports(alloc, store, name, tables, scratch)?;
-    targets_value(alloc, file, tables, &imports)
+    let mut targets = Vec::with_capacity(alloc, imports.len())?;
+    for target in imports.values() {
+        targets.push(target_value(alloc, file, tables, *target)?)?;
+    }
+    Ok(Value::Array(targets))
 }
 
 /// A fixup, with its sites, and whether its value is added.
@@ -172,7 +154,7 @@ fn segment_value(
     requires first { 0 < number }
     requires last { number ≤ length tables.now.segments }
     ensures same { store.new ≡ store.old }
-    ensures value { (s : Segment) → file_of store.old name.now ≡ Some file.now → tables_at (Some file.now) ≡ Ok tables.now
+    ensures value { (s : Segment) → IsOpened store.old name.now file.now tables.now
         → slice_get tables.now.segments (number - 1) ≡ Some s → IfOk result (λ v. view v ≡ segment_said file.now tables.now number s (checked file.now tables.now s)) }
 {
     let segment = tables.segment(number);
@@ -198,7 +180,7 @@ pub fn segments_value(
     scratch: &mut Scratch,
 ) -> Result<Value, AllocError>
     ensures same { store.new ≡ store.old }
-    ensures value { file_of store.old name.now ≡ Some file.now → tables_at (Some file.now) ≡ Ok tables.now
+    ensures value { IsOpened store.old name.now file.now tables.now
         → IfOk result (λ v. view v ≡ list (numbered (segment_json file.now tables.now) 1 tables.now.segments)) }
 {
     let mut values = Vec::new(alloc);

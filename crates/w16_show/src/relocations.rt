@@ -1,7 +1,7 @@
 //! The lines of relocation records.
-ghost use Rattle.std.specs.Prelude.{◌≡◌, Ok, OnOk, string_bytes};
+ghost use Rattle.std.specs.Prelude.{◌≡◌, Ok, string_bytes};
 ghost use Rattle.std.specs.List.{flat_map};
-ghost use Rattle.w16_show.specs.Words.{Adds, escaped};
+ghost use Rattle.w16_show.specs.Words.{Adds};
 ghost use Rattle.w16_show.specs.Text.{reference_name, imported_name, target_text, site_text, fixup_text, relocation_text, relocations_text};
 
 use crate::bytes::push_escaped;
@@ -53,13 +53,10 @@ pub fn push_target(
             push_escaped(out, reference_name(tables, reference))?;
             write!(out, " #{ordinal}")
         }
-        Target::ByName {
-            reference,
-            name: text,
-        } => {
+        Target::ByName { reference, name } => {
             push_escaped(out, reference_name(tables, reference))?;
             out.push_str(" ")?;
-            push_escaped(out, imported_name(file, tables, text))
+            push_escaped(out, imported_name(file, tables, name))
         }
     }
 }

@@ -1,9 +1,8 @@
 //! The lines of segments.
-ghost use Rattle.std.specs.Prelude.{◌≡◌, ℕ, ◌<◌, ◌≤◌, ◌-◌, List, Some, Ok, length, slice_get, string_bytes};
-ghost use Rattle.w16_store.specs.Files.{file_of};
-ghost use Rattle.w16_ne.specs.Modules.{tables_at};
+ghost use Rattle.std.specs.Prelude.{◌≡◌, ◌<◌, ◌≤◌, ◌-◌, Some, length, slice_get, string_bytes};
 ghost use Rattle.w16_ne.specs.declared.segment_table.Segment.{Segment};
 ghost use Rattle.w16_reloc.specs.Segments.{checked};
+ghost use Rattle.w16_show.specs.Report.{IsOpened};
 ghost use Rattle.w16_show.specs.Numbered.{numbered};
 ghost use Rattle.w16_show.specs.Words.{Adds};
 ghost use Rattle.w16_show.specs.Text.{memory_words, segment_words, data_text, object_text, segment_text, whole_segment, relocations_text};
@@ -79,7 +78,7 @@ fn push_records(
     requires first { 0 < number }
     requires last { number ≤ length tables.now.segments }
     ensures same { store.new ≡ store.old }
-    ensures text { (s : Segment) → file_of store.old name.now ≡ Some file.now → tables_at (Some file.now) ≡ Ok tables.now
+    ensures text { (s : Segment) → IsOpened store.old name.now file.now tables.now
         → slice_get tables.now.segments (number - 1) ≡ Some s
         → Adds result (string_bytes out.old) (string_bytes out.new) (relocations_text file.now tables.now (checked file.now tables.now s)) }
 {
@@ -102,7 +101,7 @@ pub fn push_segments(
     scratch: &mut Scratch,
 ) -> Result<(), AllocError>
     ensures same { store.new ≡ store.old }
-    ensures text { file_of store.old name.now ≡ Some file.now → tables_at (Some file.now) ≡ Ok tables.now
+    ensures text { IsOpened store.old name.now file.now tables.now
         → Adds result (string_bytes out.old) (string_bytes out.new) (numbered (whole_segment file.now tables.now) 1 tables.now.segments) }
 {
     for i in 0..tables.segment_count() {

@@ -1,14 +1,13 @@
 //! What is printed of a file as text.
 ghost use Rattle.std.specs.Prelude.{◌≡◌, ℕ, ◌++◌, List, Some, Ok, Err, IfOk, string_bytes};
 ghost use Rattle.std.specs.List.{flat_map};
-ghost use Rattle.w16_store.specs.Files.{file_of};
 ghost use Rattle.w16_show.specs.Words.{Adds};
-ghost use Rattle.w16_ne.specs.Modules.{tables_at, listed_resources};
+ghost use Rattle.w16_ne.specs.Modules.{listed_resources};
 ghost use Rattle.w16_ne.specs.Parts.{parts_at};
 ghost use Rattle.w16_show.specs.Numbered.{numbered};
 ghost use Rattle.w16_show.specs.Imports.{imports};
 ghost use Rattle.w16_show.specs.Text.{header_text, whole_segment, entry_text, name_text, reference_text, import_text, resource_text};
-ghost use Rattle.w16_show.specs.Report.{part, verdict_of, verdict_text, module_text, text_of};
+ghost use Rattle.w16_show.specs.Report.{IsOpened, part, verdict_of, verdict_text, module_text, text_of};
 
 use crate::entries::{push_entries, push_names};
 use crate::header::{push_header, push_title};
@@ -75,7 +74,7 @@ fn push_segments_part(
     scratch: &mut Scratch,
 ) -> Result<(), AllocError>
     ensures same { store.new ≡ store.old }
-    ensures text { file_of store.old FILE.now ≡ Some file.now → tables_at (Some file.now) ≡ Ok tables.now
+    ensures text { IsOpened store.old FILE.now file.now tables.now
         → Adds result (string_bytes out.old) (string_bytes out.new) (part asked (numbered (whole_segment file.now tables.now) 1 tables.now.segments)) }
 {
     if !asked {
@@ -107,7 +106,7 @@ fn push_references_part(
     scratch: &mut Scratch,
 ) -> Result<(), AllocError>
     ensures same { store.new ≡ store.old }
-    ensures text { file_of store.old FILE.now ≡ Some file.now → tables_at (Some file.now) ≡ Ok tables.now
+    ensures text { IsOpened store.old FILE.now file.now tables.now
         → Adds result (string_bytes out.old) (string_bytes out.new) (part asked (numbered reference_text 1 tables.now.references ++ flat_map (import_text file.now tables.now) (imports file.now tables.now))) }
 {
     if !asked {
@@ -139,7 +138,7 @@ fn push_module(
     scratch: &mut Scratch,
 ) -> Result<(), AllocError>
     ensures same { store.new ≡ store.old }
-    ensures text { file_of store.old FILE.now ≡ Some file.now → tables_at (Some file.now) ≡ Ok tables.now
+    ensures text { IsOpened store.old FILE.now file.now tables.now
         → Adds result (string_bytes out.old) (string_bytes out.new) (module_text parts file.now tables.now) }
 {
     push_header_part(out, parts.header, tables)?;
@@ -158,9 +157,9 @@ fn module_shown(
     parts: Parts,
     tables: &Module,
 ) -> Result<Shown, AllocError>
-    ensures text { file_of store.old FILE.now ≡ Some file.now → tables_at (Some file.now) ≡ Ok tables.now
+    ensures text { IsOpened store.old FILE.now file.now tables.now
         → IfOk result (λ shown. string_bytes shown.text ≡ text_of parts name.now file.now (Ok tables.now)) }
-    ensures verdict { file_of store.old FILE.now ≡ Some file.now → tables_at (Some file.now) ≡ Ok tables.now
+    ensures verdict { IsOpened store.old FILE.now file.now tables.now
         → IfOk result (λ shown. shown.verdict ≡ verdict_of file.now (Ok tables.now)) }
 {
     let mut scratch = Scratch::new(alloc)?;

@@ -9,11 +9,11 @@ returns-in-Ok-clause-text c =
     let has = c.in_ok-store.ensures in
     let read = c.in_ok-tables.ensures.tables c.args.file.now has in
     let tables = rw c.in-Ok.is at read in
-    rw (← (c.in_ok-tables.ensures.parts c.args.file.now has), c.in-Ok.is) (c.module_shown.ensures.text (rw c.in_ok-tables.ensures.same has) (sym tables))
+    rw (← (c.in_ok-tables.ensures.parts c.args.file.now has), c.in-Ok.is) (c.module_shown.ensures.text (record { stored = rw c.in_ok-tables.ensures.same has; accepted = sym tables }))
 
 pub returns-in-Ok-clause-verdict : goal.returns-in-Ok-clause-verdict
 returns-in-Ok-clause-verdict c =
     let has = c.in_ok-store.ensures in
     let read = c.in_ok-tables.ensures.tables c.args.file.now has in
     let tables = rw c.in-Ok.is at read in
-    rw (← (c.in_ok-tables.ensures.parts c.args.file.now has), c.in-Ok.is) (c.module_shown.ensures.verdict (rw c.in_ok-tables.ensures.same has) (sym tables))
+    rw (← (c.in_ok-tables.ensures.parts c.args.file.now has), c.in-Ok.is) (c.module_shown.ensures.verdict (record { stored = rw c.in_ok-tables.ensures.same has; accepted = sym tables }))
