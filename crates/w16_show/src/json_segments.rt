@@ -1,4 +1,5 @@
 //! Segments and their relocation records as JSON.
+ghost use Rattle.std.specs.BTreeMap.{values};
 ghost use Rattle.std.specs.Prelude.{◌≡◌, ◌<◌, ◌≤◌, ◌-◌, List, Some, length, map, slice_get, IfOk};
 ghost use Rattle.serde_json.specs.Data.{Data};
 ghost use Rattle.serde_json.specs.View.{view};
@@ -15,6 +16,7 @@ use crate::sites::sites_of;
 use crate::words::{part_word, unsound_word};
 use serde_json::{Value, json};
 use std::alloc::{AllocError, Global};
+use std::collections::BTreeMap;
 use w16_ne::{Module, Segment};
 use w16_reloc::{Fixup, Record, Scratch, Target, check};
 use w16_store::MemStore;
@@ -45,6 +47,22 @@ fn target_value(
     }
 }
 
+/// Imports that were found in a module.
+fn targets_value(
+    alloc: Global,
+    file: &[u8],
+    tables: &Module,
+    imports: &BTreeMap<u64, Target>,
+) -> Result<Value, AllocError>
+    ensures { IfOk result (λ v. view v ≡ list (map (target_json file.now tables.now) (values imports.now))) }
+{
+    let mut targets = Vec::with_capacity(alloc, imports.len())?;
+    for target in imports.values() {
+        targets.push(target_value(alloc, file, tables, *target)?)?;
+    }
+    Ok(Value::Array(targets))
+}
+
 /// What a module imports.
 pub fn imports_value(
     alloc: Global,
@@ -59,11 +77,7 @@ pub fn imports_value(
         → IfOk result (λ v. view v ≡ list (map (target_json file.now tables.now) (imports file.now tables.now))) }
 {
     let imports = imports(alloc, store, name, tables, scratch)?;
-    let mut targets = Vec::with_capacity(alloc, imports.len())?;
-    for target in imports.values() {
-        targets.push(target_value(alloc, file, tables, *target)?)?;
-    }
-    Ok(Value::Array(targets))
+    targets_value(alloc, file, tables, &imports)
 }
 
 /// A fixup, with its sites, and whether its value is added.
