@@ -34,13 +34,16 @@ both : (k : ℕ) (xs ys : List Data) → Shallow k xs → Shallow k ys → Shall
 both k [] ys s t = t
 both k (x ∷ xs) ys s t = (s.0, both k xs ys s.1 t)
 
-in_numbered : {X : Type 0} (k : ℕ) (gives : ℕ → X → List Data) → ((i : ℕ) (x : X) → Shallow k (gives i x)) → (i : ℕ) (xs : List X) → Shallow k (numbered gives i xs)
-in_numbered k gives each i [] = tt
-in_numbered k gives each i (x ∷ xs) = both k (gives i x) (numbered gives (suc i) xs) (each i x) (in_numbered k gives each (suc i) xs)
+in_numbered : {X : Type 0} (k : ℕ) (gives : ℕ → X → List Data) → ((i : ℕ) (x : X) → Shallow k (gives i x)) → (i : ℕ) (xs : List X) → items_depth (items_of (numbered gives i xs)) ≤ k
+in_numbered {X} k gives each i xs = in_list k (numbered gives i xs) (all i xs)
+  where
+    all : (i : ℕ) (xs : List X) → Shallow k (numbered gives i xs)
+    all i [] = tt
+    all i (x ∷ xs) = both k (gives i x) (numbered gives (suc i) xs) (each i x) (all (suc i) xs)
 
-in_map : {X : Type 0} (k : ℕ) (f : X → Data) → ((x : X) → depth (f x) ≤ k) → (xs : List X) → Shallow k (map f xs)
-in_map k f each [] = tt
-in_map k f each (x ∷ xs) = (each x, in_map k f each xs)
+in_map : {X : Type 0} (k : ℕ) (f : X → Data) → ((x : X) → depth (f x) ≤ k) → (xs : List X) → items_depth (items_of (map f xs)) ≤ k
+in_map k f each [] = omega arith
+in_map k f each (x ∷ xs) = let own = each x in let others = in_map k f each xs in omega (arith, own, others)
 
 target-depth : (file : List ℕ) (tables : Tables) (t : Target) → depth (target_json file tables t) ≤ 1
 target-depth file tables (target.Internal segment offset) = omega arith
@@ -50,7 +53,7 @@ target-depth file tables (target.ByName reference name) = omega arith
 
 fixup-depth : (file : List ℕ) (tables : Tables) (sites : List ℕ) (add : Bool) (fixup : Fixup) → depth (fixup_json file tables sites add fixup) ≤ 2
 fixup-depth file tables sites add fixup =
-    let offsets = in_list 0 (map n sites) (in_map 0 n (λ x. omega arith) sites) in
+    let offsets = in_map 0 n (λ x. omega arith) sites in
     let where_to = target-depth file tables fixup.target in
     omega (arith, offsets, where_to)
 
@@ -61,7 +64,7 @@ relocation-depth file tables bytes System = omega arith
 
 segment-depth : (file : List ℕ) (tables : Tables) (i : ℕ) (s : Segment) (said : Result Held RelocFault) → depth (segment_said file tables i s said) ≤ 4
 segment-depth file tables i s (Ok held) =
-    let records = in_list 2 (map (relocation_json file tables held.bytes) held.records) (in_map 2 (relocation_json file tables held.bytes) (relocation-depth file tables held.bytes) held.records) in
+    let records = in_map 2 (relocation_json file tables held.bytes) (relocation-depth file tables held.bytes) held.records in
     omega (arith, records)
 segment-depth file tables i s (Err fault) = omega arith
 
@@ -96,13 +99,13 @@ header-depth tables = omega arith
 module-depth : (file : List ℕ) (tables : Tables) → depth (module_json file tables) ≤ 6
 unfolding module_json
 module-depth file tables =
-    let entries = in_list 4 (numbered entry_json 1 tables.entries) (in_numbered 4 entry_json entry-depth 1 tables.entries) in
+    let entries = in_numbered 4 entry_json entry-depth 1 tables.entries in
     let header = header-depth tables in
-    let imported = in_list 4 (map (target_json file tables) (imports file tables)) (in_map 4 (target_json file tables) (λ t. (let shallow = target-depth file tables t in omega (arith, shallow))) (imports file tables)) in
-    let names = in_list 4 (numbered (name_json tables.resident) 0 tables.names) (in_numbered 4 (name_json tables.resident) (λ i x. (omega arith, tt)) 0 tables.names) in
-    let references = in_list 4 (numbered reference_json 1 tables.references) (in_numbered 4 reference_json (λ i x. (omega arith, tt)) 1 tables.references) in
-    let listed = in_list 4 (numbered resource_json 1 (listed_resources tables.resources)) (in_numbered 4 resource_json (λ i x. (resource-depth x, tt)) 1 (listed_resources tables.resources)) in
-    let segments = in_list 4 (numbered (segment_json file tables) 1 tables.segments) (in_numbered 4 (segment_json file tables) (λ i s. (segment-depth file tables i s (checked file tables s), tt)) 1 tables.segments) in
+    let imported = in_map 4 (target_json file tables) (λ t. (let shallow = target-depth file tables t in omega (arith, shallow))) (imports file tables) in
+    let names = in_numbered 4 (name_json tables.resident) (λ i x. (omega arith, tt)) 0 tables.names in
+    let references = in_numbered 4 reference_json (λ i x. (omega arith, tt)) 1 tables.references in
+    let listed = in_numbered 4 resource_json (λ i x. (resource-depth x, tt)) 1 (listed_resources tables.resources) in
+    let segments = in_numbered 4 (segment_json file tables) (λ i s. (segment-depth file tables i s (checked file tables s), tt)) 1 tables.segments in
     omega (arith, entries, header, imported, names, references, listed, segments)
 
 pub whole-depth : (name file : List ℕ) (tables : Tables) (sound : Bool) → depth (whole_json name file tables sound) ≤ 127

@@ -1,5 +1,5 @@
 -- The first segment that isn't sound, segment by segment.
-use Rattle.std.proofs.Common.{◌≡◌, ℕ, zero, suc, List, [], ◌∷◌, ◌+◌, drop, slice_get, Option, Some, Result, Ok, Err, refl, add-one}
+use Rattle.std.proofs.Common.{◌≡◌, ℕ, List, ◌+◌, drop, slice_get, Option, Some, Result, Ok, Err, refl, add-one}
 use Rattle.w16_ne.specs.declared.segment_table.Segment.{Segment}
 use Rattle.w16_ne.specs.Modules.{Tables}
 use Rattle.w16_reloc.specs.declared.fault.RelocFault.{RelocFault}
@@ -7,23 +7,16 @@ use Rattle.w16_reloc.specs.Segments as segments
 use Rattle.w16_reloc.specs.Segments.{Held, checked}
 use Rattle.w16_show.specs.declared.verdict.Unsound.{Unsound}
 use Rattle.w16_show.specs.Report.{first_unsound}
+use Rattle.w16_show.proofs.Numbering.{left-from}
 
 module _ (file : List ℕ) (tables : Tables) (s : Segment) where
   pub unsound-here : (n : ℕ) (segments : List Segment) (i : ℕ) (fault : RelocFault) → slice_get segments i ≡ Some s → checked file tables s ≡ Err fault
       → first_unsound file tables n (drop i segments) ≡ Some (record { segment = n; fault = fault })
-  unsound-here n [] i fault h e = cc
-  unsound-here n (t ∷ ts) zero fault h e = let same : t ≡ s = cc in rw (same, e) refl
-  unsound-here n (t ∷ ts) (suc i) fault h e = unsound-here n ts i fault h e
-
-  later : (n : ℕ) (segments : List Segment) (i : ℕ) (held : Held) → slice_get segments i ≡ Some s → checked file tables s ≡ Ok held
-      → first_unsound file tables (suc n) (drop (suc i) segments) ≡ first_unsound file tables n (drop i segments)
-  later n [] i held h e = cc
-  later n (t ∷ ts) zero held h e = let same : t ≡ s = cc in rw (same, e) refl
-  later n (t ∷ ts) (suc i) held h e = later n ts i held h e
+  unsound-here n segments i fault h e = rw (left-from segments i s h, e) refl
 
   pub unsound-later : (n : ℕ) (segments : List Segment) (i : ℕ) (held : Held) → slice_get segments i ≡ Some s → checked file tables s ≡ Ok held
       → first_unsound file tables (n + 1) (drop (i + 1) segments) ≡ first_unsound file tables n (drop i segments)
-  unsound-later n segments i held h e = rw (add-one n, add-one i) (later n segments i held h e)
+  unsound-later n segments i held h e = rw (add-one n, add-one i, left-from segments i s h, e) refl
 
 -- where a check passed
 pub passed : (result : Result (Unit {0}) RelocFault) (said : Result Held RelocFault) (held : Held) (before after : Option Unsound)

@@ -1,9 +1,10 @@
 -- What is printed of a file as a whole: the verdict, and the text and the JSON of its module, or its first fault.
-use Rattle.std.specs.Prelude.{ℕ, suc, Bool, Option, Some, None, Result, Ok, Err, List, [], ◌∷◌, ◌++◌, codes, decimal, if◌then◌else◌}
+use Rattle.std.specs.Prelude.{◌≡◌, ℕ, suc, Bool, Option, Some, None, Result, Ok, Err, List, [], ◌∷◌, ◌++◌, codes, decimal, if◌then◌else◌}
 use Rattle.std.specs.List.{flat_map}
 use Rattle.serde_json.specs.Data.{Data}
 use Rattle.w16_ne.specs.declared.segment_table.Segment.{Segment}
-use Rattle.w16_ne.specs.Modules.{Tables, listed_resources}
+use Rattle.w16_store.specs.Files.{file_of}
+use Rattle.w16_ne.specs.Modules.{Tables, listed_resources, tables_at}
 use Rattle.w16_ne.specs.declared.part.PartFault.{PartFault}
 use Rattle.w16_reloc.specs.declared.fault.RelocFault.{RelocFault}
 use Rattle.w16_reloc.specs.Segments.{Held, checked}
@@ -16,6 +17,11 @@ use Rattle.w16_show.specs.Words.{line_end, fault_text, file_part_text, unsound_t
 use Rattle.w16_show.specs.Json.{whole_json, fault_json, is_sound}
 use Rattle.w16_show.specs.Imports.{imports}
 use Rattle.w16_show.specs.Text.{title_text, header_text, whole_segment, entry_text, name_text, reference_text, import_text, resource_text}
+
+-- A store has this file under the name, and these are the tables of its module.
+pub record IsOpened (store : List (List ℕ × List ℕ)) (name file : List ℕ) (tables : Tables) : Type 0 where
+  pub stored : file_of store name ≡ Some file
+  pub accepted : tables_at (Some file) ≡ Ok tables
 
 -- The first segment whose relocation records aren't sound, by its number, with their first fault.
 abbrev pub this_or : ℕ → Result Held RelocFault → Option Unsound → Option Unsound

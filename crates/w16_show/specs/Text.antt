@@ -3,13 +3,11 @@ use Rattle.std.specs.Prelude.{ℕ, ◌+◌, ◌-◌, Bool, Option, Some, None, R
 use Rattle.std.specs.List.{flat_map}
 use Rattle.w16_ne.specs.declared.entry_table.Entry.{Entry}
 use Rattle.w16_ne.specs.declared.entry_table.Entry.TheVariants.{InSegment, Constant}
-use Rattle.w16_ne.specs.declared.fault.NeFault.{NeFault}
-use Rattle.w16_ne.specs.declared.fault.NeFault.TheVariants.{Truncated}
 use Rattle.w16_ne.specs.declared.segment_table.Segment.{Segment}
 use Rattle.w16_ne.specs.Header.{flags_of, is_library, shift_of, target_of}
 use Rattle.w16_ne.specs.Modules.{Tables, imported_place}
 use Rattle.w16_ne.specs.Reading.{word_of}
-use Rattle.w16_ne.specs.References.{text_at}
+use Rattle.w16_ne.specs.Texts.{text_in}
 use Rattle.w16_ne.specs.Resources as resources
 use Rattle.w16_ne.specs.Resources.{Label, Number, Text}
 use Rattle.w16_reloc.specs.declared.fault.RelocFault.{RelocFault}
@@ -94,11 +92,7 @@ abbrev pub reference_name : Tables → ℕ → List ℕ
 reference_name tables n = if n == 0 then [] else slice_index_or tables.references (n - 1) []
 
 abbrev pub imported_name : List ℕ → Tables → ℕ → List ℕ
-imported_name file tables offset = found (text_at Truncated (Some file) (imported_place tables + offset))
-  where
-    found : Result (List ℕ) NeFault → List ℕ
-    found (Ok text) = text
-    found (Err e) = []
+imported_name file tables offset = text_in file (imported_place tables + offset)
 
 -- where a relocation record points
 unfoldable pub target_text : List ℕ → Tables → Target → List ℕ

@@ -1,11 +1,10 @@
 //! What a module imports, and the lines of it.
-ghost use Rattle.std.specs.Prelude.{◌≡◌, ℕ, ◌<◌, ◌≤◌, ◌-◌, List, Some, Ok, IfOk, OnOk, length, slice_get, string_bytes};
+ghost use Rattle.std.specs.Prelude.{◌≡◌, ℕ, ◌<◌, ◌≤◌, ◌-◌, List, Some, IfOk, OnOk, length, slice_get, string_bytes};
 ghost use Rattle.std.specs.BTreeMap.{values};
 ghost use Rattle.std.specs.List.{flat_map, fold};
-ghost use Rattle.w16_store.specs.Files.{file_of};
-ghost use Rattle.w16_ne.specs.Modules.{tables_at};
 ghost use Rattle.w16_ne.specs.declared.segment_table.Segment.{Segment};
 ghost use Rattle.w16_reloc.specs.Segments.{checked};
+ghost use Rattle.w16_show.specs.Report.{IsOpened};
 ghost use Rattle.w16_show.specs.Words.{Adds};
 ghost use Rattle.w16_show.specs.Imports.{targets_of, targets_in, with_import, ranked_imports};
 ghost use Rattle.w16_show.specs.Text.{import_text};
@@ -68,7 +67,7 @@ fn add_segment(
     requires first { 0 < number }
     requires last { number ≤ length tables.now.segments }
     ensures same { store.new ≡ store.old }
-    ensures imports { (file : List ℕ) (s : Segment) → file_of store.old name.now ≡ Some file → tables_at (Some file) ≡ Ok tables.now
+    ensures imports { (file : List ℕ) (s : Segment) → IsOpened store.old name.now file tables.now
         → slice_get tables.now.segments (number - 1) ≡ Some s
         → OnOk result (imports.new.entries ≡ fold with_import imports.old.entries (targets_in (checked file tables.now s))) }
 {
@@ -87,7 +86,7 @@ pub fn imports(
     scratch: &mut Scratch,
 ) -> Result<BTreeMap<u64, Target>, AllocError>
     ensures same { store.new ≡ store.old }
-    ensures imports { (file : List ℕ) → file_of store.old name.now ≡ Some file → tables_at (Some file) ≡ Ok tables.now
+    ensures imports { (file : List ℕ) → IsOpened store.old name.now file tables.now
         → IfOk result (λ imports. imports.entries ≡ ranked_imports file tables.now) }
 {
     let mut imports = BTreeMap::new(alloc);
@@ -100,34 +99,28 @@ pub fn imports(
 /// Puts the line of an import behind a text.
 fn push_import(
     out: &mut String,
-    store: &mut MemStore,
-    name: &[u8],
+    file: &[u8],
     tables: &Module,
     import: Target,
 ) -> Result<(), AllocError>
-    ensures same { store.new ≡ store.old }
-    ensures text { (file : List ℕ) → file_of store.old name.now ≡ Some file → tables_at (Some file) ≡ Ok tables.now
-        → Adds result (string_bytes out.old) (string_bytes out.new) (import_text file tables.now import) }
+    ensures { Adds result (string_bytes out.old) (string_bytes out.new) (import_text file.now tables.now import) }
 {
     out.push_str("import ")?;
-    push_target(out, store, name, tables, import)?;
+    push_target(out, file, tables, import)?;
     out.push_str("\n")
 }
 
 /// Puts the lines of what a module imports behind a text.
 pub fn push_imports(
     out: &mut String,
-    store: &mut MemStore,
-    name: &[u8],
+    file: &[u8],
     tables: &Module,
     imports: &BTreeMap<u64, Target>,
 ) -> Result<(), AllocError>
-    ensures same { store.new ≡ store.old }
-    ensures text { (file : List ℕ) → file_of store.old name.now ≡ Some file → tables_at (Some file) ≡ Ok tables.now
-        → Adds result (string_bytes out.old) (string_bytes out.new) (flat_map (import_text file tables.now) (values imports.now)) }
+    ensures { Adds result (string_bytes out.old) (string_bytes out.new) (flat_map (import_text file.now tables.now) (values imports.now)) }
 {
     for import in imports.values() {
-        push_import(out, store, name, tables, *import)?;
+        push_import(out, file, tables, *import)?;
     }
     Ok(())
 }

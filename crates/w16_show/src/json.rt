@@ -2,11 +2,10 @@
 ghost use Rattle.std.specs.Prelude.{◌≡◌, ℕ, List, Some, Ok, Err, IfOk, string_bytes};
 ghost use Rattle.serde_json.specs.Read.{read};
 ghost use Rattle.serde_json.specs.View.{view};
-ghost use Rattle.w16_store.specs.Files.{file_of};
-ghost use Rattle.w16_ne.specs.Modules.{Tables, tables_at};
+ghost use Rattle.w16_ne.specs.Modules.{Tables};
 ghost use Rattle.w16_ne.specs.Parts.{parts_at};
 ghost use Rattle.w16_show.specs.Json.{module_json, whole_json, fault_json, is_sound};
-ghost use Rattle.w16_show.specs.Report.{verdict_of, json_of};
+ghost use Rattle.w16_show.specs.Report.{IsOpened, verdict_of, json_of};
 
 use crate::json_header::header_value;
 use crate::json_segments::{imports_value, segments_value};
@@ -33,20 +32,21 @@ fn is_sound(verdict: &Verdict) -> bool
 #[tactic(auto, unfolding(crate::specs::Json::module_json))]
 fn module_value(
     alloc: Global,
+    file: &[u8],
     store: &mut MemStore,
     tables: &Module,
     scratch: &mut Scratch,
 ) -> Result<Value, AllocError>
-    ensures { (file : List ℕ) → file_of store.old FILE.now ≡ Some file → tables_at (Some file) ≡ Ok tables.now
-        → IfOk result (λ v. view v ≡ module_json file tables.now) }
+    ensures { IsOpened store.old FILE.now file.now tables.now
+        → IfOk result (λ v. view v ≡ module_json file.now tables.now) }
 {
     let entries = entries_value(alloc, tables)?;
     let header = header_value(alloc, tables)?;
-    let imports = imports_value(alloc, store, FILE, tables, scratch)?;
+    let imports = imports_value(alloc, file, store, FILE, tables, scratch)?;
     let names = names_value(alloc, tables)?;
     let references = references_value(alloc, tables)?;
     let resources = resources_value(alloc, tables)?;
-    let segments = segments_value(alloc, store, FILE, tables, scratch)?;
+    let segments = segments_value(alloc, file, store, FILE, tables, scratch)?;
     json!(in alloc; {
         "entries": entries,
         "header": header,
@@ -82,18 +82,19 @@ fn fault_value(alloc: Global, name: &str, e: PartFault) -> Result<Value, AllocEr
 fn module_shown(
     alloc: Global,
     name: &str,
+    file: &[u8],
     store: &mut MemStore,
     tables: &Module,
 ) -> Result<Shown, AllocError>
-    ensures text { (file : List ℕ) → file_of store.old FILE.now ≡ Some file → tables_at (Some file) ≡ Ok tables.now
-        → IfOk result (λ shown. read (string_bytes shown.text) ≡ Some (json_of name.now file (Ok tables.now))) }
-    ensures verdict { (file : List ℕ) → file_of store.old FILE.now ≡ Some file → tables_at (Some file) ≡ Ok tables.now
-        → IfOk result (λ shown. shown.verdict ≡ verdict_of file (Ok tables.now)) }
+    ensures text { IsOpened store.old FILE.now file.now tables.now
+        → IfOk result (λ shown. read (string_bytes shown.text) ≡ Some (json_of name.now file.now (Ok tables.now))) }
+    ensures verdict { IsOpened store.old FILE.now file.now tables.now
+        → IfOk result (λ shown. shown.verdict ≡ verdict_of file.now (Ok tables.now)) }
 {
     let mut scratch = Scratch::new(alloc)?;
     let verdict = verdict(store, FILE, tables, &mut scratch);
     let sound = is_sound(&verdict);
-    let tables = module_value(alloc, store, tables, &mut scratch)?;
+    let tables = module_value(alloc, file, store, tables, &mut scratch)?;
     let value = whole_value(alloc, name, tables, sound)?;
     let text = value.to_string(alloc)?;
     Ok(Shown { text, verdict })
@@ -118,7 +119,7 @@ pub fn show_json(alloc: Global, name: &str, file: &[u8]) -> Result<Shown, AllocE
 {
     let mut store = store_of(alloc, file)?;
     match module_of(alloc, &mut store, FILE)? {
-        Ok(tables) => module_shown(alloc, name, &mut store, &tables),
+        Ok(tables) => module_shown(alloc, name, file, &mut store, &tables),
         Err(e) => fault_shown(alloc, name, e),
     }
 }

@@ -1,19 +1,17 @@
 //! Segments and their relocation records as JSON.
 ghost use Rattle.std.specs.BTreeMap.{values};
-ghost use Rattle.std.specs.Prelude.{◌≡◌, ℕ, ◌<◌, ◌≤◌, ◌-◌, List, [], ◌∷◌, Some, Ok, length, map, slice_get, IfOk};
+ghost use Rattle.std.specs.Prelude.{◌≡◌, ◌<◌, ◌≤◌, ◌-◌, List, Some, length, map, slice_get, IfOk};
 ghost use Rattle.serde_json.specs.Data.{Data};
 ghost use Rattle.serde_json.specs.View.{view};
-ghost use Rattle.w16_store.specs.Files.{file_of};
-ghost use Rattle.w16_ne.specs.Modules.{tables_at};
 ghost use Rattle.w16_reloc.specs.Segments.{checked};
 ghost use Rattle.w16_show.specs.Imports.{imports};
+ghost use Rattle.w16_show.specs.Report.{IsOpened};
 ghost use Rattle.w16_show.specs.Numbered.{numbered};
-ghost use Rattle.w16_show.specs.Text.{imported_name};
-ghost use Rattle.w16_show.specs.Json.{text, list, target_json, fixup_json, relocation_json, segment_object, segment_said, segment_json};
+ghost use Rattle.w16_show.specs.Json.{list, target_json, fixup_json, relocation_json, segment_object, segment_said, segment_json};
 
 use crate::imports::imports;
 use crate::json_values::{offsets_value, text_value, word_value};
-use crate::relocations::{NAME_ROOM, read_name, reference_name};
+use crate::relocations::{imported_name, reference_name};
 use crate::sites::sites_of;
 use crate::words::{part_word, unsound_word};
 use serde_json::{Value, json};
@@ -23,34 +21,14 @@ use w16_ne::{Module, Segment};
 use w16_reloc::{Fixup, Record, Scratch, Target, check};
 use w16_store::MemStore;
 
-/// An imported name.
-fn name_value(
-    alloc: Global,
-    store: &mut MemStore,
-    name: &[u8],
-    tables: &Module,
-    offset: u16,
-) -> Result<Value, AllocError>
-    ensures same { store.new ≡ store.old }
-    ensures value { (file : List ℕ) → file_of store.old name.now ≡ Some file → tables_at (Some file) ≡ Ok tables.now
-        → IfOk result (λ v. view v ≡ text (imported_name file tables.now offset)) }
-{
-    let mut room = [0; NAME_ROOM];
-    let len = read_name(store, name, tables, offset, &mut room)?;
-    text_value(alloc, &room[..len])
-}
-
 /// Where a record points.
 fn target_value(
     alloc: Global,
-    store: &mut MemStore,
-    name: &[u8],
+    file: &[u8],
     tables: &Module,
     target: Target,
 ) -> Result<Value, AllocError>
-    ensures same { store.new ≡ store.old }
-    ensures value { (file : List ℕ) → file_of store.old name.now ≡ Some file → tables_at (Some file) ≡ Ok tables.now
-        → IfOk result (λ v. view v ≡ target_json file tables.now target) }
+    ensures { IfOk result (λ v. view v ≡ target_json file.now tables.now target) }
 {
     match target {
         Target::Internal { segment, offset } => {
@@ -61,13 +39,10 @@ fn target_value(
             let from = text_value(alloc, reference_name(tables, reference))?;
             json!(in alloc; {"module": from, "ordinal": ordinal})
         }
-        Target::ByName {
-            reference,
-            name: text,
-        } => {
+        Target::ByName { reference, name } => {
             let from = text_value(alloc, reference_name(tables, reference))?;
-            let imported = name_value(alloc, store, name, tables, text)?;
-            json!(in alloc; {"module": from, "name": imported})
+            let name = text_value(alloc, imported_name(file, tables, name))?;
+            json!(in alloc; {"module": from, "name": name})
         }
     }
 }
@@ -75,18 +50,15 @@ fn target_value(
 /// Imports that were found in a module.
 fn targets_value(
     alloc: Global,
-    store: &mut MemStore,
-    name: &[u8],
+    file: &[u8],
     tables: &Module,
     imports: &BTreeMap<u64, Target>,
 ) -> Result<Value, AllocError>
-    ensures same { store.new ≡ store.old }
-    ensures value { (file : List ℕ) → file_of store.old name.now ≡ Some file → tables_at (Some file) ≡ Ok tables.now
-        → IfOk result (λ v. view v ≡ list (map (target_json file tables.now) (values imports.now))) }
+    ensures { IfOk result (λ v. view v ≡ list (map (target_json file.now tables.now) (values imports.now))) }
 {
     let mut targets = Vec::with_capacity(alloc, imports.len())?;
     for target in imports.values() {
-        targets.push(target_value(alloc, store, name, tables, *target)?)?;
+        targets.push(target_value(alloc, file, tables, *target)?)?;
     }
     Ok(Value::Array(targets))
 }
@@ -94,57 +66,52 @@ fn targets_value(
 /// What a module imports.
 pub fn imports_value(
     alloc: Global,
+    file: &[u8],
     store: &mut MemStore,
     name: &[u8],
     tables: &Module,
     scratch: &mut Scratch,
 ) -> Result<Value, AllocError>
     ensures same { store.new ≡ store.old }
-    ensures value { (file : List ℕ) → file_of store.old name.now ≡ Some file → tables_at (Some file) ≡ Ok tables.now
-        → IfOk result (λ v. view v ≡ list (map (target_json file tables.now) (imports file tables.now))) }
+    ensures value { IsOpened store.old name.now file.now tables.now
+        → IfOk result (λ v. view v ≡ list (map (target_json file.now tables.now) (imports file.now tables.now))) }
 {
     let imports = imports(alloc, store, name, tables, scratch)?;
-    targets_value(alloc, store, name, tables, &imports)
+    targets_value(alloc, file, tables, &imports)
 }
 
 /// A fixup, with its sites, and whether its value is added.
 fn fixup_value(
     alloc: Global,
-    store: &mut MemStore,
-    name: &[u8],
+    file: &[u8],
     tables: &Module,
     sites: &[u16],
     add: bool,
     fixup: &Fixup,
 ) -> Result<Value, AllocError>
-    ensures same { store.new ≡ store.old }
-    ensures value { (file : List ℕ) → file_of store.old name.now ≡ Some file → tables_at (Some file) ≡ Ok tables.now
-        → IfOk result (λ v. view v ≡ fixup_json file tables.now sites.now add fixup.now) }
+    ensures { IfOk result (λ v. view v ≡ fixup_json file.now tables.now sites.now add fixup.now) }
 {
     let part = word_value(alloc, part_word(fixup.part))?;
     let sites = offsets_value(alloc, sites)?;
-    let target = target_value(alloc, store, name, tables, fixup.target)?;
+    let target = target_value(alloc, file, tables, fixup.target)?;
     json!(in alloc; {"add": add, "part": part, "sites": sites, "target": target})
 }
 
 /// A record. The vector is room for its sites.
 fn relocation_value(
     alloc: Global,
-    store: &mut MemStore,
-    name: &[u8],
+    file: &[u8],
     tables: &Module,
     bytes: &[u8],
     relocation: &Record,
     sites: &mut Vec<u16>,
 ) -> Result<Value, AllocError>
-    ensures same { store.new ≡ store.old }
-    ensures value { (file : List ℕ) → file_of store.old name.now ≡ Some file → tables_at (Some file) ≡ Ok tables.now
-        → IfOk result (λ v. view v ≡ relocation_json file tables.now bytes.now relocation.now) }
+    ensures { IfOk result (λ v. view v ≡ relocation_json file.now tables.now bytes.now relocation.now) }
 {
     sites_of(bytes, relocation, sites)?;
     match relocation {
-        Record::Stored(fixup) => fixup_value(alloc, store, name, tables, sites, false, fixup),
-        Record::Added(fixup) => fixup_value(alloc, store, name, tables, sites, true, fixup),
+        Record::Stored(fixup) => fixup_value(alloc, file, tables, sites, false, fixup),
+        Record::Added(fixup) => fixup_value(alloc, file, tables, sites, true, fixup),
         Record::System => json!(in alloc; {"system": true}),
     }
 }
@@ -152,27 +119,16 @@ fn relocation_value(
 /// The records of the segment that was checked last.
 fn relocations_value(
     alloc: Global,
-    store: &mut MemStore,
-    name: &[u8],
+    file: &[u8],
     tables: &Module,
     scratch: &Scratch,
 ) -> Result<Value, AllocError>
-    ensures same { store.new ≡ store.old }
-    ensures value { (file : List ℕ) → file_of store.old name.now ≡ Some file → tables_at (Some file) ≡ Ok tables.now
-        → IfOk result (λ v. view v ≡ list (map (relocation_json file tables.now scratch.now.held.bytes) scratch.now.held.records)) }
+    ensures { IfOk result (λ v. view v ≡ list (map (relocation_json file.now tables.now scratch.now.held.bytes) scratch.now.held.records)) }
 {
     let mut sites = Vec::new(alloc);
     let mut values = Vec::new(alloc);
     for relocation in scratch.records() {
-        let value = relocation_value(
-            alloc,
-            store,
-            name,
-            tables,
-            scratch.bytes(),
-            relocation,
-            &mut sites,
-        )?;
+        let value = relocation_value(alloc, file, tables, scratch.bytes(), relocation, &mut sites)?;
         values.push(value)?;
     }
     Ok(Value::Array(values))
@@ -202,6 +158,7 @@ fn segment_object(
 /// A segment by its number, from 1.
 fn segment_value(
     alloc: Global,
+    file: &[u8],
     store: &mut MemStore,
     name: &[u8],
     tables: &Module,
@@ -211,13 +168,13 @@ fn segment_value(
     requires first { 0 < number }
     requires last { number ≤ length tables.now.segments }
     ensures same { store.new ≡ store.old }
-    ensures value { (file : List ℕ) (s : Segment) → file_of store.old name.now ≡ Some file → tables_at (Some file) ≡ Ok tables.now
-        → slice_get tables.now.segments (number - 1) ≡ Some s → IfOk result (λ v. view v ≡ segment_said file tables.now number s (checked file tables.now s)) }
+    ensures value { (s : Segment) → IsOpened store.old name.now file.now tables.now
+        → slice_get tables.now.segments (number - 1) ≡ Some s → IfOk result (λ v. view v ≡ segment_said file.now tables.now number s (checked file.now tables.now s)) }
 {
     let segment = tables.segment(number);
     match check(store, name, tables, number, scratch) {
         Ok(()) => {
-            let records = relocations_value(alloc, store, name, tables, scratch)?;
+            let records = relocations_value(alloc, file, tables, scratch)?;
             segment_object(alloc, number, &segment, Value::Null, records)
         }
         Err(fault) => {
@@ -230,18 +187,19 @@ fn segment_value(
 /// All segments.
 pub fn segments_value(
     alloc: Global,
+    file: &[u8],
     store: &mut MemStore,
     name: &[u8],
     tables: &Module,
     scratch: &mut Scratch,
 ) -> Result<Value, AllocError>
     ensures same { store.new ≡ store.old }
-    ensures value { (file : List ℕ) → file_of store.old name.now ≡ Some file → tables_at (Some file) ≡ Ok tables.now
-        → IfOk result (λ v. view v ≡ list (numbered (segment_json file tables.now) 1 tables.now.segments)) }
+    ensures value { IsOpened store.old name.now file.now tables.now
+        → IfOk result (λ v. view v ≡ list (numbered (segment_json file.now tables.now) 1 tables.now.segments)) }
 {
     let mut values = Vec::new(alloc);
     for i in 0..tables.segment_count() {
-        values.push(segment_value(alloc, store, name, tables, i + 1, scratch)?)?;
+        values.push(segment_value(alloc, file, store, name, tables, i + 1, scratch)?)?;
     }
     Ok(Value::Array(values))
 }

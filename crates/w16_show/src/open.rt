@@ -1,9 +1,9 @@
 //! A file, opened: its module, and the verdict on it.
-ghost use Rattle.std.specs.Prelude.{◌≡◌, ℕ, List, Some, Ok, IfOk, OnOk};
+ghost use Rattle.std.specs.Prelude.{◌≡◌, ℕ, List, Some, Ok, IfOk};
 ghost use Rattle.w16_store.specs.Files.{file_of};
 ghost use Rattle.w16_ne.specs.Modules.{tables_at};
 ghost use Rattle.w16_ne.specs.Parts.{parts_at, without_part};
-ghost use Rattle.w16_show.specs.Report.{first_unsound, verdict_on, verdict_of};
+ghost use Rattle.w16_show.specs.Report.{IsOpened, first_unsound, verdict_of};
 
 use crate::verdict::{Unsound, Verdict};
 use std::alloc::{AllocError, Global};
@@ -48,7 +48,7 @@ fn first_unsound(
     scratch: &mut Scratch,
 ) -> Option<Unsound>
     ensures same { store.new ≡ store.old }
-    ensures first { (file : List ℕ) → file_of store.old name.now ≡ Some file → tables_at (Some file) ≡ Ok tables.now
+    ensures first { (file : List ℕ) → IsOpened store.old name.now file tables.now
         → result ≡ first_unsound file tables.now 1 tables.now.segments }
 {
     for i in 0..tables.segment_count() {
@@ -63,7 +63,7 @@ fn first_unsound(
 /// The verdict on a file whose module is accepted.
 pub fn verdict(store: &mut MemStore, name: &[u8], tables: &Module, scratch: &mut Scratch) -> Verdict
     ensures same { store.new ≡ store.old }
-    ensures verdict { (file : List ℕ) → file_of store.old name.now ≡ Some file → tables_at (Some file) ≡ Ok tables.now
+    ensures verdict { (file : List ℕ) → IsOpened store.old name.now file tables.now
         → result ≡ verdict_of file (Ok tables.now) }
 {
     match first_unsound(store, name, tables, scratch) {

@@ -1,18 +1,15 @@
 //! The lines of relocation records.
-ghost use Rattle.std.specs.Prelude.{◌≡◌, ℕ, ◌≤◌, List, Some, Ok, [], length, take, OnOk, IfOk, string_bytes};
+ghost use Rattle.std.specs.Prelude.{◌≡◌, Ok, string_bytes};
 ghost use Rattle.std.specs.List.{flat_map};
-ghost use Rattle.w16_store.specs.Files.{file_of};
-ghost use Rattle.w16_ne.specs.Modules.{tables_at};
-ghost use Rattle.w16_show.specs.Words.{Adds, escaped};
+ghost use Rattle.w16_show.specs.Words.{Adds};
 ghost use Rattle.w16_show.specs.Text.{reference_name, imported_name, target_text, site_text, fixup_text, relocation_text, relocations_text};
 
 use crate::bytes::push_escaped;
 use crate::sites::sites_of;
 use crate::words::part_word;
-use std::alloc::{AllocError, Global};
-use w16_ne::{Module, NeFault, imported_name};
+use std::alloc::AllocError;
+use w16_ne::Module;
 use w16_reloc::{Fixup, Record, Scratch, Target};
-use w16_store::MemStore;
 
 /// The name of a module that is referred to, by its number from 1; none where there is no such reference.
 pub fn reference_name(tables: &Module, number: u16) -> &[u8]
@@ -25,58 +22,29 @@ pub fn reference_name(tables: &Module, number: u16) -> &[u8]
     tables.reference(number)
 }
 
-/// The most bytes of an imported name.
-pub const NAME_ROOM: usize = 255;
-
-/// Reads an imported name by its offset into a room, and tells how many bytes it has: none where there is no such name.
-pub fn read_name(
-    store: &mut MemStore,
-    name: &[u8],
-    tables: &Module,
-    offset: u16,
-    room: &mut [u8; NAME_ROOM],
-) -> Result<usize, AllocError>
-    ensures same { store.new ≡ store.old }
-    ensures few { IfOk result (λ n. n ≤ NAME_ROOM) }
-    ensures text { (file : List ℕ) → file_of store.old name.now ≡ Some file → tables_at (Some file) ≡ Ok tables.now
-        → IfOk result (λ n. take n room.new ≡ imported_name file tables.now offset) }
+/// An imported name, by its offset: as much of it as the file has.
+pub fn imported_name<'a>(file: &'a [u8], tables: &Module, offset: u16) -> &'a [u8]
+    ensures { result.now ≡ imported_name file.now tables.now offset }
 {
-    match imported_name(store, name, tables, offset, room) {
-        Ok(len) => Ok(len),
-        Err(NeFault::OutOfMemory) => Err(AllocError),
-        Err(_) => Ok(0),
+    let at = tables.imported_names() as usize + usize::from(offset);
+    match file.get(at) {
+        None => &[],
+        Some(len) => {
+            let rest = &file[at + 1..];
+            &rest[..usize::from(*len).min(rest.len())]
+        }
     }
-}
-
-/// Puts an imported name behind a text.
-fn push_name(
-    out: &mut String,
-    store: &mut MemStore,
-    name: &[u8],
-    tables: &Module,
-    offset: u16,
-) -> Result<(), AllocError>
-    ensures same { store.new ≡ store.old }
-    ensures text { (file : List ℕ) → file_of store.old name.now ≡ Some file → tables_at (Some file) ≡ Ok tables.now
-        → Adds result (string_bytes out.old) (string_bytes out.new) (escaped (imported_name file tables.now offset)) }
-{
-    let mut room = [0; NAME_ROOM];
-    let len = read_name(store, name, tables, offset, &mut room)?;
-    push_escaped(out, &room[..len])
 }
 
 /// Puts where a record points behind a text.
 #[tactic(auto, unfolding(crate::specs::Text::target_text))]
 pub fn push_target(
     out: &mut String,
-    store: &mut MemStore,
-    name: &[u8],
+    file: &[u8],
     tables: &Module,
     target: Target,
 ) -> Result<(), AllocError>
-    ensures same { store.new ≡ store.old }
-    ensures text { (file : List ℕ) → file_of store.old name.now ≡ Some file → tables_at (Some file) ≡ Ok tables.now
-        → Adds result (string_bytes out.old) (string_bytes out.new) (target_text file tables.now target) }
+    ensures { Adds result (string_bytes out.old) (string_bytes out.new) (target_text file.now tables.now target) }
 {
     match target {
         Target::Internal { segment, offset } => write!(out, "{segment}:{offset:04x}"),
@@ -85,13 +53,10 @@ pub fn push_target(
             push_escaped(out, reference_name(tables, reference))?;
             write!(out, " #{ordinal}")
         }
-        Target::ByName {
-            reference,
-            name: text,
-        } => {
+        Target::ByName { reference, name } => {
             push_escaped(out, reference_name(tables, reference))?;
             out.push_str(" ")?;
-            push_name(out, store, name, tables, text)
+            push_escaped(out, imported_name(file, tables, name))
         }
     }
 }
@@ -110,43 +75,37 @@ fn push_sites(out: &mut String, sites: &[u16]) -> Result<(), AllocError>
 /// Puts the line of a fixup behind a text, with the sign for how it is written.
 fn push_fixup(
     out: &mut String,
-    store: &mut MemStore,
-    name: &[u8],
+    file: &[u8],
     tables: &Module,
     sites: &[u16],
     sign: &str,
     fixup: &Fixup,
 ) -> Result<(), AllocError>
-    ensures same { store.new ≡ store.old }
-    ensures text { (file : List ℕ) → file_of store.old name.now ≡ Some file → tables_at (Some file) ≡ Ok tables.now
-        → Adds result (string_bytes out.old) (string_bytes out.new) (fixup_text file tables.now sites.now sign.now fixup.now) }
+    ensures { Adds result (string_bytes out.old) (string_bytes out.new) (fixup_text file.now tables.now sites.now sign.now fixup.now) }
 {
     out.push_str(" ")?;
     push_sites(out, sites)?;
     let part = part_word(fixup.part);
     write!(out, " {part}{sign}")?;
-    push_target(out, store, name, tables, fixup.target)?;
+    push_target(out, file, tables, fixup.target)?;
     out.push_str("\n")
 }
 
 /// Puts the line of a record behind a text. The vector is room for its sites.
 fn push_relocation(
     out: &mut String,
-    store: &mut MemStore,
-    name: &[u8],
+    file: &[u8],
     tables: &Module,
     bytes: &[u8],
     relocation: &Record,
     sites: &mut Vec<u16>,
 ) -> Result<(), AllocError>
-    ensures same { store.new ≡ store.old }
-    ensures text { (file : List ℕ) → file_of store.old name.now ≡ Some file → tables_at (Some file) ≡ Ok tables.now
-        → Adds result (string_bytes out.old) (string_bytes out.new) (relocation_text file tables.now bytes.now relocation.now) }
+    ensures { Adds result (string_bytes out.old) (string_bytes out.new) (relocation_text file.now tables.now bytes.now relocation.now) }
 {
     sites_of(bytes, relocation, sites)?;
     match relocation {
-        Record::Stored(fixup) => push_fixup(out, store, name, tables, sites, " = ", fixup),
-        Record::Added(fixup) => push_fixup(out, store, name, tables, sites, " + ", fixup),
+        Record::Stored(fixup) => push_fixup(out, file, tables, sites, " = ", fixup),
+        Record::Added(fixup) => push_fixup(out, file, tables, sites, " + ", fixup),
         Record::System => out.push_str("  system\n"),
     }
 }
@@ -154,26 +113,15 @@ fn push_relocation(
 /// Puts the lines of the records of the segment that was checked last behind a text.
 pub fn push_relocations(
     out: &mut String,
-    store: &mut MemStore,
-    name: &[u8],
+    file: &[u8],
     tables: &Module,
     scratch: &Scratch,
 ) -> Result<(), AllocError>
-    ensures same { store.new ≡ store.old }
-    ensures text { (file : List ℕ) → file_of store.old name.now ≡ Some file → tables_at (Some file) ≡ Ok tables.now
-        → Adds result (string_bytes out.old) (string_bytes out.new) (relocations_text file tables.now (Ok scratch.now.held)) }
+    ensures { Adds result (string_bytes out.old) (string_bytes out.new) (relocations_text file.now tables.now (Ok scratch.now.held)) }
 {
     let mut sites = Vec::new(*out.allocator());
     for relocation in scratch.records() {
-        push_relocation(
-            out,
-            store,
-            name,
-            tables,
-            scratch.bytes(),
-            relocation,
-            &mut sites,
-        )?;
+        push_relocation(out, file, tables, scratch.bytes(), relocation, &mut sites)?;
     }
     Ok(())
 }

@@ -1,9 +1,8 @@
 //! The lines of segments.
-ghost use Rattle.std.specs.Prelude.{◌≡◌, ℕ, ◌<◌, ◌≤◌, ◌-◌, List, Some, Ok, length, slice_get, string_bytes};
-ghost use Rattle.w16_store.specs.Files.{file_of};
-ghost use Rattle.w16_ne.specs.Modules.{tables_at};
+ghost use Rattle.std.specs.Prelude.{◌≡◌, ◌<◌, ◌≤◌, ◌-◌, Some, length, slice_get, string_bytes};
 ghost use Rattle.w16_ne.specs.declared.segment_table.Segment.{Segment};
 ghost use Rattle.w16_reloc.specs.Segments.{checked};
+ghost use Rattle.w16_show.specs.Report.{IsOpened};
 ghost use Rattle.w16_show.specs.Numbered.{numbered};
 ghost use Rattle.w16_show.specs.Words.{Adds};
 ghost use Rattle.w16_show.specs.Text.{memory_words, segment_words, data_text, object_text, segment_text, whole_segment, relocations_text};
@@ -69,6 +68,7 @@ fn push_line(out: &mut String, number: usize, segment: &Segment) -> Result<(), A
 /// Puts the records of a segment behind a text, or what isn't sound of them.
 fn push_records(
     out: &mut String,
+    file: &[u8],
     store: &mut MemStore,
     name: &[u8],
     tables: &Module,
@@ -78,12 +78,12 @@ fn push_records(
     requires first { 0 < number }
     requires last { number ≤ length tables.now.segments }
     ensures same { store.new ≡ store.old }
-    ensures text { (file : List ℕ) (s : Segment) → file_of store.old name.now ≡ Some file → tables_at (Some file) ≡ Ok tables.now
+    ensures text { (s : Segment) → IsOpened store.old name.now file.now tables.now
         → slice_get tables.now.segments (number - 1) ≡ Some s
-        → Adds result (string_bytes out.old) (string_bytes out.new) (relocations_text file tables.now (checked file tables.now s)) }
+        → Adds result (string_bytes out.old) (string_bytes out.new) (relocations_text file.now tables.now (checked file.now tables.now s)) }
 {
     match check(store, name, tables, number, scratch) {
-        Ok(()) => push_relocations(out, store, name, tables, scratch),
+        Ok(()) => push_relocations(out, file, tables, scratch),
         Err(fault) => {
             let word = unsound_word(fault);
             writeln!(out, "  {word}")
@@ -94,18 +94,19 @@ fn push_records(
 /// Puts the lines of all segments and of their records behind a text.
 pub fn push_segments(
     out: &mut String,
+    file: &[u8],
     store: &mut MemStore,
     name: &[u8],
     tables: &Module,
     scratch: &mut Scratch,
 ) -> Result<(), AllocError>
     ensures same { store.new ≡ store.old }
-    ensures text { (file : List ℕ) → file_of store.old name.now ≡ Some file → tables_at (Some file) ≡ Ok tables.now
-        → Adds result (string_bytes out.old) (string_bytes out.new) (numbered (whole_segment file tables.now) 1 tables.now.segments) }
+    ensures text { IsOpened store.old name.now file.now tables.now
+        → Adds result (string_bytes out.old) (string_bytes out.new) (numbered (whole_segment file.now tables.now) 1 tables.now.segments) }
 {
     for i in 0..tables.segment_count() {
         push_line(out, i + 1, &tables.segment(i + 1))?;
-        push_records(out, store, name, tables, i + 1, scratch)?;
+        push_records(out, file, store, name, tables, i + 1, scratch)?;
     }
     Ok(())
 }

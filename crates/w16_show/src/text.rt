@@ -1,14 +1,13 @@
 //! What is printed of a file as text.
 ghost use Rattle.std.specs.Prelude.{◌≡◌, ℕ, ◌++◌, List, Some, Ok, Err, IfOk, string_bytes};
 ghost use Rattle.std.specs.List.{flat_map};
-ghost use Rattle.w16_store.specs.Files.{file_of};
 ghost use Rattle.w16_show.specs.Words.{Adds};
-ghost use Rattle.w16_ne.specs.Modules.{tables_at, listed_resources};
+ghost use Rattle.w16_ne.specs.Modules.{listed_resources};
 ghost use Rattle.w16_ne.specs.Parts.{parts_at};
 ghost use Rattle.w16_show.specs.Numbered.{numbered};
 ghost use Rattle.w16_show.specs.Imports.{imports};
 ghost use Rattle.w16_show.specs.Text.{header_text, whole_segment, entry_text, name_text, reference_text, import_text, resource_text};
-ghost use Rattle.w16_show.specs.Report.{part, verdict_of, verdict_text, module_text, text_of};
+ghost use Rattle.w16_show.specs.Report.{IsOpened, part, verdict_of, verdict_text, module_text, text_of};
 
 use crate::entries::{push_entries, push_names};
 use crate::header::{push_header, push_title};
@@ -69,18 +68,19 @@ fn push_header_part(out: &mut String, asked: bool, tables: &Module) -> Result<()
 fn push_segments_part(
     out: &mut String,
     asked: bool,
+    file: &[u8],
     store: &mut MemStore,
     tables: &Module,
     scratch: &mut Scratch,
 ) -> Result<(), AllocError>
     ensures same { store.new ≡ store.old }
-    ensures text { (file : List ℕ) → file_of store.old FILE.now ≡ Some file → tables_at (Some file) ≡ Ok tables.now
-        → Adds result (string_bytes out.old) (string_bytes out.new) (part asked (numbered (whole_segment file tables.now) 1 tables.now.segments)) }
+    ensures text { IsOpened store.old FILE.now file.now tables.now
+        → Adds result (string_bytes out.old) (string_bytes out.new) (part asked (numbered (whole_segment file.now tables.now) 1 tables.now.segments)) }
 {
     if !asked {
         return Ok(());
     }
-    push_segments(out, store, FILE, tables, scratch)
+    push_segments(out, file, store, FILE, tables, scratch)
 }
 
 /// Puts the entries and their names behind a text, where they are asked for.
@@ -100,20 +100,21 @@ fn push_entries_part(out: &mut String, asked: bool, tables: &Module) -> Result<(
 fn push_references_part(
     out: &mut String,
     asked: bool,
+    file: &[u8],
     store: &mut MemStore,
     tables: &Module,
     scratch: &mut Scratch,
 ) -> Result<(), AllocError>
     ensures same { store.new ≡ store.old }
-    ensures text { (file : List ℕ) → file_of store.old FILE.now ≡ Some file → tables_at (Some file) ≡ Ok tables.now
-        → Adds result (string_bytes out.old) (string_bytes out.new) (part asked (numbered reference_text 1 tables.now.references ++ flat_map (import_text file tables.now) (imports file tables.now))) }
+    ensures text { IsOpened store.old FILE.now file.now tables.now
+        → Adds result (string_bytes out.old) (string_bytes out.new) (part asked (numbered reference_text 1 tables.now.references ++ flat_map (import_text file.now tables.now) (imports file.now tables.now))) }
 {
     if !asked {
         return Ok(());
     }
     push_references(out, tables)?;
     let imports = imports(*out.allocator(), store, FILE, tables, scratch)?;
-    push_imports(out, store, FILE, tables, &imports)
+    push_imports(out, file, tables, &imports)
 }
 
 /// Puts the resources behind a text, where they are asked for.
@@ -130,19 +131,20 @@ fn push_resources_part(out: &mut String, asked: bool, tables: &Module) -> Result
 /// Puts the parts of a module that are asked for behind a text.
 fn push_module(
     out: &mut String,
+    file: &[u8],
     store: &mut MemStore,
     parts: Parts,
     tables: &Module,
     scratch: &mut Scratch,
 ) -> Result<(), AllocError>
     ensures same { store.new ≡ store.old }
-    ensures text { (file : List ℕ) → file_of store.old FILE.now ≡ Some file → tables_at (Some file) ≡ Ok tables.now
-        → Adds result (string_bytes out.old) (string_bytes out.new) (module_text parts file tables.now) }
+    ensures text { IsOpened store.old FILE.now file.now tables.now
+        → Adds result (string_bytes out.old) (string_bytes out.new) (module_text parts file.now tables.now) }
 {
     push_header_part(out, parts.header, tables)?;
-    push_segments_part(out, parts.segments, store, tables, scratch)?;
+    push_segments_part(out, parts.segments, file, store, tables, scratch)?;
     push_entries_part(out, parts.entries, tables)?;
-    push_references_part(out, parts.references, store, tables, scratch)?;
+    push_references_part(out, parts.references, file, store, tables, scratch)?;
     push_resources_part(out, parts.resources, tables)
 }
 
@@ -150,20 +152,21 @@ fn push_module(
 fn module_shown(
     alloc: Global,
     name: &str,
+    file: &[u8],
     store: &mut MemStore,
     parts: Parts,
     tables: &Module,
 ) -> Result<Shown, AllocError>
-    ensures text { (file : List ℕ) → file_of store.old FILE.now ≡ Some file → tables_at (Some file) ≡ Ok tables.now
-        → IfOk result (λ shown. string_bytes shown.text ≡ text_of parts name.now file (Ok tables.now)) }
-    ensures verdict { (file : List ℕ) → file_of store.old FILE.now ≡ Some file → tables_at (Some file) ≡ Ok tables.now
-        → IfOk result (λ shown. shown.verdict ≡ verdict_of file (Ok tables.now)) }
+    ensures text { IsOpened store.old FILE.now file.now tables.now
+        → IfOk result (λ shown. string_bytes shown.text ≡ text_of parts name.now file.now (Ok tables.now)) }
+    ensures verdict { IsOpened store.old FILE.now file.now tables.now
+        → IfOk result (λ shown. shown.verdict ≡ verdict_of file.now (Ok tables.now)) }
 {
     let mut scratch = Scratch::new(alloc)?;
     let verdict = verdict(store, FILE, tables, &mut scratch);
     let mut text = String::new(alloc);
     push_title(&mut text, name, tables)?;
-    push_module(&mut text, store, parts, tables, &mut scratch)?;
+    push_module(&mut text, file, store, parts, tables, &mut scratch)?;
     push_verdict(&mut text, &verdict)?;
     Ok(Shown { text, verdict })
 }
@@ -188,7 +191,7 @@ pub fn show_text(alloc: Global, name: &str, file: &[u8], parts: Parts) -> Result
 {
     let mut store = store_of(alloc, file)?;
     match module_of(alloc, &mut store, FILE)? {
-        Ok(tables) => module_shown(alloc, name, &mut store, parts, &tables),
+        Ok(tables) => module_shown(alloc, name, file, &mut store, parts, &tables),
         Err(e) => fault_shown(alloc, name, e),
     }
 }

@@ -4,16 +4,12 @@ use Rattle.w16_show.proofs.json.show_json.Goals as goal
 pub returns-clause-text : goal.returns-clause-text
 returns-clause-text c = rw (← (c.in_ok-tables.ensures.parts c.args.file.now c.in_ok-store.ensures), c.in-Err.is) (c.fault_shown.ensures.text c.args.file.now)
 
-pub returns-in-Ok-clause-text : goal.returns-in-Ok-clause-text
-returns-in-Ok-clause-text c =
+pub returns-in-Ok : goal.returns-in-Ok
+returns-in-Ok c =
     let has = c.in_ok-store.ensures in
-    let read = c.in_ok-tables.ensures.tables c.args.file.now has in
-    let tables = rw c.in-Ok.is at read in
-    rw (← (c.in_ok-tables.ensures.parts c.args.file.now has), c.in-Ok.is) (c.module_shown.ensures.text c.args.file.now (rw c.in_ok-tables.ensures.same has) (sym tables))
-
-pub returns-in-Ok-clause-verdict : goal.returns-in-Ok-clause-verdict
-returns-in-Ok-clause-verdict c =
-    let has = c.in_ok-store.ensures in
-    let read = c.in_ok-tables.ensures.tables c.args.file.now has in
-    let tables = rw c.in-Ok.is at read in
-    rw (← (c.in_ok-tables.ensures.parts c.args.file.now has), c.in-Ok.is) (c.module_shown.ensures.verdict c.args.file.now (rw c.in_ok-tables.ensures.same has) (sym tables))
+    let parts = c.in_ok-tables.ensures.parts c.args.file.now has in
+    let tables = rw c.in-Ok.is at (c.in_ok-tables.ensures.tables c.args.file.now has) in
+    record {
+      text = rw (← parts, c.in-Ok.is) (c.module_shown.ensures.text (record { stored = rw c.in_ok-tables.ensures.same has; accepted = sym tables }));
+      verdict = rw (← parts, c.in-Ok.is) (c.module_shown.ensures.verdict (record { stored = rw c.in_ok-tables.ensures.same has; accepted = sym tables }));
+    }

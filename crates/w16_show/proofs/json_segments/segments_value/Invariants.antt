@@ -1,6 +1,5 @@
-use Rattle.std.proofs.Common.{◌≡◌, ℕ, ◌++◌, ◌+◌, List, Some, Ok, drop, map}
-use Rattle.w16_store.specs.Files.{file_of}
-use Rattle.w16_ne.specs.Modules.{tables_at}
+use Rattle.std.proofs.Common.{◌≡◌, ◌++◌, ◌+◌, drop, map}
+use Rattle.w16_show.specs.Report.{IsOpened}
 use Rattle.w16_show.specs.Numbered.{numbered}
 use Rattle.serde_json.specs.View.{view}
 use Rattle.w16_show.specs.Json.{segment_json}
@@ -8,5 +7,5 @@ use Rattle.w16_show.proofs.json_segments.segments_value.Given as goal
 
 abbrev pub invariant-loop-i : goal.invariant-loop-i
 invariant-loop-i l =
-    (l.store ≡ l.initial.store) × ((file : List ℕ) → file_of l.initial.store l.name ≡ Some file → tables_at (Some file) ≡ Ok l.tables
-    → map view l.values.items ++ numbered (segment_json file l.tables) (l.i + 1) (drop l.i l.tables.segments) ≡ numbered (segment_json file l.tables) 1 l.tables.segments)
+    (l.store ≡ l.initial.store) × (IsOpened l.initial.store l.name l.file l.tables
+    → map view l.values.items ++ numbered (segment_json l.file l.tables) (l.i + 1) (drop l.i l.tables.segments) ≡ numbered (segment_json l.file l.tables) 1 l.tables.segments)

@@ -1,20 +1,15 @@
-use Rattle.std.proofs.Common.{ℕ, List, ◌+◌, ◌++◌, ap, ◌∙◌, string_bytes}
+use Rattle.std.proofs.Common.{◌+◌, ◌∙◌, string_bytes}
 use Rattle.std.proofs.lemmas.List.{append_assoc}
-use Rattle.w16_reloc.specs.Segments.{checked}
-use Rattle.w16_show.specs.Text.{segment_text, whole_segment, relocations_text}
+use Rattle.w16_show.specs.Text.{segment_text, whole_segment}
 use Rattle.w16_show.proofs.Numbering.{numbered-step, got-less}
 use Rattle.w16_show.proofs.segments.push_segments.Goals as goal
 
 pub loop-i-preserved : goal.loop-i-preserved
 loop-i-preserved c = (
   c.in_ok-push_records.ensures.same ∙ c.loop-i.invariant.0,
-  λ file has tables.
+  λ is.
       let got = got-less c.args.tables.now.segments c.loop-i.i _ c.segment.ensures.found in
-      let records = c.in_ok-push_records.ensures.text file c.segment.result (rw c.loop-i.invariant.0 has) tables c.segment.ensures.found in
-      numbered-step (whole_segment file c.args.tables.now) (string_bytes c.loop-i.out) _ _ (c.loop-i.i + 1) c.args.tables.now.segments c.loop-i.i _ got
-      (records ∙ ap (λ (t : List ℕ). t ++ relocations_text file c.args.tables.now
-      (checked file c.args.tables.now c.segment.result)) c.in_ok-push_line.ensures ∙ append_assoc
-      (string_bytes c.loop-i.out) (segment_text (c.loop-i.i + 1) c.segment.result)
-      (relocations_text file c.args.tables.now (checked file c.args.tables.now c.segment.result)))
-      (c.loop-i.invariant.1 file has tables),
+      let records = c.in_ok-push_records.ensures.text c.segment.result (rw c.loop-i.invariant.0 is) c.segment.ensures.found in
+      numbered-step (whole_segment c.args.file.now c.args.tables.now) (string_bytes c.loop-i.out) _ _ (c.loop-i.i + 1) c.args.tables.now.segments c.loop-i.i _ got
+      (records ∙ rw c.in_ok-push_line.ensures (append_assoc (string_bytes c.loop-i.out) (segment_text (c.loop-i.i + 1) c.segment.result) _)) (c.loop-i.invariant.1 is),
 )
