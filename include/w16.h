@@ -162,7 +162,8 @@ uint8_t w16_global_flags(w16 *machine, uint16_t handle, uint16_t *flags);
 /* The selector in the high word and its object's handle in the low one, or 0. */
 uint8_t w16_global_handle(w16 *machine, uint16_t selector, uint32_t *both);
 
-/* Selectors and far memory. A fault leaves all as it was. */
+/* Selectors and far memory. A fault reads and writes nothing, and leaves all as it was, but for one: where a module's object had no bytes, an access
+ * past its end, W16_FAULT_LIMIT, leaves it with its bytes, and what was discarded and moved for them. */
 
 /* The address in the machine's memory of the first byte that the selector reaches, or 0. */
 uint8_t w16_get_selector_base(w16 *machine, uint16_t selector, uint32_t *base);
@@ -170,7 +171,7 @@ uint8_t w16_get_selector_base(w16 *machine, uint16_t selector, uint32_t *base);
 uint8_t w16_get_selector_limit(w16 *machine, uint16_t selector, uint32_t *limit);
 /* Reads count bytes from a far pointer on; W16_BAD_SIZE for more than 1,024. */
 uint8_t w16_read(w16 *machine, uint32_t pointer, uint8_t *into, size_t count);
-/* Writes count bytes from a far pointer on, as many as the object has from there. */
+/* Writes count bytes from a far pointer on, all or none: W16_FAULT_LIMIT where the selector reaches fewer. */
 uint8_t w16_write(w16 *machine, uint32_t pointer, const uint8_t *bytes, size_t count);
 /* Writes the same byte count times from a far pointer on; W16_BAD_SIZE for more than 65,536. */
 uint8_t w16_fill(w16 *machine, uint32_t pointer, uint32_t count, uint8_t byte);
