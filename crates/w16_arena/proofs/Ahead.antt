@@ -1,5 +1,6 @@
 -- A walk that goes on from where a part ends, in which no other begins.
-use Rattle.w16_arena.proofs.Common.{◌≡◌, ℕ, ◌+◌, ◌<◌, ◌≤◌, List, [], ◌∷◌, ◌++◌, Some, length, refl, ap, ◌∙◌, subst, arith, Each-both, Each-map, Each-from_All, Heap, Item, Kind, IsItem, IsFirstItem, HasTold, told_more}
+use Rattle.w16_arena.proofs.Common as C
+use Rattle.w16_arena.proofs.Common.{◌≡◌, ℕ, ◌+◌, ◌<◌, ◌≤◌, List, [], ◌∷◌, ◌++◌, Some, refl, ap, ◌∙◌, subst, arith, Heap, Item, Kind, IsItem}
 use Rattle.std.specs.List.{AllByRecursion as Each}
 use Rattle.w16_model.proofs.Cuts.{IsCut}
 use Rattle.w16_model.specs.Walk.{IsWalk}
@@ -16,18 +17,18 @@ module _ (name : Kind → ℕ → ℕ) (heap : Heap) (item : Item) (some : 0 < i
       done = cut.done;
       rest = cut.rest;
       whole = cut.whole;
-      below = Each-map (λ (t : Item). t.at < item.at + 1) (λ (t : Item). t.at < item.at + item.size) (λ t l. omega (arith, l, some)) cut.done cut.below;
-      above = Each-both (IsItem name heap) (λ (t : Item). item.at + 1 ≤ t.at) (λ (t : Item). item.at + item.size ≤ t.at) (λ t is l. apart t is (omega (arith, l))) cut.rest
-          (each_back (IsItem name heap) cut.done cut.rest (subst (λ (l : List Item). Each (IsItem name heap) l) cut.whole (Each-from_All (IsItem name heap) items walk.only))) cut.above;
+      below = C.Each-map (λ (t : Item). t.at < item.at + 1) (λ (t : Item). t.at < item.at + item.size) (λ t l. omega (arith, l, some)) cut.done cut.below;
+      above = C.Each-both (IsItem name heap) (λ (t : Item). item.at + 1 ≤ t.at) (λ (t : Item). item.at + item.size ≤ t.at) (λ t is l. apart t is (omega (arith, l))) cut.rest
+          (each_back (IsItem name heap) cut.done cut.rest (subst (λ (l : List Item). Each (IsItem name heap) l) cut.whole (C.Each-from_All (IsItem name heap) items walk.only))) cut.above;
     },
     refl,
   )
 
   -- one part more was told
-  pub told_to_end : (k from : ℕ) → HasTold name heap k from → IsFirstItem name heap from (Some item) → HasTold name heap (k + 1) (item.at + item.size)
+  pub told_to_end : (k from : ℕ) → C.HasTold name heap k from → C.IsFirstItem name heap from (Some item) → C.HasTold name heap (k + 1) (item.at + item.size)
   told_to_end k from has first = record {
     told = λ items walk.
-        let c = (told_more name heap k from has item first).told items walk in
+        let c = (C.told_more name heap k from has item first).told items walk in
         let on = cut_on items walk c.0 in
-        (on.0, ap (length {A = Item}) on.1 ∙ c.1);
+        (on.0, ap (C.length {A = Item}) on.1 ∙ c.1);
   }

@@ -1,18 +1,14 @@
 -- A request, by what was found and made for it.
+use Rattle.w16_arena.proofs
 use Rattle.std.specs.List.{AllByRecursion as Each}
-use Rattle.w16_arena.proofs.Common.{◌≡◌, ◌≢◌, ℕ, ◌+◌, ◌<◌, ◌≤◌, ◌⊎◌, inl, inr, true, false, ◌&&◌, if◌then◌else◌, IfSome, IsSomeAnd, MatchBool, MatchOption, All, List, [], ◌∷◌, length, take, fold, slice_range, Option, Some, None, option_map, is_some}
-use Rattle.w16_arena.proofs.Common.{unwrap_or, refl, sym, ap, ◌∙◌, subst, arith, ne_eqb, eq-eqb, take_all, false≢true, and_parts, cases_eq, cases_Bool, Block, Kind, Discardable, Span, KeepsOthers, RoomOptions, room, longest_hole, is_pinned, eligible}
-use Rattle.w16_arena.proofs.Common.{blocks_without, room_for, needed, snapshot, Heap, Object, IsHeap, IsMultiple, blocks, object_at, bytes_at, absent, with_newest, with_ordered, moved_bytes, Allocates, Compacts, MakesRoom, IsNew, Settles, discards_needed}
-use Rattle.w16_arena.proofs.Common.{stays_for, discarded, compaction_prefix, eligible_count, most_room, snapshot_of, Table, IsSound, block_with, heap_in, Each-from, place_is, table_longest, sound_heap, taken_here, taken_other, room-discarded, others_law}
-use Rattle.w16_arena.proofs.Common.{prefix_hole, prefix_no_hole, prefix_now, prefix_kept, prefix_needed, needed_by_members, needed_enough, eligible_by_members, room_by_members, allocates_after, settles_after, settles_before, moved_after, discarded_all}
-use Rattle.w16_arena.proofs.Common.{Layout, Stands, SlidesTogether, HasDiscarded, IsStill, IsPlaced, IsSlid, Discards, first_eligible, Placed, Compacted, GName, IsSameRest, ArenaState, IsSameRange, KeepsRest, most_in, room_whole, Leaves, leaves_more}
-use Rattle.w16_arena.proofs.Common.{rest_wider}
+use proofs.Common.{◌≡◌, ◌≢◌, ℕ, ◌+◌, ◌<◌, ◌≤◌, ◌⊎◌, inl, inr, true, false, ◌&&◌, if◌then◌else◌, IfSome, IsSomeAnd, MatchBool, MatchOption, All, List, [], ◌∷◌, length, take, fold, slice_range, Option, Some, None, option_map, is_some, unwrap_or, refl, sym, ap, ◌∙◌, subst, arith, ne_eqb}
+use proofs.Common.{eq-eqb, take_all, false≢true, and_parts, cases_eq, cases_Bool, Block, Kind, Discardable, Span, KeepsOthers, RoomOptions, room, longest_hole, is_pinned, eligible, blocks_without, room_for, needed, snapshot, Heap, Object, IsHeap, IsMultiple, blocks, object_at, bytes_at}
+use proofs.Common.{absent, with_newest, with_ordered, moved_bytes, Allocates, Compacts, MakesRoom, IsNew, Settles, discards_needed, stays_for, discarded, compaction_prefix, eligible_count, most_room, snapshot_of, Table, IsSound, block_with, heap_in, Each-from, place_is, table_longest}
+use proofs.Common.{sound_heap, taken_here, taken_other, room-discarded, others_law, prefix_hole, prefix_no_hole, prefix_now, prefix_kept, prefix_needed, needed_by_members, needed_enough, eligible_by_members, room_by_members, allocates_after, settles_after, settles_before, moved_after}
+use proofs.Common.{discarded_all, Layout, Stands, SlidesTogether, HasDiscarded, IsStill, IsPlaced, IsSlid, Discards, first_eligible, Placed, Compacted, GName, IsSameRest, ArenaState, IsSameRange, KeepsRest, most_in, room_whole, Leaves, leaves_more, rest_wider}
+use proofs.Listed.{is_listed, listed_permutation, listed_room, listed_with}
+use proofs.{Parts.AreParts, Parts.range_then, Lookups.bytes_here, Moved.moved_few, Oldest.eligible_few}
 use Rattle.std.specs.FinMap as finmap
-use Rattle.w16_arena.proofs.Parts.{AreParts, range_then}
-use Rattle.w16_arena.proofs.Lookups.{bytes_here}
-use Rattle.w16_arena.proofs.Listed.{is_listed, listed_permutation, listed_room, listed_with}
-use Rattle.w16_arena.proofs.Moved.{moved_few}
-use Rattle.w16_arena.proofs.Oldest.{eligible_few}
 
 -- where a discarded heap has a place, the heap before has it
 places_before : (ids : List ℕ) (heap : Heap) (q : ℕ) (at : ℕ) → finmap.get (fold absent heap ids).places q ≡ Some at → finmap.get heap.places q ≡ Some at

@@ -1,7 +1,6 @@
 -- The hole behind a block, where a range ends later.
-use Rattle.w16_arena.proofs.Common.{◌≡◌, ℕ, ◌+◌, ◌-◌, ◌≤◌, true, false, cond, nat_le, List, [], ◌∷◌, Option, Some, None, option_map, unwrap_or, is_some, refl, ap, ◌∙◌}
-use Rattle.w16_arena.proofs.Common.{arith, inl, inr, cases_lt, le-leb, lt-leb, false≢true, Block, Layout, IsLaid, is_any, block_end, first_from, hole_after, slice_get}
-use Rattle.w16_arena.proofs.Common.{rank}
+use Rattle.w16_arena.proofs
+use proofs.Common.{◌≡◌, ℕ, ◌+◌, ◌-◌, ◌≤◌, true, false, cond, nat_le, List, [], ◌∷◌, Option, Some, None, option_map, unwrap_or, is_some, refl, ap, ◌∙◌, arith, inl, inr, cases_lt, le-leb, lt-leb, false≢true, Block, Layout, IsLaid, is_any, block_end, first_from, hole_after, slice_get, rank}
 use Rattle.std.proofs.Common.{max, min, lt-ltb, le-ltb}
 
 -- where no block begins at a place or above, the hole ends with the range

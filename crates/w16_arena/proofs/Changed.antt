@@ -1,22 +1,23 @@
 -- The parts and their heap where one id's entry and block have changed.
-use Rattle.w16_arena.proofs.Common.{◌≡◌, ◌≢◌, ℕ, ◌+◌, ◌<◌, ◌==◌, Bool, true, false, cond, IfSome, IsSomeAnd, List, length, get_or, set, slice_range, AllPairs, Option, Some, None, option_map, refl, sym, ap, ◌∙◌, subst}
-use Rattle.w16_arena.proofs.Common.{arith, inl, inr, eqb_tells, get_or-set_same, get_or-set_other, length-set, Block, Entry, Object, object_at, IsCountedBy, block_with, hold_of_entry, is_listed, is_member, Layout, heap_of}
-use Rattle.std.specs.FinMap as finmap
+use Rattle.w16_arena.proofs
+use proofs.Common as C
+use proofs.Common.{◌≡◌, ◌≢◌, ℕ, ◌+◌, ◌<◌, ◌==◌, Bool, true, false, cond, List, length, get_or, set, slice_range, Option, Some, None, option_map, refl, sym, ap, ◌∙◌, subst, arith, inl, inr, eqb_tells, Block, Entry, Object, object_at, block_with, is_listed, is_member, Layout, heap_of}
+use proofs.Parts.{AreParts}
+use proofs.Lookups.{IsArranged, IsOrder, object_here, place_here, sound_of, holds_at}
 use Rattle.std.proofs.lemmas.Bool.{ne_eqb, eq-eqb}
-use Rattle.w16_arena.proofs.Parts.{AreParts}
-use Rattle.w16_arena.proofs.Lookups.{IsArranged, IsOrder, object_here, place_here, sound_of, holds_at}
+use Rattle.std.specs.FinMap as finmap
 
 -- what is in a list once a place was set
 pub get_or-set : (entries : List (Option Entry)) (id : ℕ) (v : Option Entry) (q : ℕ) → id < length entries → get_or (set entries id v) q None ≡ cond (id == q) v (get_or entries q None)
 get_or-set entries id v q lt = elim (eqb_tells id q) [
-  | inl same ↦ rw same.0 (let e = same.1 in rw (← e) (get_or-set_same entries id v None lt))
-  | inr other ↦ rw other.0 (get_or-set_other entries id q v None (λ e. other.1 (sym e)))
+  | inl same ↦ rw same.0 (let e = same.1 in rw (← e) (C.get_or-set_same entries id v None lt))
+  | inr other ↦ rw other.0 (C.get_or-set_other entries id q v None (λ e. other.1 (sym e)))
 ]
 
 -- an entry and a block that go together, or an entry alone
 pub record GoTogether (entry : Option Entry) (block : Option Block) : Type 0 where
-  pub holds : (x : Block) → block ≡ Some x → IsSomeAnd entry (λ e. x.hold ≡ hold_of_entry e)
-  pub counted : IfSome entry (IsCountedBy block)
+  pub holds : (x : Block) → block ≡ Some x → C.IsSomeAnd entry (λ e. x.hold ≡ C.hold_of_entry e)
+  pub counted : C.IfSome entry (C.IsCountedBy block)
 
 -- the layout has this block for one id, and otherwise the same
 pub record ChangesOne (id : ℕ) (block : Option Block) (old new : Layout) : Type 0 where
@@ -43,7 +44,7 @@ changes_none id block layout is = record {
 pub record ReordersOne (id : ℕ) (listed : Bool) (old new : List ℕ) : Type 0 where
   pub here : is_member id new ≡ listed
   pub there : (q : ℕ) → id ≢ q → is_member q new ≡ is_member q old
-  pub once : AllPairs (λ a b. a ≡ b → ⊥) new
+  pub once : C.AllPairs (λ a b. a ≡ b → ⊥) new
 
 module _ {entries : List (Option Entry)} {layout : Layout} {order memory : List ℕ} (parts : AreParts entries layout order memory)
     {id : ℕ} (entry : Option Entry) {block : Option Block} {new : Layout} {uses : List ℕ} (after : List ℕ)
@@ -72,10 +73,10 @@ module _ {entries : List (Option Entry)} {layout : Layout} {order memory : List 
   pub changed_parts : AreParts (set entries id entry) new uses after
   changed_parts = record {
     sound = sound_of (set entries id entry) new uses arranged
-        (each_id (λ e b. (x : Block) → b ≡ Some x → IsSomeAnd e (λ d. x.hold ≡ hold_of_entry d)) together.holds (holds_at entries layout order parts.sound))
+        (each_id (λ e b. (x : Block) → b ≡ Some x → C.IsSomeAnd e (λ d. x.hold ≡ C.hold_of_entry d)) together.holds (holds_at entries layout order parts.sound))
         listed
-        (each_id (λ e b. IfSome e (IsCountedBy b)) together.counted parts.sound.counted);
-    ids = changes.cap ∙ parts.ids ∙ sym (length-set entries id entry);
+        (each_id (λ e b. C.IfSome e (C.IsCountedBy b)) together.counted parts.sound.counted);
+    ids = changes.cap ∙ parts.ids ∙ sym (C.length-set entries id entry);
     high = let hi = changes.hi in let high = parts.high in omega arith;
   }
 

@@ -1,22 +1,17 @@
 -- What the call for a place leaves kept and answers.
-use Rattle.w16_arena.proofs.Keeping.{leaves_cleared, used_placed}
-use Rattle.w16_arena.proofs.Common.{◌≡◌, ℕ, ◌+◌, ◌<◌, ◌≤◌, true, false, ◌&&◌, if◌then◌else◌, All, List, length, set, slice_range, Option, Some, None, refl, ap, ◌∙◌, subst, sym, arith, length-set, Entry}
-use Rattle.w16_arena.proofs.Common.{Hold, Kind, RoomOptions, IsMultiple, is_discardable, newest, with_newest, IsNew, block_with, hold_of_entry, heap_in, put_part, repeated, Layout, IsOrdered, Fits, placed}
-use Rattle.w16_arena.proofs.Common.{moved_between, Uses, Placed, Stands, GName, IsSameRest, ArenaState, KeepsRest, table_of, heap_of, ArenaInvariant, AreMoved, AreFreeBytes, Leaves, Span, holes_of, AreSameIn}
-use Rattle.w16_arena.proofs.Parts.{AreParts}
-use Rattle.w16_arena.proofs.Steps.{state_of, beside, kept_with}
-use Rattle.w16_arena.proofs.Shown.{known, told}
-use Rattle.w16_arena.proofs.Changed.{ReordersOne}
-use Rattle.w16_arena.proofs.Cleared.{Makes, makes, fresh}
-use Rattle.w16_arena.proofs.Joining.{joins, joined}
-use Rattle.w16_arena.proofs.Allocated.{AreLocks}
+use Rattle.w16_arena.proofs
+use proofs.Common as C
+use proofs.Common.{◌≡◌, ℕ, ◌+◌, ◌<◌, ◌≤◌, true, false, ◌&&◌, if◌then◌else◌, All, List, length, set, Some, None, refl, ap, ◌∙◌, subst, sym, arith, Entry, Hold, Kind, IsMultiple, is_discardable, IsNew, block_with, Layout, Fits, Uses, GName, Span}
+use proofs.Steps.{state_of, beside, kept_with}
+use proofs.Cleared.{Makes, makes, fresh}
+use proofs.{Keeping.leaves_cleared, Keeping.used_placed, Parts.AreParts, Shown.known, Shown.told, Changed.ReordersOne, Joining.joins, Joining.joined, Allocated.AreLocks}
 use Rattle.w16_arena.proofs.Standing as standing
 
-module _ {entries : List (Option Entry)} {layout : Layout} {uses : Uses} {gap_rooms : ℕ} {room : ℕ} (kept : ArenaInvariant entries layout uses gap_rooms room)
-    {discarded : List ℕ} {old : ArenaState} (shown : state_of entries layout uses.ids discarded ≡ old)
+module _ {entries : List (C.Option Entry)} {layout : Layout} {uses : Uses} {gap_rooms : ℕ} {room : ℕ} (kept : C.ArenaInvariant entries layout uses gap_rooms room)
+    {discarded : List ℕ} {old : C.ArenaState} (shown : state_of entries layout uses.ids discarded ≡ old)
     (memory : List ℕ) (bytes : All (λ b. b < 256) memory) (inside : old.table.hi ≤ length memory)
-    (id n : ℕ) (kind : Kind) (options : RoomOptions) (below : id < length old.table.entries) (none : block_with old.table.blocks id ≡ None) (some : 0 < n) (rounded : IsMultiple old.table.grain n)
-    {mid : Layout} {mid_memory : List ℕ} (p : Placed) (moved : AreMoved p.slid.from p.slid.to layout memory mid mid_memory) (place : AreFreeBytes mid n p.at) where
+    (id n : ℕ) (kind : Kind) (options : C.RoomOptions) (below : id < length old.table.entries) (none : block_with old.table.blocks id ≡ None) (some : 0 < n) (rounded : IsMultiple old.table.grain n)
+    {mid : Layout} {mid_memory : List ℕ} (p : C.Placed) (moved : C.AreMoved p.slid.from p.slid.to layout memory mid mid_memory) (place : C.AreFreeBytes mid n p.at) where
   parts : AreParts entries layout uses.ids memory
   parts = beside kept memory (known kept shown (λ t. t.hi ≤ length memory) inside)
 
@@ -35,20 +30,20 @@ module _ {entries : List (Option Entry)} {layout : Layout} {uses : Uses} {gap_ro
   locks : AreLocks entry
   locks = (omega arith, λ _. refl)
 
-  module _ {hold : Hold} (hold_is : hold ≡ hold_of_entry entry) where
+  module _ {hold : Hold} (hold_is : hold ≡ C.hold_of_entry entry) where
     pub may_insert : Fits mid (record { id = id; at = p.at; size = n; hold = hold })
     may_insert = standing.may_insert parts id n entry locks options lt absent some grains p moved place hold_is
 
-    module _ {new : Layout} (value : new ≡ record mid { blocks = placed (record { id = id; at = p.at; size = n; hold = hold }) mid.blocks }) (ordered : IsOrdered new)
-        {after : List ℕ} (filled : after ≡ (if options.zero then put_part mid_memory p.at (repeated n 0) else mid_memory))
-        {uses' : Uses} (uses_is : uses' ≡ record uses { ids = if is_discardable kind then newest id uses.ids else uses.ids }) where
+    module _ {new : Layout} (value : new ≡ record mid { blocks = C.placed (record { id = id; at = p.at; size = n; hold = hold }) mid.blocks }) (ordered : C.IsOrdered new)
+        {after : List ℕ} (filled : after ≡ (if options.zero then C.put_part mid_memory p.at (C.repeated n 0) else mid_memory))
+        {uses' : Uses} (uses_is : uses' ≡ record uses { ids = if is_discardable kind then C.newest id uses.ids else uses.ids }) where
       in_memory : p.at + n ≤ length mid_memory
       in_memory = standing.in_memory parts id n entry locks options lt absent some grains p moved place
 
       made : Makes p.at n mid_memory after
       made = makes p.at n mid_memory after in_memory (moved.bytes bytes) options.zero filled
 
-      ids_are : uses'.ids ≡ (if is_discardable kind then newest id uses.ids else uses.ids)
+      ids_are : uses'.ids ≡ (if is_discardable kind then C.newest id uses.ids else uses.ids)
       ids_are = ap (λ (u : Uses). u.ids) uses_is
 
       reorders : ReordersOne id (is_discardable kind && true) uses.ids uses'.ids
@@ -65,20 +60,20 @@ module _ {entries : List (Option Entry)} {layout : Layout} {uses : Uses} {gap_ro
         ap (λ (l : Layout). l.cap) value ∙ ap (λ (l : Layout). l.cap) moved.same,
       )
 
-      pub kept_placed : ArenaInvariant (set entries id (Some entry)) new uses' gap_rooms room
-      kept_placed = kept_with kept (set entries id (Some entry)) new uses' parts_after.sound (length-set entries id (Some entry)) same.3 (ap (λ (u : Uses). u.cap) uses_is)
+      pub kept_placed : C.ArenaInvariant (set entries id (Some entry)) new uses' gap_rooms room
+      kept_placed = kept_with kept (set entries id (Some entry)) new uses' parts_after.sound (C.length-set entries id (Some entry)) same.3 (ap (λ (u : Uses). u.cap) uses_is)
 
-      pub stands_placed : (options.compact ≡ false → mid ≡ layout) → p.moved ≡ moved_between layout.blocks mid.blocks
-          → Stands (heap_in old.table memory) id n (IsNew options.zero n kind 0) (with_newest id) options p (heap_of (set entries id (Some entry)) new uses'.ids after)
-      stands_placed still counted = told kept shown (λ t. Stands (heap_in t memory) id n (IsNew options.zero n kind 0) (with_newest id) options p (heap_of (set entries id (Some entry)) new uses'.ids after))
+      pub stands_placed : (options.compact ≡ false → mid ≡ layout) → p.moved ≡ C.moved_between layout.blocks mid.blocks
+          → C.Stands (C.heap_in old.table memory) id n (IsNew options.zero n kind 0) (C.with_newest id) options p (C.heap_of (set entries id (Some entry)) new uses'.ids after)
+      stands_placed still counted = told kept shown (λ t. C.Stands (C.heap_in t memory) id n (IsNew options.zero n kind 0) (C.with_newest id) options p (C.heap_of (set entries id (Some entry)) new uses'.ids after))
           (standing.stands parts id n entry locks options lt absent some grains p moved place hold_is value ordered made reorders (λ off. ap (λ (l : Layout). l.blocks) (still off))
           (record { same_kind = refl; same_locks = refl; new_bytes = fresh p.at n mid_memory after in_memory (moved.bytes bytes) options.zero filled })
-          (joined parts id kind absent 0 (slice_range after p.at (p.at + n)) ∙ sym ids_are) counted)
+          (joined parts id kind absent 0 (C.slice_range after p.at (p.at + n)) ∙ sym ids_are) counted)
 
-      pub rest_placed : {X : Type 0} {are_in : List Span → List ℕ → Type 0} {bytes : X → List ℕ} {lenders : X → List GName} {x y z : X} → ((hs : List Span) (old new : List ℕ) → are_in hs old → AreSameIn hs old new → are_in hs new)
-          → Leaves are_in bytes lenders (holes_of new) (IsSameRest layout.lo layout.hi) x y → IsSameRest p.at (p.at + n) (bytes y) (bytes z) → lenders z ≡ lenders y → KeepsRest are_in bytes lenders old.table x (table_of (set entries id (Some entry)) new uses'.ids) z
+      pub rest_placed : {X : Type 0} {are_in : List Span → List ℕ → Type 0} {bytes : X → List ℕ} {lenders : X → List GName} {x y z : X} → ((hs : List Span) (old new : List ℕ) → are_in hs old → C.AreSameIn hs old new → are_in hs new)
+          → C.Leaves are_in bytes lenders (C.holes_of new) (C.IsSameRest layout.lo layout.hi) x y → C.IsSameRest p.at (p.at + n) (bytes y) (bytes z) → lenders z ≡ lenders y → C.KeepsRest are_in bytes lenders old.table x (C.table_of (set entries id (Some entry)) new uses'.ids) z
       rest_placed {X} {are_in} {bytes} {lenders} {x} {y} {z} stay made cleared loans =
-          told kept shown (λ t. KeepsRest are_in bytes lenders t x (table_of (set entries id (Some entry)) new uses'.ids) z) (record {
-            range = record { lo = same.0; hi = same.1; grain = same.2; ids = length-set entries id (Some entry); sound = parts_after.sound };
+          told kept shown (λ t. C.KeepsRest are_in bytes lenders t x (C.table_of (set entries id (Some entry)) new uses'.ids) z) (record {
+            range = record { lo = same.0; hi = same.1; grain = same.2; ids = C.length-set entries id (Some entry); sound = parts_after.sound };
             memory = leaves_cleared p.at (p.at + n) stay made cleared loans (let lo = ap (λ (l : Layout). l.lo) moved.same in let above = place.above in omega arith) (let hi = ap (λ (l : Layout). l.hi) moved.same in let end = place.below in omega arith) (used_placed mid new _ value ordered);
           })

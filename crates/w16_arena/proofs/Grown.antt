@@ -1,9 +1,8 @@
 -- An object's block that has more bytes, where it stood or elsewhere: its place, the others, and what was moved.
-use Rattle.w16_arena.proofs.Common.{◌≡◌, ◌≢◌, ℕ, ◌+◌, ◌<◌, ◌≤◌, ◌==◌, cond, List, length, All, Some, sym, ap, ◌∙◌, subst, arith, inl, inr, Block, part, Misses, block_with}
-use Rattle.w16_arena.proofs.Common.{Layout, IsApart, IsOrdered, all_but, replaced, each_with, contents, moved_between, Placed, AreMoved, AreFreeBytes, but_for, HasGrown}
-use Rattle.w16_arena.proofs.ButFor.{own_lies}
-use Rattle.w16_arena.proofs.Keeping.{moved_kept}
-use Rattle.w16_arena.proofs.Replaced.{but_same, but_for_same, is_placed}
+use Rattle.w16_arena.proofs
+use proofs.Common.{◌≡◌, ◌≢◌, ℕ, ◌+◌, ◌<◌, ◌≤◌, ◌==◌, cond, List, length, All, Some, sym, ap, ◌∙◌, subst, arith, inl, inr, Block, part, Misses, block_with, Layout, IsApart, IsOrdered, all_but, replaced, each_with, contents, moved_between, Placed, AreMoved, AreFreeBytes, but_for, HasGrown}
+use proofs.Replaced.{but_same, but_for_same, is_placed}
+use proofs.{ButFor.own_lies, Keeping.moved_kept}
 
 -- An object's block b stands where n bytes are free for it, its own bytes with it. The others stand where they stood or slid in a range, and so many bytes were moved.
 pub record HasWay (n : ℕ) (b : Block) (old : Layout) (memory : List ℕ) (p : Placed) (new : Layout) (after : List ℕ) : Type 0 where

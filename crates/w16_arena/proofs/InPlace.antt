@@ -1,19 +1,15 @@
 -- An object that got another size where it stands: what its call leaves kept and answers.
-use Rattle.w16_arena.proofs.Common.{◌≡◌, ◌≢◌, ℕ, ◌+◌, ◌<◌, ◌≤◌, ◌⊎◌, true, false, not, ◌&&◌, cond, IfSome, List, [], length, take, drop, replicate, slice_range, Option, Some, None, option_map, refl, sym, ap, ◌∙◌, subst, arith}
-use Rattle.w16_arena.proofs.Common.{le-leb, ne_eqb, lt-leb, FinMap, nat_cmp, take-take, GName, Block, Entry, RoomOptions, part, block_end, hole_after, holds_still, Heap, Object, IsMultiple, with_object, IsGrown, Reallocates, Table}
-use Rattle.w16_arena.proofs.Common.{block_with, heap_in, range_part, Layout, IsOrdered, all_but, replaced, contents, IsSameRest, Uses, Placed, IsResized, IsPlaced, KeepsRest, table_of, heap_of, ArenaInvariant, Leaves, Span, holes_of}
+use Rattle.w16_arena.proofs
+use proofs.Common as C
+use proofs.Common.{◌≡◌, ◌≢◌, ℕ, ◌+◌, ◌<◌, ◌≤◌, ◌⊎◌, true, false, not, ◌&&◌, cond, List, [], length, take, drop, replicate, slice_range, Option, Some, None, option_map, refl, sym, ap, ◌∙◌, subst, arith, GName, Block, Entry, part, block_end, hole_after, Heap, with_object, Table, block_with}
+use proofs.Common.{Layout, all_but, Uses, table_of, heap_of, ArenaInvariant, Span}
+use proofs.Steps.{beside, some_parts, kept_with}
+use proofs.{Parts.AreParts, With.with-without, Keeping.bytes_with, Unmoved.unmoved, Answering.still_same, Resized.resized_parts, Resized.resized_heap}
 use Rattle.std.specs.FinMap as finmap
-use Rattle.w16_arena.proofs.Parts.{AreParts}
-use Rattle.w16_arena.proofs.With.{with-without}
-use Rattle.w16_arena.proofs.Keeping.{bytes_with}
-use Rattle.w16_arena.proofs.Unmoved.{unmoved}
-use Rattle.w16_arena.proofs.Steps.{beside, some_parts, kept_with}
-use Rattle.w16_arena.proofs.Answering.{still_same}
-use Rattle.w16_arena.proofs.Resized.{resized_parts, resized_heap}
 use Rattle.w16_arena.proofs.Sized as sized
 
 module _ {entries : List (Option Entry)} {layout : Layout} {uses : Uses} {gap_rooms : ℕ} {room : ℕ} (kept : ArenaInvariant entries layout uses gap_rooms room)
-    (b : Block) (known : block_with layout.blocks b.id ≡ Some b) (n : ℕ) {new : Layout} (value : new ≡ record layout { blocks = replaced (record b { size = n }) layout.blocks }) (laid : IsOrdered new) where
+    (b : Block) (known : block_with layout.blocks b.id ≡ Some b) (n : ℕ) {new : Layout} (value : new ≡ record layout { blocks = C.replaced (record b { size = n }) layout.blocks }) (laid : C.IsOrdered new) where
   abbrev t : Table
   t = table_of entries layout uses.ids
 
@@ -30,7 +26,7 @@ module _ {entries : List (Option Entry)} {layout : Layout} {uses : Uses} {gap_ro
   pub kept_resized : ArenaInvariant entries new uses gap_rooms room
   kept_resized = kept_with kept entries new uses sound_resized.sound refl same.3 refl
 
-  pub rest_resized : {X : Type 0} {are_in : List Span → List ℕ → Type 0} {bytes : X → List ℕ} {lenders : X → List GName} {x y : X} → Leaves are_in bytes lenders (holes_of new) (IsSameRest layout.lo layout.hi) x y → KeepsRest are_in bytes lenders t x (table_of entries new uses.ids) y
+  pub rest_resized : {X : Type 0} {are_in : List Span → List ℕ → Type 0} {bytes : X → List ℕ} {lenders : X → List GName} {x y : X} → C.Leaves are_in bytes lenders (C.holes_of new) (C.IsSameRest layout.lo layout.hi) x y → C.KeepsRest are_in bytes lenders t x (table_of entries new uses.ids) y
   rest_resized rest = record { range = record { lo = same.0; hi = same.1; grain = same.2; ids = refl; sound = sound_resized.sound }; memory = rest }
 
   module _ (memory : List ℕ) (inside : layout.hi ≤ length memory) where
@@ -38,9 +34,9 @@ module _ {entries : List (Option Entry)} {layout : Layout} {uses : Uses} {gap_ro
     parts = beside kept memory inside
 
     abbrev h : Heap
-    h = heap_in t memory
+    h = C.heap_in t memory
 
-    abbrev object : Object
+    abbrev object : C.Object
     object = sized.object t kept.sound memory inside b known
 
     -- Some memory after it, in which the others have their bytes.
@@ -55,46 +51,46 @@ module _ {entries : List (Option Entry)} {layout : Layout} {uses : Uses} {gap_ro
       places_are : after_heap.places ≡ h.places
       places_are = ap (λ (g : Heap). g.places) heap_is
 
-      placed : (p : Placed) → p.at ≡ b.at → p.moved ≡ 0 → b.at + n ≤ layout.hi → IsPlaced h b.id n p after_heap
+      placed : (p : C.Placed) → p.at ≡ b.at → p.moved ≡ 0 → b.at + n ≤ layout.hi → C.IsPlaced h b.id n p after_heap
       placed p at moved end = record {
-        place = ap (λ (places : FinMap nat_cmp ℕ). finmap.get places b.id) places_are ∙ sized.stands_at t kept.sound memory inside b known ∙ ap Some (sym at);
+        place = ap (λ (places : C.FinMap C.nat_cmp ℕ). finmap.get places b.id) places_are ∙ sized.stands_at t kept.sound memory inside b known ∙ ap Some (sym at);
         inside = omega arith;
-        still = λ q d. subst (λ (places : FinMap nat_cmp ℕ). IfSome (finmap.get places q) (λ at. ((at < p.slid.from) ⊎ (p.slid.to ≤ at)) → finmap.get h.places q ≡ Some at)) (sym places_are) (still_same h p.slid q);
+        still = λ q d. subst (λ (places : C.FinMap C.nat_cmp ℕ). C.IfSome (finmap.get places q) (λ at. ((at < p.slid.from) ⊎ (p.slid.to ≤ at)) → finmap.get h.places q ≡ Some at)) (sym places_are) (still_same h p.slid q);
         moved = moved ∙ sym (unmoved h after_heap places_are);
         few = let range = sized.range_is t kept.sound memory inside b known in omega arith;
       }
 
-      module _ (some : 0 < n) (rounded : IsMultiple layout.grain n) (options : RoomOptions) (p : Placed) (at : p.at ≡ b.at) (moved : p.moved ≡ 0) (end : b.at + n ≤ layout.hi) where
-        pub is_cut : n ≤ b.size → part after b.at n ≡ part memory b.at n → {discarded : List ℕ} → discarded ≡ [] → IsResized h b.id n options p discarded after_heap
+      module _ (some : 0 < n) (rounded : C.IsMultiple layout.grain n) (options : C.RoomOptions) (p : C.Placed) (at : p.at ≡ b.at) (moved : p.moved ≡ 0) (end : b.at + n ≤ layout.hi) where
+        pub is_cut : n ≤ b.size → part after b.at n ≡ part memory b.at n → {discarded : List ℕ} → discarded ≡ [] → C.IsResized h b.id n options p discarded after_heap
         is_cut less own none = record {
           reallocated = sized.cuts t kept.sound memory inside b known n some rounded options less after_heap (heap_is
-              ∙ ap (λ bs. with_object h b.id (record object { bytes = Some bs })) (range_part after b.at n ∙ own ∙ sym (take-take n b.size (drop b.at memory) less) ∙ ap (take n) (sym (range_part memory b.at b.size))));
+              ∙ ap (λ bs. with_object h b.id (record object { bytes = Some bs })) (C.range_part after b.at n ∙ own ∙ sym (C.take-take n b.size (drop b.at memory) less) ∙ ap (take n) (sym (C.range_part memory b.at b.size))));
           placed = placed p at moved end;
           listed = record { prefix = 0; needed = sized.cut_prefix t kept.sound memory inside b known n some rounded options less; listed = none };
         }
 
-        pub is_extended : (more : b.size < n) → (holds_still b.hold && not options.may_move) ≡ true → n ≤ b.size + hole_after layout.hi layout.blocks (block_end b)
-            → IsGrown options.zero n object (record object { bytes = Some (slice_range after b.at (b.at + n)) }) → {discarded : List ℕ} → discarded ≡ [] → IsResized h b.id n options p discarded after_heap
+        pub is_extended : (more : b.size < n) → (C.holds_still b.hold && not options.may_move) ≡ true → n ≤ b.size + hole_after layout.hi layout.blocks (block_end b)
+            → C.IsGrown options.zero n object (record object { bytes = Some (slice_range after b.at (b.at + n)) }) → {discarded : List ℕ} → discarded ≡ [] → C.IsResized h b.id n options p discarded after_heap
         is_extended more keeps fits grown none = record {
           reallocated = sized.extends t kept.sound memory inside b known n some rounded options more keeps
-              (sized.fits_in_heap t kept.sound memory inside b known n ∙ le-leb n (b.size + hole_after layout.hi layout.blocks (block_end b)) fits)
+              (sized.fits_in_heap t kept.sound memory inside b known n ∙ C.le-leb n (b.size + hole_after layout.hi layout.blocks (block_end b)) fits)
               after_heap (record object { bytes = Some (slice_range after b.at (b.at + n)) }, grown, heap_is);
           placed = placed p at moved end;
           listed = record { prefix = 0; needed = sized.extend_prefix t kept.sound memory inside b known n some rounded options more keeps; listed = none };
         }
 
   -- The others have their bytes where each block but this has its own,
-  pub others_with : (memory after : List ℕ) → contents after (all_but b.id layout.blocks) ≡ contents memory (all_but b.id layout.blocks) → (q : ℕ) → q ≢ b.id
+  pub others_with : (memory after : List ℕ) → C.contents after (all_but b.id layout.blocks) ≡ C.contents memory (all_but b.id layout.blocks) → (q : ℕ) → q ≢ b.id
       → option_map (λ (x : Block). slice_range after x.at (x.at + x.size)) (block_with layout.blocks q) ≡ option_map (λ (x : Block). slice_range memory x.at (x.at + x.size)) (block_with layout.blocks q)
   others_with memory after is q d =
-      let other : block_with (all_but b.id layout.blocks) q ≡ block_with layout.blocks q = with-without b.id layout.blocks q ∙ ap (λ v. cond {A = Option Block} v None (block_with layout.blocks q)) (ne_eqb b.id q (λ e. d (sym e))) in
+      let other : block_with (all_but b.id layout.blocks) q ≡ block_with layout.blocks q = with-without b.id layout.blocks q ∙ ap (λ v. cond {A = Option Block} v None (block_with layout.blocks q)) (C.ne_eqb b.id q (λ e. d (sym e))) in
       subst (λ (p : Option Block). option_map (λ (x : Block). slice_range after x.at (x.at + x.size)) p ≡ option_map (λ (x : Block). slice_range memory x.at (x.at + x.size)) p) other (bytes_with memory after (all_but b.id layout.blocks) is q)
 
 -- It isn't extended, where the hole behind it is too short.
 pub not_extended : {entries : List (Option Entry)} {layout : Layout} {uses : Uses} {gap_rooms : ℕ} {room : ℕ} (kept : ArenaInvariant entries layout uses gap_rooms room)
-    (b : Block) (known : block_with layout.blocks b.id ≡ Some b) (n : ℕ) (memory : List ℕ) (inside : layout.hi ≤ length memory) → IsMultiple layout.grain n → (options : RoomOptions) → b.size < n → (holds_still b.hold && not options.may_move) ≡ true
-    → b.size + hole_after layout.hi layout.blocks (block_end b) < n → Reallocates (heap_of entries layout uses.ids memory) b.id n options false (heap_of entries layout uses.ids memory)
+    (b : Block) (known : block_with layout.blocks b.id ≡ Some b) (n : ℕ) (memory : List ℕ) (inside : layout.hi ≤ length memory) → C.IsMultiple layout.grain n → (options : C.RoomOptions) → b.size < n → (C.holds_still b.hold && not options.may_move) ≡ true
+    → b.size + hole_after layout.hi layout.blocks (block_end b) < n → C.Reallocates (heap_of entries layout uses.ids memory) b.id n options false (heap_of entries layout uses.ids memory)
 not_extended {entries} {layout} {uses} kept b known n memory inside rounded options more keeps short =
     let t : Table = table_of entries layout uses.ids in
     sized.doesnt_extend t kept.sound memory inside b known n (omega arith) rounded options more keeps
-    (sized.fits_in_heap t kept.sound memory inside b known n ∙ lt-leb n (b.size + hole_after layout.hi layout.blocks (block_end b)) short)
+    (sized.fits_in_heap t kept.sound memory inside b known n ∙ C.lt-leb n (b.size + hole_after layout.hi layout.blocks (block_end b)) short)

@@ -1,7 +1,6 @@
 -- What an arena keeps where its range ends later.
 use Rattle.w16_arena.proofs.Common.{◌≡◌, ℕ, ◌≤◌, List, Option, sym, ap, subst, arith, Entry, Table, IsSound, Layout, laid_later, ArenaState, Uses}
-use Rattle.w16_arena.specs.State.{table_of}
-use Rattle.w16_arena.specs.Representation.{ArenaInvariant}
+use Rattle.w16_arena.specs.{State.table_of, Representation.ArenaInvariant}
 
 pub sound_later : (t : Table) (end : ℕ) → IsSound t → t.hi ≤ end → IsSound (record t { hi = end })
 sound_later t end sound later = record {

@@ -1,8 +1,9 @@
 -- The steps that ask for no room, by what the table has at an id: those that are refused, and those that two steps make.
-use Rattle.w16_arena.proofs.Common.{◌≡◌, ℕ, ◌+◌, ◌-◌, ◌≤◌, ◌==◌, ◌||◌, true, false, nat_lt, IfSome, is_some, List, length, slice_range, Option, Some, None, Ok, Err, option_map, refl, sym, ap, ◌∙◌, subst, arith, Block, Entry, Kind, Heap, Object, object_at, is_fixed}
-use Rattle.w16_arena.proofs.Common.{is_discardable, absent, with_object, after_lock, after_unlock, after_free, after_discard, after_modify, after_touch, after_release, refused_order, IsSound, block_with, entry_at, object_in, heap_in, object_is, ArenaState, Steps}
+use Rattle.w16_arena.proofs
+use proofs.Common.{◌≡◌, ℕ, ◌+◌, ◌-◌, ◌≤◌, ◌==◌, ◌||◌, true, false, nat_lt, IfSome, is_some, List, length, slice_range, Option, Some, None, Ok, Err, option_map, refl, sym, ap, ◌∙◌, subst, arith, Block, Entry, Kind, Heap, Object, object_at, is_fixed, is_discardable, absent, with_object}
+use proofs.Common.{after_lock, after_unlock, after_free, after_discard, after_modify, after_touch, after_release, refused_order, IsSound, block_with, entry_at, object_in, heap_in, object_is, ArenaState, Steps}
+use proofs.Parts.{range_then}
 use Rattle.w16_model.specs.declared.Refusal.TheVariants as refusals
-use Rattle.w16_arena.proofs.Parts.{range_then}
 use Rattle.w16_arena.proofs.Told as told
 
 -- two steps, one after the other

@@ -1,19 +1,19 @@
 -- An object under another id: the entries, the blocks and the order of use with its id changed, and the heap that they stand for.
-use Rattle.w16_arena.proofs.Common.{◌≡◌, ◌≢◌, ℕ, ◌+◌, ◌<◌, ◌≤◌, ◌==◌, true, false, cond, IfSome, IsSomeAnd, List, [], ◌∷◌, length, get_or, set, slice_range, Option, Some, None, option_map, is_some, refl, sym, ap, ◌∙◌}
-use Rattle.w16_arena.proofs.Common.{subst, arith, inl, inr, false≢true, ne_eqb, eqb_tells, get_or-set_same, get_or-set_other, length-set, AllByRecursion, Block, Entry, is_member, Heap, Object, IsSound, IsCountedBy}
-use Rattle.w16_arena.proofs.Common.{block_with, entry_at, object_in, hold_of_entry, is_listed, Layout, IsOrdered, holes_of, with_same, with_other, Uses, ArenaState, Steps, table_of, heap_of, holes_in, ArenaInvariant}
+use Rattle.w16_arena.proofs
+use proofs.Common as C
+use proofs.Common.{◌≡◌, ◌≢◌, ℕ, ◌+◌, ◌<◌, ◌≤◌, ◌==◌, true, false, cond, IfSome, IsSomeAnd, List, [], ◌∷◌, length, get_or, set, Option, Some, None, option_map, is_some, refl, sym, ap, ◌∙◌, subst, arith, inl, inr, false≢true, get_or-set_other, length-set, Block, Entry, Heap, Object}
+use proofs.Common.{IsCountedBy, block_with, entry_at, hold_of_entry, is_listed, Layout, Uses, Steps, heap_of}
+use proofs.Parts.{AreParts}
+use proofs.Lookups.{holds_at, no_block, object_here, ordered_arranged, place_here, same_heap, sound_of}
+use proofs.Steps.{beside, kept_with, some_parts, state_of, steps_to}
+use proofs.Shown.{entry_known, holes_shown, known}
 use Rattle.std.proofs.lemmas.List.{get_or_read}
 use Rattle.w16_model.specs.Resizes.{rehoused, rekeyed}
 use Rattle.w16_model.proofs.Rehoused.{swap_to, swap_from, swap_other, which, rekeyed_at}
 use Rattle.w16_lru.specs.Uses.{AreUses, renamed as ids_renamed}
 use Rattle.w16_lru.proofs.Renamed.{turned, same_test, member_renamed}
 use Rattle.w16_blocks.specs.Layout.{renamed, with_other_id}
-use Rattle.w16_blocks.proofs.Remove.{none_with}
-use Rattle.w16_blocks.proofs.Renamed.{id_alone, holes_renamed}
-use Rattle.w16_arena.proofs.Parts.{AreParts}
-use Rattle.w16_arena.proofs.Lookups.{holds_at, no_block, object_here, ordered_arranged, place_here, same_heap, sound_of}
-use Rattle.w16_arena.proofs.Steps.{beside, kept_with, some_parts, state_of, steps_to}
-use Rattle.w16_arena.proofs.Shown.{entry_known, holes_shown, known}
+use Rattle.w16_blocks.proofs.{Remove.none_with, Renamed.id_alone, Renamed.holes_renamed}
 
 -- what doesn't look at an id is the same of a block with another id
 alike : {X : Type 0} (f : Block → X) (id to : ℕ) → ((b : Block) → f (with_other_id id to b) ≡ f b) → (b : Option Block) → option_map f (option_map (with_other_id id to) b) ≡ option_map f b
@@ -22,14 +22,14 @@ alike f id to same (Some b) = ap Some (same b)
 
 module _ (id to : ℕ) (another : id ≢ to) where
   -- an id's block is the one that the other id had
-  with-renamed : (bs : List Block) → AllByRecursion (λ c. c.id ≢ to) bs → (q : ℕ) → block_with (renamed id to bs) q ≡ option_map (with_other_id id to) (block_with bs (turned id to another q))
+  with-renamed : (bs : List Block) → C.AllByRecursion (λ c. c.id ≢ to) bs → (q : ℕ) → block_with (renamed id to bs) q ≡ option_map (with_other_id id to) (block_with bs (turned id to another q))
   with-renamed [] all q = refl
   with-renamed (b ∷ bs) all q =
       let named : ((with_other_id id to b).id == q) ≡ (b.id == turned id to another q) =
-      ap (λ (c : Block). c.id == q) (id_alone id to b) ∙ ap (λ t. cond t id (cond (b.id == id) to b.id) == q) (sym (ne_eqb b.id to all.0)) ∙ same_test id to another b.id q in
-      elim (eqb_tells b.id (turned id to another q)) [
-        | inl same ↦ with_same q (with_other_id id to b) (renamed id to bs) (named ∙ same.0) ∙ ap (option_map (with_other_id id to)) (sym (with_same (turned id to another q) b bs same.0))
-        | inr other ↦ with_other q (with_other_id id to b) (renamed id to bs) (named ∙ other.0) ∙ with-renamed bs all.1 q ∙ ap (option_map (with_other_id id to)) (sym (with_other (turned id to another q) b bs other.0))
+      ap (λ (c : Block). c.id == q) (id_alone id to b) ∙ ap (λ t. cond t id (cond (b.id == id) to b.id) == q) (sym (C.ne_eqb b.id to all.0)) ∙ same_test id to another b.id q in
+      elim (C.eqb_tells b.id (turned id to another q)) [
+        | inl same ↦ C.with_same q (with_other_id id to b) (renamed id to bs) (named ∙ same.0) ∙ ap (option_map (with_other_id id to)) (sym (C.with_same (turned id to another q) b bs same.0))
+        | inr other ↦ C.with_other q (with_other_id id to b) (renamed id to bs) (named ∙ other.0) ∙ with-renamed bs all.1 q ∙ ap (option_map (with_other_id id to)) (sym (C.with_other (turned id to another q) b bs other.0))
       ]
 
   same_listed : (e : Option Entry) (b : Option Block) → is_listed e (option_map (with_other_id id to) b) ≡ is_listed e b
@@ -48,8 +48,8 @@ module _ (id to : ℕ) (another : id ≢ to) where
       let same : with_other_id id to y ≡ x = cc in
       subst (λ (z : Block). IsSomeAnd e (λ d. z.hold ≡ hold_of_entry d)) same (subst (λ (z : Block). IsSomeAnd e (λ d. z.hold ≡ hold_of_entry d)) (sym (id_alone id to y)) (h y refl))
 
-module _ {entries : List (Option Entry)} {layout : Layout} {uses : Uses} {gap_rooms : ℕ} {room : ℕ} (kept : ArenaInvariant entries layout uses gap_rooms room)
-    {discarded : List ℕ} {old : ArenaState} (shown : state_of entries layout uses.ids discarded ≡ old)
+module _ {entries : List (Option Entry)} {layout : Layout} {uses : Uses} {gap_rooms : ℕ} {room : ℕ} (kept : C.ArenaInvariant entries layout uses gap_rooms room)
+    {discarded : List ℕ} {old : C.ArenaState} (shown : state_of entries layout uses.ids discarded ≡ old)
     (id to : ℕ) (some : is_some (entry_at old.table id) ≡ true) (below : to < length old.table.entries) (free : entry_at old.table to ≡ None) where
   none : get_or entries to None ≡ None
   none = known kept shown (λ t. entry_at t to ≡ None) free
@@ -66,13 +66,13 @@ module _ {entries : List (Option Entry)} {layout : Layout} {uses : Uses} {gap_ro
   pub no_block_there : block_with layout.blocks to ≡ None
   no_block_there = no_block (some_parts kept) to none
 
-  pub not_used : is_member to uses.ids ≡ false
+  pub not_used : C.is_member to uses.ids ≡ false
   not_used = kept.sound.in_order to ∙ ap (λ e. is_listed e (block_with layout.blocks to)) none
 
   abbrev there : ℕ → ℕ
   there q = turned id to another q
 
-  module _ (entry : Option Entry) (is_read : entry ≡ get_or entries id entry) {new : Layout} (value : new ≡ record layout { blocks = renamed id to layout.blocks }) (ordered : IsOrdered new)
+  module _ (entry : Option Entry) (is_read : entry ≡ get_or entries id entry) {new : Layout} (value : new ≡ record layout { blocks = renamed id to layout.blocks }) (ordered : C.IsOrdered new)
       {after : Uses} (order : after ≡ record uses { ids = ids_renamed id to uses.ids }) (are : AreUses after) where
     read : entry ≡ get_or entries id None
     read = get_or_read entries id entry id_in is_read None
@@ -91,9 +91,9 @@ module _ {entries : List (Option Entry)} {layout : Layout} {uses : Uses} {gap_ro
 
     entries_at : (q : ℕ) → get_or moved q None ≡ get_or entries (there q) None
     entries_at q = which id to another (λ q. get_or moved q None ≡ get_or entries (there q) None) q
-        (λ e. ap (λ k. get_or moved k None) e ∙ get_or-set_same (set entries id None) to entry None (let long = length-set entries id None in let lt = to_in in omega arith) ∙ read
+        (λ e. ap (λ k. get_or moved k None) e ∙ C.get_or-set_same (set entries id None) to entry None (let long = length-set entries id None in let lt = to_in in omega arith) ∙ read
         ∙ ap (λ k. get_or entries k None) (sym (swap_to id to another q e)))
-        (λ e. ap (λ k. get_or moved k None) e ∙ get_or-set_other (set entries id None) to id entry None another ∙ get_or-set_same entries id None None id_in ∙ sym none
+        (λ e. ap (λ k. get_or moved k None) e ∙ get_or-set_other (set entries id None) to id entry None another ∙ C.get_or-set_same entries id None None id_in ∙ sym none
         ∙ ap (λ k. get_or entries k None) (sym (swap_from id to another q e)))
         (λ d f. get_or-set_other (set entries id None) to q entry None d ∙ get_or-set_other entries id q None None f ∙ ap (λ k. get_or entries k None) (sym (swap_other id to another q d f)))
 
@@ -104,8 +104,8 @@ module _ {entries : List (Option Entry)} {layout : Layout} {uses : Uses} {gap_ro
     each_id : (P : Option Entry → Option Block → Type 0) → ((q : ℕ) → P (get_or entries q None) (option_map (with_other_id id to) (block_with layout.blocks q))) → (q : ℕ) → P (get_or moved q None) (block_with layout'.blocks q)
     each_id P all q = subst (P (get_or moved q None)) (sym (blocks_at q)) (subst (λ e. P e (option_map (with_other_id id to) (block_with layout.blocks (there q)))) (sym (entries_at q)) (all (there q)))
 
-    sound : IsSound (table_of moved layout' ids')
-    sound = sound_of moved layout' ids' (ordered_arranged layout' (subst IsOrdered value ordered))
+    sound : C.IsSound (C.table_of moved layout' ids')
+    sound = sound_of moved layout' ids' (ordered_arranged layout' (subst C.IsOrdered value ordered))
         (each_id (λ e b. (x : Block) → b ≡ Some x → IsSomeAnd e (λ d. x.hold ≡ hold_of_entry d)) (λ q. same_holds id to another (get_or entries q None) (block_with layout.blocks q) (holds_at entries layout uses.ids kept.sound q)))
         (record {
           members = λ q. member_renamed id to another uses.ids not_used q ∙ kept.sound.in_order (there q)
@@ -120,7 +120,7 @@ module _ {entries : List (Option Entry)} {layout : Layout} {uses : Uses} {gap_ro
       heap = heap_of entries layout uses.ids memory
 
       abbrev bytes : Block → List ℕ
-      bytes x = slice_range memory x.at (x.at + x.size)
+      bytes x = C.slice_range memory x.at (x.at + x.size)
 
       parts : AreParts entries layout uses.ids memory
       parts = beside kept memory high
@@ -134,16 +134,16 @@ module _ {entries : List (Option Entry)} {layout : Layout} {uses : Uses} {gap_ro
           (λ q. object_here parts' q
           ∙ (λ i. option_map (λ (e : Entry). let o : Object = record { kind = e.kind; locks = e.locks; bytes = option_map bytes (blocks_at q i) } in o) (entries_at q i))
           ∙ ap (λ bs. option_map (λ (e : Entry). let o : Object = record { kind = e.kind; locks = e.locks; bytes = bs } in o) (get_or entries (there q) None)) (alike bytes id to (λ b. ap bytes (id_alone id to b)) (block_with layout.blocks (there q)))
-          ∙ sym (rekeyed_at id to another heap.objects (object_here parts to ∙ ap (option_map (object_in layout.blocks memory to)) none) q ∙ object_here parts (there q)))
+          ∙ sym (rekeyed_at id to another heap.objects (object_here parts to ∙ ap (option_map (C.object_in layout.blocks memory to)) none) q ∙ object_here parts (there q)))
           (λ q. place_here parts' q ∙ ap (option_map (λ (x : Block). x.at)) (blocks_at q) ∙ alike {X = ℕ} (λ x. x.at) id to (λ b. ap (λ (x : Block). x.at) (id_alone id to b)) (block_with layout.blocks (there q))
           ∙ sym (rekeyed_at id to another heap.places (place_here parts to ∙ ap (option_map (λ (x : Block). x.at)) no_block_there) q ∙ place_here parts (there q)))
-          ∙ ap (λ t. cond t heap (record heap { objects = rekeyed heap.objects id to; places = rekeyed heap.places id to; order = ids' })) (sym (ne_eqb id to another))
+          ∙ ap (λ t. cond t heap (record heap { objects = rekeyed heap.objects id to; places = rekeyed heap.places id to; order = ids' })) (sym (C.ne_eqb id to another))
 
-    pub kept_renamed : ArenaInvariant moved new after gap_rooms room
+    pub kept_renamed : C.ArenaInvariant moved new after gap_rooms room
     kept_renamed = rw (value, order) (kept_with kept moved layout' (record uses { ids = ids' }) sound many refl refl)
 
     pub steps_renamed : Steps old (state_of moved new after.ids discarded) (λ a b. b ≡ rehoused a id to)
     steps_renamed = rw (value, order) (steps_to kept shown moved layout' ids' (λ a b. b ≡ rehoused a id to) sound refl refl refl many renamed_heap)
 
-    pub holes_same : holes_of new ≡ holes_in old.table
-    holes_same = ap holes_of value ∙ holes_renamed id to layout.lo layout.hi layout.blocks ∙ holes_shown kept shown
+    pub holes_same : C.holes_of new ≡ C.holes_in old.table
+    holes_same = ap C.holes_of value ∙ holes_renamed id to layout.lo layout.hi layout.blocks ∙ holes_shown kept shown

@@ -1,17 +1,17 @@
 -- A place that was found or made, and how much there can be.
-use Rattle.w16_arena.proofs.Common.{find, ◌≡◌, ℕ, ◌-◌, ◌<◌, ◌≤◌, Bool, true, false, nat_le, IfSome, List, [], Option, Some, None, option_map, sym, subst, arith, Block}
-use Rattle.w16_arena.proofs.Common.{moved_between, moved_same, Span, ArePlaced, holes, room, longest_hole, laid_placed, Layout, IsOrdered, Placed, AreMoved, AreFreeBytes}
-use Rattle.w16_arena.proofs.Common.{most_for}
-use Rattle.w16_arena.proofs.Arranged.{same_moved, longest_in_room, free_fits, free_in_hole}
-use Rattle.w16_arena.proofs.Holes.{hole_found, hole_none}
+use Rattle.w16_arena.proofs
+use proofs.Common as C
+use proofs.Common.{find, ◌≡◌, ℕ, ◌-◌, ◌<◌, ◌≤◌, Bool, true, false, IfSome, List, [], Some, None, sym, subst, arith, Block, Span, holes, room, longest_hole, Layout, IsOrdered, AreFreeBytes, most_for}
+use proofs.Arranged.{same_moved, longest_in_room, free_fits, free_in_hole}
+use proofs.Holes.{hole_found, hole_none}
 
 -- where the lowest hole of n bytes begins
-abbrev pub first_hole : Layout → ℕ → Option ℕ
-first_hole l n = option_map (λ (s : Span). s.from) (find (λ s. nat_le n (s.to - s.from)) (holes l.lo l.hi l.blocks))
+abbrev pub first_hole : Layout → ℕ → C.Option ℕ
+first_hole l n = C.option_map (λ (s : Span). s.from) (find (λ s. C.nat_le n (s.to - s.from)) (holes l.lo l.hi l.blocks))
 
 module _ {l : Layout} (ordered : IsOrdered l) (n : ℕ) where
-  placed : ArePlaced l.lo l.hi l.blocks
-  placed = laid_placed l.lo l.hi l.blocks ordered.laid
+  placed : C.ArePlaced l.lo l.hi l.blocks
+  placed = C.laid_placed l.lo l.hi l.blocks ordered.laid
 
   pub hole_free : (at : ℕ) → Some at ≡ first_hole l n → AreFreeBytes l n at
   hole_free at e =
@@ -32,7 +32,7 @@ module _ {l : Layout} (ordered : IsOrdered l) (n : ℕ) where
   hole_missing some e compact off = subst (λ b. most_for l b < n) (sym off) (hole_none l.lo l.hi l.grain l.blocks placed ordered.from ordered.grained n some e)
 
   -- a place that was made is as long as the room allows
-  pub made_enough : (memory after : List ℕ) (new : Layout) (made : Option Placed) → IfSome made (λ p. AreMoved p.slid.from p.slid.to l memory new after) → IfSome made (λ p. AreFreeBytes new n p.at)
+  pub made_enough : (memory after : List ℕ) (new : Layout) (made : C.Option C.Placed) → IfSome made (λ p. C.AreMoved p.slid.from p.slid.to l memory new after) → IfSome made (λ p. AreFreeBytes new n p.at)
       → (compact : Bool) → compact ≡ true → IfSome made (λ _. n ≤ most_for l compact)
   made_enough memory after new None slid free compact on = tt
   made_enough memory after new (Some p) slid free compact on = subst (λ b. n ≤ most_for l b) (sym on) (free_fits ordered slid n p.at free)
@@ -42,9 +42,9 @@ pub no_hole : {l : Layout} → IsOrdered l → (most : ℕ) → most ≡ room l.
 no_hole {l} ordered most is none = let h = longest_in_room ordered (same_moved 0 l [] ordered) in omega arith
 
 -- a hole of the whole room is the longest
-pub whole_hole : {low high : ℕ} {l : Layout} {memory : List ℕ} {new : Layout} {after : List ℕ} → IsOrdered l → AreMoved low high l memory new after → (most at : ℕ) → most ≡ room l.lo l.hi l.blocks → 0 < most → AreFreeBytes new most at
+pub whole_hole : {low high : ℕ} {l : Layout} {memory : List ℕ} {new : Layout} {after : List ℕ} → IsOrdered l → C.AreMoved low high l memory new after → (most at : ℕ) → most ≡ room l.lo l.hi l.blocks → 0 < most → AreFreeBytes new most at
     → most ≡ longest_hole new.lo new.hi new.blocks
 whole_hole ordered moved most at is some free = let h = longest_in_room ordered moved in let k = free_in_hole ordered moved most at some free in omega arith
 
-pub none_moved : (bs : List Block) → 0 ≡ moved_between bs bs
-none_moved bs = sym (moved_same bs)
+pub none_moved : (bs : List Block) → 0 ≡ C.moved_between bs bs
+none_moved bs = sym (C.moved_same bs)

@@ -1,36 +1,35 @@
 -- The object of a block, and its reallocation by what was found and made for it.
-use Rattle.w16_arena.proofs.Common.{◌≡◌, ℕ, ◌+◌, ◌<◌, ◌≤◌, Bool, true, false, not, ◌&&◌, nat_le, cond, MatchBool, IsSomeAnd, IsTrue, List, [], ◌∷◌, length, take, get_or, slice_range, Option, Some, None, option_map, unwrap_or, refl, sym}
-use Rattle.w16_arena.proofs.Common.{ap, ◌∙◌, subst, arith, le-leb, inl, inr, lt-leb, eqb_tells, Block, Entry, Hold, Pinned, Loose, RoomOptions, holds_still, block_end, first_from, hole_after, is_any, fits_in_place, growth_for, snapshot}
-use Rattle.w16_arena.proofs.Common.{Heap, Object, IsMultiple, blocks, object_at, bytes_at, is_pinned_object, with_object, Request, IsGrown, Grows, Reallocates, ReallocatesObject, StaysOrMovesToHole, snapshot_of, Table, IsSound, block_with}
-use Rattle.w16_arena.proofs.Common.{heap_in, hold_of_entry, object_in, Member, Each-at, Each-from, first_from-below, first_from-greatest, block_member, length_range, member_with, table_block, Layout, laid_le, reallocation_prefix}
-use Rattle.std.specs.FinMap as finmap
+use Rattle.w16_arena.proofs
+use proofs.Common as C
+use proofs.Common.{◌≡◌, ℕ, ◌+◌, ◌<◌, ◌≤◌, Bool, true, false, not, ◌&&◌, nat_le, cond, MatchBool, IsSomeAnd, IsTrue, List, [], ◌∷◌, length, take, get_or, slice_range, Option, Some, None, option_map, unwrap_or, refl, sym, ap, ◌∙◌, subst, arith, inl, inr, Block, Entry, Hold, Loose}
+use proofs.Common.{holds_still, block_end, first_from, hole_after, is_any, fits_in_place, growth_for, snapshot, Heap, Object, blocks, object_at, is_pinned_object, with_object, IsGrown, Grows, Reallocates, snapshot_of, Table, block_with, hold_of_entry, Member, reallocation_prefix}
+use proofs.Lookups.{holds_at, object_here, bytes_here, place_here, ends_in_memory}
+use proofs.{Parts.AreParts, Listed.is_listed, Listed.listed_with}
 use Rattle.std.specs.List.{AllByRecursion as Each}
-use Rattle.w16_arena.proofs.Parts.{AreParts}
-use Rattle.w16_arena.proofs.Listed.{is_listed, listed_with}
-use Rattle.w16_arena.proofs.Lookups.{holds_at, object_here, bytes_here, place_here, ends_in_memory}
+use Rattle.std.specs.FinMap as finmap
 
 -- what keeps a block's address
-pub still_hold : (b : Bool) → holds_still (cond {A = Hold} b Pinned Loose) ≡ b
+pub still_hold : (b : Bool) → holds_still (cond {A = Hold} b C.Pinned Loose) ≡ b
 still_hold true = refl
 still_hold false = refl
 
 -- a member's id has a block
 member_some : (xs : List Block) (x : Block) → Member x xs → block_with xs x.id ≡ None → ⊥
 member_some [] x m none = m
-member_some (y ∷ ys) x m none = elim (eqb_tells y.id x.id) [
+member_some (y ∷ ys) x m none = elim (C.eqb_tells y.id x.id) [
   | inl same ↦ let some : ◌≡◌ {A = Option Block} (Some y) None = rw same.0 at none in cc
   | inr other ↦ elim m [ inl e ↦ other.1 (ap (λ (z : Block). z.id) (sym e)) | inr k ↦ member_some ys x k (rw other.0 at none) ]
 ]
 
-module _ (t : Table) (sound : IsSound t) (memory : List ℕ) (inside : t.hi ≤ length memory) (b : Block) (known : block_with t.blocks b.id ≡ Some b) where
-  abbrev layout : Layout
+module _ (t : Table) (sound : C.IsSound t) (memory : List ℕ) (inside : t.hi ≤ length memory) (b : Block) (known : block_with t.blocks b.id ≡ Some b) where
+  abbrev layout : C.Layout
   layout = record { cap = length t.entries; lo = t.lo; hi = t.hi; grain = t.grain; blocks = t.blocks }
 
   pub parts : AreParts t.entries layout t.order memory
   parts = record { sound = sound; ids = refl; high = inside }
 
   abbrev h : Heap
-  h = heap_in t memory
+  h = C.heap_in t memory
 
   -- its entry
   pub entry_known : (e : Entry) × (get_or t.entries b.id None ≡ Some e) × (b.hold ≡ hold_of_entry e)
@@ -45,13 +44,13 @@ module _ (t : Table) (sound : IsSound t) (memory : List ℕ) (inside : t.hi ≤ 
   own = slice_range memory b.at (b.at + b.size)
 
   pub own_size : length own ≡ b.size
-  own_size = length_range memory b.at b.size (ends_in_memory parts b.id b known).1
+  own_size = C.length_range memory b.at b.size (ends_in_memory parts b.id b known).1
 
   abbrev pub object : Object
   object = record { kind = entry_known.0.kind; locks = entry_known.0.locks; bytes = Some own }
 
   pub object_is : object_at h b.id ≡ Some object
-  object_is = object_here parts b.id ∙ ap (option_map (object_in t.blocks memory b.id)) entry_known.1
+  object_is = object_here parts b.id ∙ ap (option_map (C.object_in t.blocks memory b.id)) entry_known.1
       ∙ ap (λ (p : Option Block). let o : Object = record { kind = entry_known.0.kind; locks = entry_known.0.locks; bytes = option_map (λ (x : Block). slice_range memory x.at (x.at + x.size)) p } in Some o) known
 
   pub stands_at : finmap.get h.places b.id ≡ Some b.at
@@ -59,9 +58,9 @@ module _ (t : Table) (sound : IsSound t) (memory : List ℕ) (inside : t.hi ≤ 
 
   -- the range
   pub range_is : t.lo ≤ t.hi
-  range_is = laid_le t.lo t.hi t.blocks sound.table.laid
+  range_is = C.laid_le t.lo t.hi t.blocks sound.table.laid
 
-  pub size_is : unwrap_or (option_map (length {A = ℕ}) (bytes_at h b.id)) 0 ≡ b.size
+  pub size_is : unwrap_or (option_map (length {A = ℕ}) (C.bytes_at h b.id)) 0 ≡ b.size
   size_is = ap (λ p. unwrap_or (option_map (length {A = ℕ}) p) 0) (bytes_here parts b.id ∙ ap (option_map (λ (x : Block). slice_range memory x.at (x.at + x.size))) known) ∙ own_size
 
   -- what holds of it holds of the heap's object
@@ -74,13 +73,13 @@ module _ (t : Table) (sound : IsSound t) (memory : List ℕ) (inside : t.hi ≤ 
   -- The hole behind it is the heap's.
   first_le : (end : ℕ) (xs ys : List Block) → ((x : Block) → Member x ys → Member x xs) → (a : ℕ) → first_from is_any end xs a ≤ first_from is_any end ys a
   first_le end xs ys among a =
-      let all : (first_from is_any end xs a ≤ end) × Each (λ x. IsTrue (is_any x) → a ≤ x.at → first_from is_any end xs a ≤ x.at) xs = first_from-below is_any end xs a (first_from is_any end xs a) (omega arith) in
-      first_from-greatest is_any end ys a (first_from is_any end xs a) all.0
-      (Each-from (λ x. IsTrue (is_any x) → a ≤ x.at → first_from is_any end xs a ≤ x.at) ys (λ x m. Each-at (λ x. IsTrue (is_any x) → a ≤ x.at → first_from is_any end xs a ≤ x.at) xs all.1 x (among x m)))
+      let all : (first_from is_any end xs a ≤ end) × Each (λ x. IsTrue (is_any x) → a ≤ x.at → first_from is_any end xs a ≤ x.at) xs = C.first_from-below is_any end xs a (first_from is_any end xs a) (omega arith) in
+      C.first_from-greatest is_any end ys a (first_from is_any end xs a) all.0
+      (C.Each-from (λ x. IsTrue (is_any x) → a ≤ x.at → first_from is_any end xs a ≤ x.at) ys (λ x m. C.Each-at (λ x. IsTrue (is_any x) → a ≤ x.at → first_from is_any end xs a ≤ x.at) xs all.1 x (among x m)))
 
   hole_same : (end a : ℕ) → hole_after end (blocks h) a ≡ hole_after end t.blocks a
   hole_same end a =
-      let to : first_from is_any end (blocks h) a ≤ first_from is_any end t.blocks a = first_le end (blocks h) t.blocks (λ x m. block_member h x (table_block t sound.table memory inside x m)) a in
+      let to : first_from is_any end (blocks h) a ≤ first_from is_any end t.blocks a = first_le end (blocks h) t.blocks (λ x m. C.block_member h x (C.table_block t sound.table memory inside x m)) a in
       let back : first_from is_any end t.blocks a ≤ first_from is_any end (blocks h) a = first_le end t.blocks (blocks h) (is_listed parts) a in
       omega arith
 
@@ -101,9 +100,9 @@ module _ (t : Table) (sound : IsSound t) (memory : List ℕ) (inside : t.hi ≤ 
   known_in_heap = from (block_with (blocks h) b.id) refl
     where
       from : (p : Option Block) → block_with (blocks h) b.id ≡ p → p ≡ Some b
-      from None e = absurd (member_some (blocks h) b (block_member h b (table_block t sound.table memory inside b (member_with t.blocks b.id b known).0)) e)
+      from None e = absurd (member_some (blocks h) b (C.block_member h b (C.table_block t sound.table memory inside b (C.member_with t.blocks b.id b known).0)) e)
       from (Some x) e =
-          let m = member_with (blocks h) b.id x e in
+          let m = C.member_with (blocks h) b.id x e in
           sym (listed_with parts x (is_listed parts x m.0)) ∙ ap (block_with t.blocks) m.1 ∙ known
 
   pub fits_in_heap_at : (end n : ℕ) → fits_in_place (snapshot t.lo end (blocks h) t.order) n b.id ≡ nat_le n (b.size + hole_after end t.blocks (block_end b))
@@ -112,7 +111,7 @@ module _ (t : Table) (sound : IsSound t) (memory : List ℕ) (inside : t.hi ≤ 
   pub fits_in_heap : (n : ℕ) → fits_in_place (snapshot_of h) n b.id ≡ nat_le n (b.size + hole_after t.hi t.blocks (block_end b))
   fits_in_heap = fits_in_heap_at t.hi
 
-  module _ (n : ℕ) (some : 0 < n) (rounded : IsMultiple t.grain n) (options : RoomOptions) where
+  module _ (n : ℕ) (some : 0 < n) (rounded : C.IsMultiple t.grain n) (options : C.RoomOptions) where
     abbrev held : Bool
     held = is_pinned_object object && not options.may_move
 
@@ -122,13 +121,13 @@ module _ (t : Table) (sound : IsSound t) (memory : List ℕ) (inside : t.hi ≤ 
     -- It is as long, or longer.
     module _ (less : n ≤ b.size) where
       short : nat_le n (length own) ≡ true
-      short = le-leb n (length own) (omega (arith, own_size))
+      short = C.le-leb n (length own) (omega (arith, own_size))
 
       pub cuts : (new : Heap) → new ≡ with_object h b.id (record object { bytes = Some (take n own) }) → Reallocates h b.id n options true new
       cuts new is = record {
         some = some;
         rounded = rounded;
-        object = of_object (λ o. ReallocatesObject h b.id o n options true new) (subst (λ v. MatchBool v ((true ≡ true) × (new ≡ with_object h b.id (record object { bytes = Some (take n own) }))) (Grows h b.id object n options true new)) (sym short) (refl, is));
+        object = of_object (λ o. C.ReallocatesObject h b.id o n options true new) (subst (λ v. MatchBool v ((true ≡ true) × (new ≡ with_object h b.id (record object { bytes = Some (take n own) }))) (Grows h b.id object n options true new)) (sym short) (refl, is));
       }
 
       pub cut_prefix : IsSomeAnd (object_at h b.id) (λ o. reallocation_prefix h b.id o n options ≡ Some 0)
@@ -137,19 +136,19 @@ module _ (t : Table) (sound : IsSound t) (memory : List ℕ) (inside : t.hi ≤ 
     -- It is shorter.
     module _ (more : b.size < n) where
       long : nat_le n (length own) ≡ false
-      long = lt-leb n (length own) (omega (arith, own_size))
+      long = C.lt-leb n (length own) (omega (arith, own_size))
 
       abbrev Extends : Bool → Heap → Bool → Type 0
       Extends answered new fits = MatchBool fits ((answered ≡ true) × ((grown : Object) × IsGrown options.zero n object grown × (new ≡ with_object h b.id grown))) ((answered ≡ false) × (new ≡ h))
 
       abbrev Asks : Bool → Heap → Type 0
-      Asks answered new = Request h b.id (record { options = options; prefix = growth_for (snapshot_of h) n b.id options; becomes = IsGrown options.zero n object; order = λ _ order. order }) answered new × (options.compact ≡ false → answered ≡ true → StaysOrMovesToHole h b.id n new)
+      Asks answered new = C.Request h b.id (record { options = options; prefix = growth_for (snapshot_of h) n b.id options; becomes = IsGrown options.zero n object; order = λ _ order. order }) answered new × (options.compact ≡ false → answered ≡ true → C.StaysOrMovesToHole h b.id n new)
 
       grows : (answered : Bool) (new : Heap) (v : Bool) → held ≡ v → MatchBool v (Extends answered new (fits_in_place (snapshot_of h) n b.id)) (Asks answered new) → Reallocates h b.id n options answered new
       grows answered new v is step = record {
         some = some;
         rounded = rounded;
-        object = of_object (λ o. ReallocatesObject h b.id o n options answered new) (subst (λ w. MatchBool w ((answered ≡ true) × (new ≡ with_object h b.id (record object { bytes = Some (take n own) }))) (Grows h b.id object n options answered new)) (sym long)
+        object = of_object (λ o. C.ReallocatesObject h b.id o n options answered new) (subst (λ w. MatchBool w ((answered ≡ true) × (new ≡ with_object h b.id (record object { bytes = Some (take n own) }))) (Grows h b.id object n options answered new)) (sym long)
             (subst (λ w. MatchBool w (Extends answered new (fits_in_place (snapshot_of h) n b.id)) (Asks answered new)) (sym is) step));
       }
 
@@ -167,8 +166,8 @@ module _ (t : Table) (sound : IsSound t) (memory : List ℕ) (inside : t.hi ≤ 
 
       -- It may move.
       module _ (free : (holds_still b.hold && not options.may_move) ≡ false) where
-        pub asks : (answered : Bool) (new : Heap) → Request h b.id (record { options = options; prefix = growth_for (snapshot_of h) n b.id options; becomes = IsGrown options.zero n object; order = λ _ order. order }) answered new
-            → (options.compact ≡ false → answered ≡ true → StaysOrMovesToHole h b.id n new) → Reallocates h b.id n options answered new
+        pub asks : (answered : Bool) (new : Heap) → C.Request h b.id (record { options = options; prefix = growth_for (snapshot_of h) n b.id options; becomes = IsGrown options.zero n object; order = λ _ order. order }) answered new
+            → (options.compact ≡ false → answered ≡ true → C.StaysOrMovesToHole h b.id n new) → Reallocates h b.id n options answered new
         asks answered new request hole = grows answered new false (held_is false free) (request, hole)
 
         pub ask_prefix : (k : ℕ) → growth_for (snapshot_of h) n b.id options ≡ Some k → IsSomeAnd (object_at h b.id) (λ o. reallocation_prefix h b.id o n options ≡ Some k)

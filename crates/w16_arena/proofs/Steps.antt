@@ -1,15 +1,15 @@
 -- The steps that ask for no room: what each leaves kept, and the heap after it, in every memory.
-use Rattle.w16_arena.proofs.Common.{without_absent, ◌≡◌, ℕ, zero, suc, ◌+◌, ◌<◌, ◌≤◌, ◌==◌, Bool, true, false, cond, ◌&&◌, IfSome, IfNone, IsSomeAnd, AllPairs, replicate, List, [], ◌∷◌, length, get_or, set, slice_range, Option, Some, None, option_map, is_some, refl, sym}
-use Rattle.w16_arena.proofs.Common.{ap, ◌∙◌, subst, inl, inr, arith, cases_eq, length-replicate, Block, Entry, Hold, Kind, is_member, Heap, Object, object_at, is_discardable, removed, absent, with_object, touched, newest, without, Enters, IsSound}
-use Rattle.w16_arena.proofs.Common.{IsCountedBy, block_with, hold_of_entry, object_in, is_listed, get-update_same, get-update_other, taken_here, taken_other, Layout, IsOrdered, replaced, member_with, Uses, ArenaState, Steps, table_of, heap_of, ArenaInvariant}
+use Rattle.w16_arena.proofs
+use proofs.Common as C
+use proofs.Changed as M
+use proofs.Common.{◌≡◌, ℕ, zero, suc, ◌+◌, ◌<◌, ◌≤◌, ◌==◌, Bool, true, false, cond, ◌&&◌, IfSome, replicate, List, [], ◌∷◌, length, get_or, set, Option, Some, None, option_map, is_some, refl, sym, ap, ◌∙◌, subst, inl, inr, arith, cases_eq, Block, Entry, Hold, Kind, is_member, Heap, Object}
+use proofs.Common.{object_at, is_discardable, removed, absent, with_object, without, IsSound, IsCountedBy, block_with, hold_of_entry, object_in, is_listed, taken_here, taken_other, Layout, IsOrdered, replaced, Uses, ArenaState, Steps, table_of, heap_of, ArenaInvariant}
+use proofs.Lookups.{IsArranged, ordered_arranged, sound_arranged, object_here, place_here, no_block, in_list, same_heap}
+use proofs.Changed.{GoTogether, ChangesOne, ReordersOne}
+use proofs.Singles.{removed_parts, removed_heap, put_parts, put_heap}
+use proofs.{Parts.AreParts, With.with-replaced, With.with-without, Reordered.without_reorders, Reordered.same_reorders}
 use Rattle.std.specs.FinMap as finmap
 use Rattle.w16_blocks.specs.Layout as layouts
-use Rattle.w16_arena.proofs.Parts.{AreParts}
-use Rattle.w16_arena.proofs.With.{with-replaced, with-without}
-use Rattle.w16_arena.proofs.Lookups.{IsArranged, ordered_arranged, sound_arranged, object_here, place_here, no_block, in_list, same_heap}
-use Rattle.w16_arena.proofs.Changed.{GoTogether, ChangesOne, ReordersOne, changes_none, changed_parts, object_at_id, object_at_other, place_at_id, place_at_other}
-use Rattle.w16_arena.proofs.Reordered.{without_reorders, same_reorders}
-use Rattle.w16_arena.proofs.Singles.{removed_parts, removed_heap, put_parts, put_heap}
 
 -- to set what is there changes nothing
 set_itself : (entries : List (Option Entry)) (id : ℕ) (e : Entry) → get_or entries id None ≡ Some e → set entries id (Some e) ≡ entries
@@ -23,7 +23,7 @@ state_of entries layout order discarded = record { table = table_of entries layo
 
 -- the order alone may be another, with the same members
 pub reordered_sound : (entries : List (Option Entry)) (layout : Layout) (order uses : List ℕ) → IsSound (table_of entries layout order)
-    → ((q : ℕ) → is_member q uses ≡ is_member q order) → AllPairs (λ a b. a ≡ b → ⊥) uses → IsSound (table_of entries layout uses)
+    → ((q : ℕ) → is_member q uses ≡ is_member q order) → C.AllPairs (λ a b. a ≡ b → ⊥) uses → IsSound (table_of entries layout uses)
 reordered_sound entries layout order uses sound same once = record {
   table = record { laid = sound.table.laid; ids = sound.table.ids; holds = sound.table.holds };
   grained = sound.grained;
@@ -71,12 +71,12 @@ module _ {entries : List (Option Entry)} {layout : Layout} {uses : Uses} {gap_ro
 
   -- Used.
   module _ (id : ℕ) (there : is_member id uses.ids ≡ true) where
-    pub touched_is : touched id uses.ids ≡ newest id uses.ids
-    touched_is = ap (λ t. cond t (newest id uses.ids) uses.ids) there
+    pub touched_is : C.touched id uses.ids ≡ C.newest id uses.ids
+    touched_is = ap (λ t. cond t (C.newest id uses.ids) uses.ids) there
 
   -- some memory that has the range
   pub some_parts : AreParts entries layout uses.ids (replicate layout.hi 0)
-  some_parts = beside (replicate layout.hi 0) (let e = length-replicate {A = ℕ} layout.hi 0 in omega arith)
+  some_parts = beside (replicate layout.hi 0) (let e = C.length-replicate {A = ℕ} layout.hi 0 in omega arith)
 
   -- An id's object is taken away.
   module _ (id : ℕ) (lt : id < length entries) (new : Layout) (value : new ≡ record layout { blocks = layouts.all_but id layout.blocks }) (ordered : IsOrdered new) where
@@ -100,7 +100,7 @@ module _ {entries : List (Option Entry)} {layout : Layout} {uses : Uses} {gap_ro
     heap_same memory high =
         let parts = beside memory high in
         let heap : Heap = heap_of entries layout uses.ids memory in
-        same_heap heap (removed heap id) refl refl refl (sym (without_absent id uses.ids not_listed))
+        same_heap heap (removed heap id) refl refl refl (sym (C.without_absent id uses.ids not_listed))
         (λ q. elim (cases_eq q id) [
           | inl e ↦ ap (object_at heap) e ∙ object_here parts id ∙ ap (option_map (object_in layout.blocks memory id)) none ∙ sym (taken_here heap.objects id q e)
           | inr d ↦ sym (taken_other heap.objects id q d)
@@ -122,7 +122,7 @@ module _ {entries : List (Option Entry)} {layout : Layout} {uses : Uses} {gap_ro
     alone = record { holds = λ x e. cc; counted = (omega arith, λ _. refl, λ _. refl) }
 
     same_blocks : ChangesOne id None layout layout
-    same_blocks = changes_none id None layout absent_block
+    same_blocks = M.changes_none id None layout absent_block
 
     not_yet : ReordersOne id (is_listed (Some entered) None) uses.ids uses.ids
     not_yet = same_reorders id uses.ids (is_listed (Some entered) None) (kept.sound.in_order id ∙ ap (λ e. is_listed e (block_with layout.blocks id)) free ∙ sym (and_none (is_discardable kind))) kept.sound.no_repeats
@@ -134,21 +134,21 @@ module _ {entries : List (Option Entry)} {layout : Layout} {uses : Uses} {gap_ro
     pub sound_entered : IsSound (table_of (set entries id (Some entered)) layout uses.ids)
     sound_entered = (put_parts some_parts id lt entered alone same_blocks not_yet (sound_arranged entries layout uses.ids kept.sound) (ap (option_map (λ (x : Block). x.at)) (sym absent_block))).sound
 
-    pub enters : (memory : List ℕ) → layout.hi ≤ length memory → Enters (heap_of entries layout uses.ids memory) id kind (heap_of (set entries id (Some entered)) layout uses.ids memory)
+    pub enters : (memory : List ℕ) → layout.hi ≤ length memory → C.Enters (heap_of entries layout uses.ids memory) id kind (heap_of (set entries id (Some entered)) layout uses.ids memory)
     enters memory high = record {
       unused = object_here (beside memory high) id ∙ ap (option_map (object_in layout.blocks memory id)) free;
       entered = put_heap (beside memory high) id lt entered alone same_blocks not_yet (sound_arranged entries layout uses.ids kept.sound) (ap (option_map (λ (x : Block). x.at)) (sym absent_block));
     }
 
   -- An object's locks are set, and its block, if it has one, is held by them.
-  module _ (id : ℕ) (entry : Entry) (asked : IsSomeAnd (get_or entries id None) (λ e. e.kind ≡ entry.kind)) (counted : IsCountedBy (block_with layout.blocks id) entry)
+  module _ (id : ℕ) (entry : Entry) (asked : C.IsSomeAnd (get_or entries id None) (λ e. e.kind ≡ entry.kind)) (counted : IsCountedBy (block_with layout.blocks id) entry)
       (hold : Hold) (hold_is : hold ≡ hold_of_entry entry) (new : Layout)
-      (none : IfNone (block_with layout.blocks id) (new ≡ layout)) (some : IfSome (block_with layout.blocks id) (λ b. new ≡ record layout { blocks = replaced (record b { hold = hold }) layout.blocks })) (ordered : IsOrdered new) where
+      (none : C.IfNone (block_with layout.blocks id) (new ≡ layout)) (some : IfSome (block_with layout.blocks id) (λ b. new ≡ record layout { blocks = replaced (record b { hold = hold }) layout.blocks })) (ordered : IsOrdered new) where
     -- its entry before, of the same kind
     entry_before : (d : Entry) × (get_or entries id None ≡ Some d) × (d.kind ≡ entry.kind)
     entry_before = from (get_or entries id None) refl asked
       where
-        from : (e : Option Entry) → get_or entries id None ≡ e → IsSomeAnd e (λ e. e.kind ≡ entry.kind) → (d : Entry) × (get_or entries id None ≡ Some d) × (d.kind ≡ entry.kind)
+        from : (e : Option Entry) → get_or entries id None ≡ e → C.IsSomeAnd e (λ e. e.kind ≡ entry.kind) → (d : Entry) × (get_or entries id None ≡ Some d) × (d.kind ≡ entry.kind)
         from None e h = absurd h
         from (Some d) e h = (d, e, h)
 
@@ -173,16 +173,16 @@ module _ {entries : List (Option Entry)} {layout : Layout} {uses : Uses} {gap_ro
     set_changes : ChangesOne id (option_map held (block_with layout.blocks id)) layout new
     set_changes = from (block_with layout.blocks id) refl none some
       where
-        from : (b : Option Block) → block_with layout.blocks id ≡ b → IfNone b (new ≡ layout) → IfSome b (λ b. new ≡ record layout { blocks = replaced (record b { hold = hold }) layout.blocks }) → ChangesOne id (option_map held b) layout new
-        from None e is _ = subst (ChangesOne id None layout) (sym is) (changes_none id None layout e)
+        from : (b : Option Block) → block_with layout.blocks id ≡ b → C.IfNone b (new ≡ layout) → IfSome b (λ b. new ≡ record layout { blocks = replaced (record b { hold = hold }) layout.blocks }) → ChangesOne id (option_map held b) layout new
+        from None e is _ = subst (ChangesOne id None layout) (sym is) (M.changes_none id None layout e)
         from (Some x) e _ is = subst (ChangesOne id (Some (held x)) layout) (sym (is ∙ ap (λ h. record layout { blocks = replaced (record x { hold = h }) layout.blocks }) hold_is))
-            (record { cap = refl; lo = refl; hi = refl; grain = refl; blocks = λ q. with-replaced (held x) layout.blocks q ∙ ap (λ k. cond (k == q) (Some (held x)) (block_with layout.blocks q)) (member_with layout.blocks id x e).1 })
+            (record { cap = refl; lo = refl; hi = refl; grain = refl; blocks = λ q. with-replaced (held x) layout.blocks q ∙ ap (λ k. cond (k == q) (Some (held x)) (block_with layout.blocks q)) (C.member_with layout.blocks id x e).1 })
 
     same_place : (b : Option Block) → option_map (λ (x : Block). x.at) (option_map held b) ≡ option_map (λ (x : Block). x.at) b
     same_place None = refl
     same_place (Some x) = refl
 
-    same_bytes : (memory : List ℕ) (b : Option Block) → option_map (λ (x : Block). slice_range memory x.at (x.at + x.size)) (option_map held b) ≡ option_map (λ (x : Block). slice_range memory x.at (x.at + x.size)) b
+    same_bytes : (memory : List ℕ) (b : Option Block) → option_map (λ (x : Block). C.slice_range memory x.at (x.at + x.size)) (option_map held b) ≡ option_map (λ (x : Block). C.slice_range memory x.at (x.at + x.size)) b
     same_bytes memory None = refl
     same_bytes memory (Some x) = refl
 
@@ -241,7 +241,7 @@ module _ {entries : List (Option Entry)} {layout : Layout} {uses : Uses} {gap_ro
     pub sound_given : IsSound (table_of entries new (without id uses.ids))
     sound_given = subst (λ l. IsSound (table_of entries l (without id uses.ids))) (sym value)
         (subst (λ es. IsSound (table_of es (record layout { blocks = layouts.all_but id layout.blocks }) (without id uses.ids))) same_entries
-        (changed_parts some_parts (Some e) (replicate layout.hi 0) lt_there no_block_left block_goes leaves_order (ordered_arranged (record layout { blocks = layouts.all_but id layout.blocks }) given_ordered) refl).sound)
+        (M.changed_parts some_parts (Some e) (replicate layout.hi 0) lt_there no_block_left block_goes leaves_order (ordered_arranged (record layout { blocks = layouts.all_but id layout.blocks }) given_ordered) refl).sound)
 
     abbrev before : List ℕ → Heap
     before memory = heap_of entries layout uses.ids memory
@@ -262,12 +262,12 @@ module _ {entries : List (Option Entry)} {layout : Layout} {uses : Uses} {gap_ro
         ∙ subst (λ es. heap_of es (record layout { blocks = layouts.all_but id layout.blocks }) (without id uses.ids) memory ≡ absent (before memory) id) same_entries
         (same_heap (after memory) (absent (before memory) id) refl refl refl refl
         (λ q. elim (cases_eq q id) [
-          | inl i ↦ ap (object_at (after memory)) i ∙ object_at_id parts (Some e) memory lt_there no_block_left block_goes leaves_order arranged refl
-              ∙ sym (ap (object_at (absent (before memory) id)) i ∙ get-update_same (before memory).objects id bare ∙ ap (option_map bare) (object_here parts id ∙ ap (option_map (object_in layout.blocks memory id)) there))
-          | inr d ↦ object_at_other parts (Some e) memory lt_there no_block_left block_goes leaves_order arranged refl q (λ i. d (sym i)) refl
-              ∙ sym (get-update_other (before memory).objects id bare q d)
+          | inl i ↦ ap (object_at (after memory)) i ∙ M.object_at_id parts (Some e) memory lt_there no_block_left block_goes leaves_order arranged refl
+              ∙ sym (ap (object_at (absent (before memory) id)) i ∙ C.get-update_same (before memory).objects id bare ∙ ap (option_map bare) (object_here parts id ∙ ap (option_map (object_in layout.blocks memory id)) there))
+          | inr d ↦ M.object_at_other parts (Some e) memory lt_there no_block_left block_goes leaves_order arranged refl q (λ i. d (sym i)) refl
+              ∙ sym (C.get-update_other (before memory).objects id bare q d)
         ])
         (λ q. elim (cases_eq q id) [
-          | inl i ↦ ap (finmap.get (after memory).places) i ∙ place_at_id parts (Some e) memory lt_there no_block_left block_goes leaves_order arranged refl ∙ sym (taken_here (before memory).places id q i)
-          | inr d ↦ place_at_other parts (Some e) memory lt_there no_block_left block_goes leaves_order arranged refl q (λ i. d (sym i)) ∙ sym (taken_other (before memory).places id q d)
+          | inl i ↦ ap (finmap.get (after memory).places) i ∙ M.place_at_id parts (Some e) memory lt_there no_block_left block_goes leaves_order arranged refl ∙ sym (taken_here (before memory).places id q i)
+          | inr d ↦ M.place_at_other parts (Some e) memory lt_there no_block_left block_goes leaves_order arranged refl q (λ i. d (sym i)) ∙ sym (taken_other (before memory).places id q d)
         ]))

@@ -1,7 +1,6 @@
 -- The bytes that an object has in a memory.
 use Rattle.w16_arena.proofs.Common.{◌≡◌, ℕ, ◌+◌, ◌≤◌, List, length, slice_range, refl, Some, None, option_map, ap, ◌∙◌, Block, bytes_at, Table, IsSound, block_with, heap_in, Layout, part, range_part}
-use Rattle.w16_arena.proofs.Parts.{AreParts}
-use Rattle.w16_arena.proofs.Lookups.{bytes_here, ends_in_memory}
+use Rattle.w16_arena.proofs.{Parts.AreParts, Lookups.bytes_here, Lookups.ends_in_memory}
 
 module _ (t : Table) (sound : IsSound t) (memory : List ℕ) (high : t.hi ≤ length memory) (id : ℕ) where
   abbrev layout : Layout

@@ -1,12 +1,11 @@
 -- The first part of a heap at or above an address.
+use Rattle.w16_arena.proofs
+use proofs.Common as C
 use Rattle.std.specs.List.{AllByRecursion as Each}
-use Rattle.w16_arena.proofs.Common.{◌≡◌, ℕ, zero, suc, ◌+◌, ◌-◌, ◌<◌, ◌≤◌, ◌⊎◌, inl, inr, All, IsTrue, IfSome, IsSomeAnd, List, [], ◌∷◌, length, slice_range, MatchOption, Option, Some, None, option_map, slice_get, refl, sym, ap}
-use Rattle.w16_arena.proofs.Common.{◌∙◌, subst, arith, cases_lt, Block, Entry, Item, Owner, IsLaid, IsHole, IsClear, Misses, block_end, is_any, Object, blocks, Table, IsSound, block_with, entry_at, heap_in, object_in, hold_of_entry}
-use Rattle.w16_arena.proofs.Common.{IsItem, IsFirstItem, by_its_id, Member, Each-at, Each-from, Each-from_All, All-from_Each, laid_each, table_block, member_with, length_range, block_member, Layout, rank, clear_from, gap_same, missed}
-use Rattle.w16_arena.proofs.Next.{IsNext, next_is}
-use Rattle.w16_arena.proofs.Listed.{is_listed, listed_with}
-use Rattle.w16_arena.proofs.Lookups.{object_here, place_here, ends_in_memory, holds_at}
-use Rattle.w16_arena.proofs.Parts.{AreParts}
+use proofs.Common.{◌≡◌, ℕ, zero, suc, ◌+◌, ◌-◌, ◌<◌, ◌≤◌, ◌⊎◌, inl, inr, All, IsTrue, IsSomeAnd, List, [], ◌∷◌, length, slice_range, Option, Some, None, option_map, slice_get, refl, sym, ap, ◌∙◌, subst, arith, cases_lt, Block, Entry, Item, Owner, IsHole, Misses, block_end, is_any, blocks}
+use proofs.Common.{Table, block_with, entry_at, heap_in, IsItem, IsFirstItem, by_its_id, Member, Each-at, laid_each, rank}
+use proofs.Lookups.{object_here, place_here, ends_in_memory, holds_at}
+use proofs.{Next.IsNext, Next.next_is, Listed.is_listed, Listed.listed_with, Parts.AreParts}
 
 -- from an address on, up to the high end
 longer : (from high at size a b : ℕ) → from ≤ a → a < b → (at < from) ⊎ (high ≤ at) → Misses at size a b → Misses at size a high
@@ -15,7 +14,7 @@ longer from high at size a b l k (inl s) (inr m) = absurd (omega arith)
 longer from high at size a b l k (inr s) m = inr s
 
 -- of two listed blocks the lower one ends before the other
-blocks_apart : (lo hi : ℕ) (bs : List Block) → IsLaid lo hi bs → (x y : Block) → Member x bs → Member y bs → x.at < y.at → block_end x ≤ y.at
+blocks_apart : (lo hi : ℕ) (bs : List Block) → C.IsLaid lo hi bs → (x y : Block) → Member x bs → Member y bs → x.at < y.at → block_end x ≤ y.at
 blocks_apart lo hi [] laid x y m n l = absurd m
 blocks_apart lo hi (b ∷ bs) laid x y (inl e) (inl f) l = absurd (omega (arith, l, ap (λ (z : Block). z.at) (e ∙ sym f)))
 blocks_apart lo hi (b ∷ bs) laid x y (inl e) (inr n) l = omega (arith, ap block_end e, (Each-at _ bs (laid_each (block_end b) hi bs laid.2) y n).0)
@@ -28,7 +27,7 @@ get_member [] i x h = cc
 get_member (b ∷ bs) zero x h = let same : b ≡ x = cc in inl (sym same)
 get_member (b ∷ bs) (suc i) x h = inr (get_member bs i x h)
 
-pub get_inside : (lo hi : ℕ) (bs : List Block) → IsLaid lo hi bs → hi < 4294967296 → (i : ℕ) (x : Block) → slice_get bs i ≡ Some x → (0 < x.size) × (x.at + x.size < 4294967296)
+pub get_inside : (lo hi : ℕ) (bs : List Block) → C.IsLaid lo hi bs → hi < 4294967296 → (i : ℕ) (x : Block) → slice_get bs i ≡ Some x → (0 < x.size) × (x.at + x.size < 4294967296)
 get_inside lo hi bs laid small i x is =
     let inside : (lo ≤ x.at) × (0 < x.size) × (block_end x ≤ hi) = Each-at (λ x. (lo ≤ x.at) × (0 < x.size) × (block_end x ≤ hi)) bs (laid_each lo hi bs laid) x (get_member bs i x is) in
     (inside.1, let high : x.at + x.size ≤ hi = inside.2 in omega arith)
@@ -39,27 +38,27 @@ item_of x e = record { at = x.at; size = x.size; owner = Some (record { name = x
 
 -- what is told of a block, or of none
 abbrev pub IsPartAt : Table → Option Block → Option Item → Type 0
-IsPartAt t o found = MatchOption o (found ≡ None) (λ b. IsSomeAnd (entry_at t b.id) (λ e. found ≡ Some (item_of b e)))
+IsPartAt t o found = C.MatchOption o (found ≡ None) (λ b. IsSomeAnd (entry_at t b.id) (λ e. found ≡ Some (item_of b e)))
 
 -- the table's blocks
-abbrev layout_in : Table → Layout
+abbrev layout_in : Table → C.Layout
 layout_in t = record { cap = length t.entries; lo = t.lo; hi = t.hi; grain = t.grain; blocks = t.blocks }
 
-module _ {t : Table} (sound : IsSound t) (memory : List ℕ) (whole : t.hi ≤ length memory) where
+module _ {t : Table} (sound : C.IsSound t) (memory : List ℕ) (whole : t.hi ≤ length memory) where
   parts : AreParts t.entries (layout_in t) t.order memory
   parts = record { sound = sound; ids = refl; high = whole }
 
   heap_block : (x : Block) → Member x t.blocks → Member x (blocks (heap_in t memory))
-  heap_block x m = block_member (heap_in t memory) x (table_block t sound.table memory whole x m)
+  heap_block x m = C.block_member (heap_in t memory) x (C.table_block t sound.table memory whole x m)
 
   -- a hole of the one list is one of the other
   module _ (xs ys : List Block) (into : (x : Block) → Member x xs → Member x ys) (back : (x : Block) → Member x ys → Member x xs) where
-    same_clear : (us vs : List Block) (a b : ℕ) → ((x : Block) → Member x vs → Member x us) → IsClear is_any t.lo t.hi us a b → IsClear is_any t.lo t.hi vs a b
+    same_clear : (us vs : List Block) (a b : ℕ) → ((x : Block) → Member x vs → Member x us) → C.IsClear is_any t.lo t.hi us a b → C.IsClear is_any t.lo t.hi vs a b
     same_clear us vs a b from clear = record {
       above = clear.above;
       below = clear.below;
-      misses = All-from_Each (λ x. IsTrue (is_any x) → Misses x.at x.size a b) vs (Each-from (λ x. IsTrue (is_any x) → Misses x.at x.size a b) vs
-          (λ x m. Each-at (λ x. IsTrue (is_any x) → Misses x.at x.size a b) us (Each-from_All (λ x. IsTrue (is_any x) → Misses x.at x.size a b) us clear.misses) x (from x m)));
+      misses = C.All-from_Each (λ x. IsTrue (is_any x) → Misses x.at x.size a b) vs (C.Each-from (λ x. IsTrue (is_any x) → Misses x.at x.size a b) vs
+          (λ x m. Each-at (λ x. IsTrue (is_any x) → Misses x.at x.size a b) us (C.Each-from_All (λ x. IsTrue (is_any x) → Misses x.at x.size a b) us clear.misses) x (from x m)));
     }
 
     same_hole : (a b : ℕ) → IsHole t.lo t.hi xs a b → IsHole t.lo t.hi ys a b
@@ -82,9 +81,9 @@ module _ {t : Table} (sound : IsSound t) (memory : List ℕ) (whole : t.hi ≤ l
     refl,
     record {
       place = place_here parts x.id ∙ ap (option_map (λ (x : Block). x.at)) here;
-      object = subst (λ (o : Option Object). IsSomeAnd o (λ o. (option_map length o.bytes ≡ Some x.size) × (e.kind ≡ o.kind) × (e.locks ≡ o.locks)))
-          (sym (object_here parts x.id ∙ ap (option_map (object_in t.blocks memory x.id)) is))
-          (ap (λ (b : Option Block). option_map (length {A = ℕ}) (option_map (λ (x : Block). slice_range memory x.at (x.at + x.size)) b)) here ∙ ap Some (length_range memory x.at x.size (ends_in_memory parts x.id x here).1), refl, refl);
+      object = subst (λ (o : Option C.Object). IsSomeAnd o (λ o. (option_map length o.bytes ≡ Some x.size) × (e.kind ≡ o.kind) × (e.locks ≡ o.locks)))
+          (sym (object_here parts x.id ∙ ap (option_map (C.object_in t.blocks memory x.id)) is))
+          (ap (λ (b : Option Block). option_map (length {A = ℕ}) (option_map (λ (x : Block). slice_range memory x.at (x.at + x.size)) b)) here ∙ ap Some (C.length_range memory x.at x.size (ends_in_memory parts x.id x here).1), refl, refl);
     },
   )
     where
@@ -100,17 +99,17 @@ module _ {t : Table} (sound : IsSound t) (memory : List ℕ) (whole : t.hi ≤ l
     where
       from : (b : Option Block) (e : Option Entry) → block_with t.blocks item.0 ≡ b → entry_at t item.0 ≡ e → IsBlockItem (record { at = at; size = size; owner = Some owner })
       from None e none is = let no : ◌≡◌ {A = Option ℕ} None (Some at) = sym (place_here parts item.0 ∙ ap (option_map (λ (x : Block). x.at)) none) ∙ item.2.place in cc
-      from (Some x) None here none = absurd (subst (λ d. IsSomeAnd d (λ d. x.hold ≡ hold_of_entry d)) none (holds_at t.entries (layout_in t) t.order sound item.0 x here))
+      from (Some x) None here none = absurd (subst (λ d. IsSomeAnd d (λ d. x.hold ≡ C.hold_of_entry d)) none (holds_at t.entries (layout_in t) t.order sound item.0 x here))
       from (Some x) (Some e) here is =
-          let m : Member x t.blocks × (x.id ≡ item.0) = member_with t.blocks item.0 x here in
+          let m : Member x t.blocks × (x.id ≡ item.0) = C.member_with t.blocks item.0 x here in
           let place : ◌≡◌ {A = Option ℕ} (Some x.at) (Some at) = sym (place_here parts item.0 ∙ ap (option_map (λ (x : Block). x.at)) here) ∙ item.2.place in
           let same_at : x.at ≡ at = cc in
           let object : (option_map (length {A = ℕ}) (option_map (λ (x : Block). slice_range memory x.at (x.at + x.size)) (block_with t.blocks item.0)) ≡ Some size) × (owner.kind ≡ e.kind) × (owner.locks ≡ e.locks) =
-          subst (λ (o : Option Object). IsSomeAnd o (λ o. (option_map length o.bytes ≡ Some size) × (owner.kind ≡ o.kind) × (owner.locks ≡ o.locks))) (object_here parts item.0 ∙ ap (option_map (object_in t.blocks memory item.0)) is) item.2.object in
+          subst (λ (o : Option C.Object). IsSomeAnd o (λ o. (option_map length o.bytes ≡ Some size) × (owner.kind ≡ o.kind) × (owner.locks ≡ o.locks))) (object_here parts item.0 ∙ ap (option_map (C.object_in t.blocks memory item.0)) is) item.2.object in
           let sizes : ◌≡◌ {A = Option ℕ} (Some x.size) (Some size) = sym
           (ap (λ (b : Option Block). option_map (length {A = ℕ})
           (option_map (λ (x : Block). slice_range memory x.at (x.at + x.size)) b)) here ∙ ap Some
-          (length_range memory x.at x.size (ends_in_memory parts item.0 x here).1)) ∙ object.0 in
+          (C.length_range memory x.at x.size (ends_in_memory parts item.0 x here).1)) ∙ object.0 in
           let same_size : x.size ≡ size = cc in
           let name : owner.name ≡ x.id = item.1 ∙ sym m.1 in
           let one : ◌≡◌ {A = Item} (record { at = at; size = size; owner = Some owner }) (item_of x e) =
@@ -125,12 +124,12 @@ module _ {t : Table} (sound : IsSound t) (memory : List ℕ) (whole : t.hi ≤ l
   apart one two = by_owner one.at one.size one.owner two.at two.size two.owner
     where
       hole_misses : (a b : ℕ) → IsHole t.lo t.hi (blocks (heap_in t memory)) a b → (x : Block) → Member x t.blocks → Misses x.at x.size a b
-      hole_misses a b hole x m = missed is_any t.lo t.hi t.blocks sized a b (hole_in_table a b hole).clear x m refl
+      hole_misses a b hole x m = C.missed is_any t.lo t.hi t.blocks sized a b (hole_in_table a b hole).clear x m refl
 
       by_owner : (a m : ℕ) (o : Option Owner) (c n : ℕ) (p : Option Owner) → IsItem by_its_id (heap_in t memory) (record { at = a; size = m; owner = o })
           → IsItem by_its_id (heap_in t memory) (record { at = c; size = n; owner = p }) → a < c → a + m ≤ c
       by_owner a m None c n None one other l = elim (cases_lt c (a + m)) [
-        | inl inside ↦ let one_hole = (gap_same is_any t.lo t.hi t.blocks sized a (a + m) c (c + n) c (hole_in_table a (a + m) one) (hole_in_table c (c + n) other) (omega arith) inside (omega arith) other.some).0 in absurd (omega (arith, one_hole))
+        | inl inside ↦ let one_hole = (C.gap_same is_any t.lo t.hi t.blocks sized a (a + m) c (c + n) c (hole_in_table a (a + m) one) (hole_in_table c (c + n) other) (omega arith) inside (omega arith) other.some).0 in absurd (omega (arith, one_hole))
         | inr le ↦ le
       ]
       by_owner a m None c n (Some p) one other l =
@@ -153,16 +152,16 @@ module _ {t : Table} (sound : IsSound t) (memory : List ℕ) (whole : t.hi ≤ l
   )
     where
       each : (x : Block) → Member x t.blocks → (x.at < from) ⊎ (b ≤ x.at)
-      each = Each-at (λ x. (x.at < from) ⊎ (b ≤ x.at)) t.blocks (Each-from_All (λ x. (x.at < from) ⊎ (b ≤ x.at)) t.blocks lowest)
+      each = Each-at (λ x. (x.at < from) ⊎ (b ≤ x.at)) t.blocks (C.Each-from_All (λ x. (x.at < from) ⊎ (b ≤ x.at)) t.blocks lowest)
 
       not_before : (c d : ℕ) → from ≤ c → c < a → IsHole t.lo t.hi t.blocks c d → ⊥
       not_before c d l under other =
-          let both : (c ≡ a) × (b ≡ b) = hole.maximal c b (omega arith) (omega arith) (clear_from is_any t.lo t.hi t.blocks sized c b other.clear.above hole.clear.below
-          (λ x m any. longer from b x.at x.size c d l other.some (each x m) (missed is_any t.lo t.hi t.blocks sized c d other.clear x m any))) in
+          let both : (c ≡ a) × (b ≡ b) = hole.maximal c b (omega arith) (omega arith) (C.clear_from is_any t.lo t.hi t.blocks sized c b other.clear.above hole.clear.below
+          (λ x m any. longer from b x.at x.size c d l other.some (each x m) (C.missed is_any t.lo t.hi t.blocks sized c d other.clear x m any))) in
           omega (arith, both.0, under)
 
       same_end : (d : ℕ) → IsHole t.lo t.hi t.blocks a d → d ≡ b
-      same_end d other = (gap_same is_any t.lo t.hi t.blocks sized a d a b a other hole (omega arith) other.some (omega arith) hole.some).1
+      same_end d other = (C.gap_same is_any t.lo t.hi t.blocks sized a d a b a other hole (omega arith) other.some (omega arith) hole.some).1
 
       others : (at size : ℕ) (owner : Option Owner) → IsItem by_its_id (heap_in t memory) (record { at = at; size = size; owner = owner }) → from ≤ at
           → (◌≡◌ {A = Item} (record { at = at; size = size; owner = owner }) (record { at = a; size = b - a; owner = None })) ⊎ (a < at)
@@ -223,12 +222,12 @@ module _ {t : Table} (sound : IsSound t) (memory : List ℕ) (whole : t.hi ≤ l
       turn (Some b) next none part = owned b (entry_at t b.id) refl next.0 next.1 next.2 none part
 
 -- a block's part has bytes, and ends where a double word can tell
-pub part_inside : (t : Table) → IsSound t → t.hi < 4294967296 → (i : ℕ) (found : Option Item) → IsPartAt t (slice_get t.blocks i) found
-    → IfSome found (λ item. (0 < item.size) × (item.at + item.size < 4294967296))
+pub part_inside : (t : Table) → C.IsSound t → t.hi < 4294967296 → (i : ℕ) (found : Option Item) → IsPartAt t (slice_get t.blocks i) found
+    → C.IfSome found (λ item. (0 < item.size) × (item.at + item.size < 4294967296))
 part_inside t sound small i found part = turn (slice_get t.blocks i) refl part
   where
     Ends : Option Item → Type 0
-    Ends found = IfSome found (λ item. (0 < item.size) × (item.at + item.size < 4294967296))
+    Ends found = C.IfSome found (λ item. (0 < item.size) × (item.at + item.size < 4294967296))
 
     owned : (b : Block) (d : Option Entry) → (0 < b.size) × (b.at + b.size < 4294967296) → IsSomeAnd d (λ e. found ≡ Some (item_of b e)) → Ends found
     owned b None inside h = absurd h

@@ -1,5 +1,6 @@
 -- An id's block, in a list that was changed.
-use Rattle.w16_arena.proofs.Common.{others_differ, ◌≡◌, ◌≢◌, ℕ, ◌==◌, List, [], ◌∷◌, cond, Option, Some, None, refl, ap, ◌∙◌, inl, inr, AllByRecursion, cases_lt, lt-ltb, le-ltb, eqb_tells, Block, block_with, placed, all_but, replaced}
+use Rattle.w16_arena.proofs.Common as C
+use Rattle.w16_arena.proofs.Common.{◌≡◌, ◌≢◌, ℕ, ◌==◌, List, [], ◌∷◌, cond, Some, None, refl, ap, ◌∙◌, inl, inr, eqb_tells, Block, block_with, all_but}
 use Rattle.std.proofs.lemmas.Bool.{ne_eqb}
 
 pub with-without : (id : ℕ) (bs : List Block) (q : ℕ) → block_with (all_but id bs) q ≡ cond (id == q) None (block_with bs q)
@@ -17,18 +18,18 @@ with-without id (b ∷ bs) q =
       ])
     ]
 
-pub with-placed : (b : Block) (bs : List Block) (q : ℕ) → AllByRecursion (λ c. c.id ≢ b.id) bs → block_with (placed b bs) q ≡ cond (b.id == q) (Some b) (block_with bs q)
+pub with-placed : (b : Block) (bs : List Block) (q : ℕ) → C.AllByRecursion (λ c. c.id ≢ b.id) bs → block_with (C.placed b bs) q ≡ cond (b.id == q) (Some b) (block_with bs q)
 with-placed b [] q free = refl
-with-placed b (c ∷ cs) q free = elim (cases_lt c.at b.at) [
-  | inr above ↦ rw (le-ltb c.at b.at above) refl
-  | inl below ↦ rw (lt-ltb c.at b.at below) (elim (eqb_tells c.id q) [
+with-placed b (c ∷ cs) q free = elim (C.cases_lt c.at b.at) [
+  | inr above ↦ rw (C.le-ltb c.at b.at above) refl
+  | inl below ↦ rw (C.lt-ltb c.at b.at below) (elim (eqb_tells c.id q) [
     | inl here ↦ let e : b.id ≢ q = λ h. free.0 (cc) in rw (here.0, ne_eqb b.id q e) refl
     | inr there ↦ rw there.0 (with-placed b cs q free.1)
   ])
 ]
 
-pub with-replaced : (b : Block) (bs : List Block) (q : ℕ) → block_with (replaced b bs) q ≡ cond (b.id == q) (Some b) (block_with bs q)
-with-replaced b bs q = with-placed b (all_but b.id bs) q (others_differ b.id bs) ∙ elim (eqb_tells b.id q) [
+pub with-replaced : (b : Block) (bs : List Block) (q : ℕ) → block_with (C.replaced b bs) q ≡ cond (b.id == q) (Some b) (block_with bs q)
+with-replaced b bs q = with-placed b (all_but b.id bs) q (C.others_differ b.id bs) ∙ elim (eqb_tells b.id q) [
   | inl same ↦ rw same.0 refl
   | inr other ↦ rw other.0 (with-without b.id bs q ∙ rw other.0 refl)
 ]
@@ -37,6 +38,6 @@ with-replaced b bs q = with-placed b (all_but b.id bs) q (others_differ b.id bs)
 pub without_absent : (id : ℕ) (bs : List Block) → block_with bs id ≡ None → all_but id bs ≡ bs
 without_absent id [] none = refl
 without_absent id (b ∷ bs) none = elim (eqb_tells b.id id) [
-  | inl same ↦ let some : ◌≡◌ {A = Option Block} (Some b) None = rw same.0 at none in cc
+  | inl same ↦ let some : ◌≡◌ {A = C.Option Block} (Some b) None = rw same.0 at none in cc
   | inr other ↦ rw other.0 (ap (λ cs. b ∷ cs) (without_absent id bs (rw other.0 at none)))
 ]

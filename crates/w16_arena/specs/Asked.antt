@@ -1,18 +1,9 @@
 -- What a request for room leaves beside its step: who was discarded, who stands elsewhere, and what was moved.
 use Rattle.std.specs.Prelude.{◌≡◌, ◌≢◌, ℕ, ◌+◌, ◌<◌, ◌≤◌, ◌⊎◌, ◌&&◌, Bool, not, true, nat_le, if◌then◌else◌, List, length, take, Option, None, Some, IfSome, IsSomeAnd}
-use Rattle.std.specs.FinMap as finmap
-use Rattle.w16_model.specs.declared.Span.{Span}
-use Rattle.w16_model.specs.declared.RoomOptions.{RoomOptions}
-use Rattle.w16_model.specs.Gap.{is_pinned, longest_hole}
-use Rattle.w16_model.specs.Discards.{eligible, growth_for}
-use Rattle.w16_model.specs.Heap.{Heap, Object, blocks, object_at, is_pinned_object}
-use Rattle.w16_model.specs.Changes.{with_ordered}
 use Rattle.w16_model.specs.Request.{Reallocates, Settles, stays_for, moved_bytes, discards_needed, snapshot_of, discarded}
-use Rattle.w16_model.specs.Table.{Table, heap_in}
-use Rattle.w16_arena.specs.Growth.{may_grow}
-use Rattle.w16_arena.specs.declared.new_place.Placed.{Placed}
-use Rattle.w16_arena.specs.declared.without_discard.Compacted.{Compacted}
-use Rattle.w16_arena.specs.State.{ArenaState, IsSameRange}
+use Rattle.w16_model.specs.{declared.Span.Span, declared.RoomOptions.RoomOptions, Gap.is_pinned, Gap.longest_hole, Discards.eligible, Discards.growth_for, Heap.Heap, Heap.Object, Heap.blocks, Heap.object_at, Heap.is_pinned_object, Changes.with_ordered, Table.Table, Table.heap_in}
+use Rattle.w16_arena.specs.{Growth.may_grow, declared.new_place.Placed.Placed, declared.without_discard.Compacted.Compacted, State.ArenaState, State.IsSameRange}
+use Rattle.std.specs.FinMap as finmap
 
 -- the first k that a request about h may discard
 abbrev pub first_eligible : Heap → ℕ → Option ℕ → List ℕ

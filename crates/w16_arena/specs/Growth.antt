@@ -1,13 +1,9 @@
 -- An object that grows: whether there is a place for it, looked at as if it were absent, and what it has there.
 use Rattle.std.specs.Prelude.{ℕ, ◌+◌, ◌≡◌, ◌==◌, ◌||◌, Bool, if◌then◌else◌, nat_le, List, []}
-use Rattle.w16_model.specs.declared.Block.{Block}
-use Rattle.w16_model.specs.Bytes.{part}
-use Rattle.w16_model.specs.Discards.{fits_in_place, snapshot}
-use Rattle.w16_model.specs.Gap.{room, longest_hole}
+use Rattle.w16_model.specs.{declared.Block.Block, Bytes.part, Discards.fits_in_place, Discards.snapshot, Gap.room, Gap.longest_hole}
 use Rattle.w16_blocks.specs.Layout.{Layout, IsOrdered, all_but, placed}
 use Rattle.w16_compact.specs.Gather.{moved_between}
-use Rattle.w16_arena.specs.declared.new_place.Placed.{Placed}
-use Rattle.w16_arena.specs.NewPlace.{AreMoved, AreFreeBytes}
+use Rattle.w16_arena.specs.{declared.new_place.Placed.Placed, NewPlace.AreMoved, NewPlace.AreFreeBytes}
 
 -- a layout without an object's block
 abbrev pub but_for : ℕ → Layout → Layout

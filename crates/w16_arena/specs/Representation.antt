@@ -1,7 +1,6 @@
 -- What the code of an arena keeps.
 use Rattle.std.specs.Prelude.{◌≡◌, ◌≤◌, ℕ, List, length, Option}
-use Rattle.w16_model.specs.declared.Entry.{Entry}
-use Rattle.w16_model.specs.Table.{IsSound}
+use Rattle.w16_model.specs.{declared.Entry.Entry, Table.IsSound}
 use Rattle.w16_blocks.specs.Layout.{Layout}
 use Rattle.w16_lru.specs.Uses.{Uses}
 use Rattle.w16_arena.specs.State.{table_of}

@@ -1,21 +1,10 @@
 -- What an arena is, and a step of its heap in every memory.
 use Rattle.std.specs.Prelude.{◌≡◌, ℕ, ◌≤◌, ◌&&◌, if◌then◌else◌, Bool, List, [], length, replicate, Option, None, Result}
-use Rattle.w16_model.specs.declared.Entry.{Entry}
-use Rattle.w16_model.specs.declared.Refusal.{Refusal}
-use Rattle.w16_model.specs.declared.Block.{Block}
-use Rattle.w16_model.specs.declared.Span.{Span}
-use Rattle.w16_model.specs.Gap.{holes}
-use Rattle.w16_model.specs.Heap.{Heap, Object}
-use Rattle.w16_model.specs.Changes.{newest, without}
-use Rattle.w16_model.specs.OneObject.{after_newest, after_oldest}
-use Rattle.w16_model.specs.Table.{Table, IsSound, heap_in}
 use Rattle.std.specs.Borrow.{GName}
-use Rattle.w16_blocks.specs.Layout.{Layout}
-use Rattle.w16_blocks.specs.Stay.{Leaves}
-use Rattle.w16_lru.specs.declared.End.{End}
-use Rattle.w16_lru.specs.declared.End.TheVariants.{Oldest, Newest}
-use Rattle.w16_compact.specs.Gather.{contents}
-use Rattle.w16_compact.specs.Rest.{IsSameRest}
+use Rattle.w16_model.specs.{declared.Entry.Entry, declared.Refusal.Refusal, declared.Block.Block, declared.Span.Span, Gap.holes, Heap.Heap, Heap.Object, Changes.newest, Changes.without, OneObject.after_newest, OneObject.after_oldest, Table.Table, Table.IsSound, Table.heap_in}
+use Rattle.w16_blocks.specs.{Layout.Layout, Stay.Leaves}
+use Rattle.w16_lru.specs.{declared.End.End, declared.End.TheVariants.Oldest, declared.End.TheVariants.Newest}
+use Rattle.w16_compact.specs.{Gather.contents, Rest.IsSameRest}
 
 -- the table of an arena's heap, and the ids that its last request discarded, oldest first
 pub record ArenaState : Type 0 where

@@ -1,7 +1,6 @@
 -- A block that ends at a place is the last below it.
 use Rattle.w16_blocks.proofs.Common.{ℕ, ◌≡◌, ◌+◌, ◌<◌, ◌≤◌, ◌⊎◌, List, Some, arith, ap, subst, ◌∙◌, sym, inl, inr, Block, Each-map, block_end, block_with, blocks_in, slot_of, AreTables, IsLastBelow}
-use Rattle.w16_blocks.proofs.Cells.{told_with}
-use Rattle.w16_blocks.proofs.Lifting.{around}
+use Rattle.w16_blocks.proofs.{Cells.told_with, Lifting.around}
 
 pub last_ending : {cap lo hi g : ℕ} {slots : List Block} {cells : List ℕ} → AreTables cap lo hi g slots cells → (id : ℕ) (b : Block) → slot_of slots id ≡ b → 0 < b.size → (place : ℕ) → b.at + b.size ≡ place
     → IsLastBelow (blocks_in slots cells) place b

@@ -1,12 +1,11 @@
 -- What is kept where a block is added, taken away or changed.
-use Rattle.w16_blocks.proofs.Common.{ℕ, suc, ◌≡◌, ◌+◌, ◌-◌, ◌*◌, ◌^◌, ◌<◌, ◌≤◌, List, length, set, Some, sum_by, arith, refl, sym, ap, ◌∙◌, subst, slice_index, Block, Hold, Span, block_end, holes, IsMultiple, block_with}
-use Rattle.w16_blocks.proofs.Common.{Range, IsFree, IsUsed, IsPart, taken, joined, Layout, Fits, FitsFor, placed, all_but, replaced, no_block, slot_of, blocks_in, layout_in, pins_of, pins_in, AreTables, BlocksInvariant}
-use Rattle.w16_blocks.proofs.Cells.{with_cell}
-use Rattle.w16_blocks.proofs.Place.{sum-placed}
-use Rattle.w16_blocks.proofs.Remove.{with_id, sum-all_but}
-use Rattle.w16_blocks.proofs.Ordered.{IsOrdered-placed, IsOrdered-all_but, sum_fits, pins_small, pins_fit}
-use Rattle.w16_blocks.proofs.Tables.{blocks_in-add, AreTables-add, blocks_in-drop, AreTables-drop, blocks_in-move, AreTables-move, cell_at, unit_told, same_cells}
-use Rattle.w16_blocks.proofs.Step.{lies, grained_known, free_added, holes_added, part_known, used_known, holes_left, holes_same, fits_itself, part_more, part_less, free_more, used_less, holes_more, holes_less}
+use Rattle.w16_blocks.proofs
+use proofs.Tables as M
+use proofs.Step as C
+use proofs.Common.{ℕ, suc, ◌≡◌, ◌+◌, ◌-◌, ◌*◌, ◌^◌, ◌<◌, ◌≤◌, List, length, set, Some, sum_by, arith, refl, sym, ap, ◌∙◌, subst, slice_index, Block, Hold, Span, block_end, holes, IsMultiple, block_with, Range, IsFree, IsUsed, IsPart, taken, joined, Layout, Fits, FitsFor, placed, all_but}
+use proofs.Common.{replaced, no_block, slot_of, blocks_in, layout_in, pins_of, pins_in, AreTables, BlocksInvariant}
+use proofs.Ordered.{IsOrdered-placed, IsOrdered-all_but, sum_fits, pins_small, pins_fit}
+use proofs.{Cells.with_cell, Place.sum-placed, Remove.with_id, Remove.sum-all_but, Step.lies}
 
 abbrev pub size_of : Block → ℕ
 size_of b = b.size
@@ -27,7 +26,7 @@ module _ {cap lo hi g : ℕ} {slots : List Block} {cells : List ℕ} {free pinne
     fits_now = subst (λ (m : Layout). Fits m b) (sym is) fits_l
 
     pub free_for : IsFree b.at (b.at + b.size) kept
-    free_for = subst (IsFree b.at (b.at + b.size)) (sym k.between) (free_added now b fits_now k.tables.ordered)
+    free_for = subst (IsFree b.at (b.at + b.size)) (sym k.between) (C.free_added now b fits_now k.tables.ordered)
 
     pub size_below : b.size ≤ free
     size_below =
@@ -43,20 +42,20 @@ module _ {cap lo hi g : ℕ} {slots : List Block} {cells : List ℕ} {free pinne
 
     module _ (u : ℕ) {n : ℕ} (at : b.at ≡ lo + g * u) (told : n ≡ suc b.id) where
       blocks_added : blocks_in (set slots b.id b) (set cells u n) ≡ placed b now.blocks
-      blocks_added = ap (λ (m : ℕ). blocks_in (set slots b.id b) (set cells u m)) told ∙ blocks_in-add k.tables long u fits_now at
+      blocks_added = ap (λ (m : ℕ). blocks_in (set slots b.id b) (set cells u m)) told ∙ M.blocks_in-add k.tables long u fits_now at
 
       pub layout_added : layout_in cap lo hi g (set slots b.id b) (set cells u n) ≡ record l { blocks = placed b l.blocks }
       layout_added = with_blocks (placed b) blocks_added
 
       pub BlocksInvariant-add : {p : ℕ} {range' : Range} {kept' : List Span} → p ≡ pins_in b → range' ≡ range → kept' ≡ taken b.at (b.at + b.size) kept → BlocksInvariant cap lo hi g (set slots b.id b) (set cells u n) (free - b.size) (pinned + p) range' kept'
       BlocksInvariant-add pins same takes = record {
-        tables = subst (λ (m : ℕ). AreTables cap lo hi g (set slots b.id b) (set cells u m)) (sym told) (AreTables-add k.tables long u fits_now at);
+        tables = subst (λ (m : ℕ). AreTables cap lo hi g (set slots b.id b) (set cells u m)) (sym told) (M.AreTables-add k.tables long u fits_now at);
         counted =
             let sum = ap (sum_by size_of) blocks_added ∙ sum-placed size_of b now.blocks in
             let counted = k.counted in let size = size_below in omega arith;
         pins = let sum = ap (sum_by pins_in) blocks_added ∙ sum-placed pins_in b now.blocks in let counted = k.pins in omega arith;
         ranged = same ∙ k.ranged;
-        between = takes ∙ ap (taken b.at (b.at + b.size)) k.between ∙ holes_added now b fits_now k.tables.ordered ∙ ap (holes lo hi) (sym blocks_added);
+        between = takes ∙ ap (taken b.at (b.at + b.size)) k.between ∙ C.holes_added now b fits_now k.tables.ordered ∙ ap (holes lo hi) (sym blocks_added);
       }
 
   -- an id's block
@@ -68,13 +67,13 @@ module _ {cap lo hi g : ℕ} {slots : List Block} {cells : List ℕ} {free pinne
     lies_in = lies now id x known_now k.tables.ordered
 
     pub place_grained : IsMultiple g x.at
-    place_grained = (grained_known now id x known_now k.tables.ordered).0
+    place_grained = (C.grained_known now id x known_now k.tables.ordered).0
 
     pub part_kept : IsPart range x.at x.size
-    part_kept = subst (λ (r : Range). IsPart r x.at x.size) (sym k.ranged) (part_known now id x known_now k.tables.ordered)
+    part_kept = subst (λ (r : Range). IsPart r x.at x.size) (sym k.ranged) (C.part_known now id x known_now k.tables.ordered)
 
     pub used_kept : IsUsed x.at (x.at + x.size) kept
-    used_kept = subst (IsUsed x.at (x.at + x.size)) (sym k.between) (used_known now id x known_now k.tables.ordered)
+    used_kept = subst (IsUsed x.at (x.at + x.size)) (sym k.between) (C.used_known now id x known_now k.tables.ordered)
 
     pub sum_split : sum_by size_of now.blocks ≡ x.size + sum_by size_of (all_but id now.blocks)
     sum_split = sum-all_but cap size_of id x now.blocks k.tables.ordered.named known_now
@@ -98,24 +97,24 @@ module _ {cap lo hi g : ℕ} {slots : List Block} {cells : List ℕ} {free pinne
     -- it begins in a unit
     module _ (u : ℕ) (at : x.at ≡ lo + g * u) where
       pub cell_is : slice_index cells u ≡ suc id
-      cell_is = cell_at k.tables long u known_now at
+      cell_is = M.cell_at k.tables long u known_now at
 
       pub unit_inside : u < length cells
-      unit_inside = unit_told k.tables long u cell_is
+      unit_inside = M.unit_told k.tables long u cell_is
 
       blocks_dropped : blocks_in (set slots id no_block) (set cells u 0) ≡ all_but id now.blocks
-      blocks_dropped = blocks_in-drop k.tables long u cell_is
+      blocks_dropped = M.blocks_in-drop k.tables long u cell_is
 
       pub layout_dropped : layout_in cap lo hi g (set slots id no_block) (set cells u 0) ≡ record l { blocks = all_but id l.blocks }
       layout_dropped = with_blocks (all_but id) blocks_dropped
 
       pub BlocksInvariant-drop : {p : ℕ} {range' : Range} {kept' : List Span} → p ≡ pins_in x → range' ≡ range → kept' ≡ joined x.at (x.at + x.size) kept → BlocksInvariant cap lo hi g (set slots id no_block) (set cells u 0) (free + x.size) (pinned - p) range' kept'
       BlocksInvariant-drop pins same joins = record {
-        tables = AreTables-drop k.tables long u cell_is;
+        tables = M.AreTables-drop k.tables long u cell_is;
         counted = let sum = ap (sum_by size_of) blocks_dropped in let split = sum_split in let counted = k.counted in omega arith;
         pins = let sum = ap (sum_by pins_in) blocks_dropped in let split = pins_split in let counted = k.pins in omega arith;
         ranged = same ∙ k.ranged;
-        between = joins ∙ ap (joined x.at (x.at + x.size)) k.between ∙ holes_left now id x known_now k.tables.ordered ∙ ap (holes lo hi) (sym blocks_dropped);
+        between = joins ∙ ap (joined x.at (x.at + x.size)) k.between ∙ C.holes_left now id x known_now k.tables.ordered ∙ ap (holes lo hi) (sym blocks_dropped);
       }
 
   -- a block in place of the one of its id
@@ -125,12 +124,12 @@ module _ {cap lo hi g : ℕ} {slots : List Block} {cells : List ℕ} {free pinne
 
     module _ (u v : ℕ) (tells : slice_index cells u ≡ suc b.id) (at : b.at ≡ lo + g * v) where
       pub blocks_moved : blocks_in (set slots b.id b) (set (set cells u 0) v (suc b.id)) ≡ replaced b now.blocks
-      blocks_moved = blocks_in-move k.tables long u v tells fits_for at
+      blocks_moved = M.blocks_in-move k.tables long u v tells fits_for at
 
       pub BlocksInvariant-move : {free' pinned' : ℕ} {range' : Range} {kept' : List Span} → free' + b.size ≡ free + x.size → pinned' + pins_in x ≡ pinned + pins_in b → range' ≡ range → kept' ≡ holes lo hi (replaced b now.blocks)
           → BlocksInvariant cap lo hi g (set slots b.id b) (set (set cells u 0) v (suc b.id)) free' pinned' range' kept'
       BlocksInvariant-move counts pins same leaves = record {
-        tables = AreTables-move k.tables long u v tells fits_for at;
+        tables = M.AreTables-move k.tables long u v tells fits_for at;
         counted =
             let sum = ap (sum_by size_of) blocks_moved ∙ sum-placed size_of b (all_but b.id now.blocks) in
             let split = sum_split _ known_l in let counted = k.counted in omega arith;
@@ -150,7 +149,7 @@ module _ {cap lo hi g : ℕ} {slots : List Block} {cells : List ℕ} {free pinne
       at_cell = let begins = (k.tables.begun cell.0 b.id cell.1).at in let place = ap (λ (c : Block). c.at) cell.2 in omega arith
 
       pub blocks_in_place : blocks_in (set slots b.id b) cells ≡ replaced b now.blocks
-      blocks_in_place = ap (blocks_in (set slots b.id b)) (sym (same_cells cells cell.0 b.id cell.1)) ∙ blocks_moved cell.0 cell.0 cell.1 at_cell
+      blocks_in_place = ap (blocks_in (set slots b.id b)) (sym (M.same_cells cells cell.0 b.id cell.1)) ∙ blocks_moved cell.0 cell.0 cell.1 at_cell
 
       pub layout_in_place : layout_in cap lo hi g (set slots b.id b) cells ≡ record l { blocks = replaced b l.blocks }
       layout_in_place = with_blocks (replaced b) blocks_in_place
@@ -158,7 +157,7 @@ module _ {cap lo hi g : ℕ} {slots : List Block} {cells : List ℕ} {free pinne
       pub BlocksInvariant-place : {free' pinned' : ℕ} {range' : Range} {kept' : List Span} → free' + b.size ≡ free + x.size → pinned' + pins_in x ≡ pinned + pins_in b → range' ≡ range
           → kept' ≡ holes lo hi (replaced b now.blocks) → BlocksInvariant cap lo hi g (set slots b.id b) cells free' pinned' range' kept'
       BlocksInvariant-place {free'} {pinned'} {range'} {kept'} counts pins same leaves =
-          subst (λ (cs : List ℕ). BlocksInvariant cap lo hi g (set slots b.id b) cs free' pinned' range' kept') (same_cells cells cell.0 b.id cell.1) (BlocksInvariant-move cell.0 cell.0 cell.1 at_cell counts pins same leaves)
+          subst (λ (cs : List ℕ). BlocksInvariant cap lo hi g (set slots b.id b) cs free' pinned' range' kept') (M.same_cells cells cell.0 b.id cell.1) (BlocksInvariant-move cell.0 cell.0 cell.1 at_cell counts pins same leaves)
 
   -- an id's block with another hold
   module _ (id : ℕ) {x : Block} (lt : id < l.cap) (known_l : block_with l.blocks id ≡ Some x) (hold : Hold) where
@@ -172,14 +171,14 @@ module _ {cap lo hi g : ℕ} {slots : List Block} {cells : List ℕ} {free pinne
     held = record x { hold = hold }
 
     fits_held : FitsFor l held
-    fits_held = subst (λ (m : Layout). FitsFor m held) is (fits_itself now x hold (let same = own_id in let cap_is = ap (λ (m : Layout). m.cap) is in omega arith) (known_now _ known_own) k.tables.ordered)
+    fits_held = subst (λ (m : Layout). FitsFor m held) is (C.fits_itself now x hold (let same = own_id in let cap_is = ap (λ (m : Layout). m.cap) is in omega arith) (known_now _ known_own) k.tables.ordered)
 
     pub layout_held : layout_in cap lo hi g (set slots id held) cells ≡ record l { blocks = replaced held l.blocks }
     layout_held = ap (λ (i : ℕ). layout_in cap lo hi g (set slots i held) cells) (sym own_id) ∙ layout_in_place held known_own fits_held refl
 
     pub BlocksInvariant-held : {pinned' : ℕ} → pinned' + pins_in x ≡ pinned + pins_of hold → BlocksInvariant cap lo hi g (set slots id held) cells free pinned' range kept
     BlocksInvariant-held {pinned'} pins = subst (λ (i : ℕ). BlocksInvariant cap lo hi g (set slots i held) cells free pinned' range kept) own_id
-        (BlocksInvariant-place held known_own fits_held refl refl pins refl (k.between ∙ holes_same now held x (known_now _ known_own) (fits_for held known_own fits_held) k.tables.ordered k.tables.ids refl refl))
+        (BlocksInvariant-place held known_own fits_held refl refl pins refl (k.between ∙ C.holes_same now held x (known_now _ known_own) (fits_for held known_own fits_held) k.tables.ordered k.tables.ids refl refl))
 
   -- an id's block with another size
   module _ (x : Block) {size : ℕ} (known_l : block_with l.blocks x.id ≡ Some x) (fits_l : FitsFor l (record x { size = size })) where
@@ -195,10 +194,10 @@ module _ {cap lo hi g : ℕ} {slots : List Block} {cells : List ℕ} {free pinne
     -- a larger one
     module _ (more : x.size < size) where
       pub part_taken : IsPart range (x.at + x.size) (size - x.size)
-      part_taken = subst (λ (r : Range). IsPart r (x.at + x.size) (size - x.size)) (sym k.ranged) (part_more now x size (known_now _ known_l) fits_sized k.tables.ordered k.tables.ids more)
+      part_taken = subst (λ (r : Range). IsPart r (x.at + x.size) (size - x.size)) (sym k.ranged) (C.part_more now x size (known_now _ known_l) fits_sized k.tables.ordered k.tables.ids more)
 
       pub free_taken : IsFree (x.at + x.size) (x.at + x.size + (size - x.size)) kept
-      free_taken = subst (IsFree (x.at + x.size) (x.at + x.size + (size - x.size))) (sym k.between) (free_more now x size (known_now _ known_l) fits_sized k.tables.ordered k.tables.ids more)
+      free_taken = subst (IsFree (x.at + x.size) (x.at + x.size + (size - x.size))) (sym k.between) (C.free_more now x size (known_now _ known_l) fits_sized k.tables.ordered k.tables.ids more)
 
       pub counts_more : size - x.size ≤ free
       counts_more =
@@ -209,16 +208,16 @@ module _ {cap lo hi g : ℕ} {slots : List Block} {cells : List ℕ} {free pinne
 
       pub BlocksInvariant-more : {range' : Range} {kept' : List Span} → range' ≡ range → kept' ≡ taken (x.at + x.size) (x.at + x.size + (size - x.size)) kept → BlocksInvariant cap lo hi g (set slots x.id sized) cells (free - (size - x.size)) pinned range' kept'
       BlocksInvariant-more same takes = BlocksInvariant-place sized known_l fits_l refl (let less = counts_more in omega arith) refl same
-          (takes ∙ ap (taken (x.at + x.size) (x.at + x.size + (size - x.size))) k.between ∙ holes_more now x size (known_now _ known_l) fits_sized k.tables.ordered k.tables.ids more)
+          (takes ∙ ap (taken (x.at + x.size) (x.at + x.size + (size - x.size))) k.between ∙ C.holes_more now x size (known_now _ known_l) fits_sized k.tables.ordered k.tables.ids more)
 
     -- a smaller one
     module _ (less : size < x.size) where
       pub part_put : IsPart range (x.at + size) (x.size - size)
-      part_put = subst (λ (r : Range). IsPart r (x.at + size) (x.size - size)) (sym k.ranged) (part_less now x size (known_now _ known_l) fits_sized k.tables.ordered k.tables.ids less)
+      part_put = subst (λ (r : Range). IsPart r (x.at + size) (x.size - size)) (sym k.ranged) (C.part_less now x size (known_now _ known_l) fits_sized k.tables.ordered k.tables.ids less)
 
       pub used_put : IsUsed (x.at + size) (x.at + size + (x.size - size)) kept
-      used_put = subst (IsUsed (x.at + size) (x.at + size + (x.size - size))) (sym k.between) (used_less now x size (known_now _ known_l) fits_sized k.tables.ordered k.tables.ids less)
+      used_put = subst (IsUsed (x.at + size) (x.at + size + (x.size - size))) (sym k.between) (C.used_less now x size (known_now _ known_l) fits_sized k.tables.ordered k.tables.ids less)
 
       pub BlocksInvariant-less : {range' : Range} {kept' : List Span} → range' ≡ range → kept' ≡ joined (x.at + size) (x.at + size + (x.size - size)) kept → BlocksInvariant cap lo hi g (set slots x.id sized) cells (free + (x.size - size)) pinned range' kept'
       BlocksInvariant-less same joins = BlocksInvariant-place sized known_l fits_l refl (omega arith) refl same
-          (joins ∙ ap (joined (x.at + size) (x.at + size + (x.size - size))) k.between ∙ holes_less now x size (known_now _ known_l) fits_sized k.tables.ordered k.tables.ids less)
+          (joins ∙ ap (joined (x.at + size) (x.at + size + (x.size - size))) k.between ∙ C.holes_less now x size (known_now _ known_l) fits_sized k.tables.ordered k.tables.ids less)

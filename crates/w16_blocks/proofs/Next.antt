@@ -1,21 +1,22 @@
 -- The first block from a place on, by the cells from a unit on.
-use Rattle.w16_blocks.proofs.Common.{ℕ, zero, suc, ◌≡◌, ◌+◌, ◌-◌, ◌*◌, ◌/◌, ◌<◌, ◌≤◌, ◌⊎◌, max, List, [], ◌∷◌, length, drop, Some, None, arith, refl, sym, ap, ◌∙◌, inl, inr, slice_index, slice_get, cases_lt, lt-ltb, le-ltb, eqb_tells}
-use Rattle.w16_blocks.proofs.Common.{AllByRecursion, Block, Span, laid_each, block_end, holes, IsPlace, length_at, IsIn, div_ceil, div_ceil_times, up, above, multiple_sum, rank, slot_of, blocks_in, AreBegun, AreTables, Layout, layout_in}
-use Rattle.w16_blocks.proofs.Cells.{All-told, each_told, begun_rest}
-use Rattle.w16_blocks.proofs.Free.{Lacks, free_lacks}
+use Rattle.w16_blocks.proofs
+use proofs.Common as C
+use proofs.Common.{ℕ, zero, suc, ◌≡◌, ◌+◌, ◌-◌, ◌*◌, ◌/◌, ◌<◌, ◌≤◌, ◌⊎◌, max, List, [], ◌∷◌, length, drop, Some, None, arith, refl, sym, ap, ◌∙◌, inl, inr, slice_index, slice_get, Block, Span, holes, length_at, IsIn, div_ceil, up, above, rank, slot_of, blocks_in}
+use proofs.Cells.{All-told, each_told, begun_rest}
+use proofs.Free.{Lacks, free_lacks}
 
-pub rank_none : (at : ℕ) (bs : List Block) → AllByRecursion (λ c. at ≤ c.at) bs → rank at bs ≡ 0
+pub rank_none : (at : ℕ) (bs : List Block) → C.AllByRecursion (λ c. at ≤ c.at) bs → rank at bs ≡ 0
 rank_none at [] all = refl
-rank_none at (b ∷ bs) all = rw (le-ltb b.at at all.0) refl
+rank_none at (b ∷ bs) all = rw (C.le-ltb b.at at all.0) refl
 
 pub rank_more : (at : ℕ) (b : Block) (bs : List Block) → b.at < at → rank at (b ∷ bs) ≡ suc (rank at bs)
-rank_more at b bs lt = rw (lt-ltb b.at at lt) refl
+rank_more at b bs lt = rw (C.lt-ltb b.at at lt) refl
 
 pub rank_same : (at : ℕ) (b : Block) (bs : List Block) → at ≤ b.at → rank at (b ∷ bs) ≡ 0
-rank_same at b bs le = rw (le-ltb b.at at le) refl
+rank_same at b bs le = rw (C.le-ltb b.at at le) refl
 
 -- where the units below u lie below a place, and the others don't
-pub first_by_unit : (p g at : ℕ) (slots : List Block) (cells : List ℕ) (u : ℕ) → AreBegun p g slots cells → ((k : ℕ) → k < u → p + g * k < at) → ((k : ℕ) → u ≤ k → at ≤ p + g * k)
+pub first_by_unit : (p g at : ℕ) (slots : List Block) (cells : List ℕ) (u : ℕ) → C.AreBegun p g slots cells → ((k : ℕ) → k < u → p + g * k < at) → ((k : ℕ) → u ≤ k → at ≤ p + g * k)
     → slice_get (blocks_in slots cells) (rank at (blocks_in slots cells)) ≡ slice_get (blocks_in slots (drop u cells)) 0
 first_by_unit p g at slots cells zero begun less more =
     ap (slice_get (blocks_in slots cells)) (rank_none at (blocks_in slots cells) (All-told (λ c. at ≤ c.at) slots cells (λ k id e. let place = (begun k id e).at in let above = more k (omega arith) in omega arith)))
@@ -57,7 +58,7 @@ none_past slots (c ∷ cells) (suc u) le = none_past slots cells u (omega arith)
 -- each byte of the hole that begins at a place is free
 length_free : (a p : ℕ) (hs : List Span) → a ≤ p → p < a + length_at a hs → IsIn p hs
 length_free a p [] from to = absurd (omega arith)
-length_free a p (h ∷ hs) from to = elim (eqb_tells h.from a) [
+length_free a p (h ∷ hs) from to = elim (C.eqb_tells h.from a) [
   | inl same ↦ let long : p < a + (h.to - h.from) = rw same.0 at to in let at = same.1 in inl (omega arith, omega arith)
   | inr other ↦ inr (length_free a p hs from (let rest : p < a + length_at a hs = rw other.0 at to in rest))
 ]
@@ -67,13 +68,13 @@ zero_or zero = inl refl
 zero_or (suc m) = inr (m, refl)
 
 -- so in its units no block begins
-pub clear_in : (cap lo hi g : ℕ) (slots : List Block) (cells : List ℕ) → AreTables cap lo hi g slots cells → (u hole : ℕ) → slice_index cells u ≡ 0 → hole ≡ length_at (lo + g * u) (holes lo hi (blocks_in slots cells))
+pub clear_in : (cap lo hi g : ℕ) (slots : List Block) (cells : List ℕ) → C.AreTables cap lo hi g slots cells → (u hole : ℕ) → slice_index cells u ≡ 0 → hole ≡ length_at (lo + g * u) (holes lo hi (blocks_in slots cells))
     → (k : ℕ) → u ≤ k → k < u + max (hole / g) 1 → slice_index cells k ≡ 0
 clear_in cap lo hi g slots cells t u hole clear is k from to = elim (zero_or (slice_index cells k)) [
   | inl none ↦ none
   | inr some ↦
       let begins = t.begun k some.0 some.1 in let place = begins.at in let size = begins.some in
-      elim (cases_lt u k) [
+      elim (C.cases_lt u k) [
         | inl past ↦
             let grain = t.some in let low = up g u k from in
             let units : g * (suc k - u) ≤ g * (hole / g) = up g (suc k - u) (hole / g) (omega arith) in
@@ -88,25 +89,25 @@ clear_in cap lo hi g slots cells t u hole clear is k from to = elim (zero_or (sl
 -- the first unit at or above a place
 module _ (lo g at u : ℕ) (some : 0 < g) (is : u ≡ div_ceil (at - lo) g) where
   pub units_below : (k : ℕ) → k < u → lo + g * k < at
-  units_below k lt = let up_to = div_ceil_times (at - lo) g some in let high = up_to.1 in let times : u * g ≡ div_ceil (at - lo) g * g = ap (λ (i : ℕ). i * g) is in let step = above g k u lt in omega arith
+  units_below k lt = let up_to = C.div_ceil_times (at - lo) g some in let high = up_to.1 in let times : u * g ≡ div_ceil (at - lo) g * g = ap (λ (i : ℕ). i * g) is in let step = above g k u lt in omega arith
 
   pub units_above : (k : ℕ) → u ≤ k → at ≤ lo + g * k
-  units_above k le = let up_to = div_ceil_times (at - lo) g some in let low = up_to.0 in let times : u * g ≡ div_ceil (at - lo) g * g = ap (λ (i : ℕ). i * g) is in let step = up g u k le in omega arith
+  units_above k le = let up_to = C.div_ceil_times (at - lo) g some in let low = up_to.0 in let times : u * g ≡ div_ceil (at - lo) g * g = ap (λ (i : ℕ). i * g) is in let step = up g u k le in omega arith
 
 -- a unit that begins inside the range begins at a place of it, and has a cell
-module _ {cap lo hi g : ℕ} {slots : List Block} {cells : List ℕ} (t : AreTables cap lo hi g slots cells)
-    {now : Layout} (view : layout_in cap lo hi g slots cells ≡ now) (units u : ℕ) (told : units ≡ div_ceil (now.hi - now.lo) now.grain) where
+module _ {cap lo hi g : ℕ} {slots : List Block} {cells : List ℕ} (t : C.AreTables cap lo hi g slots cells)
+    {now : C.Layout} (view : C.layout_in cap lo hi g slots cells ≡ now) (units u : ℕ) (told : units ≡ div_ceil (now.hi - now.lo) now.grain) where
   is : units ≡ div_ceil (hi - lo) g
-  is = told ∙ sym (ap (λ (l : Layout). div_ceil (l.hi - l.lo) l.grain) view)
+  is = told ∙ sym (ap (λ (l : C.Layout). div_ceil (l.hi - l.lo) l.grain) view)
 
   pub behind_all : units ≤ u → hi ≤ lo + g * u
   behind_all le = units_above lo g hi units t.some is u le
 
-  pub unit_place : u < units → IsPlace (record { lo = lo; hi = hi; grain = g }) (lo + u * g)
-  unit_place lt = let below = units_below lo g hi units t.some is u lt in record { from = omega arith; to = omega arith; grained = multiple_sum g lo (u * g) t.ordered.from (u, omega arith) }
+  pub unit_place : u < units → C.IsPlace (record { lo = lo; hi = hi; grain = g }) (lo + u * g)
+  unit_place lt = let below = units_below lo g hi units t.some is u lt in record { from = omega arith; to = omega arith; grained = C.multiple_sum g lo (u * g) t.ordered.from (u, omega arith) }
 
   pub unit_inside : u < units → u < length cells
-  unit_inside lt = let below = units_below lo g hi units t.some is u lt in let long = t.long in elim (cases_lt u (length cells)) [
+  unit_inside lt = let below = units_below lo g hi units t.some is u lt in let long = t.long in elim (C.cases_lt u (length cells)) [
     | inl less ↦ less
     | inr past ↦ let r = up g (length cells) u past in absurd (omega arith)
   ]
@@ -123,6 +124,6 @@ module _ {cap lo hi g : ℕ} {slots : List Block} {cells : List ℕ} (t : AreTab
         | inr some ↦
             let begins = t.begun k some.0 some.1 in let place = begins.at in let size = begins.some in
             let high = units_above lo g hi units t.some is k from in
-            let end = each_told (λ x. (lo ≤ x.at) × (0 < x.size) × (block_end x ≤ hi)) slots cells k some.0 some.1 (laid_each lo hi (blocks_in slots cells) t.ordered.laid) in
+            let end = each_told (λ x. (lo ≤ x.at) × (0 < x.size) × (C.block_end x ≤ hi)) slots cells k some.0 some.1 (C.laid_each lo hi (blocks_in slots cells) t.ordered.laid) in
             let last = end.2 in absurd (omega arith)
       ]

@@ -1,11 +1,12 @@
 -- What a step on blocks leaves of the bytes, where it keeps those that no hole has: each block's, and all outside the bounds.
-use Rattle.w16_blocks.proofs.Common.{Range, IsPart, Layout, range_of, ap, ℕ, ◌≡◌, ◌+◌, ◌-◌, ◌<◌, ◌≤◌, List, [], ◌∷◌, length, drop, arith, sym, ◌∙◌, inl, inr, length-drop}
-use Rattle.w16_blocks.proofs.Common.{take_all, AllByRecursion, Block, Span, part, IsLaid, block_end, holes, IsSameOutside, laid_each, AreHoles, IsUsed, AreSameOutside, AreSameBut}
-use Rattle.w16_blocks.proofs.Free.{Lacks, AreHoles-holes, free_lacks, used_of}
+use Rattle.w16_blocks.proofs
+use proofs.Common as C
+use proofs.Common.{Range, ap, ℕ, ◌≡◌, ◌+◌, ◌-◌, ◌<◌, ◌≤◌, List, [], ◌∷◌, length, drop, arith, sym, ◌∙◌, inl, inr, AllByRecursion, Block, Span, part, IsLaid, block_end, holes, IsUsed}
+use proofs.Free.{Lacks, AreHoles-holes, free_lacks, used_of}
 
 -- each block's bytes are used
 pub used_each : (lo hi : ℕ) (bs : List Block) → IsLaid lo hi bs → AllByRecursion (λ c. IsUsed c.at (block_end c) (holes lo hi bs)) bs
-used_each lo hi bs laid = each bs (laid_each lo hi bs laid) (λ p all. all)
+used_each lo hi bs laid = each bs (C.laid_each lo hi bs laid) (λ p all. all)
   where
     each : (cs : List Block) → AllByRecursion (λ y. (lo ≤ y.at) × (0 < y.size) × (block_end y ≤ hi)) cs → ((p : ℕ) → AllByRecursion (Lacks p) bs → AllByRecursion (Lacks p) cs)
         → AllByRecursion (λ c. IsUsed c.at (block_end c) (holes lo hi bs)) cs
@@ -17,11 +18,11 @@ used_each lo hi bs laid = each bs (laid_each lo hi bs laid) (λ p all. all)
           each cs lies.1 (λ p all. (among p all).1),
         )
 
-used_below : (a b lo hi : ℕ) (hs : List Span) → b ≤ lo → AreHoles lo hi hs → IsUsed a b hs
+used_below : (a b lo hi : ℕ) (hs : List Span) → b ≤ lo → C.AreHoles lo hi hs → IsUsed a b hs
 used_below a b lo hi [] le are = tt
 used_below a b lo hi (h ∷ hs) le are = let from = are.0 in let some = are.1 in (inr (omega arith), used_below a b _ hi hs (omega arith) are.3)
 
-used_above : (a b lo hi : ℕ) (hs : List Span) → hi ≤ a → AreHoles lo hi hs → IsUsed a b hs
+used_above : (a b lo hi : ℕ) (hs : List Span) → hi ≤ a → C.AreHoles lo hi hs → IsUsed a b hs
 used_above a b lo hi [] le are = tt
 used_above a b lo hi (h ∷ hs) le are = let to = are.2 in (inl (omega arith), used_above a b _ hi hs le are.3)
 
@@ -36,24 +37,24 @@ module _ (lo hi : ℕ) (bs : List Block) (laid : IsLaid lo hi bs) where
 -- two lists with one part up to their ends
 rest_of : (old new : List ℕ) (hi : ℕ) → length new ≡ length old → part new hi (length old - hi) ≡ part old hi (length old - hi) → drop hi new ≡ drop hi old
 rest_of old new hi long same =
-    let a = length-drop hi new in let b = length-drop hi old in
-    sym (take_all (length old - hi) (drop hi new) (omega arith)) ∙ same ∙ take_all (length old - hi) (drop hi old) (omega arith)
+    let a = C.length-drop hi new in let b = C.length-drop hi old in
+    sym (C.take_all (length old - hi) (drop hi new) (omega arith)) ∙ same ∙ C.take_all (length old - hi) (drop hi old) (omega arith)
 
 -- where only bytes of holes change, those outside the bounds stay
-pub outside_holes : (lo hi : ℕ) (bs : List Block) (old new : List ℕ) → IsLaid lo hi bs → AreSameOutside (holes lo hi bs) old new → IsSameOutside lo hi old new
+pub outside_holes : (lo hi : ℕ) (bs : List Block) (old new : List ℕ) → IsLaid lo hi bs → C.AreSameOutside (holes lo hi bs) old new → C.IsSameOutside lo hi old new
 outside_holes lo hi bs old new laid same = record {
   below = same.same 0 lo (used_low lo hi bs laid);
   above = rest_of old new hi same.long (same.same hi (length old - hi) (used_high lo hi bs laid (length old - hi)));
 }
 
 -- the same where a place inside the bounds is written too
-pub outside_but : (lo hi place n : ℕ) (bs cs : List Block) (old new : List ℕ) → IsLaid lo hi bs → IsLaid lo hi cs → lo ≤ place → place + n ≤ hi → AreSameBut place n (holes lo hi bs) (holes lo hi cs) old new → IsSameOutside lo hi old new
+pub outside_but : (lo hi place n : ℕ) (bs cs : List Block) (old new : List ℕ) → IsLaid lo hi bs → IsLaid lo hi cs → lo ≤ place → place + n ≤ hi → C.AreSameBut place n (holes lo hi bs) (holes lo hi cs) old new → C.IsSameOutside lo hi old new
 outside_but lo hi place n bs cs old new one two from to same = record {
   below = same.same 0 lo (used_low lo hi bs one) (used_low lo hi cs two) (inl (omega arith));
   above = rest_of old new hi same.long (same.same hi (length old - hi) (used_high lo hi bs one (length old - hi)) (used_high lo hi cs two (length old - hi)) (inr to));
 }
 
 -- a part of a layout's range lies in each memory that has the range
-pub part_inside : {range then : Range} {now l : Layout} {at n a b d : ℕ} → IsPart then at n → then ≡ range → range ≡ range_of now → now ≡ l → l.hi ≤ a → b ≡ a → d ≡ b → at + n ≤ d
+pub part_inside : {range then : Range} {now l : C.Layout} {at n a b d : ℕ} → C.IsPart then at n → then ≡ range → range ≡ C.range_of now → now ≡ l → l.hi ≤ a → b ≡ a → d ≡ b → at + n ≤ d
 part_inside part same ranged is high long longer =
-    let to = part.to in let one = ap (λ (r : Range). r.hi) (same ∙ ranged) in let two = ap (λ (m : Layout). m.hi) is in omega arith
+    let to = part.to in let one = ap (λ (r : Range). r.hi) (same ∙ ranged) in let two = ap (λ (m : C.Layout). m.hi) is in omega arith

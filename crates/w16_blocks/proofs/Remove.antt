@@ -1,7 +1,8 @@
 -- What taking a block away keeps of a list.
-use Rattle.w16_blocks.proofs.Common.{IfSome, Option, IsOrdered, Layout, ℕ, ◌≡◌, ◌≢◌, ◌+◌, ◌<◌, ◌≤◌, ◌==◌, true, false, List, [], ◌∷◌, Some, None, is_some, sum_by, arith, refl, sym, subst, ap, ◌∙◌, inl}
-use Rattle.w16_blocks.proofs.Common.{inr, eqb_tells, ne_eqb, false≢true, sum_by-cons, AllByRecursion, Block, IsLaid, block_end, block_with, Each-map, laid_each, IsApart, placed, all_but, replaced, AreNamed}
-use Rattle.w16_blocks.proofs.Place.{placed_first, placed_after}
+use Rattle.w16_blocks.proofs
+use proofs.Common.{IfSome, Option, IsOrdered, Layout, ℕ, ◌≡◌, ◌≢◌, ◌+◌, ◌<◌, ◌≤◌, ◌==◌, true, false, List, [], ◌∷◌, Some, None, is_some, sum_by, arith, refl, sym, subst, ap, ◌∙◌, inl, inr, eqb_tells, ne_eqb, false≢true, sum_by-cons, AllByRecursion, Block, IsLaid, block_end, block_with}
+use proofs.Common.{Each-map, laid_each, IsApart, placed, all_but, replaced, AreNamed}
+use proofs.Place.{placed_first, placed_after}
 
 pub all_but_same : (id : ℕ) (c : Block) (cs : List Block) → (c.id == id) ≡ true → all_but id (c ∷ cs) ≡ all_but id cs
 all_but_same id c cs e = rw e refl

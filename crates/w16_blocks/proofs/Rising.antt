@@ -1,18 +1,19 @@
 -- Blocks of a run that slide up one after another, from the last: what a step needs, and what it leaves.
-use Rattle.w16_blocks.proofs.Common.{multiple_less, ℕ, ◌≡◌, ◌≢◌, ◌+◌, ◌-◌, ◌<◌, ◌≤◌, ◌^◌, ◌⊎◌, List, [], ◌∷◌, map, Some, eqb, arith, refl, sym, ap, ◌∙◌, subst, inl, inr, cases_lt, eqb_tells, AllByRecursion, Block}
-use Rattle.w16_blocks.proofs.Common.{Span, IsLaid, block_end, IsMultiple, block_with, Each-map, Each-both, laid_each, multiple_sum, IsLastBelow, Layout, IsOrdered, FitsFor, replaced, IsCut, IsRun, IsBare, slid_with}
+use Rattle.w16_blocks.proofs
+use proofs.Common as C
+use proofs.Common.{ℕ, ◌≡◌, ◌≢◌, ◌+◌, ◌-◌, ◌<◌, ◌≤◌, ◌^◌, ◌⊎◌, List, [], ◌∷◌, map, Some, eqb, arith, refl, sym, ap, ◌∙◌, subst, inl, inr, cases_lt, AllByRecursion, Block, Span, block_end, block_with, Each-both, laid_each, Layout, IsOrdered, IsCut, IsRun, slid_with}
+use proofs.Free.{Lacks, lacks_free}
+use proofs.Lifting.{IsPassed, fits_lifted, around}
+use proofs.Remove.{with_same, with_other, each_with}
+use proofs.RunHoles.{All-mapped, All-unmapped}
+use proofs.Sliding.{IsAround, replaced-slid, slid_below, slid_above, slid_inside, moved_to}
+use proofs.Step.{lies, grained_known, lacks_known}
 use Rattle.std.proofs.lemmas.Bool.{eq-eqb}
-use Rattle.w16_blocks.proofs.Free.{Lacks, lacks_free}
-use Rattle.w16_blocks.proofs.Lifting.{IsPassed, fits_lifted, around}
-use Rattle.w16_blocks.proofs.Remove.{with_same, with_other, each_with}
-use Rattle.w16_blocks.proofs.RunHoles.{All-mapped, All-unmapped}
-use Rattle.w16_blocks.proofs.Sliding.{IsAround, replaced-slid, slid_below, slid_above, slid_inside, moved_to}
-use Rattle.w16_blocks.proofs.Step.{lies, grained_known, lacks_known}
 
 -- an id's block, where blocks move
 pub with_back : (f : Block → Block) (x : Block) (bs : List Block) → ((c : Block) → (f c).id ≡ c.id) → ((c : Block) → f c ≡ x → c ≡ x) → block_with (map f bs) x.id ≡ Some x → block_with bs x.id ≡ Some x
 with_back f x [] ids back known = known
-with_back f x (b ∷ bs) ids back known = elim (eqb_tells (f b).id x.id) [
+with_back f x (b ∷ bs) ids back known = elim (C.eqb_tells (f b).id x.id) [
   | inl same ↦
       let e : Some (f b) ≡ Some x = sym (with_same x.id (f b) (map f bs) same.0) ∙ known in let there : f b ≡ x = cc in
       with_same x.id b bs (eq-eqb b.id x.id (sym (ids b) ∙ same.1)) ∙ ap Some (back b there)
@@ -30,17 +31,17 @@ slid_id run to b = elim (cases_lt b.at run.from) [
 ]
 
 -- a block that a cut may not reach over
-pub cuts_each : (lo hi cap : ℕ) (x : Block) (bs : List Block) → IsLaid lo hi bs → AllByRecursion (λ c. (block_end c ≤ x.at) ⊎ ((block_end x ≤ c.at) ⊎ (c ≡ x))) bs → IsCut x.at bs
-cuts_each lo hi cap x bs laid all = Each-map (λ c. (block_end c ≤ x.at) ⊎ ((block_end x ≤ c.at) ⊎ (c ≡ x))) (λ c. (block_end c ≤ x.at) ⊎ (x.at ≤ c.at))
+pub cuts_each : (lo hi cap : ℕ) (x : Block) (bs : List Block) → C.IsLaid lo hi bs → AllByRecursion (λ c. (block_end c ≤ x.at) ⊎ ((block_end x ≤ c.at) ⊎ (c ≡ x))) bs → IsCut x.at bs
+cuts_each lo hi cap x bs laid all = C.Each-map (λ c. (block_end c ≤ x.at) ⊎ ((block_end x ≤ c.at) ⊎ (c ≡ x))) (λ c. (block_end c ≤ x.at) ⊎ (x.at ≤ c.at))
     (λ c is. elim is [
       | inl before ↦ inl before
       | inr other ↦ elim other [ inl behind ↦ inr (omega arith) | inr same ↦ let at = ap (λ (d : Block). d.at) same in inr (omega arith) ]
     ]) bs all
 
 -- Of a run the blocks from `at` on have slid; the last one before them is x.
-module _ (l : Layout) (ordered : IsOrdered l) (ids : l.cap < 2 ^ 32) (run : Span) (is : IsRun l run) (to : ℕ) (up : run.from ≤ to) (high : to + (run.to - run.from) ≤ l.hi) (bare : IsBare run.to (to + (run.to - run.from)) l.blocks)
+module _ (l : Layout) (ordered : IsOrdered l) (ids : l.cap < 2 ^ 32) (run : Span) (is : IsRun l run) (to : ℕ) (up : run.from ≤ to) (high : to + (run.to - run.from) ≤ l.hi) (bare : C.IsBare run.to (to + (run.to - run.from)) l.blocks)
     (at : ℕ) (from : run.from < at) (end : at ≤ run.to) (cut : IsCut at l.blocks) (now : Layout) (ordered_now : IsOrdered now)
-    (list : now ≡ record { cap = l.cap; lo = l.lo; hi = l.hi; grain = l.grain; blocks = map (slid_with (record { from = at; to = run.to }) (to + (at - run.from))) l.blocks }) (x : Block) (is_last : IsLastBelow now.blocks at x) where
+    (list : now ≡ record { cap = l.cap; lo = l.lo; hi = l.hi; grain = l.grain; blocks = map (slid_with (record { from = at; to = run.to }) (to + (at - run.from))) l.blocks }) (x : Block) (is_last : C.IsLastBelow now.blocks at x) where
   abbrev rest : Span
   rest = record { from = at; to = run.to }
 
@@ -122,11 +123,11 @@ module _ (l : Layout) (ordered : IsOrdered l) (ids : l.cap < 2 ^ 32) (run : Span
       (λ ge less. inr (omega arith))) l.blocks
       (Each-both (λ c. (c.at ≤ x.at) ⊎ (at ≤ c.at)) (λ c. (l.lo ≤ c.at) × (0 < c.size) × (block_end c ≤ l.hi)) (λ c. ((c.at ≤ x.at) ⊎ (at ≤ c.at)) × ((l.lo ≤ c.at) × (0 < c.size) × (block_end c ≤ l.hi))) (λ c one two. (one, two)) l.blocks last (laid_each l.lo l.hi l.blocks ordered.laid)) bare)
 
-  pub fits_next : IsMultiple l.grain to → FitsFor now (record x { at = next })
+  pub fits_next : C.IsMultiple l.grain to → C.FitsFor now (record x { at = next })
   fits_next grained =
       let e = next_end in let b = begins_in in
       fits_lifted now next x ordered_now is_last.known (omega arith) (let up_to = ap (λ (m : Layout). m.hi) list in omega arith) passed
-      (subst (λ (m : Layout). IsMultiple m.grain next) (sym list) (multiple_sum l.grain to (x.at - run.from) grained (multiple_less l.grain x.at run.from (grained_known l x.id x known ordered).0 is.grained.0)))
+      (subst (λ (m : Layout). C.IsMultiple m.grain next) (sym list) (C.multiple_sum l.grain to (x.at - run.from) grained (C.multiple_less l.grain x.at run.from (grained_known l x.id x known ordered).0 is.grained.0)))
 
   one : (c : Block) → (c.at ≤ x.at) ⊎ (at ≤ c.at) → slid_with (record { from = x.at; to = block_end x }) next (slid c) ≡ slid_with (record { from = x.at; to = run.to }) next c
   one c told =
@@ -155,12 +156,12 @@ module _ (l : Layout) (ordered : IsOrdered l) (ids : l.cap < 2 ^ 32) (run : Span
   each_one [] all = refl
   each_one (c ∷ cs) all = λ i. one c all.0 i ∷ each_one cs all.1 i
 
-  pub list_next : replaced (record x { at = next }) now.blocks ≡ map (slid_with (record { from = x.at; to = run.to }) next) l.blocks
+  pub list_next : C.replaced (record x { at = next }) now.blocks ≡ map (slid_with (record { from = x.at; to = run.to }) next) l.blocks
   list_next =
       let b = begins_in in
       let up : x.at ≤ next = omega arith in
       replaced-slid now.lo now.hi now.cap next x now.blocks ordered_now.laid ordered_now.named is_last.known
-      (Each-map (IsPassed x next) (IsAround x.at next) (λ c is. (λ less some. omega arith, λ more. elim is [ inl under ↦ absurd (omega arith) | inr over ↦ omega arith ])) now.blocks passed)
+      (C.Each-map (IsPassed x next) (IsAround x.at next) (λ c is. (λ less some. omega arith, λ more. elim is [ inl under ↦ absurd (omega arith) | inr over ↦ omega arith ])) now.blocks passed)
       ∙ ap (map (slid_with (record { from = x.at; to = block_end x }) next)) blocks ∙ each_one l.blocks last
 
   pub cut_next : IsCut x.at l.blocks
@@ -192,7 +193,7 @@ run_before l begin to x ordered known here is =
     }
 
 -- where the last block below a place ends before it, none ends there
-pub none_ends : (l : Layout) (at : ℕ) (x : Block) → IsOrdered l → IsLastBelow l.blocks at x → block_end x < at → AllByRecursion (λ b. block_end b ≢ at) l.blocks
+pub none_ends : (l : Layout) (at : ℕ) (x : Block) → IsOrdered l → C.IsLastBelow l.blocks at x → block_end x < at → AllByRecursion (λ b. block_end b ≢ at) l.blocks
 none_ends l at x ordered is less = Each-both (λ c. ((c.at ≤ x.at) ⊎ (at ≤ c.at)) × ((l.lo ≤ c.at) × (0 < c.size) × (block_end c ≤ l.hi))) (λ c. (block_end c ≤ x.at) ⊎ ((block_end x ≤ c.at) ⊎ (c ≡ x))) (λ b. block_end b ≢ at)
     (λ c both place e. let size = both.1.1 in elim both.0 [
       | inr over ↦ omega arith

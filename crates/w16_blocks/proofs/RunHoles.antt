@@ -1,8 +1,10 @@
 -- The holes where a run of blocks slides down: what its new place has beyond the old one is taken, and what the old one has beyond the new is put.
-use Rattle.w16_blocks.proofs.Common.{ℕ, ◌≡◌, ◌+◌, ◌-◌, ◌<◌, ◌≤◌, ◌⊎◌, min, List, [], ◌∷◌, map, sum_by, arith, refl, sym, ap, ◌∙◌, subst, inl, inr, cases_lt, sum_by-cons, AllByRecursion, Block, Span, IsLaid, block_end, holes, IsMultiple, Each-map, Each-both}
-use Rattle.w16_blocks.proofs.Common.{multiple_sum, AreHoles, IsFree, IsUsed, IsPart, taken, joined, IsIn, AreHoles-taken, taken_in, in_taken, AreHoles-joined, joined_in, in_joined, Layout, IsOrdered, range_of, holes_of, IsCut, IsRun, IsBare, slid_with, multiple_less}
-use Rattle.w16_blocks.proofs.Free.{Lacks, AreHoles-holes, free_lacks, lacks_free, are_between, used_of, free_of}
-use Rattle.w16_blocks.proofs.Sliding.{slid_below, slid_above, slid_inside}
+use Rattle.w16_blocks.proofs
+use proofs.Common as C
+use proofs.Common.{ℕ, ◌≡◌, ◌+◌, ◌-◌, ◌<◌, ◌≤◌, ◌⊎◌, min, List, [], ◌∷◌, map, arith, refl, sym, ap, ◌∙◌, subst, inl, inr, cases_lt, AllByRecursion, Block, Span, block_end, holes, IsMultiple, Each-both, AreHoles, IsUsed, IsPart, taken, IsIn, Layout, range_of, holes_of, IsCut, IsRun, IsBare}
+use proofs.Common.{slid_with, multiple_less}
+use proofs.Free.{Lacks, AreHoles-holes, free_lacks, lacks_free, are_between, used_of, free_of}
+use proofs.Sliding.{slid_below, slid_above, slid_inside}
 
 -- what holds of each block of a list, and of what comes of each
 pub All-mapped : (R P Q : Block → Type 0) (f : Block → Block) → ((b : Block) → R b → P b → Q (f b)) → (bs : List Block) → AllByRecursion R bs → AllByRecursion P bs → AllByRecursion Q (map f bs)
@@ -24,17 +26,17 @@ module _ (f : Block → ℕ) (same : (b : Block) (at : ℕ) → f (record b { at
     ]
   ]
 
-  pub sum-slid : (run : Span) (to : ℕ) (bs : List Block) → sum_by f (map (slid_with run to) bs) ≡ sum_by f bs
+  pub sum-slid : (run : Span) (to : ℕ) (bs : List Block) → C.sum_by f (map (slid_with run to) bs) ≡ C.sum_by f bs
   sum-slid run to [] = refl
   sum-slid run to (b ∷ bs) =
-      let first = sum_by-cons f (slid_with run to b) (map (slid_with run to) bs) in let old = sum_by-cons f b bs in
+      let first = C.sum_by-cons f (slid_with run to b) (map (slid_with run to) bs) in let old = C.sum_by-cons f b bs in
       let one = slid_same run to b in let rest = sum-slid run to bs in omega arith
 
 -- a block is before the run, behind it, or in it
 abbrev pub Lies : Span → Block → Type 0
 Lies run b = (0 < b.size) × ((block_end b ≤ run.from) ⊎ ((run.to ≤ b.at) ⊎ ((run.from ≤ b.at) × (block_end b ≤ run.to))))
 
-pub lies_of : (run : Span) (lo hi : ℕ) (bs : List Block) → IsLaid lo hi bs → IsCut run.from bs → IsCut run.to bs → AllByRecursion (Lies run) bs
+pub lies_of : (run : Span) (lo hi : ℕ) (bs : List Block) → C.IsLaid lo hi bs → IsCut run.from bs → IsCut run.to bs → AllByRecursion (Lies run) bs
 lies_of run lo hi [] laid one two = tt
 lies_of run lo hi (b ∷ bs) laid one two = (
   (
@@ -120,21 +122,21 @@ way_up l run is some to apart up high bare grained least =
             | inl under ↦ elim two [ inl before ↦ inr (inl (omega arith)) | inr from ↦ inl (from, under) ]
             | inr over ↦ inr (inr over)
           ]) l.blocks bare is.whole.0;
-      grained = (multiple_less l.grain (to + (run.to - run.from)) apart (multiple_sum l.grain to (run.to - run.from) grained (multiple_less l.grain run.to run.from is.grained.1 is.grained.0)) part, is.grained.0, part);
+      grained = (multiple_less l.grain (to + (run.to - run.from)) apart (C.multiple_sum l.grain to (run.to - run.from) grained (multiple_less l.grain run.to run.from is.grained.1 is.grained.0)) part, is.grained.0, part);
     }
 
 -- where no block is there is one hole
-pub bare_free : (l : Layout) → IsOrdered l → (from to : ℕ) → l.lo ≤ from → from < to → to ≤ l.hi → IsBare from to l.blocks → IsFree from to (holes_of l)
+pub bare_free : (l : Layout) → C.IsOrdered l → (from to : ℕ) → l.lo ≤ from → from < to → to ≤ l.hi → IsBare from to l.blocks → C.IsFree from to (holes_of l)
 bare_free l ordered from to low some high bare =
     free_of from to l.lo l.hi (holes_of l) some (AreHoles-holes l.lo l.lo l.hi l.blocks (omega arith) ordered.laid)
     (λ p ge lt. lacks_free p l.lo l.hi l.blocks ordered.laid (omega arith) (omega arith)
-    (Each-map (λ b. (block_end b ≤ from) ⊎ (to ≤ b.at)) (Lacks p) (λ b out. elim out [ inl before ↦ inr (omega arith) | inr behind ↦ inl (omega arith) ]) l.blocks bare))
+    (C.Each-map (λ b. (block_end b ≤ from) ⊎ (to ≤ b.at)) (Lacks p) (λ b out. elim out [ inl before ↦ inr (omega arith) | inr behind ↦ inl (omega arith) ]) l.blocks bare))
 
 -- a run's bytes are a part of the range, and so are they at another place in it
 pub run_part : (l : Layout) (run : Span) → IsRun l run → run.from < run.to → (at : ℕ) → l.lo ≤ at → at + (run.to - run.from) ≤ l.hi → IsMultiple l.grain at → IsPart (range_of l) at (run.to - run.from)
 run_part l run is some at low high grained = record { some = omega arith; from = low; to = high; grained = grained; rounded = multiple_less l.grain run.to run.from is.grained.1 is.grained.0 }
 
-module _ (l : Layout) (ordered : IsOrdered l) (run : Span) (is : IsRun l run) (some : run.from < run.to) (to a c apart : ℕ) (way : IsWay l run to a c apart) where
+module _ (l : Layout) (ordered : C.IsOrdered l) (run : Span) (is : IsRun l run) (some : run.from < run.to) (to a c apart : ℕ) (way : IsWay l run to a c apart) where
   abbrev size : ℕ
   size = run.to - run.from
 
@@ -161,12 +163,12 @@ module _ (l : Layout) (ordered : IsOrdered l) (run : Span) (is : IsRun l run) (s
   some_entered : a < a + apart
   some_entered = let b = way.some.0 in omega arith
 
-  pub free_entered : IsFree a (a + apart) (holes_of l)
+  pub free_entered : C.IsFree a (a + apart) (holes_of l)
   free_entered =
       let low = way.low in let high = way.high in let from = way.entered.0 in let end = way.entered.1 in
       free_of a (a + apart) l.lo l.hi (holes_of l) some_entered are
       (λ p ge lt. lacks_free p l.lo l.hi l.blocks ordered.laid (omega arith) (omega arith)
-      (Each-map At (Lacks p) (λ b at. let own = at.0 in elim at.1 [
+      (C.Each-map At (Lacks p) (λ b at. let own = at.0 in elim at.1 [
         | inl inside ↦ let one = inside.0 in let two = inside.1 in elim way.entered_out [ inl before ↦ inl (omega arith) | inr behind ↦ inr (omega arith) ]
         | inr out ↦ elim out.1 [ inl before ↦ inr (omega arith) | inr behind ↦ inl (omega arith) ]
       ]) l.blocks each_at))
@@ -175,12 +177,12 @@ module _ (l : Layout) (ordered : IsOrdered l) (run : Span) (is : IsRun l run) (s
   mid = taken a (a + apart) (holes_of l)
 
   are_then : AreHoles l.lo l.hi mid
-  are_then = AreHoles-taken l.hi a (a + apart) some_entered l.lo (holes_of l) are free_entered
+  are_then = C.AreHoles-taken l.hi a (a + apart) some_entered l.lo (holes_of l) are free_entered
 
   -- what is still free then was free, and is not the new place
   free_then : (p : ℕ) → IsIn p mid → IsIn p (holes_of l) × ((p < to) ⊎ (to + size ≤ p))
   free_then p free =
-      let r = in_taken l.hi a (a + apart) some_entered l.lo p (holes_of l) are free_entered free in (
+      let r = C.in_taken l.hi a (a + apart) some_entered l.lo p (holes_of l) are free_entered free in (
         r.0,
         elim (cases_lt p to) [
           | inl below ↦ inl below
@@ -206,16 +208,16 @@ module _ (l : Layout) (ordered : IsOrdered l) (run : Span) (is : IsRun l run) (s
   used_run = used_of run.from (run.from + size) l.lo l.hi (holes_of l) (omega arith) are (λ p from below free. is.full p from (omega arith) free)
 
   abbrev after : List Span
-  after = joined c (c + apart) mid
+  after = C.joined c (c + apart) mid
 
   are_after : AreHoles l.lo l.hi after
   are_after =
       let first = way.some.0 in let from = way.left.0 in let end = way.left.1 in let top = is.inside.2 in let bottom = is.inside.0 in
-      AreHoles-joined c (c + apart) l.lo l.hi mid (omega arith) (omega arith) (omega arith) are_then used_left
+      C.AreHoles-joined c (c + apart) l.lo l.hi mid (omega arith) (omega arith) (omega arith) are_then used_left
 
   -- what is free afterwards
   free_after : (p : ℕ) → IsIn p after → (IsIn p (holes_of l) ⊎ ((c ≤ p) × (p < c + apart))) × ((p < to) ⊎ (to + size ≤ p))
-  free_after p free = elim (in_joined c (c + apart) p mid free) [
+  free_after p free = elim (C.in_joined c (c + apart) p mid free) [
     | inl rest ↦ let r = free_then p rest in (inl r.0, r.1)
     | inr own ↦ let s = own.0 in let e = own.1 in (inr (s, e), elim way.left_out [ inl before ↦ inl (omega arith) | inr behind ↦ inr (omega arith) ])
   ]
@@ -272,7 +274,7 @@ module _ (l : Layout) (ordered : IsOrdered l) (run : Span) (is : IsRun l run) (s
     ]
   ]
 
-  pub holes_run : IsLaid l.lo l.hi (map (slid_with run to) l.blocks) → after ≡ holes l.lo l.hi (map (slid_with run to) l.blocks)
+  pub holes_run : C.IsLaid l.lo l.hi (map (slid_with run to) l.blocks) → after ≡ holes l.lo l.hi (map (slid_with run to) l.blocks)
   holes_run laid =
       are_between l.lo l.hi (map (slid_with run to) l.blocks) after laid are_after
       (λ p free. elim (free_after p free).0 [
@@ -285,7 +287,7 @@ module _ (l : Layout) (ordered : IsOrdered l) (run : Span) (is : IsRun l run) (s
       ])
       (λ p bottom top all.
       let out = not_new p all in
-      joined_in c (c + apart) p mid (elim (cases_lt p run.from) [
+      C.joined_in c (c + apart) p mid (elim (cases_lt p run.from) [
         | inl before ↦ inl (still p bottom top all out (inl before))
         | inr from ↦ elim (cases_lt p run.to) [
           | inr behind ↦ inl (still p bottom top all out (inr behind))
@@ -299,7 +301,7 @@ module _ (l : Layout) (ordered : IsOrdered l) (run : Span) (is : IsRun l run) (s
       still : (p : ℕ) → l.lo ≤ p → p < l.hi → AllByRecursion (Lacks p) (map (slid_with run to) l.blocks) → (p < to) ⊎ (to + size ≤ p) → (p < run.from) ⊎ (run.to ≤ p) → IsIn p mid
       still p bottom top all out outside =
           let from = way.entered.0 in let end = way.entered.1 in
-          taken_in l.hi a (a + apart) some_entered l.lo p (holes_of l) are free_entered (elim out [ inl below ↦ inl (omega arith) | inr above ↦ inr (omega arith) ])
+          C.taken_in l.hi a (a + apart) some_entered l.lo p (holes_of l) are free_entered (elim out [ inl below ↦ inl (omega arith) | inr above ↦ inr (omega arith) ])
           (lacks_free p l.lo l.hi l.blocks ordered.laid bottom top
           (All-unmapped At (Lacks p) (Lacks p) (slid_with run to) (λ b at lacks. lacked_by p p b at (inl (outside, refl)) lacks) l.blocks each_at all))
 

@@ -1,13 +1,14 @@
 -- What is kept where a run of blocks slides.
+use Rattle.w16_blocks.proofs
+use proofs.Common as C
 use Rattle.std.specs.Prelude.{Vec}
-use Rattle.w16_blocks.proofs.Common.{with_items, with_items_is, ℕ, ◌≡◌, ◌+◌, ◌-◌, ◌<◌, ◌≤◌, List, length, map, sum_by, arith, refl, sym, ap, ◌∙◌, subst, Block, Span, part, put_part, IsLaid, holes, Range}
-use Rattle.w16_blocks.proofs.Common.{IsFree, IsUsed, IsPart, AreSameIn, AreSameOutside, taken, joined, Layout, holes_of, blocks_in, layout_in, pins_in, AreTables, BlocksInvariant, IsRun, slid_with, AreSameBut}
+use proofs.Common.{with_items, with_items_is, ℕ, ◌≡◌, ◌+◌, ◌-◌, ◌<◌, ◌≤◌, List, length, map, arith, refl, sym, ap, ◌∙◌, subst, Block, Span, part, holes, Range, IsUsed, IsPart, taken, joined, Layout, holes_of, blocks_in, layout_in, AreTables, IsRun}
+use proofs.RunHoles.{IsWay, sum-slid}
 use Rattle.w16_holes.proofs.Slid.{free_stays, come_along, others_stay}
 use Rattle.w16_blocks.proofs.RunHoles as run_holes
-use Rattle.w16_blocks.proofs.RunHoles.{IsWay, sum-slid}
 
 -- Tables that tell a layout `l`, and a run of it that slides to a place.
-module _ {cap lo hi g : ℕ} {slots : List Block} {cells : List ℕ} {free pinned : ℕ} {range : Range} {kept : List Span} (k : BlocksInvariant cap lo hi g slots cells free pinned range kept)
+module _ {cap lo hi g : ℕ} {slots : List Block} {cells : List ℕ} {free pinned : ℕ} {range : Range} {kept : List Span} (k : C.BlocksInvariant cap lo hi g slots cells free pinned range kept)
     {l : Layout} (is_l : layout_in cap lo hi g slots cells ≡ l) {run : Span} (is_run : IsRun l run) (some : run.from < run.to) {to a c apart : ℕ} (way_l : IsWay l run to a c apart) where
   abbrev now : Layout
   now = layout_in cap lo hi g slots cells
@@ -21,8 +22,8 @@ module _ {cap lo hi g : ℕ} {slots : List Block} {cells : List ℕ} {free pinne
   pub part_entered : IsPart range a apart
   part_entered = subst (λ (r : Range). IsPart r a apart) (sym k.ranged) (run_holes.part_entered now k.tables.ordered run is some to a c apart way)
 
-  pub free_entered : IsFree a (a + apart) kept
-  free_entered = subst (IsFree a (a + apart)) (sym k.between) (run_holes.free_entered now k.tables.ordered run is some to a c apart way)
+  pub free_entered : C.IsFree a (a + apart) kept
+  free_entered = subst (C.IsFree a (a + apart)) (sym k.between) (run_holes.free_entered now k.tables.ordered run is some to a c apart way)
 
   pub used_run : IsUsed run.from (run.from + (run.to - run.from)) kept
   used_run = subst (IsUsed run.from (run.from + (run.to - run.from))) (sym k.between) (run_holes.used_run now k.tables.ordered run is some to a c apart way)
@@ -47,22 +48,22 @@ module _ {cap lo hi g : ℕ} {slots : List Block} {cells : List ℕ} {free pinne
     used_left = subst (IsUsed c (c + apart)) (sym takes_between) (run_holes.used_left now k.tables.ordered run is some to a c apart way)
 
     -- the slide leaves the bytes of the holes that there are then
-    pub same_free : {second third : List ℕ} → l.hi ≤ length second → third ≡ put_part second to (part second run.from (run.to - run.from)) → AreSameIn mid second third
+    pub same_free : {second third : List ℕ} → l.hi ≤ length second → third ≡ C.put_part second to (part second run.from (run.to - run.from)) → C.AreSameIn mid second third
     same_free {second} {third} inside slid = free_stays run.from to (run.to - run.from) second third slid (source_in inside) (target_in inside) mid
         (subst (IsUsed to (to + (run.to - run.from))) (sym takes_between) (run_holes.used_then now k.tables.ordered run is some to a c apart way))
 
     -- and once the old one is put, and the tables tell the blocks where they have slid
     module _ {range' : Range} {kept' : List Span} (same_then : range' ≡ range_then) (joins : kept' ≡ joined c (c + apart) mid)
-        {slots' : List Block} {cells' : List ℕ} (tables : AreTables cap lo hi g slots' cells') (blocks : blocks_in slots' cells' ≡ map (slid_with run to) (blocks_in slots cells)) where
-      leaves : kept' ≡ holes lo hi (map (slid_with run to) now.blocks)
+        {slots' : List Block} {cells' : List ℕ} (tables : AreTables cap lo hi g slots' cells') (blocks : blocks_in slots' cells' ≡ map (C.slid_with run to) (blocks_in slots cells)) where
+      leaves : kept' ≡ holes lo hi (map (C.slid_with run to) now.blocks)
       leaves = joins ∙ ap (joined c (c + apart)) takes_between
-          ∙ run_holes.holes_run now k.tables.ordered run is some to a c apart way (subst (λ (bs : List Block). IsLaid lo hi bs) blocks tables.ordered.laid)
+          ∙ run_holes.holes_run now k.tables.ordered run is some to a c apart way (subst (λ (bs : List Block). C.IsLaid lo hi bs) blocks tables.ordered.laid)
 
-      pub BlocksInvariant-run : BlocksInvariant cap lo hi g slots' cells' free pinned range' kept'
+      pub BlocksInvariant-run : C.BlocksInvariant cap lo hi g slots' cells' free pinned range' kept'
       BlocksInvariant-run = record {
         tables = tables;
-        counted = let sum = ap (sum_by (λ (b : Block). b.size)) blocks ∙ sum-slid (λ (b : Block). b.size) (λ b at. refl) run to now.blocks in let counted = k.counted in omega arith;
-        pins = k.pins ∙ sym (ap (sum_by pins_in) blocks ∙ sum-slid pins_in (λ b at. refl) run to now.blocks);
+        counted = let sum = ap (C.sum_by (λ (b : Block). b.size)) blocks ∙ sum-slid (λ (b : Block). b.size) (λ b at. refl) run to now.blocks in let counted = k.counted in omega arith;
+        pins = k.pins ∙ sym (ap (C.sum_by C.pins_in) blocks ∙ sum-slid C.pins_in (λ b at. refl) run to now.blocks);
         ranged = same_then ∙ same ∙ k.ranged;
         between = leaves ∙ ap (holes lo hi) (sym blocks);
       }
@@ -71,13 +72,13 @@ module _ {cap lo hi g : ℕ} {slots : List Block} {cells : List ℕ} {free pinne
       used_now = subst (IsUsed to (to + (run.to - run.from))) (sym (joins ∙ ap (joined c (c + apart)) takes_between)) (run_holes.used_after now k.tables.ordered run is some to a c apart way)
 
       -- the bytes
-      module _ {first second third last : List ℕ} (inside : l.hi ≤ length first) (take_same : AreSameOutside kept first second) (slid : third ≡ put_part second to (part second run.from (run.to - run.from))) (put_same : AreSameOutside kept' third last) where
+      module _ {first second third last : List ℕ} (inside : l.hi ≤ length first) (take_same : C.AreSameOutside kept first second) (slid : third ≡ C.put_part second to (part second run.from (run.to - run.from))) (put_same : C.AreSameOutside kept' third last) where
         pub come_too : part last to (run.to - run.from) ≡ part first run.from (run.to - run.from)
         come_too = come_along run.from to (run.to - run.from) first second third last kept kept' take_same slid put_same (source_in inside) (target_in inside)
             used_run used_now
 
-        pub others_same : AreSameBut to (run.to - run.from) (holes_of l) kept' first last
-        others_same = subst (λ (hs : List Span). AreSameBut to (run.to - run.from) hs kept' first last) (k.between ∙ ap holes_of is_l)
+        pub others_same : C.AreSameBut to (run.to - run.from) (holes_of l) kept' first last
+        others_same = subst (λ (hs : List Span). C.AreSameBut to (run.to - run.from) hs kept' first last) (k.between ∙ ap holes_of is_l)
             (others_stay run.from to (run.to - run.from) first second third last kept kept' take_same slid put_same (source_in inside) (target_in inside))
 
 -- Tables that are lent as slices and come back written tell what the slices tell.

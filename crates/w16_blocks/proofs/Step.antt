@@ -1,10 +1,12 @@
 -- What adding a block and taking one away make of the holes.
-use Rattle.w16_blocks.proofs.Common.{multiple_less, ℕ, ◌≡◌, ◌<◌, ◌≤◌, ◌+◌, ◌-◌, ◌^◌, ◌⊎◌, List, [], ◌∷◌, Some, arith, sym, ◌∙◌, subst, inl, inr, cases_lt, AllByRecursion, Block, Hold, Span, block_end, holes, block_with, Each-map, laid_each, AreHoles, IsFree, IsUsed}
-use Rattle.w16_blocks.proofs.Common.{IsPart, taken, joined, IsIn, multiple_sum, same_holes, AreHoles-taken, taken_in, in_taken, AreHoles-joined, joined_in, in_joined, Layout, IsApart, IsGrained, IsOrdered, Fits, FitsFor, placed, all_but, replaced, range_of, holes_of}
-use Rattle.w16_blocks.proofs.Place.{placed_after, placed_before, All-placed, IsLaid-placed}
-use Rattle.w16_blocks.proofs.Remove.{All-all_but, All-back, IsLaid-all_but, each_with, others_apart, others_differ}
-use Rattle.w16_blocks.proofs.Ordered.{IsOrdered-all_but}
-use Rattle.w16_blocks.proofs.Free.{Lacks, AreHoles-holes, free_lacks, lacks_free, are_between, used_of, free_of}
+use Rattle.w16_blocks.proofs
+use proofs.Common as C
+use proofs.Common.{ℕ, ◌≡◌, ◌<◌, ◌≤◌, ◌+◌, ◌-◌, ◌^◌, ◌⊎◌, List, [], ◌∷◌, Some, arith, sym, ◌∙◌, subst, inl, inr, cases_lt, AllByRecursion, Block, Hold, Span, block_end, holes, block_with, Each-map, IsPart, taken, joined, IsIn, AreHoles-taken, taken_in, in_taken, joined_in, in_joined}
+use proofs.Common.{Layout, IsApart, IsOrdered, Fits, FitsFor, placed, all_but, replaced, range_of, holes_of}
+use proofs.Place.{placed_after, placed_before, All-placed, IsLaid-placed}
+use proofs.Remove.{All-all_but, All-back, IsLaid-all_but, each_with, others_apart, others_differ}
+use proofs.Ordered.{IsOrdered-all_but}
+use proofs.Free.{Lacks, AreHoles-holes, free_lacks, lacks_free, are_between, used_of, free_of}
 
 pub All-first : (P : Block → Type 0) (b : Block) (bs : List Block) → AllByRecursion P (placed b bs) → P b × AllByRecursion P bs
 All-first P b [] all = (all.0, tt)
@@ -20,7 +22,7 @@ module _ (l : Layout) (b : Block) (fits : Fits l b) (ordered : IsOrdered l) wher
   lacked : (p : ℕ) → b.at ≤ p → p < block_end b → AllByRecursion (Lacks p) l.blocks
   lacked p from to = Each-map (λ c. IsApart b c) (Lacks p) (λ c apart. elim apart [ inl before ↦ inl (omega arith) | inr behind ↦ inr (omega arith) ]) l.blocks fits.apart
 
-  pub free_added : IsFree b.at (block_end b) (holes_of l)
+  pub free_added : C.IsFree b.at (block_end b) (holes_of l)
   free_added =
       let from = fits.inside.0 in let some = fits.inside.1 in let to = fits.inside.2 in
       free_of b.at (block_end b) l.lo l.hi (holes_of l) (omega arith) (AreHoles-holes l.lo l.lo l.hi l.blocks (omega arith) ordered.laid)
@@ -43,10 +45,10 @@ module _ (l : Layout) (b : Block) (fits : Fits l b) (ordered : IsOrdered l) wher
 -- an id's block that is taken away
 module _ (l : Layout) (id : ℕ) (x : Block) (known : block_with l.blocks id ≡ Some x) (ordered : IsOrdered l) where
   pub lies : (l.lo ≤ x.at) × (0 < x.size) × (block_end x ≤ l.hi)
-  lies = each_with (λ y. (l.lo ≤ y.at) × (0 < y.size) × (block_end y ≤ l.hi)) id x l.blocks known (laid_each l.lo l.hi l.blocks ordered.laid)
+  lies = each_with (λ y. (l.lo ≤ y.at) × (0 < y.size) × (block_end y ≤ l.hi)) id x l.blocks known (C.laid_each l.lo l.hi l.blocks ordered.laid)
 
-  pub grained_known : IsGrained l.grain x
-  grained_known = each_with (IsGrained l.grain) id x l.blocks known ordered.grained
+  pub grained_known : C.IsGrained l.grain x
+  grained_known = each_with (C.IsGrained l.grain) id x l.blocks known ordered.grained
 
   pub part_known : IsPart (range_of l) x.at x.size
   part_known = record { some = lies.1; from = lies.0; to = lies.2; grained = grained_known.0; rounded = grained_known.1 }
@@ -54,7 +56,7 @@ module _ (l : Layout) (id : ℕ) (x : Block) (known : block_with l.blocks id ≡
   pub lacks_known : (p : ℕ) → IsIn p (holes_of l) → Lacks p x
   lacks_known p is = each_with (Lacks p) id x l.blocks known (free_lacks p l.lo l.hi l.blocks ordered.laid is).2
 
-  pub used_known : IsUsed x.at (block_end x) (holes_of l)
+  pub used_known : C.IsUsed x.at (block_end x) (holes_of l)
   used_known =
       let some = lies.1 in
       used_of x.at (block_end x) l.lo l.hi (holes_of l) (omega arith) (AreHoles-holes l.lo l.lo l.hi l.blocks (omega arith) ordered.laid)
@@ -67,7 +69,7 @@ module _ (l : Layout) (id : ℕ) (x : Block) (known : block_with l.blocks id ≡
       let are = AreHoles-holes l.lo l.lo l.hi l.blocks (omega arith) ordered.laid in
       let laid = IsLaid-all_but l.lo l.hi id l.blocks ordered.laid in
       are_between l.lo l.hi (all_but id l.blocks) (joined x.at (block_end x) (holes_of l)) laid
-      (AreHoles-joined x.at (block_end x) l.lo l.hi (holes_of l) some from to are used_known)
+      (C.AreHoles-joined x.at (block_end x) l.lo l.hi (holes_of l) some from to are used_known)
       (λ p is. elim (in_joined x.at (block_end x) p (holes_of l) is) [
         | inl old ↦ let f = free_lacks p l.lo l.hi l.blocks ordered.laid old in (f.0, f.1, All-all_but (Lacks p) id l.blocks f.2)
         | inr new ↦ let s = new.0 in let e = new.1 in (omega arith, omega arith, lacked_by_others p s e)
@@ -87,7 +89,7 @@ module _ (l : Layout) (id : ℕ) (x : Block) (known : block_with l.blocks id ≡
 -- a block in place of the one of its id
 module _ (l : Layout) (b x : Block) (known : block_with l.blocks b.id ≡ Some x) (fits : FitsFor l b) (ordered : IsOrdered l) (ids : l.cap < 2 ^ 32) where
   -- the holes that it leaves are told by their bytes: those that were free or the old one's, and are not the new one's
-  pub holes_moved : (ks : List Span) → AreHoles l.lo l.hi ks
+  pub holes_moved : (ks : List Span) → C.AreHoles l.lo l.hi ks
       → ((p : ℕ) → IsIn p ks → (IsIn p (holes_of l) ⊎ ((x.at ≤ p) × (p < block_end x))) × Lacks p b)
       → ((p : ℕ) → IsIn p (holes_of l) ⊎ ((x.at ≤ p) × (p < block_end x)) → Lacks p b → IsIn p ks)
       → ks ≡ holes l.lo l.hi (replaced b l.blocks)
@@ -99,7 +101,7 @@ module _ (l : Layout) (b x : Block) (known : block_with l.blocks b.id ≡ Some x
       let holes_rest = AreHoles-holes l.lo l.lo l.hi rest.blocks (omega arith) left.laid in
       let free = free_added rest b fits left in
       let joins = holes_left l b.id x known ordered in
-      same_holes l.hi l.lo l.lo ks (taken b.at (block_end b) (holes_of rest)) are (AreHoles-taken l.hi b.at (block_end b) some l.lo (holes_of rest) holes_rest free)
+      C.same_holes l.hi l.lo l.lo ks (taken b.at (block_end b) (holes_of rest)) are (AreHoles-taken l.hi b.at (block_end b) some l.lo (holes_of rest) holes_rest free)
       (λ p is. let r = to p is in taken_in l.hi b.at (block_end b) some l.lo p (holes_of rest) holes_rest free r.1 (subst (IsIn p) joins (joined_in x.at (block_end x) p (holes_of l) r.0)))
       (λ p is. let r = in_taken l.hi b.at (block_end b) some l.lo p (holes_of rest) holes_rest free is in from p (in_joined x.at (block_end x) p (holes_of l) (subst (IsIn p) (sym joins) r.0)) r.1)
       ∙ holes_added rest b fits left
@@ -125,7 +127,7 @@ fits_itself l x hold lt known ordered = record {
 
 -- An id's block with another size: what it has more is taken, or what it has less is put.
 module _ (l : Layout) (x : Block) (size : ℕ) (known : block_with l.blocks x.id ≡ Some x) (fits : FitsFor l (record x { size = size })) (ordered : IsOrdered l) (ids : l.cap < 2 ^ 32) where
-  are_free : AreHoles l.lo l.hi (holes_of l)
+  are_free : C.AreHoles l.lo l.hi (holes_of l)
   are_free = AreHoles-holes l.lo l.lo l.hi l.blocks (omega arith) ordered.laid
 
   pub part_more : x.size < size → IsPart (range_of l) (x.at + x.size) (size - x.size)
@@ -134,8 +136,8 @@ module _ (l : Layout) (x : Block) (size : ℕ) (known : block_with l.blocks x.id
         some = omega arith;
         from = omega arith;
         to = omega arith;
-        grained = multiple_sum l.grain x.at x.size grained.0 grained.1;
-        rounded = multiple_less l.grain size x.size fits.grained.1 grained.1;
+        grained = C.multiple_sum l.grain x.at x.size grained.0 grained.1;
+        rounded = C.multiple_less l.grain size x.size fits.grained.1 grained.1;
       }
 
   pub part_less : size < x.size → IsPart (range_of l) (x.at + size) (x.size - size)
@@ -144,11 +146,11 @@ module _ (l : Layout) (x : Block) (size : ℕ) (known : block_with l.blocks x.id
         some = omega arith;
         from = omega arith;
         to = omega arith;
-        grained = multiple_sum l.grain x.at size grained.0 fits.grained.1;
-        rounded = multiple_less l.grain x.size size grained.1 fits.grained.1;
+        grained = C.multiple_sum l.grain x.at size grained.0 fits.grained.1;
+        rounded = C.multiple_less l.grain x.size size grained.1 fits.grained.1;
       }
 
-  pub free_more : x.size < size → IsFree (x.at + x.size) (x.at + x.size + (size - x.size)) (holes_of l)
+  pub free_more : x.size < size → C.IsFree (x.at + x.size) (x.at + x.size + (size - x.size)) (holes_of l)
   free_more more =
       let end = fits.inside.2 in let from = (lies l x.id x known ordered).0 in
       free_of (x.at + x.size) (x.at + x.size + (size - x.size)) l.lo l.hi (holes_of l) (omega arith) are_free
@@ -173,7 +175,7 @@ module _ (l : Layout) (x : Block) (size : ℕ) (known : block_with l.blocks x.id
         | inr has ↦ let s = has.0 in let e = has.1 in elim lacks [ inl before ↦ absurd (omega arith) | inr behind ↦ absurd (omega arith) ]
       ])
 
-  pub used_less : size < x.size → IsUsed (x.at + size) (x.at + size + (x.size - size)) (holes_of l)
+  pub used_less : size < x.size → C.IsUsed (x.at + size) (x.at + size + (x.size - size)) (holes_of l)
   used_less less =
       used_of (x.at + size) (x.at + size + (x.size - size)) l.lo l.hi (holes_of l) (omega arith) are_free
       (λ p s e is. elim (lacks_known l x.id x known ordered p is) [ inl before ↦ omega arith | inr behind ↦ omega arith ])
@@ -182,7 +184,7 @@ module _ (l : Layout) (x : Block) (size : ℕ) (known : block_with l.blocks x.id
   holes_less less =
       let a = x.at + size in let b = x.at + size + (x.size - size) in
       let inside = lies l x.id x known ordered in let from = inside.0 in let to = inside.2 in
-      holes_moved l (record x { size = size }) x known fits ordered ids (joined a b (holes_of l)) (AreHoles-joined a b l.lo l.hi (holes_of l) (omega arith) (omega arith) (omega arith) are_free (used_less less))
+      holes_moved l (record x { size = size }) x known fits ordered ids (joined a b (holes_of l)) (C.AreHoles-joined a b l.lo l.hi (holes_of l) (omega arith) (omega arith) (omega arith) are_free (used_less less))
       (λ p is. elim (in_joined a b p (holes_of l) is) [
         | inl old ↦ (inl old, elim (lacks_known l x.id x known ordered p old) [ inl before ↦ inl before | inr behind ↦ inr (omega arith) ])
         | inr new ↦ let s = new.0 in let e = new.1 in (inr (omega arith, omega arith), inr s)

@@ -1,8 +1,6 @@
 -- What is known of blocks once a run of them has slid down, as it was before.
 use Rattle.w16_blocks.proofs.Common.{ℕ, ◌≡◌, ◌≢◌, ◌<◌, ◌≤◌, ◌⊎◌, List, map, Some, arith, sym, ap, ◌∙◌, subst, inl, inr, cases_lt, AllByRecursion, Block, Span, block_end, block_with, laid_each, Layout, IsOrdered, slid_with}
-use Rattle.w16_blocks.proofs.RunHoles.{All-unmapped}
-use Rattle.w16_blocks.proofs.Rising.{with_back, slid_id}
-use Rattle.w16_blocks.proofs.Sliding.{slid_below, slid_above, slid_inside}
+use Rattle.w16_blocks.proofs.{RunHoles.All-unmapped, Rising.with_back, Rising.slid_id, Sliding.slid_below, Sliding.slid_above, Sliding.slid_inside}
 
 -- a block that stands behind those that have slid stood there
 pub unslid : (from at to : ℕ) (x : Block) (old now : List Block) → to ≤ from → from ≤ at → at ≤ x.at → now ≡ map (slid_with (record { from = from; to = at }) to) old → block_with now x.id ≡ Some x → block_with old x.id ≡ Some x

@@ -1,8 +1,9 @@
 -- The blocks from an address on, one after another.
-use Rattle.w16_blocks.proofs.Common.{ℕ, zero, suc, ◌≡◌, ◌<◌, ◌≤◌, List, [], ◌∷◌, drop, Some, None, is_some, arith, refl, sym, ap, ◌∙◌, subst, inl, inr, slice_get, cases_lt}
-use Rattle.w16_blocks.proofs.Common.{false≢true, AllByRecursion, Block, IsLaid, block_end, Each-map, laid_each, Layout, IsOrdered, rank, from_address, block_with, eqb_tells}
-use Rattle.w16_blocks.proofs.Next.{rank_none, rank_more, rank_same}
-use Rattle.w16_blocks.proofs.Remove.{each_with, with_other}
+use Rattle.w16_blocks.proofs
+use proofs.Common as C
+use proofs.Common.{ℕ, zero, suc, ◌≡◌, ◌<◌, ◌≤◌, List, [], ◌∷◌, drop, Some, None, is_some, arith, refl, sym, ap, ◌∙◌, subst, inl, inr, slice_get, false≢true, Block, block_end, laid_each, rank, from_address}
+use proofs.Next.{rank_none, rank_more, rank_same}
+use proofs.Remove.{each_with, with_other}
 
 pub none_left : (bs : List Block) (k : ℕ) → None ≡ slice_get bs k → drop k bs ≡ []
 none_left [] zero e = refl
@@ -10,19 +11,19 @@ none_left [] (suc k) e = refl
 none_left (b ∷ bs) zero e = absurd (false≢true (ap is_some e))
 none_left (b ∷ bs) (suc k) e = none_left bs k e
 
-each_got : (P : Block → Type 0) (bs : List Block) (k : ℕ) (x : Block) → Some x ≡ slice_get bs k → AllByRecursion P bs → P x
+each_got : (P : Block → Type 0) (bs : List Block) (k : ℕ) (x : Block) → Some x ≡ slice_get bs k → C.AllByRecursion P bs → P x
 each_got P [] zero x e all = absurd (false≢true (sym (ap is_some e)))
 each_got P [] (suc k) x e all = absurd (false≢true (sym (ap is_some e)))
 each_got P (b ∷ bs) zero x e all = let same : b ≡ x = cc in subst P same all.0
 each_got P (b ∷ bs) (suc k) x e all = each_got P bs k x e all.1
 
 -- the first of them, and those behind it
-pub one_more : (lo hi at : ℕ) (x : Block) (bs : List Block) → IsLaid lo hi bs → Some x ≡ slice_get bs (rank at bs) → from_address at bs ≡ x ∷ from_address (block_end x) bs
+pub one_more : (lo hi at : ℕ) (x : Block) (bs : List Block) → C.IsLaid lo hi bs → Some x ≡ slice_get bs (rank at bs) → from_address at bs ≡ x ∷ from_address (block_end x) bs
 one_more lo hi at x [] laid e = absurd (false≢true (sym (ap is_some e)))
 one_more lo hi at x (b ∷ bs) laid e =
     let size = laid.1 in
     let later = laid_each (block_end b) hi bs laid.2 in
-    elim (cases_lt b.at at) [
+    elim (C.cases_lt b.at at) [
       | inl lt ↦
           let e' : Some x ≡ slice_get bs (rank at bs) = e ∙ ap (slice_get (b ∷ bs)) (rank_more at b bs lt) in
           let behind = (each_got (λ y. (block_end b ≤ y.at) × (0 < y.size) × (block_end y ≤ hi)) bs (rank at bs) x e' later).0 in
@@ -31,18 +32,18 @@ one_more lo hi at x (b ∷ bs) laid e =
       | inr ge ↦
           let first : Some x ≡ Some b = e ∙ ap (slice_get (b ∷ bs)) (rank_same at b bs ge) in let same : b ≡ x = cc in
           let rest : rank (block_end b) (b ∷ bs) ≡ 1 =
-          rank_more (block_end b) b bs (omega arith) ∙ ap suc (rank_none (block_end b) bs (Each-map (λ y. (block_end b ≤ y.at) × (0 < y.size) × (block_end y ≤ hi)) (λ c. block_end b ≤ c.at) (λ y is. is.0) bs later)) in
+          rank_more (block_end b) b bs (omega arith) ∙ ap suc (rank_none (block_end b) bs (C.Each-map (λ y. (block_end b ≤ y.at) × (0 < y.size) × (block_end y ≤ hi)) (λ c. block_end b ≤ c.at) (λ y is. is.0) bs later)) in
           ap (λ (n : ℕ). drop n (b ∷ bs)) (rank_same at b bs ge) ∙ ap (λ (n : ℕ). b ∷ drop n (b ∷ bs)) (sym rest) ∙ ap (λ (y : Block). y ∷ from_address (block_end y) (b ∷ bs)) same
     ]
 
 -- it ends below the largest number
-pub ends_small : (l : Layout) (at : ℕ) (x : Block) → IsOrdered l → Some x ≡ slice_get l.blocks (rank at l.blocks) → block_end x ≤ l.hi
+pub ends_small : (l : C.Layout) (at : ℕ) (x : Block) → C.IsOrdered l → Some x ≡ slice_get l.blocks (rank at l.blocks) → block_end x ≤ l.hi
 ends_small l at x ordered e = (each_got (λ y. (l.lo ≤ y.at) × (0 < y.size) × (block_end y ≤ l.hi)) l.blocks (rank at l.blocks) x e (laid_each l.lo l.hi l.blocks ordered.laid)).2
 
 -- a block is the first from where it begins
-pub first_at : (lo hi : ℕ) (x : Block) (bs : List Block) → IsLaid lo hi bs → block_with bs x.id ≡ Some x → slice_get bs (rank x.at bs) ≡ Some x
+pub first_at : (lo hi : ℕ) (x : Block) (bs : List Block) → C.IsLaid lo hi bs → C.block_with bs x.id ≡ Some x → slice_get bs (rank x.at bs) ≡ Some x
 first_at lo hi x [] laid known = absurd (false≢true (ap is_some known))
-first_at lo hi x (b ∷ bs) laid known = elim (eqb_tells b.id x.id) [
+first_at lo hi x (b ∷ bs) laid known = elim (C.eqb_tells b.id x.id) [
   | inl same ↦ let own : Some b ≡ Some x = rw same.0 at known in let is : b ≡ x = cc in
       ap (slice_get (b ∷ bs)) (rank_same x.at b bs (let at = ap (λ (c : Block). c.at) is in omega arith)) ∙ own
   | inr other ↦

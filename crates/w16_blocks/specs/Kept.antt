@@ -1,11 +1,7 @@
 -- What the code keeps: a table of blocks by id, and by unit of grain the block that begins there.
 use Rattle.std.specs.Prelude.{ℕ, zero, suc, ◌<◌, ◌≡◌, ◌+◌, ◌*◌, ◌-◌, ◌^◌, List, [], ◌∷◌, length, slice_index, slice_index_or, sum_by}
-use Rattle.w16_model.specs.declared.Block.{Block}
-use Rattle.w16_model.specs.declared.Span.{Span}
-use Rattle.w16_model.specs.declared.Hold.{Hold}
-use Rattle.w16_model.specs.declared.Hold.TheVariants.{Pinned, Loose}
-use Rattle.w16_holes.specs.Holes.{Range}
-use Rattle.w16_holes.specs.declared.holes.TheConstants.{LAST_END}
+use Rattle.w16_model.specs.{declared.Block.Block, declared.Span.Span, declared.Hold.Hold, declared.Hold.TheVariants.Pinned, declared.Hold.TheVariants.Loose}
+use Rattle.w16_holes.specs.{Holes.Range, declared.holes.TheConstants.LAST_END}
 use Rattle.w16_blocks.specs.Layout.{Layout, range_of, holes_of, IsOrdered}
 
 -- what the table has for an id without a block

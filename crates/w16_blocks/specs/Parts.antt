@@ -1,11 +1,8 @@
 -- The parts of a range, which are its blocks and the holes between them, and the first of them from an address on.
 use Rattle.std.specs.Prelude.{ℕ, ◌≡◌, ◌<◌, ◌≤◌, ◌⊎◌, All, Some, None, slice_get}
-use Rattle.w16_model.specs.declared.Block.{Block}
-use Rattle.w16_model.specs.declared.Span.{Span}
-use Rattle.w16_model.specs.Gap.{IsHole}
-use Rattle.w16_blocks.specs.declared.parts.Part.{Part}
+use Rattle.w16_model.specs.{declared.Block.Block, declared.Span.Span, Gap.IsHole}
 use Rattle.w16_blocks.specs.declared.parts.Part.TheVariants.{Hole, Block as Taken}
-use Rattle.w16_blocks.specs.Layout.{Layout, rank}
+use Rattle.w16_blocks.specs.{declared.parts.Part.Part, Layout.Layout, Layout.rank}
 
 -- if a part is a hole, this holds of it
 abbrev pub IfHole : Part → (Span → Type 0) → Type 0

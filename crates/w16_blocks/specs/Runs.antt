@@ -1,10 +1,7 @@
 -- A run of blocks, which slides as one.
 use Rattle.std.specs.Prelude.{ℕ, ◌≡◌, ◌≢◌, ◌+◌, ◌-◌, ◌<◌, ◌≤◌, ◌⊎◌, ◌&&◌, nat_le, nat_lt, if◌then◌else◌, List}
 use Rattle.std.specs.List.{AllByRecursion}
-use Rattle.w16_model.specs.declared.Block.{Block}
-use Rattle.w16_model.specs.declared.Span.{Span}
-use Rattle.w16_model.specs.Gap.{block_end}
-use Rattle.w16_model.specs.Heap.{IsMultiple}
+use Rattle.w16_model.specs.{declared.Block.Block, declared.Span.Span, Gap.block_end, Heap.IsMultiple}
 use Rattle.w16_holes.specs.Law.{IsIn}
 use Rattle.w16_blocks.specs.Layout.{Layout, holes_of}
 

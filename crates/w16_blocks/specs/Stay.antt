@@ -1,8 +1,7 @@
 -- What code over a range asks of a memory, and what it leaves of one.
 use Rattle.std.specs.Prelude.{ℕ, ◌≡◌, ◌≤◌, ◌+◌, List, length}
 use Rattle.std.specs.Borrow.{GName}
-use Rattle.w16_model.specs.Bytes.{part}
-use Rattle.w16_model.specs.declared.Span.{Span}
+use Rattle.w16_model.specs.{Bytes.part, declared.Span.Span}
 use Rattle.w16_holes.specs.Holes.{IsUsed}
 
 -- a memory that has what is kept of a range's holes, and all bytes of the range, which ends at `hi`

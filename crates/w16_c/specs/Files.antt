@@ -1,13 +1,11 @@
 -- Module files that come from C, and what names things in them.
 use Rattle.std.specs.Prelude.{◌≡◌, ℕ, ◌⊎◌, true, MatchBool, nat_lt, List, [], ◌∷◌, ◌++◌, length, drop, Option, Some, None, IfSome}
 use Rattle.w16_store.specs.Files.{file_of}
-use Rattle.w16_loading.specs.File.{Label}
-use Rattle.w16_loading.specs.File.Label.{Number, Text}
+use Rattle.w16_loading.specs.{File.Label, File.Label.Number, File.Label.Text}
 use Rattle.w16_kernel.specs.declared.growing.AddFault.TheVariants.{Exists, Memory}
 use Rattle.w16_kernel.specs.Growing.{AddsFile, IsNotAdded}
-use Rattle.w16_c.specs.declared.held.Held.{Held}
 use Rattle.w16_c.specs.declared.status.TheConstants.{DONE, NO_MACHINE, NO_MEMORY, BAD_SIZE, EXISTS, NONE_MISSING}
-use Rattle.w16_c.specs.Makes.{IsEmpty}
+use Rattle.w16_c.specs.{declared.held.Held.Held, Makes.IsEmpty}
 
 -- a machine is held, and its world is the same
 abbrev pub SameMachine : Held → Held → Type 0

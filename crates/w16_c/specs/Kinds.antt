@@ -7,9 +7,7 @@ use Rattle.w16_loading.specs.Families.ModuleCommand.{Builtin, LoadModule, LoadLi
 use Rattle.w16_loading.specs.Families.ResourceCommand.{FindResource, LoadResource, FreeResource, SizeofResource}
 use Rattle.w16_loading.specs.Replies.{Reply}
 use Rattle.w16_loading.specs.Replies.Reply.{Word, Dword, Bytes, Done, Fault, Failed}
-use Rattle.w16_machine.specs.LocalCalls.LocalCommand.{DS}
-use Rattle.w16_machine.specs.Machine.{Command}
-use Rattle.w16_machine.specs.Machine.Command.{OfLoading, OfLocals}
+use Rattle.w16_machine.specs.{LocalCalls.LocalCommand.DS, Machine.Command, Machine.Command.OfLoading, Machine.Command.OfLocals}
 
 -- by a word: a handle, a name, an offset, flags, or a count of locks
 abbrev pub AnswersWord : Command → Type 0

@@ -1,19 +1,17 @@
 -- What a call on a holder leaves, and the status that it answers.
+use Rattle.w16_c.specs
 use Rattle.std.specs.Prelude.{◌≡◌, ℕ, ◌⊎◌, true, false, List, [], ◌∷◌}
 use Rattle.w16_model.specs.declared.FarFault.{FarFault}
-use Rattle.w16_model.specs.declared.FarFault.TheVariants as fault
-use Rattle.w16_loading.specs.declared.FetchFault.{FetchFault}
-use Rattle.w16_loading.specs.declared.FetchFault.TheVariants as fetch
-use Rattle.w16_loading.specs.Replies.{Reply}
 use Rattle.w16_loading.specs.Replies.Reply.{Word, Dword, Bytes, Done, Fault, Failed}
+use Rattle.w16_loading.specs.{declared.FetchFault.FetchFault, Replies.Reply}
 use Rattle.w16_machine.specs.Machine.{Command, IsSame}
 use Rattle.w16_writes.specs.Promises.{Promises}
-use Rattle.w16_kernel.specs.Parts.{KernelStep}
-use Rattle.w16_kernel.specs.Runs.{TakesMemory}
-use Rattle.w16_c.specs.declared.held.Held.{Held}
-use Rattle.w16_c.specs.declared.asked.Refusal.{Refusal}
-use Rattle.w16_c.specs.declared.asked.Refusal.TheVariants.{NoMachine, NoMemory}
-use Rattle.w16_c.specs.declared.status.TheConstants.{DONE, NO_MACHINE, NO_MEMORY, BAD_SIZE, FAULT_SELECTOR, FAULT_READ_ONLY, FAULT_NOT_PRESENT, FAULT_LIMIT, FAULT_ROOM, FAULT_STORE, FAULT_DAMAGED}
+use Rattle.w16_kernel.specs.{Parts.KernelStep, Runs.TakesMemory}
+use specs.declared.asked.Refusal.TheVariants.{NoMachine, NoMemory}
+use specs.declared.status.TheConstants.{DONE, NO_MACHINE, NO_MEMORY, BAD_SIZE, FAULT_SELECTOR, FAULT_READ_ONLY, FAULT_NOT_PRESENT, FAULT_LIMIT, FAULT_ROOM, FAULT_STORE, FAULT_DAMAGED}
+use specs.{declared.held.Held.Held, declared.asked.Refusal.Refusal}
+use Rattle.w16_model.specs.declared.FarFault.TheVariants as fault
+use Rattle.w16_loading.specs.declared.FetchFault.TheVariants as fetch
 
 -- The command is a step of the machine that is held, and a run of this one step keeps what every run promises.
 pub record Makes (old : Held) (command : Command) (reply : Reply) (new : Held) : Type 0 where

@@ -3,12 +3,9 @@ use base.Fml.{Fml}
 use base.Stored.{Coded}
 use denote.RattleType.{RattleType}
 use denote.RawPtr.{Ptr}
-use Rattle.std.specs.Box.Ownership.{box_owns}
-use Rattle.std.specs.Global.{Global}
-use Rattle.std.specs.Prelude.{Bool}
-use Rattle.std.specs.Vec.Ownership.{owns_if}
-use Rattle.std_heap.specs.contracts.Global as Heap
+use Rattle.std.specs.{Box.Ownership.box_owns, Global.Global, Prelude.Bool, Vec.Ownership.owns_if}
 use Rattle.std_heap.specs.contracts.GlobalAllocator.TheImpl.{ghosts}
+use Rattle.std_heap.specs.contracts.Global as Heap
 use Rattle.core.specs.declared.clone.Clone as Clone
 use Rattle.w16_kernel.specs.contracts.growing.GrowingStore as store
 use Rattle.w16_kernel.specs.contracts.growing.GrowingStoreStore.TheImpl as stores

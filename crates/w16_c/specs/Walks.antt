@@ -1,13 +1,9 @@
 -- Parts of the heap, as C sees them.
 use Rattle.std.specs.Prelude.{◌≡◌, ℕ, Option, Some, None}
-use Rattle.w16_model.specs.declared.Kind.TheVariants as kinds
-use Rattle.w16_model.specs.declared.Kind.{Kind}
-use Rattle.w16_model.specs.declared.Item.{Item}
-use Rattle.w16_model.specs.Handles.{handle_of}
-use Rattle.w16_model.specs.Walk.{IsFirstItem}
-use Rattle.w16_c.specs.declared.held.Held.{Held}
-use Rattle.w16_c.specs.declared.part.Part.{Part}
+use Rattle.w16_model.specs.{declared.Kind.Kind, declared.Item.Item, Handles.handle_of, Walk.IsFirstItem}
 use Rattle.w16_c.specs.declared.status.TheConstants.{DONE, END}
+use Rattle.w16_c.specs.{declared.held.Held.Held, declared.part.Part.Part}
+use Rattle.w16_model.specs.declared.Kind.TheVariants as kinds
 
 -- the number of a kind; a hole has 0
 abbrev pub kind_number : Kind → ℕ

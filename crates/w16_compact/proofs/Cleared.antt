@@ -1,8 +1,9 @@
 -- What a gather leaves: the same blocks, and one hole.
-use Rattle.w16_compact.proofs.Common.{◌≡◌, ℕ, ◌+◌, ◌<◌, ◌≤◌, ◌⊎◌, inl, inr, IsTrue, List, [], ◌∷◌, refl, sym, ap, ◌∙◌, subst, arith, min, max, AllByRecursion, lt-ltb, le-ltb, cases_lt, false≢true, Block, Loose, IsLaid}
-use Rattle.w16_compact.proofs.Common.{IsGap, IsHole, is_pinned, holds_still, loose_bytes, block_end, is_any, Misses, IsClear, Layout, gathered, packed, FitsGap, MayGather, AreSlid, Each-map, All-from_Each, Each-from_All}
-use Rattle.w16_compact.proofs.Loose.{loose_none, loose_here, loose_one}
-use Rattle.w16_compact.proofs.Walked.{laid_from}
+use Rattle.w16_compact.proofs
+use proofs.Common.{◌≡◌, ℕ, ◌+◌, ◌<◌, ◌≤◌, ◌⊎◌, inl, inr, IsTrue, List, [], ◌∷◌, refl, sym, ap, ◌∙◌, subst, arith, min, max, AllByRecursion, lt-ltb, le-ltb, cases_lt, false≢true, Block, Loose, IsLaid, IsGap, IsHole, is_pinned, holds_still, loose_bytes, block_end, is_any, Misses, IsClear}
+use proofs.Common.{Layout, gathered, packed, FitsGap, MayGather, AreSlid, Each-map, All-from_Each, Each-from_All}
+use proofs.Loose.{loose_none, loose_here, loose_one}
+use proofs.Walked.{laid_from}
 
 pub inside_is : (low high : ℕ) (b : Block) → 0 < b.size → low ≤ b.at → b.at < high → FitsGap low high b → (block_end b ≤ high) × (b.hold ≡ Loose)
 inside_is low high b some le lt (inl e) = absurd (omega arith)

@@ -1,9 +1,9 @@
 -- A table is filled by one pass.
+use Rattle.w16_compact.proofs
 use Rattle.std.specs.List.{AllByRecursion as Each}
-use Rattle.w16_compact.proofs.Common.{slice_index, ◌≡◌, ◌≢◌, ℕ, ◌+◌, ◌-◌, ◌<◌, ◌≤◌, Bool, true, false, cond, filter, List, [], ◌∷◌, length, set, refl, sym, ◌∙◌, subst, arith}
-use Rattle.w16_compact.proofs.Common.{false≢true, cond-true, cond-false, get_or-set_same, get_or-set_other, Block, is_pinned, block_end, Each-map, Each-filter, AreNamed, Reached}
-use Rattle.w16_compact.proofs.Common.{Tells}
-use Rattle.w16_compact.proofs.Skips.{passed, ids_below}
+use proofs.Common.{slice_index, ◌≡◌, ◌≢◌, ℕ, ◌+◌, ◌-◌, ◌<◌, ◌≤◌, Bool, true, false, cond, filter, List, [], ◌∷◌, length, set, refl, sym, ◌∙◌, subst, arith, false≢true, cond-true, cond-false, get_or-set_same, get_or-set_other, Block, is_pinned, block_end, Each-map, Each-filter, AreNamed}
+use proofs.Common.{Reached, Tells}
+use proofs.Skips.{passed, ids_below}
 
 pub named_filter : (p : Block → Bool) (cap : ℕ) (xs : List Block) → AreNamed cap xs → AreNamed cap (filter p xs)
 named_filter p cap [] named = tt

@@ -1,11 +1,11 @@
 -- A gather from its start, by a run, to its end.
-use Rattle.w16_compact.proofs.Common.{ℕ, ◌≡◌, ◌≢◌, ◌+◌, ◌-◌, ◌<◌, ◌≤◌, ◌⊎◌, max, List, [], ◌∷◌, map, cond, eqb, Some, is_some, arith, refl, sym, ◌∙◌, subst, ap, inl, inr, slice_get, IfSome, lt-ltb, le-ltb, cases_lt, eq-eqb, cond-true}
-use Rattle.w16_compact.proofs.Common.{cond-false, false≢true, eqb_tells, AllByRecursion, Block, Span, IsLaid, block_end, IsMultiple, Each-map, Each-both, multiple_sum, Layout, IsGrained, IsOrdered, rank, IsCut, IsRun, IsBare, EndsAt}
-use Rattle.w16_compact.proofs.Common.{slid_with, Lacks, later, free_lacks, lacks_free, multiple_less, slid_below, slid_above, slid_inside, map-same, Lies, lies_of, All-mapped, All-unmapped, gathered, packed, moved_between, FitsGap}
-use Rattle.w16_compact.proofs.Common.{MayGather}
+use Rattle.w16_compact.proofs
+use proofs.Common as C
+use proofs.Common.{ℕ, ◌≡◌, ◌≢◌, ◌+◌, ◌-◌, ◌<◌, ◌≤◌, ◌⊎◌, max, List, [], ◌∷◌, map, cond, eqb, Some, arith, refl, sym, ◌∙◌, subst, ap, inl, inr, slice_get, IfSome, lt-ltb, le-ltb, cases_lt, eq-eqb, false≢true, AllByRecursion, Block, Span, IsLaid, block_end, Each-map, Layout, IsOrdered, rank}
+use proofs.Common.{IsCut, IsRun, IsBare, Lacks, later, lacks_free, slid_below, slid_above, slid_inside, Lies, All-mapped, gathered, packed, moved_between, FitsGap}
+use proofs.Settled.{same_layout}
+use proofs.Order.{each_got, apart_got, all_from}
 use Rattle.std.proofs.lemmas.Bool.{ne_eqb}
-use Rattle.w16_compact.proofs.Settled.{same_layout}
-use Rattle.w16_compact.proofs.Order.{each_got, apart_got, all_from}
 
 pub moved_same : (bs : List Block) → moved_between bs bs ≡ 0
 moved_same [] = refl
@@ -26,7 +26,7 @@ cut_high low high bs le all = Each-map (FitsGap low high) (λ b. (block_end b �
       | inr other ↦ elim other [ inl above ↦ inr above | inr inside ↦ inl inside.1 ]
     ]) bs all
 
-pub run_start : (l : Layout) (low high : ℕ) → MayGather l low high → IsMultiple l.grain low → IsRun l (record { from = low; to = low })
+pub run_start : (l : Layout) (low high : ℕ) → C.MayGather l low high → C.IsMultiple l.grain low → IsRun l (record { from = low; to = low })
 run_start l low high may grained =
     let one = may.inside.1 in let two = may.inside.2 in let cut = cut_low low high l.blocks one may.loose in
     record { inside = (may.inside.0, omega arith, omega arith); grained = (grained, grained); whole = (cut, cut); full = λ p from to free. absurd (omega arith) }
@@ -44,7 +44,7 @@ kept_start to (b ∷ bs) = (refl, (λ le. refl), kept_start to bs)
 
 -- The block that is reached from a place: nothing begins between, and no block reaches over where it begins.
 pub reached : (low high to : ℕ) (bs : List Block) (b : Block) → IsLaid low high bs → slice_get bs (rank to bs) ≡ Some b → (to ≤ b.at) × AllByRecursion (λ c. (c.at < to) ⊎ (b.at ≤ c.at)) bs × IsCut b.at bs
-reached low high to [] b laid got = absurd (false≢true (ap is_some got))
+reached low high to [] b laid got = absurd (false≢true (ap C.is_some got))
 reached low high to (c ∷ cs) b laid got = elim (cases_lt c.at to) [
   | inl lt ↦
       let got' : slice_get cs (rank to cs) ≡ Some b = rw (lt-ltb c.at to lt) at got in
@@ -62,14 +62,14 @@ reached low high to (c ∷ cs) b laid got = elim (cases_lt c.at to) [
 -- so no block has a byte from the place on up to it
 pub bare_before : (to from : ℕ) (bs : List Block) → AllByRecursion (λ c. (c.at < to) ⊎ (from ≤ c.at)) bs → IsCut to bs → IsBare to from bs
 bare_before to from bs begin cut =
-    Each-both (λ c. (c.at < to) ⊎ (from ≤ c.at)) (λ c. (block_end c ≤ to) ⊎ (to ≤ c.at)) (λ c. (block_end c ≤ to) ⊎ (from ≤ c.at))
+    C.Each-both (λ c. (c.at < to) ⊎ (from ≤ c.at)) (λ c. (block_end c ≤ to) ⊎ (to ≤ c.at)) (λ c. (block_end c ≤ to) ⊎ (from ≤ c.at))
     (λ c one two. elim one [
       | inl below ↦ elim two [ inl end ↦ inl end | inr above ↦ absurd (omega arith) ]
       | inr above ↦ inr above
     ]) bs begin cut
 
 -- and its run has bytes
-pub some_run : (l : Layout) (high end i : ℕ) (b : Block) → slice_get l.blocks i ≡ Some b → b.at < high → b.at ≤ end → EndsAt l high end → b.at < end
+pub some_run : (l : Layout) (high end i : ℕ) (b : Block) → slice_get l.blocks i ≡ Some b → b.at < high → b.at ≤ end → C.EndsAt l high end → b.at < end
 some_run l high end i b got lt le last = elim last [
   | inl top ↦ omega arith
   | inr none ↦ elim (cases_lt b.at end) [ inl less ↦ less | inr more ↦ absurd (each_got (λ c. c.at ≢ end) l.blocks i b got none (omega arith)) ]
@@ -80,14 +80,14 @@ module _ (l : Layout) (ordered : IsOrdered l) (low high : ℕ) (to : ℕ) (run :
     (is : IsRun l run) (bare : IsBare to run.from l.blocks) where
   -- where it stands there already nothing changes, and else the block that is in it lies lower
   lies : AllByRecursion (λ b. Lies run b × ((block_end b ≤ to) ⊎ (run.from ≤ b.at))) l.blocks
-  lies = Each-both (Lies run) (λ b. (block_end b ≤ to) ⊎ (run.from ≤ b.at)) (λ b. Lies run b × ((block_end b ≤ to) ⊎ (run.from ≤ b.at))) (λ b one two. (one, two)) l.blocks
-      (lies_of run l.lo l.hi l.blocks ordered.laid is.whole.0 is.whole.1) bare
+  lies = C.Each-both (Lies run) (λ b. (block_end b ≤ to) ⊎ (run.from ≤ b.at)) (λ b. Lies run b × ((block_end b ≤ to) ⊎ (run.from ≤ b.at))) (λ b one two. (one, two)) l.blocks
+      (C.lies_of run l.lo l.hi l.blocks ordered.laid is.whole.0 is.whole.1) bare
 
   abbrev At : Block → Type 0
   At b = Lies run b × ((block_end b ≤ to) ⊎ (run.from ≤ b.at))
 
   abbrev slid : Block → Block
-  slid b = slid_with run to b
+  slid b = C.slid_with run to b
 
   abbrev next : ℕ
   next = to + (run.to - run.from)
@@ -123,7 +123,7 @@ module _ (l : Layout) (ordered : IsOrdered l) (low high : ℕ) (to : ℕ) (run :
         ∙ ap (λ (cs : List Block). record b { at = p } ∷ cs) (same_packed (block_end b) hi (p + b.size) bs laid.2 at.1) ∙ sym (first p b bs lt)
     | inr ge ↦
         let some_bytes = laid.1 in
-        ap (packed high p) (λ i. slid_above run to b (omega arith) i ∷ map-same slid bs (Each-map (λ y. block_end b ≤ y.at) (λ y. slid y ≡ y) (λ y le. slid_above run to y (omega arith)) bs (all_from (block_end b) hi bs laid.2)) i)
+        ap (packed high p) (λ i. slid_above run to b (omega arith) i ∷ C.map-same slid bs (Each-map (λ y. block_end b ≤ y.at) (λ y. slid y ≡ y) (λ y le. slid_above run to y (omega arith)) bs (all_from (block_end b) hi bs laid.2)) i)
   ]
     where
       first : (p : ℕ) (c : Block) (cs : List Block) → c.at < high → packed high p (c ∷ cs) ≡ record c { at = p } ∷ packed high (p + c.size) cs
@@ -151,7 +151,7 @@ module _ (l : Layout) (ordered : IsOrdered l) (low high : ℕ) (to : ℕ) (run :
   pub run_then : (new : Layout) → IsOrdered new → new ≡ record { cap = l.cap; lo = l.lo; hi = l.hi; grain = l.grain; blocks = map slid l.blocks } → IsRun l (record { from = low; to = to }) → IsRun new (record { from = low; to = next })
   run_then new ordered_new same settled = subst (λ (m : Layout). IsRun m (record { from = low; to = next })) (sym same) (record {
     inside = (settled.inside.0, omega arith, let end = is.inside.2 in omega arith);
-    grained = (settled.grained.0, multiple_sum l.grain to (run.to - run.from) settled.grained.1 (multiple_less l.grain run.to run.from is.grained.1 is.grained.0));
+    grained = (settled.grained.0, C.multiple_sum l.grain to (run.to - run.from) settled.grained.1 (C.multiple_less l.grain run.to run.from is.grained.1 is.grained.0));
     whole = (
       All-mapped At (λ b. (block_end b ≤ low) ⊎ (low ≤ b.at)) (λ b. (block_end b ≤ low) ⊎ (low ≤ b.at)) slid
           (λ b at cut. by_place (λ c. (block_end c ≤ low) ⊎ (low ≤ c.at)) b at (λ _. cut) (λ _. cut) (λ from end. inr (omega arith))) l.blocks lies settled.whole.0,
@@ -160,15 +160,15 @@ module _ (l : Layout) (ordered : IsOrdered l) (low high : ℕ) (to : ℕ) (run :
     );
     full = λ p from end free.
         let laid : IsLaid l.lo l.hi (map slid l.blocks) = subst (λ (m : Layout). IsLaid m.lo m.hi m.blocks) same ordered_new.laid in
-        let none = free_lacks p l.lo l.hi (map slid l.blocks) laid free in
+        let none = C.free_lacks p l.lo l.hi (map slid l.blocks) laid free in
         elim (cases_lt p to) [
           | inl below ↦
               settled.full p from below (lacks_free p l.lo l.hi l.blocks ordered.laid none.0 none.1
-              (All-unmapped At (Lacks p) (Lacks p) slid (λ b at lacks. lacks_old p p b at lacks (inl (refl, below))) l.blocks lies none.2))
+              (C.All-unmapped At (Lacks p) (Lacks p) slid (λ b at lacks. lacks_old p p b at lacks (inl (refl, below))) l.blocks lies none.2))
           | inr past ↦
               let bottom = is.inside.0 in let up = is.inside.2 in
               is.full (p - to + run.from) (omega arith) (omega arith) (lacks_free (p - to + run.from) l.lo l.hi l.blocks ordered.laid (omega arith) (omega arith)
-              (All-unmapped At (Lacks (p - to + run.from)) (Lacks p) slid (λ b at lacks. lacks_old p (p - to + run.from) b at lacks (inr (refl, past, end))) l.blocks lies none.2))
+              (C.All-unmapped At (Lacks (p - to + run.from)) (Lacks p) slid (λ b at lacks. lacks_old p (p - to + run.from) b at lacks (inr (refl, past, end))) l.blocks lies none.2))
         ];
   })
     where
@@ -210,10 +210,10 @@ module _ (l : Layout) (ordered : IsOrdered l) (low high : ℕ) (to : ℕ) (run :
 
   module _ (lower : to < run.from) where
     own_before : (b : Block) → At b → (block_end b ≤ to) ⊎ (run.to ≤ b.at) → own b ≡ 0
-    own_before b at out = cond-true (eqb (slid b).at b.at) 0 b.size (eq-eqb (slid b).at b.at (by_place (λ c. c.at ≡ b.at) b at (λ _. refl) (λ _. refl) (λ from end. let size = at.0.0 in elim out [ inl x ↦ absurd (omega arith) | inr x ↦ absurd (omega arith) ])))
+    own_before b at out = C.cond-true (eqb (slid b).at b.at) 0 b.size (eq-eqb (slid b).at b.at (by_place (λ c. c.at ≡ b.at) b at (λ _. refl) (λ _. refl) (λ from end. let size = at.0.0 in elim out [ inl x ↦ absurd (omega arith) | inr x ↦ absurd (omega arith) ])))
 
     own_inside : (b : Block) → run.from ≤ b.at → b.at < run.to → own b ≡ b.size
-    own_inside b from lt = cond-false (eqb (slid b).at b.at) 0 b.size (ne_eqb (slid b).at b.at (λ e. let at = ap (λ (c : Block). c.at) (slid_inside run to b from lt) in omega arith))
+    own_inside b from lt = C.cond-false (eqb (slid b).at b.at) 0 b.size (ne_eqb (slid b).at b.at (λ e. let at = ap (λ (c : Block). c.at) (slid_inside run to b from lt) in omega arith))
 
     -- they fill the run
     run_sum : (lo hi : ℕ) (bs : List Block) → IsLaid lo hi bs → AllByRecursion At bs → ((p : ℕ) → max lo run.from ≤ p → p < run.to → AllByRecursion (Lacks p) bs → ⊥) → run_bytes bs ≡ run.to - max lo run.from
@@ -258,8 +258,8 @@ module _ (l : Layout) (ordered : IsOrdered l) (low high : ℕ) (to : ℕ) (run :
                 let from = inside.0 in let end = inside.1 in
                 let whole = own_inside b from (omega arith) in let stood = kept.1 (omega arith) in let long = kept.0 in
                 let place = ap (λ (c : Block). c.at) (slid_inside run to b from (omega arith)) in
-                let before = cond-true (eqb o.at b.at) 0 o.size (eq-eqb o.at b.at (sym stood)) in
-                let after = cond-false (eqb o.at (slid b).at) 0 o.size (ne_eqb o.at (slid b).at (λ e. omega arith)) in
+                let before = C.cond-true (eqb o.at b.at) 0 o.size (eq-eqb o.at b.at (sym stood)) in
+                let after = C.cond-false (eqb o.at (slid b).at) 0 o.size (ne_eqb o.at (slid b).at (λ e. omega arith)) in
                 omega (arith, whole, before, after, rest, long)
           ]
         ]
@@ -271,7 +271,7 @@ module _ (l : Layout) (ordered : IsOrdered l) (low high : ℕ) (to : ℕ) (run :
         let each = moved_each old l.blocks lies kept in omega arith
 
   pub moved_step : (old : List Block) → AreKept to old l.blocks → (r : ℕ) → r ≡ cond (eqb run.from to) 0 (run.to - run.from) → moved_between old (map slid l.blocks) ≡ moved_between old l.blocks + r
-  moved_step old kept r told = elim (eqb_tells run.from to) [
+  moved_step old kept r told = elim (C.eqb_tells run.from to) [
     | inl same ↦
         let none : r ≡ 0 = rw same.0 at told in
         let still = ap (λ (m : Layout). moved_between old m.blocks) (same_layout l run to same.1) in omega (arith, none, still)
@@ -281,7 +281,7 @@ module _ (l : Layout) (ordered : IsOrdered l) (low high : ℕ) (to : ℕ) (run :
   ]
 
 pub at_most : (r a b n : ℕ) → r ≡ cond (eqb a b) 0 n → r ≤ n
-at_most r a b n told = elim (eqb_tells a b) [
+at_most r a b n told = elim (C.eqb_tells a b) [
   | inl same ↦ let none : r ≡ 0 = rw same.0 at told in omega arith
   | inr other ↦ let all : r ≡ n = rw other.0 at told in omega arith
 ]
@@ -334,8 +334,8 @@ module _ (l : Layout) (ordered : IsOrdered l) (low high to : ℕ) (b : Block) (g
   pub bare_to : IsBare to b.at l.blocks
   bare_to = bare_before to b.at l.blocks (reached l.lo l.hi to l.blocks b ordered.laid got).1 settled.whole.1
 
-  pub grained_at : IsMultiple l.grain b.at
-  grained_at = (each_got (IsGrained l.grain) l.blocks (rank to l.blocks) b got ordered.grained).0
+  pub grained_at : C.IsMultiple l.grain b.at
+  grained_at = (each_got (C.IsGrained l.grain) l.blocks (rank to l.blocks) b got ordered.grained).0
 
 -- gathered blocks are the blocks
 pub list_end : (l : Layout) (low high to : ℕ) (old : List Block) → IsOrdered l → IsRun l (record { from = low; to = to }) → IfSome (slice_get l.blocks (rank to l.blocks)) (λ b. high ≤ b.at) → gathered low high l.blocks ≡ gathered low high old → l.blocks ≡ gathered low high old

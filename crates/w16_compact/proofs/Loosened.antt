@@ -1,10 +1,10 @@
 -- Blocks in which an id's has another hold: nothing else of them differs.
-use Rattle.w16_compact.proofs.Common.{◌≡◌, ℕ, ◌+◌, ◌<◌, ◌^◌, cond, true, false, inl, inr, IsTrue, List, [], ◌∷◌, ◌==◌, map, nat_lt, filter, Option, Some, IfSome, refl, sym, ap, ◌∙◌, subst, eqb_tells}
-use Rattle.w16_compact.proofs.Common.{length-map, Block, Hold, Loose, Span, part, IsClear, IsHole, IsLaid, Misses, block_end, first_from, is_any, block_with, Each-from_All, All-from_Each, Layout, AreNamed}
-use Rattle.w16_compact.proofs.Common.{IsGrained, IsOrdered, all_but, holes_of, placed, replaced, all_but_same, all_but_other, with_id, with_same, with_other, replaced-itself, contents, moved_between}
-use Rattle.w16_compact.proofs.Common.{with_loose}
+use Rattle.w16_compact.proofs
+use proofs.Common as C
+use proofs.Common.{◌≡◌, ℕ, ◌+◌, ◌<◌, ◌^◌, cond, true, false, inl, inr, List, [], ◌∷◌, ◌==◌, map, filter, Some, refl, sym, ap, ◌∙◌, subst, eqb_tells, Block, Hold, Loose, Span, part, IsClear, IsHole, block_end, first_from, is_any, block_with, Layout, AreNamed, IsOrdered, all_but, replaced}
+use proofs.Common.{with_same, with_other, moved_between}
+use proofs.Opened.{of_known}
 use Rattle.std.specs.List.{AllByRecursion as Each}
-use Rattle.w16_compact.proofs.Opened.{of_known}
 
 -- a block, with this hold where it is an id's
 abbrev pub held : ℕ → Hold → Block → Block
@@ -37,8 +37,8 @@ module _ (id : ℕ) (hold : Hold) where
   pub others_held : (bs : List Block) → all_but id (map f bs) ≡ all_but id bs
   others_held [] = refl
   others_held (b ∷ bs) = elim (eqb_tells b.id id) [
-    | inl same ↦ all_but_same id (f b) (map f bs) same.0 ∙ others_held bs ∙ sym (all_but_same id b bs same.0)
-    | inr other ↦ all_but_other id (f b) (map f bs) other.0 ∙ (λ i. is_other b other.0 i ∷ others_held bs i) ∙ sym (all_but_other id b bs other.0)
+    | inl same ↦ C.all_but_same id (f b) (map f bs) same.0 ∙ others_held bs ∙ sym (C.all_but_same id b bs same.0)
+    | inr other ↦ C.all_but_other id (f b) (map f bs) other.0 ∙ (λ i. is_other b other.0 i ∷ others_held bs i) ∙ sym (C.all_but_other id b bs other.0)
   ]
 
   -- and the id's has that hold
@@ -46,12 +46,12 @@ module _ (id : ℕ) (hold : Hold) where
   own_held [] x known = cc
   own_held (b ∷ bs) x known = elim (eqb_tells b.id id) [
     | inl same ↦
-        let one : ◌≡◌ {A = Option Block} (Some b) (Some x) = sym (with_same id b bs same.0) ∙ known in let is : b ≡ x = cc in
+        let one : ◌≡◌ {A = C.Option Block} (Some b) (Some x) = sym (with_same id b bs same.0) ∙ known in let is : b ≡ x = cc in
         with_same id (f b) (map f bs) same.0 ∙ ap Some (is_own b same.0 ∙ ap (λ (c : Block). let r : Block = record c { hold = hold } in r) is)
     | inr other ↦ with_other id (f b) (map f bs) other.0 ∙ own_held bs x (sym (with_other id b bs other.0) ∙ known)
   ]
 
-  laid_held : (lo hi : ℕ) (bs : List Block) → IsLaid lo hi bs → IsLaid lo hi (map f bs)
+  laid_held : (lo hi : ℕ) (bs : List Block) → C.IsLaid lo hi bs → C.IsLaid lo hi (map f bs)
   laid_held lo hi [] laid = laid
   laid_held lo hi (b ∷ bs) laid = (laid.0, laid.1, laid_held (block_end b) hi bs laid.2)
 
@@ -63,10 +63,10 @@ module _ (id : ℕ) (hold : Hold) where
   ordered_held l is = record {
     laid = laid_held l.lo l.hi l.blocks is.laid;
     named = named_held l.cap l.blocks is.named;
-    grained = each_held (IsGrained l.grain) (λ b g. g) l.blocks is.grained;
+    grained = each_held (C.IsGrained l.grain) (λ b g. g) l.blocks is.grained;
     from = is.from;
     small = is.small;
-    few = subst (λ n. n < 2 ^ 63) (sym (length-map l.blocks f)) is.few;
+    few = subst (λ n. n < 2 ^ 63) (sym (C.length-map l.blocks f)) is.few;
   }
 
   -- a block in place of the id's that differs by its hold alone
@@ -75,7 +75,7 @@ module _ (id : ℕ) (hold : Hold) where
       let y : Block = record x { hold = hold } in
       let there : block_with (map f l.blocks) y.id ≡ Some y = ap (block_with (map f l.blocks)) own ∙ own_held l.blocks x known in
       let left : all_but y.id l.blocks ≡ all_but y.id (map f l.blocks) = ap (λ q. all_but q l.blocks) own ∙ sym (others_held l.blocks) ∙ ap (λ q. all_but q (map f l.blocks)) (sym own) in
-      ap (λ bs. record l { blocks = bs }) (ap (placed y) left ∙ replaced-itself l.lo l.hi l.cap y (map f l.blocks) (laid_held l.lo l.hi l.blocks is.laid) (named_held l.cap l.blocks is.named) there)
+      ap (λ bs. record l { blocks = bs }) (ap (C.placed y) left ∙ C.replaced-itself l.lo l.hi l.cap y (map f l.blocks) (laid_held l.lo l.hi l.blocks is.laid) (named_held l.cap l.blocks is.named) there)
 
   -- what is free is the same
   first_same : (hi : ℕ) (bs : List Block) (a : ℕ) → first_from is_any hi (map f bs) a ≡ first_from is_any hi bs a
@@ -86,17 +86,17 @@ module _ (id : ℕ) (hold : Hold) where
   ends_same [] = refl
   ends_same (b ∷ bs) = ap (λ (ns : List ℕ). block_end b ∷ ns) (ends_same bs)
 
-  pub holes_held : (l : Layout) → holes_of (with_hold id hold l) ≡ holes_of l
-  holes_held l = λ i. filter (λ (s : Span). nat_lt s.from s.to) (map (λ a. let s : Span = record { from = a; to = first_same l.hi l.blocks a i } in s) (l.lo ∷ ends_same l.blocks i))
+  pub holes_held : (l : Layout) → C.holes_of (with_hold id hold l) ≡ C.holes_of l
+  holes_held l = λ i. filter (λ (s : Span). C.nat_lt s.from s.to) (map (λ a. let s : Span = record { from = a; to = first_same l.hi l.blocks a i } in s) (l.lo ∷ ends_same l.blocks i))
 
   abbrev Missed : ℕ → ℕ → Block → Type 0
-  Missed a b x = IsTrue (is_any x) → Misses x.at x.size a b
+  Missed a b x = C.IsTrue (is_any x) → C.Misses x.at x.size a b
 
   pub clear_held : (lo hi a b : ℕ) (bs : List Block) → IsClear is_any lo hi bs a b → IsClear is_any lo hi (map f bs) a b
-  clear_held lo hi a b bs k = record { above = k.above; below = k.below; misses = All-from_Each (Missed a b) (map f bs) (each_held (Missed a b) (λ x m. m) bs (Each-from_All (Missed a b) bs k.misses)) }
+  clear_held lo hi a b bs k = record { above = k.above; below = k.below; misses = C.All-from_Each (Missed a b) (map f bs) (each_held (Missed a b) (λ x m. m) bs (C.Each-from_All (Missed a b) bs k.misses)) }
 
   pub clear_unheld : (lo hi a b : ℕ) (bs : List Block) → IsClear is_any lo hi (map f bs) a b → IsClear is_any lo hi bs a b
-  clear_unheld lo hi a b bs k = record { above = k.above; below = k.below; misses = All-from_Each (Missed a b) bs (each_unheld (Missed a b) (λ x m. m) bs (Each-from_All (Missed a b) (map f bs) k.misses)) }
+  clear_unheld lo hi a b bs k = record { above = k.above; below = k.below; misses = C.All-from_Each (Missed a b) bs (each_unheld (Missed a b) (λ x m. m) bs (C.Each-from_All (Missed a b) (map f bs) k.misses)) }
 
   pub hole_held : (lo hi a b : ℕ) (bs : List Block) → IsHole lo hi bs a b → IsHole lo hi (map f bs) a b
   hole_held lo hi a b bs k = record { some = k.some; clear = clear_held lo hi a b bs k.clear; maximal = λ c d from to m. k.maximal c d from to (clear_unheld lo hi c d bs m) }
@@ -105,7 +105,7 @@ module _ (id : ℕ) (hold : Hold) where
   hole_unheld lo hi a b bs k = record { some = k.some; clear = clear_unheld lo hi a b bs k.clear; maximal = λ c d from to m. k.maximal c d from to (clear_held lo hi c d bs m) }
 
   -- so are the bytes
-  pub contents_held : (bytes : List ℕ) (bs : List Block) → contents bytes (map f bs) ≡ contents bytes bs
+  pub contents_held : (bytes : List ℕ) (bs : List Block) → C.contents bytes (map f bs) ≡ C.contents bytes bs
   contents_held bytes [] = refl
   contents_held bytes (b ∷ bs) = λ i. (b.id, part bytes b.at b.size) ∷ contents_held bytes bs i
 
@@ -136,7 +136,7 @@ held_itself : (cap id : ℕ) (x : Block) (bs : List Block) → AreNamed cap bs �
 held_itself cap id x [] named known = refl
 held_itself cap id x (b ∷ bs) named known = elim (eqb_tells b.id id) [
   | inl same ↦
-      let one : ◌≡◌ {A = Option Block} (Some b) (Some x) = sym (with_same id b bs same.0) ∙ known in let is : b ≡ x = cc in
+      let one : ◌≡◌ {A = C.Option Block} (Some b) (Some x) = sym (with_same id b bs same.0) ∙ known in let is : b ≡ x = cc in
       λ i. (is_own id x.hold b same.0 ∙ ap (λ (c : Block). let r : Block = record b { hold = c.hold } in r) (sym is)) i ∷ none id b.id bs same.1 named.1 i
   | inr other ↦ λ i. is_other id x.hold b other.0 i ∷ held_itself cap id x bs named.2 (sym (with_other id b bs other.0) ∙ known) i
 ]
@@ -149,11 +149,11 @@ held_itself cap id x (b ∷ bs) named known = elim (eqb_tells b.id id) [
     ]
 
 -- a loose block that gets back its hold counts as loose again
-pub loosened_back : (m : Layout) → IsOrdered m → (id : ℕ) (x : Block) (hold : Hold) → block_with m.blocks id ≡ Some x → x.hold ≡ Loose → with_loose id (with_hold id hold m) ≡ m
+pub loosened_back : (m : Layout) → IsOrdered m → (id : ℕ) (x : Block) (hold : Hold) → block_with m.blocks id ≡ Some x → x.hold ≡ Loose → C.with_loose id (with_hold id hold m) ≡ m
 loosened_back m is id x hold known loose =
     ap (λ bs. record m { blocks = bs }) (held_twice id hold Loose m.blocks ∙ ap (λ h. map (held id h) m.blocks) (sym loose) ∙ held_itself m.cap id x m.blocks is.named known)
 
 -- a layout that was left with another hold of an id's block
-pub set_held : (l : Layout) → IsOrdered l → (id : ℕ) (x : Block) (hold : Hold) → block_with l.blocks id ≡ Some x → {new : Layout} → IfSome (block_with l.blocks id) (λ b. new ≡ record l { blocks = replaced (record b { hold = hold }) l.blocks }) → new ≡ with_hold id hold l
+pub set_held : (l : Layout) → IsOrdered l → (id : ℕ) (x : Block) (hold : Hold) → block_with l.blocks id ≡ Some x → {new : Layout} → C.IfSome (block_with l.blocks id) (λ b. new ≡ record l { blocks = replaced (record b { hold = hold }) l.blocks }) → new ≡ with_hold id hold l
 set_held l is id x hold known {new} set =
-    of_known (λ b. new ≡ record l { blocks = replaced (record b { hold = hold }) l.blocks }) (block_with l.blocks id) x known set ∙ is_held id hold l is x (with_id id x l.blocks known) known
+    of_known (λ b. new ≡ record l { blocks = replaced (record b { hold = hold }) l.blocks }) (block_with l.blocks id) x known set ∙ is_held id hold l is x (C.with_id id x l.blocks known) known

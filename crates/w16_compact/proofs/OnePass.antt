@@ -1,8 +1,8 @@
 -- Room by one pass over the blocks by address.
-use Rattle.w16_compact.proofs.Common.{◌≡◌, ℕ, ◌+◌, ◌-◌, ◌<◌, ◌≤◌, max, min, Bool, true, false, cond, not, ◌&&◌, nat_le, nat_lt, IsTrue, List, [], ◌∷◌, map, filter, sum_by, refl, ap, ◌∙◌, arith, None}
-use Rattle.w16_compact.proofs.Common.{zero-add, le-leb, and_left, lt-leb, le-ltb, and_right, cond-true, cond-false, and_from, ord_max, nat_cmp, nat_tests, sum_by-cons, Block, Each-map, Each-of_map}
-use Rattle.w16_compact.proofs.Common.{Each-filter, sum_filter, laid_le, blocks_without, room_for, snapshot, is_pinned, is_loose, block_end, begins_in, first_from, loose_bytes, largest, room_from, room, IsLaid}
-use Rattle.w16_compact.proofs.Common.{sum_fits}
+use Rattle.w16_compact.proofs
+use proofs.Common as C
+use proofs.Common.{◌≡◌, ℕ, ◌+◌, ◌-◌, ◌<◌, ◌≤◌, max, min, Bool, true, false, cond, not, ◌&&◌, nat_le, List, [], ◌∷◌, map, filter, sum_by, refl, ap, ◌∙◌, arith, None, and_right, Block, laid_le, is_pinned, is_loose, block_end, begins_in, first_from, loose_bytes, largest, room_from, room}
+use proofs.Common.{IsLaid}
 use Rattle.std.proofs.Common.{lt-ltb}
 use Rattle.std.specs.List.{AllByRecursion as Each}
 
@@ -24,16 +24,16 @@ first_after lo hi (x ∷ xs) a m h k =
 none_below : (lo hi : ℕ) (xs : List Block) (a b : ℕ) → IsLaid lo hi xs → b ≤ lo → loose_bytes xs a b ≡ 0
 none_below lo hi [] a b h k = refl
 none_below lo hi (x ∷ xs) a b h k =
-    let out : (is_loose x && begins_in a b x) ≡ false = and_right (is_loose x) (begins_in a b x) (and_right (nat_le a x.at) (nat_lt x.at b) (le-ltb x.at b (omega (arith, h.0)))) in
+    let out : (is_loose x && begins_in a b x) ≡ false = and_right (is_loose x) (begins_in a b x) (and_right (nat_le a x.at) (C.nat_lt x.at b) (C.le-ltb x.at b (omega (arith, h.0)))) in
     ap (λ v. sum_by (λ (y : Block). y.size) (cond {A = List Block} v (x ∷ filter (λ y. is_loose y && begins_in a b y) xs) (filter (λ y. is_loose y && begins_in a b y) xs))) out
     ∙ none_below (x.at + x.size) hi xs a b h.2 (omega (arith, h))
 
 ends_after : (lo hi : ℕ) (xs : List Block) → IsLaid lo hi xs → Each (λ s. lo ≤ s) (ends xs)
-ends_after lo hi xs h = Each-of_map (λ s. lo ≤ s) block_end (filter is_pinned xs) (Each-filter (λ x. lo ≤ block_end x) is_pinned xs (all lo hi xs h))
+ends_after lo hi xs h = C.Each-of_map (λ s. lo ≤ s) block_end (filter is_pinned xs) (C.Each-filter (λ x. lo ≤ block_end x) is_pinned xs (all lo hi xs h))
   where
-    all : (lo hi : ℕ) (xs : List Block) → IsLaid lo hi xs → Each (λ x. IsTrue (is_pinned x) → lo ≤ block_end x) xs
+    all : (lo hi : ℕ) (xs : List Block) → IsLaid lo hi xs → Each (λ x. C.IsTrue (is_pinned x) → lo ≤ block_end x) xs
     all lo hi [] h = tt
-    all lo hi (x ∷ xs) h = ((λ _. omega (arith, h.0)), Each-map _ _ (λ y f t. omega (arith, f t, h.0)) xs (all (x.at + x.size) hi xs h.2))
+    all lo hi (x ∷ xs) h = ((λ _. omega (arith, h.0)), C.Each-map _ _ (λ y f t. omega (arith, f t, h.0)) xs (all (x.at + x.size) hi xs h.2))
 
 pub largest_same : (f g : ℕ → ℕ) (ns : List ℕ) → Each (λ n. f n ≡ g n) ns → largest (map f ns) ≡ largest (map g ns)
 largest_same f g [] h = refl
@@ -45,7 +45,7 @@ module _ (hi : ℕ) (x : Block) (xs : List Block) (laid : IsLaid (x.at + x.size)
   first_head t s e = ap (λ (b : Bool). cond (b && nat_le s x.at) (min x.at (first_from is_pinned hi xs s)) (first_from is_pinned hi xs s)) e
 
   loose_head : (a b : ℕ) (t : Bool) → (is_loose x && begins_in a b x) ≡ t → loose_bytes (x ∷ xs) a b ≡ cond t x.size 0 + loose_bytes xs a b
-  loose_head a b t e = sum_filter (λ y. is_loose y && begins_in a b y) x xs ∙ ap (λ (v : Bool). cond v x.size 0 + loose_bytes xs a b) e
+  loose_head a b t e = C.sum_filter (λ y. is_loose y && begins_in a b y) x xs ∙ ap (λ (v : Bool). cond v x.size 0 + loose_bytes xs a b) e
 
   not_loose : is_pinned x ≡ true → is_loose x ≡ false
   not_loose e = ap not e
@@ -53,8 +53,8 @@ module _ (hi : ℕ) (x : Block) (xs : List Block) (laid : IsLaid (x.at + x.size)
   pinned_here : (lo : ℕ) → is_pinned x ≡ true → lo ≤ x.at → room_from hi (x ∷ xs) lo ≡ x.at - lo
   pinned_here lo t h =
       let far : x.at ≤ first_from is_pinned hi xs lo = first_after (x.at + x.size) hi xs lo x.at laid (omega arith) in
-      let first : first_from is_pinned hi (x ∷ xs) lo ≡ x.at = first_head true lo t ∙ cond-true (nat_le lo x.at) _ _ (le-leb lo x.at h) ∙ smaller x.at _ far in
-      let none : loose_bytes (x ∷ xs) lo x.at ≡ 0 = loose_head lo x.at false (and_left _ _ (not_loose t)) ∙ zero-add _ ∙ none_below (x.at + x.size) hi xs lo x.at laid (omega arith) in
+      let first : first_from is_pinned hi (x ∷ xs) lo ≡ x.at = first_head true lo t ∙ C.cond-true (nat_le lo x.at) _ _ (C.le-leb lo x.at h) ∙ smaller x.at _ far in
+      let none : loose_bytes (x ∷ xs) lo x.at ≡ 0 = loose_head lo x.at false (C.and_left _ _ (not_loose t)) ∙ C.zero-add _ ∙ none_below (x.at + x.size) hi xs lo x.at laid (omega arith) in
       (λ i. first i - lo - loose_bytes (x ∷ xs) lo (first i)) ∙ (λ i. x.at - lo - none i) ∙ less_none (x.at - lo)
     where
       less_none : (a : ℕ) → a - 0 ≡ a
@@ -65,9 +65,9 @@ module _ (hi : ℕ) (x : Block) (xs : List Block) (laid : IsLaid (x.at + x.size)
 
   later : (s : ℕ) → block_end x ≤ s → room_from hi (x ∷ xs) s ≡ room_from hi xs s
   later s h =
-      let past : nat_le s x.at ≡ false = lt-leb s x.at (omega arith) in
-      let first : first_from is_pinned hi (x ∷ xs) s ≡ first_from is_pinned hi xs s = cond-false (is_pinned x && nat_le s x.at) _ _ (and_right (is_pinned x) (nat_le s x.at) past) in
-      let out : (b : ℕ) → loose_bytes (x ∷ xs) s b ≡ loose_bytes xs s b = λ b. loose_head s b false (and_right (is_loose x) (begins_in s b x) (and_left (nat_le s x.at) (nat_lt x.at b) past)) ∙ zero-add _ in
+      let past : nat_le s x.at ≡ false = C.lt-leb s x.at (omega arith) in
+      let first : first_from is_pinned hi (x ∷ xs) s ≡ first_from is_pinned hi xs s = C.cond-false (is_pinned x && nat_le s x.at) _ _ (and_right (is_pinned x) (nat_le s x.at) past) in
+      let out : (b : ℕ) → loose_bytes (x ∷ xs) s b ≡ loose_bytes xs s b = λ b. loose_head s b false (and_right (is_loose x) (begins_in s b x) (C.and_left (nat_le s x.at) (C.nat_lt x.at b) past)) ∙ C.zero-add _ in
       (λ i. first i - s - out (first i) i)
 
   loose_here : (lo : ℕ) → is_pinned x ≡ false → lo ≤ x.at → room_from hi (x ∷ xs) lo ≡ room_from hi xs lo - x.size
@@ -76,7 +76,7 @@ module _ (hi : ℕ) (x : Block) (xs : List Block) (laid : IsLaid (x.at + x.size)
       let first : first_from is_pinned hi (x ∷ xs) lo ≡ e = first_head false lo t in
       let far : x.at + 1 ≤ e = first_after (x.at + x.size) hi xs lo (x.at + 1) laid (omega arith) in
       let is : is_loose x ≡ true = ap not t in
-      let more : loose_bytes (x ∷ xs) lo e ≡ x.size + loose_bytes xs lo e = loose_head lo e true (and_from _ _ is (and_from _ _ (le-leb lo x.at h) (lt-ltb x.at e (omega (arith, far))))) in
+      let more : loose_bytes (x ∷ xs) lo e ≡ x.size + loose_bytes xs lo e = loose_head lo e true (C.and_from _ _ is (C.and_from _ _ (C.le-leb lo x.at h) (lt-ltb x.at e (omega (arith, far))))) in
       (λ i. first i - lo - loose_bytes (x ∷ xs) lo (first i)) ∙ (λ i. e - lo - more i) ∙ regroup (e - lo) x.size (loose_bytes xs lo e)
     where
       regroup : (a b c : ℕ) → a - (b + c) ≡ a - c - b
@@ -99,7 +99,7 @@ scan_is hi best lo used [] h = omega arith
 scan_is hi best lo used (x ∷ xs) h =
     let f : ℕ → ℕ = room_from hi (x ∷ xs) in
     let same_ends : largest (map f (ends xs)) ≡ largest (map (room_from hi xs) (ends xs)) =
-    largest_same f (room_from hi xs) (ends xs) (Each-map _ _ (λ s l. later hi x xs h.2 h.1 s l) (ends xs) (ends_after (x.at + x.size) hi xs h.2)) in
+    largest_same f (room_from hi xs) (ends xs) (C.Each-map _ _ (λ s l. later hi x xs h.2 h.1 s l) (ends xs) (ends_after (x.at + x.size) hi xs h.2)) in
     let next : ℕ → ℕ → ℕ → ℕ = λ best start used. scan hi best start used xs in
     elim (is_pinned x) as (λ t. is_pinned x ≡ t → cond t (next (max best (x.at - lo - used)) (block_end x) 0) (next best lo (used + x.size)) ≡ max best (max (f lo - used) (largest (map f (ends (x ∷ xs)))))) [
       | true ↦ λ e.
@@ -123,14 +123,14 @@ scan_is hi best lo used (x ∷ xs) h =
 pub scan-room : (lo hi : ℕ) (xs : List Block) → IsLaid lo hi xs → scan hi 0 lo 0 xs ≡ room lo hi xs
 scan-room lo hi xs h = scan_is hi 0 lo 0 xs h ∙ omega arith
 
-pub ord_max-max : (a b : ℕ) → ord_max nat_cmp a b ≡ max a b
-ord_max-max a b = grind (arith, nat_tests)
+pub ord_max-max : (a b : ℕ) → C.ord_max C.nat_cmp a b ≡ max a b
+ord_max-max a b = grind (arith, C.nat_tests)
 
 -- no gap has more than the free bytes of all together
 scan_fits : (hi best start used lo : ℕ) (xs : List Block) → IsLaid lo hi xs → start + used ≤ lo → scan hi best start used xs ≤ max best (hi - start - used - sum_by (λ (x : Block). x.size) xs)
 scan_fits hi best start used lo [] laid le = omega arith
 scan_fits hi best start used lo (x ∷ xs) laid le =
-    let sum = sum_by-cons (λ (y : Block). y.size) x xs in let fit = sum_fits (block_end x) hi xs laid.2 in let from = laid.0 in
+    let sum = C.sum_by-cons (λ (y : Block). y.size) x xs in let fit = C.sum_fits (block_end x) hi xs laid.2 in let from = laid.0 in
     elim (is_pinned x) as (λ t. cond t (scan hi (max best (x.at - start - used)) (block_end x) 0 xs) (scan hi best start (used + x.size) xs) ≤ max best (hi - start - used - sum_by (λ (y : Block). y.size) (x ∷ xs))) [
       | true ↦ let rest = scan_fits hi (max best (x.at - start - used)) (block_end x) 0 (block_end x) xs laid.2 (omega arith) in omega arith
       | false ↦ let rest = scan_fits hi best start (used + x.size) (block_end x) xs laid.2 (omega arith) in omega arith
@@ -140,11 +140,11 @@ pub room_fits : (lo hi : ℕ) (xs : List Block) → IsLaid lo hi xs → room lo 
 room_fits lo hi xs laid = let one = scan-room lo hi xs laid in let two = scan_fits hi 0 lo 0 lo xs laid (omega arith) in omega arith
 
 -- the room with none left out
-pub none_out_all : (xs : List Block) → blocks_without xs [] None ≡ xs
+pub none_out_all : (xs : List Block) → C.blocks_without xs [] None ≡ xs
 none_out_all [] = refl
 none_out_all (x ∷ xs) = ap (λ ys. x ∷ ys) (none_out_all xs)
 
-pub room_whole : (lo hi : ℕ) (xs : List Block) (order : List ℕ) → room_for (snapshot lo hi xs order) 0 None ≡ room lo hi xs
+pub room_whole : (lo hi : ℕ) (xs : List Block) (order : List ℕ) → C.room_for (C.snapshot lo hi xs order) 0 None ≡ room lo hi xs
 room_whole lo hi xs order = ap (room lo hi) (none_out_all xs)
 
 -- so where the free bytes are fewer than n, so is the room

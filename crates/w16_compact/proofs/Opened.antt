@@ -1,16 +1,16 @@
 -- What opening a gap leaves: the same blocks, one hole, and it directly behind the block.
-use Rattle.w16_compact.proofs.Common.{ℕ, ◌≡◌, ◌+◌, ◌-◌, ◌<◌, ◌≤◌, ◌⊎◌, max, min, IsTrue, Bool, true, false, ◌&&◌, nat_le, nat_lt, cond, eqb, List, [], ◌∷◌, map, Option, Some, IfSome, is_some, sum_by, arith, refl, sym, ap, ◌∙◌, subst, inl, inr, lt-ltb, le-ltb}
-use Rattle.w16_compact.proofs.Common.{cases_lt, eq-eqb, cond-true, false≢true, eqb_tells, sum_by-cons, AllByRecursion, Block, Loose, IsLaid, IsGap, IsHole, IsClear, Misses, is_any, is_loose, is_pinned, block_end, loose_bytes, block_with, Each-map, Each-both}
-use Rattle.w16_compact.proofs.Common.{All-from_Each, laid_each, Layout, IsOrdered, IsCut, around, with_id, with_same, with_other, each_with, All-mapped, All-unmapped, lies, gathered, packed, moved_between, FitsGap, MayGather, AreSlid, raised_in, opened, end_in}
-use Rattle.w16_compact.proofs.Common.{spare_in}
-use Rattle.w16_compact.proofs.Cleared.{Past, inside_is, tiled, clear_from, missed, one_hole, no_other}
-use Rattle.w16_compact.proofs.Gathering.{moved_same, cut_high}
-use Rattle.w16_compact.proofs.Loose.{loose_one, loose_none, loose_here}
-use Rattle.w16_compact.proofs.Raising.{loose_split, loose_skip, loose_only, raised_below, raised_inside, by_reach, raised_id}
+use Rattle.w16_compact.proofs
+use proofs.Common as C
+use proofs.Common.{ℕ, ◌≡◌, ◌+◌, ◌-◌, ◌<◌, ◌≤◌, ◌⊎◌, max, min, Bool, true, false, ◌&&◌, cond, eqb, List, [], ◌∷◌, map, Option, Some, IfSome, is_some, arith, refl, sym, ap, ◌∙◌, subst, inl, inr, lt-ltb, le-ltb, cases_lt, eq-eqb, false≢true, eqb_tells, AllByRecursion, Block, Loose, IsLaid}
+use proofs.Common.{IsGap, Misses, is_any, block_end, loose_bytes, block_with, Each-map, laid_each, Layout, IsCut, with_same, with_other, lies, gathered, packed, moved_between, FitsGap, MayGather, AreSlid}
+use proofs.Cleared.{Past, inside_is, tiled, clear_from, missed, one_hole, no_other}
+use proofs.Gathering.{moved_same, cut_high}
+use proofs.Loose.{loose_one, loose_none, loose_here}
+use proofs.Raising.{loose_split, loose_skip, loose_only, raised_below, raised_inside, by_reach, raised_id}
 
 -- the block that is asked for, by its own id
 pub known_by : (l : Layout) (id : ℕ) (x : Block) → block_with l.blocks id ≡ Some x → block_with l.blocks x.id ≡ Some x
-known_by l id x e = ap (block_with l.blocks) (with_id id x l.blocks e) ∙ e
+known_by l id x e = ap (block_with l.blocks) (C.with_id id x l.blocks e) ∙ e
 
 -- what holds of a block if there is one holds of the one there is, and back
 pub of_known : (P : Block → Type 0) (o : Option Block) (x : Block) → o ≡ Some x → IfSome o P → P x
@@ -28,16 +28,16 @@ slid_more (a ∷ zs) [] cs one two = absurd one
 slid_more (a ∷ zs) (b ∷ bs) [] one two = absurd two
 slid_more (a ∷ zs) (b ∷ bs) (c ∷ cs) one two = (
   two.0 ∙ ap (λ (d : Block). let r : Block = record d { at = c.at } in r) one.0,
-  (λ t. two.1 (subst (λ (d : Block). IsTrue (is_pinned d)) (sym one.0) t) ∙ one.1 t),
+  (λ t. two.1 (subst (λ (d : Block). C.IsTrue (C.is_pinned d)) (sym one.0) t) ∙ one.1 t),
   slid_more zs bs cs one.2 two.2,
 )
 
 -- no more bytes are moved than there are
-pub moved_most : (bs cs : List Block) → moved_between bs cs ≤ sum_by (λ (b : Block). b.size) bs
+pub moved_most : (bs cs : List Block) → moved_between bs cs ≤ C.sum_by (λ (b : Block). b.size) bs
 moved_most [] cs = omega arith
 moved_most (b ∷ bs) [] = omega arith
 moved_most (b ∷ bs) (c ∷ cs) =
-    let rest = moved_most bs cs in let sum = sum_by-cons (λ (d : Block). d.size) b bs in
+    let rest = moved_most bs cs in let sum = C.sum_by-cons (λ (d : Block). d.size) b bs in
     elim (eqb_tells b.at c.at) [
       | inl same ↦ rw same.0 (omega (arith, rest, sum))
       | inr other ↦ rw other.0 (omega (arith, rest, sum))
@@ -54,7 +54,7 @@ loose_most a b from top (x ∷ xs) laid cut =
       | inr above ↦ elim (cases_lt x.at b) [
         | inl inside ↦
             let end : block_end x ≤ b = elim cut.0 [ inl e ↦ e | inr e ↦ absurd (omega arith) ] in
-            let one = loose_one x xs a b in let few = at_most (is_loose x && (nat_le a x.at && nat_lt x.at b)) x.size in omega (arith, rest, one, few, end)
+            let one = loose_one x xs a b in let few = at_most (C.is_loose x && (C.nat_le a x.at && C.nat_lt x.at b)) x.size in omega (arith, rest, one, few, end)
         | inr past ↦ let same = loose_skip x xs a b (inr past) in omega (arith, rest, same)
       ]
     ]
@@ -86,7 +86,7 @@ module _ (low end : ℕ) where
               let same = ap (λ (d : Block). d.at) (still c (omega arith)) in
               let rest = still_packed (block_end b) top (to + b.size) bs laid.2 (omega arith) in
               let first = ap (λ (a : ℕ). cond (eqb b.at a) 0 b.size) same in
-              let second = cond-true (eqb to (f c).at) 0 b.size (eq-eqb to (f c).at (sym same)) in
+              let second = C.cond-true (eqb to (f c).at) 0 b.size (eq-eqb to (f c).at (sym same)) in
               omega (arith, rest, first, second))
           | inr ge ↦ rw (le-ltb b.at end ge) (let none = moved_same (b ∷ bs) in omega (arith, none))
         ]
@@ -95,7 +95,7 @@ module _ (low end : ℕ) where
     moved_both from top [] laid le = refl
     moved_both from top (b ∷ bs) laid le = elim (cases_lt b.at low) [
       | inl lt ↦ rw (lt-ltb b.at low lt) (
-          let same = cond-true (eqb b.at b.at) 0 b.size (eq-eqb b.at b.at refl) in
+          let same = C.cond-true (eqb b.at b.at) 0 b.size (eq-eqb b.at b.at refl) in
           let rest = moved_both (block_end b) top bs laid.2 le in omega (arith, rest, same))
       | inr ge ↦ rw (le-ltb b.at low ge) (still_packed b.at top low (b ∷ bs) (omega arith, laid.1, laid.2) ge)
     ]
@@ -159,7 +159,7 @@ module _ (low end : ℕ) where
               ∙ (λ i. Some (record (is i) { at = (let e : to ≡ to + loose_bytes (b ∷ bs) low x.at = omega (arith, none) in e) i }))
           | inr other ↦
               let known' : block_with bs x.id ≡ Some x = sym (with_other x.id b bs other.0) ∙ known in
-              let end_b = (each_with (λ y. (block_end b ≤ y.at) × (0 < y.size) × (block_end y ≤ top)) x.id x bs known' (laid_each (block_end b) top bs laid.2)).0 in
+              let end_b = (C.each_with (λ y. (block_end b ≤ y.at) × (0 < y.size) × (block_end y ≤ top)) x.id x bs known' (laid_each (block_end b) top bs laid.2)).0 in
               let is = inside_is low end b size (omega arith) (omega arith) fits.0 in
               let sum = loose_here b bs low x.at is.1 (omega arith) (omega arith) in
               ap (λ (cs : List Block). block_with cs x.id) (first b bs to (omega arith))
@@ -193,7 +193,7 @@ with_map f id y (b ∷ bs) ids known = elim (eqb_tells b.id id) [
 
 -- The raised blocks leave no byte free between them.
 tiled_up : (ws : List Block) (low high p from top : ℕ) (bs : List Block) → IsLaid from top bs → AllByRecursion (FitsGap low high) bs → ((a : ℕ) → from ≤ a → loose_bytes ws a high ≡ loose_bytes bs a high)
-    → high - loose_bytes bs low high ≤ p → p < high → AllByRecursion (λ y. (block_end y ≤ p) ⊎ (p < y.at)) (map (raised_in ws low high) bs) → ⊥
+    → high - loose_bytes bs low high ≤ p → p < high → AllByRecursion (λ y. (block_end y ≤ p) ⊎ (p < y.at)) (map (C.raised_in ws low high) bs) → ⊥
 tiled_up ws low high p from top [] laid fits same least below missed = let none : loose_bytes [] low high ≡ 0 = refl in omega arith
 tiled_up ws low high p from top (b ∷ bs) laid fits same least below missed =
     let start = laid.0 in let size = laid.1 in
@@ -220,7 +220,7 @@ tiled_up ws low high p from top (b ∷ bs) laid fits same least below missed =
     ]
 
 -- A gap that is opened behind a block x.
-module _ (l : Layout) (ordered : IsOrdered l) (low high : ℕ) (may : MayGather l low high) (x : Block) (known : block_with l.blocks x.id ≡ Some x) (above : low ≤ x.at) (below : block_end x ≤ high) where
+module _ (l : Layout) (ordered : C.IsOrdered l) (low high : ℕ) (may : MayGather l low high) (x : Block) (known : block_with l.blocks x.id ≡ Some x) (above : low ≤ x.at) (below : block_end x ≤ high) where
   abbrev end : ℕ
   end = block_end x
 
@@ -228,7 +228,7 @@ module _ (l : Layout) (ordered : IsOrdered l) (low high : ℕ) (may : MayGather 
   some = (lies l x.id x known ordered).1
 
   placed_by : AllByRecursion (λ c. (block_end c ≤ x.at) ⊎ ((end ≤ c.at) ⊎ (c ≡ x))) l.blocks
-  placed_by = around l.lo l.hi l.cap x l.blocks ordered.laid ordered.named known
+  placed_by = C.around l.lo l.hi l.cap x l.blocks ordered.laid ordered.named known
 
   cut : IsCut end l.blocks
   cut = Each-map (λ c. (block_end c ≤ x.at) ⊎ ((end ≤ c.at) ⊎ (c ≡ x))) (λ c. (block_end c ≤ end) ⊎ (end ≤ c.at))
@@ -240,7 +240,7 @@ module _ (l : Layout) (ordered : IsOrdered l) (low high : ℕ) (may : MayGather 
   pub may_low : MayGather l low end
   may_low = let top = may.inside.2 in record {
     inside = (may.inside.0, omega arith, omega arith);
-    loose = Each-both (FitsGap low high) (λ c. (block_end c ≤ end) ⊎ (end ≤ c.at)) (FitsGap low end)
+    loose = C.Each-both (FitsGap low high) (λ c. (block_end c ≤ end) ⊎ (end ≤ c.at)) (FitsGap low end)
         (λ c fits at. elim fits [
           | inl before ↦ inl before
           | inr other ↦ elim other [
@@ -263,20 +263,20 @@ module _ (l : Layout) (ordered : IsOrdered l) (low high : ℕ) (may : MayGather 
         ]
       ])
       (λ c to is lt le. inl (elim is.1 [ inl e ↦ omega arith | inr e ↦ absurd (omega arith) ]))
-      l.lo l.hi l.blocks ordered.laid (Each-both (FitsGap low high) (λ c. (block_end c ≤ end) ⊎ (end ≤ c.at)) (λ c. FitsGap low high c × ((block_end c ≤ end) ⊎ (end ≤ c.at))) (λ c one two. (one, two)) l.blocks may.loose cut)
+      l.lo l.hi l.blocks ordered.laid (C.Each-both (FitsGap low high) (λ c. (block_end c ≤ end) ⊎ (end ≤ c.at)) (λ c. FitsGap low high c × ((block_end c ≤ end) ⊎ (end ≤ c.at))) (λ c one two. (one, two)) l.blocks may.loose cut)
 
   pub may_high : (m : Layout) → m ≡ record { cap = l.cap; lo = l.lo; hi = l.hi; grain = l.grain; blocks = mid } → MayGather m end high
   may_high m is = subst (λ (n : Layout). MayGather n end high) (sym is) (let bottom = may.inside.0 in let top = may.inside.2 in record { inside = (omega arith, below, top); loose = fits_high })
 
   -- how many bytes there are
   abbrev free : ℕ
-  free = end_in l.blocks low x
+  free = C.end_in l.blocks low x
 
   abbrev stop : ℕ
-  stop = free + spare_in l.blocks low high
+  stop = free + C.spare_in l.blocks low high
 
   loose_x : x.hold ≡ Loose
-  loose_x = (inside_is low high x some above (let size = some in omega arith) (each_with (FitsGap low high) x.id x l.blocks known may.loose)).1
+  loose_x = (inside_is low high x some above (let size = some in omega arith) (C.each_with (FitsGap low high) x.id x l.blocks known may.loose)).1
 
   free_is : free ≡ low + loose_bytes l.blocks low end
   free_is =
@@ -300,10 +300,10 @@ module _ (l : Layout) (ordered : IsOrdered l) (low high : ℕ) (may : MayGather 
 
   -- the blocks afterwards
   abbrev new : List Block
-  new = opened low end high l.blocks
+  new = C.opened low end high l.blocks
 
   abbrev up : Block → Block
-  up b = raised_in mid end high b
+  up b = C.raised_in mid end high b
 
   still : (b : Block) → b.at < end → up b ≡ b
   still b lt = raised_below mid end high b lt
@@ -321,26 +321,26 @@ module _ (l : Layout) (ordered : IsOrdered l) (low high : ℕ) (may : MayGather 
   past_mid = let is = free_is in clear_from low end l.lo l.hi free l.blocks ordered.laid may_low.loose may_low.inside.1 (omega arith)
 
   past_new : AllByRecursion (Past free stop) new
-  past_new = All-mapped (Past free end) (Past free end) (Past free stop) up
+  past_new = C.All-mapped (Past free end) (Past free end) (Past free stop) up
       (λ b is _. by_reach mid end high (Past free stop) b
       (λ lt. elim is [ inl before ↦ inl before | inr behind ↦ absurd (omega arith) ])
       (λ over. let s = stop_is.0 in inr (omega arith))
       (λ ge lt. let s = stop_is in let same = loose_gathered low end high l.lo l.hi l.blocks ordered.laid (omega arith) in let two = loose_split mid end b.at high ge (omega arith) in inr (omega (arith, s, same, two)))) mid past_mid past_mid
 
-  pub clear_opened : IsClear is_any l.lo l.hi new free stop
+  pub clear_opened : C.IsClear is_any l.lo l.hi new free stop
   clear_opened = let low_in = may.inside.0 in let top = may.inside.2 in let s = stop_is.0 in record {
     above = omega arith;
     below = omega arith;
-    misses = All-from_Each _ new (Each-map (Past free stop) (λ y. IsTrue (is_any y) → Misses y.at y.size free stop) (λ y f t. f) new past_new);
+    misses = C.All-from_Each _ new (Each-map (Past free stop) (λ y. C.IsTrue (is_any y) → Misses y.at y.size free stop) (λ y f t. f) new past_new);
   }
 
   -- what is free in the gap lies there
   module _ (gap : IsGap l.lo l.hi l.blocks low high) (slid : AreSlid l.blocks new) (laid_mid : IsLaid l.lo l.hi mid) where
-    behind : (a b : ℕ) → IsClear is_any l.lo l.hi new a b → a < b → low ≤ a → b ≤ high → (free ≤ a) × (b ≤ stop)
+    behind : (a b : ℕ) → C.IsClear is_any l.lo l.hi new a b → a < b → low ≤ a → b ≤ high → (free ≤ a) × (b ≤ stop)
     behind a b clear some_bytes from to = (
       elim (cases_lt a free) [
         | inl lt ↦ absurd (tiled low end l.lo l.hi a (min b free) l.blocks ordered.laid may_low.loose from (omega arith) (let is = free_is in omega arith)
-            (All-unmapped (Past free end) (λ y. Misses y.at y.size a (min b free)) (λ y. Misses y.at y.size a b) up
+            (C.All-unmapped (Past free end) (λ y. Misses y.at y.size a (min b free)) (λ y. Misses y.at y.size a b) up
             (λ y is out. elim (cases_lt y.at end) [
               | inl less ↦ elim (subst (λ (c : Block). Misses c.at c.size a b) (still y less) out) [ inl before ↦ inl before | inr after ↦ inr (omega arith) ]
               | inr more ↦ let room = free_low in inr (omega arith)
@@ -357,8 +357,8 @@ module _ (l : Layout) (ordered : IsOrdered l) (low high : ℕ) (may : MayGather 
       ],
     )
 
-    pub hole_opened : free < stop → IsHole l.lo l.hi new free stop
+    pub hole_opened : free < stop → C.IsHole l.lo l.hi new free stop
     hole_opened = one_hole l low high ordered.laid may gap new slid free stop (let s = stop_is.0 in (omega arith, omega arith)) clear_opened behind
 
-    pub alone_opened : (a b : ℕ) → IsHole l.lo l.hi new a b → (b ≤ low) ⊎ ((high ≤ a) ⊎ ((a ≡ free) × (b ≡ stop)))
+    pub alone_opened : (a b : ℕ) → C.IsHole l.lo l.hi new a b → (b ≤ low) ⊎ ((high ≤ a) ⊎ ((a ≡ free) × (b ≡ stop)))
     alone_opened = no_other l low high ordered.laid may gap new slid free stop (let s = stop_is.0 in (omega arith, omega arith)) clear_opened behind

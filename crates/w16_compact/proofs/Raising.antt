@@ -1,13 +1,11 @@
 -- A raise from its start, by a block, to its end.
-use Rattle.w16_compact.proofs.Common.{ℕ, ◌≡◌, ◌≢◌, ◌+◌, ◌-◌, ◌<◌, ◌≤◌, ◌⊎◌, Bool, true, false, IsTrue, ◌&&◌, cond, eqb, nat_le, nat_lt, max, min, List, [], ◌∷◌, map, Some, is_some, arith, refl, sym, ap, ◌∙◌, subst, inl, inr, lt-ltb, le-ltb, lt-leb, cases_lt}
-use Rattle.w16_compact.proofs.Common.{eq-eqb, cond-true, cond-false, false≢true, eqb_tells, AllByRecursion, Block, Span, Loose, IsLaid, block_end, is_loose, is_pinned, holds_still, loose_bytes, block_with, Each-map, Each-both, laid_each, Layout, IsOrdered, IsCut}
-use Rattle.w16_compact.proofs.Common.{IsRun, IsBare, slid_with, Lacks, later, lacks_free, around, with_back, with_same, with_other, each_with, All-mapped, All-unmapped, slid_below, slid_above, slid_inside, moved_to, moved_between, FitsGap, AreSlid, raised_in}
-use Rattle.w16_compact.proofs.Common.{raised}
+use Rattle.w16_compact.proofs
+use proofs.Common as C
+use proofs.Common.{ℕ, ◌≡◌, ◌≢◌, ◌+◌, ◌-◌, ◌<◌, ◌≤◌, ◌⊎◌, Bool, true, false, ◌&&◌, cond, eqb, nat_le, nat_lt, max, min, List, [], ◌∷◌, map, Some, arith, refl, sym, ap, ◌∙◌, subst, inl, inr, lt-ltb, le-ltb, lt-leb, cases_lt, false≢true, AllByRecursion, Block, Span, Loose, IsLaid, block_end}
+use proofs.Common.{loose_bytes, block_with, Each-map, laid_each, Layout, IsCut, IsRun, slid_with, Lacks, later, each_with, All-mapped, slid_above, moved_to, moved_between, FitsGap, raised_in, raised}
+use proofs.Loose.{loose_one, loose_none, loose_here}
+use proofs.{Cleared.inside_is, Gathering.moved_same, Settled.same_layout}
 use Rattle.std.proofs.lemmas.Bool.{le-leb, ne_eqb}
-use Rattle.w16_compact.proofs.Cleared.{inside_is}
-use Rattle.w16_compact.proofs.Gathering.{moved_same}
-use Rattle.w16_compact.proofs.Loose.{loose_one, loose_none, loose_here}
-use Rattle.w16_compact.proofs.Settled.{same_layout}
 
 -- The bytes of loose blocks, by where they begin.
 
@@ -29,7 +27,7 @@ pub loose_split : (bs : List Block) (a b c : ℕ) → a ≤ b → b ≤ c → lo
 loose_split [] a b c one two = refl
 loose_split (x ∷ xs) a b c one two =
     let all = loose_one x xs a c in let first = loose_one x xs a b in let second = loose_one x xs b c in
-    let own = piece (is_loose x) x.at x.size a b c one two in let rest = loose_split xs a b c one two in
+    let own = piece (C.is_loose x) x.at x.size a b c one two in let rest = loose_split xs a b c one two in
     omega (arith, all, first, second, own, rest)
 
 -- without a block that begins elsewhere
@@ -49,18 +47,18 @@ loose_empty bs a = loose_none bs a a (out bs)
 
 -- those of one block
 pub loose_only : (lo hi s : ℕ) (x : Block) (bs : List Block) → IsLaid lo hi bs → block_with bs x.id ≡ Some x → x.hold ≡ Loose → x.at < s → AllByRecursion (λ c. (c.at ≤ x.at) ⊎ (s ≤ c.at)) bs → loose_bytes bs x.at s ≡ x.size
-loose_only lo hi s x [] laid known loose lt last = absurd (false≢true (ap is_some known))
+loose_only lo hi s x [] laid known loose lt last = absurd (false≢true (ap C.is_some known))
 loose_only lo hi s x (b ∷ bs) laid known loose lt last =
     let size = laid.1 in
-    elim (eqb_tells b.id x.id) [
+    elim (C.eqb_tells b.id x.id) [
       | inl same ↦
-          let f : Some b ≡ Some x = sym (with_same x.id b bs same.0) ∙ known in let g : b ≡ x = cc in
+          let f : Some b ≡ Some x = sym (C.with_same x.id b bs same.0) ∙ known in let g : b ≡ x = cc in
           let place = ap (λ (c : Block). c.at) g in let long = ap (λ (c : Block). c.size) g in
           let sum = loose_here b bs x.at s (ap (λ (c : Block). c.hold) g ∙ loose) (omega arith) (omega arith) in
           let none = loose_none bs x.at s (behind bs (Each-map (λ y. (block_end b ≤ y.at) × (0 < y.size) × (block_end y ≤ hi)) (λ y. x.at < y.at) (λ y is. let from = is.0 in omega arith) bs (laid_each (block_end b) hi bs laid.2)) last.1) in
           omega (arith, sum, none, long)
       | inr other ↦
-          let known' : block_with bs x.id ≡ Some x = sym (with_other x.id b bs other.0) ∙ known in
+          let known' : block_with bs x.id ≡ Some x = sym (C.with_other x.id b bs other.0) ∙ known in
           let above = (each_with (λ y. (block_end b ≤ y.at) × (0 < y.size) × (block_end y ≤ hi)) x.id x bs known' (laid_each (block_end b) hi bs laid.2)).0 in
           loose_skip b bs x.at s (inl (omega arith)) ∙ loose_only (block_end b) hi s x bs laid.2 known' loose lt last.1
     ]
@@ -97,11 +95,11 @@ module _ (bs : List Block) (low high : ℕ) where
   raised_id b = by_reach (λ c. c.id ≡ b.id) b (λ _. refl) (λ _. refl) (λ _ _. refl)
 
   -- the same blocks, the pinned ones where they were
-  pub slid_raised : (from top : ℕ) (xs : List Block) → IsLaid from top xs → AllByRecursion (FitsGap low high) xs → AreSlid xs (map (raised_in bs low high) xs)
+  pub slid_raised : (from top : ℕ) (xs : List Block) → IsLaid from top xs → AllByRecursion (FitsGap low high) xs → C.AreSlid xs (map (raised_in bs low high) xs)
   slid_raised from top [] laid fits = tt
   slid_raised from top (b ∷ xs) laid fits =
-      let r = by_reach (λ c. (c ≡ record b { at = c.at }) × (IsTrue (is_pinned b) → c.at ≡ b.at)) b (λ _. (refl, λ t. refl)) (λ _. (refl, λ t. refl))
-      (λ le lt. (refl, λ t. absurd (false≢true (sym (ap holds_still (inside_is low high b laid.1 le lt fits.0).1) ∙ t)))) in
+      let r = by_reach (λ c. (c ≡ record b { at = c.at }) × (C.IsTrue (C.is_pinned b) → c.at ≡ b.at)) b (λ _. (refl, λ t. refl)) (λ _. (refl, λ t. refl))
+      (λ le lt. (refl, λ t. absurd (false≢true (sym (ap C.holds_still (inside_is low high b laid.1 le lt fits.0).1) ∙ t)))) in
       (r.0, r.1, slid_raised (block_end b) top xs laid.2 fits.1)
 
 -- At the start none is raised, and at the end all are.
@@ -138,8 +136,8 @@ moved_each f g low high from to top bound (b ∷ bs) laid fits one two alike mov
         | inl lt ↦
             let is = moves.0 ge lt in let still = is.0 in
             let sum = loose_here b bs from to (inside_is low high b laid.1 (omega arith) (omega arith) fits.0).1 ge lt in
-            let before = cond-true (eqb b.at (f b).at) 0 b.size (eq-eqb b.at (f b).at (sym still)) in
-            let after = cond-false (eqb b.at (g b).at) 0 b.size (ne_eqb b.at (g b).at (λ e. is.1 (sym e))) in
+            let before = C.cond-true (eqb b.at (f b).at) 0 b.size (C.eq-eqb b.at (f b).at (sym still)) in
+            let after = C.cond-false (eqb b.at (g b).at) 0 b.size (ne_eqb b.at (g b).at (λ e. is.1 (sym e))) in
             omega (arith, rest, sum, before, after)
       ]
     ]
@@ -176,7 +174,7 @@ cut_each bound top [] laid = tt
 cut_each bound top (b ∷ bs) laid =
     let behind = laid_each (block_end b) top bs laid.2 in let size = laid.1 in (
       (inr (omega arith), Each-map (λ y. (block_end b ≤ y.at) × (0 < y.size) × (block_end y ≤ top)) (λ y. (block_end y ≤ b.at) ⊎ (b.at ≤ y.at)) (λ y own. let from = own.0 in inr (omega arith)) bs behind),
-      Each-both (λ y. (block_end b ≤ y.at) × (0 < y.size) × (block_end y ≤ top)) (λ c. IsCut c.at bs) (λ c. IsCut c.at (b ∷ bs)) (λ c own cut. (inl own.0, cut)) bs behind (cut_each (block_end b) top bs laid.2),
+      C.Each-both (λ y. (block_end b ≤ y.at) × (0 < y.size) × (block_end y ≤ top)) (λ c. IsCut c.at bs) (λ c. IsCut c.at (b ∷ bs)) (λ c own cut. (inl own.0, cut)) bs behind (cut_each (block_end b) top bs laid.2),
     )
 
 -- no block reaches over the low end of the interval, nor over an end of a block
@@ -186,23 +184,23 @@ cut_low_now old low high s to le below place room now list cut =
     (All-mapped (λ c. (block_end c ≤ low) ⊎ (low ≤ c.at)) (λ c. (block_end c ≤ low) ⊎ (low ≤ c.at)) (λ c. (block_end c ≤ low) ⊎ (low ≤ c.at)) (raised_in old s high)
     (λ c at _. by_reach old s high (λ d. (block_end d ≤ low) ⊎ (low ≤ d.at)) c (λ _. at) (λ _. at) (λ ge less. let two = loose_split old s c.at high ge (omega arith) in inr (omega (arith, two, place)))) old cut cut)
 
-pub cut_end_now : (l : Layout) (x : Block) → IsOrdered l → block_with l.blocks x.id ≡ Some x → IsCut (block_end x) l.blocks
+pub cut_end_now : (l : Layout) (x : Block) → C.IsOrdered l → block_with l.blocks x.id ≡ Some x → IsCut (block_end x) l.blocks
 cut_end_now l x ordered known = Each-map (λ c. (block_end c ≤ x.at) ⊎ ((block_end x ≤ c.at) ⊎ (c ≡ x))) (λ c. (block_end c ≤ block_end x) ⊎ (block_end x ≤ c.at))
     (λ c is. elim is [
       | inl before ↦ inl (omega arith)
       | inr other ↦ elim other [ inl behind ↦ inr behind | inr same ↦ let at = ap (λ (d : Block). d.at) same in let long = ap (λ (d : Block). d.size) same in inl (omega arith) ]
-    ]) l.blocks (around l.lo l.hi l.cap x l.blocks ordered.laid ordered.named known)
+    ]) l.blocks (C.around l.lo l.hi l.cap x l.blocks ordered.laid ordered.named known)
 
 -- A step: the last run that isn't raised yet, which ends with x, is raised.
 module _ (old : List Block) (lo hi low high s to : ℕ) (laid : IsLaid lo hi old) (fits : AllByRecursion (FitsGap low high) old) (below : s ≤ high) (place : to + loose_bytes old s high ≡ high) (room : s ≤ to)
-    (cut : IsCut s old) (now : Layout) (ordered : IsOrdered now) (list : now.blocks ≡ raised s high old) (x : Block) (known_now : block_with now.blocks x.id ≡ Some x) (lt : x.at < s) (last_now : AllByRecursion (λ c. (c.at ≤ x.at) ⊎ (s ≤ c.at)) now.blocks)
+    (cut : IsCut s old) (now : Layout) (ordered : C.IsOrdered now) (list : now.blocks ≡ raised s high old) (x : Block) (known_now : block_with now.blocks x.id ≡ Some x) (lt : x.at < s) (last_now : AllByRecursion (λ c. (c.at ≤ x.at) ⊎ (s ≤ c.at)) now.blocks)
     (run : Span) (is : IsRun now run) (some : run.from < run.to) (from : low ≤ run.from) (ends : run.to ≡ block_end x) where
   -- what is raised stands from `to` on
   stands : (c : Block) → s ≤ c.at → c.at < high → to ≤ high - loose_bytes old c.at high
   stands c ge less = let two = loose_split old s c.at high ge (omega arith) in omega (arith, two)
 
   known : block_with old x.id ≡ Some x
-  known = with_back (raised_in old s high) x old (raised_id old s high)
+  known = C.with_back (raised_in old s high) x old (raised_id old s high)
       (λ c. by_reach old s high (λ d. d ≡ x → c ≡ x) c (λ _ e. e) (λ _ e. e) (λ ge less e. let at = ap (λ (d : Block). d.at) e in let up = stands c ge less in absurd (omega arith)))
       (subst (λ bs. block_with bs x.id ≡ Some x) list known_now)
 
@@ -214,7 +212,7 @@ module _ (old : List Block) (lo hi low high s to : ℕ) (laid : IsLaid lo hi old
 
   -- what isn't raised yet stands where it stood
   back : (P : Block → Type 0) → AllByRecursion P now.blocks → ((c : Block) → s ≤ c.at → P c) → AllByRecursion P old
-  back P all over = All-unmapped (λ y. (lo ≤ y.at) × (0 < y.size) × (block_end y ≤ hi)) P P (raised_in old s high)
+  back P all over = C.All-unmapped (λ y. (lo ≤ y.at) × (0 < y.size) × (block_end y ≤ hi)) P P (raised_in old s high)
       (λ c _ told. elim (cases_lt c.at s) [ inl less ↦ subst P (raised_below old s high c less) told | inr ge ↦ over c ge ]) old (laid_each lo hi old laid) (subst (AllByRecursion P) list all)
 
   last : AllByRecursion (λ c. (c.at ≤ x.at) ⊎ (s ≤ c.at)) old
@@ -229,7 +227,7 @@ module _ (old : List Block) (lo hi low high s to : ℕ) (laid : IsLaid lo hi old
   full : (p : ℕ) → run.from ≤ p → p < run.to → AllByRecursion (Lacks p) old → ⊥
   full p ge less lacks =
       let end = end_below in let bottom = is.inside.0 in let top = is.inside.2 in
-      is.full p ge less (lacks_free p now.lo now.hi now.blocks ordered.laid (omega arith) (omega arith) (subst (AllByRecursion (Lacks p)) (sym list)
+      is.full p ge less (C.lacks_free p now.lo now.hi now.blocks ordered.laid (omega arith) (omega arith) (subst (AllByRecursion (Lacks p)) (sym list)
       (All-mapped (Lacks p) (Lacks p) (Lacks p) (raised_in old s high) (λ c is_out _. by_reach old s high (Lacks p) c (λ _. is_out) (λ _. is_out) (λ ge_c less_c. let up = stands c ge_c less_c in inl (omega arith))) old lacks lacks)))
 
   -- the bytes of the run's blocks from one of them on
@@ -260,7 +258,7 @@ module _ (old : List Block) (lo hi low high s to : ℕ) (laid : IsLaid lo hi old
   pub place_then : next + loose_bytes old run.from high ≡ high
   place_then = let all = place_from run.from (omega arith) (omega arith) cut_then in omega (arith, all)
 
-  pub bare_then : IsBare run.to (next + size) now.blocks
+  pub bare_then : C.IsBare run.to (next + size) now.blocks
   bare_then =
       let r = room_then in let sum = r.2 in let top = r.3 in let size_x = own.1 in
       subst (AllByRecursion (λ c. (block_end c ≤ run.to) ⊎ (next + size ≤ c.at))) (sym list)
@@ -271,10 +269,10 @@ module _ (old : List Block) (lo hi low high s to : ℕ) (laid : IsLaid lo hi old
 
   one : (c : Block) → (c.at ≤ x.at) ⊎ (s ≤ c.at) → IsCut c.at old → slid_with run next (raised_in old s high c) ≡ raised_in old run.from high c
   one c told cut_c = let end = end_below in let size_x = own.1 in elim (cases_lt c.at run.from) [
-    | inl less ↦ ap (slid_with run next) (raised_below old s high c (omega arith)) ∙ slid_below run next c less ∙ sym (raised_below old run.from high c less)
+    | inl less ↦ ap (slid_with run next) (raised_below old s high c (omega arith)) ∙ C.slid_below run next c less ∙ sym (raised_below old run.from high c less)
     | inr ge ↦ elim told [
       | inl le ↦
-          ap (slid_with run next) (raised_below old s high c (omega arith)) ∙ slid_inside run next c ge (omega arith)
+          ap (slid_with run next) (raised_below old s high c (omega arith)) ∙ C.slid_inside run next c ge (omega arith)
           ∙ moved_to c (next + (c.at - run.from)) (high - loose_bytes old c.at high) (let p = place_from c.at ge (omega arith) cut_c in omega (arith, p))
           ∙ sym (raised_inside old run.from high c ge (omega arith))
       | inr over ↦ elim (cases_lt c.at high) [
@@ -296,7 +294,7 @@ module _ (old : List Block) (lo hi low high s to : ℕ) (laid : IsLaid lo hi old
   -- where it stood there already no block moves, and else each of the run
   pub moved_then : (r : ℕ) → r ≡ cond (eqb run.from next) 0 size → moved_between old (raised run.from high old) ≡ moved_between old now.blocks + r
   moved_then r told =
-      ap (λ bs. moved_between old bs) (sym list_then) ∙ (elim (eqb_tells run.from next) [
+      ap (λ bs. moved_between old bs) (sym list_then) ∙ (elim (C.eqb_tells run.from next) [
         | inl same ↦
             let none : r ≡ 0 = rw same.0 at told in
             let still = ap (λ (m : Layout). moved_between old m.blocks) (same_layout now run next same.1) in omega (arith, none, still)
@@ -306,7 +304,7 @@ module _ (old : List Block) (lo hi low high s to : ℕ) (laid : IsLaid lo hi old
             let two = loose_split old run.from run.to s (omega arith) end in let rest = loose_from run.to (omega arith) (omega arith) cut_end in
             let each = moved_each (raised_in old s high) (raised_in old run.from high) low high run.from run.to hi lo old laid fits from (omega arith)
             (Each-map (λ c. (c.at ≤ x.at) ⊎ (s ≤ c.at)) (λ c. ((c.at < run.from) ⊎ (run.to ≤ c.at)) → (raised_in old run.from high c).at ≡ (raised_in old s high c).at) (λ c is_c side. ap (λ (d : Block). d.at) (alike c is_c side)) old last)
-            (Each-both (λ c. (c.at ≤ x.at) ⊎ (s ≤ c.at)) (λ c. IsCut c.at old) (λ c. run.from ≤ c.at → c.at < run.to → ((raised_in old s high c).at ≡ c.at) × ((raised_in old run.from high c).at ≢ c.at))
+            (C.Each-both (λ c. (c.at ≤ x.at) ⊎ (s ≤ c.at)) (λ c. IsCut c.at old) (λ c. run.from ≤ c.at → c.at < run.to → ((raised_in old s high c).at ≡ c.at) × ((raised_in old run.from high c).at ≢ c.at))
             (λ c is_c cut_c ge less. (
               ap (λ (d : Block). d.at) (raised_below old s high c (omega arith)),
               (λ e. let up = ap (λ (d : Block). d.at) (raised_inside old run.from high c ge (omega arith)) in let p = place_from c.at ge (omega arith) cut_c in other.1 (omega (arith, up, p, e))),

@@ -1,7 +1,8 @@
 -- One pass over the counted blocks.
-use Rattle.w16_compact.proofs.Common.{◌≡◌, ℕ, ◌+◌, ◌-◌, ◌^◌, ◌<◌, ◌≤◌, zero, suc, max, Bool, true, false, cond, filter, List, [], ◌∷◌, drop, sym, ap, ◌∙◌, subst, arith, add-one, AllByRecursion}
-use Rattle.w16_compact.proofs.Common.{cond-true, cond-false, Block, IsLaid, room, is_pinned, block_end, AreNamed, IsLaid-from, laid_le, Reached, IsGrained, IsMultiple, multiple_sum}
-use Rattle.w16_compact.proofs.OnePass.{scan, scan-room}
+use Rattle.w16_compact.proofs
+use proofs.Common.{◌≡◌, ℕ, ◌+◌, ◌-◌, ◌^◌, ◌<◌, ◌≤◌, zero, suc, max, Bool, true, false, cond, filter, List, [], ◌∷◌, drop, sym, ap, ◌∙◌, subst, arith, add-one, AllByRecursion, cond-true, cond-false, Block, IsLaid, room, is_pinned, block_end, AreNamed, IsLaid-from, laid_le, Reached}
+use proofs.Common.{IsGrained, IsMultiple, multiple_sum}
+use proofs.OnePass.{scan, scan-room}
 
 -- the pass with one more block
 abbrev pub passed : Reached → Block → Reached

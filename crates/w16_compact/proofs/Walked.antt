@@ -1,11 +1,11 @@
 -- A walk to the lowest gap with room.
-use Rattle.w16_compact.proofs.Common.{◌≡◌, ℕ, ◌+◌, ◌<◌, ◌≤◌, ◌^◌, ◌⊎◌, inl, inr, true, false, IsTrue, List, [], ◌∷◌, ◌++◌, take, drop, add-one, zero, suc, refl, sym, ap, ◌∙◌, subst, arith, take-append-drop}
-use Rattle.w16_compact.proofs.Common.{AllByRecursion, cases_Bool, cases_lt, cond-true, cond-false, Block, Hold, Pinned, Loose, IsLaid, IsGap, Misses, room, is_pinned, holds_still, loose_bytes, block_end}
-use Rattle.w16_compact.proofs.Common.{IsMultiple, Member, Each-at, Each-from, Each-map, Each-from_All, laid_placed, each_gap, some_gap, Layout, IsOrdered, IsGrained, laid_le, MayGather, Gap, Reached, HasRoom}
-use Rattle.w16_compact.proofs.Common.{IsLowest}
-use Rattle.w16_compact.proofs.Loose.{loose_append, loose_none, loose_here}
-use Rattle.w16_compact.proofs.Bounded.{IsFloor, IsCeiling, between, clear_pinned}
-use Rattle.w16_compact.proofs.Skips.{passed, rest_is, each_here}
+use Rattle.w16_compact.proofs
+use proofs.Common as C
+use proofs.Common.{◌≡◌, ℕ, ◌+◌, ◌<◌, ◌≤◌, ◌^◌, ◌⊎◌, inl, inr, true, false, IsTrue, List, [], ◌∷◌, ◌++◌, take, drop, zero, suc, refl, sym, ap, ◌∙◌, subst, arith, AllByRecursion, Block, Hold, Loose, IsLaid, IsGap, room, is_pinned, loose_bytes, block_end, Member, Each-map, Gap, Reached}
+use proofs.Common.{HasRoom}
+use proofs.Loose.{loose_append, loose_none, loose_here}
+use proofs.Bounded.{IsFloor, IsCeiling, between, clear_pinned}
+use proofs.Skips.{passed, rest_is, each_here}
 
 pub each_append : (P : Block → Type 0) (xs ys : List Block) → AllByRecursion P xs → AllByRecursion P ys → AllByRecursion P (xs ++ ys)
 each_append P [] ys all more = more
@@ -17,15 +17,15 @@ laid_from low hi (x ∷ xs) laid =
     let one = laid.0 in
     ((laid.0, laid.1), Each-map (λ y. (block_end x ≤ y.at) × (0 < y.size)) (λ y. (low ≤ y.at) × (0 < y.size)) (λ y f. let k = f.0 in (omega arith, f.1)) xs (laid_from (block_end x) hi xs laid.2))
 
-not_pinned : (h : Hold) → holds_still h ≡ false → h ≡ Loose
-not_pinned Pinned e = cc
+not_pinned : (h : Hold) → C.holds_still h ≡ false → h ≡ Loose
+not_pinned C.Pinned e = cc
 not_pinned Loose e = refl
 
 -- where a block lies that the walk has passed
 abbrev IsBehind : ℕ → ℕ → Block → Type 0
 IsBehind low mid x = (0 < x.size) × ((block_end x ≤ low) ⊎ ((low ≤ x.at) × (block_end x ≤ mid) × (x.hold ≡ Loose)))
 
-module _ (l : Layout) (n : ℕ) (ordered : IsOrdered l) where
+module _ (l : C.Layout) (n : ℕ) (ordered : C.IsOrdered l) where
   abbrev xs : List Block
   xs = l.blocks
 
@@ -35,18 +35,18 @@ module _ (l : Layout) (n : ℕ) (ordered : IsOrdered l) where
     pub laid : IsLaid mid l.hi (drop i xs)
     pub fits : r.low + r.loose ≤ mid
     pub from : l.lo ≤ r.low
-    pub grained : IsMultiple l.grain r.low
+    pub grained : C.IsMultiple l.grain r.low
     pub floor : IsFloor (λ x. IsTrue (is_pinned x)) l.lo xs r.low
     pub before : AllByRecursion (IsBehind r.low mid) (take i xs)
     pub sizes : (b : ℕ) → mid ≤ b → loose_bytes (take i xs) r.low b ≡ r.loose
-    pub lowest : IsLowest l n r.low
+    pub lowest : C.IsLowest l n r.low
 
   -- the gap reached, where it ends at a place and the blocks from here on begin at it or behind
   module _ (i : ℕ) (r : Reached) (now : IsWalked i r) (high : ℕ) (far : now.mid ≤ high) (inside : high ≤ l.hi) (ahead : AllByRecursion (λ x. high ≤ x.at) (drop i xs)) where
-    pub may_here : MayGather l r.low high
+    pub may_here : C.MayGather l r.low high
     may_here = let one = now.fits in record {
       inside = (now.from, omega arith, inside);
-      loose = subst (AllByRecursion _) (take-append-drop i xs) (each_append _ (take i xs) (drop i xs)
+      loose = subst (AllByRecursion _) (C.take-append-drop i xs) (each_append _ (take i xs) (drop i xs)
           (Each-map (IsBehind r.low now.mid) _ (λ b f. elim f.1 [ inl e ↦ inl e | inr k ↦ let m = k.1 in inr (inr (k.0, omega arith, k.2)) ]) (take i xs) now.before)
           (Each-map (λ x. high ≤ x.at) _ (λ b f. inr (inl f)) (drop i xs) ahead));
     }
@@ -56,7 +56,7 @@ module _ (l : Layout) (n : ℕ) (ordered : IsOrdered l) where
         let none : loose_bytes (drop i xs) r.low high ≡ 0 = loose_none (drop i xs) r.low high (Each-map (λ x. high ≤ x.at) _ (λ b f. inr f) (drop i xs) ahead) in
         let front = now.sizes high far in
         let whole : loose_bytes (take i xs ++ drop i xs) r.low high ≡ r.loose = loose_append (take i xs) (drop i xs) r.low high ∙ omega (arith, none, front) in
-        sym (ap (λ ys. loose_bytes ys r.low high) (sym (take-append-drop i xs)) ∙ whole)
+        sym (ap (λ ys. loose_bytes ys r.low high) (sym (C.take-append-drop i xs)) ∙ whole)
 
     pub room_here : 0 < n → r.low + r.loose + n ≤ high → IsCeiling (λ x. IsTrue (is_pinned x)) l.hi xs high → HasRoom l n (record { low = r.low; high = high; loose = r.loose })
     room_here some enough ceiling = record {
@@ -84,7 +84,7 @@ module _ (l : Layout) (n : ℕ) (ordered : IsOrdered l) where
     taken = turn i xs (drop (i + 1) xs) cut
       where
         turn : (i : ℕ) (ys rest : List Block) → drop i ys ≡ x ∷ rest → take (i + 1) ys ≡ take i ys ++ x ∷ []
-        turn i ys rest e = rw add-one (step i ys rest e)
+        turn i ys rest e = rw C.add-one (step i ys rest e)
           where
             step : (i : ℕ) (ys rest : List Block) → drop i ys ≡ x ∷ rest → take (suc i) ys ≡ take i ys ++ x ∷ []
             step zero [] rest e = cc
@@ -96,7 +96,7 @@ module _ (l : Layout) (n : ℕ) (ordered : IsOrdered l) where
     laid_here = subst (IsLaid now.mid l.hi) cut now.laid
 
     ends_here : block_end x ≤ l.hi
-    ends_here = laid_le (block_end x) l.hi (drop (i + 1) xs) laid_here.2
+    ends_here = C.laid_le (block_end x) l.hi (drop (i + 1) xs) laid_here.2
 
     pub reaches : r.low + r.loose ≤ x.at
     reaches = let one = laid_here.0 in let two = now.fits in omega arith
@@ -108,7 +108,7 @@ module _ (l : Layout) (n : ℕ) (ordered : IsOrdered l) where
     ahead = subst (AllByRecursion (λ y. x.at ≤ y.at)) (sym cut) (Each-map (λ y. (x.at ≤ y.at) × (0 < y.size)) (λ y. x.at ≤ y.at) (λ y f. f.0) (x ∷ drop (i + 1) xs) (laid_from x.at l.hi (x ∷ drop (i + 1) xs) (omega arith, laid_here.1, laid_here.2)))
 
     member : Member x xs
-    member = each_here (λ y. Member y xs) xs x left i here (Each-from (λ y. Member y xs) xs (λ y m. m))
+    member = each_here (λ y. Member y xs) xs x left i here (C.Each-from (λ y. Member y xs) xs (λ y m. m))
 
     -- the gap that ends here
     pub gap_here : IsTrue (is_pinned x) → 0 < n → r.low + r.loose + n ≤ x.at → HasRoom l n (record { low = r.low; high = x.at; loose = r.loose })
@@ -122,7 +122,7 @@ module _ (l : Layout) (n : ℕ) (ordered : IsOrdered l) where
           laid = laid_here.2;
           fits = omega arith;
           from = omega arith;
-          grained = let grained = each_here (IsGrained l.grain) xs x left i here ordered.grained in let g = grained.0 in let h = grained.1 in (g.0 + h.0, let u = g.1 in let v = h.1 in omega (arith, u, v));
+          grained = let grained = each_here (C.IsGrained l.grain) xs x left i here ordered.grained in let g = grained.0 in let h = grained.1 in (g.0 + h.0, let u = g.1 in let v = h.1 in omega (arith, u, v));
           floor = inr (x, member, pinned, refl);
           before = subst (AllByRecursion (IsBehind (block_end x) (block_end x))) (sym taken) (each_append _ (take i xs) (x ∷ [])
               (Each-map (IsBehind r.low now.mid) _ (λ b f. (f.0, elim f.1 [ inl k ↦ inl (omega arith) | inr k ↦ let m = k.1 in inl (omega arith) ])) (take i xs) now.before)
@@ -130,7 +130,7 @@ module _ (l : Layout) (n : ℕ) (ordered : IsOrdered l) where
           sizes = λ b le. ap (λ ys. loose_bytes ys (block_end x) b) taken ∙ loose_none (take i xs ++ x ∷ []) (block_end x) b (each_append _ (take i xs) (x ∷ [])
               (Each-map (IsBehind r.low now.mid) _ (λ b f. let s = f.0 in inl (elim f.1 [ inl k ↦ omega arith | inr k ↦ let m = k.1 in omega arith ])) (take i xs) now.before)
               (inl (let s = laid_here.1 in omega arith), tt));
-          lowest = λ a b gap enough. elim (Each-at (λ y. IsTrue (is_pinned y) → Misses y.at y.size a b) xs (Each-from_All _ xs gap.clear.misses) x member pinned) [
+          lowest = λ a b gap enough. elim (C.Each-at (λ y. IsTrue (is_pinned y) → C.Misses y.at y.size a b) xs (C.Each-from_All _ xs gap.clear.misses) x member pinned) [
             | inl k ↦ k
             | inr k ↦ absurd (no_room i r now x.at far (omega arith) ahead less a b gap (now.lowest a b gap enough) k enough)
           ];
@@ -162,9 +162,9 @@ module _ (l : Layout) (n : ℕ) (ordered : IsOrdered l) where
 
     -- behind a block that ends no gap with room
     pub walked_next : (IsTrue (is_pinned x) → x.at < r.low + r.loose + n) → (r' : Reached) → r' ≡ passed r x → IsWalked (i + 1) r'
-    walked_next less r' e = elim (cases_Bool (is_pinned x)) [
-      | inl t ↦ subst (IsWalked (i + 1)) (sym (e ∙ cond-true (is_pinned x) _ _ t)) (walked_pinned t (less t))
-      | inr t ↦ subst (IsWalked (i + 1)) (sym (e ∙ cond-false (is_pinned x) _ _ t)) (walked_loose t)
+    walked_next less r' e = elim (C.cases_Bool (is_pinned x)) [
+      | inl t ↦ subst (IsWalked (i + 1)) (sym (e ∙ C.cond-true (is_pinned x) _ _ t)) (walked_pinned t (less t))
+      | inr t ↦ subst (IsWalked (i + 1)) (sym (e ∙ C.cond-false (is_pinned x) _ _ t)) (walked_loose t)
     ]
 
   -- at the start
@@ -193,10 +193,10 @@ module _ (l : Layout) (n : ℕ) (ordered : IsOrdered l) where
     gap_last some enough = room_here i r now l.hi high (omega arith) ahead_none some enough (inl refl)
 
     pub none_found : 0 < n → l.hi < r.low + r.loose + n → room l.lo l.hi xs < n
-    none_found some less = elim (cases_lt (room l.lo l.hi xs) n) [
+    none_found some less = elim (C.cases_lt (room l.lo l.hi xs) n) [
       | inl lt ↦ lt
       | inr ge ↦
-          let best = some_gap l.lo l.hi xs (laid_placed l.lo l.hi xs ordered.laid) (omega arith) in
+          let best = C.some_gap l.lo l.hi xs (C.laid_placed l.lo l.hi xs ordered.laid) (omega arith) in
           let is = best.3 in
           let enough : best.0 + loose_bytes xs best.0 best.1 + n ≤ best.1 = omega arith in
           absurd (no_room i r now l.hi high (omega arith) ahead_none less best.0 best.1 best.2 (now.lowest best.0 best.1 best.2 enough) best.2.clear.below enough)
@@ -205,6 +205,6 @@ module _ (l : Layout) (n : ℕ) (ordered : IsOrdered l) where
   -- what is found is no more than the room
   pub enough_room : (g : Gap) → HasRoom l n g → n ≤ room l.lo l.hi xs
   enough_room g found =
-      let most = each_gap l.lo l.hi xs (laid_placed l.lo l.hi xs ordered.laid) g.low g.high found.gap in
+      let most = C.each_gap l.lo l.hi xs (C.laid_placed l.lo l.hi xs ordered.laid) g.low g.high found.gap in
       let one = found.loose in let two = found.room in
       omega arith

@@ -1,11 +1,8 @@
 -- A gap with room.
 use Rattle.std.specs.Prelude.{ℕ, ◌+◌, ◌≤◌, ◌≡◌, List, Option, Some, None}
-use Rattle.w16_model.specs.declared.Block.{Block}
-use Rattle.w16_model.specs.Gap.{IsGap, loose_bytes}
-use Rattle.w16_model.specs.Heap.{IsMultiple}
+use Rattle.w16_model.specs.{declared.Block.Block, Gap.IsGap, Gap.loose_bytes, Heap.IsMultiple}
 use Rattle.w16_blocks.specs.Layout.{Layout, all_but}
-use Rattle.w16_compact.specs.declared.gaps.Gap.{Gap}
-use Rattle.w16_compact.specs.Gather.{MayGather}
+use Rattle.w16_compact.specs.{declared.gaps.Gap.Gap, Gather.MayGather}
 
 -- the blocks but for that of h
 abbrev pub others : Option ℕ → List Block → List Block

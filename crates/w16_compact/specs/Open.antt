@@ -1,8 +1,6 @@
 -- Blocks slid to the high end of an interval, and a gap that is opened behind one of its blocks.
 use Rattle.std.specs.Prelude.{ℕ, ◌+◌, ◌-◌, if◌then◌else◌, List, map, Some}
-use Rattle.w16_model.specs.declared.Block.{Block}
-use Rattle.w16_model.specs.Gap.{begins_in, loose_bytes}
-use Rattle.w16_model.specs.Reallocation.{loosened}
+use Rattle.w16_model.specs.{declared.Block.Block, Gap.begins_in, Gap.loose_bytes, Reallocation.loosened}
 use Rattle.w16_blocks.specs.Layout.{Layout}
 use Rattle.w16_compact.specs.Gather.{gathered}
 

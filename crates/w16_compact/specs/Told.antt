@@ -1,7 +1,6 @@
 -- What a table tells of gaps: in which one each loose block lies, and the room of each.
 use Rattle.std.specs.Prelude.{◌≡◌, ℕ, ◌+◌, true, false, List, [], ◌∷◌, slice_index}
-use Rattle.w16_model.specs.declared.Block.{Block}
-use Rattle.w16_model.specs.Gap.{is_pinned, block_end}
+use Rattle.w16_model.specs.{declared.Block.Block, Gap.is_pinned, Gap.block_end}
 use Rattle.w16_blocks.specs.Layout.{Layout}
 
 -- The table is right for blocks by address, where the gap that they begin in has this number, begins at `low` and has so many bytes of

@@ -1,31 +1,32 @@
 -- Bytes and words of a file.
-use Rattle.w16_format.proofs.Common.{◌≡◌, ℕ, zero, suc, ◌+◌, ◌<◌, true, List, [], ◌∷◌, length, refl, sym, subst, arith, get_or, All, nat_lt, and_parts, and_from, ltb-true, lt-ltb, All-nil, All-cons, All-head, All-tail, get_or-map-range_with_len, length-map-range_with_len, word_of, padded, has_bytes}
+use Rattle.w16_format.proofs.Common as C
+use Rattle.w16_format.proofs.Common.{◌≡◌, ℕ, zero, suc, ◌+◌, ◌<◌, true, List, [], ◌∷◌, refl, sym, subst, arith, get_or, All, padded, has_bytes}
 
 abbrev pub AreBytes : List ℕ → Type 0
 AreBytes bytes = All (λ b. b < 256) bytes
 
 pub at_any : (bytes : List ℕ) → AreBytes bytes → (o : ℕ) → get_or bytes o 0 < 256
 at_any [] all o = omega arith
-at_any (b ∷ bs) all zero = All-head (λ x. x < 256) b bs all
-at_any (b ∷ bs) all (suc o) = at_any bs (All-tail (λ x. x < 256) b bs all) o
+at_any (b ∷ bs) all zero = C.All-head (λ x. x < 256) b bs all
+at_any (b ∷ bs) all (suc o) = at_any bs (C.All-tail (λ x. x < 256) b bs all) o
 
-pub word_small : (bytes : List ℕ) → AreBytes bytes → (at : ℕ) → word_of bytes at < 65536
+pub word_small : (bytes : List ℕ) → AreBytes bytes → (at : ℕ) → C.word_of bytes at < 65536
 word_small bytes all at = let a = at_any bytes all at in let b = at_any bytes all (at + 1) in omega (arith, a, b)
 
-pub padded_length : (bytes : List ℕ) (size : ℕ) → length (padded bytes size) ≡ size
-padded_length bytes size = length-map-range_with_len (λ o. get_or bytes o 0) 0 size
+pub padded_length : (bytes : List ℕ) (size : ℕ) → C.length (padded bytes size) ≡ size
+padded_length bytes size = C.length-map-range_with_len (λ o. get_or bytes o 0) 0 size
 
 pub padded_bytes : (bytes : List ℕ) (size : ℕ) → AreBytes bytes → AreBytes (padded bytes size)
 padded_bytes bytes size all k d lt =
     let long = padded_length bytes size in
-    let same : get_or (padded bytes size) k d ≡ get_or bytes k 0 = get_or-map-range_with_len (λ o. get_or bytes o 0) 0 size k k d (omega (arith, long, lt)) (omega arith) in
+    let same : get_or (padded bytes size) k d ≡ get_or bytes k 0 = C.get_or-map-range_with_len (λ o. get_or bytes o 0) 0 size k k d (omega (arith, long, lt)) (omega arith) in
     subst (λ n. n < 256) (sym same) (at_any bytes all k)
 
 -- what passes the test for bytes has bytes
 pub passed_bytes : (file : List ℕ) → has_bytes file ≡ true → AreBytes file
-passed_bytes [] e = All-nil (λ x. x < 256)
-passed_bytes (b ∷ bs) e = let parts = and_parts (nat_lt b 256) (has_bytes bs) e in All-cons (λ x. x < 256) b bs (ltb-true b 256 parts.0) (passed_bytes bs parts.1)
+passed_bytes [] e = C.All-nil (λ x. x < 256)
+passed_bytes (b ∷ bs) e = let parts = C.and_parts (C.nat_lt b 256) (has_bytes bs) e in C.All-cons (λ x. x < 256) b bs (C.ltb-true b 256 parts.0) (passed_bytes bs parts.1)
 
 pub bytes_pass : (file : List ℕ) → AreBytes file → has_bytes file ≡ true
 bytes_pass [] all = refl
-bytes_pass (b ∷ bs) all = and_from (nat_lt b 256) (has_bytes bs) (lt-ltb b 256 (All-head (λ x. x < 256) b bs all)) (bytes_pass bs (All-tail (λ x. x < 256) b bs all))
+bytes_pass (b ∷ bs) all = C.and_from (C.nat_lt b 256) (has_bytes bs) (C.lt-ltb b 256 (C.All-head (λ x. x < 256) b bs all)) (bytes_pass bs (C.All-tail (λ x. x < 256) b bs all))

@@ -1,44 +1,42 @@
 -- What loads and fetches get of an NE file.
-use Rattle.w16_format.proofs.Common.{◌≡◌, ℕ, ◌-◌, List, [], ◌∷◌, length, map, Some, Result, Ok, Err, refl, sym, ◌∙◌, ap, subst, All, Option, None, option_map}
-use Rattle.w16_format.proofs.Common.{slice_index_or, is_ok, is_some, ◌&&◌, list_all, Segment, Label, Entry, Tables, resource_at, RelocFault, Held, checked, IsImage, naming, IsFar}
-use Rattle.w16_format.proofs.Common.{ModuleFile, SegmentData, numbered, content_at, LoadingWorld, Module, are_sound, read_of, segment_bytes, resource_bytes, targets_in, data_in, contents_in, far_in, far_of, module_file, ne_format}
-use Rattle.w16_format.proofs.Common.{IsFileOf}
+use Rattle.w16_format.proofs
+use proofs.Common as C
+use proofs.Common.{◌≡◌, ℕ, ◌-◌, List, [], ◌∷◌, map, Some, Result, Ok, Err, refl, sym, ◌∙◌, ap, subst, All, Option, None, option_map, slice_index_or, is_ok, is_some, ◌&&◌, list_all, Label, Entry, Tables, Held, checked, IsFar, ModuleFile, SegmentData, numbered, LoadingWorld, Module, data_in}
+use proofs.Common.{far_of, ne_format, IsFileOf}
+use proofs.{Files.accepted, Lookups.numbered_map, Relocated.is_relocated, Relocated.words_same}
 use Rattle.w16_reloc.specs.declared.value.Far as words
-use Rattle.w16_format.proofs.Files.{accepted}
-use Rattle.w16_format.proofs.Lookups.{numbered_map}
-use Rattle.w16_format.proofs.Relocated.{is_relocated, words_same}
 
 -- Soundness.
 
-told : (file : List ℕ) (t : Tables) (r : Result Held RelocFault) → is_some (targets_in file t r) ≡ is_ok r
+told : (file : List ℕ) (t : Tables) (r : Result Held C.RelocFault) → is_some (C.targets_in file t r) ≡ is_ok r
 told file t (Ok held) = refl
 told file t (Err e) = refl
 
-all_told : (file : List ℕ) (t : Tables) (ss : List Segment) → list_all (λ (d : SegmentData). is_some d.targets) (map (data_in file t) ss) ≡ list_all (λ s. is_ok (checked file t s)) ss
+all_told : (file : List ℕ) (t : Tables) (ss : List C.Segment) → list_all (λ (d : SegmentData). is_some d.targets) (map (data_in file t) ss) ≡ list_all (λ s. is_ok (checked file t s)) ss
 all_told file t [] = refl
 all_told file t (s ∷ ss) =
     ap (λ b. b && list_all (λ (d : SegmentData). is_some d.targets) (map (data_in file t) ss)) (told file t (checked file t s)) ∙ ap (λ b. is_ok (checked file t s) && b) (all_told file t ss)
 
-pub sound_law : (file : List ℕ) (t : Tables) → are_sound (module_file file t) ≡ list_all (λ s. is_ok (checked file t s)) t.segments
+pub sound_law : (file : List ℕ) (t : Tables) → C.are_sound (C.module_file file t) ≡ list_all (λ s. is_ok (checked file t s)) t.segments
 sound_law file t = all_told file t t.segments
 
-read_is : (world : LoadingWorld) (m : Module) (file : List ℕ) (t : Tables) → IsFileOf world m file t → read_of ne_format world m ≡ Some (module_file file t)
+read_is : (world : LoadingWorld) (m : Module) (file : List ℕ) (t : Tables) → IsFileOf world m file t → C.read_of ne_format world m ≡ Some (C.module_file file t)
 read_is world m file t is =
     ap (λ (p : Option (List ℕ)). elim p as (λ _. Option ModuleFile) [ None ↦ None | Some bytes ↦ elim (ne_format.says bytes) as (λ _. Option ModuleFile) [ Ok read ↦ Some read | Err _ ↦ None ] ]) is.stored
     ∙ ap (λ (r : Result ModuleFile ℕ). elim r as (λ _. Option ModuleFile) [ Ok read ↦ Some read | Err _ ↦ None ]) (accepted file t is.bytes is.tables)
 
 -- Segments.
 
-pub segment_given : (world : LoadingWorld) (m : Module) (file : List ℕ) (t : Tables) (number : ℕ) (s : Segment) (held : Held) (values : List words.Far) (bytes : List ℕ) → IsFileOf world m file t
+pub segment_given : (world : LoadingWorld) (m : Module) (file : List ℕ) (t : Tables) (number : ℕ) (s : C.Segment) (held : Held) (values : List words.Far) (bytes : List ℕ) → IsFileOf world m file t
     → numbered t.segments number ≡ Some s → checked file t s ≡ Ok held → All IsFar values → slice_index_or m.values (number - 1) [] ≡ map far_of values
-    → IsImage held.bytes held.records values (naming held.bytes held.records) bytes → length bytes ≡ s.size → segment_bytes ne_format world m number ≡ Some bytes
+    → C.IsImage held.bytes held.records values (C.naming held.bytes held.records) bytes → C.length bytes ≡ s.size → C.segment_bytes ne_format world m number ≡ Some bytes
 segment_given world m file t number s held values bytes is place passed far bound image long =
     let read = read_is world m file t is in
     let there : numbered (map (data_in file t) t.segments) number ≡ Some (data_in file t s) = numbered_map (data_in file t) t.segments number ∙ ap (option_map (data_in file t)) place in
     let relocated = is_relocated file t s held passed in
-    let same : map far_in (map far_of values) ≡ values = words_same values far in
+    let same : map C.far_in (map far_of values) ≡ values = words_same values far in
     let given : (data_in file t s).image (map far_of values) ≡ bytes =
-    relocated.image (map far_of values) bytes (subst (λ vs. IsImage held.bytes held.records vs (naming held.bytes held.records) bytes) (sym same) image) long in
+    relocated.image (map far_of values) bytes (subst (λ vs. C.IsImage held.bytes held.records vs (C.naming held.bytes held.records) bytes) (sym same) image) long in
     ap (λ (p : Option ModuleFile). elim p as (λ _. Option (List ℕ)) [ None ↦ None | Some r ↦ option_map (λ (d : SegmentData). d.image (slice_index_or m.values (number - 1) [])) (numbered r.segments number) ]) read
     ∙ ap (option_map (λ (d : SegmentData). d.image (slice_index_or m.values (number - 1) []))) there
     ∙ ap (λ vs. Some ((data_in file t s).image vs)) bound
@@ -47,9 +45,9 @@ segment_given world m file t number s held values bytes is place passed far boun
 -- Resources.
 
 pub resource_given : (world : LoadingWorld) (m : Module) (file : List ℕ) (t : Tables) (place : ℕ) (r : Label × Entry) → IsFileOf world m file t
-    → resource_at t.resources place ≡ Some r → resource_bytes ne_format world m place ≡ Some (contents_in file r)
+    → C.resource_at t.resources place ≡ Some r → C.resource_bytes ne_format world m place ≡ Some (C.contents_in file r)
 resource_given world m file t place r is there =
     ap (λ (p : Option (List ℕ)). elim p as (λ _. Option (List ℕ)) [ None ↦ None | Some bytes ↦ elim (ne_format.says bytes) as (λ _. Option (List ℕ)) [ Ok _ ↦ ne_format.contents bytes place | Err _ ↦ None ] ]) is.stored
     ∙ ap (λ (said : Result ModuleFile ℕ). elim said as (λ _. Option (List ℕ)) [ Ok _ ↦ ne_format.contents file place | Err _ ↦ None ]) (accepted file t is.bytes is.tables)
-    ∙ ap (content_at file place) is.tables
-    ∙ ap (option_map (contents_in file)) there
+    ∙ ap (C.content_at file place) is.tables
+    ∙ ap (option_map (C.contents_in file)) there

@@ -1,35 +1,34 @@
 -- NE files are a format.
-use Rattle.w16_format.proofs.Common.{◌≡◌, ℕ, ◌+◌, ◌<◌, ◌≤◌, Bool, true, false, cond, List, length, take, drop, Some, Result, Ok, Err, refl, sym, ◌∙◌, ap, arith, Option, None, IsSomeAnd, All, MatchResult, nat_eq, slice_get}
-use Rattle.w16_format.proofs.Common.{All-take, All-drop, rounded_size, NeFault, Missing, Target, Store, place_at, Segment, data_of, shift_of, segment_table, Tables, tables_at, IsModule, module_format, file_of, IsFormat}
-use Rattle.w16_format.proofs.Common.{IfOk, IfSome, IsContent, numbered, option_map, resource_at, subst, IsModuleFile, ModuleFile, IsItsFiles, IsOfFiles, LoadingWorld, Module, module_at, layout_code, IsFileOf, resource_in, tables_in}
-use Rattle.w16_format.proofs.Common.{content_at, contents_in, has_bytes, module_file, ne_format, number_of, plain_format, read_as}
+use Rattle.w16_format.proofs
+use proofs.Common as C
+use proofs.Common.{◌≡◌, ℕ, ◌+◌, ◌<◌, ◌≤◌, Bool, true, false, cond, List, take, drop, Some, Result, Ok, Err, refl, sym, ◌∙◌, ap, arith, Option, None, IsSomeAnd, All, NeFault, Store, Tables, tables_at, file_of, IfOk, IfSome, IsContent, subst, IsModuleFile, ModuleFile, layout_code, IsFileOf}
+use proofs.Common.{tables_in, has_bytes, module_file, ne_format, number_of, plain_format, read_as}
+use proofs.Bytes.{AreBytes, padded_length, padded_bytes, passed_bytes, bytes_pass}
+use proofs.{Lookups.place_law, Segments.segments_fit, Segments.room}
 use Rattle.w16_ne.specs.Resources as ne_resources
 use Rattle.w16_loading.specs.File as loading
-use Rattle.w16_format.proofs.Bytes.{AreBytes, padded_length, padded_bytes, passed_bytes, bytes_pass}
-use Rattle.w16_format.proofs.Lookups.{place_law}
-use Rattle.w16_format.proofs.Segments.{segments_fit, room}
 
 -- Resources.
 
-contents_bytes : (file : List ℕ) (r : ne_resources.Label × ne_resources.Entry) → AreBytes file → AreBytes (contents_in file r)
+contents_bytes : (file : List ℕ) (r : ne_resources.Label × ne_resources.Entry) → AreBytes file → AreBytes (C.contents_in file r)
 contents_bytes file r all =
-    padded_bytes (take r.1.len (drop r.1.place file)) (rounded_size r.1.len) (All-take (λ b. b < 256) r.1.len (drop r.1.place file) (All-drop (λ b. b < 256) r.1.place file all))
+    padded_bytes (take r.1.len (drop r.1.place file)) (C.rounded_size r.1.len) (C.All-take (λ b. b < 256) r.1.len (drop r.1.place file) (C.All-drop (λ b. b < 256) r.1.place file all))
 
 -- Files.
 
-is_module_file : (file : List ℕ) (t : Tables) → AreBytes file → IsModule file t → IsModuleFile (module_file file t)
+is_module_file : (file : List ℕ) (t : Tables) → AreBytes file → C.IsModule file t → IsModuleFile (module_file file t)
 is_module_file file t all is = record {
-  segments = segments_fit file t (shift_of t.header) (t.place + segment_table t.header) t.segments all is.segments.are;
+  segments = segments_fit file t (C.shift_of t.header) (t.place + C.segment_table t.header) t.segments all is.segments.are;
 }
 
 are_contents : (file : List ℕ) (number : ℕ) (r : Result Tables NeFault) → AreBytes file
-    → IfOk (read_as file r) (λ read. IfSome (numbered read.tables.resources number) (λ x. IsSomeAnd (content_at file number r) (IsContent x)))
+    → IfOk (read_as file r) (λ read. IfSome (C.numbered read.tables.resources number) (λ x. IsSomeAnd (C.content_at file number r) (IsContent x)))
 are_contents file number (Err e) all = tt
-are_contents file number (Ok t) all = subst (λ p. IfSome p (λ x. IsSomeAnd (content_at file number (Ok t)) (IsContent x))) (sym (place_law t number).1) (turn (resource_at t.resources number))
+are_contents file number (Ok t) all = subst (λ p. IfSome p (λ x. IsSomeAnd (C.content_at file number (Ok t)) (IsContent x))) (sym (place_law t number).1) (turn (C.resource_at t.resources number))
   where
-    turn : (p : Option (ne_resources.Label × ne_resources.Entry)) → IfSome (option_map resource_in p) (λ x. IsSomeAnd (option_map (contents_in file) p) (IsContent x))
+    turn : (p : Option (ne_resources.Label × ne_resources.Entry)) → IfSome (C.option_map C.resource_in p) (λ x. IsSomeAnd (C.option_map (C.contents_in file) p) (IsContent x))
     turn None = tt
-    turn (Some r) = (padded_length (take r.1.len (drop r.1.place file)) (rounded_size r.1.len), contents_bytes file r all)
+    turn (Some r) = (padded_length (take r.1.len (drop r.1.place file)) (C.rounded_size r.1.len), contents_bytes file r all)
 
 numbers_by : (a b : Bool) → (11 ≤ cond a 12 (cond b 13 14)) × (cond a 12 (cond b 13 14) ≤ 14)
 numbers_by true b = (omega arith, omega arith)
@@ -37,22 +36,22 @@ numbers_by false true = (omega arith, omega arith)
 numbers_by false false = (omega arith, omega arith)
 
 numbers : (e : NeFault) → (11 ≤ number_of e) × (number_of e ≤ 14)
-numbers (Target system) = numbers_by (nat_eq system 1) (nat_eq system 3)
+numbers (C.Target system) = numbers_by (C.nat_eq system 1) (C.nat_eq system 3)
 numbers other = (omega arith, omega arith)
 
-read_fits : (file : List ℕ) (r : Result Tables NeFault) → AreBytes file → tables_at (Some file) ≡ r → MatchResult (read_as file r) IsModuleFile (λ answer. (11 ≤ answer) × (answer ≤ 14))
-read_fits file (Ok t) all e = is_module_file file t all ((module_format file t).0 e)
+read_fits : (file : List ℕ) (r : Result Tables NeFault) → AreBytes file → tables_at (Some file) ≡ r → C.MatchResult (read_as file r) IsModuleFile (λ answer. (11 ≤ answer) × (answer ≤ 14))
+read_fits file (Ok t) all e = is_module_file file t all ((C.module_format file t).0 e)
 read_fits file (Err e) all same = numbers e
 
-pub is_format : IsFormat ne_format
+pub is_format : C.IsFormat ne_format
 is_format = record { files = λ file. files file (has_bytes file) refl; contents = λ file number. contents file number (has_bytes file) refl }
   where
-    files : (file : List ℕ) (b : Bool) → has_bytes file ≡ b → MatchResult (cond b (plain_format file) (Err 11)) IsModuleFile (λ answer. (11 ≤ answer) × (answer ≤ 14))
+    files : (file : List ℕ) (b : Bool) → has_bytes file ≡ b → C.MatchResult (cond b (plain_format file) (Err 11)) IsModuleFile (λ answer. (11 ≤ answer) × (answer ≤ 14))
     files file true e = read_fits file (tables_at (Some file)) (passed_bytes file e) refl
     files file false e = (omega arith, omega arith)
 
     contents : (file : List ℕ) (number : ℕ) (b : Bool) → has_bytes file ≡ b
-        → IfOk (cond {A = Result ModuleFile ℕ} b (plain_format file) (Err 11)) (λ read. IfSome (numbered read.tables.resources number) (λ x. IsSomeAnd (ne_format.contents file number) (IsContent x)))
+        → IfOk (cond {A = Result ModuleFile ℕ} b (plain_format file) (Err 11)) (λ read. IfSome (C.numbered read.tables.resources number) (λ x. IsSomeAnd (ne_format.contents file number) (IsContent x)))
     contents file number true e = are_contents file number (tables_at (Some file)) (passed_bytes file e)
     contents file number false e = tt
 
@@ -79,7 +78,7 @@ read_back file read e = turn (has_bytes file) refl (tables_at (Some file)) refl 
     turn false pass r f g = absurd (not_ok g)
 
 -- A module's file as its world has it: what it was loaded with, its file still says.
-pub stored_law : (world : LoadingWorld) (handle : ℕ) (m : Module) (t : Tables) → IsOfFiles ne_format world → module_at world.modules handle ≡ Some m → m.tables ≡ tables_in t
+pub stored_law : (world : C.LoadingWorld) (handle : ℕ) (m : C.Module) (t : Tables) → C.IsOfFiles ne_format world → C.module_at world.modules handle ≡ Some m → m.tables ≡ tables_in t
     → (file : List ℕ) × IsFileOf world m file t
 stored_law world handle m t of_files there same = turn (file_of world.files m.file) refl (of_files.modules handle m there)
   where
@@ -88,21 +87,21 @@ stored_law world handle m t of_files there same = turn (file_of world.files m.fi
     said (Some file) = elim (ne_format.says file) [ Ok read ↦ Some read | Err _ ↦ None ]
 
     by : (file : List ℕ) → file_of world.files m.file ≡ Some file → (r : Result ModuleFile ℕ) → ne_format.says file ≡ r
-        → IsSomeAnd (elim r as (λ _. Option ModuleFile) [ Ok read ↦ Some read | Err _ ↦ None ]) (IsItsFiles m) → (file : List ℕ) × IsFileOf world m file t
+        → IsSomeAnd (elim r as (λ _. Option ModuleFile) [ Ok read ↦ Some read | Err _ ↦ None ]) (C.IsItsFiles m) → (file : List ℕ) × IsFileOf world m file t
     by file stored (Err _) e its = absurd its
     by file stored (Ok read) e its =
         let back = read_back file read e in
         let tables : tables_in back.1.0 ≡ tables_in t = ap (λ (r : ModuleFile). r.tables) (sym back.1.2) ∙ its.tables ∙ same in
         (file, record { stored = stored; bytes = back.0; tables = back.1.1 ∙ ap Ok (tables_apart back.1.0 t tables) })
 
-    turn : (p : Option (List ℕ)) → file_of world.files m.file ≡ p → IsSomeAnd (said p) (IsItsFiles m) → (file : List ℕ) × IsFileOf world m file t
+    turn : (p : Option (List ℕ)) → file_of world.files m.file ≡ p → IsSomeAnd (said p) (C.IsItsFiles m) → (file : List ℕ) × IsFileOf world m file t
     turn None e its = absurd its
     turn (Some file) e its = by file e (ne_format.says file) refl its
 
-pub has_room : (file : List ℕ) (t : Tables) (k : ℕ) (s : Segment) → tables_at (Some file) ≡ Ok t → slice_get t.segments k ≡ Some s → length (data_of file s) ≤ s.size
+pub has_room : (file : List ℕ) (t : Tables) (k : ℕ) (s : C.Segment) → tables_at (Some file) ≡ Ok t → C.slice_get t.segments k ≡ Some s → C.length (C.data_of file s) ≤ s.size
 has_room file t k s h found =
-    let is = (module_format file t).0 h in
-    room file (shift_of t.header) (t.place + segment_table t.header) t.segments k s is.segments.are found
+    let is = (C.module_format file t).0 h in
+    room file (C.shift_of t.header) (t.place + C.segment_table t.header) t.segments k s is.segments.are found
 
 pub accepted : (file : List ℕ) (t : Tables) → All (λ b. b < 256) file → tables_at (Some file) ≡ Ok t → ne_format.says file ≡ Ok (module_file file t)
 accepted file t all h = plain file all ∙ ap (read_as file) h
@@ -110,6 +109,6 @@ accepted file t all h = plain file all ∙ ap (read_as file) h
 pub refused : (file : List ℕ) (e : NeFault) → All (λ b. b < 256) file → tables_at (Some file) ≡ Err e → ne_format.says file ≡ Err (number_of e)
 refused file e all h = plain file all ∙ ap (read_as file) h
 
-pub missing : tables_at None ≡ Err (Store Missing)
-unfolding tables_at place_at
+pub missing : tables_at None ≡ Err (Store C.Missing)
+unfolding tables_at C.place_at
 missing = refl

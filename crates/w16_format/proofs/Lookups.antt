@@ -1,14 +1,14 @@
 -- Look-ups by number and by name.
-use Rattle.w16_format.proofs.Common.{◌≡◌, ℕ, zero, suc, ◌-◌, false, cond, List, [], ◌∷◌, map, Some, refl, sym, ◌∙◌, ap, arith, Option, None, option_map, unwrap_or, slice_get, slice_index_or}
-use Rattle.w16_format.proofs.Common.{find, nat_eq, slice_get-map, is_named, ordinal_in, Tables, entry_at, resource_at, listed_resources, numbered, segment_in, entry_in, resource_in, tables_in}
-use Rattle.w16_ne.specs.declared.entry_table.Entry as ne_entry
+use Rattle.w16_format.proofs.Common as C
+use Rattle.w16_format.proofs.Common.{◌≡◌, ℕ, zero, suc, ◌-◌, false, cond, List, [], ◌∷◌, map, Some, refl, sym, ◌∙◌, ap, arith, Option, None, option_map, unwrap_or, slice_get, find, Tables, entry_at, listed_resources, numbered, entry_in, resource_in, tables_in}
 use Rattle.w16_ne.specs.Names.{Entry}
+use Rattle.w16_ne.specs.declared.entry_table.Entry as ne_entry
 use Rattle.w16_ne.specs.Resources as ne_resources
 use Rattle.w16_loading.specs.File as loading
 
 -- Numbers.
 
-not_zero : (i : ℕ) → nat_eq (suc i) 0 ≡ false
+not_zero : (i : ℕ) → C.nat_eq (suc i) 0 ≡ false
 not_zero i = grind arith
 
 before : (i : ℕ) → suc i - 1 ≡ i
@@ -19,9 +19,9 @@ numbered_suc {X} xs i = ap (λ b. cond {A = Option X} b None (slice_get xs (suc 
 
 pub numbered_map : {X Y : Type 0} (f : X → Y) (xs : List X) (number : ℕ) → numbered (map f xs) number ≡ option_map f (numbered xs number)
 numbered_map f xs zero = refl
-numbered_map f xs (suc i) = numbered_suc (map f xs) i ∙ slice_get-map f xs i ∙ ap (option_map f) (sym (numbered_suc xs i))
+numbered_map f xs (suc i) = numbered_suc (map f xs) i ∙ C.slice_get-map f xs i ∙ ap (option_map f) (sym (numbered_suc xs i))
 
-at_entry : (xs : List (Option ne_entry.Entry)) (i : ℕ) → unwrap_or (slice_get (map (option_map entry_in) xs) i) None ≡ option_map entry_in (slice_index_or xs i None)
+at_entry : (xs : List (Option ne_entry.Entry)) (i : ℕ) → unwrap_or (slice_get (map (option_map entry_in) xs) i) None ≡ option_map entry_in (C.slice_index_or xs i None)
 at_entry [] i = refl
 at_entry (x ∷ xs) zero = refl
 at_entry (x ∷ xs) (suc i) = at_entry xs i
@@ -30,14 +30,14 @@ pub entry_law : (t : Tables) (ordinal : ℕ) → loading.entry_at (tables_in t) 
 entry_law t zero = refl
 entry_law t (suc i) = ap (λ (p : Option (Option loading.Entry)). unwrap_or p None) (numbered_suc (map (option_map entry_in) t.entries) i) ∙ at_entry t.entries i
 
-resource_place : (types : List (ne_resources.Label × List ne_resources.Entry)) (place : ℕ) → numbered (listed_resources types) place ≡ resource_at types place
+resource_place : (types : List (ne_resources.Label × List ne_resources.Entry)) (place : ℕ) → numbered (listed_resources types) place ≡ C.resource_at types place
 resource_place types zero = refl
 resource_place types (suc i) = numbered_suc (listed_resources types) i
 
-pub place_law : (t : Tables) (number : ℕ) → (numbered (tables_in t).segments number ≡ option_map segment_in (numbered t.segments number))
-    × (numbered (tables_in t).resources number ≡ option_map resource_in (resource_at t.resources number))
+pub place_law : (t : Tables) (number : ℕ) → (numbered (tables_in t).segments number ≡ option_map C.segment_in (numbered t.segments number))
+    × (numbered (tables_in t).resources number ≡ option_map resource_in (C.resource_at t.resources number))
 place_law t number = (
-  numbered_map segment_in t.segments number,
+  numbered_map C.segment_in t.segments number,
   numbered_map resource_in (listed_resources t.resources) number ∙ ap (option_map resource_in) (resource_place t.resources number),
 )
 
@@ -48,5 +48,5 @@ leads : (t : Tables) (o : Option Entry)
 leads t None = refl
 leads t (Some e) = entry_law t e.1
 
-pub name_law : (t : Tables) (name : List ℕ) → loading.entry_named (tables_in t) name ≡ option_map entry_in (entry_at t.entries (ordinal_in t.names name))
-name_law t name = leads t (find (λ e. is_named e.0 name) t.names)
+pub name_law : (t : Tables) (name : List ℕ) → loading.entry_named (tables_in t) name ≡ option_map entry_in (entry_at t.entries (C.ordinal_in t.names name))
+name_law t name = leads t (find (λ e. C.is_named e.0 name) t.names)

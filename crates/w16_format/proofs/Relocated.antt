@@ -1,12 +1,13 @@
 -- What a check and a relocation give is what the format says.
-use Rattle.w16_format.proofs.Common.{◌≡◌, ℕ, ◌<◌, ◌%◌, List, [], ◌∷◌, length, map, Result, Ok, Err, refl, sym, ◌∙◌, ap, subst, arith, All, All-head, All-tail, Segment, Tables, RelocFault, Record, Held, checked, data_of}
-use Rattle.w16_format.proofs.Common.{records_of, offer_of, ◌>>=◌, check_from, IsSound, IsImage, naming, image_of, IsFar, passed_is_sound, naming_is, image_is_of, targets_in, records_in, far_in, far_of, IsRelocated}
-use Rattle.w16_format.proofs.Common.{Some, None, cond, ◌≤◌, le-leb, sound_passes, any_offer, IsSoundSegment, ne_format, segment_in, tables_in, written}
+use Rattle.w16_format.proofs
+use proofs.Common as C
+use proofs.Common.{◌≡◌, ℕ, ◌<◌, ◌%◌, List, [], ◌∷◌, length, map, Ok, Err, refl, sym, ◌∙◌, ap, subst, arith, All, Segment, Tables, Held, checked, data_of, records_of, offer_of, ◌>>=◌, check_from, IsSound, IsImage, naming, image_of, IsFar, far_in, far_of, Some, None, cond, ◌≤◌, any_offer}
+use proofs.Common.{ne_format}
 use Rattle.std.proofs.lemmas.List.{length-map}
 use Rattle.w16_reloc.specs.declared.value.Far as words
 
 -- a check that passes holds the segment's data, and the records that passed
-held_by : (file : List ℕ) (s : Segment) (r : Result (List Record) RelocFault) (held : Held) → (r >>= λ records. Ok (record { bytes = data_of file s; records = records })) ≡ Ok held
+held_by : (file : List ℕ) (s : Segment) (r : C.Result (List C.Record) C.RelocFault) (held : Held) → (r >>= λ records. Ok (record { bytes = data_of file s; records = records })) ≡ Ok held
     → (held.bytes ≡ data_of file s) × (r ≡ Ok held.records)
 held_by file s (Ok records) held h = let same : ◌≡◌ {A = Held} (record { bytes = data_of file s; records = records }) held = cc in (ap (λ (x : Held). x.bytes) (sym same), ap (λ (x : Held). Ok x.records) same)
 held_by file s (Err e) held h = cc
@@ -16,21 +17,21 @@ held_is : (file : List ℕ) (t : Tables) (s : Segment) (held : Held) → checked
 unfolding checked
 held_is file t s held h = held_by file s (check_from (offer_of file t) (data_of file s) (records_of file s) s.records 0 []) held h
 
-pub is_relocated : (file : List ℕ) (t : Tables) (s : Segment) (held : Held) → checked file t s ≡ Ok held → IsRelocated file t s held
+pub is_relocated : (file : List ℕ) (t : Tables) (s : Segment) (held : Held) → checked file t s ≡ Ok held → C.IsRelocated file t s held
 is_relocated file t s held h =
     let p = held_is file t s held h in
-    let passed = passed_is_sound (offer_of file t) (data_of file s) (records_of file s) s.records held.records p.1 in
-    let names = naming_is (data_of file s) held.records passed.sound.0 passed.sound.1 in
+    let passed = C.passed_is_sound (offer_of file t) (data_of file s) (records_of file s) s.records held.records p.1 in
+    let names = C.naming_is (data_of file s) held.records passed.sound.0 passed.sound.1 in
     let sound : IsSound (data_of file s) held.records (naming (data_of file s) held.records) = subst (λ named. IsSound (data_of file s) held.records named) names passed.sound.1 in record {
       same = p.0;
       sound = subst (λ bytes. IsSound bytes held.records (naming bytes held.records)) (sym p.0) sound;
-      targets = ap (targets_in file t) h;
+      targets = ap (C.targets_in file t) h;
       image = λ values bytes is long.
           let image : IsImage (data_of file s) held.records (map far_in values) (naming (data_of file s) held.records) bytes =
           subst (λ xs. IsImage xs held.records (map far_in values) (naming xs held.records) bytes) p.0 is in
           let given : bytes ≡ image_of (data_of file s) held.records (map far_in values) (length bytes) =
-          image_is_of (data_of file s) held.records (map far_in values) (naming (data_of file s) held.records) bytes sound image in
-          ap (λ r. image_of (data_of file s) (records_in r) (map far_in values) s.size) h
+          C.image_is_of (data_of file s) held.records (map far_in values) (naming (data_of file s) held.records) bytes sound image in
+          ap (λ r. image_of (data_of file s) (C.records_in r) (map far_in values) s.size) h
           ∙ ap (λ n. image_of (data_of file s) held.records (map far_in values) n) (sym long) ∙ sym given;
     }
 
@@ -42,17 +43,17 @@ far_same far is = let a = word_same far.selector is.0 in let b = word_same far.o
 
 pub words_same : (values : List words.Far) → All IsFar values → map far_in (map far_of values) ≡ values
 words_same [] all = refl
-words_same (v ∷ vs) all = ap (λ x. x ∷ map far_in (map far_of vs)) (far_same v (All-head IsFar v vs all)) ∙ ap (λ xs. v ∷ xs) (words_same vs (All-tail IsFar v vs all))
+words_same (v ∷ vs) all = ap (λ x. x ∷ map far_in (map far_of vs)) (far_same v (C.All-head IsFar v vs all)) ∙ ap (λ xs. v ∷ xs) (words_same vs (C.All-tail IsFar v vs all))
 
 -- The image of data in which the records of a table are sound.
-pub relocated_law : (t : Tables) (source table : List ℕ) (records : List Record) (values : List words.Far) (bytes : List ℕ)
-    → (sound : IsSoundSegment (any_offer (length t.segments) (length t.references)) source table (length values) records) → All IsFar values → length source ≤ length bytes
-    → IsImage source records values sound.sound.0 bytes → ne_format.relocated (tables_in t) source table (map far_of values) (length bytes) ≡ Some bytes
+pub relocated_law : (t : Tables) (source table : List ℕ) (records : List C.Record) (values : List words.Far) (bytes : List ℕ)
+    → (sound : C.IsSoundSegment (any_offer (length t.segments) (length t.references)) source table (length values) records) → All IsFar values → length source ≤ length bytes
+    → IsImage source records values sound.sound.0 bytes → ne_format.relocated (C.tables_in t) source table (map far_of values) (length bytes) ≡ Some bytes
 relocated_law t source table records values bytes sound are_words room image =
     let check = λ (segments count : ℕ). check_from (any_offer segments (length t.references)) source table count 0 [] in
     let write = λ (fs : List words.Far). Some (image_of source records fs (length bytes)) in
-    ap (written source (map far_of values) (length bytes))
-    (ap (λ n. check n (length (map far_of values))) (length-map t.segments segment_in) ∙ ap (check (length t.segments)) (length-map values far_of)
-    ∙ sound_passes (any_offer (length t.segments) (length t.references)) source table (length values) records sound)
-    ∙ ap (λ b. cond b (write (map far_in (map far_of values))) None) (le-leb (length source) (length bytes) room)
-    ∙ ap write (words_same values are_words) ∙ ap Some (sym (image_is_of source records values sound.sound.0 bytes sound.sound.1 image))
+    ap (C.written source (map far_of values) (length bytes))
+    (ap (λ n. check n (length (map far_of values))) (length-map t.segments C.segment_in) ∙ ap (check (length t.segments)) (length-map values far_of)
+    ∙ C.sound_passes (any_offer (length t.segments) (length t.references)) source table (length values) records sound)
+    ∙ ap (λ b. cond b (write (map far_in (map far_of values))) None) (C.le-leb (length source) (length bytes) room)
+    ∙ ap write (words_same values are_words) ∙ ap Some (sym (C.image_is_of source records values sound.sound.0 bytes sound.sound.1 image))

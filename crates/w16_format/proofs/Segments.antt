@@ -1,20 +1,19 @@
 -- Segments of an NE file have sizes and images that go together.
-use Rattle.w16_format.proofs.Common.{◌≡◌, ℕ, zero, suc, ◌+◌, ◌/◌, ◌<◌, ◌≤◌, ◌%◌, max, Bool, true, false, cond, List, [], ◌∷◌, length, map, drop, refl, sym, ◌∙◌, subst, arith, inl, inr, All, nat_eq}
-use Rattle.w16_format.proofs.Common.{slice_get, Some, min, AllZip, All-map, All-take, All-drop, length-take, length-map-range_with_len, GRAIN, LARGEST_OWNED, IsMultiple, Segment, word_of, or_64k, rounded}
-use Rattle.w16_format.proofs.Common.{IsData, IsSegment, AreSegments, Tables, checked, data_of, byte, patches, image_at, naming, IsFar, image_bytes, Far, IsSegmentData, segment_in, far_in, records_in}
-use Rattle.w16_format.proofs.Common.{data_in}
-use Rattle.w16_format.proofs.Bytes.{AreBytes, word_small}
+use Rattle.w16_format.proofs
+use proofs.Common as C
+use proofs.Common.{◌≡◌, ℕ, zero, suc, ◌+◌, ◌/◌, ◌<◌, ◌≤◌, ◌%◌, max, Bool, true, false, cond, List, [], ◌∷◌, length, map, drop, refl, sym, ◌∙◌, subst, arith, inl, inr, All, Some, min, GRAIN, Segment, word_of, or_64k, rounded, IsSegment, data_of, byte, IsFar, Far, far_in}
+use proofs.Bytes.{AreBytes, word_small}
 
 -- Sizes.
 
-full_by : (b : Bool) (n : ℕ) → nat_eq n 0 ≡ b → n < 65536 → (0 < cond b 65536 n) × (cond b 65536 n ≤ 65536)
+full_by : (b : Bool) (n : ℕ) → C.nat_eq n 0 ≡ b → n < 65536 → (0 < cond b 65536 n) × (cond b 65536 n ≤ 65536)
 full_by true n e lt = (omega arith, omega arith)
 full_by false n e lt = (grind arith, omega arith)
 
 full : (n : ℕ) → n < 65536 → (0 < or_64k n) × (or_64k n ≤ 65536)
-full n lt = full_by (nat_eq n 0) n refl lt
+full n lt = full_by (C.nat_eq n 0) n refl lt
 
-len_small : (file : List ℕ) (shift at : ℕ) (s : Segment) → AreBytes file → IsData file shift at s → s.len ≤ 65536
+len_small : (file : List ℕ) (shift at : ℕ) (s : Segment) → AreBytes file → C.IsData file shift at s → s.len ≤ 65536
 len_small file shift at s all (inl none) = let e = none.2 in omega (arith, e)
 len_small file shift at s all (inr some) = let e = some.2 in let f = (full (word_of file (at + 2)) (word_small file all (at + 2))).1 in omega (arith, e, f)
 
@@ -24,7 +23,7 @@ larger m n some few less = (grind arith, grind arith)
 round_fits : (n : ℕ) → 0 < n → n ≤ 65536 → (0 < rounded n) × (rounded n ≤ 65536)
 round_fits n some few = (omega arith, omega arith)
 
-size_fits : (file : List ℕ) (shift at : ℕ) (s : Segment) → AreBytes file → IsSegment file shift at s → (0 < s.size) × (s.size ≤ LARGEST_OWNED) × IsMultiple GRAIN s.size
+size_fits : (file : List ℕ) (shift at : ℕ) (s : Segment) → AreBytes file → IsSegment file shift at s → (0 < s.size) × (s.size ≤ C.LARGEST_OWNED) × C.IsMultiple GRAIN s.size
 size_fits file shift at s all is =
     let least = full (word_of file (at + 6)) (word_small file all (at + 6)) in
     let larger_one = larger s.len (or_64k (word_of file (at + 6))) least.0 least.1 (len_small file shift at s all is.placed) in
@@ -44,22 +43,22 @@ far_is : (far : Far) → IsFar (far_in far)
 far_is far = (narrow far.selector, narrow far.offset)
 
 fars_are : (values : List Far) → All IsFar (map far_in values)
-fars_are values = All-map IsFar far_in values (λ k d lt. far_is _)
+fars_are values = C.All-map IsFar far_in values (λ k d lt. far_is _)
 
-pub segment_fits : (file : List ℕ) (t : Tables) (shift at : ℕ) (s : Segment) → AreBytes file → IsSegment file shift at s → IsSegmentData (segment_in s) (data_in file t s)
+pub segment_fits : (file : List ℕ) (t : C.Tables) (shift at : ℕ) (s : Segment) → AreBytes file → IsSegment file shift at s → C.IsSegmentData (C.segment_in s) (C.data_in file t s)
 segment_fits file t shift at s all is =
     let size = size_fits file shift at s all is in record {
       some = size.0;
       small = size.1;
       rounded = size.2;
       image = λ values.
-          let records = records_in (checked file t s) in (
-            length-map-range_with_len (image_at (patches (data_of file s) records (map far_in values) (naming (data_of file s) records)) (byte (data_of file s))) 0 s.size,
-            image_bytes (data_of file s) records (map far_in values) s.size (All-take (λ b. b < 256) s.len (drop s.place file) (All-drop (λ b. b < 256) s.place file all)) (fars_are values),
+          let records = C.records_in (C.checked file t s) in (
+            C.length-map-range_with_len (C.image_at (C.patches (data_of file s) records (map far_in values) (C.naming (data_of file s) records)) (byte (data_of file s))) 0 s.size,
+            C.image_bytes (data_of file s) records (map far_in values) s.size (C.All-take (λ b. b < 256) s.len (drop s.place file) (C.All-drop (λ b. b < 256) s.place file all)) (fars_are values),
           );
     }
 
-pub segments_fit : (file : List ℕ) (t : Tables) (shift at : ℕ) (ss : List Segment) → AreBytes file → AreSegments file shift at ss → AllZip IsSegmentData (map segment_in ss) (map (data_in file t) ss)
+pub segments_fit : (file : List ℕ) (t : C.Tables) (shift at : ℕ) (ss : List Segment) → AreBytes file → C.AreSegments file shift at ss → C.AllZip C.IsSegmentData (map C.segment_in ss) (map (C.data_in file t) ss)
 segments_fit file t shift at [] all are = tt
 segments_fit file t shift at (s ∷ ss) all are = (segment_fits file t shift at s all are.0, segments_fit file t shift (at + 8) ss all are.1)
 
@@ -72,9 +71,9 @@ less m n len size least e f =
     omega (arith, a, b, f)
 
 room_one : (file : List ℕ) (shift at : ℕ) (s : Segment) → IsSegment file shift at s → length (data_of file s) ≤ s.size
-room_one file shift at s is = less _ (length (drop s.place file)) s.len s.size (or_64k (word_of file (at + 6))) (length-take s.len (drop s.place file)) is.size
+room_one file shift at s is = less _ (length (drop s.place file)) s.len s.size (or_64k (word_of file (at + 6))) (C.length-take s.len (drop s.place file)) is.size
 
-pub room : (file : List ℕ) (shift at : ℕ) (ss : List Segment) (k : ℕ) (s : Segment) → AreSegments file shift at ss → slice_get ss k ≡ Some s → length (data_of file s) ≤ s.size
+pub room : (file : List ℕ) (shift at : ℕ) (ss : List Segment) (k : ℕ) (s : Segment) → C.AreSegments file shift at ss → C.slice_get ss k ≡ Some s → length (data_of file s) ≤ s.size
 room file shift at [] k s are found = cc
 room file shift at (x ∷ xs) zero s are found = let same : x ≡ s = cc in subst (λ y. length (data_of file y) ≤ y.size) same (room_one file shift at x are.0)
 room file shift at (x ∷ xs) (suc k) s are found = room file shift (at + 8) xs k s are.1 found

@@ -2,19 +2,14 @@
 use Rattle.std.specs.Prelude.{ℕ, ◌+◌, ◌%◌, List, [], map, take, drop, slice_index, Option, Some, None, Result, Ok, Err}
 use Rattle.std.specs.List.{range_with_len}
 use Rattle.w16_model.specs.Calls.{rounded_size}
-use Rattle.w16_ne.specs.declared.segment_table.Segment.{Segment}
+use Rattle.w16_ne.specs.{declared.segment_table.Segment.Segment, Texts.text_in, Modules.Tables, Modules.imported_place}
+use Rattle.w16_reloc.specs.declared.record.Record.TheVariants.{Stored, Added, System}
+use Rattle.w16_reloc.specs.{declared.fault.RelocFault.RelocFault, declared.record.Record.Record, Segments.Held, Segments.checked, Segments.data_of, Naming.image_of}
+use Rattle.w16_loading.specs.File.{Far, Target, SegmentData}
 use Rattle.w16_ne.specs.Resources as ne_resources
-use Rattle.w16_ne.specs.Texts.{text_in}
-use Rattle.w16_ne.specs.Modules.{Tables, imported_place}
-use Rattle.w16_reloc.specs.declared.fault.RelocFault.{RelocFault}
 use Rattle.w16_reloc.specs.declared.record.Target as pointing
 use Rattle.w16_reloc.specs.declared.record.Target.TheVariants as points
-use Rattle.w16_reloc.specs.declared.record.Record.{Record}
-use Rattle.w16_reloc.specs.declared.record.Record.TheVariants.{Stored, Added, System}
 use Rattle.w16_reloc.specs.declared.value.Far as words
-use Rattle.w16_reloc.specs.Segments.{Held, checked, data_of}
-use Rattle.w16_reloc.specs.Naming.{image_of}
-use Rattle.w16_loading.specs.File.{Far, Target, SegmentData}
 use Rattle.w16_loading.specs.File as loading
 
 -- where a target and a record point, by the text that stands at the offset of a name

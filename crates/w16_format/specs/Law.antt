@@ -1,30 +1,16 @@
 -- What the format comes to.
+use Rattle.w16_format.specs
 use Rattle.std.specs.Prelude.{◌≡◌, ℕ, ◌-◌, ◌<◌, ◌≤◌, List, [], length, map, All, slice_get, slice_index_or, option_map, Some, None, Ok, Err, is_ok}
 use Rattle.std.specs.List.{list_all}
-use Rattle.w16_store.specs.declared.store.StoreFault.TheVariants.{Missing}
-use Rattle.w16_store.specs.Files.{file_of}
-use Rattle.w16_ne.specs.declared.fault.NeFault.{NeFault}
-use Rattle.w16_ne.specs.declared.fault.NeFault.TheVariants.{Store}
-use Rattle.w16_ne.specs.declared.segment_table.Segment.{Segment}
-use Rattle.w16_ne.specs.Resources.{Label, Entry}
-use Rattle.w16_ne.specs.Modules.{Tables, tables_at, entry_at, resource_at}
-use Rattle.w16_ne.specs.Names.{ordinal_in}
-use Rattle.w16_reloc.specs.declared.record.Record.{Record}
-use Rattle.w16_reloc.specs.Segments.{Held, any_offer, checked, data_of}
-use Rattle.w16_reloc.specs.Sound.{IsSound, IsSoundSegment}
-use Rattle.w16_reloc.specs.Images.{IsImage}
-use Rattle.w16_reloc.specs.Naming.{naming}
-use Rattle.w16_reloc.specs.Law.{IsFar}
+use Rattle.w16_store.specs.{declared.store.StoreFault.TheVariants.Missing, Files.file_of}
+use Rattle.w16_ne.specs.{declared.fault.NeFault.NeFault, declared.fault.NeFault.TheVariants.Store, declared.segment_table.Segment.Segment, Resources.Label, Resources.Entry, Modules.Tables, Modules.tables_at, Modules.entry_at, Modules.resource_at, Names.ordinal_in}
+use Rattle.w16_reloc.specs.{declared.record.Record.Record, Segments.Held, Segments.any_offer, Segments.checked, Segments.data_of, Sound.IsSound, Sound.IsSoundSegment, Images.IsImage, Naming.naming, Law.IsFar}
+use Rattle.w16_loading.specs.{File.IsFormat, File.Far, File.numbered, Law.IsOfFiles, Modules.LoadingWorld, Modules.Module, Modules.module_at, Closure.are_sound, Fetch.segment_bytes, Fetch.resource_bytes}
+use specs.Tables.{segment_in, entry_in, resource_in, tables_in}
+use specs.Data.{data_in, contents_in, target_of, far_in, far_of}
+use specs.Ne.{module_file, number_of, ne_format, plain_format}
 use Rattle.w16_reloc.specs.declared.value.Far as words
-use Rattle.w16_loading.specs.File.{IsFormat, Far, numbered}
 use Rattle.w16_loading.specs.File as loading
-use Rattle.w16_loading.specs.Law.{IsOfFiles}
-use Rattle.w16_loading.specs.Modules.{LoadingWorld, Module, module_at}
-use Rattle.w16_loading.specs.Closure.{are_sound}
-use Rattle.w16_loading.specs.Fetch.{segment_bytes, resource_bytes}
-use Rattle.w16_format.specs.Tables.{segment_in, entry_in, resource_in, tables_in}
-use Rattle.w16_format.specs.Data.{data_in, contents_in, target_of, far_in, far_of}
-use Rattle.w16_format.specs.Ne.{module_file, number_of, ne_format, plain_format}
 
 abbrev pub FormatLaw : Type 0
 FormatLaw = IsFormat ne_format

@@ -1,14 +1,11 @@
 -- The tables of an NE file as one value, by which two are told apart: where the file keeps each part, and the rest of what they say.
 use Rattle.std.specs.Prelude.{◌≡◌, ℕ, ◌⊎◌, List, Option, refl}
+use Rattle.std.specs.Coded.{Coded, code_by, coded×, coded⊎, coded_ℕ, coded_list, coded_option}
+use Rattle.w16_ne.specs.declared.entry_table.Entry.TheVariants.{InSegment, Constant}
+use Rattle.w16_ne.specs.{declared.segment_table.Segment.Segment, Resources.Label, Resources.Entry, Resources.Typed, Resources.Label.Number, Resources.Label.Text, Modules.Tables}
 use base.Stored.{Gv}
 use mathlib.Core.Logic.{inl, inr}
-use Rattle.std.specs.Coded.{Coded, code_by, coded×, coded⊎, coded_ℕ, coded_list, coded_option}
-use Rattle.w16_ne.specs.declared.segment_table.Segment.{Segment}
 use Rattle.w16_ne.specs.declared.entry_table.Entry as ordinal
-use Rattle.w16_ne.specs.declared.entry_table.Entry.TheVariants.{InSegment, Constant}
-use Rattle.w16_ne.specs.Resources.{Label, Entry, Typed}
-use Rattle.w16_ne.specs.Resources.Label.{Number, Text}
-use Rattle.w16_ne.specs.Modules.{Tables}
 
 abbrev pub numbers_code : Coded (List ℕ)
 numbers_code = coded_list coded_ℕ

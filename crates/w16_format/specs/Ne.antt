@@ -1,17 +1,10 @@
 -- NE files as a format.
 use Rattle.std.specs.Prelude.{ℕ, Bool, nat_le, nat_lt, List, [], length, map, ◌==◌, if◌then◌else◌, Option, Some, None, option_map, Result, Ok, Err}
 use Rattle.std.specs.List.{list_all}
-use Rattle.w16_ne.specs.declared.fault.NeFault.{NeFault}
-use Rattle.w16_ne.specs.declared.fault.NeFault.TheVariants.{Target}
-use Rattle.w16_ne.specs.Modules.{Tables, tables_at, resource_at}
-use Rattle.w16_reloc.specs.declared.fault.RelocFault.{RelocFault}
-use Rattle.w16_reloc.specs.declared.record.Record.{Record}
-use Rattle.w16_reloc.specs.Check.{check_from}
-use Rattle.w16_reloc.specs.Naming.{image_of}
-use Rattle.w16_reloc.specs.Segments.{any_offer}
+use Rattle.w16_ne.specs.{declared.fault.NeFault.NeFault, declared.fault.NeFault.TheVariants.Target, Modules.Tables, Modules.tables_at, Modules.resource_at}
+use Rattle.w16_reloc.specs.{declared.fault.RelocFault.RelocFault, declared.record.Record.Record, Check.check_from, Naming.image_of, Segments.any_offer}
 use Rattle.w16_loading.specs.File.{Far, Saying, Format, ModuleFile}
-use Rattle.w16_format.specs.Tables.{tables_in}
-use Rattle.w16_format.specs.Data.{data_in, contents_in, far_in}
+use Rattle.w16_format.specs.{Tables.tables_in, Data.data_in, Data.contents_in, Data.far_in}
 
 abbrev pub module_file : List ℕ → Tables → ModuleFile
 module_file file t = record {

@@ -2,17 +2,14 @@
 use Rattle.std.specs.Prelude.{ℕ, map, option_map, Bool, true, not, ◌==◌, if◌then◌else◌, bit_and}
 use Rattle.w16_model.specs.declared.Kind.{Kind}
 use Rattle.w16_model.specs.declared.Kind.TheVariants.{Fixed, Moveable, Discardable}
+use Rattle.w16_ne.specs.{Header.is_library, Modules.listed_resources}
+use Rattle.w16_format.specs.Layout.{layout_of}
+use Rattle.w16_loading.specs.{File.Segment, File.Entry, File.Label, File.Resource, File.Tables, File.Entry.InSegment, File.Entry.Constant, File.Label.Number, File.Label.Text}
 use Rattle.w16_ne.specs.declared.segment_table.Segment as ne_segment
 use Rattle.w16_ne.specs.declared.entry_table.Entry as ne_entry
 use Rattle.w16_ne.specs.declared.entry_table.Entry.TheVariants as ne_entries
 use Rattle.w16_ne.specs.Resources as ne_resources
-use Rattle.w16_ne.specs.Header.{is_library}
 use Rattle.w16_ne.specs.Modules as ne
-use Rattle.w16_ne.specs.Modules.{listed_resources}
-use Rattle.w16_format.specs.Layout.{layout_of}
-use Rattle.w16_loading.specs.File.{Segment, Entry, Label, Resource, Tables}
-use Rattle.w16_loading.specs.File.Entry.{InSegment, Constant}
-use Rattle.w16_loading.specs.File.Label.{Number, Text}
 
 abbrev pub has : ℕ → ℕ → Bool
 has flags flag = not (bit_and flags flag == 0)

@@ -1,23 +1,23 @@
 -- Far reads and writes of bytes that are there.
-use Rattle.w16_global.proofs.Common.{◌≡◌, ℕ, ◌+◌, ◌<◌, ◌≤◌, IsSomeAnd, List, [], length, All, Bool, true, false, if◌then◌else◌, Option, Some, None, unwrap_or, refl, sym, ap, ◌∙◌, subst, arith}
-use Rattle.w16_global.proofs.Common.{length-take, length-drop, ◌&&◌, part, repeated, length-repeated, Attributes, Heap, bytes_at, object_at, after_touch, Handles, Gives, far_fault, far_at}
-use Rattle.w16_global.proofs.Common.{far_slot, far_read, data_write, far_write, after_write, refuses_write, Reached, reached, access_fault, FarFault, ReadOnly, Holding, HasPart, handles_of}
-use Rattle.w16_global.proofs.Common.{AreJoined}
+use Rattle.w16_global.proofs
+use proofs.Common as C
+use proofs.Common.{◌≡◌, ℕ, ◌+◌, ◌<◌, ◌≤◌, List, [], length, All, Bool, true, false, if◌then◌else◌, Option, Some, None, unwrap_or, refl, sym, ap, ◌∙◌, subst, arith, ◌&&◌, part, repeated, Heap, bytes_at, after_touch, Handles, Gives, far_fault, data_write, far_write, after_write}
+use proofs.Common.{refuses_write, Reached, ReadOnly, Holding, handles_of, AreJoined}
+use proofs.Reach.{no_fault}
 use Rattle.w16_model.specs.Far as access
 use Rattle.w16_selectors.specs.Descriptors as selectors
 use Rattle.w16_global.proofs.Owners as owners
-use Rattle.w16_global.proofs.Reach.{no_fault}
 
 -- a write that meets a fault
-pub write_faults : (w : Handles) (selector offset n : ℕ) (slice : List ℕ) → length slice ≡ n → (fault : FarFault) → access_fault w true selector offset n ≡ Some fault → Gives (far_write w selector offset slice) (access.FarAnswer.Fault fault) w
+pub write_faults : (w : Handles) (selector offset n : ℕ) (slice : List ℕ) → length slice ≡ n → (fault : C.FarFault) → C.access_fault w true selector offset n ≡ Some fault → Gives (far_write w selector offset slice) (access.FarAnswer.Fault fault) w
 write_faults w selector offset n slice long fault met = turn (refuses_write w selector) met
   where
     turn : (b : Bool) → (if b then Some ReadOnly else far_fault w selector offset n) ≡ Some fault → Gives (if b then (access.FarAnswer.Fault ReadOnly, w) else data_write w selector offset slice) (access.FarAnswer.Fault fault) w
     turn true e = let same : ReadOnly ≡ fault = cc in (ap access.FarAnswer.Fault (sym same), refl)
     turn false e = let met = ap (far_fault w selector offset) long ∙ e in rw (met, data_write) (refl, refl)
 
-module _ {h : Holding} {xs : List (Option Attributes)} {t : selectors.DescriptorTable} {m : ℕ} {w : Handles} (are : AreJoined h xs t) (shown : handles_of h xs m ≡ w) (write : Bool) (selector offset n slot at : ℕ)
-    (reaches : (slot ≡ far_slot w selector) × (at ≡ far_at w selector offset) × (access_fault w write selector offset n ≡ None)) where
+module _ {h : Holding} {xs : List (Option C.Attributes)} {t : selectors.DescriptorTable} {m : ℕ} {w : Handles} (are : AreJoined h xs t) (shown : handles_of h xs m ≡ w) (write : Bool) (selector offset n slot at : ℕ)
+    (reaches : (slot ≡ C.far_slot w selector) × (at ≡ C.far_at w selector offset) × (C.access_fault w write selector offset n ≡ None)) where
   fine : far_fault w selector offset n ≡ None
   fine = (no_fault w write selector offset n reaches.2).0
 
@@ -25,22 +25,22 @@ module _ {h : Holding} {xs : List (Option Attributes)} {t : selectors.Descriptor
   heap_is = ap (λ (v : Handles). v.heap) shown
 
   found : Reached w slot (at + n)
-  found = subst (λ q. Reached w q (at + n)) (sym reaches.0) (subst (λ k. Reached w (far_slot w selector) (k + n)) (sym reaches.1) (reached w selector offset n fine))
+  found = subst (λ q. Reached w q (at + n)) (sym reaches.0) (subst (λ k. Reached w (C.far_slot w selector) (k + n)) (sym reaches.1) (C.reached w selector offset n fine))
 
   -- it has the part that is asked for
-  pub has_part : HasPart h.heap slot at n
-  has_part = subst (λ (k : Heap). HasPart k slot at n) (sym heap_is) (subst (λ (b : Option (List ℕ)). IsSomeAnd b (λ bytes. at + n ≤ length bytes)) (sym found.here) found.fits)
+  pub has_part : C.HasPart h.heap slot at n
+  has_part = subst (λ (k : Heap). C.HasPart k slot at n) (sym heap_is) (subst (λ (b : Option (List ℕ)). C.IsSomeAnd b (λ bytes. at + n ≤ length bytes)) (sym found.here) found.fits)
 
   -- how long it is
   pub part_length : length (part (unwrap_or (bytes_at h.heap slot) []) at n) ≡ n
   part_length =
       let f = found in
       let fits = f.fits in
-      ap (λ (b : Option (List ℕ)). length (part (unwrap_or b []) at n)) (ap (λ (k : Heap). bytes_at k slot) heap_is ∙ f.here) ∙ simp (length-take, length-drop) (omega (arith, fits))
+      ap (λ (b : Option (List ℕ)). length (part (unwrap_or b []) at n)) (ap (λ (k : Heap). bytes_at k slot) heap_is ∙ f.here) ∙ simp (C.length-take, C.length-drop) (omega (arith, fits))
 
   -- Read
-  pub read_known : (after : Handles) → after ≡ record w { heap = after_touch w.heap slot } → Gives (far_read w selector offset n) (access.FarAnswer.Bytes (part (unwrap_or (bytes_at h.heap slot) []) at n)) after
-  read_known after then_is = rw (fine, far_read) (
+  pub read_known : (after : Handles) → after ≡ record w { heap = after_touch w.heap slot } → Gives (C.far_read w selector offset n) (access.FarAnswer.Bytes (part (unwrap_or (bytes_at h.heap slot) []) at n)) after
+  read_known after then_is = rw (fine, C.far_read) (
     ap access.FarAnswer.Bytes (λ i. part (unwrap_or (bytes_at (heap_is i) (reaches.0 i)) []) (reaches.1 i) n),
     then_is ∙ ap (λ k. record w { heap = after_touch w.heap k }) reaches.0,
   )
@@ -51,7 +51,7 @@ module _ {h : Holding} {xs : List (Option Attributes)} {t : selectors.Descriptor
     written_joined bytes =
         let f = found in
         let fits : at + length slice ≤ length f.bytes = (let l = f.fits in omega (arith, long, l)) in
-        subst (λ k. AreJoined k xs t) (sym said) (owners.written_joined are slot at slice f.bytes f.object (ap (λ (k : Heap). object_at k slot) heap_is ∙ f.there) f.has fits bytes count)
+        subst (λ k. AreJoined k xs t) (sym said) (owners.written_joined are slot at slice f.bytes f.object (ap (λ (k : Heap). C.object_at k slot) heap_is ∙ f.there) f.has fits bytes count)
 
     pub write_known : write ≡ true → (after : Handles) → after ≡ record (handles_of new xs m) { heap = after_touch new.heap slot } → Gives (far_write w selector offset slice) access.FarAnswer.Done after
     write_known writes after then_is =
@@ -66,4 +66,4 @@ module _ {h : Holding} {xs : List (Option Attributes)} {t : selectors.Descriptor
   -- Fill
   pub fill_known : (byte : ℕ) {count : ℕ} (new : Holding) → new ≡ record h { heap = after_write h.heap slot at (repeated n byte); written = count } → write ≡ true → (after : Handles) → after ≡ record (handles_of new xs m) { heap = after_touch new.heap slot }
       → Gives (far_write w selector offset (repeated n byte)) access.FarAnswer.Done after
-  fill_known byte = write_known (repeated n byte) (length-repeated n byte)
+  fill_known byte = write_known (repeated n byte) (C.length-repeated n byte)

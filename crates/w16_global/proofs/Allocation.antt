@@ -1,7 +1,8 @@
 -- What an allocation answers.
-use Rattle.w16_global.proofs.Common.{◌≡◌, ℕ, inr, true, ◌==◌, ◌&&◌, MatchBool, MatchOption, inl, ne_eqb, Option, Some, None, refl, sym, subst, arith, ◌<◌, ◌≤◌, ◌∙◌, Bool, false, ap, Attributes, Kind, RoomOptions, LARGEST_SIZE}
-use Rattle.w16_global.proofs.Common.{GMEM_MOVEABLE, GMEM_ZEROINIT, GMEM_DDESHARE, false≢true, cases_lt, Heap, Object, IsHeap, with_ordered, with_newest, Allocates, IsNew, Settles, discarded, stays_for, discards_needed, moved_bytes}
-use Rattle.w16_global.proofs.Common.{Enters, Handles, AreHandles, HasNoRun, IsFreeRun, slots_for, some_slots, unused, object_at, handle_of, GlobalAllocs, has_flag, kind_asked, alloc_options, rounded_size, unmoved, none_about}
+use Rattle.w16_global.proofs
+use proofs.Common.{◌≡◌, ℕ, inr, true, ◌==◌, ◌&&◌, MatchBool, MatchOption, inl, ne_eqb, Option, Some, None, refl, sym, subst, arith, ◌<◌, ◌≤◌, ◌∙◌, Bool, false, ap, Attributes, Kind, RoomOptions, LARGEST_SIZE, GMEM_MOVEABLE, GMEM_ZEROINIT, GMEM_DDESHARE, false≢true, cases_lt, Heap, Object}
+use proofs.Common.{IsHeap, with_ordered, with_newest, Allocates, IsNew, Settles, discarded, stays_for, discards_needed, moved_bytes, Enters, Handles, AreHandles, HasNoRun, IsFreeRun, slots_for, some_slots, unused, object_at, handle_of, GlobalAllocs, has_flag, kind_asked, alloc_options}
+use proofs.Common.{rounded_size, unmoved, none_about}
 use Rattle.std.specs.FinMap as finmap
 
 -- Where no run of slots is free, a new object is refused.

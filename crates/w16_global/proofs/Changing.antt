@@ -1,13 +1,12 @@
 -- What is joined, once an object has another kind, or has given up its bytes.
-use Rattle.w16_global.proofs.Common.{◌≡◌, ◌≢◌, ℕ, ◌-◌, ◌≤◌, ◌||◌, ◌==◌, inl, inr, true, false, IfSome, OnOk, IfErr, List, length, Option, Some, None, Result, Ok, Err, option_map, unwrap_or, refl, sym, ap, ◌∙◌, subst, nat_cmp, FinMap, false≢true, cases_eq, cases_Bool}
-use Rattle.w16_global.proofs.Common.{eq-eqb, is_some, Attributes, Kind, Refusal, FIRST_SLOT, Heap, Object, object_at, bytes_at, bytes_in, is_fixed, absent, after_modify, after_discard, Handles, AreHandles, slots_at, ChangesKind, modified, discard_absent, get-update_same}
-use Rattle.w16_global.proofs.Common.{get-update_other, taken_other, kind_law, modify_none, modified_handles, discarded_handles, descriptor_at, unset, Descriptor, SelKind, Holding, attributes_in, handles_of, descriptor_for, kind_in, reaching, says, vacated, AreJoined}
+use Rattle.w16_global.proofs
+use proofs.Common.{◌≡◌, ◌≢◌, ℕ, ◌-◌, ◌≤◌, ◌||◌, ◌==◌, inl, inr, true, false, IfSome, OnOk, IfErr, List, length, Option, Some, None, Result, Ok, Err, option_map, unwrap_or, refl, sym, ap, ◌∙◌, subst, nat_cmp, FinMap, false≢true, cases_eq, cases_Bool, eq-eqb, is_some, Attributes, Kind}
+use proofs.Common.{Refusal, FIRST_SLOT, Heap, Object, object_at, bytes_at, bytes_in, is_fixed, absent, after_modify, after_discard, Handles, AreHandles, slots_at, ChangesKind, modified, discard_absent, get-update_same, get-update_other, taken_other, kind_law, modify_none, modified_handles}
+use proofs.Common.{discarded_handles, descriptor_at, unset, Descriptor, SelKind, Holding, attributes_in, handles_of, descriptor_for, kind_in, reaching, says, vacated, AreJoined}
+use proofs.{Owners.joined_same, Owners.labelled, Told.all_told, Told.slots_are, Told.vacated_told, Described.same_described}
 use Rattle.std.specs.FinMap as finmap
 use Rattle.w16_model.specs.declared.Refusal.TheVariants as refusals
 use Rattle.w16_selectors.specs.Descriptors as selectors
-use Rattle.w16_global.proofs.Owners.{joined_same, labelled}
-use Rattle.w16_global.proofs.Told.{all_told, slots_are, vacated_told}
-use Rattle.w16_global.proofs.Described.{same_described}
 
 -- a change of kind leaves what selectors say
 kind_says : (holds : SelKind) (number : ℕ) (old new : Heap) (slot : ℕ) (o : Object) (kind : Kind) → object_at old slot ≡ Some o → ChangesKind old slot o kind new → (q : ℕ) → says new holds number q ≡ says old holds number q

@@ -1,19 +1,19 @@
 -- What each step of the heap leaves of what selectors say.
-use Rattle.w16_global.proofs.Common.{◌≡◌, ◌≢◌, ℕ, ◌+◌, ◌-◌, ◌≤◌, ◌==◌, inl, inr, Bool, true, false, IsSomeAnd, if◌then◌else◌, not, List, length, Option, Some, None, Result, Ok, Err, option_map, is_some, unwrap_or}
-use Rattle.w16_global.proofs.Common.{refl, sym, ap, ◌∙◌, subst, cases_eq, Kind, Refusal, Heap, Object, object_at, bytes_at, is_fixed, with_object, with_ordered, removed, touched, after_lock, after_unlock, put_part}
-use Rattle.w16_global.proofs.Common.{after_write, length-put_part, inserted_here, inserted_other, taken_here, taken_other, get-update_same, get-update_other, unset, Descriptor, SelKind, descriptor_for, reaching}
-use Rattle.w16_global.proofs.Common.{says}
+use Rattle.w16_global.proofs
+use proofs.Common as C
+use proofs.Common.{◌≡◌, ◌≢◌, ℕ, ◌+◌, ◌-◌, ◌≤◌, ◌==◌, inl, inr, Bool, true, false, IsSomeAnd, if◌then◌else◌, not, List, length, Option, Some, None, Result, Ok, Err, option_map, unwrap_or, refl, sym, ap, ◌∙◌, subst, Kind, Refusal, Heap, Object, object_at, is_fixed, with_object, with_ordered}
+use proofs.Common.{removed, touched, put_part, unset, Descriptor, descriptor_for, reaching, says}
 use Rattle.std.specs.FinMap as finmap
 use Rattle.w16_model.specs.declared.Refusal.TheVariants as refusals
 
-module _ (holds : SelKind) (number : ℕ) (heap : Heap) (slot : ℕ) where
+module _ (holds : C.SelKind) (number : ℕ) (heap : Heap) (slot : ℕ) where
   -- an object in place of one with as many bytes leaves what selectors say
   pub with_same : (before o : Object) (order : List ℕ) → object_at heap slot ≡ Some before → descriptor_for heap holds number slot o ≡ descriptor_for heap holds number slot before
       → (q : ℕ) → says (record heap { objects = finmap.insert heap.objects slot o; order = order }) holds number q ≡ says heap holds number q
-  with_same before o order there same q = elim (cases_eq q slot) [
-    | inl e ↦ ap (option_map (descriptor_for heap holds number q)) (inserted_here heap.objects slot o q e) ∙ ap (λ k. Some (descriptor_for heap holds number k o)) e ∙ ap Some same
+  with_same before o order there same q = elim (C.cases_eq q slot) [
+    | inl e ↦ ap (option_map (descriptor_for heap holds number q)) (C.inserted_here heap.objects slot o q e) ∙ ap (λ k. Some (descriptor_for heap holds number k o)) e ∙ ap Some same
         ∙ sym (ap (λ k. option_map (descriptor_for heap holds number k) (object_at heap k)) e ∙ ap (option_map (descriptor_for heap holds number slot)) there)
-    | inr n ↦ ap (option_map (descriptor_for heap holds number q)) (inserted_other heap.objects slot o q n)
+    | inr n ↦ ap (option_map (descriptor_for heap holds number q)) (C.inserted_other heap.objects slot o q n)
   ]
 
   -- GlobalLock, by its tests
@@ -24,9 +24,9 @@ module _ (holds : SelKind) (number : ℕ) (heap : Heap) (slot : ℕ) where
       else Ok (with_ordered heap slot (record o { locks = o.locks + 1 }) (touched slot))))
 
   abbrev lock_of : Option Object → Result Heap Refusal
-  lock_of p = elim p [ None ↦ Err refusals.Absent | Some o ↦ lock_by o (not (is_some o.bytes)) (is_fixed o.kind) (o.locks == 255) ]
+  lock_of p = elim p [ None ↦ Err refusals.Absent | Some o ↦ lock_by o (not (C.is_some o.bytes)) (is_fixed o.kind) (o.locks == 255) ]
 
-  pub lock_same : (new : Heap) → after_lock heap slot ≡ Ok new → (q : ℕ) → says new holds number q ≡ says heap holds number q
+  pub lock_same : (new : Heap) → C.after_lock heap slot ≡ Ok new → (q : ℕ) → says new holds number q ≡ says heap holds number q
   lock_same new done q = turn (object_at heap slot) refl done
     where
       tests : (o : Object) → object_at heap slot ≡ Some o → (a b c : Bool) → lock_by o a b c ≡ Ok new → says new holds number q ≡ says heap holds number q
@@ -39,7 +39,7 @@ module _ (holds : SelKind) (number : ℕ) (heap : Heap) (slot : ℕ) where
 
       turn : (p : Option Object) → object_at heap slot ≡ p → lock_of p ≡ Ok new → says new holds number q ≡ says heap holds number q
       turn None e h = cc
-      turn (Some o) e h = tests o e (not (is_some o.bytes)) (is_fixed o.kind) (o.locks == 255) h
+      turn (Some o) e h = tests o e (not (C.is_some o.bytes)) (is_fixed o.kind) (o.locks == 255) h
 
   -- GlobalUnlock
   abbrev unlock_by : Object → Bool → Result Heap Refusal
@@ -48,7 +48,7 @@ module _ (holds : SelKind) (number : ℕ) (heap : Heap) (slot : ℕ) where
   abbrev unlock_of : Option Object → Result Heap Refusal
   unlock_of p = elim p [ None ↦ Ok heap | Some o ↦ unlock_by o (is_fixed o.kind) ]
 
-  pub unlock_same : (new : Heap) → after_unlock heap slot ≡ Ok new → (q : ℕ) → says new holds number q ≡ says heap holds number q
+  pub unlock_same : (new : Heap) → C.after_unlock heap slot ≡ Ok new → (q : ℕ) → says new holds number q ≡ says heap holds number q
   unlock_same new done q = turn (object_at heap slot) refl done
     where
       test : (o : Object) → object_at heap slot ≡ Some o → (a : Bool) → unlock_by o a ≡ Ok new → says new holds number q ≡ says heap holds number q
@@ -63,15 +63,15 @@ module _ (holds : SelKind) (number : ℕ) (heap : Heap) (slot : ℕ) where
 
   -- what is left without an object says nothing of it, and of others the same
   removed_here : says (removed heap slot) holds number slot ≡ None
-  removed_here = ap (option_map (descriptor_for (removed heap slot) holds number slot)) (taken_here heap.objects slot slot refl)
+  removed_here = ap (option_map (descriptor_for (removed heap slot) holds number slot)) (C.taken_here heap.objects slot slot refl)
 
   pub removed_other : (q : ℕ) → q ≢ slot → says (removed heap slot) holds number q ≡ says heap holds number q
-  removed_other q n = ap (option_map (descriptor_for (removed heap slot) holds number q)) (taken_other heap.objects slot q n) ∙ mapped (object_at heap q)
+  removed_other q n = ap (option_map (descriptor_for (removed heap slot) holds number q)) (C.taken_other heap.objects slot q n) ∙ mapped (object_at heap q)
     where
       based : (b : Option (List ℕ)) → ◌≡◌ {A = Option Descriptor} (Some (elim b as (λ _. Descriptor) [ None ↦ unset holds number | Some bytes ↦ reaching holds (unwrap_or (finmap.get (finmap.remove heap.places slot) q) 0) (length bytes) number ]))
           (Some (elim b as (λ _. Descriptor) [ None ↦ unset holds number | Some bytes ↦ reaching holds (unwrap_or (finmap.get heap.places q) 0) (length bytes) number ]))
       based None = refl
-      based (Some bytes) = ap (λ (a : Option ℕ). Some (reaching holds (unwrap_or a 0) (length bytes) number)) (taken_other heap.places slot q n)
+      based (Some bytes) = ap (λ (a : Option ℕ). Some (reaching holds (unwrap_or a 0) (length bytes) number)) (C.taken_other heap.places slot q n)
 
       mapped : (p : Option Object) → option_map (descriptor_for (removed heap slot) holds number q) p ≡ option_map (descriptor_for heap holds number q) p
       mapped None = refl
@@ -79,30 +79,30 @@ module _ (holds : SelKind) (number : ℕ) (heap : Heap) (slot : ℕ) where
 
   -- an absent object
   pub entered_here : (kind : Kind) → says (with_object heap slot (record { kind = kind; locks = 0; bytes = None })) holds number slot ≡ Some (unset holds number)
-  entered_here kind = ap (option_map (descriptor_for (with_object heap slot (record { kind = kind; locks = 0; bytes = None })) holds number slot)) (inserted_here heap.objects slot (record { kind = kind; locks = 0; bytes = None }) slot refl)
+  entered_here kind = ap (option_map (descriptor_for (with_object heap slot (record { kind = kind; locks = 0; bytes = None })) holds number slot)) (C.inserted_here heap.objects slot (record { kind = kind; locks = 0; bytes = None }) slot refl)
 
   pub entered_other : (kind : Kind) (q : ℕ) → q ≢ slot → says (with_object heap slot (record { kind = kind; locks = 0; bytes = None })) holds number q ≡ says heap holds number q
-  entered_other kind q n = ap (option_map (descriptor_for heap holds number q)) (inserted_other heap.objects slot (record { kind = kind; locks = 0; bytes = None }) q n)
+  entered_other kind q n = ap (option_map (descriptor_for heap holds number q)) (C.inserted_other heap.objects slot (record { kind = kind; locks = 0; bytes = None }) q n)
 
   -- bytes written over others
-  pub write_same : (at : ℕ) (slice bytes : List ℕ) (o : Object) → object_at heap slot ≡ Some o → o.bytes ≡ Some bytes → at + length slice ≤ length bytes → (q : ℕ) → says (after_write heap slot at slice) holds number q ≡ says heap holds number q
+  pub write_same : (at : ℕ) (slice bytes : List ℕ) (o : Object) → object_at heap slot ≡ Some o → o.bytes ≡ Some bytes → at + length slice ≤ length bytes → (q : ℕ) → says (C.after_write heap slot at slice) holds number q ≡ says heap holds number q
   write_same at slice bytes o there has inside q =
       let written : Object = record o { bytes = option_map (λ (b : List ℕ). put_part b at slice) o.bytes } in
-      let long : length (put_part bytes at slice) ≡ length bytes = length-put_part bytes at slice inside in
+      let long : length (put_part bytes at slice) ≡ length bytes = C.length-put_part bytes at slice inside in
       let same : descriptor_for heap holds number slot written ≡ descriptor_for heap holds number slot o =
       ap (λ (b : Option (List ℕ)). descriptor_for heap holds number slot (record o { bytes = option_map (λ (b : List ℕ). put_part b at slice) b })) has
       ∙ (λ i. reaching holds (unwrap_or (finmap.get heap.places slot) 0) (long i) number)
       ∙ sym (ap (λ (b : Option (List ℕ)). descriptor_for heap holds number slot (record o { bytes = b })) has) in
-      elim (cases_eq q slot) [
-        | inl e ↦ ap (option_map (descriptor_for heap holds number q)) (ap (λ k. object_at (after_write heap slot at slice) k) e ∙ get-update_same heap.objects slot (λ (o : Object). record o { bytes = option_map (λ (b : List ℕ). put_part b at slice) o.bytes })
+      elim (C.cases_eq q slot) [
+        | inl e ↦ ap (option_map (descriptor_for heap holds number q)) (ap (λ k. object_at (C.after_write heap slot at slice) k) e ∙ C.get-update_same heap.objects slot (λ (o : Object). record o { bytes = option_map (λ (b : List ℕ). put_part b at slice) o.bytes })
             ∙ ap (option_map (λ (o : Object). record o { bytes = option_map (λ (b : List ℕ). put_part b at slice) o.bytes })) there)
             ∙ ap (λ k. Some (descriptor_for heap holds number k written)) e ∙ ap Some same
             ∙ sym (ap (λ k. option_map (descriptor_for heap holds number k) (object_at heap k)) e ∙ ap (option_map (descriptor_for heap holds number slot)) there)
-        | inr n ↦ ap (option_map (descriptor_for heap holds number q)) (get-update_other heap.objects slot (λ (o : Object). record o { bytes = option_map (λ (b : List ℕ). put_part b at slice) o.bytes }) q n)
+        | inr n ↦ ap (option_map (descriptor_for heap holds number q)) (C.get-update_other heap.objects slot (λ (o : Object). record o { bytes = option_map (λ (b : List ℕ). put_part b at slice) o.bytes }) q n)
       ]
 
   -- a new object with bytes at an address
-  pub made_here : (size at : ℕ) → (b : Option (List ℕ)) → bytes_at heap slot ≡ b → IsSomeAnd b (λ bytes. length bytes ≡ size) → finmap.get heap.places slot ≡ Some at
+  pub made_here : (size at : ℕ) → (b : Option (List ℕ)) → C.bytes_at heap slot ≡ b → IsSomeAnd b (λ bytes. length bytes ≡ size) → finmap.get heap.places slot ≡ Some at
       → says heap holds number slot ≡ Some (reaching holds at size number)
   made_here size at b has sized placed = of_object (object_at heap slot) refl (subst (λ b. IsSomeAnd b (λ bytes. length bytes ≡ size)) (sym has) sized)
     where
@@ -116,7 +116,7 @@ module _ (holds : SelKind) (number : ℕ) (heap : Heap) (slot : ℕ) where
       of_object (Some o) there h = of_bytes o there o.bytes refl h
 
 -- another heap with the same object and address at a slot
-pub same_described : (holds : SelKind) (number : ℕ) (heap new : Heap) (q : ℕ) → object_at new q ≡ object_at heap q → finmap.get new.places q ≡ finmap.get heap.places q → says new holds number q ≡ says heap holds number q
+pub same_described : (holds : C.SelKind) (number : ℕ) (heap new : Heap) (q : ℕ) → object_at new q ≡ object_at heap q → finmap.get new.places q ≡ finmap.get heap.places q → says new holds number q ≡ says heap holds number q
 same_described holds number heap new q object place = ap (option_map (descriptor_for new holds number q)) object ∙ mapped (object_at heap q)
   where
     based : (b : Option (List ℕ)) → ◌≡◌ {A = Option Descriptor} (Some (elim b as (λ _. Descriptor) [ None ↦ unset holds number | Some bytes ↦ reaching holds (unwrap_or (finmap.get new.places q) 0) (length bytes) number ]))

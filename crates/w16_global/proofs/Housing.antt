@@ -1,19 +1,15 @@
 -- An object that has another run of slots: what its selectors and those of the others say.
-use Rattle.w16_global.proofs.Common.{◌≡◌, ◌≢◌, ℕ, ◌+◌, ◌-◌, ◌<◌, ◌≤◌, ◌⊎◌, ◌==◌, if◌then◌else◌, cond, inl, inr, Bool, true, false, List, get_or, map, Option, Some, None, option_map, is_some, refl, sym, ap, ◌∙◌, subst}
-use Rattle.w16_global.proofs.Common.{arith, false≢true, cases_eq, cases_lt, cases_Bool, eq-eqb, ne_eqb, nat_cmp, nat_cmp_total, nat_cmp-IsAntisymmetric, same_map, FinMap, Attributes, FIRST_SLOT, Heap, Object, IsHeap}
-use Rattle.w16_global.proofs.Common.{object_at, bytes_at, bytes_in, rekeyed, rehoused, with_run, unused, GetsRun, slots_at, inserted_here, inserted_other, taken_here, taken_other, IsUntaken, descriptor_at, Descriptor}
-use Rattle.w16_global.proofs.Common.{SelKind, AreHoused, AreJoined, AreLabelled, HasRun, HasSize, Holding, MayHave, attributes_housed, attributes_in, handles_of, is_in_run, kind_for, kind_in, label_of, owner_in, says}
-use Rattle.w16_global.proofs.Common.{slots_in}
+use Rattle.w16_global.proofs
+use proofs.Common as C
+use proofs.Told as M
+use proofs.Common.{◌≡◌, ◌≢◌, ℕ, ◌+◌, ◌-◌, ◌<◌, ◌≤◌, ◌⊎◌, ◌==◌, if◌then◌else◌, cond, inl, inr, Bool, true, false, List, get_or, map, Option, Some, None, option_map, is_some, refl, sym, ap, ◌∙◌, subst, arith, false≢true, cases_eq, cases_Bool, eq-eqb, ne_eqb, nat_cmp, FinMap, Attributes}
+use proofs.Common.{FIRST_SLOT, Heap, Object, object_at, bytes_at, bytes_in, rekeyed, rehoused, slots_at, HasSize, attributes_in, is_in_run, kind_for, kind_in, owner_in, says, slots_in}
+use proofs.Owners.{attributes_at, free_selector, labelled, nothing}
+use proofs.{Described.same_described, Joined.others_labelled, Told.is_in}
+use Rattle.w16_model.specs.{Handles.AreRuns, Handles.owner_of, declared.RoomOptions.RoomOptions}
+use Rattle.w16_model.proofs.{Rehoused.rekeyed_at, Rehoused.swap_to, Rehoused.swap_other, Runs.runs_without}
 use Rattle.std.specs.FinMap as finmap
-use Rattle.w16_model.specs.Handles.{AreRuns, owner_of}
-use Rattle.w16_model.specs.declared.RoomOptions.{RoomOptions}
-use Rattle.w16_model.proofs.Rehoused.{rekeyed_at, swap_to, swap_other}
-use Rattle.w16_model.proofs.Runs.{runs_without}
 use Rattle.w16_selectors.specs.Descriptors as selectors
-use Rattle.w16_global.proofs.Described.{same_described}
-use Rattle.w16_global.proofs.Joined.{others_labelled}
-use Rattle.w16_global.proofs.Owners.{attributes_at, free_selector, labelled, nothing}
-use Rattle.w16_global.proofs.Told.{is_in, lies_owner, owner_lies, owner_there, owner_with, owner_without, slots_are}
 
 -- A map with what one slot has under another, which had nothing.
 module _ {X : Type 0} (m : FinMap nat_cmp X) (slot first : ℕ) (free : first ≢ slot → finmap.get m first ≡ None) where
@@ -32,7 +28,7 @@ module _ {X : Type 0} (m : FinMap nat_cmp X) (slot first : ℕ) (free : first �
     | inr d ↦ ap (λ b. finmap.get (cond b m (rekeyed m slot first)) q) (ne_eqb slot first d) ∙ rekeyed_at slot first d m (free (λ e. d (sym e))) q ∙ ap (finmap.get m) (swap_other slot first d q c b)
   ]
 
-module _ (heap : Heap) (is : IsHeap heap) (slot first : ℕ) (nobody : first ≢ slot → object_at heap first ≡ None) where
+module _ (heap : Heap) (is : C.IsHeap heap) (slot first : ℕ) (nobody : first ≢ slot → object_at heap first ≡ None) where
   no_place : first ≢ slot → finmap.get heap.places first ≡ None
   no_place d = nothing (finmap.get heap.places first) (is.at_bytes first ∙ ap (λ p. is_some (bytes_in p)) (nobody d))
 
@@ -68,32 +64,32 @@ module _ (heap : Heap) (is : IsHeap heap) (slot first : ℕ) (nobody : first ≢
     pub bytes_other : bytes_at (rehoused heap slot first) q ≡ bytes_at heap q
     bytes_other = ap bytes_in object_other
 
-    pub says_other : (kind : SelKind) (number : ℕ) → says (rehoused heap slot first) kind number q ≡ says heap kind number q
+    pub says_other : (kind : C.SelKind) (number : ℕ) → says (rehoused heap slot first) kind number q ≡ says heap kind number q
     says_other kind number = same_described kind number heap (rehoused heap slot first) q object_other place_other
 
 -- The slots that an object gets, and the attributes and selectors then.
-module _ {h : Holding} {xs : List (Option Attributes)} {t : selectors.DescriptorTable} (are : AreJoined h xs t) (slot first count : ℕ) (o : Object) (there : object_at h.heap slot ≡ Some o) (some : 0 < count) (options : RoomOptions)
-    (gets : GetsRun (handles_of h xs 0) slot o options count first) where
+module _ {h : C.Holding} {xs : List (Option Attributes)} {t : selectors.DescriptorTable} (are : C.AreJoined h xs t) (slot first count : ℕ) (o : Object) (there : object_at h.heap slot ≡ Some o) (some : 0 < count) (options : RoomOptions)
+    (gets : C.GetsRun (C.handles_of h xs 0) slot o options count first) where
   -- it has a run
-  pub own_run : HasRun xs t slot
-  own_run q inside = labelled are q ∙ ap (option_map (λ first. (kind_in xs first, q - first))) (lies_owner h xs are.handles q slot inside)
+  pub own_run : C.HasRun xs t slot
+  own_run q inside = labelled are q ∙ ap (option_map (λ first. (kind_in xs first, q - first))) (M.lies_owner h xs are.handles q slot inside)
 
   -- each slot of the new one is its own or free
-  pub may_have : MayHave xs t slot first count
+  pub may_have : C.MayHave xs t slot first count
   may_have number below = elim gets [
-    | inl here ↦ subst (λ f. (is_in_run slot (slots_in xs slot) (f + number) ≡ true) ⊎ IsUntaken t (f + number)) (sym here.1) (elim (cases_Bool (is_in_run slot (slots_in xs slot) (slot + number))) [
+    | inl here ↦ subst (λ f. (is_in_run slot (slots_in xs slot) (f + number) ≡ true) ⊎ C.IsUntaken t (f + number)) (sym here.1) (elim (cases_Bool (is_in_run slot (slots_in xs slot) (slot + number))) [
       | inl inside ↦ inl inside
       | inr outside ↦ inr (
           let beyond : slots_at (attributes_in xs) slot ≤ number = behind outside in
           let at : slot + slots_at (attributes_in xs) slot + (number - slots_at (attributes_in xs) slot) ≡ slot + number = omega (arith, beyond) in
-          subst (IsUntaken t) at (free_selector are {m = 0} refl _ (here.0 (number - slots_at (attributes_in xs) slot) (omega (arith, below, beyond)))))
+          subst (C.IsUntaken t) at (free_selector are {m = 0} refl _ (here.0 (number - slots_at (attributes_in xs) slot) (omega (arith, below, beyond)))))
     ])
     | inr goes ↦ inr (free_selector are {m = 0} refl (first + number) (goes.2 number below))
   ]
     where
       behind : is_in_run slot (slots_in xs slot) (slot + number) ≡ false → slots_at (attributes_in xs) slot ≤ number
-      behind outside = elim (cases_lt number (slots_at (attributes_in xs) slot)) [
-        | inl low ↦ absurd (false≢true (sym outside ∙ is_in slot (slots_in xs slot) (slot + number) (omega arith) (let same = slots_are h xs are.handles slot in omega (arith, same, low))))
+      behind outside = elim (C.cases_lt number (slots_at (attributes_in xs) slot)) [
+        | inl low ↦ absurd (false≢true (sym outside ∙ is_in slot (slots_in xs slot) (slot + number) (omega arith) (let same = M.slots_are h xs are.handles slot in omega (arith, same, low))))
         | inr high ↦ high
       ]
 
@@ -101,7 +97,7 @@ module _ {h : Holding} {xs : List (Option Attributes)} {t : selectors.Descriptor
   pub nobody_there : first ≢ slot → object_at h.heap first ≡ None
   nobody_there d = elim gets [
     | inl here ↦ absurd (d here.1)
-    | inr goes ↦ unused (handles_of h xs 0) are.handles first count some goes.2
+    | inr goes ↦ C.unused (C.handles_of h xs 0) are.handles first count some goes.2
   ]
 
   held : (a : Attributes) × (get_or xs slot None ≡ Some a)
@@ -117,7 +113,7 @@ module _ {h : Holding} {xs : List (Option Attributes)} {t : selectors.Descriptor
   abbrev given_attributes : Attributes
   given_attributes = record held.0 { slots = count }
 
-  module _ (ys : List (Option Attributes)) (ys_at : (q : ℕ) → get_or ys q None ≡ attributes_housed xs slot first count q) where
+  module _ (ys : List (Option Attributes)) (ys_at : (q : ℕ) → get_or ys q None ≡ C.attributes_housed xs slot first count q) where
     at_first : (q : ℕ) → q ≡ first → get_or ys q None ≡ Some given_attributes
     at_first q e = ys_at q ∙ ap (λ b. if b then option_map (λ (a : Attributes). record a { slots = count }) (get_or xs slot None) else (if q == slot then None else get_or xs q None)) (eq-eqb q first e)
         ∙ ap (option_map (λ (a : Attributes). record a { slots = count })) held.1
@@ -134,16 +130,16 @@ module _ {h : Holding} {xs : List (Option Attributes)} {t : selectors.Descriptor
     left = finmap.remove (attributes_in xs) slot
 
     inserted : attributes_in ys ≡ finmap.insert left first given_attributes
-    inserted = same_map nat_cmp_total nat_cmp-IsAntisymmetric (attributes_in ys) (finmap.insert left first given_attributes) (λ q. attributes_at ys q ∙ elim (cases_eq q first) [
-      | inl e ↦ at_first q e ∙ sym (inserted_here left first given_attributes q e)
+    inserted = C.same_map C.nat_cmp_total C.nat_cmp-IsAntisymmetric (attributes_in ys) (finmap.insert left first given_attributes) (λ q. attributes_at ys q ∙ elim (cases_eq q first) [
+      | inl e ↦ at_first q e ∙ sym (C.inserted_here left first given_attributes q e)
       | inr d ↦ elim (cases_eq q slot) [
-        | inl e ↦ at_slot q d e ∙ sym (inserted_other left first given_attributes q d ∙ taken_here (attributes_in xs) slot q e)
-        | inr c ↦ at_other q d c ∙ sym (attributes_at xs q) ∙ sym (inserted_other left first given_attributes q d ∙ taken_other (attributes_in xs) slot q c)
+        | inl e ↦ at_slot q d e ∙ sym (C.inserted_other left first given_attributes q d ∙ C.taken_here (attributes_in xs) slot q e)
+        | inr c ↦ at_other q d c ∙ sym (attributes_at xs q) ∙ sym (C.inserted_other left first given_attributes q d ∙ C.taken_other (attributes_in xs) slot q c)
       ]
     ])
 
     -- so the attributes are the definition's
-    pub housed_attributes : attributes_in ys ≡ with_run (attributes_in xs) slot first count
+    pub housed_attributes : attributes_in ys ≡ C.with_run (attributes_in xs) slot first count
     housed_attributes = inserted ∙ sym (ap (λ p. elim p as (λ _. FinMap nat_cmp Attributes) [ Some a ↦ finmap.insert left first (record a { slots = count }) | None ↦ attributes_in xs ]) (attributes_at xs slot ∙ held.1))
 
     pub housed_sized : count < 256 → (q : ℕ) → HasSize (get_or ys q None)
@@ -167,8 +163,8 @@ module _ {h : Holding} {xs : List (Option Attributes)} {t : selectors.Descriptor
       owners q =
           let gone : AreRuns (h.cap - FIRST_SLOT) left = runs_without (h.cap - FIRST_SLOT) (attributes_in xs) are.handles.runs slot in
           let after : AreRuns (h.cap - FIRST_SLOT) (finmap.insert left first given_attributes) = subst (AreRuns (h.cap - FIRST_SLOT)) inserted (subst (λ n. AreRuns n (attributes_in ys)) slots_is runs) in
-          let with_it = owner_with (h.cap - FIRST_SLOT) left gone first given_attributes unheld after q in
-          let without_it = owner_without (h.cap - FIRST_SLOT) (attributes_in xs) are.handles.runs slot gone q in
+          let with_it = M.owner_with (h.cap - FIRST_SLOT) left gone first given_attributes unheld after q in
+          let without_it = M.owner_without (h.cap - FIRST_SLOT) (attributes_in xs) are.handles.runs slot gone q in
           let same : owner_in ys q ≡ owner_of (finmap.insert left first given_attributes) q = ap (λ m. owner_of m q) inserted in (
             λ t. same ∙ with_it.0 t,
             λ f t. same ∙ with_it.1 f ∙ without_it.0 (old t),
@@ -176,20 +172,20 @@ module _ {h : Holding} {xs : List (Option Attributes)} {t : selectors.Descriptor
           )
         where
           old : {b : Bool} → before q ≡ b → is_in_run slot (slots_at (attributes_in xs) slot) q ≡ b
-          old e = ap (λ n. is_in_run slot n q) (sym (slots_are h xs are.handles slot)) ∙ e
+          old e = ap (λ n. is_in_run slot n q) (sym (M.slots_are h xs are.handles slot)) ∙ e
 
           unheld : finmap.get left first ≡ None
           unheld = elim (cases_eq first slot) [
-            | inl e ↦ taken_here (attributes_in xs) slot first e
-            | inr d ↦ taken_other (attributes_in xs) slot first d ∙ nothing (finmap.get (attributes_in xs) first) (are.handles.attributed first ∙ ap is_some (nobody_there d))
+            | inl e ↦ C.taken_here (attributes_in xs) slot first e
+            | inr d ↦ C.taken_other (attributes_in xs) slot first d ∙ nothing (finmap.get (attributes_in xs) first) (are.handles.attributed first ∙ ap is_some (nobody_there d))
           ]
 
       -- another owner is another object
       pub another : (q f : ℕ) → before q ≡ false → owner_in xs q ≡ Some f → (f ≢ first) × (f ≢ slot)
-      another q f outside e = (λ same. elim (cases_eq first slot) [ inl mine ↦ not_mine (same ∙ mine) | inr d ↦ false≢true (sym (ap (λ k. is_some (object_at h.heap k)) same ∙ ap is_some (nobody_there d)) ∙ owner_there h xs are.handles q f e) ], not_mine)
+      another q f outside e = (λ same. elim (cases_eq first slot) [ inl mine ↦ not_mine (same ∙ mine) | inr d ↦ false≢true (sym (ap (λ k. is_some (object_at h.heap k)) same ∙ ap is_some (nobody_there d)) ∙ M.owner_there h xs are.handles q f e) ], not_mine)
         where
           not_mine : f ≢ slot
-          not_mine same = false≢true (sym outside ∙ owner_lies h xs are.handles q slot (e ∙ ap Some same))
+          not_mine same = false≢true (sym outside ∙ M.owner_lies h xs are.handles q slot (e ∙ ap Some same))
 
       kinds : (q : ℕ) → before q ≡ false → (f : ℕ) → owner_in xs q ≡ Some f → kind_in ys f ≡ kind_in xs f
       kinds q outside f e = let x = another q f outside e in ap kind_for (at_other f x.0 x.1)
@@ -197,25 +193,25 @@ module _ {h : Holding} {xs : List (Option Attributes)} {t : selectors.Descriptor
       own_kind : kind_in ys first ≡ kind_in xs slot
       own_kind = ap kind_for (at_first first refl) ∙ sym (ap kind_for held.1)
 
-      module _ (u : selectors.DescriptorTable) (housed : AreHoused xs t slot first count u) where
+      module _ (u : selectors.DescriptorTable) (housed : C.AreHoused xs t slot first count u) where
         -- the selectors are labelled
-        pub housed_labelled : AreLabelled ys u
+        pub housed_labelled : C.AreLabelled ys u
         housed_labelled q = elim (cases_Bool (here q)) [
           | inl inside ↦ housed.taken q inside ∙ sym (ap (option_map (λ first. (kind_in ys first, q - first))) ((owners q).0 inside) ∙ ap (λ k. Some (k, q - first)) own_kind)
           | inr outside ↦ elim (cases_Bool (before q)) [
-            | inl mine ↦ ap label_of (housed.given q outside mine) ∙ sym (ap (option_map (λ first. (kind_in ys first, q - first))) ((owners q).1 outside mine))
-            | inr others ↦ ap label_of (housed.kept q outside others) ∙ labelled are q ∙ sym (others_labelled xs ys q ((owners q).2 outside others) (kinds q others))
+            | inl mine ↦ ap C.label_of (housed.given q outside mine) ∙ sym (ap (option_map (λ first. (kind_in ys first, q - first))) ((owners q).1 outside mine))
+            | inr others ↦ ap C.label_of (housed.kept q outside others) ∙ labelled are q ∙ sym (others_labelled xs ys q ((owners q).2 outside others) (kinds q others))
           ]
         ]
 
         -- and those of the others say what they said
-        pub housed_rest : (q f : ℕ) → owner_in ys q ≡ Some f → f ≢ first → (f ≢ slot) × (kind_in ys f ≡ kind_in xs f) × (descriptor_at u q ≡ says h.heap (kind_in xs f) (q - f) f)
+        pub housed_rest : (q f : ℕ) → owner_in ys q ≡ Some f → f ≢ first → (f ≢ slot) × (kind_in ys f ≡ kind_in xs f) × (C.descriptor_at u q ≡ says h.heap (kind_in xs f) (q - f) f)
         housed_rest q f e other = elim (cases_Bool (here q)) [
           | inl inside ↦ let mine : Some f ≡ Some first = sym e ∙ (owners q).0 inside in absurd (other (let same : f ≡ first = cc in same))
           | inr outside ↦ elim (cases_Bool (before q)) [
             | inl mine ↦ let none : ◌≡◌ {A = Option ℕ} (Some f) None = sym e ∙ (owners q).1 outside mine in cc
             | inr others ↦
                 let was : owner_in xs q ≡ Some f = sym ((owners q).2 outside others) ∙ e in
-                ((another q f others was).1, kinds q others f was, housed.kept q outside others ∙ are.described q ∙ ap (λ p. elim p as (λ _. Option Descriptor) [ None ↦ None | Some first ↦ says h.heap (kind_in xs first) (q - first) first ]) was)
+                ((another q f others was).1, kinds q others f was, housed.kept q outside others ∙ are.described q ∙ ap (λ p. elim p as (λ _. Option C.Descriptor) [ None ↦ None | Some first ↦ says h.heap (kind_in xs first) (q - first) first ]) was)
           ]
         ]

@@ -1,25 +1,25 @@
 -- The objects, their attributes and their selectors, where some have changed.
-use Rattle.w16_global.proofs.Common.{◌≡◌, ℕ, ◌-◌, ◌<◌, ◌≤◌, inl, inr, true, List, length, get_or, set, Option, Some, None, option_map, is_some, refl, sym, ap, ◌∙◌, subst, arith, nat_cmp_total, same_map}
-use Rattle.w16_global.proofs.Common.{nat_cmp-IsAntisymmetric, cases_eq, get_or-set_same, get_or-set_other, Attributes, FIRST_SLOT, Heap, Handles, object_at, IsSlot, IsFreeRun, numbered, unused, inserted_here}
-use Rattle.w16_global.proofs.Common.{inserted_other, taken_here, taken_other, Descriptor, SelKind, Holding, attributes_in, handles_of, described, kind_in, label_in, owner_in, says, HasSize, AreJoined}
+use Rattle.w16_global.proofs
+use proofs.Common as C
+use proofs.Common.{◌≡◌, ℕ, ◌-◌, ◌<◌, ◌≤◌, inl, inr, true, List, length, get_or, set, Option, Some, None, option_map, refl, sym, ap, ◌∙◌, subst, arith, cases_eq, get_or-set_same, get_or-set_other, Attributes, Heap, SelKind, attributes_in, handles_of, kind_in, owner_in, says, HasSize}
+use proofs.Owners.{attributes_at}
 use Rattle.std.specs.FinMap as finmap
 use Rattle.w16_selectors.specs.Descriptors as selectors
-use Rattle.w16_global.proofs.Owners.{attributes_at}
 
 -- Attributes by slot.
 
 -- a slot gets some
 pub attributes_set : (xs : List (Option Attributes)) (slot : ℕ) (a : Attributes) → slot < length xs → attributes_in (set xs slot (Some a)) ≡ finmap.insert (attributes_in xs) slot a
-attributes_set xs slot a lt = same_map nat_cmp_total nat_cmp-IsAntisymmetric (attributes_in (set xs slot (Some a))) (finmap.insert (attributes_in xs) slot a) (λ q. elim (cases_eq q slot) [
-  | inl e ↦ attributes_at (set xs slot (Some a)) q ∙ ap (λ k. get_or (set xs slot (Some a)) k None) e ∙ get_or-set_same xs slot (Some a) None lt ∙ sym (inserted_here (attributes_in xs) slot a q e)
-  | inr d ↦ attributes_at (set xs slot (Some a)) q ∙ get_or-set_other xs slot q (Some a) None d ∙ sym (attributes_at xs q) ∙ sym (inserted_other (attributes_in xs) slot a q d)
+attributes_set xs slot a lt = C.same_map C.nat_cmp_total C.nat_cmp-IsAntisymmetric (attributes_in (set xs slot (Some a))) (finmap.insert (attributes_in xs) slot a) (λ q. elim (cases_eq q slot) [
+  | inl e ↦ attributes_at (set xs slot (Some a)) q ∙ ap (λ k. get_or (set xs slot (Some a)) k None) e ∙ get_or-set_same xs slot (Some a) None lt ∙ sym (C.inserted_here (attributes_in xs) slot a q e)
+  | inr d ↦ attributes_at (set xs slot (Some a)) q ∙ get_or-set_other xs slot q (Some a) None d ∙ sym (attributes_at xs q) ∙ sym (C.inserted_other (attributes_in xs) slot a q d)
 ])
 
 -- a slot loses its own
 pub attributes_unset : (xs : List (Option Attributes)) (slot : ℕ) → slot < length xs → attributes_in (set xs slot None) ≡ finmap.remove (attributes_in xs) slot
-attributes_unset xs slot lt = same_map nat_cmp_total nat_cmp-IsAntisymmetric (attributes_in (set xs slot None)) (finmap.remove (attributes_in xs) slot) (λ q. elim (cases_eq q slot) [
-  | inl e ↦ attributes_at (set xs slot None) q ∙ ap (λ k. get_or (set xs slot None) k None) e ∙ get_or-set_same xs slot None None lt ∙ sym (taken_here (attributes_in xs) slot q e)
-  | inr d ↦ attributes_at (set xs slot None) q ∙ get_or-set_other xs slot q None None d ∙ sym (attributes_at xs q) ∙ sym (taken_other (attributes_in xs) slot q d)
+attributes_unset xs slot lt = C.same_map C.nat_cmp_total C.nat_cmp-IsAntisymmetric (attributes_in (set xs slot None)) (finmap.remove (attributes_in xs) slot) (λ q. elim (cases_eq q slot) [
+  | inl e ↦ attributes_at (set xs slot None) q ∙ ap (λ k. get_or (set xs slot None) k None) e ∙ get_or-set_same xs slot None None lt ∙ sym (C.taken_here (attributes_in xs) slot q e)
+  | inr d ↦ attributes_at (set xs slot None) q ∙ get_or-set_other xs slot q None None d ∙ sym (attributes_at xs q) ∙ sym (C.taken_other (attributes_in xs) slot q d)
 ])
 
 -- what modules own has a size, where a slot gets such attributes
@@ -33,30 +33,30 @@ sized_set xs slot a lt sized own q = elim (cases_eq q slot) [
 
 -- Where a slot stays its owner's, its selector says what it said, if its owner's do; and it has the same label.
 module _ (xs ys : List (Option Attributes)) (q : ℕ) (same : owner_in ys q ≡ owner_in xs q) (kinds : (first : ℕ) → owner_in xs q ≡ Some first → kind_in ys first ≡ kind_in xs first) where
-  pub others_described : (old new : Heap) → ((first : ℕ) → owner_in xs q ≡ Some first → (kind : SelKind) (number : ℕ) → says new kind number first ≡ says old kind number first) → described new ys q ≡ described old xs q
+  pub others_described : (old new : Heap) → ((first : ℕ) → owner_in xs q ≡ Some first → (kind : SelKind) (number : ℕ) → says new kind number first ≡ says old kind number first) → C.described new ys q ≡ C.described old xs q
   others_described old new still = ap (by_owner new ys) same ∙ turn (owner_in xs q) refl
     where
-      by_owner : Heap → List (Option Attributes) → Option ℕ → Option Descriptor
+      by_owner : Heap → List (Option Attributes) → Option ℕ → Option C.Descriptor
       by_owner heap zs p = elim p [ None ↦ None | Some first ↦ says heap (kind_in zs first) (q - first) first ]
 
       turn : (p : Option ℕ) → owner_in xs q ≡ p → by_owner new ys p ≡ by_owner old xs p
       turn None e = refl
       turn (Some first) e = ap (λ k. says new k (q - first) first) (kinds first e) ∙ still first e (kind_in xs first) (q - first)
 
-  pub others_labelled : label_in ys q ≡ label_in xs q
+  pub others_labelled : C.label_in ys q ≡ C.label_in xs q
   others_labelled = ap (option_map {U = SelKind × ℕ} (λ first. (kind_in ys first, q - first))) same ∙ turn (owner_in xs q) refl
     where
       turn : (p : Option ℕ) → owner_in xs q ≡ p → option_map {U = SelKind × ℕ} (λ first. (kind_in ys first, q - first)) p ≡ option_map {U = SelKind × ℕ} (λ first. (kind_in xs first, q - first)) p
       turn None e = refl
       turn (Some first) e = ap (λ k. Some (k, q - first)) (kinds first e)
 
-module _ (holding : Holding) (attributes : List (Option Attributes)) (table : selectors.DescriptorTable) (are : AreJoined holding attributes table) where
+module _ (holding : C.Holding) (attributes : List (Option Attributes)) (table : selectors.DescriptorTable) (are : C.AreJoined holding attributes table) where
   -- no object begins where slots are free
-  pub unused_in : {m : ℕ} {w : Handles} → handles_of holding attributes m ≡ w → (slot count : ℕ) → 0 < count → IsFreeRun w slot count → object_at holding.heap slot ≡ None
-  unused_in shown slot count some known = unused (handles_of holding attributes 0) are.handles slot count some (subst (λ v. IsFreeRun v slot count) (sym shown) known)
+  pub unused_in : {m : ℕ} {w : C.Handles} → handles_of holding attributes m ≡ w → (slot count : ℕ) → 0 < count → C.IsFreeRun w slot count → C.object_at holding.heap slot ≡ None
+  unused_in shown slot count some known = C.unused (handles_of holding attributes 0) are.handles slot count some (subst (λ v. C.IsFreeRun v slot count) (sym shown) known)
 
   -- an object's slot is one
-  pub slot_there : (slot : ℕ) → is_some (object_at holding.heap slot) ≡ true → (FIRST_SLOT ≤ slot) × (slot < holding.cap)
+  pub slot_there : (slot : ℕ) → C.is_some (C.object_at holding.heap slot) ≡ true → (C.FIRST_SLOT ≤ slot) × (slot < holding.cap)
   slot_there slot there =
-      let n : IsSlot (handles_of holding attributes 0) slot = numbered (handles_of holding attributes 0) are.handles slot there in
+      let n : C.IsSlot (handles_of holding attributes 0) slot = C.numbered (handles_of holding attributes 0) are.handles slot there in
       (n.0, (let some = are.some in let below = n.1 in omega arith))

@@ -1,13 +1,10 @@
 -- An object that is lengthened for its local heap: its handle, and what a GlobalReAlloc that is NULL leaves.
+use Rattle.w16_model.proofs.Common as C
 use Rattle.w16_global.proofs.Common.{◌≡◌, ℕ, false≢true, sym, ap, ◌∙◌, subst, AreHandles, Handles, handle_of, slot_of_handle, object_at, Object, Option, Some, None, option_map, unwrap_or, IsSomeAnd, GlobalReAllocs, Global, counted, zeroed_behind}
-use Rattle.w16_model.proofs.Common.{Answer, Calls, HandleCommand, IsAllocated, IsCompacted, IsDiscarded, IsEntered, IsFreed, IsLocked, IsModified, IsNewest, IsOldest, IsResized, IsSame, IsUnlocked, IsUnmoved, Outcome, ReAllocs, Word}
-use Rattle.w16_model.proofs.CallOutcomes.{outcome}
-use Rattle.w16_model.proofs.Fewest.{some_handle}
-use Rattle.w16_model.proofs.Naming.{names_law}
-use Rattle.w16_model.proofs.ResizedHandles.{found_some}
+use Rattle.w16_global.proofs.Resizing.{counted_none}
+use Rattle.w16_model.proofs.{Common.Calls, Common.ReAllocs, Common.Word, CallOutcomes.outcome, Fewest.some_handle, Naming.names_law, ResizedHandles.found_some}
 use Rattle.w16_model.specs.Resizes.{ReallocFewest}
 use Rattle.w16_global.specs.Lengthened.{Lengthens}
-use Rattle.w16_global.proofs.Resizing.{counted_none}
 
 -- the handle of a slot's object
 handle_is : (v : Handles) (slot handle : ℕ) → slot_of_handle v handle ≡ Some slot → unwrap_or (option_map (λ (o : Object). handle_of o.kind slot) (object_at v.heap slot)) 0 ≡ handle
@@ -28,26 +25,26 @@ lengthened old new slot size flags answer own own_is left step fewest handles wr
 null_rest : (old new : Handles) (handle size flags : ℕ) → AreHandles old → GlobalReAllocs old handle size flags 0 new → new ≡ record old { moved = 0 }
 null_rest old new handle size flags is step = turn (outcome old new (ReAllocs handle size flags) (Word 0) is step)
   where
-    other : (command : HandleCommand) → ReAllocs handle size flags ≡ Calls command → ⊥
+    other : (command : C.HandleCommand) → ReAllocs handle size flags ≡ Calls command → ⊥
     other command e = cc
 
-    never : (named slot : ℕ) → slot_of_handle old named ≡ Some slot → ◌≡◌ {A = Answer} (Word 0) (Word named) → new ≡ record old { moved = 0 }
+    never : (named slot : ℕ) → slot_of_handle old named ≡ Some slot → ◌≡◌ {A = C.Answer} (Word 0) (Word named) → new ≡ record old { moved = 0 }
     never named slot found says = let none : 0 ≡ named = cc in absurd (found_some old named slot found (sym none))
 
-    turn : Outcome old (ReAllocs handle size flags) (Word 0) new → new ≡ record old { moved = 0 }
-    turn (IsSame s e) = absurd (false≢true (sym s))
-    turn (IsUnmoved s e) = e
-    turn (IsModified m) = never m.handle m.slot m.named.found m.answered
-    turn (IsDiscarded d) = never d.handle d.slot d.named.found d.answered
-    turn (IsResized r) = let none : 0 ≡ handle_of r.object.kind r.first = (let e = r.answered in cc) in absurd (some_handle r.object.kind r.first (sym none))
-    turn (IsLocked l) = absurd (other _ l.asked)
-    turn (IsUnlocked u) = absurd (other _ u.asked)
-    turn (IsFreed f) = absurd (other _ f.asked)
-    turn (IsNewest n) = absurd (other _ n.asked)
-    turn (IsOldest n) = absurd (other _ n.asked)
-    turn (IsEntered e) = absurd (other _ e.asked)
-    turn (IsAllocated a) = absurd (other _ a.asked)
-    turn (IsCompacted c) = absurd (other _ c.asked)
+    turn : C.Outcome old (ReAllocs handle size flags) (Word 0) new → new ≡ record old { moved = 0 }
+    turn (C.IsSame s e) = absurd (false≢true (sym s))
+    turn (C.IsUnmoved s e) = e
+    turn (C.IsModified m) = never m.handle m.slot m.named.found m.answered
+    turn (C.IsDiscarded d) = never d.handle d.slot d.named.found d.answered
+    turn (C.IsResized r) = let none : 0 ≡ handle_of r.object.kind r.first = (let e = r.answered in cc) in absurd (some_handle r.object.kind r.first (sym none))
+    turn (C.IsLocked l) = absurd (other _ l.asked)
+    turn (C.IsUnlocked u) = absurd (other _ u.asked)
+    turn (C.IsFreed f) = absurd (other _ f.asked)
+    turn (C.IsNewest n) = absurd (other _ n.asked)
+    turn (C.IsOldest n) = absurd (other _ n.asked)
+    turn (C.IsEntered e) = absurd (other _ e.asked)
+    turn (C.IsAllocated a) = absurd (other _ a.asked)
+    turn (C.IsCompacted c) = absurd (other _ c.asked)
 
 -- with that put back, nothing,
 pub null_kept : (old new : Handles) (handle size flags answer : ℕ) → AreHandles old → GlobalReAllocs old handle size flags answer new → answer ≡ 0 → record new { moved = old.moved } ≡ old

@@ -1,11 +1,11 @@
 -- An object's bytes, lent to a work.
-use Rattle.w16_global.proofs.Common.{◌≡◌, ℕ, ◌+◌, ◌-◌, ◌<◌, ◌≤◌, IsSomeAnd, List, ◌++◌, length, take, drop, All, Option, Some, None, option_map, refl, sym, ap, ◌∙◌, subst, arith, length-drop}
-use Rattle.w16_global.proofs.Common.{slice_range, Vec, with_items, length-take-le, take_at, All-take, All-drop, drop-append-add, part, put_part, Attributes, Block, after_write, Object, object_at}
-use Rattle.w16_global.proofs.Common.{bytes_at, block_with, counted, with_items-put_part, bytes_here, ends_in_memory, ArenaState, Global, handles_of, AreJoined, Lends, AreParts, HasPart, Holding}
-use Rattle.w16_global.proofs.Common.{holding_of}
+use Rattle.w16_global.proofs
+use proofs.Common as C
+use proofs.Common.{◌≡◌, ℕ, ◌+◌, ◌-◌, ◌<◌, ◌≤◌, IsSomeAnd, List, ◌++◌, length, take, drop, All, Option, Some, None, refl, sym, ap, ◌∙◌, subst, arith, Vec, with_items, length-take-le, part, put_part, Attributes, Block, after_write, bytes_at, block_with, counted, Global, AreJoined, Lends}
+use proofs.Common.{AreParts, Holding, holding_of}
+use proofs.Owners.{written_joined}
+use proofs.Written.{beside, holding_written, parts_filled}
 use Rattle.w16_selectors.specs.Descriptors as selectors
-use Rattle.w16_global.proofs.Owners.{written_joined}
-use Rattle.w16_global.proofs.Written.{beside, holding_written, parts_filled}
 
 -- a part of bytes is bytes
 part_bytes : (m : List ℕ) (at : ℕ) (new : List ℕ) → at + length new ≤ length m → All (λ b. b < 256) (put_part m at new) → All (λ b. b < 256) new
@@ -13,15 +13,15 @@ part_bytes m at new le all =
     let rest : List ℕ = drop (length new) (drop at m) in
     let front : length (take at m) ≡ at = length-take-le at m (omega arith) in
     let place : length (take at m) + 0 ≡ at = omega arith in
-    let behind : drop at (put_part m at new) ≡ new ++ rest = ap (λ k. drop k (put_part m at new)) (sym place) ∙ drop-append-add (take at m) (new ++ rest) 0 in
-    subst (All (λ b. b < 256)) (take_at new rest (length new) refl) (All-take (λ b. b < 256) (length new) (new ++ rest) (subst (All (λ b. b < 256)) behind (All-drop (λ b. b < 256) at (put_part m at new) all)))
+    let behind : drop at (put_part m at new) ≡ new ++ rest = ap (λ k. drop k (put_part m at new)) (sym place) ∙ C.drop-append-add (take at m) (new ++ rest) 0 in
+    subst (All (λ b. b < 256)) (C.take_at new rest (length new) refl) (C.All-take (λ b. b < 256) (length new) (new ++ rest) (subst (All (λ b. b < 256)) behind (C.All-drop (λ b. b < 256) at (put_part m at new) all)))
 
-module _ {state : ArenaState} {memory : List ℕ} (parts : AreParts state memory) {count : ℕ} {h : Holding} (shown : holding_of state memory count ≡ h) (id : ℕ) where
+module _ {state : C.ArenaState} {memory : List ℕ} (parts : AreParts state memory) {count : ℕ} {h : Holding} (shown : holding_of state memory count ≡ h) (id : ℕ) where
   abbrev bytes_of : Block → List ℕ
-  bytes_of x = slice_range memory x.at (x.at + x.size)
+  bytes_of x = C.slice_range memory x.at (x.at + x.size)
 
-  bytes_shown : (p : Option Block) → block_with state.table.blocks id ≡ p → bytes_at h.heap id ≡ option_map bytes_of p
-  bytes_shown p is = ap (λ (h : Holding). bytes_at h.heap id) (sym shown) ∙ bytes_here (beside parts) id ∙ ap (option_map bytes_of) is
+  bytes_shown : (p : Option Block) → block_with state.table.blocks id ≡ p → bytes_at h.heap id ≡ C.option_map bytes_of p
+  bytes_shown p is = ap (λ (h : Holding). bytes_at h.heap id) (sym shown) ∙ C.bytes_here (beside parts) id ∙ ap (C.option_map bytes_of) is
 
   -- an object with bytes has a block
   pub no_bytes : (P : List ℕ → Type 0) → IsSomeAnd (bytes_at h.heap id) P → block_with state.table.blocks id ≡ None → ⊥
@@ -33,7 +33,7 @@ module _ {state : ArenaState} {memory : List ℕ} (parts : AreParts state memory
     had = let size : x.at + x.size - x.at ≡ x.size = omega arith in bytes_shown (Some x) is ∙ ap (λ k. Some (take k (drop x.at memory))) size
 
     pub inside : x.at + x.size ≤ length memory
-    inside = (ends_in_memory (beside parts) id x is).1
+    inside = (C.ends_in_memory (beside parts) id x is).1
 
     pub may : (P : List ℕ → Type 0) → IsSomeAnd (bytes_at h.heap id) P → (seen : List ℕ) → seen ≡ part memory x.at x.size → P seen
     may P some seen e = subst P (sym e) (subst (λ b. IsSomeAnd b P) had some)
@@ -42,7 +42,7 @@ module _ {state : ArenaState} {memory : List ℕ} (parts : AreParts state memory
     module _ {Z : Type 0} (v : Vec ℕ Z) (items : v.items ≡ memory) (after seen : List ℕ) (is_seen : seen ≡ part memory x.at x.size) (long : length after ≡ length seen)
         (all : All (λ b. b < 256) (with_items v (put_part v.items x.at after)).items) where
       size : length (part memory x.at x.size) ≡ x.size
-      size = length-take-le x.size (drop x.at memory) (let behind = length-drop x.at memory in let i = inside in omega arith)
+      size = length-take-le x.size (drop x.at memory) (let behind = C.length-drop x.at memory in let i = inside in omega arith)
 
       many : length after ≡ x.size
       many = long ∙ ap length is_seen ∙ size
@@ -51,12 +51,12 @@ module _ {state : ArenaState} {memory : List ℕ} (parts : AreParts state memory
       fits = let i = inside in let m = many in omega (arith, m, i)
 
       same : (with_items v (put_part v.items x.at after)).items ≡ put_part memory x.at after
-      same = with_items-put_part v x.at after (subst (λ (m : List ℕ). x.at + length after ≤ length m) (sym items) fits) ∙ ap (λ m. put_part m x.at after) items
+      same = C.with_items-put_part v x.at after (subst (λ (m : List ℕ). x.at + length after ≤ length m) (sym items) fits) ∙ ap (λ m. put_part m x.at after) items
 
       ours : All (λ b. b < 256) after
       ours = part_bytes memory x.at after fits (subst (All (λ b. b < 256)) same all)
 
-      has : HasPart h.heap id 0 (length after)
+      has : C.HasPart h.heap id 0 (length after)
       has = let s = size in let m = many in subst (λ (b : Option (List ℕ)). IsSomeAnd b (λ bytes. 0 + length after ≤ length bytes)) (sym had) (omega (arith, s, m))
 
       at_0 : x.at + 0 ≡ x.at
@@ -81,7 +81,7 @@ module _ {state : ArenaState} {memory : List ℕ} (parts : AreParts state memory
 
 -- the value of the whole
 abbrev global_of : Holding → List (Option Attributes) → ℕ → Global
-global_of h xs m = record { handles = handles_of h xs m; written = h.written }
+global_of h xs m = record { handles = C.handles_of h xs m; written = h.written }
 
 pub lent_shown : (h : Holding) (xs : List (Option Attributes)) (m : ℕ) {g : Global} → global_of h xs m ≡ g → (slot : ℕ) (done : List ℕ → List ℕ → Type 0) (new : Holding)
     → (lent : Lends h.heap slot done) × (new ≡ record h { heap = after_write h.heap slot 0 lent.after; written = counted h.written (length lent.bytes) })
@@ -93,9 +93,9 @@ lent_shown h xs m shown slot done new said =
 -- The handles with an object's bytes rewritten are some, and the selectors are right.
 pub lent_joined : {h : Holding} {xs : List (Option Attributes)} {t : selectors.DescriptorTable} → AreJoined h xs t → (new : Holding) (slot : ℕ) (done : List ℕ → List ℕ → Type 0) (lent : Lends h.heap slot done)
     {count : ℕ} → new ≡ record h { heap = after_write h.heap slot 0 lent.after; written = count } → AreJoined new xs t
-lent_joined {h} {xs} {t} are new slot done lent {count} said = of_object (object_at h.heap slot) refl lent.had
+lent_joined {h} {xs} {t} are new slot done lent {count} said = of_object (C.object_at h.heap slot) refl lent.had
   where
-    of_object : (p : Option Object) → object_at h.heap slot ≡ p → (elim p as (λ _. Option (List ℕ)) [ Some o ↦ o.bytes | None ↦ None ]) ≡ Some lent.bytes → AreJoined new xs t
+    of_object : (p : Option C.Object) → C.object_at h.heap slot ≡ p → (elim p as (λ _. Option (List ℕ)) [ Some o ↦ o.bytes | None ↦ None ]) ≡ Some lent.bytes → AreJoined new xs t
     of_object None there has = cc
     of_object (Some o) there has =
         let long = lent.long in

@@ -1,15 +1,13 @@
 -- What the selectors say, by the objects in whose runs their slots are.
+use Rattle.w16_global.proofs
+use proofs.Common as C
 use Rattle.std.proofs.lemmas.Bool.{eqb-true}
-use Rattle.w16_global.proofs.Common.{◌≡◌, ℕ, ◌+◌, ◌-◌, ◌<◌, ◌≤◌, ◌==◌, ◌/◌, inl, inr, ◌&&◌, Bool, true, false, if◌then◌else◌, List, length, get_or, Option, Some, None, option_map, unwrap_or, is_some, refl, sym, ap, ◌∙◌, subst, arith, eq-eqb}
-use Rattle.w16_global.proofs.Common.{false≢true, Attributes, FIRST_SLOT, Heap, Handles, Object, object_at, AreHandles, IsFreeSlot, IsFreeRun, Part, slots_at, owner_of, part_of_selector, slot_of_selector, selector_of, slots_none, slots_of}
-use Rattle.w16_global.proofs.Common.{IfSome, owner_is, is_owner, first_in, get-by_id, moved_handles, All, put_part, length-put_part, cases_eq, get-update_same, get-update_other, after_write, other_handles, same_updated, written_heap}
-use Rattle.w16_global.proofs.Common.{written_sized, descriptor_at, descriptor_of, unset, IsUntaken, Descriptor, SelKind, Holding, Global, attributes_in, handles_of, descriptor_for, described, kind_in, label_in, label_of, owner_in, says}
-use Rattle.w16_global.proofs.Common.{AreJoined}
-use Rattle.std.specs.FinMap as finmap
+use proofs.Common.{◌≡◌, ℕ, ◌+◌, ◌-◌, ◌<◌, ◌≤◌, ◌==◌, ◌/◌, inl, inr, ◌&&◌, Bool, true, false, if◌then◌else◌, List, length, get_or, Option, Some, None, option_map, unwrap_or, is_some, refl, sym, ap, ◌∙◌, subst, arith, false≢true, Attributes, FIRST_SLOT, Heap, Handles, Object, object_at}
+use proofs.Common.{AreHandles, IsFreeSlot, Part, slots_at, owner_of, part_of_selector, owner_is, All, after_write, descriptor_at, unset, IsUntaken, Descriptor, SelKind, Holding, attributes_in, handles_of, descriptor_for, described, kind_in, label_of, owner_in, says, AreJoined}
 use Rattle.w16_model.specs.Handles.{IsRun}
+use Rattle.w16_global.specs.{Housed.slots_in, Runs.reaching}
+use Rattle.std.specs.FinMap as finmap
 use Rattle.w16_selectors.specs.Descriptors as selectors
-use Rattle.w16_global.specs.Housed.{slots_in}
-use Rattle.w16_global.specs.Runs.{reaching}
 
 -- none is there where there is no object
 pub nothing : {X : Type 0} (o : Option X) → is_some o ≡ false → o ≡ None
@@ -17,12 +15,12 @@ nothing None h = refl
 nothing (Some x) h = absurd (false≢true (sym h))
 
 -- the handles of what a value shows
-pub handles_shown : {shown g : Global} → shown ≡ g → shown.handles ≡ g.handles
-handles_shown e = ap (λ (g : Global). g.handles) e
+pub handles_shown : {shown g : C.Global} → shown ≡ g → shown.handles ≡ g.handles
+handles_shown e = ap (λ (g : C.Global). g.handles) e
 
 -- a slot's attributes are those of the list
 pub attributes_at : (xs : List (Option Attributes)) (slot : ℕ) → finmap.get (attributes_in xs) slot ≡ get_or xs slot None
-attributes_at xs slot = get-by_id (λ _ (a : Attributes). a) xs slot ∙ same (get_or xs slot None)
+attributes_at xs slot = C.get-by_id (λ _ (a : Attributes). a) xs slot ∙ same (get_or xs slot None)
   where
     same : (o : Option Attributes) → option_map (λ (a : Attributes). a) o ≡ o
     same None = refl
@@ -42,27 +40,27 @@ module _ (w : Handles) (is : AreHandles w) where
       turn (Some o) there = refl
       turn None free =
           let lies = owner_is w.attributes slot first e in
-          let none : slots_at w.attributes first ≡ 0 = slots_none w.attributes first (nothing (finmap.get w.attributes first) (is.attributed first ∙ ap is_some free)) in
+          let none : slots_at w.attributes first ≡ 0 = C.slots_none w.attributes first (nothing (finmap.get w.attributes first) (is.attributed first ∙ ap is_some free)) in
           absurd (omega (arith, lies.0, lies.1, none))
 
   -- its run is within the slots
   pub run_there : (slot : ℕ) → is_some (object_at w.heap slot) ≡ true → (FIRST_SLOT ≤ slot) × (0 < slots_at w.attributes slot) × (slot + slots_at w.attributes slot ≤ 8192)
   run_there slot there = turn (finmap.get w.attributes slot) refl (is.attributed slot ∙ there) (is.runs.each slot)
     where
-      turn : (p : Option Attributes) → finmap.get w.attributes slot ≡ p → is_some p ≡ true → IfSome p (IsRun w.slots slot) → (FIRST_SLOT ≤ slot) × (0 < slots_at w.attributes slot) × (slot + slots_at w.attributes slot ≤ 8192)
+      turn : (p : Option Attributes) → finmap.get w.attributes slot ≡ p → is_some p ≡ true → C.IfSome p (IsRun w.slots slot) → (FIRST_SLOT ≤ slot) × (0 < slots_at w.attributes slot) × (slot + slots_at w.attributes slot ≤ 8192)
       turn None e t run = absurd (false≢true t)
       turn (Some a) e t run =
-          let many = slots_of w.attributes slot a e in
+          let many = C.slots_of w.attributes slot a e in
           let few = is.few in
           (run.1, omega (arith, run.0, many), omega (arith, run.2, many, few))
 
   -- an object owns its first slot
   pub owns_first : (slot : ℕ) → is_some (object_at w.heap slot) ≡ true → owner_of w.attributes slot ≡ Some slot
-  owns_first slot there = is_owner w.attributes w.slots is.runs slot slot (first_in w.slots w.attributes is.runs slot (is.attributed slot ∙ there))
+  owns_first slot there = C.is_owner w.attributes w.slots is.runs slot slot (C.first_in w.slots w.attributes is.runs slot (is.attributed slot ∙ there))
 
   -- so its first selector is the one with number 0
-  pub first_part : (selector : ℕ) → slot_of_selector w selector ≡ first_of (part_of_selector w selector)
-  first_part selector = turn (selector == selector_of (selector / 8)) (owner_of w.attributes (selector / 8)) refl (object_at w.heap (selector / 8)) refl
+  pub first_part : (selector : ℕ) → C.slot_of_selector w selector ≡ first_of (part_of_selector w selector)
+  first_part selector = turn (selector == C.selector_of (selector / 8)) (owner_of w.attributes (selector / 8)) refl (object_at w.heap (selector / 8)) refl
     where
       numbered : (slot first : ℕ) → owner_of w.attributes slot ≡ Some first → (n : Bool) → (slot - first == 0) ≡ n → (o : Option Object) → object_at w.heap slot ≡ o → ◌≡◌ {A = Option ℕ} (if is_some o then Some slot else None) (if n then Some first else None)
       numbered slot first e false t None free = refl
@@ -74,7 +72,7 @@ module _ (w : Handles) (is : AreHandles w) where
           let some : Some first ≡ Some slot = sym e ∙ owns_first slot (ap is_some there) in
           let same : first ≡ slot = cc in
           let zero_number : slot - first ≡ 0 = omega (arith, same) in
-          ap Some (sym same) ∙ ap (λ b. if b then Some first else None) (sym (eq-eqb (slot - first) 0 zero_number) ∙ t)
+          ap Some (sym same) ∙ ap (λ b. if b then Some first else None) (sym (C.eq-eqb (slot - first) 0 zero_number) ∙ t)
 
       turn : (b : Bool) (p : Option ℕ) → owner_of w.attributes (selector / 8) ≡ p → (o : Option Object) → object_at w.heap (selector / 8) ≡ o
           → ◌≡◌ {A = Option ℕ} (if is_some o && b then Some (selector / 8) else None) (first_of (if b then option_map (λ slot. record { slot = slot; number = selector / 8 - slot }) p else None))
@@ -168,8 +166,8 @@ module _ {h : Holding} {xs : List (Option Attributes)} {t : selectors.Descriptor
 
   -- What holds of both, by what a selector names and reaches.
   pub by_owner : (selector : ℕ) (P : Option Part → Option Descriptor → Type 0) → P None None
-      → ((first : ℕ) (o : Has h xs t (selector / 8) first) → P (Some (record { slot = first; number = selector / 8 - first })) (Some o.descriptor)) → P (part_of_selector (handles_of h xs 0) selector) (descriptor_of t selector)
-  by_owner selector P none some = turn (selector == selector_of (selector / 8)) (owner_in xs (selector / 8)) refl
+      → ((first : ℕ) (o : Has h xs t (selector / 8) first) → P (Some (record { slot = first; number = selector / 8 - first })) (Some o.descriptor)) → P (part_of_selector (handles_of h xs 0) selector) (C.descriptor_of t selector)
+  by_owner selector P none some = turn (selector == C.selector_of (selector / 8)) (owner_in xs (selector / 8)) refl
     where
       turn : (b : Bool) (p : Option ℕ) → owner_in xs (selector / 8) ≡ p → P (if b then option_map (λ slot. record { slot = slot; number = selector / 8 - slot }) p else None) (if b then descriptor_at t (selector / 8) else None)
       turn false p e = none
@@ -177,10 +175,10 @@ module _ {h : Holding} {xs : List (Option Attributes)} {t : selectors.Descriptor
       turn true (Some first) e = let o = owned (selector / 8) first e in subst (P (Some (record { slot = first; number = selector / 8 - first }))) (sym o.said) (some first o)
 
   -- each selector is labelled
-  pub labelled : (slot : ℕ) → label_of (descriptor_at t slot) ≡ label_in xs slot
+  pub labelled : (slot : ℕ) → label_of (descriptor_at t slot) ≡ C.label_in xs slot
   labelled slot = of_owner (owner_in xs slot) refl
     where
-      of_owner : (p : Option ℕ) → owner_in xs slot ≡ p → label_of (descriptor_at t slot) ≡ label_in xs slot
+      of_owner : (p : Option ℕ) → owner_in xs slot ≡ p → label_of (descriptor_at t slot) ≡ C.label_in xs slot
       of_owner None e = ap label_of (unowned slot e) ∙ sym (ap (option_map (λ first. (kind_in xs first, slot - first))) e)
       of_owner (Some first) e =
           let o = owned slot first e in
@@ -203,22 +201,22 @@ module _ {h : Holding} {xs : List (Option Attributes)} {t : selectors.Descriptor
   pub written_joined : (slot at : ℕ) (slice bytes : List ℕ) (o : Object) → object_at h.heap slot ≡ Some o → o.bytes ≡ Some bytes → at + length slice ≤ length bytes → All (λ b. b < 256) slice → (count : ℕ)
       → AreJoined (record h { heap = after_write h.heap slot at slice; written = count }) xs t
   written_joined slot at slice bytes o there has fits all count = joined_same (record h { heap = after_write h.heap slot at slice; written = count }) refl
-      (other_handles (handles_of h xs 0) are.handles (after_write h.heap slot at slice)
-      (written_heap h.heap are.handles.heap slot o there bytes has at slice fits all) refl refl
-      (same_updated h.heap.objects slot put) (written_sized (handles_of h xs 0) are.handles slot at slice o bytes
+      (C.other_handles (handles_of h xs 0) are.handles (after_write h.heap slot at slice)
+      (C.written_heap h.heap are.handles.heap slot o there bytes has at slice fits all) refl refl
+      (C.same_updated h.heap.objects slot put) (C.written_sized (handles_of h xs 0) are.handles slot at slice o bytes
       there has fits))
-      (λ holds number first. said_same h.heap (after_write h.heap slot at slice) holds number first (elim (cases_eq first slot) [
+      (λ holds number first. said_same h.heap (after_write h.heap slot at slice) holds number first (elim (C.cases_eq first slot) [
         | inl e ↦ subst (λ q. size_in (object_at (after_write h.heap slot at slice) q) ≡ size_in (object_at h.heap q)) (sym e) here
-        | inr n ↦ ap size_in (get-update_other h.heap.objects slot put first n)
+        | inr n ↦ ap size_in (C.get-update_other h.heap.objects slot put first n)
       ]) refl)
     where
       put : Object → Object
-      put o = record o { bytes = option_map (λ (b : List ℕ). put_part b at slice) o.bytes }
+      put o = record o { bytes = option_map (λ (b : List ℕ). C.put_part b at slice) o.bytes }
 
       here : size_in (object_at (after_write h.heap slot at slice) slot) ≡ size_in (object_at h.heap slot)
-      here = ap size_in (get-update_same h.heap.objects slot put ∙ ap (option_map put) there)
-          ∙ ap (λ (b : Option (List ℕ)). Some (option_map (length {A = ℕ}) (option_map (λ (b : List ℕ). put_part b at slice) b))) has
-          ∙ ap (λ k. Some (Some k)) (length-put_part bytes at slice fits)
+      here = ap size_in (C.get-update_same h.heap.objects slot put ∙ ap (option_map put) there)
+          ∙ ap (λ (b : Option (List ℕ)). Some (option_map (length {A = ℕ}) (option_map (λ (b : List ℕ). C.put_part b at slice) b))) has
+          ∙ ap (λ k. Some (Some k)) (C.length-put_part bytes at slice fits)
           ∙ sym (ap size_in there ∙ ap (λ (b : Option (List ℕ)). Some (option_map (length {A = ℕ}) b)) has)
 
   module _ {m : ℕ} {w : Handles} (shown : handles_of h xs m ≡ w) where
@@ -242,7 +240,7 @@ module _ {h : Holding} {xs : List (Option Attributes)} {t : selectors.Descriptor
 
     -- the handles, and the attributes by slot, are those of the value
     pub are_handles : AreHandles w
-    are_handles = subst AreHandles shown (moved_handles (handles_of h xs 0) are.handles m)
+    are_handles = subst AreHandles shown (C.moved_handles (handles_of h xs 0) are.handles m)
 
     pub attributes_shown : (slot : ℕ) → get_or xs slot None ≡ finmap.get w.attributes slot
     attributes_shown slot = sym (attributes_at xs slot) ∙ ap (λ (v : Handles). finmap.get v.attributes slot) shown
@@ -251,16 +249,16 @@ module _ {h : Holding} {xs : List (Option Attributes)} {t : selectors.Descriptor
     slots_shown slot = ap (λ p. unwrap_or (option_map (λ (a : Attributes). a.slots) p) 0) (attributes_shown slot)
 
     -- and so are runs of them
-    pub free_run : (first count : ℕ) → selectors.IsFreeRun t first count → IsFreeRun w first count
+    pub free_run : (first count : ℕ) → selectors.IsFreeRun t first count → C.IsFreeRun w first count
     free_run first count free k below = free_slot (first + k) (free.1 k below)
 
-    pub free_selectors : (first count : ℕ) → 0 < count → IsFreeRun w first count → selectors.IsFreeRun t first count
+    pub free_selectors : (first count : ℕ) → 0 < count → C.IsFreeRun w first count → selectors.IsFreeRun t first count
     free_selectors first count some free =
         let begin : IsUntaken t (first + 0) = free_selector (first + 0) (free 0 some) in
         (let above = begin.0 in omega arith, λ k below. free_selector (first + k) (free k below))
 
     -- what a selector reaches, by the descriptor that it names
-    pub part_known : (selector : ℕ) (r : Option Descriptor) → r ≡ descriptor_of t selector → part_of_selector w selector ≡ option_map (λ (d : Descriptor). record { slot = selector / 8 - d.number; number = d.number }) r
+    pub part_known : (selector : ℕ) (r : Option Descriptor) → r ≡ C.descriptor_of t selector → part_of_selector w selector ≡ option_map (λ (d : Descriptor). record { slot = selector / 8 - d.number; number = d.number }) r
     part_known selector r is = subst (λ v. part_of_selector v selector ≡ option_map told r) shown
         (by_owner selector (λ p d. p ≡ option_map told d) refl (λ first o.
         let low = o.low in

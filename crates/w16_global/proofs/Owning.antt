@@ -1,54 +1,50 @@
 -- Objects that modules own: their sizes, and what their revivals write.
-use Rattle.w16_global.proofs.Common.{◌≡◌, ℕ, ◌/◌, ◌<◌, ◌≤◌, ◌⊎◌, ◌==◌, inl, inr, Bool, true, false, if◌then◌else◌, MatchBool, MatchOption, nat_le, IfNone, IfSome, IsSomeAnd, List, length, take, Option, Some, None, is_some}
-use Rattle.w16_global.proofs.Common.{option_map, refl, sym, ap, ◌∙◌, subst, arith, false≢true, cases_eq, eq-eqb, nat_cmp, nat_cmp_total, nat_cmp-IsAntisymmetric, same_map, FinMap, Attributes, Kind, Owned, GRAIN, REACH, Handles}
-use Rattle.w16_global.proofs.Common.{AreHandles, Heap, Object, IsMultiple, object_at, bytes_at, bytes_in, with_object, handle_of, slot_of_handle, revival_options, owned_at, owned_in, Allocates, Reallocates, GetsRun, LacksRun}
-use Rattle.w16_global.proofs.Common.{rehoused, with_run, slots_at, slots_for, inserted_here, inserted_other, taken_other, moved_bytes, moved_handles, counted, unmoved, Global, handles_of, HasSize, AreJoined, Holding, get_or}
+use Rattle.w16_global.proofs
+use proofs.Common as C
+use proofs.Common.{◌≡◌, ℕ, ◌/◌, ◌<◌, ◌≤◌, ◌⊎◌, ◌==◌, inl, inr, Bool, true, false, if◌then◌else◌, IfNone, IfSome, IsSomeAnd, List, length, take, Option, Some, None, is_some, refl, sym, ap, ◌∙◌, subst, arith, false≢true, nat_cmp, Attributes, Kind, Owned, GRAIN, REACH, Handles, AreHandles}
+use proofs.Common.{Heap, Object, IsMultiple, object_at, bytes_at, revival_options, owned_at, Allocates, Reallocates, GetsRun, rehoused, with_run, slots_for, moved_bytes, counted, Global, handles_of, Holding}
+use proofs.{Joining.attributes_shown, Resizing.counted_none}
+use Rattle.w16_model.specs.{Owned.Revives, Request.Grows, Request.ReallocatesObject}
+use Rattle.w16_model.proofs.{Housed.stays, Naming.names_law, Runs.owned_slots, Runs.slots_of}
 use Rattle.std.specs.FinMap as finmap
 use Rattle.w16_model.specs.declared.Kind.TheVariants as kinds
-use Rattle.w16_model.specs.Owned.{Revives}
-use Rattle.w16_model.specs.Request.{Grows, ReallocatesObject}
-use Rattle.w16_model.proofs.Housed.{stays}
-use Rattle.w16_model.proofs.Naming.{names_law}
-use Rattle.w16_model.proofs.Runs.{owned_slots, slots_of}
 use Rattle.w16_selectors.specs.Descriptors as selectors
-use Rattle.w16_global.proofs.Joining.{attributes_shown}
-use Rattle.w16_global.proofs.Resizing.{counted_none}
 
 -- what a module owns has a size
-pub own_size : {h : Holding} {xs : List (Option Attributes)} {t : selectors.DescriptorTable} {m : ℕ} {w : Handles} → AreJoined h xs t → handles_of h xs m ≡ w → (slot : ℕ) (owned : Owned) → Some owned ≡ owned_at w slot
+pub own_size : {h : Holding} {xs : List (Option Attributes)} {t : selectors.DescriptorTable} {m : ℕ} {w : Handles} → C.AreJoined h xs t → handles_of h xs m ≡ w → (slot : ℕ) (owned : Owned) → Some owned ≡ owned_at w slot
     → (0 < owned.size) × IsMultiple GRAIN owned.size × (owned.size ≤ REACH)
-own_size {xs = xs} are shown slot owned is = turn (get_or xs slot None) (ap owned_in (attributes_shown are shown slot) ∙ sym is) (are.sized slot)
+own_size {xs = xs} are shown slot owned is = turn (C.get_or xs slot None) (ap C.owned_in (attributes_shown are shown slot) ∙ sym is) (are.sized slot)
   where
-    turn : (p : Option Attributes) → owned_in p ≡ Some owned → HasSize p → (0 < owned.size) × IsMultiple GRAIN owned.size × (owned.size ≤ REACH)
+    turn : (p : Option Attributes) → C.owned_in p ≡ Some owned → C.HasSize p → (0 < owned.size) × IsMultiple GRAIN owned.size × (owned.size ≤ REACH)
     turn None e h = cc
     turn (Some a) e h = subst (λ p. IfSome p (λ (o : Owned). (0 < o.size) × IsMultiple GRAIN o.size × (o.size ≤ REACH))) e h.1
 
 -- nothing was moved, and so nothing written
 pub none_written : (count : ℕ) (heap : Heap) → count ≡ counted count (moved_bytes heap heap)
-none_written count heap = sym (counted_none count) ∙ ap (counted count) (sym (unmoved heap heap (λ _. heap.places)))
+none_written count heap = sym (counted_none count) ∙ ap (counted count) (sym (C.unmoved heap heap (λ _. heap.places)))
 
 -- no bytes, by the size that is looked up
-pub absent_in : (h : Holding) (xs : List (Option Attributes)) {m : ℕ} {w : Handles} → handles_of h xs m ≡ w → (slot : ℕ) (size : Option ℕ) → size ≡ option_map (length {A = ℕ}) (bytes_at h.heap slot) → false ≡ is_some size → bytes_at w.heap slot ≡ None
+pub absent_in : (h : Holding) (xs : List (Option Attributes)) {m : ℕ} {w : Handles} → handles_of h xs m ≡ w → (slot : ℕ) (size : Option ℕ) → size ≡ C.option_map (length {A = ℕ}) (bytes_at h.heap slot) → false ≡ is_some size → bytes_at w.heap slot ≡ None
 absent_in h xs shown slot size size_is none = sym (ap (λ (v : Handles). bytes_at v.heap slot) shown) ∙ turn (bytes_at h.heap slot) (none ∙ ap is_some size_is)
   where
-    turn : (b : Option (List ℕ)) → false ≡ is_some (option_map (length {A = ℕ}) b) → b ≡ None
+    turn : (b : Option (List ℕ)) → false ≡ is_some (C.option_map (length {A = ℕ}) b) → b ≡ None
     turn None e = refl
     turn (Some bytes) e = absurd (false≢true e)
 
 -- what is shown are handles
-pub known_handles : {h : Holding} {xs : List (Option Attributes)} {t : selectors.DescriptorTable} → AreJoined h xs t → {m : ℕ} {w : Handles} → handles_of h xs m ≡ w → AreHandles w
-known_handles {h = h} {xs = xs} are {m = m} shown = subst AreHandles shown (moved_handles (handles_of h xs 0) are.handles m)
+pub known_handles : {h : Holding} {xs : List (Option Attributes)} {t : selectors.DescriptorTable} → C.AreJoined h xs t → {m : ℕ} {w : Handles} → handles_of h xs m ≡ w → AreHandles w
+known_handles {h = h} {xs = xs} are {m = m} shown = subst AreHandles shown (C.moved_handles (handles_of h xs 0) are.handles m)
 
 -- a handle's slot
-pub found_is : (v : Handles) (handle slot : ℕ) → Some slot ≡ slot_of_handle v handle → handle / 8 ≡ slot
+pub found_is : (v : Handles) (handle slot : ℕ) → Some slot ≡ C.slot_of_handle v handle → handle / 8 ≡ slot
 found_is v handle slot found = turn (object_at v.heap slot) ((names_law v handle slot).0.0 (sym found))
   where
-    named : (kind : Kind) → handle_of kind slot / 8 ≡ slot
+    named : (kind : Kind) → C.handle_of kind slot / 8 ≡ slot
     named kinds.Fixed = omega arith
     named kinds.Moveable = omega arith
     named kinds.Discardable = omega arith
 
-    turn : (p : Option Object) → IsSomeAnd p (λ o. handle ≡ handle_of o.kind slot) → handle / 8 ≡ slot
+    turn : (p : Option Object) → IsSomeAnd p (λ o. handle ≡ C.handle_of o.kind slot) → handle / 8 ≡ slot
     turn None h = absurd h
     turn (Some o) h = ap (λ n. n / 8) h ∙ named o.kind
 
@@ -59,7 +55,7 @@ where_none (Some x) says e = absurd (false≢true (sym e))
 
 -- a heap whose object keeps its slot
 rehoused_same : (heap : Heap) (slot : ℕ) → rehoused heap slot slot ≡ heap
-rehoused_same heap slot = turn (slot == slot) (eq-eqb slot slot refl) heap _
+rehoused_same heap slot = turn (slot == slot) (C.eq-eqb slot slot refl) heap _
   where
     turn : (b : Bool) → b ≡ true → (x y : Heap) → (if b then x else y) ≡ x
     turn true e x y = refl
@@ -67,18 +63,18 @@ rehoused_same heap slot = turn (slot == slot) (eq-eqb slot slot refl) heap _
 
 -- An object that a module owns, and that has no bytes: it gets them in its own slots.
 module _ (v : Handles) (is : AreHandles v) (slot : ℕ) (owned : Owned) (owns : owned_at v slot ≡ Some owned) (absent : bytes_at v.heap slot ≡ None) where
-  own_slots : slots_at v.attributes slot ≡ slots_for owned.size
-  own_slots = subst (λ p. IfSome p (λ (o : Owned). slots_at v.attributes slot ≡ slots_for o.size)) owns (owned_slots v is slot)
+  own_slots : C.slots_at v.attributes slot ≡ slots_for owned.size
+  own_slots = subst (λ p. IfSome p (λ (o : Owned). C.slots_at v.attributes slot ≡ slots_for o.size)) owns (owned_slots v is slot)
 
   same_run : with_run v.attributes slot slot (slots_for owned.size) ≡ v.attributes
   same_run = turn (finmap.get v.attributes slot) refl
     where
       turn : (p : Option Attributes) → finmap.get v.attributes slot ≡ p
-          → (elim p as (λ _. FinMap nat_cmp Attributes) [ Some a ↦ finmap.insert (finmap.remove v.attributes slot) slot (record a { slots = slots_for owned.size }) | None ↦ v.attributes ]) ≡ v.attributes
+          → (elim p as (λ _. C.FinMap nat_cmp Attributes) [ Some a ↦ finmap.insert (finmap.remove v.attributes slot) slot (record a { slots = slots_for owned.size }) | None ↦ v.attributes ]) ≡ v.attributes
       turn None e = refl
-      turn (Some a) e = same_map nat_cmp_total nat_cmp-IsAntisymmetric _ v.attributes (λ q. elim (cases_eq q slot) [
-        | inl same ↦ inserted_here (finmap.remove v.attributes slot) slot (record a { slots = slots_for owned.size }) q same ∙ (λ i. Some (record a { slots = (sym own_slots ∙ slots_of v.attributes slot a e) i })) ∙ sym (ap (finmap.get v.attributes) same ∙ e)
-        | inr d ↦ inserted_other (finmap.remove v.attributes slot) slot (record a { slots = slots_for owned.size }) q d ∙ taken_other v.attributes slot q d
+      turn (Some a) e = C.same_map C.nat_cmp_total C.nat_cmp-IsAntisymmetric _ v.attributes (λ q. elim (C.cases_eq q slot) [
+        | inl same ↦ C.inserted_here (finmap.remove v.attributes slot) slot (record a { slots = slots_for owned.size }) q same ∙ (λ i. Some (record a { slots = (sym own_slots ∙ slots_of v.attributes slot a e) i })) ∙ sym (ap (finmap.get v.attributes) same ∙ e)
+        | inr d ↦ C.inserted_other (finmap.remove v.attributes slot) slot (record a { slots = slots_for owned.size }) q d ∙ C.taken_other v.attributes slot q d
       ])
 
   -- what room is asked for
@@ -89,9 +85,9 @@ module _ (v : Handles) (is : AreHandles v) (slot : ℕ) (owned : Owned) (owns : 
     where
       turn : (p : Option Object) → object_at v.heap slot ≡ p → IsSomeAnd p (λ o. ReallocatesObject v.heap slot o owned.size revival_options answered heap) → IsSomeAnd p (λ o. Allocates v.heap slot owned.size o.kind o.locks revival_options answered heap)
       turn None e h = absurd h
-      turn (Some o) e h = subst (λ b. MatchOption b (Allocates v.heap slot owned.size o.kind o.locks revival_options answered heap) (λ bytes. MatchBool (nat_le owned.size (length bytes))
-          ((answered ≡ true) × (heap ≡ with_object v.heap slot (record o { bytes = Some (take owned.size bytes) }))) (Grows v.heap slot o owned.size revival_options answered heap)))
-          (sym (ap bytes_in e) ∙ absent) h
+      turn (Some o) e h = subst (λ b. C.MatchOption b (Allocates v.heap slot owned.size o.kind o.locks revival_options answered heap) (λ bytes. C.MatchBool (C.nat_le owned.size (length bytes))
+          ((answered ≡ true) × (heap ≡ C.with_object v.heap slot (record o { bytes = Some (take owned.size bytes) }))) (Grows v.heap slot o owned.size revival_options answered heap)))
+          (sym (ap C.bytes_in e) ∙ absent) h
 
   abbrev Gets : ℕ → Type 0
   Gets first = IsSomeAnd (object_at v.heap slot) (λ o. GetsRun v slot o revival_options (slots_for owned.size) first)
@@ -101,7 +97,7 @@ module _ (v : Handles) (is : AreHandles v) (slot : ℕ) (owned : Owned) (owns : 
       × (made ≡ record v { heap = rehoused heap slot first; attributes = with_run v.attributes slot first (slots_for owned.size); moved = moved_bytes v.heap heap })
 
   abbrev Lacks : Type 0
-  Lacks = IsSomeAnd (object_at v.heap slot) (λ o. LacksRun v slot o revival_options (slots_for owned.size)
+  Lacks = IsSomeAnd (object_at v.heap slot) (λ o. C.LacksRun v slot o revival_options (slots_for owned.size)
       ⊎ ((first : ℕ) × GetsRun v slot o revival_options (slots_for owned.size) first × Reallocates v.heap slot owned.size revival_options false v.heap))
 
   -- it keeps its slot
@@ -143,7 +139,7 @@ module _ (v : Handles) (is : AreHandles v) (slot : ℕ) (owned : Owned) (owns : 
     rest = refl;
   }
     where
-      turn : (p : Option Object) → IsSomeAnd p (λ o. LacksRun v slot o revival_options (slots_for owned.size)
+      turn : (p : Option Object) → IsSomeAnd p (λ o. C.LacksRun v slot o revival_options (slots_for owned.size)
           ⊎ ((first : ℕ) × GetsRun v slot o revival_options (slots_for owned.size) first × Reallocates v.heap slot owned.size revival_options false v.heap)) → Reallocates v.heap slot owned.size revival_options false v.heap
       turn None h = absurd h
       turn (Some o) (inl l) = absurd (l.here (λ k below. absurd (let all = own_slots in omega (arith, below, all))))

@@ -1,12 +1,14 @@
 -- The objects' arena and memory, and the heap that they stand for.
-use Rattle.w16_global.proofs.Common.{◌≡◌, ℕ, ◌+◌, ◌^◌, ◌<◌, ◌≤◌, ◌⊎◌, IfSome, IfNone, List, length, Option, Some, None, Result, Ok, Err, OnOk, IfErr, option_map, refl, sym, ap, ◌∙◌, subst, arith, is_some, true, Block, Heap, Object, IsHeap, object_at}
-use Rattle.w16_global.proofs.Common.{bytes_at, block_with, entry_at, heap_in, Refusal, after_release, contents, removed, ArenaState, Steps, entry_of, heap_kept, is_heap, entry_is, size_here, place_here, ends_in_memory, no_block, AreParts, Holding, holding_of}
-use Rattle.std.specs.FinMap as finmap
+use Rattle.w16_global.proofs
+use proofs.Common as C
+use proofs.Common.{◌≡◌, ℕ, ◌+◌, ◌^◌, ◌<◌, ◌≤◌, ◌⊎◌, IfSome, IfNone, List, length, Option, Some, None, Result, Ok, Err, OnOk, IfErr, option_map, refl, sym, ap, ◌∙◌, subst, arith, is_some, true, Block, Heap, object_at, bytes_at, block_with, entry_at, heap_in, Refusal, contents, removed}
+use proofs.Common.{ArenaState, Steps, entry_of, heap_kept, Holding, holding_of}
+use proofs.Written.{beside}
 use Rattle.std.proofs.lemmas.Option.{IfSome_then}
 use Rattle.w16_arena.proofs.Lookups.{no_entry}
-use Rattle.w16_global.proofs.Written.{beside}
+use Rattle.std.specs.FinMap as finmap
 
-module _ {s : ArenaState} {memory : List ℕ} (parts : AreParts s memory) where
+module _ {s : ArenaState} {memory : List ℕ} (parts : C.AreParts s memory) where
   pub whole : s.table.hi ≤ length memory
   whole = let e = parts.high in omega arith
 
@@ -22,23 +24,23 @@ module _ {s : ArenaState} {memory : List ℕ} (parts : AreParts s memory) where
     pub known : (P : Heap → Type 0) → P h.heap → P (heap_in s.table memory)
     known P k = subst (λ (h : Holding). P h.heap) (sym shown) k
 
-    pub is_heap_shown : IsHeap h.heap
-    is_heap_shown = told IsHeap (is_heap (beside parts) parts.bytes)
+    pub is_heap_shown : C.IsHeap h.heap
+    is_heap_shown = told C.IsHeap (C.is_heap (beside parts) parts.bytes)
 
     pub entry_shown : (id : ℕ) → entry_at s.table id ≡ option_map entry_of (object_at h.heap id)
-    entry_shown id = sym (entry_is (beside parts) id) ∙ ap (λ (h : Holding). option_map entry_of (object_at h.heap id)) shown
+    entry_shown id = sym (C.entry_is (beside parts) id) ∙ ap (λ (h : Holding). option_map entry_of (object_at h.heap id)) shown
 
     pub size_shown : (id : ℕ) → option_map (λ (x : Block). x.size) (block_with s.table.blocks id) ≡ option_map (length {A = ℕ}) (bytes_at h.heap id)
-    size_shown id = sym (size_here (beside parts) id) ∙ ap (λ (h : Holding). option_map (length {A = ℕ}) (bytes_at h.heap id)) shown
+    size_shown id = sym (C.size_here (beside parts) id) ∙ ap (λ (h : Holding). option_map (length {A = ℕ}) (bytes_at h.heap id)) shown
 
     pub place_shown : (id : ℕ) → finmap.get h.heap.places id ≡ option_map (λ (x : Block). x.at) (block_with s.table.blocks id)
-    place_shown id = told (λ heap. finmap.get heap.places id ≡ option_map (λ (x : Block). x.at) (block_with s.table.blocks id)) (place_here (beside parts) id)
+    place_shown id = told (λ heap. finmap.get heap.places id ≡ option_map (λ (x : Block). x.at) (block_with s.table.blocks id)) (C.place_here (beside parts) id)
 
     -- an object that is there has an entry
     pub entry_known : (id : ℕ) → is_some (object_at h.heap id) ≡ true → is_some (entry_at s.table id) ≡ true
     entry_known id there = ap is_some (entry_shown id) ∙ mapped (object_at h.heap id) ∙ there
       where
-        mapped : (p : Option Object) → is_some (option_map entry_of p) ≡ is_some p
+        mapped : (p : Option C.Object) → is_some (option_map entry_of p) ≡ is_some p
         mapped None = refl
         mapped (Some o) = refl
 
@@ -47,7 +49,7 @@ module _ {s : ArenaState} {memory : List ℕ} (parts : AreParts s memory) where
     no_entry_known id free = no_entry (beside parts) id (known (λ heap. object_at heap id ≡ None) free)
 
     pub no_block_known : (id : ℕ) → object_at h.heap id ≡ None → block_with s.table.blocks id ≡ None
-    no_block_known id free = no_block (beside parts) id (no_entry_known id free)
+    no_block_known id free = C.no_block (beside parts) id (no_entry_known id free)
 
     -- the value after a step whose heap is known
     pub holding_stepped : {new : ArenaState} {step : Heap → Heap → Type 0} → Steps s new step → (heap : Heap) → heap_in new.table memory ≡ heap → holding_of new memory count ≡ record h { heap = heap }
@@ -78,10 +80,10 @@ module _ {s : ArenaState} {memory : List ℕ} (parts : AreParts s memory) where
           turn (Some b) f = tt
 
       pub next_inside : IfSome found (λ b. (from ≤ b.at) × (block_with s.table.blocks b.id ≡ Some b)) → IfSome found (λ b. (0 < b.size) × (b.at + b.size < 2 ^ 32))
-      next_inside known = IfSome_then found known (λ b f. let end = ends_in_memory (beside parts) b.id b f.1 in (end.0, omega (arith, end.1, small)))
+      next_inside known = IfSome_then found known (λ b f. let end = C.ends_in_memory (beside parts) b.id b f.1 in (end.0, omega (arith, end.1, small)))
 
     -- an object that was taken away, where the bytes of the others stay
-    pub released_shown : (new : ArenaState) (after : List ℕ) (id : ℕ) {later : ℕ} → later ≡ count → contents after new.table.blocks ≡ contents memory new.table.blocks → Steps s new (λ a b. b ≡ after_release a id)
+    pub released_shown : (new : ArenaState) (after : List ℕ) (id : ℕ) {later : ℕ} → later ≡ count → contents after new.table.blocks ≡ contents memory new.table.blocks → Steps s new (λ a b. b ≡ C.after_release a id)
         → holding_of new after later ≡ record h { heap = removed h.heap id }
     released_shown new after id {later} none same p =
         (λ i. record { cap = length new.table.entries; heap = heap_kept memory after new.table same i; discarded = new.discarded; written = none i })

@@ -1,26 +1,25 @@
 -- A far access by descriptors is one by objects.
+use Rattle.w16_global.proofs
+use proofs.Common as C
 use Rattle.std.proofs.lemmas.List.{get_or_past}
-use Rattle.w16_global.proofs.Common.{◌≡◌, ℕ, ◌+◌, ◌-◌, ◌*◌, ◌/◌, ◌<◌, ◌≤◌, inl, inr, Bool, true, false, if◌then◌else◌, not, ◌&&◌, ◌||◌, nat_lt, List, length, Option, Some, None, Result, Ok, Err, option_map, is_some}
-use Rattle.w16_global.proofs.Common.{unwrap_or, refl, sym, ap, ◌∙◌, subst, arith, min, IfErr, IsErrAnd, IfSome, nat_tests, cases_lt, get_or, Attributes, FarFault, BadSelector, ReadOnly, NotPresent, Limit, REACH, bytes_at}
-use Rattle.w16_global.proofs.Common.{Handles, Part, part_of_selector, is_past, slots_at, selector_of, attributes_in, selector_base, selector_limit, bytes_in, false≢true, far_fault, far_at, far_slot, Owned, owned_in}
-use Rattle.w16_global.proofs.Common.{refuses_write, near, descriptor_at, descriptor_of, place_of, unset, is_code, Descriptor, SelKind, Data, Code, access_fault, Holding, handles_of, descriptor_for, kind_in, AreJoined}
-use Rattle.std.specs.FinMap as finmap
-use Rattle.w16_model.specs.Handles.{reached}
-use Rattle.w16_model.specs.Owned.{is_code as handles_is_code}
+use proofs.Common.{◌≡◌, ℕ, ◌+◌, ◌-◌, ◌*◌, ◌/◌, ◌<◌, ◌≤◌, inl, inr, Bool, true, false, if◌then◌else◌, not, ◌&&◌, ◌||◌, nat_lt, List, length, Option, Some, None, Result, Ok, Err, option_map, is_some, unwrap_or, refl, sym, ap, ◌∙◌, subst, arith, min, IfErr, FarFault, BadSelector, ReadOnly}
+use proofs.Common.{Limit, REACH, bytes_at, Part, part_of_selector, bytes_in, false≢true, far_fault, Owned, near, descriptor_of, place_of, unset, is_code, Descriptor, SelKind, Data, Code, access_fault, handles_of, kind_in}
+use proofs.Owners.{Has, attributes_at, by_owner}
+use Rattle.w16_model.specs.{Handles.reached, Owned.is_code as handles_is_code}
 use Rattle.w16_model.proofs.Runs.{reach_law}
-use Rattle.w16_selectors.specs.Descriptors as selectors
 use Rattle.w16_selectors.specs.Descriptors.{number_at, number_of}
 use Rattle.w16_global.specs.Runs.{reaching}
-use Rattle.w16_global.proofs.Owners.{Has, attributes_at, by_owner}
+use Rattle.std.specs.FinMap as finmap
+use Rattle.w16_selectors.specs.Descriptors as selectors
 
 -- what holds of a fault holds of the one that is handed on
-pub handed_on : {T E : Type 0} (P : E → Type 0) (r : Result T E) (e : E) → IsErrAnd r (λ f. f ≡ e) → P e → IfErr r P
+pub handed_on : {T E : Type 0} (P : E → Type 0) (r : Result T E) (e : E) → C.IsErrAnd r (λ f. f ≡ e) → P e → IfErr r P
 handed_on P (Ok x) e h p = tt
 handed_on P (Err f) e h p = subst P (sym h) p
 
 -- where there is none there is none of a read
-pub no_fault : (w : Handles) (write : Bool) (selector offset n : ℕ) → access_fault w write selector offset n ≡ None → (far_fault w selector offset n ≡ None) × ((write && refuses_write w selector) ≡ false)
-no_fault w write selector offset n = turn (write && refuses_write w selector)
+pub no_fault : (w : C.Handles) (write : Bool) (selector offset n : ℕ) → access_fault w write selector offset n ≡ None → (far_fault w selector offset n ≡ None) × ((write && C.refuses_write w selector) ≡ false)
+no_fault w write selector offset n = turn (write && C.refuses_write w selector)
   where
     turn : (b : Bool) → (if b then Some ReadOnly else far_fault w selector offset n) ≡ None → (far_fault w selector offset n ≡ None) × (b ≡ false)
     turn true e = cc
@@ -48,11 +47,11 @@ code_kind : (b : Bool) → is_code (if b then Code else Data) ≡ b
 code_kind true = refl
 code_kind false = refl
 
-code_is : (h : Holding) (xs : List (Option Attributes)) (m first : ℕ) → handles_is_code (handles_of h xs m) first ≡ is_code (kind_in xs first)
-code_is h xs m first = ap (λ p. unwrap_or (option_map (λ (o : Owned). o.code) (owned_in p)) false) (attributes_at xs first)
-    ∙ sym (code_kind (unwrap_or (option_map (λ (o : Owned). o.code) (owned_in (get_or xs first None))) false))
+code_is : (h : C.Holding) (xs : List (Option C.Attributes)) (m first : ℕ) → handles_is_code (handles_of h xs m) first ≡ is_code (kind_in xs first)
+code_is h xs m first = ap (λ p. unwrap_or (option_map (λ (o : Owned). o.code) (C.owned_in p)) false) (attributes_at xs first)
+    ∙ sym (code_kind (unwrap_or (option_map (λ (o : Owned). o.code) (C.owned_in (C.get_or xs first None))) false))
 
-module _ {h : Holding} {xs : List (Option Attributes)} {t : selectors.DescriptorTable} {m : ℕ} {w : Handles} (are : AreJoined h xs t) (shown : handles_of h xs m ≡ w) (selector : ℕ) where
+module _ {h : C.Holding} {xs : List (Option C.Attributes)} {t : selectors.DescriptorTable} {m : ℕ} {w : C.Handles} (are : C.AreJoined h xs t) (shown : handles_of h xs m ≡ w) (selector : ℕ) where
   -- what a selector reaches, by its slot's number
   abbrev part_at : Part
   part_at = record { slot = selector / 8 - number_at t (selector / 8); number = number_at t (selector / 8) }
@@ -62,8 +61,8 @@ module _ {h : Holding} {xs : List (Option Attributes)} {t : selectors.Descriptor
       let known = by_owner are selector (λ p d. is_some d ≡ true → (selector / 8 < length t) × (number_at t (selector / 8) ≤ selector / 8) × (p ≡ Some part_at)) (λ none. absurd (false≢true none)) some there in
       (known.0, known.1, subst (λ v. part_of_selector v selector ≡ Some part_at) shown known.2)
     where
-      within : (slot : ℕ) → is_some (descriptor_at t slot) ≡ true → slot < length t
-      within slot taken = elim (cases_lt slot (length t)) [ inl lt ↦ lt | inr le ↦ absurd (false≢true (sym (ap is_some (get_or_past t slot None le)) ∙ taken)) ]
+      within : (slot : ℕ) → is_some (C.descriptor_at t slot) ≡ true → slot < length t
+      within slot taken = elim (C.cases_lt slot (length t)) [ inl lt ↦ lt | inr le ↦ absurd (false≢true (sym (ap is_some (get_or_past t slot None le)) ∙ taken)) ]
 
       some : (first : ℕ) (o : Has h xs t (selector / 8) first) → is_some (Some o.descriptor) ≡ true → (selector / 8 < length t) × (number_at t (selector / 8) ≤ selector / 8) × (Some (record { slot = first; number = selector / 8 - first }) ≡ Some part_at)
       some first o there =
@@ -76,26 +75,26 @@ module _ {h : Holding} {xs : List (Option Attributes)} {t : selectors.Descriptor
   module _ (write : Bool) (offset n count : ℕ) (count_is : count ≡ min n 4294967295) where
     -- the fault by what a selector reaches, and what is found by a descriptor
     abbrev reach_fault : Part → Option (List ℕ) → Option FarFault
-    reach_fault p b = elim b [ None ↦ Some NotPresent | Some bytes ↦ if is_past (length bytes) p (offset + n) then Some Limit else None ]
+    reach_fault p b = elim b [ None ↦ Some C.NotPresent | Some bytes ↦ if C.is_past (length bytes) p (offset + n) then Some Limit else None ]
 
     abbrev fault_by : Option Part → Option FarFault
     fault_by p = if write && unwrap_or (option_map (λ (p : Part). handles_is_code (handles_of h xs m) p.slot) p) false then Some ReadOnly else (elim p [ None ↦ Some BadSelector | Some p ↦ reach_fault p (bytes_at h.heap p.slot) ])
 
     abbrev open_by : Descriptor → Result ℕ FarFault
-    open_by d = if not d.present then Err NotPresent else (if nat_lt (d.limit + 1) (offset + count) then Err Limit else Ok (d.base + offset))
+    open_by d = if not d.present then Err C.NotPresent else (if nat_lt (d.limit + 1) (offset + count) then Err Limit else Ok (d.base + offset))
 
     abbrev place_by : Option Descriptor → Result ℕ FarFault
     place_by d = elim d [ None ↦ Err BadSelector | Some d ↦ if write && is_code d.kind then Err ReadOnly else open_by d ]
 
     -- what a selector's limit is, of the bytes that there are
     past_is : (size number : ℕ) → 0 < min REACH (size - REACH * number) → (nat_lt REACH (offset + n) || nat_lt size (REACH * number + (offset + n))) ≡ nat_lt (min REACH (size - REACH * number) - 1 + 1) (offset + count)
-    past_is size number some = grind (arith, nat_tests)
+    past_is size number some = grind (arith, C.nat_tests)
 
     abbrev Reaches : Part → Option (List ℕ) → Type 0
-    Reaches p b = IfSome b (λ bytes. (0 < reached (length bytes) p) × (REACH * p.number + reached (length bytes) p ≤ length bytes))
+    Reaches p b = C.IfSome b (λ bytes. (0 < reached (length bytes) p) × (REACH * p.number + reached (length bytes) p ≤ length bytes))
 
     abbrev Lies : Part → Type 0
-    Lies p = (selector ≡ selector_of (p.slot + p.number)) × (p.number < slots_at (attributes_in xs) p.slot) × Reaches p (bytes_at h.heap p.slot)
+    Lies p = (selector ≡ C.selector_of (p.slot + p.number)) × (p.number < C.slots_at (C.attributes_in xs) p.slot) × Reaches p (bytes_at h.heap p.slot)
 
     opened : (holds : SelKind) (at : ℕ) (p : Part) (b : Option (List ℕ)) → Reaches p b → reach_fault p b ≡ fault_of (open_by (elim b [ None ↦ unset holds p.number | Some bytes ↦ reaching holds at (length bytes) p.number ]))
     opened holds at p None some = refl
@@ -104,7 +103,7 @@ module _ {h : Holding} {xs : List (Option Attributes)} {t : selectors.Descriptor
     -- the first fault
     pub resolved : access_fault w write selector offset n ≡ fault_of (place_of t selector offset count write)
     resolved = subst (λ v. access_fault v write selector offset n ≡ fault_of (place_of t selector offset count write)) shown
-        (by_owner are selector (λ p d. IfSome p Lies → fault_by p ≡ fault_of (place_by d)) (λ _. never write) some (reach_law (handles_of h xs 0) selector are.handles))
+        (by_owner are selector (λ p d. C.IfSome p Lies → fault_by p ≡ fault_of (place_by d)) (λ _. never write) some (reach_law (handles_of h xs 0) selector are.handles))
       where
         some : (first : ℕ) (o : Has h xs t (selector / 8) first) → Lies (record { slot = first; number = selector / 8 - first }) → fault_by (Some (record { slot = first; number = selector / 8 - first })) ≡ fault_of (place_by (Some o.descriptor))
         some first o lies =
@@ -114,12 +113,12 @@ module _ {h : Holding} {xs : List (Option Attributes)} {t : selectors.Descriptor
             let is = o.is in
             (λ i. if write && code_is h xs m first i then Some ReadOnly else reach_fault p (here i))
             ∙ ap (λ f. if write && is_code (kind_in xs first) then Some ReadOnly else f) (opened (kind_in xs first) (unwrap_or (finmap.get h.heap.places first) 0) p o.object.bytes (subst (Reaches p) here lies.2))
-            ∙ read_only (write && is_code (kind_in xs first)) (open_by (descriptor_for h.heap (kind_in xs first) (selector / 8 - first) first o.object))
+            ∙ read_only (write && is_code (kind_in xs first)) (open_by (C.descriptor_for h.heap (kind_in xs first) (selector / 8 - first) first o.object))
             ∙ (λ i. fault_of (if write && is_code (sym kind i) then Err ReadOnly else open_by (sym is i)))
 
     -- and where there is none, where it begins
     pub known : (at : ℕ) → Ok at ≡ place_of t selector offset count write → (slot number : ℕ) → slot ≡ selector / 8 → number ≡ number_at t slot
-        → (slot < length t) × (number ≤ slot) × (slot - number ≡ far_slot w selector) × (REACH * number + offset ≡ far_at w selector offset) × (access_fault w write selector offset n ≡ None) × (n < 4294967296)
+        → (slot < length t) × (number ≤ slot) × (slot - number ≡ C.far_slot w selector) × (REACH * number + offset ≡ C.far_at w selector offset) × (access_fault w write selector offset n ≡ None) × (n < 4294967296)
     known at is slot number slot_is number_at_is =
         let k = found (named (descriptor_of t selector) (sym is)) in
         let within = k.0 in
@@ -147,8 +146,8 @@ module _ {h : Holding} {xs : List (Option Attributes)} {t : selectors.Descriptor
   abbrev base_of : Option Part → ℕ
   base_of p = elim p [ None ↦ 0 | Some p ↦ unwrap_or (option_map (λ at. at + REACH * p.number) (finmap.get h.heap.places p.slot)) 0 ]
 
-  pub base_known : unwrap_or (option_map (λ (d : Descriptor). d.base) (descriptor_of t selector)) 0 ≡ selector_base w selector
-  base_known = subst (λ v. unwrap_or (option_map (λ (d : Descriptor). d.base) (descriptor_of t selector)) 0 ≡ selector_base v selector) shown
+  pub base_known : unwrap_or (option_map (λ (d : Descriptor). d.base) (descriptor_of t selector)) 0 ≡ C.selector_base w selector
+  base_known = subst (λ v. unwrap_or (option_map (λ (d : Descriptor). d.base) (descriptor_of t selector)) 0 ≡ C.selector_base v selector) shown
       (by_owner are selector (λ p d. unwrap_or (option_map (λ (d : Descriptor). d.base) d) 0 ≡ base_of p) refl (λ first o.
       ap (λ (d : Descriptor). d.base) o.is
       ∙ based (kind_in xs first) (selector / 8 - first) (finmap.get h.heap.places first) o.object.bytes (are.handles.heap.at_bytes first ∙ ap (λ p. is_some (bytes_in p)) o.there)))
@@ -163,8 +162,8 @@ module _ {h : Holding} {xs : List (Option Attributes)} {t : selectors.Descriptor
   abbrev limit_of : Option Part → ℕ
   limit_of p = elim p [ None ↦ 0 | Some p ↦ unwrap_or (option_map (λ bytes. reached (length bytes) p - 1) (bytes_at h.heap p.slot)) 0 ]
 
-  pub limit_known : unwrap_or (option_map (λ (d : Descriptor). d.limit) (descriptor_of t selector)) 0 ≡ selector_limit w selector
-  limit_known = subst (λ v. unwrap_or (option_map (λ (d : Descriptor). d.limit) (descriptor_of t selector)) 0 ≡ selector_limit v selector) shown
+  pub limit_known : unwrap_or (option_map (λ (d : Descriptor). d.limit) (descriptor_of t selector)) 0 ≡ C.selector_limit w selector
+  limit_known = subst (λ v. unwrap_or (option_map (λ (d : Descriptor). d.limit) (descriptor_of t selector)) 0 ≡ C.selector_limit v selector) shown
       (by_owner are selector (λ p d. unwrap_or (option_map (λ (d : Descriptor). d.limit) d) 0 ≡ limit_of p) refl (λ first o.
       ap (λ (d : Descriptor). d.limit) o.is
       ∙ limited (kind_in xs first) (unwrap_or (finmap.get h.heap.places first) 0) (selector / 8 - first) o.object.bytes

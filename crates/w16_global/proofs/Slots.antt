@@ -1,24 +1,24 @@
 -- Which slots are free for an object, and the run that it gets.
-use Rattle.std.proofs.Common.{IsTrue, ◌↔◌}
-use Rattle.std.proofs.lemmas.Option.{IfSome_then}
-use Rattle.w16_global.proofs.Common.{◌≡◌, ℕ, ◌+◌, ◌-◌, ◌<◌, ◌≤◌, Bool, true, inr, IfSome, IfNone, IsSomeAnd, List, Option, Some, None, sym, ◌∙◌, subst, arith, Attributes, Object, RoomOptions, object_at, Handles, IsFreeRun, IsFreeSlot, slots_at, IsUntaken, Holding, handles_of, AreJoined}
-use Rattle.w16_model.specs.Handles.{HasNoRun}
-use Rattle.w16_model.specs.Resizes.{CanExtend, GetsRun, LacksRun, may_leave}
+use Rattle.w16_global.proofs
+use proofs.Common as C
+use Rattle.std.proofs.{Common.IsTrue, Common.◌↔◌, lemmas.Option.IfSome_then}
+use proofs.Common.{◌≡◌, ℕ, ◌+◌, ◌-◌, ◌<◌, ◌≤◌, Bool, true, inr, IfSome, IfNone, IsSomeAnd, List, Option, Some, None, sym, ◌∙◌, subst, arith, Object, object_at, IsFreeRun}
+use proofs.Owners.{free_slot, free_selector, free_run, free_selectors}
+use Rattle.w16_model.specs.{Handles.HasNoRun, Resizes.CanExtend, Resizes.GetsRun, Resizes.LacksRun, Resizes.may_leave}
 use Rattle.w16_selectors.specs.Descriptors as selectors
-use Rattle.w16_global.proofs.Owners.{free_slot, free_selector, free_run, free_selectors}
 
 -- where there is none, what follows from that
 none_then : {X P Q : Type 0} (r : Option X) → IfNone r P → (P → Q) → IfNone r Q
 none_then None known then_is = then_is known
 none_then (Some x) known then_is = tt
 
-module _ {h : Holding} {xs : List (Option Attributes)} {t : selectors.DescriptorTable} {m : ℕ} {w : Handles} (are : AreJoined h xs t) (shown : handles_of h xs m ≡ w) where
+module _ {h : C.Holding} {xs : List (Option C.Attributes)} {t : selectors.DescriptorTable} {m : ℕ} {w : C.Handles} (are : C.AreJoined h xs t) (shown : C.handles_of h xs m ≡ w) where
   module _ (r : Option ℕ) where
     -- a free slot of the selectors is one of the handles, and where there is none, none is free
-    pub found_free : IfSome r (λ slot. IsUntaken t slot) → IfSome r (λ slot. IsFreeSlot w slot)
+    pub found_free : IfSome r (λ slot. C.IsUntaken t slot) → IfSome r (λ slot. C.IsFreeSlot w slot)
     found_free found = IfSome_then r found (free_slot are shown)
 
-    pub none_free : IfNone r ((slot : ℕ) → IsUntaken t slot → ⊥) → IfNone r ((slot : ℕ) → IsFreeSlot w slot → ⊥)
+    pub none_free : IfNone r ((slot : ℕ) → C.IsUntaken t slot → ⊥) → IfNone r ((slot : ℕ) → C.IsFreeSlot w slot → ⊥)
     none_free none = none_then r none (λ h slot free. h slot (free_selector are shown slot free))
 
     -- and so are runs
@@ -29,7 +29,7 @@ module _ {h : Holding} {xs : List (Option Attributes)} {t : selectors.Descriptor
     no_run count some none = none_then r none (λ h first free. h first (free_selectors are shown first count some free))
 
   -- slots behind an object's own
-  module _ (slot count own : ℕ) (own_is : own ≡ slots_at w.attributes slot) (more : own < count) where
+  module _ (slot count own : ℕ) (own_is : own ≡ C.slots_at w.attributes slot) (more : own < count) where
     pub extends : (b : Bool) → IsTrue b ↔ selectors.IsFreeRun t (slot + own) (count - own) → IsTrue b ↔ CanExtend w slot count
     extends b is = subst (λ n. IsTrue b ↔ IsFreeRun w (slot + n) (count - n)) own_is
         (λ yes. free_run are shown (slot + own) (count - own) (is.0 yes), λ free. is.1 (free_selectors are shown (slot + own) (count - own) (omega arith) free))
@@ -43,7 +43,7 @@ module _ {h : Holding} {xs : List (Option Attributes)} {t : selectors.Descriptor
         omega (arith, last, many, few, some, more)
 
 -- An object that can't be extended gets another run, if it may leave its own, or none.
-module _ (w : Handles) (slot count : ℕ) (options : RoomOptions) (b : Bool) (may : IsSomeAnd (object_at w.heap slot) (λ o. b ≡ may_leave o options)) (not_here : CanExtend w slot count → ⊥) where
+module _ (w : C.Handles) (slot count : ℕ) (options : C.RoomOptions) (b : Bool) (may : IsSomeAnd (object_at w.heap slot) (λ o. b ≡ may_leave o options)) (not_here : CanExtend w slot count → ⊥) where
   each : (Q : Object → Type 0) → ((o : Object) → b ≡ may_leave o options → Q o) → IsSomeAnd (object_at w.heap slot) Q
   each Q give = turn (object_at w.heap slot) may
     where

@@ -1,27 +1,27 @@
 -- The bytes at an address in an object, and the heap after some of them are replaced.
-use Rattle.w16_global.proofs.Common.{◌≡◌, ◌≢◌, ℕ, ◌+◌, ◌-◌, ◌<◌, ◌≤◌, inl, inr, IsSomeAnd, List, [], ◌∷◌, ◌++◌, length, get_or, slice_range, take, drop, All, Option, Some, None, option_map, unwrap_or, refl, sym, ap, ◌∙◌, subst}
-use Rattle.w16_global.proofs.Common.{arith, length-drop, cases_eq, drop-take, take-take, drop-drop, drop-append-le, length-take-le, take-append-add, Block, Entry, Heap, Object, object_at, bytes_at, after_write, Table, block_with}
-use Rattle.w16_global.proofs.Common.{object_in, heap_in, Member, Each-at, get-update_same, get-update_other, laid_placed, two, member_with, length_range, Span, part, put_part, block_end, length-put_part, range_apart, All-put_part}
-use Rattle.w16_global.proofs.Common.{IsUsed, threaded_stay, AreSameIn-put_part, Layout, used_each, ArenaState, holes_in, AreParts, Holding, HasPart, holding_of, object_here, bytes_here, ends_in_memory, same_heap}
+use Rattle.w16_global.proofs
+use proofs.Common as C
+use proofs.Common.{◌≡◌, ◌≢◌, ℕ, ◌+◌, ◌-◌, ◌<◌, ◌≤◌, inl, inr, List, [], ◌∷◌, ◌++◌, length, slice_range, take, drop, All, Option, Some, None, option_map, refl, sym, ap, ◌∙◌, subst, arith, drop-take, drop-drop, Block, Entry, Heap, object_at, bytes_at, after_write, Table, block_with}
+use proofs.Common.{object_in, heap_in, Member, two, member_with, Span, part, put_part, IsUsed, ArenaState, holes_in, AreParts, Holding, HasPart, holding_of, object_here, ends_in_memory}
 use Rattle.w16_arena.proofs.Parts as arena
 
 -- a part of a range is one of the whole list
 slice_of_range : (m : List ℕ) (p s at n : ℕ) → at + n ≤ s → part (slice_range m p (p + s)) at n ≡ take n (drop (p + at) m)
 slice_of_range m p s at n le =
     let size : p + s - p ≡ at + (s - at) = omega arith in
-    ap (λ k. take n (drop at (take k (drop p m)))) size ∙ ap (take n) (drop-take at (s - at) (drop p m)) ∙ take-take n (s - at) (drop at (drop p m)) (omega arith) ∙ ap (take n) (drop-drop at p m)
+    ap (λ k. take n (drop at (take k (drop p m)))) size ∙ ap (take n) (drop-take at (s - at) (drop p m)) ∙ C.take-take n (s - at) (drop at (drop p m)) (omega arith) ∙ ap (take n) (drop-drop at p m)
 
 -- n elements of a list with a part replaced
 take_put : (xs : List ℕ) (at n : ℕ) (new : List ℕ) → at + length new ≤ n → n ≤ length xs → take n (put_part xs at new) ≡ put_part (take n xs) at new
 take_put xs at n new le len =
     let k : ℕ = length new in
     let r : ℕ = n - (at + k) in
-    let front : length (take at xs) ≡ at = length-take-le at xs (omega arith) in
+    let front : length (take at xs) ≡ at = C.length-take-le at xs (omega arith) in
     let first : length (take at xs) + (k + r) ≡ n = omega arith in
     let whole : at + k + r ≡ n = omega arith in
     let left : take n (put_part xs at new) ≡ take at xs ++ (new ++ take r (drop k (drop at xs))) =
-    ap (λ j. take j (put_part xs at new)) (sym first) ∙ take-append-add (take at xs) (new ++ drop k (drop at xs)) (k + r) ∙ ap (λ ys. take at xs ++ ys) (take-append-add new (drop k (drop at xs)) r) in
-    let front_too : take at (take n xs) ≡ take at xs = take-take at n xs (omega arith) in
+    ap (λ j. take j (put_part xs at new)) (sym first) ∙ C.take-append-add (take at xs) (new ++ drop k (drop at xs)) (k + r) ∙ ap (λ ys. take at xs ++ ys) (C.take-append-add new (drop k (drop at xs)) r) in
+    let front_too : take at (take n xs) ≡ take at xs = C.take-take at n xs (omega arith) in
     let behind : drop (at + k) (take n xs) ≡ take r (drop k (drop at xs)) =
     ap (λ j. drop (at + k) (take j xs)) (sym whole) ∙ drop-take (at + k) r xs ∙ ap (take r) (sym (drop-drop k at xs)) in
     left ∙ (λ i. sym front_too i ++ (new ++ sym (drop-drop k at (take n xs) ∙ behind) i))
@@ -30,15 +30,15 @@ take_put xs at n new le len =
 drop_put : (m : List ℕ) (p at : ℕ) (new : List ℕ) → p + at ≤ length m → drop p (put_part m (p + at) new) ≡ put_part (drop p m) at new
 drop_put m p at new le =
     let k : ℕ = length new in
-    let front : length (take (p + at) m) ≡ p + at = length-take-le (p + at) m le in
-    drop-append-le p (take (p + at) m) (new ++ drop k (drop (p + at) m)) (omega arith)
+    let front : length (take (p + at) m) ≡ p + at = C.length-take-le (p + at) m le in
+    C.drop-append-le p (take (p + at) m) (new ++ drop k (drop (p + at) m)) (omega arith)
     ∙ (λ i. drop-take p at m i ++ (new ++ drop k (sym (drop-drop at p m) i)))
 
 -- in a range around the part it is replaced too
 slice_of_put_same : (m : List ℕ) (p s at : ℕ) (new : List ℕ) → at + length new ≤ s → p + s ≤ length m
     → slice_range (put_part m (p + at) new) p (p + s) ≡ put_part (slice_range m p (p + s)) at new
 slice_of_put_same m p s at new le len =
-    let behind : length (drop p m) ≡ length m - p = length-drop p m in
+    let behind : length (drop p m) ≡ length m - p = C.length-drop p m in
     ap (take (p + s - p)) (drop_put m p at new (omega arith)) ∙ take_put (drop p m) at (p + s - p) new (omega arith) (omega arith)
 
 -- the bytes at a block
@@ -46,7 +46,7 @@ abbrev bytes_of : List ℕ → Block → List ℕ
 bytes_of memory x = slice_range memory x.at (x.at + x.size)
 
 -- what an arena's lemmas know of the parts
-abbrev pub layout_in : Table → Layout
+abbrev pub layout_in : Table → C.Layout
 layout_in t = record { cap = length t.entries; lo = t.lo; hi = t.hi; grain = t.grain; blocks = t.blocks }
 
 pub beside : {state : ArenaState} {memory : List ℕ} → AreParts state memory → arena.AreParts state.table.entries (layout_in state.table) state.table.order memory
@@ -59,9 +59,9 @@ parts_written {state} {memory} parts at new le ours used = record {
   sound = parts.sound;
   low = parts.low;
   grain = parts.grain;
-  high = parts.high ∙ sym (length-put_part memory at new le);
-  bytes = All-put_part (λ b. b < 256) memory at new parts.bytes ours;
-  kept = threaded_stay (holes_in state.table) memory (put_part memory at new) parts.kept (AreSameIn-put_part (holes_in state.table) memory at new le used);
+  high = parts.high ∙ sym (C.length-put_part memory at new le);
+  bytes = C.All-put_part (λ b. b < 256) memory at new parts.bytes ours;
+  kept = C.threaded_stay (holes_in state.table) memory (put_part memory at new) parts.kept (C.AreSameIn-put_part (holes_in state.table) memory at new le used);
   few = parts.few;
 }
 
@@ -74,25 +74,25 @@ module _ {state : ArenaState} {memory : List ℕ} (parts : AreParts state memory
   -- Of the value that the parts stand for, where an id has a block.
   module _ {count : ℕ} {h : Holding} (shown : holding_of state memory count ≡ h) {x : Block} (is : block_with state.table.blocks q ≡ Some x) where
     bytes_shown : bytes_at h.heap q ≡ Some (bytes_of memory x)
-    bytes_shown = ap (λ (h : Holding). bytes_at h.heap q) (sym shown) ∙ bytes_here (beside parts) q ∙ ap (option_map (bytes_of memory)) is
+    bytes_shown = ap (λ (h : Holding). bytes_at h.heap q) (sym shown) ∙ C.bytes_here (beside parts) q ∙ ap (option_map (bytes_of memory)) is
 
     -- a part of its bytes lies in the block
     pub in_block : (at n : ℕ) → HasPart h.heap q at n → at + n ≤ x.size
-    in_block at n has = subst (λ k. at + n ≤ k) (length_range memory x.at x.size (ends_in_memory (beside parts) q x is).1)
-        (subst (λ (o : Option (List ℕ)). IsSomeAnd o (λ bytes. at + n ≤ length bytes)) bytes_shown has)
+    in_block at n has = subst (λ k. at + n ≤ k) (C.length_range memory x.at x.size (ends_in_memory (beside parts) q x is).1)
+        (subst (λ (o : Option (List ℕ)). C.IsSomeAnd o (λ bytes. at + n ≤ length bytes)) bytes_shown has)
 
     -- and in the memory
     pub in_memory : (at n : ℕ) → HasPart h.heap q at n → x.at + at + n ≤ length memory
     in_memory at n has = let end = (ends_in_memory (beside parts) q x is).1 in let within = in_block at n has in omega (arith, end, within)
 
     -- what the memory has there is what the object has
-    pub seen : (at n : ℕ) → HasPart h.heap q at n → take n (drop (x.at + at) memory) ≡ part (unwrap_or (bytes_at h.heap q) []) at n
-    seen at n has = sym (slice_of_range memory x.at x.size at n (in_block at n has)) ∙ sym (ap (λ (o : Option (List ℕ)). part (unwrap_or o []) at n) bytes_shown)
+    pub seen : (at n : ℕ) → HasPart h.heap q at n → take n (drop (x.at + at) memory) ≡ part (C.unwrap_or (bytes_at h.heap q) []) at n
+    seen at n has = sym (slice_of_range memory x.at x.size at n (in_block at n has)) ∙ sym (ap (λ (o : Option (List ℕ)). part (C.unwrap_or o []) at n) bytes_shown)
 
   -- without a block there is no part
   pub no_part : {count : ℕ} {h : Holding} (shown : holding_of state memory count ≡ h) → block_with state.table.blocks q ≡ None → (at n : ℕ) → HasPart h.heap q at n → ⊥
-  no_part {h = h} shown none at n has = subst (λ (o : Option (List ℕ)). IsSomeAnd o (λ bytes. at + n ≤ length bytes))
-      (ap (λ (h : Holding). bytes_at h.heap q) (sym shown) ∙ bytes_here (beside parts) q ∙ ap (option_map (bytes_of memory)) none) has
+  no_part {h = h} shown none at n has = subst (λ (o : Option (List ℕ)). C.IsSomeAnd o (λ bytes. at + n ≤ length bytes))
+      (ap (λ (h : Holding). bytes_at h.heap q) (sym shown) ∙ C.bytes_here (beside parts) q ∙ ap (option_map (bytes_of memory)) none) has
 
   -- What a write inside an id's block leaves.
   module _ {x : Block} (is : block_with state.table.blocks q ≡ Some x) (at : ℕ) (new : List ℕ) (from : x.at ≤ at) (to : at + length new ≤ x.at + x.size) (ours : All (λ b. b < 256) new) where
@@ -104,8 +104,8 @@ module _ {state : ArenaState} {memory : List ℕ} (parts : AreParts state memory
     used =
         let t : Table = state.table in
         let mine : Member x t.blocks × (x.id ≡ q) = member_with t.blocks q x is in
-        used_part x.at (block_end x) at (at + length new) (holes_in t) from to
-        (Each-at (λ c. IsUsed c.at (block_end c) (holes_in t)) t.blocks (used_each t.lo t.hi t.blocks parts.sound.table.laid) x mine.0)
+        used_part x.at (C.block_end x) at (at + length new) (holes_in t) from to
+        (C.Each-at (λ c. IsUsed c.at (C.block_end c) (holes_in t)) t.blocks (C.used_each t.lo t.hi t.blocks parts.sound.table.laid) x mine.0)
 
     pub parts_after_write : AreParts state (put_part memory at new)
     parts_after_write = parts_written parts at new room ours used
@@ -116,10 +116,10 @@ module _ {state : ArenaState} {memory : List ℕ} (parts : AreParts state memory
     others_keep r other (Some y) e =
         let mine : Member x state.table.blocks × (x.id ≡ q) = member_with state.table.blocks q x is in
         let theirs : Member y state.table.blocks × (y.id ≡ r) = member_with state.table.blocks r y e in
-        elim (two state.table.lo state.table.hi state.table.blocks (laid_placed state.table.lo state.table.hi state.table.blocks parts.sound.table.laid) y x theirs.0 mine.0) [
+        elim (two state.table.lo state.table.hi state.table.blocks (C.laid_placed state.table.lo state.table.hi state.table.blocks parts.sound.table.laid) y x theirs.0 mine.0) [
           | inl same ↦ absurd (other (sym theirs.1 ∙ ap (λ (z : Block). z.id) same ∙ mine.1))
-          | inr (inl below) ↦ ap Some (range_apart memory at new y.at y.size room (inl (omega (arith, below))))
-          | inr (inr above) ↦ ap Some (range_apart memory at new y.at y.size room (inr (omega (arith, above))))
+          | inr (inl below) ↦ ap Some (C.range_apart memory at new y.at y.size room (inl (omega (arith, below))))
+          | inr (inr above) ↦ ap Some (C.range_apart memory at new y.at y.size room (inr (omega (arith, above))))
         ]
 
     -- the id has those that it had, with the new ones in their place
@@ -139,17 +139,17 @@ module _ {state : ArenaState} {memory : List ℕ} (parts : AreParts state memory
     abbrev after : Heap
     after = heap_in state.table (put_part memory at new)
 
-    abbrev written : Object → Object
+    abbrev written : C.Object → C.Object
     written o = record o { bytes = option_map (λ bytes. put_part bytes (at - x.at) new) o.bytes }
 
     -- so its object is the written one, and the others stay
     objects_written : (r : ℕ) → object_at after r ≡ object_at (after_write before q (at - x.at) new) r
-    objects_written r = elim (cases_eq r q) [
+    objects_written r = elim (C.cases_eq r q) [
       | inl same ↦ subst (λ k. object_at after k ≡ object_at (after_write before q (at - x.at) new) k) (sym same)
-          (object_here (beside parts_after_write) q ∙ here (get_or state.table.entries q None)
-          ∙ sym (get-update_same before.objects q written ∙ ap (option_map written) (object_here (beside parts) q)))
-      | inr other ↦ object_here (beside parts_after_write) r ∙ there other (get_or state.table.entries r None)
-          ∙ sym (get-update_other before.objects q written r other ∙ object_here (beside parts) r)
+          (object_here (beside parts_after_write) q ∙ here (C.get_or state.table.entries q None)
+          ∙ sym (C.get-update_same before.objects q written ∙ ap (option_map written) (object_here (beside parts) q)))
+      | inr other ↦ object_here (beside parts_after_write) r ∙ there other (C.get_or state.table.entries r None)
+          ∙ sym (C.get-update_other before.objects q written r other ∙ object_here (beside parts) r)
     ]
       where
         here : (e : Option Entry) → option_map (object_in state.table.blocks (put_part memory at new) q) e ≡ option_map written (option_map (object_in state.table.blocks memory q) e)
@@ -161,7 +161,7 @@ module _ {state : ArenaState} {memory : List ℕ} (parts : AreParts state memory
         there other (Some e) = λ i. Some (record { kind = e.kind; locks = e.locks; bytes = others_keep r other (block_with state.table.blocks r) refl i })
 
     pub heap_written : after ≡ after_write before q (at - x.at) new
-    heap_written = same_heap after (after_write before q (at - x.at) new) refl refl refl refl objects_written (λ r. refl)
+    heap_written = C.same_heap after (after_write before q (at - x.at) new) refl refl refl refl objects_written (λ r. refl)
 
   -- the value is the one after the write
   pub holding_written : {count : ℕ} {h : Holding} (shown : holding_of state memory count ≡ h) {x : Block} (is : block_with state.table.blocks q ≡ Some x) (at : ℕ) (new : List ℕ) → HasPart h.heap q at (length new) → All (λ b. b < 256) new

@@ -1,10 +1,6 @@
 -- The first fault of a far access.
 use Rattle.std.specs.Prelude.{ℕ, Bool, ◌&&◌, if◌then◌else◌, Option, Some}
-use Rattle.w16_model.specs.declared.FarFault.{FarFault}
-use Rattle.w16_model.specs.declared.FarFault.TheVariants.{ReadOnly}
-use Rattle.w16_model.specs.Far.{far_fault}
-use Rattle.w16_model.specs.Handles.{Handles}
-use Rattle.w16_model.specs.Owned.{refuses_write}
+use Rattle.w16_model.specs.{declared.FarFault.FarFault, declared.FarFault.TheVariants.ReadOnly, Far.far_fault, Handles.Handles, Owned.refuses_write}
 
 -- that of a read, or of a write, which code refuses with bytes or without
 abbrev pub access_fault : Handles → Bool → ℕ → ℕ → ℕ → Option FarFault

@@ -2,8 +2,7 @@
 use Rattle.std.specs.Prelude.{◌≡◌, ℕ, ◌+◌, ◌-◌, ◌<◌, ◌⊎◌, ◌==◌, true, false, if◌then◌else◌, List, option_map, unwrap_or, slice_index_or, Option, Some, None}
 use Rattle.w16_model.specs.declared.Attributes.{Attributes}
 use Rattle.w16_selectors.specs.Descriptors.{DescriptorTable, IsUntaken, descriptor_at}
-use Rattle.w16_global.specs.Joined.{kind_in, label_of}
-use Rattle.w16_global.specs.Runs.{is_in_run}
+use Rattle.w16_global.specs.{Joined.kind_in, Joined.label_of, Runs.is_in_run}
 
 -- how many slots an object has, by the attributes by slot
 abbrev pub slots_in : List (Option Attributes) → ℕ → ℕ

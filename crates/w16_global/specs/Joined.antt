@@ -1,25 +1,13 @@
 -- The objects, their attributes and their selectors together, and the handles that they stand for.
 use Rattle.std.specs.Prelude.{◌≡◌, ℕ, ◌-◌, ◌<◌, ◌≤◌, ◌==◌, Bool, false, ◌&&◌, ◌||◌, if◌then◌else◌, nat_le, nat_lt, List, length, IfSome, Option, Some, None, option_map, unwrap_or, slice_index_or, refl}
-use Rattle.std.specs.Coded.{Coded, code_by, coded×, coded_ℕ}
-use Rattle.std.specs.Ordering.{nat_cmp}
-use Rattle.std.specs.FinMap as finmap
-use Rattle.std.specs.FinMap.{FinMap}
-use Rattle.w16_model.specs.declared.Attributes.{Attributes}
-use Rattle.w16_model.specs.declared.Owned.{Owned}
+use Rattle.std.specs.{Coded.Coded, Coded.code_by, Coded.coded×, Coded.coded_ℕ, Ordering.nat_cmp, FinMap.FinMap}
 use Rattle.w16_model.specs.declared.TheConstants.{FIRST_SLOT, GRAIN, REACH, GMEM_MODIFY, GMEM_ZEROINIT}
-use Rattle.w16_model.specs.Calls.{global_size, has_flag, rounded_size}
-use Rattle.w16_model.specs.Codes.{handles_code}
-use Rattle.w16_model.specs.Heap.{Heap, Object, IsMultiple, object_at}
-use Rattle.w16_model.specs.Table.{by_id}
-use Rattle.w16_model.specs.Owned.{owned_in}
 use Rattle.w16_model.specs.Handles.{Handles, AreHandles, owner_of}
+use Rattle.w16_model.specs.{declared.Attributes.Attributes, declared.Owned.Owned, Calls.global_size, Calls.has_flag, Calls.rounded_size, Codes.handles_code, Heap.Heap, Heap.Object, Heap.IsMultiple, Heap.object_at, Table.by_id, Owned.owned_in}
+use Rattle.w16_selectors.specs.{Descriptors.descriptor_at, Descriptors.unset, declared.Descriptor.Descriptor, declared.SelKind.SelKind, declared.SelKind.TheVariants.Data, declared.SelKind.TheVariants.Code}
+use Rattle.w16_global.specs.{Parts.Holding, Runs.reaching}
+use Rattle.std.specs.FinMap as finmap
 use Rattle.w16_selectors.specs.Descriptors as selectors
-use Rattle.w16_selectors.specs.Descriptors.{descriptor_at, unset}
-use Rattle.w16_selectors.specs.declared.Descriptor.{Descriptor}
-use Rattle.w16_selectors.specs.declared.SelKind.{SelKind}
-use Rattle.w16_selectors.specs.declared.SelKind.TheVariants.{Data, Code}
-use Rattle.w16_global.specs.Parts.{Holding}
-use Rattle.w16_global.specs.Runs.{reaching}
 
 -- the attributes that a list by slot has
 abbrev pub attributes_in : List (Option Attributes) → FinMap nat_cmp Attributes

@@ -1,8 +1,6 @@
 -- Which object of a module's may be revived, and where there is no slot for a new one.
 use Rattle.std.specs.Prelude.{◌≡◌, ℕ, ◌/◌, true, Some, None}
-use Rattle.w16_model.specs.Handles.{Handles, IsFreeSlot, slot_of_handle}
-use Rattle.w16_model.specs.Heap.{bytes_at}
-use Rattle.w16_model.specs.Owned.{is_owned}
+use Rattle.w16_model.specs.{Handles.Handles, Handles.IsFreeSlot, Handles.slot_of_handle, Heap.bytes_at, Owned.is_owned}
 
 -- a handle names an object that a module owns and that has no bytes
 pub record LacksBytes (handles : Handles) (handle : ℕ) : Type 0 where

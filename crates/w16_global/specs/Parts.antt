@@ -1,10 +1,7 @@
 -- What the objects of the global heap are: an arena beside its memory, and the heap that they stand for.
 use Rattle.std.specs.Prelude.{◌≡◌, ℕ, ◌+◌, ◌<◌, ◌≤◌, List, length, All, IsSomeAnd, refl}
 use Rattle.std.specs.Coded.{Coded, code_by, coded×, coded_ℕ, coded_list}
-use Rattle.w16_model.specs.declared.TheConstants.{GRAIN}
-use Rattle.w16_model.specs.Codes.{heap_code}
-use Rattle.w16_model.specs.Heap.{Heap, bytes_at}
-use Rattle.w16_model.specs.Table.{IsSound, heap_in}
+use Rattle.w16_model.specs.{declared.TheConstants.GRAIN, Codes.heap_code, Heap.Heap, Heap.bytes_at, Table.IsSound, Table.heap_in}
 use Rattle.w16_holes.specs.Thread.{AreThreaded}
 use Rattle.w16_arena.specs.State.{ArenaState, holes_in}
 

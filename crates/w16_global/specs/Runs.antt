@@ -1,10 +1,8 @@
 -- What is done to the selectors of an object, slot by slot.
 use Rattle.std.specs.Prelude.{ℕ, ◌+◌, ◌-◌, ◌*◌, ◌&&◌, if◌then◌else◌, min, nat_le, nat_lt, Bool, true, Option, Some, None}
-use Rattle.w16_model.specs.declared.TheConstants.{REACH}
-use Rattle.w16_model.specs.Handles.{slots_for}
+use Rattle.w16_model.specs.{declared.TheConstants.REACH, Handles.slots_for}
 use Rattle.w16_selectors.specs.Descriptors.{DescriptorTable, descriptor_at, kind_at, number_at, unset}
-use Rattle.w16_selectors.specs.declared.Descriptor.{Descriptor}
-use Rattle.w16_selectors.specs.declared.SelKind.{SelKind}
+use Rattle.w16_selectors.specs.{declared.Descriptor.Descriptor, declared.SelKind.SelKind}
 
 -- whether a slot is in the run of so many that begins at another
 abbrev pub is_in_run : ℕ → ℕ → ℕ → Bool

@@ -1,7 +1,6 @@
 -- The last hole that begins below a place.
 use Rattle.w16_holes.proofs.Common.{ℕ, suc, ◌≡◌, ◌<◌, ◌≤◌, ◌-◌, inl, inr, List, [], ◌∷◌, Option, Some, unwrap_or, arith, refl, sym, ap, ◌∙◌, cases_lt, lt-ltb, le-ltb, eqb_tells, Span, AreHoles, IsFree, IsUsed, last_before, length_at}
-use Rattle.w16_holes.proofs.Thread.{last_cons, last_first}
-use Rattle.w16_holes.proofs.Cuts.{last_none, at_none}
+use Rattle.w16_holes.proofs.{Thread.last_cons, Thread.last_first, Cuts.last_none, Cuts.at_none}
 
 -- no hole begins in what meets none
 pub last_used : (a b lo hi : ℕ) (hs : List Span) → a < b → AreHoles lo hi hs → IsUsed a b hs → last_before b hs ≡ last_before a hs

@@ -1,7 +1,8 @@
 -- Holes cut where a part is taken or put: the holes below, those that change, and the holes above.
-use Rattle.w16_holes.proofs.Common.{ℕ, suc, ◌≡◌, ◌<◌, ◌≤◌, ◌-◌, ◌⊎◌, inl, inr, min, max, List, [], ◌∷◌, ◌++◌, Option, Some, None, unwrap_or, arith, refl, ap, ◌∙◌, eq-eqb, false, ◌==◌, cases_lt}
-use Rattle.w16_holes.proofs.Common.{lt-ltb, le-ltb, eqb_tells, Span, AreHoles, IsFree, IsUsed, taken, joined, add_span, last_before, length_at, length_to, no_hole, first_of, next_above}
-use Rattle.w16_holes.proofs.Thread.{last_cons, last_first}
+use Rattle.w16_holes.proofs
+use proofs.Common.{ℕ, suc, ◌≡◌, ◌<◌, ◌≤◌, ◌-◌, ◌⊎◌, inl, inr, min, max, List, [], ◌∷◌, ◌++◌, Option, Some, None, unwrap_or, arith, refl, ap, ◌∙◌, eq-eqb, false, ◌==◌, cases_lt, lt-ltb, le-ltb, eqb_tells, Span, AreHoles, IsFree, IsUsed, taken, joined, add_span, last_before, length_at}
+use proofs.Common.{length_to, no_hole, first_of, next_above}
+use proofs.Thread.{last_cons, last_first}
 
 -- none begins below a place before all
 pub last_none : (a lo hi : ℕ) (hs : List Span) → a ≤ lo → AreHoles lo hi hs → last_before a hs ≡ None

@@ -1,17 +1,18 @@
 -- What `take` and `put` of holes in their own bytes write, and what they look up there.
-use Rattle.w16_holes.proofs.Common.{ℕ, suc, ◌≡◌, ◌<◌, ◌≤◌, ◌+◌, ◌-◌, ◌^◌, inl, inr, List, [], ◌∷◌, ◌++◌, length, Option, Some, None, IfSome, ◌*◌, arith, refl, sym, ap, ◌∙◌, subst, cases_lt, lt-ltb, le-ltb}
-use Rattle.w16_holes.proofs.Common.{none-some, same_Some, mul_assoc, Span, IsMultiple, word_in, put_word, length-put_word, word_in-put_word, Range, AreHoles, IsFree, IsUsed, IsPlace, IsPart, AreSameOutside}
-use Rattle.w16_holes.proofs.Common.{taken, joined, add_span, last_before, length_at, length_to, HasRoom, HasWords, IsThread, AreThreaded, no_hole, first_of, next_above, put_words, put_hole, put_link, room}
-use Rattle.w16_holes.proofs.Units.{multiple_sum}
-use Rattle.w16_holes.proofs.Thread.{IsKept, kept_refl, kept_trans, kept_wider, kept_word, kept_word_in, kept_words, word_kept, thread_kept, thread_join, thread_front, thread_back, free_front, free_back, used_trans, used_kept, relink, link_kept, link_used, link_fits}
-use Rattle.w16_holes.proofs.Cuts.{IsTakenFrom, IsPutAt, HasHole, cut_taken, cut_put}
+use Rattle.w16_holes.proofs
+use proofs.Common as C
+use proofs.Common.{ℕ, suc, ◌≡◌, ◌<◌, ◌≤◌, ◌+◌, ◌-◌, ◌^◌, inl, inr, List, [], ◌∷◌, ◌++◌, length, Option, Some, None, IfSome, ◌*◌, arith, refl, sym, ap, ◌∙◌, subst, cases_lt, lt-ltb, le-ltb, Span, IsMultiple, word_in, put_word, word_in-put_word, Range, AreHoles, IsFree, AreSameOutside}
+use proofs.Common.{taken, joined, add_span, last_before, length_at, length_to, HasWords, IsThread, AreThreaded, no_hole, first_of, put_words, put_hole, put_link, room}
+use proofs.Units.{multiple_sum}
+use proofs.Thread.{IsKept, kept_refl, kept_trans, kept_wider, kept_word, kept_word_in, kept_words, word_kept, thread_kept, thread_join, thread_front, thread_back, free_front, free_back, used_trans, used_kept, relink, link_kept, link_used, link_fits}
+use proofs.Cuts.{IsTakenFrom, IsPutAt, HasHole, cut_taken, cut_put}
 
 -- a hole's words, just written
 words_put : (from to next : ℕ) (bytes : List ℕ) → IsMultiple 8 from → IsMultiple 8 to → from < to → to ≤ length bytes → next < 2 ^ 32 → to < 2 ^ 32
     → HasWords (record { from = from; to = to }) next (put_words bytes from (to - from) next)
 words_put from to next bytes low high some inside small top =
     let fits = room from to low high some in
-    let long = length-put_word bytes from (to - from) (omega arith) in
+    let long = C.length-put_word bytes from (to - from) (omega arith) in
     let kept = kept_words bytes from (to - from) next (omega arith) in
     let same = kept.long in
     record {
@@ -357,7 +358,7 @@ module _ (lo hi a b : ℕ) (hs : List Span) (bytes : List ℕ) (front : List Spa
 
 -- What the calls need, by the holes beside the memory.
 
-pub place_behind : (r : Range) (a n : ℕ) → IsPart r a n → IsPlace r (a + n)
+pub place_behind : (r : Range) (a n : ℕ) → C.IsPart r a n → C.IsPlace r (a + n)
 place_behind r a n part = let from = part.from in record {
   from = omega arith;
   to = part.to;
@@ -365,9 +366,9 @@ place_behind r a n part = let from = part.from in record {
 }
 
 pub multiple_of_8 : (g a : ℕ) → IsMultiple 8 g → IsMultiple g a → IsMultiple 8 a
-multiple_of_8 g a wide grained = (wide.0 * grained.0, grained.1 ∙ ap (λ (n : ℕ). n * grained.0) wide.1 ∙ mul_assoc 8 wide.0 grained.0)
+multiple_of_8 g a wide grained = (wide.0 * grained.0, grained.1 ∙ ap (λ (n : ℕ). n * grained.0) wide.1 ∙ C.mul_assoc 8 wide.0 grained.0)
 
-module _ (r : Range) (hs : List Span) (bytes : List ℕ) (a n : ℕ) (roomy : HasRoom r) (part : IsPart r a n) (holes : AreHoles r.lo r.hi hs) (thread : AreThreaded hs bytes) where
+module _ (r : Range) (hs : List Span) (bytes : List ℕ) (a n : ℕ) (roomy : C.HasRoom r) (part : C.IsPart r a n) (holes : AreHoles r.lo r.hi hs) (thread : AreThreaded hs bytes) where
   some : a < a + n
   some = let has = part.some in omega arith
 
@@ -382,11 +383,11 @@ module _ (r : Range) (hs : List Span) (bytes : List ℕ) (a n : ℕ) (roomy : Ha
     taken_cut = cut_taken r.lo r.hi a (a + n) hs some holes free_part
 
     pub take_there : None ≡ last_before (a + n) hs → ⊥
-    take_there is = let c = taken_cut in none-some c.1.from (is ∙ c.3.at)
+    take_there is = let c = taken_cut in C.none-some c.1.from (is ∙ c.3.at)
 
     module _ (begin : ℕ) (at : Some begin ≡ last_before (a + n) hs) where
       begin_is : begin ≡ taken_cut.1.from
-      begin_is = same_Some begin taken_cut.1.from (at ∙ taken_cut.3.at)
+      begin_is = C.same_Some begin taken_cut.1.from (at ∙ taken_cut.3.at)
 
       words : HasWords taken_cut.1 (first_of no_hole taken_cut.2) bytes
       words = let c = taken_cut in taken_words r.lo r.hi a (a + n) hs bytes c.0 c.1 c.2 c.3 some low_8 high_8 roomy.small thread
@@ -446,7 +447,7 @@ module _ (r : Range) (hs : List Span) (bytes : List ℕ) (a n : ℕ) (roomy : Ha
           subst (λ (l : List ℕ). AreThreaded (taken a (a + n) hs) l × AreSameOutside hs bytes l) (sym third)
           (taken_done r.lo r.hi a (a + n) hs bytes c.0 c.1 c.2 c.3 some low_8 high_8 roomy.small thread)
 
-  module _ (used_part : IsUsed a (a + n) hs) (inside : a + n ≤ length bytes) where
+  module _ (used_part : C.IsUsed a (a + n) hs) (inside : a + n ≤ length bytes) where
     abbrev put_at : (front : List Span) × (from to : ℕ) × (back joins : List Span) × IsPutAt r.lo r.hi a (a + n) hs front from to back joins
     put_at = cut_put r.lo r.hi a (a + n) hs some part.from part.to holes used_part
 
@@ -481,7 +482,7 @@ module _ (r : Range) (hs : List Span) (bytes : List ℕ) (a n : ℕ) (roomy : Ha
           | inr hole ↦ let w = put_wide in let i = put_inside in subst (λ (o : Option ℕ). IfSome o (λ (x : ℕ). x + 8 ≤ length bytes)) (sym hole.2) (omega arith)
         ]
 
-    pub put_all : (next end ending : ℕ) (tied left : List ℕ) → next ≡ next_above (a + n) hs → end ≡ length_at (a + n) hs → ending ≡ length_to a hs → tied ≡ put_link bytes (last_before a hs) (a - ending)
+    pub put_all : (next end ending : ℕ) (tied left : List ℕ) → next ≡ C.next_above (a + n) hs → end ≡ length_at (a + n) hs → ending ≡ length_to a hs → tied ≡ put_link bytes (last_before a hs) (a - ending)
         → left ≡ put_words tied (a - ending) (a + n + end - (a - ending)) next → AreThreaded (joined a (a + n) hs) left × AreSameOutside (joined a (a + n) hs) bytes left
     put_all next end ending tied left next_is end_is ending_is tied_is left_is =
         let c = put_at in

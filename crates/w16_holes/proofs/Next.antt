@@ -1,9 +1,9 @@
 -- The first hole behind a place, by the links of a thread.
-use Rattle.w16_holes.proofs.Common.{ℕ, suc, ◌≡◌, ◌<◌, ◌≤◌, ◌+◌, ◌⊎◌, inl, inr, List, [], ◌∷◌, length, Option, Some, None, unwrap_or, arith, refl, sym, ap, ◌∙◌, ◌-◌, le-leb, cases_lt}
-use Rattle.w16_holes.proofs.Common.{lt-ltb, le-ltb, eqb_tells, none-some, same_Some, Span, word_in, AreHoles, last_before, length_at, lowest, AreThreaded, no_hole, first_of, next_above}
-use Rattle.w16_holes.proofs.Common.{room}
-use Rattle.w16_holes.proofs.Thread.{last_cons, last_first}
-use Rattle.w16_holes.proofs.Cuts.{last_none, next_first, at_none}
+use Rattle.w16_holes.proofs
+use proofs.Common.{ℕ, suc, ◌≡◌, ◌<◌, ◌≤◌, ◌+◌, ◌⊎◌, inl, inr, List, [], ◌∷◌, length, Option, Some, None, unwrap_or, arith, refl, sym, ap, ◌∙◌, ◌-◌, le-leb, cases_lt, lt-ltb, le-ltb, eqb_tells, none-some, same_Some, Span, word_in, AreHoles, last_before, length_at, lowest, AreThreaded}
+use proofs.Common.{no_hole, first_of, next_above, room}
+use proofs.Thread.{last_cons, last_first}
+use proofs.Cuts.{last_none, next_first, at_none}
 
 -- a hole begins there
 pub next_at : (p lo hi : ℕ) (hs : List Span) (bytes : List ℕ) → AreHoles lo hi hs → AreThreaded hs bytes → 0 < length_at p hs → (p + 8 ≤ length bytes) × (word_in bytes (p + 4) ≡ next_above p hs)

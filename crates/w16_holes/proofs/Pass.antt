@@ -1,24 +1,23 @@
 -- The cells where a hole changed places with the used bytes behind it.
-use Rattle.w16_holes.proofs.Common.{ℕ, zero, suc, ◌≡◌, ◌<◌, ◌≤◌, ◌+◌, ◌-◌, ◌*◌, min, List, [], ◌∷◌, length, set, refl, sym, ap, ◌∙◌, subst, arith, inl, inr, cases_lt, lt-ltb, le-ltb, slice_index}
-use Rattle.w16_holes.proofs.Common.{get_or-set_other, get_or-set_same, length-set, set-get_or, set-set, length_at, ◌/◌, Span, Range, Free, IsFree, IsUsed, IsPart, taken, joined, slid_down, spans}
-use Rattle.w16_holes.proofs.Common.{AreCells}
-use Rattle.w16_holes.proofs.Units.{above, below, whole_units}
-use Rattle.w16_holes.proofs.Look.{at_is}
-use Rattle.w16_holes.proofs.Last.{last_here}
-use Rattle.w16_holes.proofs.Told.{IsTake, IsPut, used_cells, take_spans, put_spans}
-use Rattle.w16_holes.proofs.Steps.{AreCells-take, AreCells-put, AreHoles-cells, sets_apart}
-use Rattle.w16_holes.proofs.Passing.{free_less, used_put, used_mid}
+use Rattle.w16_holes.proofs
+use proofs.Common as C
+use proofs.Common.{ℕ, zero, suc, ◌≡◌, ◌<◌, ◌≤◌, ◌+◌, ◌-◌, ◌*◌, min, List, [], ◌∷◌, set, refl, sym, ap, ◌∙◌, subst, arith, inl, inr, cases_lt, slice_index, get_or-set_other, ◌/◌, Span, Range, Free, IsFree, IsUsed, IsPart, taken, slid_down, spans, AreCells}
+use proofs.Units.{above, below, whole_units}
+use proofs.Told.{IsTake, IsPut, used_cells, take_spans, put_spans}
+use proofs.Steps.{AreCells-take, AreCells-put, AreHoles-cells, sets_apart}
+use proofs.Passing.{free_less, used_put, used_mid}
+use proofs.{Look.at_is, Last.last_here}
 
 -- the bytes of a cell's hole are free
 cell_free : (g : ℕ) (ns : List ℕ) (u j : ℕ) → 0 < slice_index ns j → IsFree (u + g * j) (u + g * j + slice_index ns j) (spans g u ns)
 cell_free g [] u j some = absurd (omega arith)
-cell_free g (n ∷ ns) u zero some = rw (lt-ltb u (u + n) (omega arith)) (inl (omega arith, omega arith))
+cell_free g (n ∷ ns) u zero some = rw (C.lt-ltb u (u + n) (omega arith)) (inl (omega arith, omega arith))
 cell_free g (n ∷ ns) u (suc j) some =
     let e : u + g + g * j ≡ u + g * suc j = omega arith in
     let rest = subst (λ (a : ℕ). IsFree a (a + slice_index ns j) (spans g (u + g) ns)) e (cell_free g ns (u + g) j some) in
     elim (cases_lt u (u + n)) [
-      | inl lt ↦ rw (lt-ltb u (u + n) lt) (inr rest)
-      | inr le ↦ rw (le-ltb u (u + n) le) rest
+      | inl lt ↦ rw (C.lt-ltb u (u + n) lt) (inr rest)
+      | inr le ↦ rw (C.le-ltb u (u + n) le) rest
     ]
 
 -- The hole begins in cell p and ends where cell m begins; n used bytes behind it end where cell e does, and would end in front of cell w.
@@ -66,8 +65,8 @@ module _ (r : Range) (ns : List ℕ) (cells : AreCells r ns) (from to n p m w e 
     spans_are : spans g r.lo passed ≡ slid_down from to n hs
     spans_are =
         let few : apart ≤ n = omega (arith, least) in
-        ap (spans g r.lo) (sym cells_are) ∙ put_spans put ∙ ap (joined (from + n - apart) (from + n - apart + apart)) taken_is
-        ∙ (λ i. joined (from + n - least i) ((let x : from + n - apart + apart ≡ from + n = omega (arith, few) in x) i) (taken to (to + least i) hs))
+        ap (spans g r.lo) (sym cells_are) ∙ put_spans put ∙ ap (C.joined (from + n - apart) (from + n - apart + apart)) taken_is
+        ∙ (λ i. C.joined (from + n - least i) ((let x : from + n - apart + apart ≡ from + n = omega (arith, few) in x) i) (taken to (to + least i) hs))
 
     are : AreCells r passed
     are = subst (AreCells r) cells_are (AreCells-put r one (from + n - apart) (from + n - apart + apart) q e cells_one w put)
@@ -84,7 +83,7 @@ module _ (r : Range) (ns : List ℕ) (cells : AreCells r ns) (from to n p m w e 
       let none : slice_index ns m ≡ 0 = elim (cases_lt 0 (slice_index ns m)) [ inl has ↦ (let x = cells.apart.apart p m hole p_m has in absurd (omega (arith, x, at, begins, whole, down))) | inr past ↦ omega (arith, past) ] in
       let one_is : set (set ns p (g * p - g * p)) m (g * p + slice_index ns p - g * m) ≡ set ns p 0 =
       (let x : g * p - g * p ≡ 0 = omega arith in let y : g * p + slice_index ns p - g * m ≡ slice_index (set ns p 0) m = (let z = get_or-set_other ns p m 0 0 (λ q. omega (arith, q, p_m)) in omega (arith, z, none, at, begins, whole, down)) in
-      (λ i. set (set ns p (x i)) m (g * p + slice_index ns p - g * m)) ∙ ap (set (set ns p 0) m) y ∙ set-get_or (set ns p 0) m 0) in
+      (λ i. set (set ns p (x i)) m (g * p + slice_index ns p - g * m)) ∙ ap (set (set ns p 0) m) y ∙ C.set-get_or (set ns p 0) m 0) in
       let spans_one : spans g r.lo (set ns p 0) ≡ taken to (to + l) hs = ap (spans g r.lo) (sym one_is) ∙ take_spans t p (last_here ns p hole) ∙ ap (λ b. taken to b hs) (let x : from ≡ to + l = omega (arith, down) in x) in
       let cells_one : AreCells r (set ns p 0) = subst (AreCells r) one_is (AreCells-take r ns to from p m cells t p (last_here ns p hole)) in
       let there = AreHoles-cells r ns cells in
@@ -119,7 +118,7 @@ module _ (r : Range) (ns : List ℕ) (cells : AreCells r ns) (from to n p m w e 
       (let x : g * p - g * p ≡ 0 = omega arith in let y : g * p + slice_index ns p - g * w ≡ l - n = omega (arith, at, front, whole) in λ i. set (set ns p (x i)) w (y i)) in
       let spans_one : spans g r.lo (set (set ns p 0) w (l - n)) ≡ taken to (to + n) hs = ap (spans g r.lo) (sym one_is) ∙ take_spans t p (last_here ns p hole) in
       let cells_one : AreCells r (set (set ns p 0) w (l - n)) = subst (AreCells r) one_is (AreCells-take r ns to (to + n) p w cells t p (last_here ns p hole)) in
-      let left : slice_index (set (set ns p 0) w (l - n)) w ≡ l - n = get_or-set_same (set ns p 0) w (l - n) 0 (let b = cells.long in let c = new.to in let low = new.from in subst (λ k. w < k) (sym (length-set ns p 0)) (below g w (length ns) (omega (arith, b, c, low, front)))) in
+      let left : slice_index (set (set ns p 0) w (l - n)) w ≡ l - n = C.get_or-set_same (set ns p 0) w (l - n) 0 (let b = cells.long in let c = new.to in let low = new.from in subst (λ k. w < k) (sym (C.length-set ns p 0)) (below g w (C.length ns) (omega (arith, b, c, low, front)))) in
       let there = AreHoles-cells r ns cells in
       let put : IsPut g r.lo (r.hi - r.lo) (set (set ns p 0) w (l - n)) (from + n - n) (from + n - n + n) m e w = record {
         wide = cells.some;
@@ -134,7 +133,7 @@ module _ (r : Range) (ns : List ℕ) (cells : AreCells r ns) (from to n p m w e 
         begin = inl (below g w m (omega (arith, front, begins, lt)), omega (arith, left, lt), omega (arith, left, front, begins, lt));
       } in
       let same : slice_index (set (set ns p 0) w (l - n)) e ≡ slice_index ns e = get_or-set_other (set ns p 0) w e (l - n) 0 (λ q. omega (arith, q, w_e)) ∙ get_or-set_other ns p e 0 0 (λ q. omega (arith, q, p_w, w_e)) in
-      let list : set (set (set (set ns p 0) w (l - n)) e 0) w v ≡ set (set (set ns p 0) e 0) w v = ap (λ xs. set xs w v) (sets_apart (set ns p 0) w e (l - n) 0 (λ q. omega (arith, q, w_e))) ∙ set-set (set (set ns p 0) e 0) w (l - n) v in
+      let list : set (set (set (set ns p 0) w (l - n)) e 0) w v ≡ set (set (set ns p 0) e 0) w v = ap (λ xs. set xs w v) (sets_apart (set ns p 0) w e (l - n) 0 (λ q. omega (arith, q, w_e))) ∙ C.set-set (set (set ns p 0) e 0) w (l - n) v in
       (spans_are n least (set (set ns p 0) w (l - n)) cells_one spans_one m put same list, are n least (set (set ns p 0) w (l - n)) cells_one spans_one m put same list)
     where
       less : IsFree to (to + n) hs
@@ -145,13 +144,13 @@ module _ (r : Range) (ns : List ℕ) (cells : AreCells r ns) (from to n p m w e 
 
 -- the same of holes that callers know as a value
 module _ (r : Range) (ns : List ℕ) (now : Free) (is : record { range = r; holes = spans r.grain r.lo ns } ≡ now) (cells : AreCells r ns) (from to n p w e : ℕ) (at : r.grain * p ≡ to - r.lo) (front : r.grain * w ≡ to + n - r.lo) (ends : r.grain * e ≡ from + n - r.lo)
-    (down : to < from) (whole : length_at to now.holes ≡ from - to) (new : IsPart now.range to n) (old : IsPart now.range from n) (used : IsUsed from (from + n) now.holes) where
+    (down : to < from) (whole : C.length_at to now.holes ≡ from - to) (new : IsPart now.range to n) (old : IsPart now.range from n) (used : IsUsed from (from + n) now.holes) where
   pub passes_so : (spans r.grain r.lo (set (set (set ns w (from - to + slice_index ns e)) p 0) e 0) ≡ slid_down from to n now.holes) × AreCells r (set (set (set ns w (from - to + slice_index ns e)) p 0) e 0)
   passes_so =
       let new_now : IsPart r to n = subst (λ (f : Free). IsPart f.range to n) (sym is) new in
       let old_now : IsPart r from n = subst (λ (f : Free). IsPart f.range from n) (sym is) old in
       let low = new_now.from in let place : r.lo + r.grain * p ≡ to = omega (arith, at, low) in
       let m = (from - r.lo) / r.grain in let m_is = whole_units r.grain r.lo from cells.some (omega (arith, low, down)) cells.from old_now.grained in
-      let here : slice_index ns p ≡ from - to = at_is r.grain cells.some ns r.lo p to place ∙ subst (λ (f : Free). length_at to f.holes ≡ from - to) (sym is) whole in
+      let here : slice_index ns p ≡ from - to = at_is r.grain cells.some ns r.lo p to place ∙ subst (λ (f : Free). C.length_at to f.holes ≡ from - to) (sym is) whole in
       let done = passes r ns cells from to n p m w e place (omega (arith, m_is, low, down)) (omega (arith, front, low)) (omega (arith, ends, low, down)) down here new_now old_now (subst (λ (f : Free). IsUsed from (from + n) f.holes) (sym is) used) in
       (done.0 ∙ ap (λ (f : Free). slid_down from to n f.holes) is, done.1)

@@ -1,8 +1,7 @@
 -- Used bytes that slide down over free ones: what is taken was free, what is put was used, and the bytes come along.
-use Rattle.w16_holes.proofs.Common.{ℕ, suc, ◌≡◌, ◌<◌, ◌≤◌, ◌+◌, ◌-◌, ◌⊎◌, max, min, List, [], ◌∷◌, length, sym, subst, arith, inl, inr, cases_lt, lt-ltb, le-ltb, Span, put_part, part, IsMultiple, Range, AreHoles, IsFree, IsUsed, IsPart, AreSameIn, AreSameOutside, AreSameBut, add_span, taken, joined}
-use Rattle.w16_holes.proofs.Units.{multiple_sum, multiple_less}
-use Rattle.w16_holes.proofs.Sets.{AreHoles-taken, here_or_rest}
-use Rattle.w16_holes.proofs.Slid.{free_stays, come_along, others_stay}
+use Rattle.w16_holes.proofs
+use proofs.Common.{ℕ, suc, ◌≡◌, ◌<◌, ◌≤◌, ◌+◌, ◌-◌, ◌⊎◌, max, min, List, [], ◌∷◌, length, sym, subst, arith, inl, inr, cases_lt, lt-ltb, le-ltb, Span, put_part, part, IsMultiple, Range, AreHoles, IsFree, IsUsed, IsPart, AreSameIn, AreSameOutside, AreSameBut, add_span, taken, joined}
+use proofs.{Units.multiple_sum, Units.multiple_less, Sets.AreHoles-taken, Sets.here_or_rest, Slid.free_stays, Slid.come_along, Slid.others_stay}
 
 pub free_less : (a b c : ℕ) (hs : List Span) → b ≤ c → IsFree a c hs → IsFree a b hs
 free_less a b c [] le free = absurd free

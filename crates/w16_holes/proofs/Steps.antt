@@ -1,7 +1,8 @@
 -- The cells of a range after a part was taken or put.
-use Rattle.w16_holes.proofs.Common.{ℕ, zero, suc, [], ◌∷◌, refl, ◌≡◌, ◌<◌, ◌+◌, ◌*◌, ◌-◌, List, set, Some, arith, sym, ap, ◌∙◌, subst, slice_index, length-set, last_below, Range, Free, AreHoles, IsPart, IsFree, IsUsed, spans, LAST_END, AreCells, IsApart, IsInside, IsBeginOf}
-use Rattle.w16_holes.proofs.Told.{IsTake, IsPut, take_apart, take_kept, put_apart, put_kept}
-use Rattle.w16_holes.proofs.Look.{are_holes}
+use Rattle.w16_holes.proofs
+use proofs.Common.{ℕ, zero, suc, [], ◌∷◌, refl, ◌≡◌, ◌<◌, ◌+◌, ◌*◌, ◌-◌, List, set, Some, arith, sym, ap, ◌∙◌, subst, slice_index, length-set, last_below, Range, Free, AreHoles, IsPart, IsFree, IsUsed, spans, LAST_END, AreCells, IsApart, IsInside, IsBeginOf}
+use proofs.Told.{IsTake, IsPut, take_apart, take_kept, put_apart, put_kept}
+use proofs.Look.{are_holes}
 
 pub AreHoles-cells : (r : Range) (ns : List ℕ) → AreCells r ns → AreHoles r.lo r.hi (spans r.grain r.lo ns)
 AreHoles-cells r ns cells = are_holes r.grain ns r.lo r.hi cells.ordered cells.apart cells.inside

@@ -1,12 +1,13 @@
 -- A thread through bytes: what a word written elsewhere leaves of it, threads cut and appended, and the last hole linked anew.
-use Rattle.w16_holes.proofs.Common.{ℕ, suc, ◌≡◌, ◌<◌, ◌≤◌, ◌+◌, ◌^◌, ◌⊎◌, inl, inr, List, [], ◌∷◌, ◌++◌, length, Option, Some, None, unwrap_or, IfSome, arith, refl, sym, ap, ◌∙◌, subst, lt-ltb, Span, IsSameOutside, take_lower, drop_higher, part_below}
-use Rattle.w16_holes.proofs.Common.{part_above, word_in, put_word, length-put_word, word_in-put_word, word_in-same, IsSameOutside-put_word, AreHoles, IsFree, AreSameOutside, last_before, HasWords, IsThread, first_of, put_words, put_link, room}
-use Rattle.w16_holes.proofs.Write.{apart}
+use Rattle.w16_holes.proofs
+use proofs.Common as C
+use proofs.Common.{ℕ, suc, ◌≡◌, ◌<◌, ◌≤◌, ◌+◌, ◌^◌, ◌⊎◌, inl, inr, List, [], ◌∷◌, ◌++◌, length, Option, Some, None, arith, refl, sym, ap, ◌∙◌, subst, Span, put_word, length-put_word, AreHoles, IsFree, AreSameOutside, last_before, HasWords, IsThread, first_of, put_link, room}
+use proofs.Write.{apart}
 
 -- bytes that stay outside [x, y)
 pub record IsKept (x y : ℕ) (old new : List ℕ) : Type 0 where
   pub long : length new ≡ length old
-  pub outside : IsSameOutside x y old new
+  pub outside : C.IsSameOutside x y old new
 
 pub kept_refl : (x y : ℕ) (bytes : List ℕ) → IsKept x y bytes bytes
 kept_refl x y bytes = record { long = refl; outside = record { below = refl; above = refl } }
@@ -20,26 +21,26 @@ kept_trans x y one two three first second = record {
 pub kept_wider : (x y u v : ℕ) (old new : List ℕ) → u ≤ x → y ≤ v → IsKept x y old new → IsKept u v old new
 kept_wider x y u v old new low high kept = record {
   long = kept.long;
-  outside = record { below = take_lower new old u x low kept.outside.below; above = drop_higher new old y v high kept.outside.above };
+  outside = record { below = C.take_lower new old u x low kept.outside.below; above = C.drop_higher new old y v high kept.outside.above };
 }
 
 pub kept_word : (bytes : List ℕ) (at value : ℕ) → at + 4 ≤ length bytes → IsKept at (at + 4) bytes (put_word bytes at value)
-kept_word bytes at value le = record { long = length-put_word bytes at value le; outside = IsSameOutside-put_word bytes at value le }
+kept_word bytes at value le = record { long = length-put_word bytes at value le; outside = C.IsSameOutside-put_word bytes at value le }
 
 -- a word written in [x, y)
 pub kept_word_in : (x y : ℕ) (bytes : List ℕ) (at value : ℕ) → x ≤ at → at + 4 ≤ y → at + 4 ≤ length bytes → IsKept x y bytes (put_word bytes at value)
 kept_word_in x y bytes at value low high le = kept_wider at (at + 4) x y bytes (put_word bytes at value) low high (kept_word bytes at value le)
 
-pub kept_words : (bytes : List ℕ) (at size next : ℕ) → at + 8 ≤ length bytes → IsKept at (at + 8) bytes (put_words bytes at size next)
+pub kept_words : (bytes : List ℕ) (at size next : ℕ) → at + 8 ≤ length bytes → IsKept at (at + 8) bytes (C.put_words bytes at size next)
 kept_words bytes at size next le =
     let long = length-put_word bytes at size (omega arith) in
-    kept_trans at (at + 8) bytes (put_word bytes at size) (put_words bytes at size next)
+    kept_trans at (at + 8) bytes (put_word bytes at size) (C.put_words bytes at size next)
     (kept_word_in at (at + 8) bytes at size (omega arith) (omega arith) (omega arith))
     (kept_word_in at (at + 8) (put_word bytes at size) (at + 4) next (omega arith) (omega arith) (omega arith))
 
-pub word_kept : (x y : ℕ) (old new : List ℕ) (at : ℕ) → IsKept x y old new → (at + 4 ≤ x) ⊎ (y ≤ at) → word_in new at ≡ word_in old at
-word_kept x y old new at kept (inl below) = word_in-same old new at (part_below new old at 4 x below kept.outside.below)
-word_kept x y old new at kept (inr above) = word_in-same old new at (part_above new old at 4 y above kept.outside.above)
+pub word_kept : (x y : ℕ) (old new : List ℕ) (at : ℕ) → IsKept x y old new → (at + 4 ≤ x) ⊎ (y ≤ at) → C.word_in new at ≡ C.word_in old at
+word_kept x y old new at kept (inl below) = C.word_in-same old new at (C.part_below new old at 4 x below kept.outside.below)
+word_kept x y old new at kept (inr above) = C.word_in-same old new at (C.part_above new old at 4 y above kept.outside.above)
 
 pub words_kept : (h : Span) (next x y : ℕ) (old new : List ℕ) → IsKept x y old new → (h.to ≤ x) ⊎ (y ≤ h.from) → HasWords h next old → HasWords h next new
 words_kept h next x y old new kept beside words =
@@ -127,8 +128,8 @@ pub used_kept : (x y : ℕ) (hs : List Span) (old new : List ℕ) → IsFree x y
 used_kept x y hs old new free kept = record {
   long = kept.long;
   same = λ at n used. elim (apart x y at (at + n) hs free used) [
-    | inl above ↦ part_above new old at n y above kept.outside.above
-    | inr below ↦ part_below new old at n x below kept.outside.below
+    | inl above ↦ C.part_above new old at n y above kept.outside.above
+    | inr below ↦ C.part_below new old at n x below kept.outside.below
   ];
 }
 
@@ -143,10 +144,10 @@ pub record IsLast (lo hi : ℕ) (hs : List Span) (bytes : List ℕ) (x : ℕ) : 
   pub free : IsFree x (x + 8) hs
 
 pub last_cons : (a x : ℕ) (h : Span) (hs : List Span) → h.from < a → last_before a hs ≡ Some x → last_before a (h ∷ hs) ≡ Some x
-last_cons a x h hs lt is = rw (lt-ltb h.from a lt) (ap (λ (o : Option ℕ). Some (unwrap_or o h.from)) is)
+last_cons a x h hs lt is = rw (C.lt-ltb h.from a lt) (ap (λ (o : Option ℕ). Some (C.unwrap_or o h.from)) is)
 
 pub last_first : (a : ℕ) (h : Span) (hs : List Span) → h.from < a → last_before a hs ≡ None → last_before a (h ∷ hs) ≡ Some h.from
-last_first a h hs lt is = rw (lt-ltb h.from a lt) (ap (λ (o : Option ℕ). Some (unwrap_or o h.from)) is)
+last_first a h hs lt is = rw (C.lt-ltb h.from a lt) (ap (λ (o : Option ℕ). Some (C.unwrap_or o h.from)) is)
 
 last_of : (last lo hi : ℕ) (h : Span) (hs : List Span) (bytes : List ℕ) → AreHoles lo hi (h ∷ hs) → IsThread last (h ∷ hs) bytes → (x : ℕ) × IsLast lo hi (h ∷ hs) bytes x
 last_of last lo hi h [] bytes holes thread =
@@ -179,7 +180,7 @@ relink old new lo hi (h ∷ []) bytes small holes thread =
         some = words.some;
         inside = omega arith;
         size = word_kept (h.from + 4) (h.from + 4 + 4) bytes (put_word bytes (h.from + 4) new) h.from (kept_word bytes (h.from + 4) new (omega arith)) (inl (omega arith)) ∙ words.size;
-        link = word_in-put_word bytes (h.from + 4) new (omega arith) small;
+        link = C.word_in-put_word bytes (h.from + 4) new (omega arith) small;
       },
       tt,
     )
@@ -215,8 +216,8 @@ link_used last value lo hi (h ∷ hs) all bytes among holes thread =
     subst (λ (o : Option ℕ). AreSameOutside all bytes (put_link bytes o value)) (sym l.1.is) (used_kept (l.0 + 4) (l.0 + 4 + 4) all bytes (put_word bytes (l.0 + 4) value) word (kept_word bytes (l.0 + 4) value (omega arith)))
 
 -- there is room for its link
-pub link_fits : (last lo hi : ℕ) (hs : List Span) (bytes : List ℕ) → AreHoles lo hi hs → IsThread last hs bytes → IfSome (last_before hi hs) (λ (x : ℕ). x + 8 ≤ length bytes)
+pub link_fits : (last lo hi : ℕ) (hs : List Span) (bytes : List ℕ) → AreHoles lo hi hs → IsThread last hs bytes → C.IfSome (last_before hi hs) (λ (x : ℕ). x + 8 ≤ length bytes)
 link_fits last lo hi [] bytes holes thread = tt
 link_fits last lo hi (h ∷ hs) bytes holes thread =
     let l = last_of last lo hi h hs bytes holes thread in
-    subst (λ (o : Option ℕ). IfSome o (λ (x : ℕ). x + 8 ≤ length bytes)) (sym l.1.is) l.1.inside
+    subst (λ (o : Option ℕ). C.IfSome o (λ (x : ℕ). x + 8 ≤ length bytes)) (sym l.1.is) l.1.inside

@@ -1,16 +1,17 @@
 -- What the list of holes tells of the cells.
-use Rattle.w16_holes.proofs.Common.{ℕ, zero, suc, ◌≡◌, ◌<◌, ◌≤◌, ◌+◌, ◌*◌, ◌-◌, ◌^◌, ◌⊎◌, List, [], ◌∷◌, length, set, replicate, Option, Some, None, arith, refl, sym, ap, ◌∙◌, subst, inl, inr, slice_index, cases_lt, lt-ltb, le-ltb}
-use Rattle.w16_holes.proofs.Common.{get_or-set_same, get_or-set_other, length-set, length-replicate, set-get_or, IsMultiple, last_below, Range, add_span, taken, joined, IsFree, IsUsed, spans, IsApart, IsInside, LAST_END, AreCells}
-use Rattle.w16_holes.proofs.Common.{IsBeginOf}
-use Rattle.w16_holes.proofs.Units.{up, above, below, at_most}
-use Rattle.w16_holes.proofs.Change.{IsApart-set, IsInside-set, taken_end, taken_inside, joined_is}
+use Rattle.w16_holes.proofs
+use proofs.Common as C
+use proofs.Common.{ℕ, zero, suc, ◌≡◌, ◌<◌, ◌≤◌, ◌+◌, ◌*◌, ◌-◌, ◌^◌, ◌⊎◌, List, [], ◌∷◌, length, set, replicate, Some, None, arith, refl, sym, ap, ◌∙◌, subst, inl, inr, slice_index, cases_lt, lt-ltb, le-ltb, get_or-set_other, length-set, last_below, Range, taken, joined, spans, IsApart}
+use proofs.Common.{IsInside, IsBeginOf}
+use proofs.Units.{up, above, below, at_most}
+use proofs.Change.{IsApart-set, IsInside-set, taken_end, taken_inside, joined_is}
 
 -- what `last_below` answers
-abbrev pub IsLastOf : List ℕ → ℕ → Option ℕ → Type 0
+abbrev pub IsLastOf : List ℕ → ℕ → C.Option ℕ → Type 0
 IsLastOf ns i (Some k) = (k < i) × (0 < slice_index ns k) × ((j : ℕ) → k < j → j < i → slice_index ns j ≡ 0)
 IsLastOf ns i None = (j : ℕ) → j < i → slice_index ns j ≡ 0
 
-last_more : (ns : List ℕ) (i : ℕ) (r : Option ℕ) → slice_index ns i ≡ 0 → IsLastOf ns i r → IsLastOf ns (suc i) r
+last_more : (ns : List ℕ) (i : ℕ) (r : C.Option ℕ) → slice_index ns i ≡ 0 → IsLastOf ns i r → IsLastOf ns (suc i) r
 last_more ns i (Some k) z is = let lt = is.0 in (
   omega arith,
   is.1,
@@ -42,7 +43,7 @@ IsInside-wide g size top ns le inside = record {
 }
 
 -- the cell of a hole
-free_cell : (g : ℕ) (ns : List ℕ) (u a b : ℕ) → a < b → IsFree a b (spans g u ns) → (k : ℕ) × (u + g * k ≤ a) × (b ≤ u + g * k + slice_index ns k)
+free_cell : (g : ℕ) (ns : List ℕ) (u a b : ℕ) → a < b → C.IsFree a b (spans g u ns) → (k : ℕ) × (u + g * k ≤ a) × (b ≤ u + g * k + slice_index ns k)
 free_cell g [] u a b some free = absurd free
 free_cell g (m ∷ ms) u a b some free = elim (cases_lt u (u + m)) [
   | inl lt ↦ elim (rw (lt-ltb u (u + m) lt) at free) [
@@ -52,7 +53,7 @@ free_cell g (m ∷ ms) u a b some free = elim (cases_lt u (u + m)) [
   | inr le ↦ let r = free_cell g ms (u + g) a b some (rw (le-ltb u (u + m) le) at free) in let from = r.1 in let to = r.2 in (suc r.0, omega arith, omega arith)
 ]
 
-pub used_cells : (g : ℕ) (ns : List ℕ) (u a b : ℕ) → IsUsed a b (spans g u ns) → (j : ℕ) → 0 < slice_index ns j → (u + g * j + slice_index ns j ≤ a) ⊎ (b ≤ u + g * j)
+pub used_cells : (g : ℕ) (ns : List ℕ) (u a b : ℕ) → C.IsUsed a b (spans g u ns) → (j : ℕ) → 0 < slice_index ns j → (u + g * j + slice_index ns j ≤ a) ⊎ (b ≤ u + g * j)
 used_cells g [] u a b used j some = absurd (omega arith)
 used_cells g (m ∷ ms) u a b used zero some =
     let here = rw (lt-ltb u (u + m) (omega arith)) at used in
@@ -117,7 +118,7 @@ pub record IsTake (g u size : ℕ) (ns : List ℕ) (a b p q : ℕ) : Type 0 wher
   pub at : u + g * p ≡ a
   pub end : u + g * q ≡ b
   pub some : a < b
-  pub free : IsFree a b (spans g u ns)
+  pub free : C.IsFree a b (spans g u ns)
 
 module _ {g u size : ℕ} {ns : List ℕ} {a b p q : ℕ} (t : IsTake g u size ns a b p q) where
   free_from : (k : ℕ) → u + g * k ≤ a → k < p + 1
@@ -188,7 +189,7 @@ module _ {g u size : ℕ} {ns : List ℕ} {a b p q : ℕ} (t : IsTake g u size n
         let less = k_below_q in
         let z : slice_index (set ns k (g * p - g * k)) q ≡ 0 = get_or-set_other ns k q (g * p - g * k) 0 (omega arith) ∙ end_off e in
         let f : g * k + slice_index ns k - g * q ≡ slice_index (set ns k (g * p - g * k)) q = omega arith in
-        ap (set (set ns k (g * p - g * k)) q) f ∙ set-get_or (set ns k (g * p - g * k)) q 0
+        ap (set (set ns k (g * p - g * k)) q) f ∙ C.set-get_or (set ns k (g * p - g * k)) q 0
 
     pub take_spans : spans g u (set (set ns k (g * p - g * k)) q (g * k + slice_index ns k - g * q)) ≡ taken a b (spans g u ns)
     take_spans =
@@ -202,7 +203,7 @@ module _ {g u size : ℕ} {ns : List ℕ} {a b p q : ℕ} (t : IsTake g u size n
         let from = take_from in let to = take_to in let positive = told.1 in let less = k_below_q in
         let wide_enough = length-set ns k (g * p - g * k) in
         let next = take_next in
-        let here = get_or-set_same ns k (g * p - g * k) 0 take_lt in
+        let here = C.get_or-set_same ns k (g * p - g * k) 0 take_lt in
         IsApart-set g (set ns k (g * p - g * k)) q (g * k + slice_index ns k - g * q) (omega arith) shorter
         (λ has j lt other. elim (cases_lt j k) [
           | inl before ↦ let e = get_or-set_other ns k j (g * p - g * k) 0 (omega arith) in let r = t.apart.apart j k (omega arith) before positive in omega arith
@@ -231,7 +232,7 @@ pub record IsPut (g u size : ℕ) (ns : List ℕ) (a b p q k : ℕ) : Type 0 whe
   pub end : u + g * q ≡ b
   pub some : a < b
   pub last : g * q ≤ size
-  pub used : IsUsed a b (spans g u ns)
+  pub used : C.IsUsed a b (spans g u ns)
   pub begin : IsBeginOf g p ns k
 
 module _ {g u size : ℕ} {ns : List ℕ} {a b p q k : ℕ} (t : IsPut g u size ns a b p q k) where
@@ -321,7 +322,7 @@ module _ {g u size : ℕ} {ns : List ℕ} {a b p q k : ℕ} (t : IsPut g u size 
 
   behind : (j : ℕ) → k < j → 0 < slice_index (set ns q 0) j → g * q + slice_index ns q < g * j
   behind j lt has =
-      let zero_there = get_or-set_same ns q 0 0 put_next in
+      let zero_there = C.get_or-set_same ns q 0 0 put_next in
       elim (cases_lt j q) [
         | inl before ↦ let e = get_or-set_other ns q j 0 0 (omega arith) in let z = between j lt before in absurd (omega arith)
         | inr from ↦ elim (cases_lt q j) [
@@ -359,14 +360,14 @@ spans_zeros g zero u = refl
 spans_zeros g (suc n) u = let e : u + 0 ≡ u = omega arith in rw (e, le-ltb u u (omega arith)) (spans_zeros g n (u + g))
 
 -- one hole, in the first cell
-pub spans_one : (g n u m : ℕ) → spans g u (set (replicate (n + 1) 0) 0 m) ≡ add_span u (u + m) []
-spans_one g n u m = let e : n + 1 ≡ suc n = omega arith in rw e (ap (add_span u (u + m)) (spans_zeros g n (u + g)))
+pub spans_one : (g n u m : ℕ) → spans g u (set (replicate (n + 1) 0) 0 m) ≡ C.add_span u (u + m) []
+spans_one g n u m = let e : n + 1 ≡ suc n = omega arith in rw e (ap (C.add_span u (u + m)) (spans_zeros g n (u + g)))
 
 -- the cells of a range that is one hole
-pub AreCells-one : (r : Range) (n : ℕ) → 0 < r.grain → IsMultiple r.grain r.lo → r.lo ≤ r.hi → r.hi < 2 ^ 32 → r.hi - r.lo < r.grain * (n + 1) → LAST_END - r.lo < r.grain * (n + 1) → AreCells r (set (replicate (n + 1) 0) 0 (r.hi - r.lo))
+pub AreCells-one : (r : Range) (n : ℕ) → 0 < r.grain → C.IsMultiple r.grain r.lo → r.lo ≤ r.hi → r.hi < 2 ^ 32 → r.hi - r.lo < r.grain * (n + 1) → C.LAST_END - r.lo < r.grain * (n + 1) → C.AreCells r (set (replicate (n + 1) 0) 0 (r.hi - r.lo))
 AreCells-one r n some from ordered small long reserved =
     let zeros : List ℕ = replicate (n + 1) 0 in
-    let all : length zeros ≡ n + 1 = length-replicate (n + 1) 0 in
+    let all : length zeros ≡ n + 1 = C.length-replicate (n + 1) 0 in
     let same = length-set zeros 0 (r.hi - r.lo) in
     let none : (j : ℕ) → slice_index zeros j ≡ 0 = get_or-replicate_zero (n + 1) in
     record {
@@ -375,7 +376,7 @@ AreCells-one r n some from ordered small long reserved =
       ordered = ordered;
       small = small;
       long = subst (λ (m : ℕ). r.hi - r.lo < r.grain * m) (sym (same ∙ all)) long;
-      reserved = subst (λ (m : ℕ). LAST_END - r.lo < r.grain * m) (sym (same ∙ all)) reserved;
+      reserved = subst (λ (m : ℕ). C.LAST_END - r.lo < r.grain * m) (sym (same ∙ all)) reserved;
       apart = IsApart-set r.grain zeros 0 (r.hi - r.lo) (omega arith) (record { apart = λ k j has. let z = none k in absurd (omega arith) }) (λ has j lt. absurd (omega arith)) (λ has j lt other. let z = none j in absurd (omega arith));
       inside = IsInside-set r.grain zeros 0 (r.hi - r.lo) (omega arith) (r.hi - r.lo) (record { inside = λ k has. let z = none k in absurd (omega arith) }) (λ has. omega arith);
     }

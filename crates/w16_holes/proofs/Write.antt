@@ -1,8 +1,9 @@
 -- What is written where there is no hole leaves the bytes in the holes.
-use Rattle.w16_holes.proofs.Common.{ℕ, ◌≤◌, ◌+◌, ◌⊎◌, List, [], ◌∷◌, length, arith, inl, inr, Span, put_part, length-put_part, take-put_part, drop-put_part, part_below, part_above, IsFree, IsUsed, AreSameIn}
+use Rattle.w16_holes.proofs.Common as C
+use Rattle.w16_holes.proofs.Common.{ℕ, ◌≤◌, ◌+◌, ◌⊎◌, List, [], ◌∷◌, length, arith, inl, inr, Span, put_part}
 
 -- a free part and a used one share no byte
-pub apart : (a b x y : ℕ) (hs : List Span) → IsFree a b hs → IsUsed x y hs → (b ≤ x) ⊎ (y ≤ a)
+pub apart : (a b x y : ℕ) (hs : List Span) → C.IsFree a b hs → C.IsUsed x y hs → (b ≤ x) ⊎ (y ≤ a)
 apart a b x y [] free used = absurd free
 apart a b x y (h ∷ hs) free used = elim free [
   | inl here ↦ let s = here.0 in let e = here.1 in elim used.0 [
@@ -12,11 +13,11 @@ apart a b x y (h ∷ hs) free used = elim free [
   | inr rest ↦ apart a b x y hs rest used.1
 ]
 
-pub AreSameIn-put_part : (hs : List Span) (bytes : List ℕ) (to : ℕ) (new : List ℕ) → to + length new ≤ length bytes → IsUsed to (to + length new) hs → AreSameIn hs bytes (put_part bytes to new)
+pub AreSameIn-put_part : (hs : List Span) (bytes : List ℕ) (to : ℕ) (new : List ℕ) → to + length new ≤ length bytes → C.IsUsed to (to + length new) hs → C.AreSameIn hs bytes (put_part bytes to new)
 AreSameIn-put_part hs bytes to new le used = record {
-  long = length-put_part bytes to new le;
+  long = C.length-put_part bytes to new le;
   same = λ at n free. elim (apart at (at + n) to (to + length new) hs free used) [
-    | inl below ↦ part_below (put_part bytes to new) bytes at n to below (take-put_part bytes to new to (omega arith) (omega arith))
-    | inr above ↦ part_above (put_part bytes to new) bytes at n (to + length new) above (drop-put_part bytes to new (to + length new) (omega arith) le)
+    | inl below ↦ C.part_below (put_part bytes to new) bytes at n to below (C.take-put_part bytes to new to (omega arith) (omega arith))
+    | inr above ↦ C.part_above (put_part bytes to new) bytes at n (to + length new) above (C.drop-put_part bytes to new (to + length new) (omega arith) le)
   ];
 }

@@ -1,9 +1,7 @@
 -- How holes are kept at the side: a cell for each unit of grain, with the length of the hole that begins there.
 use Rattle.std.specs.Prelude.{◌⊎◌, ℕ, ◌<◌, ◌≤◌, ◌≡◌, ◌+◌, ◌*◌, ◌-◌, ◌^◌, List, [], ◌∷◌, length, slice_index}
-use Rattle.w16_model.specs.declared.Span.{Span}
-use Rattle.w16_model.specs.Heap.{IsMultiple}
-use Rattle.w16_holes.specs.Holes.{Range, add_span}
-use Rattle.w16_holes.specs.declared.holes.TheConstants.{LAST_END}
+use Rattle.w16_model.specs.{declared.Span.Span, Heap.IsMultiple}
+use Rattle.w16_holes.specs.{Holes.Range, Holes.add_span, declared.holes.TheConstants.LAST_END}
 
 -- the holes that cells tell, the first of which is for place p
 abbrev pub spans : ℕ → ℕ → List ℕ → List Span

@@ -1,9 +1,7 @@
 -- The holes between two bounds, by address: what is asked of them, and what taking and putting makes of them.
 use Rattle.std.specs.Prelude.{◌⊎◌, ℕ, suc, ◌<◌, ◌≤◌, ◌≡◌, ◌+◌, ◌-◌, max, min, nat_lt, nat_le, if◌then◌else◌, ◌==◌, List, [], ◌∷◌, length, map, Option, Some, None, option_map, unwrap_or}
 use Rattle.std.specs.List.{find, fold}
-use Rattle.w16_model.specs.declared.Span.{Span}
-use Rattle.w16_model.specs.Heap.{IsMultiple}
-use Rattle.w16_model.specs.Bytes.{part}
+use Rattle.w16_model.specs.{declared.Span.Span, Heap.IsMultiple, Bytes.part}
 
 -- between which bounds the holes lie, and of what each place and size is a multiple
 pub record Range : Type 0 where

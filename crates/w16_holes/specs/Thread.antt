@@ -1,9 +1,7 @@
 -- Holes kept in their own bytes, as a thread: each has its size as a double word where it begins, and behind it as another where the next hole begins.
 use Rattle.std.specs.Prelude.{ℕ, ◌<◌, ◌≤◌, ◌≡◌, ◌+◌, ◌-◌, ◌^◌, nat_lt, if◌then◌else◌, List, [], ◌∷◌, length, Option, Some, None}
 use Rattle.std.proofs.Common.{arith, ◌∙◌, inl, inr}
-use Rattle.w16_model.specs.declared.Span.{Span}
-use Rattle.w16_model.specs.Bytes.{part}
-use Rattle.w16_model.specs.Heap.{IsMultiple}
+use Rattle.w16_model.specs.{declared.Span.Span, Bytes.part, Heap.IsMultiple}
 use Rattle.w16_region.specs.Bytes.{word_in, put_word}
 use Rattle.w16_region.proofs.Words.{word_in-same}
 use Rattle.w16_holes.specs.Holes.{Range, IsFree, AreSameIn}

@@ -1,17 +1,16 @@
 -- The code follows references as its store's answers have them.
-use Rattle.w16_loader.proofs.Common.{◌≡◌, ℕ, zero, suc, ◌+◌, ◌-◌, ◌<◌, ◌≤◌, inl, inr, Bool, true, false, nat_lt, List, [], ◌∷◌, ◌++◌, length, map, take, Option, Some, None, option_map, Result, Ok, Err, refl, sym, ap, ◌∙◌, subst, arith}
-use Rattle.w16_loader.proofs.Common.{add-one, ltb-true, ltb-false, slice_get, position, AllZip, MatchOption, MatchResult, option_or, length-append, length-take-le, length-map, map-append, take_all, take-append-le, is_named, Tables, Modules}
-use Rattle.w16_loader.proofs.Common.{handle_named, Around, dll, There, New, Refused, Meant, Read, Found, Referent, Bound, Followed, FileFault, around_in, found_in, meant_in, referent_of, references_of, IsFault}
-use Rattle.w16_loader.proofs.Common.{Files, answers_of, left_from, bound_in, references_at, found_after, referent_after, tables_in, IsFoundOf, Begins, reached_of, closed_of, AreAccepted, AreHeld, ClosesOf, ClosesTo, IsAccepted, IsClosureBy, IsRefusedName, LeadsBy, LeadsTo, ReadsIn, RefusesBy}
+use Rattle.w16_loader.proofs
+use proofs.Common as C
+use proofs.Common.{◌≡◌, ℕ, zero, suc, ◌+◌, ◌-◌, ◌<◌, ◌≤◌, inl, inr, Bool, true, false, List, [], ◌∷◌, ◌++◌, length, map, take, Some, None, Ok, Err, refl, sym, ap, ◌∙◌, subst, arith, slice_get, position, AllZip, length-take-le, is_named, Tables, Modules, dll, There, New, Refused, Meant}
+use proofs.Common.{Read, Found, Referent, Bound, Followed, FileFault, around_in, found_in, referent_of, IsFault, Files, answers_of, left_from, bound_in, found_after, referent_after, tables_in, IsFoundOf, Begins, reached_of, AreAccepted, AreHeld, ClosesTo, LeadsBy, LeadsTo, RefusesBy}
+use proofs.Pending.{next_left, last_left, more_left, none_left, first_left}
+use proofs.{Files.position_map, Files.there, Holdings.held_for}
 use Rattle.w16_loading.specs.Answers.{Answers, ClosesFrom, ReadsFile, follow}
+use Rattle.w16_loader.specs.declared.closure.Closure.{Closure}
 use Rattle.w16_loading.specs.Closure as closing
 use Rattle.w16_ne.specs.Modules as ne
-use Rattle.w16_loader.specs.declared.closure.Closure.{Closure}
 use Rattle.w16_loader.specs.declared.closure.Followed.TheVariants as leads
 use Rattle.w16_loader.specs.declared.found.FileFault.TheVariants as faults
-use Rattle.w16_loader.proofs.Files.{position_map, there}
-use Rattle.w16_loader.proofs.Holdings.{held_for}
-use Rattle.w16_loader.proofs.Pending.{next_left, last_left, more_left, none_left, first_left}
 
 abbrev name_of : closing.Found → List ℕ
 name_of c = c.read.tables.name
@@ -71,15 +70,15 @@ module _ {A : Type 0} where
   same_names (x ∷ xs) (c ∷ cs) h = let e : c.read.tables.name ≡ x.module.name = ap (λ (t : Tables). t.name) h.0.1 in let es = same_names xs cs h.1 in λ i. e i ∷ es i
 
   -- a name means the same among both
-  meant_same : (modules : Modules) (files : Files) (xs : List (Found A)) (cs : List closing.Found) → Begins xs cs → (name : List ℕ) → closing.meant (around_in modules files) (take (length xs) cs) name ≡ meant_in modules xs name
+  meant_same : (modules : Modules) (files : Files) (xs : List (Found A)) (cs : List closing.Found) → Begins xs cs → (name : List ℕ) → closing.meant (around_in modules files) (take (length xs) cs) name ≡ C.meant_in modules xs name
   meant_same modules files xs cs h name =
       let places : position (λ (c : closing.Found). is_named c.read.tables.name name) (take (length xs) cs) ≡ position (λ (c : closing.Found). is_named c.read.tables.name name) (map (found_in []) xs) =
       sym (position_map (λ n. is_named n name) name_of (take (length xs) cs)) ∙ ap (position (λ n. is_named n name)) (same_names xs cs h) ∙ position_map (λ n. is_named n name) name_of (map (found_in []) xs) in
-      ap (λ p. option_or (option_map There (handle_named modules name)) (option_map New p)) places
+      ap (λ p. C.option_or (C.option_map There (C.handle_named modules name)) (C.option_map New p)) places
 
 -- What a load makes of files, among modules that have the same names.
 
-module _ (answers : Answers) (a : Around) where
+module _ (answers : Answers) (a : C.Around) where
   reads_as : (fs gs : List closing.Found) → ((name : List ℕ) → closing.meant a fs name ≡ closing.meant a gs name) → length fs ≡ length gs → (file : List ℕ) (r : closing.Reading) → ReadsFile answers a fs file r → ReadsFile answers a gs file r
   reads_as fs gs same many file (Refused number) (inl says) = inl says
   reads_as fs gs same many file (Refused number) (inr (t, says, none, inl h)) = inr (t, says, sym (same t.name) ∙ none, inl h)
@@ -88,15 +87,15 @@ module _ (answers : Answers) (a : Around) where
   reads_as fs gs same many file (Read read) (says, none, sound, held, few) = (says, sym (same read.tables.name) ∙ none, sound, held, (let lt : length fs < a.free = few in omega (arith, lt, many)))
 
   -- One reference more.
-  module _ (closure : closing.Closure) (place : ℕ) (name : List ℕ) (rest : List (ℕ × List ℕ)) (pending : closure.pending ≡ (place, name) ∷ rest) (n : ℕ) (outcome : Result closing.Closure ℕ) where
+  module _ (closure : closing.Closure) (place : ℕ) (name : List ℕ) (rest : List (ℕ × List ℕ)) (pending : closure.pending ≡ (place, name) ∷ rest) (n : ℕ) (outcome : C.Result closing.Closure ℕ) where
     abbrev left : closing.Closure
     left = record closure { pending = rest }
 
     abbrev Ends : closing.Reading → Type 0
-    Ends r = MatchResult (follow left place name r) (λ next. ClosesFrom answers a n next outcome) (λ number. outcome ≡ Err number)
+    Ends r = C.MatchResult (follow left place name r) (λ next. ClosesFrom answers a n next outcome) (λ number. outcome ≡ Err number)
 
-    abbrev ByName : Option closing.Referent → Type 0
-    ByName p = MatchOption p ((r : closing.Reading) × ReadsFile answers a closure.found (dll name) r × Ends r) (λ referent. ClosesFrom answers a n (closing.with_bound left place referent) outcome)
+    abbrev ByName : C.Option closing.Referent → Type 0
+    ByName p = C.MatchOption p ((r : closing.Reading) × ReadsFile answers a closure.found (dll name) r × Ends r) (λ referent. ClosesFrom answers a n (closing.with_bound left place referent) outcome)
 
     by_name : (referent : closing.Referent) → closing.meant a closure.found name ≡ Some referent → ClosesFrom answers a n (closing.with_bound left place referent) outcome → ClosesFrom answers a (suc n) closure outcome
     by_name referent e f = (place, name, rest, pending, subst ByName (sym e) f)
@@ -110,7 +109,7 @@ held_at answers (x ∷ xs) held zero f e = let same : x ≡ f = cc in subst (λ 
 held_at answers (x ∷ xs) held (suc place) f e = held_at answers xs held.1 place f e
 
 module _ {A : Type 0} (answers : Answers) (modules : Modules) (all : List closing.Found) (held : AreHeld answers all) (found : List (Found A)) (begins : Begins found all) where
-  abbrev a : Around
+  abbrev a : C.Around
   a = around_in modules []
 
   abbrev fs : List closing.Found
@@ -119,8 +118,8 @@ module _ {A : Type 0} (answers : Answers) (modules : Modules) (all : List closin
   long : length fs ≡ length found
   long = length-take-le (length found) all (begins_long found all begins)
 
-  reads_here : (file : List ℕ) (r : closing.Reading) → ReadsIn answers modules found file r → ReadsFile answers a fs file r
-  reads_here = reads_as answers a (map (found_in []) found) fs (λ name. sym (meant_same modules [] found all begins name)) (length-map found (found_in []) ∙ sym long)
+  reads_here : (file : List ℕ) (r : closing.Reading) → C.ReadsIn answers modules found file r → ReadsFile answers a fs file r
+  reads_here = reads_as answers a (map (found_in []) found) fs (λ name. sym (meant_same modules [] found all begins name)) (C.length-map found (found_in []) ∙ sym long)
 
   -- one reference of the module at a place, as the code keeps it
   module _ (place : ℕ) (f : Found A) (at : slice_get found place ≡ Some f) (before : ℕ) (done : ℕ) (le : done ≤ length f.module.references) (bound : List Bound) (name : List ℕ)
@@ -131,14 +130,14 @@ module _ {A : Type 0} (answers : Answers) (modules : Modules) (all : List closin
     abbrev here : closing.Closure
     here = has before (length found) (map bound_in bound)
 
-    pub refused_on : (number : ℕ) → IsRefusedName answers modules found name number → ClosesTo answers modules here (Err number)
+    pub refused_on : (number : ℕ) → C.IsRefusedName answers modules found name number → ClosesTo answers modules here (Err number)
     refused_on number (none, (answer, reads, e)) = (1, by_file answers a here place name (left_from place done fs) pending 0 (Err number) (meant_same modules [] found all begins name ∙ none) (Refused answer) (reads_here (dll name) (Refused answer) reads) (ap Err e))
 
-    pub follows_on : (followed : Followed A) → LeadsTo answers modules found name followed → Begins (found_after found followed) all → (n : ℕ) (outcome : Result closing.Closure ℕ)
+    pub follows_on : (followed : Followed A) → LeadsTo answers modules found name followed → Begins (found_after found followed) all → (n : ℕ) (outcome : C.Result closing.Closure ℕ)
         → ClosesFrom answers a n (has done (length (found_after found followed)) (map bound_in (bound ++ record { place = place; referent = referent_after (length found) followed } ∷ []))) outcome
         → ClosesFrom answers a (suc n) here outcome
     follows_on (leads.Meant referent) h more n outcome c =
-        let b = sym (map-append bound_in bound (record { place = place; referent = referent } ∷ [])) in
+        let b = sym (C.map-append bound_in bound (record { place = place; referent = referent } ∷ [])) in
         let next : ClosesFrom answers a n (closing.with_bound (record here { pending = left_from place done fs }) place (referent_of referent)) outcome =
         subst (λ bs. ClosesFrom answers a n (record { found = fs; pending = left_from place done fs; bound = bs }) outcome) (sym b) c in
         by_case h next
@@ -152,7 +151,7 @@ module _ {A : Type 0} (answers : Answers) (modules : Modules) (all : List closin
         let m = next_of found all g more in
         let is : m.c.read.tables ≡ tables_in g.module = m.is.1 in
         let holds : answers.holds (dll name) m.c.read = subst (λ k. answers.holds k m.c.read) (m.is.0 ∙ file) (held_at answers all held (length found) m.c m.at) in
-        let unnamed : closing.meant a fs m.c.read.tables.name ≡ None = meant_same modules [] found all begins m.c.read.tables.name ∙ ap (λ (t : Tables). meant_in modules found t.name) is ∙ new in
+        let unnamed : closing.meant a fs m.c.read.tables.name ≡ None = meant_same modules [] found all begins m.c.read.tables.name ∙ ap (λ (t : Tables). C.meant_in modules found t.name) is ∙ new in
         let reads : ReadsFile answers a fs (dll name) (Read m.c.read) = (
           subst (λ t. answers.says (dll name) (Ok t)) (sym is) accepted.0,
           unnamed,
@@ -171,27 +170,27 @@ module _ {A : Type 0} (answers : Answers) (modules : Modules) (all : List closin
         new_is m =
             let x = at_place found all begins place f at in
             let its_file = m.is.0 ∙ file in
-            let many : suc (length found) ≡ length (found ++ g ∷ []) = (let l : length (found ++ g ∷ []) ≡ length found + 1 = length-append found (g ∷ []) in omega (arith, l)) in
+            let many : suc (length found) ≡ length (found ++ g ∷ []) = (let l : length (found ++ g ∷ []) ≡ length found + 1 = C.length-append found (g ∷ []) in omega (arith, l)) in
             let t : fs ++ m.c ∷ [] ≡ take (length (found ++ g ∷ [])) all = sym m.taken ∙ ap (λ k. take k all) many in
-            let p : left_from place done fs ++ references_of (length fs) m.c ≡ left_from place done (take (length (found ++ g ∷ [])) all) =
+            let p : left_from place done fs ++ C.references_of (length fs) m.c ≡ left_from place done (take (length (found ++ g ∷ [])) all) =
             sym (more_left fs place x.c x.at done m.c (its_references x)) ∙ ap (left_from place done) t in
-            let b = ap (λ k. map bound_in bound ++ (place, New k) ∷ []) long ∙ sym (map-append bound_in bound (record { place = place; referent = referent_after (length found) (leads.New g) } ∷ [])) in
-            (λ i. record { found = fs ++ record { file = sym its_file i; read = m.c.read } ∷ []; pending = left_from place done fs ++ references_of (length fs) m.c; bound = map bound_in bound ++ (place, New (length fs)) ∷ [] })
+            let b = ap (λ k. map bound_in bound ++ (place, New k) ∷ []) long ∙ sym (C.map-append bound_in bound (record { place = place; referent = referent_after (length found) (leads.New g) } ∷ [])) in
+            (λ i. record { found = fs ++ record { file = sym its_file i; read = m.c.read } ∷ []; pending = left_from place done fs ++ C.references_of (length fs) m.c; bound = map bound_in bound ++ (place, New (length fs)) ∷ [] })
             ∙ (λ i. record { found = t i; pending = p i; bound = b i })
 
   -- after the last reference of a module come those of the next
-  pub after_last : (place count : ℕ) → count ≡ length (references_at found place) → left_from place count fs ≡ left_from (suc place) 0 fs
-  after_last place count e = turn (nat_lt place (length found)) refl
+  pub after_last : (place count : ℕ) → count ≡ length (C.references_at found place) → left_from place count fs ≡ left_from (suc place) 0 fs
+  after_last place count e = turn (C.nat_lt place (length found)) refl
     where
-      turn : (b : Bool) → nat_lt place (length found) ≡ b → left_from place count fs ≡ left_from (suc place) 0 fs
+      turn : (b : Bool) → C.nat_lt place (length found) ≡ b → left_from place count fs ≡ left_from (suc place) 0 fs
       turn true t =
-          let s = there found place (ltb-true place (length found) t) in
+          let s = there found place (C.ltb-true place (length found) t) in
           let x = at_place found all begins place s.0 s.1 in
           let many : count ≡ length s.0.module.references = e ∙ ap (λ o. length (elim o as (λ _. List (List ℕ)) [ None ↦ [] | Some f ↦ f.module.references ])) s.1 in
           let same : count ≡ length x.c.read.tables.references = many ∙ sym (ap (λ (t : Tables). length t.references) x.is.1) in
           ap (λ n. left_from place n fs) same ∙ last_left fs place x.c x.at
       turn false t =
-          let le : length found ≤ place = ltb-false place (length found) t in
+          let le : length found ≤ place = C.ltb-false place (length found) t in
           none_left fs place count (omega (arith, le, long)) ∙ sym (none_left fs (suc place) 0 (omega (arith, le, long)))
 
 module _ {A : Type 0} (answers : Answers) (modules : Modules) where
@@ -230,7 +229,7 @@ module _ {A : Type 0} (answers : Answers) (modules : Modules) where
               (subst (λ x. ClosesFrom answers (around_in modules []) c.0 x outcome) same c.1),
         )
 
-    pub refused_at : (start after : ℕ) (fault : FileFault) → IsFault (IsRefusedName answers modules old.found.items name) start after fault → IsFault (RefusesBy answers modules old.found.items (reached_of place (number - 1) old)) start after fault
+    pub refused_at : (start after : ℕ) (fault : FileFault) → IsFault (C.IsRefusedName answers modules old.found.items name) start after fault → IsFault (RefusesBy answers modules old.found.items (reached_of place (number - 1) old)) start after fault
     refused_at start after (faults.Refused answer) h = λ accepted all begins held. refused_on answers modules all held old.found.items begins place f at (number - 1) number le old.bound.items name (next_pending all begins) answer h
     refused_at start after faults.Device h = h
     refused_at start after faults.OutOfMemory h = tt
@@ -242,15 +241,15 @@ module _ {A : Type 0} (answers : Answers) (modules : Modules) where
   through found more since first middle last kept h k = λ all begins held outcome c. h all (begins_part found since all (subst (λ xs. Begins xs all) kept begins)) held outcome (k all begins held outcome c)
 
   -- all references of a module
-  pub module_followed : (place count : ℕ) (first : List closing.Found → closing.Closure) (last : Closure A) → count ≡ length (references_at last.found.items place) → LeadsBy answers modules last.found.items first (reached_of place count last)
+  pub module_followed : (place count : ℕ) (first : List closing.Found → closing.Closure) (last : Closure A) → count ≡ length (C.references_at last.found.items place) → LeadsBy answers modules last.found.items first (reached_of place count last)
       → LeadsBy answers modules last.found.items first (reached_of (place + 1) 0 last)
   module_followed place count first last e h = λ all begins held outcome c.
       let next : left_from place count (take (length last.found.items) all) ≡ left_from (place + 1) 0 (take (length last.found.items) all) =
-      after_last answers modules all held last.found.items begins place count e ∙ ap (λ n. left_from n 0 (take (length last.found.items) all)) (sym (add-one place)) in
+      after_last answers modules all held last.found.items begins place count e ∙ ap (λ n. left_from n 0 (take (length last.found.items) all)) (sym (C.add-one place)) in
       h all begins held outcome (subst (λ p. ClosesTo answers modules (record { found = take (length last.found.items) all; pending = p; bound = map bound_in last.bound.items }) outcome) (sym next) c)
 
   -- all references of all modules
-  pub all_followed : (most : ℕ) (first : List closing.Found → closing.Closure) (last : Closure A) → length last.found.items ≤ most → LeadsBy answers modules last.found.items first (reached_of most 0 last) → LeadsBy answers modules last.found.items first (closed_of last)
+  pub all_followed : (most : ℕ) (first : List closing.Found → closing.Closure) (last : Closure A) → length last.found.items ≤ most → LeadsBy answers modules last.found.items first (reached_of most 0 last) → LeadsBy answers modules last.found.items first (C.closed_of last)
   all_followed most first last few h = λ all begins held outcome c.
       let many : length (take (length last.found.items) all) ≡ length last.found.items = length-take-le (length last.found.items) all (begins_long last.found.items all begins) in
       let none : left_from most 0 (take (length last.found.items) all) ≡ [] = none_left (take (length last.found.items) all) most 0 (omega (arith, many, few)) in
@@ -264,18 +263,18 @@ module _ {A : Type 0} (answers : Answers) (modules : Modules) where
         ∙ (λ i. record { found = n.taken i; pending = left_from 0 0 (n.taken i); bound = [] })
         ∙ (λ i. record { found = record { file = n.is.0 i; read = n.c.read } ∷ []; pending = first_left n.c i; bound = [] })
 
-    pub closes_by : (last : Closure A) (since : List (Found A)) → last.found.items ≡ made.found.items ++ since → LeadsBy answers modules last.found.items (reached_of 0 0 made) (closed_of last) → IsClosureBy answers modules f.file.items (tables_in f.module) last
+    pub closes_by : (last : Closure A) (since : List (Found A)) → last.found.items ≡ made.found.items ++ since → LeadsBy answers modules last.found.items (reached_of 0 0 made) (C.closed_of last) → C.IsClosureBy answers modules f.file.items (tables_in f.module) last
     closes_by last since kept h = λ all zip held.
         let begins : Begins last.found.items all = begins_zip last.found.items all zip in
         let one : Begins (f ∷ []) all = subst (λ xs. Begins xs all) found (begins_part made.found.items since all (subst (λ xs. Begins xs all) kept begins)) in
         let n = next_of [] all f one in
-        let whole : take (length last.found.items) all ≡ all = take_all (length last.found.items) all (zip_long last.found.items all zip) in
+        let whole : take (length last.found.items) all ≡ all = C.take_all (length last.found.items) all (zip_long last.found.items all zip) in
         let c = h all begins held (Ok (record { found = all; pending = []; bound = map bound_in last.bound.items }))
         (0, (refl, (λ i. Ok (record { found = sym whole i; pending = []; bound = map bound_in last.bound.items })))) in
         (n.c.read, n.is.1, subst (λ k. answers.holds k n.c.read) n.is.0 (held_at answers all held 0 n.c n.at), subst (λ x. ClosesTo answers modules x (Ok (record { found = all; pending = []; bound = map bound_in last.bound.items }))) (begun_is all n) c)
 
-    pub refused_of : IsAccepted answers f.file.items (tables_in f.module) → (start after : ℕ) (fault : FileFault) → IsFault (RefusesBy answers modules made.found.items (reached_of 0 0 made)) start after fault
-        → IsFault (λ number. ClosesOf answers modules f.file.items (tables_in f.module) (Err number)) start after fault
+    pub refused_of : C.IsAccepted answers f.file.items (tables_in f.module) → (start after : ℕ) (fault : FileFault) → IsFault (RefusesBy answers modules made.found.items (reached_of 0 0 made)) start after fault
+        → IsFault (λ number. C.ClosesOf answers modules f.file.items (tables_in f.module) (Err number)) start after fault
     refused_of accepted start after (faults.Refused number) h = λ read same held.
         let one : closing.Found = record { file = f.file.items; read = read } in
         let begins : Begins made.found.items (one ∷ []) = subst (λ xs. Begins xs (one ∷ [])) (sym found) ((refl, same), tt) in
@@ -297,7 +296,7 @@ module _ {A : Type 0} (answers : Answers) (modules : Modules) where
       more : (followed : Followed A) → LeadsTo answers modules found name followed → AreAccepted answers (map (found_in []) (found_after found followed))
       more (leads.Meant referent) h = all
       more (leads.New f) (inl h) = absurd h
-      more (leads.New f) (inr (none, (file, (accepted, new, few)))) = all_accepted found (f ∷ []) all (subst (λ k. IsAccepted answers k (tables_in f.module)) (sym file) accepted, tt)
+      more (leads.New f) (inr (none, (file, (accepted, new, few)))) = all_accepted found (f ∷ []) all (subst (λ k. C.IsAccepted answers k (tables_in f.module)) (sym file) accepted, tt)
 
   since_accepted : (xs ys : List (Found A)) → AreAccepted answers (map (found_in []) (xs ++ ys)) → AreAccepted answers (map (found_in []) ys)
   since_accepted [] ys h = h
@@ -321,7 +320,7 @@ module _ {A : Type 0} (honest : Type 0) (files : Files) (modules : Modules) wher
   reached_same place done old all cs begins =
       let n = length old.found.items in
       let many : length (take n all) ≡ n = length-take-le n all (begins_long old.found.items all begins) in
-      let same : take n (take n all ++ cs) ≡ take n all = take-append-le n (take n all) cs (omega (arith, many)) ∙ take_all n (take n all) (omega (arith, many)) in
+      let same : take n (take n all ++ cs) ≡ take n all = C.take-append-le n (take n all) cs (omega (arith, many)) ∙ C.take_all n (take n all) (omega (arith, many)) in
       λ i. record { found = same i; pending = left_from place done (same i); bound = map bound_in old.bound.items }
 
   pub refused_through : (place done : ℕ) (old : Closure A) (more since : List (Found A)) (middle : List closing.Found → closing.Closure) → more ≡ old.found.items ++ since

@@ -1,22 +1,19 @@
 -- What a fetch of a segment comes to.
-use Rattle.w16_loader.proofs.Common.{◌≡◌, ℕ, ◌-◌, ◌<◌, ◌≤◌, inl, inr, true, false, cond, List, [], length, map, All, Option, Some, None, IsSomeAnd, MatchOption, is_some, option_map, slice_get, slice_index_or, Result, Ok, Err, refl, sym}
-use Rattle.w16_loader.proofs.Common.{ap, ◌∙◌, subst, arith, ne_eqb, lit<, false≢true, length-map, slice_get-map, slice_get_cases, get_or_from_slice_get, AllZip-left, repeated, Owned, Handles, bytes_at, Revives, owned_at, is_owned, length-repeated}
-use Rattle.w16_loader.proofs.Common.{All-repeated, tables_at, RelocFault, Record, Held, checked, data_of, IsImage, naming, FetchFault, Store, Damaged, NoRoom, IsOwnedSize, read_of, segment_bytes}
-use Rattle.w16_loader.proofs.Common.{Far, ModuleFile, SegmentData, numbered, Fills, IsHeap, is_of_device, is_of_read, IsItsFiles, IsObjectOf, LoadingWorld, Module, of_segment, data_in, target_of, targets_in, far_of}
-use Rattle.w16_loader.proofs.Common.{IsFileOf, IsRelocated, ne_format, module_file, segment_in, accepted, has_room, stored_law, is_relocated, words_same, file_of, GivesBytes, IsFetchable, IsSoundIn, IsWritten, image_in}
+use Rattle.w16_loader.proofs
+use proofs.Common as C
+use proofs.Common.{◌≡◌, ℕ, ◌-◌, ◌<◌, ◌≤◌, inl, inr, true, false, cond, List, [], length, map, All, Option, Some, None, IsSomeAnd, option_map, slice_get, slice_index_or, Ok, Err, refl, sym, ap, ◌∙◌, subst, arith, lit<, false≢true, slice_get-map, Owned, Handles, owned_at, Held, checked}
+use proofs.Common.{naming, FetchFault, Store, NoRoom, IsOwnedSize, Far, ModuleFile, SegmentData, Fills, IsItsFiles, LoadingWorld, data_in, far_of, ne_format, module_file, segment_in, IsSoundIn, IsWritten}
+use proofs.Giving.{none_filled}
 use Rattle.w16_format.proofs.Relocated.{relocated_law}
 use Rattle.w16_format.specs.Tables.{tables_in}
-use Rattle.w16_reloc.specs.Segments.{any_offer}
-use Rattle.w16_reloc.specs.Sound.{IsSoundSegment}
+use Rattle.w16_reloc.specs.{Segments.any_offer, Sound.IsSoundSegment}
 use Rattle.w16_loader.specs.Fetching.{GivesOwned, GivesSegment, IsRelocatedBy, IsSoundSource}
 use Rattle.w16_loading.specs.Answers.{FetchesFrom, FillsFewest, GivesRead, MayFail, told}
+use Rattle.w16_ne.specs.{declared.segment_table.Segment.Segment, Modules.Tables}
+use Rattle.w16_loading.proofs.Fewest.{fill_fewest}
 use Rattle.w16_loading.specs.Fetch as fetching
-use Rattle.w16_ne.specs.declared.segment_table.Segment.{Segment}
-use Rattle.w16_ne.specs.Modules.{Tables}
 use Rattle.w16_reloc.specs.declared.value.Far as words
 use Rattle.w16_loading.specs.File as loading
-use Rattle.w16_loading.proofs.Fewest.{fill_fewest}
-use Rattle.w16_loader.proofs.Giving.{none_filled}
 
 -- What is given to an object that a module owns.
 module _ (Known : Type 0) (IsRead : List ℕ → Type 0) (before after : ℕ) (old : Handles) (slot : ℕ) where
@@ -24,25 +21,25 @@ module _ (Known : Type 0) (IsRead : List ℕ → Type 0) (before after : ℕ) (o
   Gives fault new = GivesOwned Known IsRead before after old slot fault new
 
   -- its bytes can't be read
-  pub unread : (fault : FetchFault) → is_of_read fault ≡ true → (is_of_device fault ≡ true → before < after) → (Known → fault ≡ Store) → Gives (Some fault) old
+  pub unread : (fault : FetchFault) → C.is_of_read fault ≡ true → (C.is_of_device fault ≡ true → before < after) → (Known → fault ≡ Store) → Gives (Some fault) old
   unread Store may rose exact = record { given = ((refl, (λ s. rose refl), exact), refl); rest = refl }
   unread NoRoom may rose exact = absurd (false≢true may)
-  unread Damaged may rose exact = record { given = ((refl, (λ s. rose (ap is_of_device s)), exact), refl); rest = refl }
+  unread C.Damaged may rose exact = record { given = ((refl, (λ s. rose (ap C.is_of_device s)), exact), refl); rest = refl }
 
-  module _ (heap : IsHeap old.heap) where
+  module _ (heap : C.IsHeap old.heap) where
     -- there is no room for them
-    pub full : is_owned old slot ≡ true → bytes_at old.heap slot ≡ None → Revives old slot false old → Gives (Some NoRoom) old
+    pub full : C.is_owned old slot ≡ true → C.bytes_at old.heap slot ≡ None → C.Revives old slot false old → Gives (Some NoRoom) old
     full owned absent refused = by (owned_at old slot) refl owned
       where
-        by : (p : Option Owned) → owned_at old slot ≡ p → is_some p ≡ true → Gives (Some NoRoom) old
+        by : (p : Option Owned) → owned_at old slot ≡ p → C.is_some p ≡ true → Gives (Some NoRoom) old
         by None at e = absurd (false≢true e)
         by (Some w) at e =
-            let zeros = repeated w.size 0 in
-            let sized : IsSomeAnd (owned_at old slot) (λ (w : Owned). length zeros ≡ w.size) = subst (λ p. IsSomeAnd p (λ (w : Owned). length zeros ≡ w.size)) (sym at) (length-repeated w.size 0) in
-            let none : Fills old.heap slot zeros false old.heap = none_filled old slot absent refused zeros sized (All-repeated w.size 0 (lit< tt)) in
+            let zeros = C.repeated w.size 0 in
+            let sized : IsSomeAnd (owned_at old slot) (λ (w : Owned). length zeros ≡ w.size) = subst (λ p. IsSomeAnd p (λ (w : Owned). length zeros ≡ w.size)) (sym at) (C.length-repeated w.size 0) in
+            let none : Fills old.heap slot zeros false old.heap = none_filled old slot absent refused zeros sized (C.All-repeated w.size 0 (lit< tt)) in
             record { given = (zeros, sized, (none, fill_fewest old.heap slot zeros false old.heap heap none)); rest = refl }
 
-    pub filled : (IsBytes : List ℕ → Type 0) → ((bytes : List ℕ) → IsBytes bytes → IsSomeAnd (owned_at old slot) (λ (w : Owned). length bytes ≡ w.size) → IsRead bytes) → (new : Handles) → GivesBytes old slot IsBytes new → Gives None new
+    pub filled : (IsBytes : List ℕ → Type 0) → ((bytes : List ℕ) → IsBytes bytes → IsSomeAnd (owned_at old slot) (λ (w : Owned). length bytes ≡ w.size) → IsRead bytes) → (new : Handles) → C.GivesBytes old slot IsBytes new → Gives None new
     filled IsBytes are new g = record {
       given = (g.bytes, g.sized, are g.bytes g.are g.sized, (g.filled, fill_fewest old.heap slot g.bytes true new.heap heap g.filled));
       rest = g.rest;
@@ -55,13 +52,13 @@ as_long bytes n (Some w) h k = h ∙ k
 
 -- a segment by its number
 within : (t : Tables) (number : ℕ) → 0 < number → number ≤ length t.segments → (s : Segment) × (slice_get t.segments (number - 1) ≡ Some s)
-within t number first last = elim (slice_get_cases t.segments (number - 1)).1 [
+within t number first last = elim (C.slice_get_cases t.segments (number - 1)).1 [
   | inl some ↦ (some.0, some.2)
   | inr none ↦ absurd (omega (arith, none.0, first, last))
 ]
 
 -- what was written over as many bytes as the segment has
-pub relocated : (t : Tables) (source : List ℕ) (records : List Record) (values : List words.Far) (bytes : List ℕ) (n : ℕ) → IsWritten source records values bytes
+pub relocated : (t : Tables) (source : List ℕ) (records : List C.Record) (values : List words.Far) (bytes : List ℕ) (n : ℕ) → IsWritten source records values bytes
     → (table : List ℕ) × IsSoundSegment (any_offer (length t.segments) (length t.references)) source table (length values) records → length source ≤ n → length bytes ≡ n → IsRelocatedBy t values bytes
 relocated t source records values bytes n are (table, sound) room long =
     let fits : length source ≤ length bytes = omega (arith, room, long) in
@@ -74,7 +71,7 @@ module _ (file : List ℕ) (t : Tables) (number : ℕ) (values : List words.Far)
   s = sound.segment
 
   abbrev bytes : List ℕ
-  bytes = image_in file t s values
+  bytes = C.image_in file t s values
 
   -- what the file gives of it
   pub data_there : slice_get (map (data_in file t) t.segments) (number - 1) ≡ Some (data_in file t s)
@@ -82,48 +79,48 @@ module _ (file : List ℕ) (t : Tables) (number : ℕ) (values : List words.Far)
 
   -- what was written over as many bytes as it has is its image
   image : (written : List ℕ) → length written ≡ s.size → IsWritten sound.held.bytes sound.held.records values written → bytes ≡ written
-  image written long is = relocated.image (map far_of values) written (subst (λ vs. IsImage sound.held.bytes sound.held.records vs (naming sound.held.bytes sound.held.records) written) (sym (words_same values is.words)) over) long
+  image written long is = relocated.image (map far_of values) written (subst (λ vs. C.IsImage sound.held.bytes sound.held.records vs (naming sound.held.bytes sound.held.records) written) (sym (C.words_same values is.words)) over) long
     where
-      relocated : IsRelocated file t s sound.held
-      relocated = is_relocated file t s sound.held sound.passed
+      relocated : C.IsRelocated file t s sound.held
+      relocated = C.is_relocated file t s sound.held sound.passed
 
       room : length sound.held.bytes ≤ length written
-      room = subst (λ bs. length bs ≤ length written) (sym relocated.same) (subst (λ n. length (data_of file s) ≤ n) (sym long) (has_room file t (number - 1) s sound.tables sound.there))
+      room = subst (λ bs. length bs ≤ length written) (sym relocated.same) (subst (λ n. length (C.data_of file s) ≤ n) (sym long) (C.has_room file t (number - 1) s sound.tables sound.there))
 
-      over : IsImage sound.held.bytes sound.held.records values (naming sound.held.bytes sound.held.records) written
+      over : C.IsImage sound.held.bytes sound.held.records values (naming sound.held.bytes sound.held.records) written
       over = is.image (naming sound.held.bytes sound.held.records) relocated.sound room
 
   -- so are the bytes of an object of its size
-  pub written_image : (old : Handles) (slot : ℕ) → IsSomeAnd (owned_at old slot) (λ (w : Owned). w.size ≡ s.size) → (read : List ℕ) (records : List Record) → read ≡ sound.held.bytes → records ≡ sound.held.records
+  pub written_image : (old : Handles) (slot : ℕ) → IsSomeAnd (owned_at old slot) (λ (w : Owned). w.size ≡ s.size) → (read : List ℕ) (records : List C.Record) → read ≡ sound.held.bytes → records ≡ sound.held.records
       → (written : List ℕ) → IsWritten read records values written → IsSomeAnd (owned_at old slot) (λ (w : Owned). length written ≡ w.size) → written ≡ bytes
   written_image old slot sized read records same_bytes same_records written are is_long = sym (image written (as_long written s.size (owned_at old slot) is_long sized)
       (subst (λ rs. IsWritten sound.held.bytes rs values written) same_records (subst (λ bs. IsWritten bs records values written) same_bytes are)))
 
 -- A segment of a module that is as this file says it is sound in the file.
-module _ (file : List ℕ) (t : Tables) (m : Module) (its : IsItsFiles m (module_file file t)) (number : ℕ) (values : List words.Far) (bound : slice_index_or m.values (number - 1) [] ≡ map far_of values) where
+module _ (file : List ℕ) (t : Tables) (m : C.Module) (its : IsItsFiles m (module_file file t)) (number : ℕ) (values : List words.Far) (bound : slice_index_or m.values (number - 1) [] ≡ map far_of values) where
   -- with a record for each value
   passed : (s : Segment) → slice_get t.segments (number - 1) ≡ Some s → (held : Held) × (checked file t s ≡ Ok held) × (length held.records ≡ length values)
   passed s there = turn (checked file t s) refl (slice_get m.values (number - 1)) refl
-      (subst (λ p. MatchOption p (Unit {0}) (λ (d : SegmentData). IsSomeAnd (slice_get m.values (number - 1)) (λ vs. IsSomeAnd d.targets (λ targets. length vs ≡ length targets))))
+      (subst (λ p. C.MatchOption p (Unit {0}) (λ (d : SegmentData). IsSomeAnd (slice_get m.values (number - 1)) (λ vs. IsSomeAnd d.targets (λ targets. length vs ≡ length targets))))
       (slice_get-map (data_in file t) t.segments (number - 1) ∙ ap (option_map (data_in file t)) there)
-      (AllZip-left (λ (d : SegmentData) (vs : List Far). IsSomeAnd d.targets (λ targets. length vs ≡ length targets)) (map (data_in file t) t.segments) m.values its.values (number - 1)))
+      (C.AllZip-left (λ (d : SegmentData) (vs : List Far). IsSomeAnd d.targets (λ targets. length vs ≡ length targets)) (map (data_in file t) t.segments) m.values its.values (number - 1)))
     where
-      turn : (r : Result Held RelocFault) → checked file t s ≡ r → (v : Option (List Far)) → slice_get m.values (number - 1) ≡ v
-          → IsSomeAnd v (λ vs. IsSomeAnd (targets_in file t r) (λ targets. length vs ≡ length targets)) → (held : Held) × (checked file t s ≡ Ok held) × (length held.records ≡ length values)
+      turn : (r : C.Result Held C.RelocFault) → checked file t s ≡ r → (v : Option (List Far)) → slice_get m.values (number - 1) ≡ v
+          → IsSomeAnd v (λ vs. IsSomeAnd (C.targets_in file t r) (λ targets. length vs ≡ length targets)) → (held : Held) × (checked file t s ≡ Ok held) × (length held.records ≡ length values)
       turn r e None f h = absurd h
       turn (Err fault) e (Some vs) f h = absurd h
       turn (Ok held) e (Some vs) f h =
-          let same : vs ≡ map far_of values = sym (get_or_from_slice_get m.values (number - 1) vs [] f) ∙ bound in
-          (held, e, sym (length-map held.records (target_of file t)) ∙ sym h ∙ ap length same ∙ length-map values far_of)
+          let same : vs ≡ map far_of values = sym (C.get_or_from_slice_get m.values (number - 1) vs [] f) ∙ bound in
+          (held, e, sym (C.length-map held.records (C.target_of file t)) ∙ sym h ∙ ap length same ∙ C.length-map values far_of)
 
-  pub sound_in : All (λ b. b < 256) file → tables_at (Some file) ≡ Ok t → 0 < number → number ≤ length t.segments → IsSoundIn file t number values
+  pub sound_in : All (λ b. b < 256) file → C.tables_at (Some file) ≡ Ok t → 0 < number → number ≤ length t.segments → IsSoundIn file t number values
   sound_in are_bytes tables first last =
       let found = within t number first last in let p = passed found.0 found.1 in record { are_bytes = are_bytes; tables = tables; segment = found.0; there = found.1; held = p.0; passed = p.1; many = p.2 }
 
 -- In a world of its files.
 
-module _ (honest : Type 0) (world : LoadingWorld) (slot number : ℕ) (name : List ℕ) (t : Tables) (values : List words.Far) (is : IsFetchable honest world slot number name t values) (last : number ≤ length t.segments) where
-  abbrev m : Module
+module _ (honest : Type 0) (world : LoadingWorld) (slot number : ℕ) (name : List ℕ) (t : Tables) (values : List words.Far) (is : C.IsFetchable honest world slot number name t values) (last : number ≤ length t.segments) where
+  abbrev m : C.Module
   m = is.m
 
   found : (s : Segment) × (slice_get t.segments (number - 1) ≡ Some s)
@@ -133,10 +130,10 @@ module _ (honest : Type 0) (world : LoadingWorld) (slot number : ℕ) (name : Li
   owned_size : (s : Segment) → slice_get t.segments (number - 1) ≡ Some s → IsSomeAnd (owned_at world.handles slot) (λ (w : Owned). w.size ≡ s.size)
   owned_size s there = subst (λ p. IsSomeAnd p (λ (w : Owned). w.size ≡ s.size)) (sym object.owned) refl
     where
-      object : IsObjectOf world slot (segment_in s).kind (segment_in s).size (segment_in s).is_code
-      object = subst (λ p. IsSomeAnd p (λ g. IsObjectOf world slot g.kind g.size g.is_code))
+      object : C.IsObjectOf world slot (segment_in s).kind (segment_in s).size (segment_in s).is_code
+      object = subst (λ p. IsSomeAnd p (λ g. C.IsObjectOf world slot g.kind g.size g.is_code))
           (ap (λ (u : loading.Tables). slice_get u.segments (number - 1)) is.tables ∙ slice_get-map segment_in t.segments (number - 1) ∙ ap (option_map segment_in) there)
-          (of_segment world is.sound slot is.handle number m is.segment)
+          (C.of_segment world is.sound slot is.handle number m is.segment)
 
   -- what it is given over any store
   given : (bytes : List ℕ) → IsOwnedSize world slot bytes → ((s : Segment) → slice_get t.segments (number - 1) ≡ Some s → length bytes ≡ s.size → IsRelocatedBy t values bytes) → fetching.IsRead ne_format world slot bytes
@@ -155,16 +152,16 @@ module _ (honest : Type 0) (world : LoadingWorld) (slot number : ℕ) (name : Li
       r = are found.0 found.1 (as_long bytes found.0.size (owned_at world.handles slot) sized (owned_size found.0 found.1))
 
   module _ (h : honest) where
-    stored : (file : List ℕ) × IsFileOf world m file t
-    stored = stored_law world is.handle m t (is.of_files h) is.segment.loaded is.tables
+    stored : (file : List ℕ) × C.IsFileOf world m file t
+    stored = C.stored_law world is.handle m t (is.of_files h) is.segment.loaded is.tables
 
     abbrev file : List ℕ
     file = stored.0
 
-    read_is : read_of ne_format world m ≡ Some (module_file file t)
+    read_is : C.read_of ne_format world m ≡ Some (module_file file t)
     read_is =
         ap (λ (p : Option (List ℕ)). elim p as (λ _. Option ModuleFile) [ None ↦ None | Some bytes ↦ elim (ne_format.says bytes) as (λ _. Option ModuleFile) [ Ok read ↦ Some read | Err _ ↦ None ] ]) stored.1.stored
-        ∙ ap (λ (r : Result ModuleFile ℕ). elim r as (λ _. Option ModuleFile) [ Ok read ↦ Some read | Err _ ↦ None ]) (accepted file t stored.1.bytes stored.1.tables)
+        ∙ ap (λ (r : C.Result ModuleFile ℕ). elim r as (λ _. Option ModuleFile) [ Ok read ↦ Some read | Err _ ↦ None ]) (C.accepted file t stored.1.bytes stored.1.tables)
 
     its : IsItsFiles m (module_file file t)
     its = subst (λ p. IsSomeAnd p (IsItsFiles m)) read_is ((is.of_files h).modules is.handle m is.segment.loaded)
@@ -172,17 +169,17 @@ module _ (honest : Type 0) (world : LoadingWorld) (slot number : ℕ) (name : Li
     sound : IsSoundIn file t number values
     sound = sound_in file t m its number values is.source.bound stored.1.bytes stored.1.tables is.segment.has.0 last
 
-    by_number : {X : Type 0} (xs : List X) → numbered xs number ≡ slice_get xs (number - 1)
-    by_number xs = let some : 0 < number = is.segment.has.0 in ap (λ b. cond b None (slice_get xs (number - 1))) (ne_eqb number 0 (λ e. omega (arith, some, e)))
+    by_number : {X : Type 0} (xs : List X) → C.numbered xs number ≡ slice_get xs (number - 1)
+    by_number xs = let some : 0 < number = is.segment.has.0 in ap (λ b. cond b None (slice_get xs (number - 1))) (C.ne_eqb number 0 (λ e. omega (arith, some, e)))
 
-    bytes_are : segment_bytes ne_format world m number ≡ Some (image_in file t sound.segment values)
+    bytes_are : C.segment_bytes ne_format world m number ≡ Some (C.image_in file t sound.segment values)
     bytes_are =
-        ap (λ (p : Option ModuleFile). elim p as (λ _. Option (List ℕ)) [ None ↦ None | Some r ↦ option_map (λ (d : SegmentData). d.image (slice_index_or m.values (number - 1) [])) (numbered r.segments number) ]) read_is
+        ap (λ (p : Option ModuleFile). elim p as (λ _. Option (List ℕ)) [ None ↦ None | Some r ↦ option_map (λ (d : SegmentData). d.image (slice_index_or m.values (number - 1) [])) (C.numbered r.segments number) ]) read_is
         ∙ ap (option_map (λ (d : SegmentData). d.image (slice_index_or m.values (number - 1) []))) (by_number (map (data_in file t) t.segments) ∙ data_there file t number values sound)
         ∙ ap (λ vs. Some ((data_in file t sound.segment).image vs)) is.source.bound
 
     pub source : IsSoundSource honest world.files name t number values world.handles slot
-    source = record { truly = h; file = file; stored = ap (file_of world.files) (sym is.source.named) ∙ stored.1.stored; sound = sound; sized = owned_size sound.segment sound.there }
+    source = record { truly = h; file = file; stored = ap (C.file_of world.files) (sym is.source.named) ∙ stored.1.stored; sound = sound; sized = owned_size sound.segment sound.there }
 
 -- What gives an object its image is a fetch.
 module _ (honest : Type 0) (Known : Type 0) (known : honest → Known) (IsRead : List ℕ → Type 0) (world : LoadingWorld) (slot : ℕ)
@@ -196,9 +193,9 @@ module _ (honest : Type 0) (Known : Type 0) (known : honest → Known) (IsRead :
       turn None g = (g.0, g.1, are g.0 g.1 g.2, g.3)
       turn (Some NoRoom) g = g
       turn (Some Store) g = ((g.0.0, g.0.1, λ h. g.0.2 (known h)), g.1)
-      turn (Some Damaged) g = ((g.0.0, g.0.1, λ h. g.0.2 (known h)), g.1)
+      turn (Some C.Damaged) g = ((g.0.0, g.0.1, λ h. g.0.2 (known h)), g.1)
 
-pub fetches : (honest : Type 0) (world : LoadingWorld) (slot number : ℕ) (name : List ℕ) (t : Tables) (values : List words.Far) → number ≤ length t.segments → IsFetchable honest world slot number name t values → (before after : ℕ) (fault : Option FetchFault) (new : Handles)
+pub fetches : (honest : Type 0) (world : LoadingWorld) (slot number : ℕ) (name : List ℕ) (t : Tables) (values : List words.Far) → number ≤ length t.segments → C.IsFetchable honest world slot number name t values → (before after : ℕ) (fault : Option FetchFault) (new : Handles)
     → GivesSegment honest world.files name t number values before after world.handles slot fault new → FetchesFrom FillsFewest (told honest ne_format world.files before after) world slot fault (record world { handles = new })
 unfolding sound source
 fetches honest world slot number name t values last is before after fault new =

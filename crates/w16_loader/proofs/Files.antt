@@ -1,46 +1,47 @@
 -- What a load makes of names and of files.
-use Rattle.w16_loader.proofs.Common.{◌≡◌, ℕ, zero, suc, ◌+◌, ◌<◌, ◌≤◌, Bool, true, not, cond, ◌&&◌, List, [], ◌∷◌, length, map, drop, Option, Some, None, option_map, Result, Ok, Err, refl, sym, ap, ◌∙◌, arith, add-one, nat_lt, position}
-use Rattle.w16_loader.proofs.Common.{is_ok, slice_get, prefix_len, position_or_len, list_all, option_or, length-map, drop_all, is_named, HasBytes, length_of, NeFault, tables_at, Modules, handle_named, There}
-use Rattle.w16_loader.proofs.Common.{New, are_sound, RelocFault, Held, Refuses, checked, module_file, accepted, refused, sound_law, Found, Files, around_in, found_in, said, fault_of, fault_of_check, IsRead, IsFault, IsUnsound}
+use Rattle.w16_loader.proofs
+use proofs.Common as C
+use proofs.Common.{◌≡◌, ℕ, zero, suc, ◌+◌, ◌<◌, ◌≤◌, Bool, true, not, cond, ◌&&◌, List, [], ◌∷◌, length, map, drop, Option, Some, None, option_map, Ok, Err, refl, sym, ap, ◌∙◌, arith, position, is_ok, slice_get, list_all, is_named, There, New, RelocFault, Held, checked, refused, Found}
+use proofs.Common.{Files, found_in, said}
+use Rattle.w16_ne.specs.declared.segment_table.Segment.{Segment}
 use Rattle.w16_store.specs.declared.store.StoreFault.TheVariants as stores
 use Rattle.w16_ne.specs.declared.fault.NeFault.TheVariants as faults
 use Rattle.w16_ne.specs.Reading as ne_reading
-use Rattle.w16_ne.specs.declared.segment_table.Segment.{Segment}
 use Rattle.w16_ne.specs.Modules as ne
 use Rattle.w16_loading.specs.Closure as closing
 use Rattle.w16_reloc.specs.declared.fault.RelocFault.TheVariants as relocs
 
 -- Names.
 
-prefix_map : {X Y : Type 0} (p : Y → Bool) (f : X → Y) (xs : List X) → prefix_len p (map f xs) ≡ prefix_len (λ x. p (f x)) xs
+prefix_map : {X Y : Type 0} (p : Y → Bool) (f : X → Y) (xs : List X) → C.prefix_len p (map f xs) ≡ C.prefix_len (λ x. p (f x)) xs
 prefix_map p f [] = refl
 prefix_map p f (x ∷ xs) = ap (λ n. cond (p (f x)) (1 + n) 0) (prefix_map p f xs)
 
 position_by : ℕ → ℕ → Option ℕ
-position_by at n = cond (nat_lt at n) (Some at) None
+position_by at n = cond (C.nat_lt at n) (Some at) None
 
 pub position_map : {X Y : Type 0} (p : Y → Bool) (f : X → Y) (xs : List X) → position p (map f xs) ≡ position (λ x. p (f x)) xs
 unfolding position_by
-position_map p f xs = ap (λ at. position_by at (length (map f xs))) (prefix_map (λ y. not (p y)) f xs) ∙ ap (position_by (position_or_len (λ x. p (f x)) xs)) (length-map xs f)
+position_map p f xs = ap (λ at. position_by at (length (map f xs))) (prefix_map (λ y. not (p y)) f xs) ∙ ap (position_by (C.position_or_len (λ x. p (f x)) xs)) (C.length-map xs f)
 
 place_named : {A : Type 0} (files : Files) (found : List (Found A)) (name : List ℕ)
     → position (λ (f : closing.Found). is_named f.read.tables.name name) (map (found_in files) found) ≡ position (λ f. is_named f.module.name name) found
 place_named files found name = position_map (λ (f : closing.Found). is_named f.read.tables.name name) (found_in files) found
 
-pub means_new : {A : Type 0} (modules : Modules) (files : Files) (found : List (Found A)) (name : List ℕ) (place : Option ℕ) → None ≡ handle_named modules name → place ≡ position (λ f. is_named f.module.name name) found
-    → option_map New place ≡ closing.meant (around_in modules files) (map (found_in files) found) name
+pub means_new : {A : Type 0} (modules : C.Modules) (files : Files) (found : List (Found A)) (name : List ℕ) (place : Option ℕ) → None ≡ C.handle_named modules name → place ≡ position (λ f. is_named f.module.name name) found
+    → option_map New place ≡ closing.meant (C.around_in modules files) (map (found_in files) found) name
 means_new modules files found name place none is =
     ap (option_map New) (is ∙ sym (place_named files found name))
-    ∙ ap (λ handle. option_or (option_map There handle) (option_map New (position (λ (f : closing.Found). is_named f.read.tables.name name) (map (found_in files) found)))) none
+    ∙ ap (λ handle. C.option_or (option_map There handle) (option_map New (position (λ (f : closing.Found). is_named f.read.tables.name name) (map (found_in files) found)))) none
 
 -- Files.
 
-pub is_read : (file : Option (List ℕ)) (n : ℕ) (t : ne.Tables) → length_of file ≡ Ok n → HasBytes file → tables_at file ≡ Ok t → IsRead file t
+pub is_read : (file : Option (List ℕ)) (n : ℕ) (t : ne.Tables) → C.length_of file ≡ Ok n → C.HasBytes file → C.tables_at file ≡ Ok t → C.IsRead file t
 is_read None n t there all e = cc
-is_read (Some bytes) n t there all e = (e, accepted bytes t all e)
+is_read (Some bytes) n t there all e = (e, C.accepted bytes t all e)
 
-pub is_refused : (file : Option (List ℕ)) (n start before after : ℕ) (e : NeFault) → start ≤ before → length_of file ≡ Ok n → HasBytes file → ne_reading.Refuses file before after e (tables_at file)
-    → IsFault (λ number. said file ≡ Err number) start after (fault_of e)
+pub is_refused : (file : Option (List ℕ)) (n start before after : ℕ) (e : C.NeFault) → start ≤ before → C.length_of file ≡ Ok n → C.HasBytes file → ne_reading.Refuses file before after e (C.tables_at file)
+    → C.IsFault (λ number. said file ≡ Err number) start after (C.fault_of e)
 is_refused None n start before after e le there all h = cc
 is_refused (Some bytes) n start before after faults.OutOfMemory le there all h = tt
 is_refused (Some bytes) n start before after (faults.Store stores.Device) le there all h = omega arith
@@ -69,20 +70,20 @@ module _ (bytes : List ℕ) (t : ne.Tables) where
   abbrev pub are_left : List Segment → Bool
   are_left segments = list_all (λ s. is_ok (checked bytes t s)) segments
 
-  pub all_sound : (place : ℕ) → length t.segments ≤ place → are_left (drop place t.segments) ≡ are_left t.segments → are_sound (module_file bytes t) ≡ true
-  all_sound place le left = sound_law bytes t ∙ sym left ∙ ap are_left (drop_all place t.segments le)
+  pub all_sound : (place : ℕ) → length t.segments ≤ place → are_left (drop place t.segments) ≡ are_left t.segments → C.are_sound (C.module_file bytes t) ≡ true
+  all_sound place le left = C.sound_law bytes t ∙ sym left ∙ ap are_left (C.drop_all place t.segments le)
 
   module _ (place : ℕ) (s : Segment) (at : slice_get t.segments place ≡ Some s) (left : are_left (drop place t.segments) ≡ are_left t.segments) where
-    so_far : (said : Result Held RelocFault) → checked bytes t s ≡ said → are_left t.segments ≡ (is_ok said && are_left (drop (suc place) t.segments))
+    so_far : (said : C.Result Held RelocFault) → checked bytes t s ≡ said → are_left t.segments ≡ (is_ok said && are_left (drop (suc place) t.segments))
     so_far said is = sym left ∙ one_left (λ s. is_ok (checked bytes t s)) t.segments place s at ∙ ap (λ r. is_ok r && are_left (drop (suc place) t.segments)) is
 
     pub sound_next : (held : Held) → checked bytes t s ≡ Ok held → are_left (drop (place + 1) t.segments) ≡ are_left t.segments
-    sound_next held is = ap (λ k. are_left (drop k t.segments)) (add-one place) ∙ sym (so_far (Ok held) is)
+    sound_next held is = ap (λ k. are_left (drop k t.segments)) (C.add-one place) ∙ sym (so_far (Ok held) is)
 
-    not_sound : (e : RelocFault) → checked bytes t s ≡ Err e → IsUnsound bytes t 11
-    not_sound e is = (refl, sound_law bytes t ∙ so_far (Err e) is)
+    not_sound : (e : RelocFault) → checked bytes t s ≡ Err e → C.IsUnsound bytes t 11
+    not_sound e is = (refl, C.sound_law bytes t ∙ so_far (Err e) is)
 
-    pub is_unsound : (start before after : ℕ) (e : RelocFault) → start ≤ before → Refuses before after e (checked bytes t s) → IsFault (IsUnsound bytes t) start after (fault_of_check e)
+    pub is_unsound : (start before after : ℕ) (e : RelocFault) → start ≤ before → C.Refuses before after e (checked bytes t s) → C.IsFault (C.IsUnsound bytes t) start after (C.fault_of_check e)
     is_unsound start before after relocs.BadRecord le h = not_sound relocs.BadRecord h
     is_unsound start before after relocs.SiteOutside le h = not_sound relocs.SiteOutside h
     is_unsound start before after relocs.Overlap le h = not_sound relocs.Overlap h

@@ -1,17 +1,16 @@
 -- What gets bytes in turn: of one segment and then of the others, and of one module and then of the others.
-use Rattle.w16_loader.proofs.Common.{◌≡◌, ◌≢◌, ℕ, zero, suc, ◌+◌, ◌<◌, ◌≤◌, Bool, true, false, cond, ◌||◌, List, [], ◌∷◌, ◌++◌, length, drop, flat_map, All, Option, Some, None, IfSome, IsSomeAnd, MatchOption, get_or, option_map}
-use Rattle.w16_loader.proofs.Common.{unwrap_or, slice_get, Result, Ok, Err, inl, inr, refl, sym, ap, ◌∙◌, subst, arith, add-one, AllZip, drop_all, AllZip-left, Handles, Heap, is_fixed, Member, EachPair, Each-at, Each-from}
-use Rattle.w16_loader.proofs.Common.{Each-from_All, All-from_Each, EachPair-from_AllPairs, AllPairs-from_EachPair, FetchFault, ModuleFile, Segment, Tables, Failure, Filling, Giving, InTurn, Module, Modules, module_at, fills_from}
-use Rattle.w16_loader.proofs.Common.{first_apart, one_place, place_member, apart_after, in_first, in_second, fault_in, Part, AreUnfilled, HasUnfilled, IsReadAs, IsUnfilled, failure_at, fills_in, fills_of_part, fills_with, slots_at}
+use Rattle.w16_loader.proofs
+use proofs.Common as C
+use proofs.Common.{◌≡◌, ◌≢◌, ℕ, zero, suc, ◌+◌, ◌<◌, ◌≤◌, Bool, true, false, cond, ◌||◌, List, [], ◌∷◌, ◌++◌, length, drop, flat_map, All, Option, Some, None, IfSome, IsSomeAnd, get_or, slice_get, Ok, Err, inl, inr, refl, sym, ap, ◌∙◌, subst, arith, add-one, AllZip, Handles, Heap}
+use proofs.Common.{is_fixed, Member, EachPair, Each-at, ModuleFile, Segment, Failure, Filling, Giving, InTurn, Module, Modules, module_at, fills_from, Part, HasUnfilled, IsUnfilled, fills_in, fills_of_part, fills_with, slots_at}
+use proofs.{Files.there, Giving.some_at}
 use Rattle.std.specs.List.{AllByRecursion as Each}
-use Rattle.w16_loader.proofs.Files.{there}
-use Rattle.w16_loader.proofs.Giving.{some_at}
 
 -- Turns.
 
 module _ (gives : Giving) where
-  pub one_turn : {A : Type 0} (old new : Heap) (place slot : ℕ) (bytes : List ℕ) (result : Result A FetchFault) → gives old slot bytes (fault_in result) new
-      → InTurn gives old (record { place = place; slot = slot; bytes = bytes } ∷ []) (failure_at place result) new
+  pub one_turn : {A : Type 0} (old new : Heap) (place slot : ℕ) (bytes : List ℕ) (result : C.Result A C.FetchFault) → gives old slot bytes (C.fault_in result) new
+      → InTurn gives old (record { place = place; slot = slot; bytes = bytes } ∷ []) (C.failure_at place result) new
   one_turn old new place slot bytes (Ok done) g = (None, new, g, (refl, refl))
   one_turn old new place slot bytes (Err fault) g = (Some fault, new, g, (refl, refl))
 
@@ -65,7 +64,7 @@ module _ (place : ℕ) (m : Module) (read : ModuleFile) where
       ∙ ap (λ k. fills_of_part place part ++ fills_behind k) (sym (add-one i))
 
   pub none_behind : (i : ℕ) → length m.slots ≤ i → fills_behind i ≡ []
-  none_behind i le = ap (λ (slots : List ℕ). fills_from place slots (drop i m.tables.segments) (drop i read.segments) (drop i m.values)) (drop_all i m.slots le)
+  none_behind i le = ap (λ (slots : List ℕ). fills_from place slots (drop i m.tables.segments) (drop i read.segments) (drop i m.values)) (C.drop_all i m.slots le)
 
   module _ (gives : Giving) (old now next : Heap) (done j : ℕ) (same : j ≡ done) (part : Part m read j) (goes : Goes gives old (fills_in place m read) now (fills_behind done)) where
     parted_goes : Goes gives old (fills_in place m read) now (fills_of_part place part ++ fills_behind (done + 1))
@@ -88,10 +87,10 @@ zip_long R (x ∷ xs) [] h = absurd h
 zip_long R (x ∷ xs) (y ∷ ys) h = let rest : length ys ≡ length xs = zip_long R xs ys h.1 in omega (arith, rest)
 
 -- each of a module's segments is there with its data and values
-pub part_at : (m : Module) (read : ModuleFile) → IsReadAs m read → (i : ℕ) → i < length m.tables.segments → Part m read i
+pub part_at : (m : Module) (read : ModuleFile) → C.IsReadAs m read → (i : ℕ) → i < length m.tables.segments → Part m read i
 part_at m read is i lt =
     let data_many : length read.segments ≡ length read.tables.segments = zip_long _ read.tables.segments read.segments is.is_file.segments in
-    let tables_many : length read.tables.segments ≡ length m.tables.segments = ap (λ (t : Tables). length t.segments) is.tables in
+    let tables_many : length read.tables.segments ≡ length m.tables.segments = ap (λ (t : C.Tables). length t.segments) is.tables in
     let slots_many : length m.slots ≡ length m.tables.segments = is.slots in
     let values_many : length m.values ≡ length m.tables.segments = is.values in
     let slot = there m.slots i (omega (arith, slots_many, lt)) in
@@ -109,13 +108,13 @@ zipped_at R (a ∷ xs) (b ∷ ys) h (suc i) x y e f = zipped_at R xs ys h.1 i x 
 
 -- a slot that is none of these is at no place
 pub at_none : (slots : List ℕ) (slot : ℕ) → All (λ q. q ≢ slot) slots → (i : ℕ) → slice_get slots i ≢ Some slot
-at_none slots slot all i e = Each-at (λ q. q ≢ slot) slots (Each-from_All (λ q. q ≢ slot) slots all) slot (place_member slots i slot e) refl
+at_none slots slot all i e = Each-at (λ q. q ≢ slot) slots (C.Each-from_All (λ q. q ≢ slot) slots all) slot (C.place_member slots i slot e) refl
 
 -- the object of a segment has no bytes while only those of segments before it got theirs
 pub part_unfilled : (m : Module) (read : ModuleFile) (old now : Handles) (done j : ℕ) → j ≡ done → HasUnfilled old m → (part : Part m read j)
     → ((slot : ℕ) (s : Segment) → ((i : ℕ) → i < done → slice_get m.slots i ≢ Some slot) → IsUnfilled old slot s → IsUnfilled now slot s) → IsUnfilled now part.slot part.segment
 part_unfilled m read old now done j same empty part keeps = keeps part.slot part.segment
-    (λ i lt e. let here : i ≡ j = one_place m.slots i j part.slot (EachPair-from_AllPairs (λ (a b : ℕ). a ≢ b) m.slots empty.apart) e part.slot_at in omega (arith, here, same, lt))
+    (λ i lt e. let here : i ≡ j = C.one_place m.slots i j part.slot (C.EachPair-from_AllPairs (λ (a b : ℕ). a ≢ b) m.slots empty.apart) e part.slot_at in omega (arith, here, same, lt))
     (zipped_at (IsUnfilled old) m.slots m.tables.segments empty.objects j part.slot part.segment part.slot_at part.segment_at)
 
 -- Modules.
@@ -133,12 +132,12 @@ zip_kept old new (q ∷ qs) (s ∷ ss) keeps h = (keeps q s (inl refl) h.0, zip_
 
 in_all : (modules : Modules) (hs : List ℕ) (h q : ℕ) → Member h hs → Member q (slots_at modules h) → Member q (flat_map (slots_at modules) hs)
 in_all modules [] h q m n = absurd m
-in_all modules (k ∷ hs) h q (inl e) n = in_first q (slots_at modules k) (flat_map (slots_at modules) hs) (subst (λ i. Member q (slots_at modules i)) e n)
-in_all modules (k ∷ hs) h q (inr m) n = in_second q (slots_at modules k) (flat_map (slots_at modules) hs) (in_all modules hs h q m n)
+in_all modules (k ∷ hs) h q (inl e) n = C.in_first q (slots_at modules k) (flat_map (slots_at modules) hs) (subst (λ i. Member q (slots_at modules i)) e n)
+in_all modules (k ∷ hs) h q (inr m) n = C.in_second q (slots_at modules k) (flat_map (slots_at modules) hs) (in_all modules hs h q m n)
 
 apart_from : (s more : List ℕ) (q : ℕ) → EachPair (λ a b. a ≢ b) (s ++ more) → Member q s → Member q more → ⊥
 apart_from [] more q differ m n = m
-apart_from (x ∷ s) more q differ (inl e) n = Each-at (λ b. x ≢ b) (s ++ more) differ.0 q (in_second q s more n) (sym e)
+apart_from (x ∷ s) more q differ (inl e) n = Each-at (λ b. x ≢ b) (s ++ more) differ.0 q (C.in_second q s more n) (sym e)
 apart_from (x ∷ s) more q differ (inr m) n = apart_from s more q differ.1 m n
 
 module _ (modules : Modules) (old : Handles) (h : ℕ) (hs : List ℕ) (left : Left modules old (h ∷ hs)) (m : Module) (found : module_at modules h ≡ Some m) where
@@ -146,32 +145,32 @@ module _ (modules : Modules) (old : Handles) (h : ℕ) (hs : List ℕ) (left : L
   others = flat_map (slots_at modules) hs
 
   differ : EachPair (λ a b. a ≢ b) (m.slots ++ others)
-  differ = subst (λ (p : Option Module). EachPair (λ a b. a ≢ b) (unwrap_or (option_map (λ (n : Module). n.slots) p) [] ++ others)) found left.apart
+  differ = subst (λ (p : Option Module). EachPair (λ a b. a ≢ b) (C.unwrap_or (C.option_map (λ (n : Module). n.slots) p) [] ++ others)) found left.apart
 
   pub first_unfilled : HasUnfilled old m
   first_unfilled = record {
     objects = subst (λ (p : Option Module). IfSome p (λ n. AllZip (IsUnfilled old) n.slots n.tables.segments)) found left.objects.0;
-    apart = AllPairs-from_EachPair (λ a b. a ≢ b) m.slots (first_apart m.slots others differ);
+    apart = C.AllPairs-from_EachPair (λ a b. a ≢ b) m.slots (C.first_apart m.slots others differ);
   }
 
   -- those of the others stay so
   pub others_left : (new : Handles) → ((slot : ℕ) (s : Segment) → All (λ q. q ≢ slot) m.slots → IsUnfilled old slot s → IsUnfilled new slot s) → Left modules new hs
   others_left new keeps = record {
-    objects = Each-from (λ k. IfSome (module_at modules k) (λ n. AllZip (IsUnfilled new) n.slots n.tables.segments)) hs (λ k mem. turn k mem (module_at modules k) refl (Each-at (λ k. IfSome (module_at modules k) (λ n. AllZip (IsUnfilled old) n.slots n.tables.segments)) hs left.objects.1 k mem));
-    apart = apart_after m.slots others differ;
+    objects = C.Each-from (λ k. IfSome (module_at modules k) (λ n. AllZip (IsUnfilled new) n.slots n.tables.segments)) hs (λ k mem. turn k mem (module_at modules k) refl (Each-at (λ k. IfSome (module_at modules k) (λ n. AllZip (IsUnfilled old) n.slots n.tables.segments)) hs left.objects.1 k mem));
+    apart = C.apart_after m.slots others differ;
   }
     where
       none_here : (q : ℕ) → Member q others → All (λ p. p ≢ q) m.slots
-      none_here q n = All-from_Each (λ p. p ≢ q) m.slots (Each-from (λ p. p ≢ q) m.slots (λ p mem e. apart_from m.slots others q differ (subst (λ k. Member k m.slots) e mem) n))
+      none_here q n = C.All-from_Each (λ p. p ≢ q) m.slots (C.Each-from (λ p. p ≢ q) m.slots (λ p mem e. apart_from m.slots others q differ (subst (λ k. Member k m.slots) e mem) n))
 
       turn : (k : ℕ) → Member k hs → (p : Option Module) → module_at modules k ≡ p → IfSome p (λ n. AllZip (IsUnfilled old) n.slots n.tables.segments) → IfSome p (λ n. AllZip (IsUnfilled new) n.slots n.tables.segments)
       turn k mem None e had = tt
-      turn k mem (Some n) e had = zip_kept old new n.slots n.tables.segments (λ q s at is. keeps q s (none_here q (in_all modules hs k q mem (subst (λ (slots : List ℕ). Member q slots) (sym (ap (λ (p : Option Module). unwrap_or (option_map (λ (x : Module). x.slots) p) []) e)) at))) is) had
+      turn k mem (Some n) e had = zip_kept old new n.slots n.tables.segments (λ q s at is. keeps q s (none_here q (in_all modules hs k q mem (subst (λ (slots : List ℕ). Member q slots) (sym (ap (λ (p : Option Module). C.unwrap_or (C.option_map (λ (x : Module). x.slots) p) []) e)) at))) is) had
 
-pub all_left : (modules : Modules) (handles : Handles) (hs : List ℕ) → AreUnfilled modules handles hs → Left modules handles hs
+pub all_left : (modules : Modules) (handles : Handles) (hs : List ℕ) → C.AreUnfilled modules handles hs → Left modules handles hs
 all_left modules handles hs are = record {
-  objects = Each-from_All (λ h. IfSome (module_at modules h) (λ m. AllZip (IsUnfilled handles) m.slots m.tables.segments)) hs are.objects;
-  apart = EachPair-from_AllPairs (λ (a b : ℕ). a ≢ b) (flat_map (slots_at modules) hs) are.apart;
+  objects = C.Each-from_All (λ h. IfSome (module_at modules h) (λ m. AllZip (IsUnfilled handles) m.slots m.tables.segments)) hs are.objects;
+  apart = C.EachPair-from_AllPairs (λ (a b : ℕ). a ≢ b) (flat_map (slots_at modules) hs) are.apart;
 }
 
 -- how far the fillings of modules have come
@@ -179,7 +178,7 @@ pub record Reached (gives : Giving) (modules : Modules) (old now : Handles) (hs 
   pub left : Left modules now (drop place hs)
   pub goes : Goes gives old.heap (fills_with modules 0 hs reads) now.heap (fills_with modules place (drop place hs) (drop place reads))
 
-pub reached_first : (gives : Giving) (modules : Modules) (old : Handles) (hs : List ℕ) (reads : List ModuleFile) → AreUnfilled modules old hs → Reached gives modules old old hs reads 0
+pub reached_first : (gives : Giving) (modules : Modules) (old : Handles) (hs : List ℕ) (reads : List ModuleFile) → C.AreUnfilled modules old hs → Reached gives modules old old hs reads 0
 reached_first gives modules old hs reads are = record { left = all_left modules old hs are; goes = λ failure last h. h }
 
 none_with : (modules : Modules) (place : ℕ) (hs : List ℕ) (reads : List ModuleFile) → hs ≡ [] → fills_with modules place hs reads ≡ []
@@ -188,7 +187,7 @@ none_with modules place hs reads e = ap (λ ks. fills_with modules place ks read
 pub reached_last : (gives : Giving) (modules : Modules) (old now : Handles) (hs : List ℕ) (reads : List ModuleFile) (place : ℕ) → length hs ≤ place → Reached gives modules old now hs reads place
     → InTurn gives old.heap (fills_with modules 0 hs reads) None now.heap
 reached_last gives modules old now hs reads place le r = all_done gives old.heap now.heap (fills_with modules 0 hs reads) (fills_with modules place (drop place hs) (drop place reads)) r.goes
-    (none_with modules place (drop place hs) (drop place reads) (drop_all place hs le))
+    (none_with modules place (drop place hs) (drop place reads) (C.drop_all place hs le))
 
 module _ (gives : Giving) (modules : Modules) (old now next : Handles) (hs : List ℕ) (reads : List ModuleFile) (place h : ℕ) (read : ModuleFile) (m : Module) (at : slice_get hs place ≡ Some h) (its : slice_get reads place ≡ Some read)
     (found : module_at modules h ≡ Some m) (reached : Reached gives modules old now hs reads place) where
@@ -234,7 +233,7 @@ here (h ∷ hs) (suc place) lt = here hs place (omega (arith, lt))
 named_by : (modules : Modules) (R : Module → ModuleFile → Type 0) (hs : List ℕ) (reads : List ModuleFile) → AllZip (λ h read. IsSomeAnd (module_at modules h) (λ m. R m read)) hs reads → (place h : ℕ) → slice_get hs place ≡ Some h
     → Named modules h reads place
 named_by modules R hs reads all place h at = turn (slice_get reads place) refl
-    (subst (λ p. MatchOption p (Unit {0}) (λ k. IsSomeAnd (slice_get reads place) (λ read. IsSomeAnd (module_at modules k) (λ m. R m read)))) at (AllZip-left (λ k read. IsSomeAnd (module_at modules k) (λ m. R m read)) hs reads all place))
+    (subst (λ p. C.MatchOption p (Unit {0}) (λ k. IsSomeAnd (slice_get reads place) (λ read. IsSomeAnd (module_at modules k) (λ m. R m read)))) at (C.AllZip-left (λ k read. IsSomeAnd (module_at modules k) (λ m. R m read)) hs reads all place))
   where
     turn : (p : Option ModuleFile) → slice_get reads place ≡ p → IsSomeAnd p (λ read. IsSomeAnd (module_at modules h) (λ m. R m read)) → Named modules h reads place
     turn None e has = absurd has

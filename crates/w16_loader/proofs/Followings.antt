@@ -1,13 +1,13 @@
 -- What the code has reached, reference by reference.
-use Rattle.w16_loader.proofs.Common.{◌≡◌, ℕ, zero, suc, ◌+◌, ◌-◌, ◌<◌, ◌≤◌, List, [], ◌∷◌, ◌++◌, length, Some, refl, sym, ap, subst, arith}
-use Rattle.w16_loader.proofs.Common.{slice_get, slice_index_or, New, Found, Followed, MOST_MODULES, Modules}
-use Rattle.w16_loader.proofs.Common.{free_modules, references_at, found_after}
+use Rattle.w16_loader.proofs
+use proofs.Common as C
+use proofs.Common.{◌≡◌, ℕ, zero, suc, ◌+◌, ◌-◌, ◌<◌, ◌≤◌, List, [], ◌∷◌, ◌++◌, length, Some, refl, sym, ap, subst, arith, slice_get, New, Found, references_at}
+use proofs.Files.{there}
 use Rattle.w16_loader.specs.declared.closure.Followed.TheVariants as leads
 use Rattle.std.specs.FinMap as finmap
-use Rattle.w16_loader.proofs.Files.{there}
 
 -- a module that has references is there
-pub indexed : {A : Type 0} (found : List (Found A)) (place number : ℕ) (f : Found A) → 0 < number → number ≤ length (references_at found place) → f ≡ slice_index_or found place f
+pub indexed : {A : Type 0} (found : List (Found A)) (place number : ℕ) (f : Found A) → 0 < number → number ≤ length (references_at found place) → f ≡ C.slice_index_or found place f
     → (slice_get found place ≡ Some f) × (number ≤ length f.module.references)
 indexed [] place number f some le e = absurd (omega (arith, some, le))
 indexed (g ∷ gs) zero number f some le e = (ap Some (sym e), subst (λ (h : Found _). number ≤ length h.module.references) (sym e) le)
@@ -19,13 +19,13 @@ same_at [] place f g e = cc
 same_at (x ∷ xs) zero f g e = refl
 same_at (x ∷ xs) (suc place) f g e = same_at xs place f g e
 
-pub same_after : {A : Type 0} (found : List (Found A)) (place : ℕ) (f : Found A) (followed : Followed A) → slice_get found place ≡ Some f → references_at (found_after found followed) place ≡ references_at found place
+pub same_after : {A : Type 0} (found : List (Found A)) (place : ℕ) (f : Found A) (followed : C.Followed A) → slice_get found place ≡ Some f → references_at (C.found_after found followed) place ≡ references_at found place
 same_after found place f (leads.Meant referent) e = refl
 same_after found place f (leads.New g) e = same_at found place f g e
 
 -- no more handles are free than there are
-pub few_free : (modules : Modules) → free_modules modules ≤ MOST_MODULES
-few_free modules = less MOST_MODULES (finmap.len modules)
+pub few_free : (modules : C.Modules) → C.free_modules modules ≤ C.MOST_MODULES
+few_free modules = less C.MOST_MODULES (finmap.len modules)
   where
     less : (m n : ℕ) → m - n ≤ m
     less m n = omega arith

@@ -1,10 +1,9 @@
 -- Modules bound and filled one after another are those that loading binds and fills at once.
-use Rattle.w16_loader.proofs.Common.{◌≡◌, ◌≢◌, ℕ, ◌+◌, inl, inr, List, [], ◌∷◌, ◌++◌, length, map, Option, Some, None, refl, sym, ap, ◌∙◌, arith, cases_eq, Member, EachPair, Each-at, inserted_here, inserted_other, SegmentData, Target, targets_of}
-use Rattle.w16_loader.proofs.Common.{Filling, Lookup, Module, Modules, Named, module_in, module_at, value_of, Loaded, Given, given_from, with_modules, fills_from, fills_of, same_values, given_handle, put_all, values_for, bound_as, all_bound, fills_with}
+use Rattle.w16_loader.proofs.Common as C
+use Rattle.w16_loader.proofs.Common.{◌≡◌, ◌≢◌, ℕ, ◌+◌, inl, inr, List, [], ◌∷◌, ◌++◌, length, map, Some, None, refl, sym, ap, ◌∙◌, arith, cases_eq, Member, inserted_here, inserted_other, targets_of, Module, Modules, Named, module_at, Loaded, Given, given_from, with_modules, fills_with}
 use Rattle.std.specs.List.{AllByRecursion as Each, flat_map}
+use Rattle.w16_loading.specs.{Closure.Found, Naming.bound_in}
 use Rattle.std.specs.FinMap as finmap
-use Rattle.w16_loading.specs.Closure.{Found}
-use Rattle.w16_loading.specs.Naming.{bound_in}
 
 -- Modules under other handles than one that is put.
 
@@ -17,44 +16,44 @@ alike f (g ∷ gs) x y q e = alike f gs (finmap.insert x g.handle (Loaded (f g))
 
 insert_first : (f : Given → Module) (gs : List Given) (x : Modules) (h : ℕ) (n : Named) → ((g : Given) → Member g gs → h ≢ g.handle)
     → finmap.insert (with_modules f gs x) h n ≡ with_modules f gs (finmap.insert x h n)
-insert_first f gs x h n out = same_values (finmap.insert (with_modules f gs x) h n) (with_modules f gs (finmap.insert x h n)) (λ q. elim (cases_eq q h) [
-  | inl e ↦ inserted_here (with_modules f gs x) h n q e ∙ sym (ap (finmap.get (with_modules f gs (finmap.insert x h n))) e ∙ put_all f gs (finmap.insert x h n) h out ∙ inserted_here x h n h refl)
+insert_first f gs x h n out = C.same_values (finmap.insert (with_modules f gs x) h n) (with_modules f gs (finmap.insert x h n)) (λ q. elim (cases_eq q h) [
+  | inl e ↦ inserted_here (with_modules f gs x) h n q e ∙ sym (ap (finmap.get (with_modules f gs (finmap.insert x h n))) e ∙ C.put_all f gs (finmap.insert x h n) h out ∙ inserted_here x h n h refl)
   | inr d ↦ inserted_other (with_modules f gs x) h n q d ∙ alike f gs x (finmap.insert x h n) q (sym (inserted_other x h n q d))
 ])
 
 insert_twice : (x : Modules) (h : ℕ) (m n : Named) → finmap.insert (finmap.insert x h m) h n ≡ finmap.insert x h n
-insert_twice x h m n = same_values (finmap.insert (finmap.insert x h m) h n) (finmap.insert x h n) (λ q. elim (cases_eq q h) [
+insert_twice x h m n = C.same_values (finmap.insert (finmap.insert x h m) h n) (finmap.insert x h n) (λ q. elim (cases_eq q h) [
   | inl e ↦ inserted_here (finmap.insert x h m) h n q e ∙ sym (inserted_here x h n q e)
   | inr d ↦ inserted_other (finmap.insert x h m) h n q d ∙ inserted_other x h m q d ∙ sym (inserted_other x h n q d)
 ])
 
 -- what a handle names that none of these is under, and what it names that is put first
 here : (f : Given → Module) (gs : List Given) (x : Modules) (h : ℕ) (m : Module) → ((g : Given) → Member g gs → h ≢ g.handle) → module_at (with_modules f gs (finmap.insert x h (Loaded m))) h ≡ Some m
-here f gs x h m out = ap module_in (put_all f gs (finmap.insert x h (Loaded m)) h out ∙ inserted_here x h (Loaded m) h refl)
+here f gs x h m out = ap C.module_in (C.put_all f gs (finmap.insert x h (Loaded m)) h out ∙ inserted_here x h (Loaded m) h refl)
 
 others : (place : ℕ) (fs : List Found) (hs : List ℕ) (ss : List (List ℕ)) (h : ℕ) → Each (λ b. h ≢ b) hs → (g : Given) → Member g (given_from place fs hs ss) → h ≢ g.handle
-others place fs hs ss h differ g m = Each-at (λ b. h ≢ b) hs differ g.handle (given_handle place fs hs ss g m)
+others place fs hs ss h differ g m = C.Each-at (λ b. h ≢ b) hs differ g.handle (C.given_handle place fs hs ss g m)
 
-module _ (look : Lookup) (first : Given → Module) where
+module _ (look : C.Lookup) (first : Given → Module) where
   -- a module bound by these look-ups
   abbrev pub last : Given → Module
   last g = bound_in look (first g) g.found.read.segments
 
-  abbrev pub targets_in : List Found → List (List (List Target))
+  abbrev pub targets_in : List Found → List (List (List C.Target))
   targets_in fs = map (λ (f : Found). map targets_of f.read.segments) fs
 
-  values_are : (m : Module) (ss : List SegmentData) → values_for look m (map targets_of ss) ≡ map (λ s. map (value_of look m) (targets_of s)) ss
+  values_are : (m : Module) (ss : List C.SegmentData) → C.values_for look m (map targets_of ss) ≡ map (λ s. map (C.value_of look m) (targets_of s)) ss
   values_are m [] = refl
-  values_are m (s ∷ ss) = ap (λ vs. map (value_of look m) (targets_of s) ∷ vs) (values_are m ss)
+  values_are m (s ∷ ss) = ap (λ vs. map (C.value_of look m) (targets_of s) ∷ vs) (values_are m ss)
 
-  one_bound : (modules : Modules) (g : Given) → module_at modules g.handle ≡ Some (first g) → bound_as look modules g.handle (map targets_of g.found.read.segments) ≡ finmap.insert modules g.handle (Loaded (last g))
+  one_bound : (modules : Modules) (g : Given) → module_at modules g.handle ≡ Some (first g) → C.bound_as look modules g.handle (map targets_of g.found.read.segments) ≡ finmap.insert modules g.handle (Loaded (last g))
   one_bound modules g there =
-      ap (λ (p : Option Module). elim p as (λ _. Modules) [ None ↦ modules | Some m ↦ finmap.insert modules g.handle (Loaded (record m { values = values_for look m (map targets_of g.found.read.segments) })) ]) there
+      ap (λ (p : C.Option Module). elim p as (λ _. Modules) [ None ↦ modules | Some m ↦ finmap.insert modules g.handle (Loaded (record m { values = C.values_for look m (map targets_of g.found.read.segments) })) ]) there
       ∙ ap (λ vs. finmap.insert modules g.handle (Loaded (record (first g) { values = vs }))) (values_are (first g) g.found.read.segments)
 
   -- one after another, or at once
-  pub all_bound_are : (place : ℕ) (fs : List Found) (hs : List ℕ) (ss : List (List ℕ)) (old : Modules) → EachPair (λ a b. a ≢ b) hs → length hs ≡ length fs → length ss ≡ length fs
-      → all_bound look (with_modules first (given_from place fs hs ss) old) hs (targets_in fs) ≡ with_modules last (given_from place fs hs ss) old
+  pub all_bound_are : (place : ℕ) (fs : List Found) (hs : List ℕ) (ss : List (List ℕ)) (old : Modules) → C.EachPair (λ a b. a ≢ b) hs → length hs ≡ length fs → length ss ≡ length fs
+      → C.all_bound look (with_modules first (given_from place fs hs ss) old) hs (targets_in fs) ≡ with_modules last (given_from place fs hs ss) old
   all_bound_are place [] [] ss old apart many long = refl
   all_bound_are place [] (h ∷ hs) ss old apart many long = absurd (omega arith)
   all_bound_are place (f ∷ fs) [] ss old apart many long = absurd (omega arith)
@@ -63,7 +62,7 @@ module _ (look : Lookup) (first : Given → Module) where
       let g : Given = record { place = place; found = f; handle = h; slots = s } in
       let gs : List Given = given_from (place + 1) fs hs ss in
       let out = others (place + 1) fs hs ss h apart.0 in
-      ap (λ (x : Modules). all_bound look x hs (targets_in fs)) (
+      ap (λ (x : Modules). C.all_bound look x hs (targets_in fs)) (
       one_bound (with_modules first gs (finmap.insert old h (Loaded (first g)))) g (here first gs old h (first g) out)
       ∙ insert_first first gs (finmap.insert old h (Loaded (first g))) h (Loaded (last g)) out
       ∙ ap (with_modules first gs) (insert_twice old h (Loaded (first g)) (Loaded (last g)))
@@ -73,7 +72,7 @@ module _ (look : Lookup) (first : Given → Module) where
 -- what gets bytes
 pub fills_are : (module_of : Given → Module) → ((g : Given) → (module_of g).slots ≡ g.slots) → ((g : Given) → (module_of g).tables ≡ g.found.read.tables) → (modules : Modules)
     (place : ℕ) (fs : List Found) (hs : List ℕ) (ss : List (List ℕ)) → ((g : Given) → Member g (given_from place fs hs ss) → module_at modules g.handle ≡ Some (module_of g)) → length hs ≡ length fs → length ss ≡ length fs
-    → fills_with modules place hs (map (λ (f : Found). f.read) fs) ≡ flat_map (fills_of module_of) (given_from place fs hs ss)
+    → fills_with modules place hs (map (λ (f : Found). f.read) fs) ≡ flat_map (C.fills_of module_of) (given_from place fs hs ss)
 fills_are module_of slots tables modules place [] [] ss there many long = refl
 fills_are module_of slots tables modules place [] (h ∷ hs) ss there many long = absurd (omega arith)
 fills_are module_of slots tables modules place (f ∷ fs) [] ss there many long = absurd (omega arith)
@@ -82,6 +81,6 @@ fills_are module_of slots tables modules place (f ∷ fs) (h ∷ hs) (s ∷ ss) 
     let g : Given = record { place = place; found = f; handle = h; slots = s } in
     let m : Module = module_of g in
     let reads = map (λ (x : Found). x.read) fs in
-    ap (λ (p : Option Module). elim p as (λ _. List Filling) [ None ↦ [] | Some n ↦ fills_from place n.slots n.tables.segments f.read.segments n.values ] ++ fills_with modules (place + 1) hs reads) (there g (inl refl))
-    ∙ (λ i. fills_from place (slots g i) ((tables g i).segments) f.read.segments m.values ++ fills_with modules (place + 1) hs reads)
-    ∙ ap (λ xs. fills_of module_of g ++ xs) (fills_are module_of slots tables modules (place + 1) fs hs ss (λ x n. there x (inr n)) (omega arith) (omega arith))
+    ap (λ (p : C.Option Module). elim p as (λ _. List C.Filling) [ None ↦ [] | Some n ↦ C.fills_from place n.slots n.tables.segments f.read.segments n.values ] ++ fills_with modules (place + 1) hs reads) (there g (inl refl))
+    ∙ (λ i. C.fills_from place (slots g i) ((tables g i).segments) f.read.segments m.values ++ fills_with modules (place + 1) hs reads)
+    ∙ ap (λ xs. C.fills_of module_of g ++ xs) (fills_are module_of slots tables modules (place + 1) fs hs ss (λ x n. there x (inr n)) (omega arith) (omega arith))

@@ -1,6 +1,6 @@
 -- An object that was revived and then written has what was written; one that couldn't be revived has no room for any bytes.
-use Rattle.w16_loader.proofs.Common.{◌≡◌, ℕ, ◌<◌, true, false, IsSomeAnd, List, length, All, Option, Some, None, refl, sym, ap, ◌∙◌, subst, false≢true, Kind, Owned, with_newest, after_write, Handles, Heap, Object}
-use Rattle.w16_loader.proofs.Common.{object_at, bytes_at, Revives, owned_at, revival_options, Allocates, Request, IsNew, AreNew, discarded, discards_needed, inserted_here, Lends, Fills, fill_law, GivesBytes}
+use Rattle.w16_loader.proofs.Common as C
+use Rattle.w16_loader.proofs.Common.{◌≡◌, ℕ, ◌<◌, true, false, IsSomeAnd, List, length, All, Option, Some, None, refl, sym, ap, ◌∙◌, subst, false≢true, Kind, Owned, Handles, Heap, Object, object_at, bytes_at, owned_at, revival_options, Allocates, IsNew, Lends, Fills}
 
 pub some_at : {A : Type 0} (P : A → Type 0) (p : Option A) → IsSomeAnd p P → (a : A) × (p ≡ Some a) × P a
 some_at P None h = absurd h
@@ -8,23 +8,23 @@ some_at P (Some a) h = (a, refl, h)
 
 -- what was allocated has as many bytes as were asked for
 allocated_bytes : (old new : Heap) (id n : ℕ) (kind : Kind) (locks : ℕ) → Allocates old id n kind locks revival_options true new → IsSomeAnd (bytes_at new id) (λ b. length b ≡ n)
-allocated_bytes old new id n kind locks a = turn (discards_needed old n (Some id) revival_options) a.request
+allocated_bytes old new id n kind locks a = turn (C.discards_needed old n (Some id) revival_options) a.request
   where
-    many : (p : Option (List ℕ)) → IsSomeAnd p (AreNew revival_options.zero n) → IsSomeAnd p (λ b. length b ≡ n)
+    many : (p : Option (List ℕ)) → IsSomeAnd p (C.AreNew revival_options.zero n) → IsSomeAnd p (λ b. length b ≡ n)
     many None h = h
     many (Some b) h = h.0
 
-    turn : (p : Option ℕ) → Request old id (record { options = revival_options; prefix = p; becomes = IsNew revival_options.zero n kind locks; order = with_newest id }) true new → IsSomeAnd (bytes_at new id) (λ b. length b ≡ n)
+    turn : (p : Option ℕ) → C.Request old id (record { options = revival_options; prefix = p; becomes = IsNew revival_options.zero n kind locks; order = C.with_newest id }) true new → IsSomeAnd (bytes_at new id) (λ b. length b ≡ n)
     turn None r = absurd (false≢true (sym r.0))
     turn (Some k) r = subst (λ (p : Option Object). IsSomeAnd (elim p as (λ _. Option (List ℕ)) [ Some o ↦ o.bytes | None ↦ None ]) (λ b. length b ≡ n))
-        (sym (ap (λ (h : Heap). object_at h id) r.1.2.same ∙ inserted_here (discarded old k (Some id)).objects id r.1.0 id refl)) (many r.1.0.bytes r.1.1.new_bytes)
+        (sym (ap (λ (h : Heap). object_at h id) r.1.2.same ∙ C.inserted_here (C.discarded old k (Some id)).objects id r.1.0 id refl)) (many r.1.0.bytes r.1.1.new_bytes)
 
 module _ (old : Handles) (slot : ℕ) (absent : bytes_at old.heap slot ≡ None) where
   -- its object has none
   none_at : (o : Object) → object_at old.heap slot ≡ Some o → o.bytes ≡ None
   none_at o there = ap (λ (p : Option Object). elim p as (λ _. Option (List ℕ)) [ Some x ↦ x.bytes | None ↦ None ]) (sym there) ∙ absent
 
-  module _ (mid : Handles) (revived : Revives old slot true mid) where
+  module _ (mid : Handles) (revived : C.Revives old slot true mid) where
     abbrev AsksFor : ℕ → Object → Type 0
     AsksFor n o = Allocates old.heap slot n o.kind o.locks revival_options true mid.heap
 
@@ -45,22 +45,22 @@ module _ (old : Handles) (slot : ℕ) (absent : bytes_at old.heap slot ≡ None)
         turn (Some x) h = p
 
     pub given_bytes : (new : Handles) (done : List ℕ → List ℕ → Type 0) (IsBytes : List ℕ → Type 0) (lent : Lends mid.heap slot done) → IsBytes lent.after
-        → new ≡ record mid { heap = after_write mid.heap slot 0 lent.after } → GivesBytes old slot IsBytes new
+        → new ≡ record mid { heap = C.after_write mid.heap slot 0 lent.after } → C.GivesBytes old slot IsBytes new
     given_bytes new done IsBytes lent are said = record {
       bytes = lent.after;
       sized = subst (λ p. IsSomeAnd p (λ (w : Owned). length lent.after ≡ w.size)) (sym owned.1) long;
       are = are;
       filled = subst (λ (h : Handles). Fills old.heap slot lent.after true h.heap) (sym said)
-          (fill_law old.heap mid.heap slot object.0 lent.after true object.1 (none_at object.0 object.1) lent.are_bytes
+          (C.fill_law old.heap mid.heap slot object.0 lent.after true object.1 (none_at object.0 object.1) lent.are_bytes
           (subst (λ n. AsksFor n object.0) (sym long) object.2));
-      rest = said ∙ ap (λ (h : Handles). record h { heap = after_write mid.heap slot 0 lent.after }) revived.rest ∙ ap (λ (h : Handles). record old { heap = h.heap }) (sym said);
+      rest = said ∙ ap (λ (h : Handles). record h { heap = C.after_write mid.heap slot 0 lent.after }) revived.rest ∙ ap (λ (h : Handles). record old { heap = h.heap }) (sym said);
     }
       where
         long : length lent.after ≡ owned.0.size
         long = lent.long ∙ subst (λ b. IsSomeAnd b (λ x. length x ≡ owned.0.size)) lent.had many
 
   -- no bytes have room, as many as the owner says
-  pub none_filled : Revives old slot false old → (bytes : List ℕ) → IsSomeAnd (owned_at old slot) (λ w. length bytes ≡ w.size) → All (λ b. b < 256) bytes → Fills old.heap slot bytes false old.heap
+  pub none_filled : C.Revives old slot false old → (bytes : List ℕ) → IsSomeAnd (owned_at old slot) (λ w. length bytes ≡ w.size) → All (λ b. b < 256) bytes → Fills old.heap slot bytes false old.heap
   none_filled refused bytes sized ours = by (owned_at old slot) refused.owned sized
     where
       by : (p : Option Owned) → IsSomeAnd p (λ w. IsSomeAnd (object_at old.heap slot) (λ o. Allocates old.heap slot w.size o.kind o.locks revival_options false old.heap)) → IsSomeAnd p (λ w. length bytes ≡ w.size)
@@ -68,4 +68,4 @@ module _ (old : Handles) (slot : ℕ) (absent : bytes_at old.heap slot ≡ None)
       by None h long = absurd h
       by (Some w) h long =
           let o : (o : Object) × (object_at old.heap slot ≡ Some o) × Allocates old.heap slot w.size o.kind o.locks revival_options false old.heap = some_at (λ (o : Object). Allocates old.heap slot w.size o.kind o.locks revival_options false old.heap) (object_at old.heap slot) h in
-          fill_law old.heap old.heap slot o.0 bytes false o.1 (none_at o.0 o.1) ours (subst (λ n. Allocates old.heap slot n o.0.kind o.0.locks revival_options false old.heap) (sym long) o.2)
+          C.fill_law old.heap old.heap slot o.0 bytes false o.1 (none_at o.0 o.1) ours (subst (λ n. Allocates old.heap slot n o.0.kind o.0.locks revival_options false old.heap) (sym long) o.2)

@@ -1,6 +1,5 @@
 -- How a load's objects get their bytes, over a store that may be honest.
-use Rattle.w16_loader.proofs.Common.{ℕ, ◌<◌, ◌≤◌, List, [], ◌∷◌, Option, Some, None, arith, Heap, FetchFault, Store, Damaged, NoRoom, Failure, Filling, InTurn}
-use Rattle.w16_loader.proofs.Common.{gives_over}
+use Rattle.w16_loader.proofs.Common.{ℕ, ◌<◌, ◌≤◌, List, [], ◌∷◌, Option, Some, None, arith, Heap, FetchFault, Store, Damaged, NoRoom, Failure, Filling, InTurn, gives_over}
 use Rattle.w16_loading.specs.Answers.{MayFail}
 
 -- What fails in a part of a call, fails in it.

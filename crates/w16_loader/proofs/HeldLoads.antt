@@ -1,27 +1,21 @@
 -- What a load comes to, by what its store answered.
-use Rattle.w16_loader.proofs.Common.{◌≡◌, ℕ, ◌<◌, ◌≤◌, inl, inr, zero, suc, Bool, true, List, [], ◌∷◌, length, map, fold, slice_index_or, All, All-nil, All-cons, Option, Some, None, IfOk, Result, Ok, Err, MatchOption, MatchResult, refl, sym, ap, ◌∙◌, subst, arith, AllZip, option_or, option_map}
-use Rattle.w16_loader.specs.Devices.{is_of_device, is_bind_device}
+use Rattle.w16_loader.proofs
+use proofs.Common as C
+use proofs.Closed as M
+use proofs.Common.{◌≡◌, ℕ, ◌<◌, ◌≤◌, inl, inr, zero, suc, Bool, true, List, [], ◌∷◌, map, fold, slice_index_or, All, Option, Some, None, IfOk, Result, Ok, Err, MatchResult, refl, sym, ap, ◌∙◌, subst, arith, AllZip, option_or, option_map, false, Heap, IsHeap, ModuleFile, IsModuleFile}
+use proofs.Common.{Fills, ne_format, There, New, Refused, Meant, Read, Given, given, LoadingWorld, Modules, handle_named, without_module, Says, LoadAnswer, around, begun, dll, Found, AreSaid, Files, IsOfFile, all_bound, closed_in, fills_with, said, around_in, IsAlike, IsFoundOf}
+use proofs.Common.{IsClosureOf, LoadsHeld, answer_in, failed_by, of_fault, AreHeld, answers_of}
+use proofs.Holdings.{bound_found, held_alike, some_held}
+use proofs.{Bindings.targets_in_all, Givings.turn_since}
+use Rattle.w16_loader.specs.{Devices.is_of_device, Devices.is_bind_device, Binding.IsBindFailure, Binding.IsUnread, declared.closure.Closure.Closure}
 use Rattle.w16_loading.specs.Load.{used_again}
-use Rattle.w16_loader.specs.Binding.{IsBindFailure, IsUnread}
-use Rattle.w16_loader.proofs.Common.{false, AllocError, is_member, AreHandles, Heap, IsHeap, Member, FetchFault, ModuleFile, IsModuleFile, Target, Tables, targets_of, Failure, InTurn, Fills, file_of, ne_format}
-use Rattle.w16_loader.proofs.Common.{There, New, Refused, Meant, Read, Given, given, LoadingWorld, Modules, Handles, handle_named, free_modules, without_values, without_module, Answer, Says, given_found, BindFault, FileFault, LoadAnswer, around, begun, dll, Found}
-use Rattle.w16_loader.proofs.Common.{AreTargets, AreItsFiles, AreReadAs, AreSaid, AreUnfilled, Files, IsFault, IsOfFile, all_bound, closed_in, found_in, fills_with, gives_over}
-use Rattle.w16_loader.proofs.Common.{said, around_in, in_store, IsAlike, IsFoundOf, AreUnbound, IsClosureOf, IsUnbound, LoadsHeld, answer_in, failed_by, of_fault, refused_by}
-use Rattle.w16_loader.proofs.Common.{AreAccepted, AreHeld, ClosesOf, IsAccepted, IsClosureBy, answers_of}
-use Rattle.std.specs.FinMap as finmap
 use Rattle.w16_loading.specs.Answers.{Answers, ClosesFrom, FillsFewest, GivesFrom, LoadsFrom, ReadsFile, follow, said_by, told}
+use Rattle.w16_loading.proofs.{Fewest.fill_fewest, Fillings.in_turn_so, Fillings.one_heap, Named.named_heap}
+use Rattle.std.specs.FinMap as finmap
 use Rattle.w16_loading.specs.Closure as closing
 use Rattle.w16_loading.specs.declared.FetchFault.TheVariants as fetches
-use Rattle.w16_loading.proofs.Fewest.{fill_fewest}
-use Rattle.w16_loading.proofs.Fillings.{in_turn_so, one_heap}
-use Rattle.w16_loading.proofs.Named.{named_heap}
 use Rattle.w16_loader.specs.declared.binding.BindFault.TheVariants as binds
-use Rattle.w16_loader.specs.declared.closure.Closure.{Closure}
 use Rattle.w16_loader.specs.declared.found.FileFault.TheVariants as faults
-use Rattle.w16_loader.proofs.Bindings.{targets_in_all}
-use Rattle.w16_loader.proofs.Closed.{are_its_files, are_read, are_said, are_unfilled, filled_load, refusal_is, still_said, taken_back, targets_long, unfilled_load}
-use Rattle.w16_loader.proofs.Givings.{turn_since}
-use Rattle.w16_loader.proofs.Holdings.{bound_found, held_alike, some_held}
 
 -- Modules that are alike.
 
@@ -41,7 +35,7 @@ module _ {A : Type 0} where
   pub closure_alike : (made : Closure A) (meant : closing.Closure) (found : List closing.Found) → IsClosureOf made meant → AllZip IsAlike meant.found found → IsClosureOf made (record meant { found = found })
   closure_alike made meant found is alike = record { found = found_alike made.found.items meant.found found is.found alike; bound = is.bound }
 
-  found_are : (files : Files) (fs : List (Found A)) → AllZip IsFoundOf fs (map (found_in files) fs)
+  found_are : (files : Files) (fs : List (Found A)) → AllZip IsFoundOf fs (map (C.found_in files) fs)
   found_are files [] = tt
   found_are files (f ∷ fs) = ((refl, refl), found_are files fs)
 
@@ -57,36 +51,36 @@ same_said (Some bytes) read e = e
 
 module _ (honest : Type 0) (files : Files) where
   held_files : (fs : List closing.Found) → AreHeld (answers_of honest files) fs → honest → All (IsOfFile files) fs
-  held_files [] held h = All-nil (IsOfFile files)
-  held_files (f ∷ fs) held h = All-cons (IsOfFile files) f fs (same_said (file_of files f.file) f.read (held.0.2 h), held.0.1) (held_files fs held.1 h)
+  held_files [] held h = C.All-nil (IsOfFile files)
+  held_files (f ∷ fs) held h = C.All-cons (IsOfFile files) f fs (same_said (C.file_of files f.file) f.read (held.0.2 h), held.0.1) (held_files fs held.1 h)
 
-  held_is : (fs : List closing.Found) → AreHeld (answers_of honest files) fs → (f : closing.Found) → Member f fs → IsModuleFile f.read
+  held_is : (fs : List closing.Found) → AreHeld (answers_of honest files) fs → (f : closing.Found) → C.Member f fs → IsModuleFile f.read
   held_is [] held f m = absurd m
   held_is (x ∷ xs) held f (inl e) = subst (λ (y : closing.Found). IsModuleFile y.read) (sym e) held.0.0
   held_is (x ∷ xs) held f (inr m) = held_is xs held.1 f m
 
 -- a request that discards as few as it can
-given_fewest : (answers : Answers) (old : Heap) (slot : ℕ) (held : List ℕ) (fault : Option FetchFault) (new : Heap) → IsHeap old → GivesFrom Fills answers old slot held fault new → GivesFrom FillsFewest answers old slot held fault new
+given_fewest : (answers : Answers) (old : Heap) (slot : ℕ) (held : List ℕ) (fault : Option C.FetchFault) (new : Heap) → IsHeap old → GivesFrom Fills answers old slot held fault new → GivesFrom FillsFewest answers old slot held fault new
 given_fewest answers old slot held None new is (bytes, long, read, f) = (bytes, long, read, (f, fill_fewest old slot bytes true new is f))
 given_fewest answers old slot held (Some fetches.NoRoom) new is (bytes, long, f) = (bytes, long, (f, fill_fewest old slot bytes false new is f))
 given_fewest answers old slot held (Some fetches.Store) new is f = f
 given_fewest answers old slot held (Some fetches.Damaged) new is f = f
 
 -- New modules that have names.
-module _ (honest : Type 0) (files : Files) (start after : ℕ) (old : LoadingWorld) (meant : closing.Closure) (handles : List ℕ) (mid : LoadingWorld) (us : AreUnbound old meant handles mid) (is : AreHandles old.handles)
-    (accepted : AreAccepted (answers_of honest files) meant.found) where
+module _ (honest : Type 0) (files : Files) (start after : ℕ) (old : LoadingWorld) (meant : closing.Closure) (handles : List ℕ) (mid : LoadingWorld) (us : C.AreUnbound old meant handles mid) (is : C.AreHandles old.handles)
+    (accepted : C.AreAccepted (answers_of honest files) meant.found) where
   abbrev some : (found : List closing.Found) × AllZip IsAlike meant.found found × AreHeld (answers_of honest files) found
   some = held_alike honest files meant.found accepted
 
-  some_unbound : IsUnbound old (record meant { found = some.0 }) handles mid
+  some_unbound : C.IsUnbound old (record meant { found = some.0 }) handles mid
   some_unbound = us some.0 some.1
 
   some_said : honest → AreSaid files mid.modules handles (map (λ (f : closing.Found). f.read) some.0)
-  some_said h = are_said old (record meant { found = some.0 }) handles mid some_unbound files (held_files honest files some.0 some.2 h)
+  some_said h = M.are_said old (record meant { found = some.0 }) handles mid some_unbound files (held_files honest files some.0 some.2 h)
 
   -- one of them isn't bound
-  pub unbound_held : (modules : Modules) → ((handle : ℕ) → without_values (finmap.get modules handle) ≡ without_values (finmap.get mid.modules handle))
-      → ((handle : ℕ) → is_member handle handles ≡ false → finmap.get modules handle ≡ finmap.get mid.modules handle) → (before : ℕ) → start ≤ before → (fault : BindFault) → IsUnread (length handles) fault → (is_bind_device fault ≡ true → before < after)
+  pub unbound_held : (modules : Modules) → ((handle : ℕ) → C.without_values (finmap.get modules handle) ≡ C.without_values (finmap.get mid.modules handle))
+      → ((handle : ℕ) → C.is_member handle handles ≡ false → finmap.get modules handle ≡ finmap.get mid.modules handle) → (before : ℕ) → start ≤ before → (fault : C.BindFault) → IsUnread (C.length handles) fault → (is_bind_device fault ≡ true → before < after)
       → ((reads : List ModuleFile) → honest → AreSaid files mid.modules handles reads → IsBindFailure before after fault)
       → IfOk (failed_by fault) (λ answer. LoadsHeld honest files start after old meant (answer_in answer) (fold without_module (record mid { modules = modules }) handles))
   unbound_held modules alike same before le (binds.Failed f) unread rose exact = (
@@ -97,17 +91,17 @@ module _ (honest : Type 0) (files : Files) (start after : ℕ) (old : LoadingWor
       f.place,
       f.fault,
       (unread.0, (λ e. let lt = rose (ap is_of_device e) in omega (arith, le, lt)), λ h. (exact (map (λ (x : closing.Found). x.read) some.0) h (some_said h)).0),
-      refusal_is f.place f.fault,
-      taken_back old (record meant { found = some.0 }) handles mid some_unbound modules alike same is,
+      M.refusal_is f.place f.fault,
+      M.taken_back old (record meant { found = some.0 }) handles mid some_unbound modules alike same is,
     ),
   )
   unbound_held modules alike same before le binds.OutOfMemory unread rose exact = tt
 
   -- They are bound to targets, which are their files' where the store is honest.
-  module _ (modules : Modules) (targets : List (List (List Target))) (are : AreTargets mid.modules handles targets) (b : modules ≡ all_bound (finmap.get mid.modules) mid.modules handles targets)
+  module _ (modules : Modules) (targets : List (List (List C.Target))) (are : C.AreTargets mid.modules handles targets) (b : modules ≡ all_bound (finmap.get mid.modules) mid.modules handles targets)
       (keeps : (reads : List ModuleFile) → honest → AreSaid files mid.modules handles reads → targets ≡ targets_in_all reads) where
     abbrev made : (found : List closing.Found) × AllZip IsAlike meant.found found × AreHeld (answers_of honest files) found × (targets_in_all (map (λ (f : closing.Found). f.read) found) ≡ targets)
-    made = bound_found honest files meant.found some.0 targets accepted some.1 some.2 (targets_long old meant handles mid (us meant.found (alike_same meant.found)) targets are)
+    made = bound_found honest files meant.found some.0 targets accepted some.1 some.2 (M.targets_long old meant handles mid (us meant.found (alike_same meant.found)) targets are)
         (λ h. keeps (map (λ (f : closing.Found). f.read) some.0) h (some_said h))
 
     abbrev reads : List ModuleFile
@@ -116,47 +110,47 @@ module _ (honest : Type 0) (files : Files) (start after : ℕ) (old : LoadingWor
     abbrev closure : closing.Closure
     closure = record meant { found = made.0 }
 
-    u : IsUnbound old closure handles mid
+    u : C.IsUnbound old closure handles mid
     u = us made.0 made.1
 
-    is_file : (g : Given) → Member g (given closure u.choice) → IsModuleFile g.found.read
-    is_file g m = held_is honest files made.0 made.2 g.found (given_found 0 made.0 u.choice.handles u.choice.slots g m)
+    is_file : (g : Given) → C.Member g (given closure u.choice) → IsModuleFile g.found.read
+    is_file g m = held_is honest files made.0 made.2 g.found (C.given_found 0 made.0 u.choice.handles u.choice.slots g m)
 
-    bound : modules ≡ all_bound (finmap.get mid.modules) mid.modules handles (map (λ (read : ModuleFile). map targets_of read.segments) reads)
+    bound : modules ≡ all_bound (finmap.get mid.modules) mid.modules handles (map (λ (read : ModuleFile). map C.targets_of read.segments) reads)
     bound = b ∙ ap (all_bound (finmap.get mid.modules) mid.modules handles) (sym made.3)
 
     abbrev answers : Answers
     answers = told honest ne_format files start after
 
     -- what a fill comes to, whatever these files are
-    abbrev pub AreFilled : (before : ℕ) → Option Failure → Heap → Type 0
-    AreFilled before failure heap = (reads : List ModuleFile) → AreReadAs modules handles reads → (honest → AreSaid files modules handles reads × AreItsFiles modules handles reads) → AreUnfilled modules mid.handles handles
-        → InTurn (gives_over honest before after) mid.handles.heap (fills_with modules 0 handles reads) failure heap
+    abbrev pub AreFilled : (before : ℕ) → Option C.Failure → Heap → Type 0
+    AreFilled before failure heap = (reads : List ModuleFile) → C.AreReadAs modules handles reads → (honest → AreSaid files modules handles reads × C.AreItsFiles modules handles reads) → C.AreUnfilled modules mid.handles handles
+        → C.InTurn (C.gives_over honest before after) mid.handles.heap (fills_with modules 0 handles reads) failure heap
 
-    fewest : (before : ℕ) → start ≤ before → (failure : Option Failure) (heap : Heap) → AreFilled before failure heap → InTurn (GivesFrom FillsFewest answers) mid.handles.heap (fills_with modules 0 handles reads) failure heap
+    fewest : (before : ℕ) → start ≤ before → (failure : Option C.Failure) (heap : Heap) → AreFilled before failure heap → C.InTurn (GivesFrom FillsFewest answers) mid.handles.heap (fills_with modules 0 handles reads) failure heap
     fewest before le failure heap filled =
         let of_files = λ (h : honest). held_files honest files made.0 made.2 h in
         in_turn_so (GivesFrom Fills answers) (GivesFrom FillsFewest answers) IsHeap
         (λ before slot bytes fault after sound f. (given_fewest answers before slot bytes fault after sound f, one_heap answers before slot bytes fault after sound f))
         mid.handles.heap heap (fills_with modules 0 handles reads) failure (subst (λ (w : LoadingWorld). IsHeap w.handles.heap) (sym u.after) (named_heap old closure u.choice is u.is_choice))
         (turn_since honest start before after after le (omega arith) mid.handles.heap (fills_with modules 0 handles reads) failure heap
-        (filled reads (are_read old closure handles mid u is_file modules bound)
-        (λ h. (still_said old closure handles mid u files (of_files h) modules bound, are_its_files old closure handles mid u files (of_files h) modules bound))
-        (are_unfilled old closure handles mid u is_file modules bound)))
+        (filled reads (M.are_read old closure handles mid u is_file modules bound)
+        (λ h. (M.still_said old closure handles mid u files (of_files h) modules bound, M.are_its_files old closure handles mid u files (of_files h) modules bound))
+        (M.are_unfilled old closure handles mid u is_file modules bound)))
 
     pub filled_held : (before : ℕ) → start ≤ before → (heap : Heap) → AreFilled before None heap
         → LoadsHeld honest files start after old meant (Says (slice_index_or handles 0 0)) (record mid { modules = modules; handles = record mid.handles { heap = heap } })
-    filled_held before le heap filled = (made.0, made.1, made.2, inl (inr (filled_load old closure handles mid u is_file modules bound (GivesFrom FillsFewest answers) heap (fewest before le None heap filled))))
+    filled_held before le heap filled = (made.0, made.1, made.2, inl (inr (M.filled_load old closure handles mid u is_file modules bound (GivesFrom FillsFewest answers) heap (fewest before le None heap filled))))
 
-    pub unfilled_held : (before : ℕ) → start ≤ before → (place : ℕ) (fault : FetchFault) (heap : Heap) → AreFilled before (Some (record { place = place; fault = fault })) heap
+    pub unfilled_held : (before : ℕ) → start ≤ before → (place : ℕ) (fault : C.FetchFault) (heap : Heap) → AreFilled before (Some (record { place = place; fault = fault })) heap
         → LoadsHeld honest files start after old meant (answer_in (of_fault place fault)) (fold without_module (record mid { modules = modules; handles = record mid.handles { heap = heap } }) handles)
     unfilled_held before le place fault heap filled =
-        (made.0, made.1, made.2, inl (inr (unfilled_load old closure handles mid u is_file modules bound (GivesFrom FillsFewest answers) is place fault heap (fewest before le (Some (record { place = place; fault = fault })) heap filled))))
+        (made.0, made.1, made.2, inl (inr (M.unfilled_load old closure handles mid u is_file modules bound (GivesFrom FillsFewest answers) is place fault heap (fewest before le (Some (record { place = place; fault = fault })) heap filled))))
 
 -- A closure by answers that differ in why reads fail alone, around modules that are the same.
-module _ (honest : Type 0) (files : Files) (start after : ℕ) (rest : LoadingWorld) (modules : Modules) (handles : Handles) where
+module _ (honest : Type 0) (files : Files) (start after : ℕ) (rest : LoadingWorld) (modules : Modules) (handles : C.Handles) where
   abbrev world : LoadingWorld
-  world = in_store rest modules handles files start
+  world = C.in_store rest modules handles files start
 
   abbrev over : Answers
   over = told honest ne_format files start after
@@ -178,14 +172,14 @@ module _ (honest : Type 0) (files : Files) (start after : ℕ) (rest : LoadingWo
           → MatchResult (follow here place name r) (λ next. ClosesFrom over (around world) n next outcome) (λ number. outcome ≡ Err number)
       ends go (Refused answer) h = h
       ends go (Meant referent) h = go (closing.with_bound here place referent) h
-      ends go (Read read) h = go (closing.with_bound (closing.with_found here (dll name) read) place (New (length closure.found))) h
+      ends go (Read read) h = go (closing.with_bound (closing.with_found here (dll name) read) place (New (C.length closure.found))) h
 
       by_name : ((c : closing.Closure) → ClosesFrom (answers_of honest files) (around_in modules []) n c outcome → ClosesFrom over (around world) n c outcome)
           → (p : Option closing.Referent)
-          → MatchOption p ((r : closing.Reading) × ReadsFile (answers_of honest files) (around_in modules []) closure.found (dll name) r
+          → C.MatchOption p ((r : closing.Reading) × ReadsFile (answers_of honest files) (around_in modules []) closure.found (dll name) r
           × MatchResult (follow here place name r) (λ next. ClosesFrom (answers_of honest files) (around_in modules []) n next outcome) (λ number. outcome ≡ Err number))
           (λ referent. ClosesFrom (answers_of honest files) (around_in modules []) n (closing.with_bound here place referent) outcome)
-          → MatchOption p ((r : closing.Reading) × ReadsFile over (around world) closure.found (dll name) r
+          → C.MatchOption p ((r : closing.Reading) × ReadsFile over (around world) closure.found (dll name) r
           × MatchResult (follow here place name r) (λ next. ClosesFrom over (around world) n next outcome) (λ number. outcome ≡ Err number))
           (λ referent. ClosesFrom over (around world) n (closing.with_bound here place referent) outcome)
       by_name go None (r, reads, h) = (r, reads_over closure.found (dll name) r reads, ends go r h)
@@ -193,18 +187,18 @@ module _ (honest : Type 0) (files : Files) (start after : ℕ) (rest : LoadingWo
 
   -- A load by its file.
 
-  module _ (file : List ℕ) (t : Tables) (accepted : IsAccepted (answers_of honest files) file t) (unnamed : handle_named modules t.name ≡ None) (left : 0 < free_modules modules) where
+  module _ (file : List ℕ) (t : C.Tables) (accepted : C.IsAccepted (answers_of honest files) file t) (unnamed : handle_named modules t.name ≡ None) (left : 0 < C.free_modules modules) where
     reads_new : (read : ModuleFile) → read.tables ≡ t → (answers_of honest files).holds file read → ReadsFile over (around world) [] file (Read read)
     reads_new read same held = (
       subst (λ u. over.says file (Ok u)) (sym same) accepted.0,
-      ap (λ (u : Tables). closing.meant (around world) [] u.name) same ∙ ap (λ p. option_or (option_map There p) None) unnamed,
+      ap (λ (u : C.Tables). closing.meant (around world) [] u.name) same ∙ ap (λ p. option_or (option_map There p) None) unnamed,
       subst (λ u. over.sound file u true) (sym same) accepted.1,
       held,
       left,
     )
 
-    pub refused_closure : (before : ℕ) → start ≤ before → (fault : FileFault) → IsFault (λ number. ClosesOf (answers_of honest files) modules file t (Err number)) before after fault
-        → IfOk (refused_by fault) (λ answer. (b : Bool) → LoadsFrom FillsFewest over b world file (answer_in answer) world)
+    pub refused_closure : (before : ℕ) → start ≤ before → (fault : C.FileFault) → C.IsFault (λ number. C.ClosesOf (answers_of honest files) modules file t (Err number)) before after fault
+        → IfOk (C.refused_by fault) (λ answer. (b : Bool) → LoadsFrom FillsFewest over b world file (answer_in answer) world)
     refused_closure before le (faults.Refused number) h = λ b.
         let some = some_held honest files file t accepted in
         let c = h some.0 some.1 some.2 in
@@ -212,7 +206,7 @@ module _ (honest : Type 0) (files : Files) (start after : ℕ) (rest : LoadingWo
     refused_closure before le faults.Device h = λ b. inl ((refl, (λ e. let lt : before < after = h in omega (arith, le, lt)), λ h. refl), refl, refl)
     refused_closure before le faults.OutOfMemory h = tt
 
-    pub closed_load : {A : Type 0} (made : Closure A) → IsClosureBy (answers_of honest files) modules file t made → (new : LoadingWorld) (result : Result LoadAnswer AllocError)
+    pub closed_load : {A : Type 0} (made : Closure A) → C.IsClosureBy (answers_of honest files) modules file t made → (new : LoadingWorld) (result : Result LoadAnswer C.AllocError)
         → IfOk result (λ answer. LoadsHeld honest files start after world (closed_in [] made) (answer_in answer) new) → IfOk result (λ answer. (b : Bool) → LoadsFrom FillsFewest over b world file (answer_in answer) new)
     closed_load made by new (Ok answer) (found, alike, held, f) = λ b.
         let c = by found (found_alike made.found.items (closed_in [] made).found found (is_closure [] made).found alike) held in
@@ -220,13 +214,13 @@ module _ (honest : Type 0) (files : Files) (start after : ℕ) (rest : LoadingWo
     closed_load made by new (Err e) h = tt
 
   -- one of whose file no module is made
-  pub refused_file : (file : List ℕ) (fault : FileFault) → IsFault (λ number. ReadsFile (answers_of honest files) (around_in modules []) [] file (Refused number)) start after fault
-      → IfOk (refused_by fault) (λ answer. (b : Bool) → LoadsFrom FillsFewest over b world file (answer_in answer) world)
+  pub refused_file : (file : List ℕ) (fault : C.FileFault) → C.IsFault (λ number. ReadsFile (answers_of honest files) (around_in modules []) [] file (Refused number)) start after fault
+      → IfOk (C.refused_by fault) (λ answer. (b : Bool) → LoadsFrom FillsFewest over b world file (answer_in answer) world)
   refused_file file (faults.Refused number) h = λ b. inr (Refused number, reads_over [] file (Refused number) h, (refl, refl))
   refused_file file faults.Device h = λ b. inl ((refl, (λ e. h), λ h. refl), refl, refl)
   refused_file file faults.OutOfMemory h = tt
 
-  pub there_again : (file : List ℕ) (b : Bool) (handle : ℕ) (answer : Answer) (new : LoadingWorld) → ReadsFile (answers_of honest files) (around_in modules []) [] file (Meant (There handle))
+  pub there_again : (file : List ℕ) (b : Bool) (handle : ℕ) (answer : C.Answer) (new : LoadingWorld) → ReadsFile (answers_of honest files) (around_in modules []) [] file (Meant (There handle))
       → (answer, new) ≡ used_again b world handle (finmap.get modules handle) → LoadsFrom FillsFewest over b world file answer new
   there_again file b handle answer new reads e = inr (Meant (There handle), reads_over [] file (Meant (There handle)) reads, e)
 
@@ -239,6 +233,6 @@ unnamed modules name = turn (handle_named modules name)
     turn (Some handle) e = cc
 
 -- what is answered to both calls is answered to one
-pub for_one : (P : Bool → LoadAnswer → Type 0) (is_load_module : Bool) (result : Result LoadAnswer AllocError) → IfOk result (λ answer. (b : Bool) → P b answer) → IfOk result (P is_load_module)
+pub for_one : (P : Bool → LoadAnswer → Type 0) (is_load_module : Bool) (result : Result LoadAnswer C.AllocError) → IfOk result (λ answer. (b : Bool) → P b answer) → IfOk result (P is_load_module)
 for_one P is_load_module (Ok answer) all = all is_load_module
 for_one P is_load_module (Err e) all = tt

@@ -1,15 +1,16 @@
 -- Module files that the files of new modules may hold, by what was answered of them: they have the tables that were read, and the targets that were
 -- bound.
-use Rattle.w16_loader.proofs.Common.{◌≡◌, ◌<◌, ℕ, ◌==◌, Bool, true, false, cond, List, [], ◌∷◌, length, map, replicate, All, Option, Some, None, Result, Ok, Err, MatchResult, refl, sym, ap, ◌∙◌, subst, arith, ◌≤◌, AllZip, list_all, is_some, unwrap_or}
-use Rattle.w16_loader.proofs.Common.{length-replicate, All-head, All-tail, All-replicate, eq-eqb, and_parts, Far, Segment, SegmentData, Tables, Target, ModuleFile, IsModuleFile, IsSegmentData, are_sound, targets_of, file_of, ne_format, is_format}
-use Rattle.w16_loader.proofs.Common.{Files, Found, found_in, IsFit, IsAlike, IsFoundOf, AreAccepted, AreHeld, IsAccepted, answers_of}
+use Rattle.w16_loader.proofs
+use proofs.Common as C
+use proofs.Common.{◌≡◌, ◌<◌, ℕ, ◌==◌, Bool, true, false, cond, List, [], ◌∷◌, length, map, All, Some, None, Result, Ok, Err, MatchResult, refl, sym, ap, ◌∙◌, subst, arith, ◌≤◌, AllZip, list_all, is_some, Far, Segment, SegmentData, Tables, Target, ModuleFile, IsModuleFile, IsSegmentData}
+use proofs.Common.{targets_of, file_of, ne_format, is_format, Files, Found, IsFit, IsAlike, AreAccepted, AreHeld, answers_of}
 use Rattle.std.proofs.lemmas.Bool.{eqb-true}
 use Rattle.w16_loading.specs.Answers.{HasTables, said_by}
 use Rattle.w16_loading.specs.Closure as closing
 
 -- What a segment holds with these targets: what another does, if that is as long, else bytes of 0.
 abbrev plain : Segment → List Far → List ℕ
-plain s values = replicate s.size 0
+plain s values = C.replicate s.size 0
 
 abbrev one_as : Segment → Segment → SegmentData → List Target → SegmentData
 one_as s u d ts = record { targets = Some ts; image = cond (s.size == u.size) d.image (plain s) }
@@ -40,7 +41,7 @@ abbrev IsImage : Segment → (List Far → List ℕ) → Type 0
 IsImage s image = (values : List Far) → (length (image values) ≡ s.size) × All (λ b. b < 256) (image values)
 
 plain_is : (s : Segment) → IsImage s (plain s)
-plain_is s = λ values. (length-replicate s.size 0, All-replicate (λ b. b < 256) s.size 0 (omega arith))
+plain_is s = λ values. (C.length-replicate s.size 0, C.All-replicate (λ b. b < 256) s.size 0 (omega arith))
 
 with_image : (s : Segment) (ts : List Target) (image : List Far → List ℕ) → IsFit s → IsImage s image → IsSegmentData s (record { targets = Some ts; image = image })
 with_image s ts image is has = record { some = is.some; small = is.small; rounded = is.rounded; image = has }
@@ -55,17 +56,17 @@ one_is s u d is = turn (s.size == u.size) refl
 is_data : (ss us : List Segment) (ds : List SegmentData) (tss : List (List Target)) → length tss ≡ length ss → AllZip IsSegmentData us ds → All IsFit ss → AllZip IsSegmentData ss (data_as ss us ds tss)
 is_data [] us ds tss e are fit = tt
 is_data (s ∷ ss) us ds [] e are fit = absurd (omega (arith, e))
-is_data (s ∷ ss) [] ds (ts ∷ tss) e are fit = (with_image s ts (plain s) (All-head IsFit s ss fit) (plain_is s), is_data ss [] [] tss (omega (arith, e)) tt (All-tail IsFit s ss fit))
+is_data (s ∷ ss) [] ds (ts ∷ tss) e are fit = (with_image s ts (plain s) (C.All-head IsFit s ss fit) (plain_is s), is_data ss [] [] tss (omega (arith, e)) tt (C.All-tail IsFit s ss fit))
 is_data (s ∷ ss) (u ∷ us) [] (ts ∷ tss) e are fit = absurd are
 is_data (s ∷ ss) (u ∷ us) (d ∷ ds) (ts ∷ tss) e are fit =
-    (with_image s ts (cond (s.size == u.size) d.image (plain s)) (All-head IsFit s ss fit) (one_is s u d are.0), is_data ss us ds tss (omega (arith, e)) are.1 (All-tail IsFit s ss fit))
+    (with_image s ts (cond (s.size == u.size) d.image (plain s)) (C.All-head IsFit s ss fit) (one_is s u d are.0), is_data ss us ds tss (omega (arith, e)) are.1 (C.All-tail IsFit s ss fit))
 
 -- what the file itself says
 one_same : (u : Segment) (d : SegmentData) → is_some d.targets ≡ true → one_as u u d (targets_of d) ≡ d
 one_same u d e =
-    (λ i. record { targets = Some (targets_of d); image = cond (eq-eqb u.size u.size refl i) d.image (plain u) }) ∙ (λ i. record d { targets = whole d.targets e i })
+    (λ i. record { targets = Some (targets_of d); image = cond (C.eq-eqb u.size u.size refl i) d.image (plain u) }) ∙ (λ i. record d { targets = whole d.targets e i })
   where
-    whole : (p : Option (List Target)) → is_some p ≡ true → Some (unwrap_or p []) ≡ p
+    whole : (p : C.Option (List Target)) → is_some p ≡ true → Some (C.unwrap_or p []) ≡ p
     whole None e = cc
     whole (Some ts) e = refl
 
@@ -74,7 +75,7 @@ data_same [] [] are sound = refl
 data_same [] (d ∷ ds) are sound = absurd are
 data_same (u ∷ us) [] are sound = refl
 data_same (u ∷ us) (d ∷ ds) are sound =
-    let parts = and_parts (is_some d.targets) (list_all (λ (s : SegmentData). is_some s.targets) ds) sound in
+    let parts = C.and_parts (is_some d.targets) (list_all (λ (s : SegmentData). is_some s.targets) ds) sound in
     λ i. one_same u d parts.0 i ∷ data_same us ds are.1 parts.1 i
 
 -- A file with these tables and targets; it is what is said, where that has them.
@@ -86,14 +87,14 @@ abbrev IsSaidFile : Result ModuleFile ℕ → Type 0
 IsSaidFile r = MatchResult r IsModuleFile (λ number. Unit {0})
 
 abbrev Agrees : Tables → List (List Target) → Result ModuleFile ℕ → Type 0
-Agrees t targets r = HasTables r (Ok t) × MatchResult r (λ read. are_sound read ≡ true) (λ number. ⊥) × MatchResult r (λ read. targets ≡ map targets_of read.segments) (λ number. ⊥)
+Agrees t targets r = HasTables r (Ok t) × MatchResult r (λ read. C.are_sound read ≡ true) (λ number. ⊥) × MatchResult r (λ read. targets ≡ map targets_of read.segments) (λ number. ⊥)
 
 module _ (t : Tables) (targets : List (List Target)) (long : length targets ≡ length t.segments) where
   file_is : (r : Result ModuleFile ℕ) → IsSaidFile r → All IsFit t.segments → IsModuleFile (file_by t targets r)
   file_is (Ok read) is fit = record { segments = is_data t.segments read.tables.segments read.segments targets long is.segments fit }
   file_is (Err number) is fit = record { segments = is_data t.segments [] [] targets long tt fit }
 
-  file_sound : (r : Result ModuleFile ℕ) → are_sound (file_by t targets r) ≡ true
+  file_sound : (r : Result ModuleFile ℕ) → C.are_sound (file_by t targets r) ≡ true
   file_sound (Ok read) = sound_as t.segments read.tables.segments read.segments targets
   file_sound (Err number) = sound_as t.segments [] [] targets
 
@@ -131,7 +132,7 @@ fit_same [] (d ∷ ds) are = absurd are
 fit_same (s ∷ ss) [] are = absurd are
 fit_same (s ∷ ss) (d ∷ ds) are = ap (λ more. targets_of d ∷ more) (fit_same ss ds are.1)
 
-said_is : (p : Option (List ℕ)) → IsSaidFile (said_by ne_format.says p)
+said_is : (p : C.Option (List ℕ)) → IsSaidFile (said_by ne_format.says p)
 said_is None = tt
 said_is (Some bytes) = turn (ne_format.says bytes) (is_format.files bytes)
   where
@@ -147,7 +148,7 @@ rest_same x y xs ys e = cc
 
 module _ (honest : Type 0) (files : Files) where
   -- A module whose records were bound to these targets, which are its file's where the store is honest.
-  module _ (name : List ℕ) (t : Tables) (accepted : IsAccepted (answers_of honest files) name t) where
+  module _ (name : List ℕ) (t : Tables) (accepted : C.IsAccepted (answers_of honest files) name t) where
     abbrev r : Result ModuleFile ℕ
     r = said_by ne_format.says (file_of files name)
 
@@ -174,10 +175,10 @@ module _ (honest : Type 0) (files : Files) where
         own_same (Ok read) is tables = fit_same t.segments read.segments (subst (λ (u : Tables). AllZip IsSegmentData u.segments read.segments) tables is.segments)
         own_same (Err number) is tables = tables
 
-  pub held_for : {A : Type 0} (fs : List (Found A)) → AreAccepted (answers_of honest files) (map (found_in []) fs) → (found : List closing.Found) × AllZip IsFoundOf fs found × AreHeld (answers_of honest files) found
+  pub held_for : {A : Type 0} (fs : List (Found A)) → AreAccepted (answers_of honest files) (map (C.found_in []) fs) → (found : List closing.Found) × AllZip C.IsFoundOf fs found × AreHeld (answers_of honest files) found
   held_for [] h = ([], tt, tt)
   held_for (f ∷ fs) h =
-      let one = some_held f.file.items (found_in [] f).read.tables h.0 in
+      let one = some_held f.file.items (C.found_in [] f).read.tables h.0 in
       let rest = held_for fs h.1 in
       (record { file = f.file.items; read = one.0 } ∷ rest.0, ((refl, one.1), rest.1), (one.2, rest.2))
 

@@ -1,9 +1,8 @@
 -- An entry that comes to a place, or goes from one.
 use Rattle.std.proofs.Common.{◌≡◌, ◌≢◌, ℕ, zero, suc, ◌+◌, ◌<◌, List, [], ◌∷◌, length, get_or, set, replicate, Option, Some, None, is_some, cond, count_by, inl, inr, refl, sym, ap, ◌∙◌, arith, OnSome}
-use Rattle.std.proofs.Math.ListN.{get_or-map}
-use Rattle.std.proofs.lemmas.Bool.{cases_eq}
 use Rattle.std.proofs.lemmas.List.{get_or-set_same, get_or-set_other, get_or_past, length-map, length-set, map-set, set-get_or}
 use Rattle.std.proofs.lemmas.List.Sums.{sum_by-set, sum_by-cons, count_by-le-length}
+use Rattle.std.proofs.{Math.ListN.get_or-map, lemmas.Bool.cases_eq}
 use Rattle.slab.specs.Slab.{Slab, get, ContainsKey, slab_len, HasRoomFor, Updates}
 use Rattle.w16_loader.specs.Places.{under, placed, IsKeyed}
 

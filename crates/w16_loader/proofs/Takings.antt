@@ -1,7 +1,8 @@
 -- Segments that get objects in free slots, one after another.
-use Rattle.w16_loader.proofs.Common.{◌≡◌, ◌≢◌, ℕ, zero, suc, ◌+◌, ◌<◌, ◌≤◌, inl, inr, ◌⊎◌, Bool, true, false, cond, not, IsTrue, List, [], ◌∷◌, ◌++◌, length, map, fold, filter, zip, slice_get, Option, Some, None, is_some, refl, sym, ap, ◌∙◌, subst, arith}
-use Rattle.w16_loader.proofs.Common.{range_with_len, false≢true, cases_eq, FIRST_SLOT, HasNoSlot, is_member, Attributes, FinMap, nat_cmp, IsIn, owner_of, no_owner, none_owns, slots_beside, slots_with, unowned_beside, Handles, AreHandles, IsFreeSlot}
-use Rattle.w16_loader.proofs.Common.{Member, EachPair, Each-map, Each-from, All-from_Each, member_filter, true-is_member, filter_same, Segment, LoadingWorld, Modules, free_slots, attributes_of, with_segment, without_objects, zipped, taken_back_law, Takes}
+use Rattle.w16_loader.proofs
+use proofs.Common as C
+use proofs.Common.{◌≡◌, ◌≢◌, ℕ, zero, suc, ◌+◌, ◌<◌, ◌≤◌, inl, inr, ◌⊎◌, Bool, true, false, cond, not, List, [], ◌∷◌, ◌++◌, length, map, fold, filter, zip, Option, Some, None, is_some, refl, sym, ap, ◌∙◌, subst, arith, range_with_len, false≢true, FIRST_SLOT, is_member, IsIn, owner_of}
+use proofs.Common.{no_owner, IsFreeSlot, Member, Segment, LoadingWorld, free_slots, attributes_of, with_segment, Takes}
 use Rattle.std.specs.List.{AllByRecursion as Each}
 use Rattle.std.specs.FinMap as finmap
 
@@ -16,21 +17,21 @@ takes_then [] ys a b c t u = subst (λ (w : LoadingWorld). Takes w ys c) t u
 takes_then (x ∷ xs) ys a b c t u = (t.0, takes_then xs ys (with_segment a x) b c t.1 u)
 
 -- modules don't count
-pub takes_beside : (modules : Modules) (xs : List (ℕ × Segment)) (a b : LoadingWorld) → Takes a xs b → Takes (record a { modules = modules }) xs (record b { modules = modules })
+pub takes_beside : (modules : C.Modules) (xs : List (ℕ × Segment)) (a b : LoadingWorld) → Takes a xs b → Takes (record a { modules = modules }) xs (record b { modules = modules })
 takes_beside modules [] a b t = ap (λ (w : LoadingWorld). record w { modules = modules }) t
 takes_beside modules (x ∷ xs) a b t = (t.0, takes_beside modules xs (with_segment a x) b t.1)
 
 -- The slots were free, and they differ.
 
 -- what has no owner beside a new run of one had none before, if that run's slot had none
-module _ (m : FinMap nat_cmp Attributes) (first : ℕ) (a : Attributes) (one : a.slots ≡ 1) where
+module _ (m : C.FinMap C.nat_cmp C.Attributes) (first : ℕ) (a : C.Attributes) (one : a.slots ≡ 1) where
   own : owner_of (finmap.insert m first a) first ≡ None → ⊥
-  own none = no_owner (finmap.insert m first a) first none first (omega arith, omega (arith, one, slots_with m first a first refl))
+  own none = no_owner (finmap.insert m first a) first none first (omega arith, omega (arith, one, C.slots_with m first a first refl))
 
   unowned_before : (s : ℕ) → owner_of m first ≡ None → owner_of (finmap.insert m first a) s ≡ None → owner_of m s ≡ None
-  unowned_before s free none = none_owns m s (λ q lies. elim (cases_eq q first) [
+  unowned_before s free none = C.none_owns m s (λ q lies. elim (C.cases_eq q first) [
     | inl e ↦ let own : IsIn m s first = subst (IsIn m s) e lies in no_owner m first free first (omega arith, omega (arith, own.0, own.1))
-    | inr d ↦ no_owner (finmap.insert m first a) s none q (lies.0, omega (arith, lies.1, slots_beside m first a q d))
+    | inr d ↦ no_owner (finmap.insert m first a) s none q (lies.0, omega (arith, lies.1, C.slots_beside m first a q d))
   ])
 
 free_before : (a : LoadingWorld) (x : ℕ × Segment) (q : ℕ) → IsFreeSlot a.handles x.0 → IsFreeSlot (with_segment a x).handles q → IsFreeSlot a.handles q × (x.0 ≢ q)
@@ -42,12 +43,12 @@ free_before a x q free f = (
 pub slots_free : (xs : List (ℕ × Segment)) (a b : LoadingWorld) → Takes a xs b → Each (λ x. IsFreeSlot a.handles x.0) xs
 slots_free [] a b t = tt
 slots_free (x ∷ xs) a b t =
-    (t.0, Each-map (λ (y : ℕ × Segment). IsFreeSlot (with_segment a x).handles y.0) (λ (y : ℕ × Segment). IsFreeSlot a.handles y.0) (λ y f. (free_before a x y.0 t.0 f).0) xs (slots_free xs (with_segment a x) b t.1))
+    (t.0, C.Each-map (λ (y : ℕ × Segment). IsFreeSlot (with_segment a x).handles y.0) (λ (y : ℕ × Segment). IsFreeSlot a.handles y.0) (λ y f. (free_before a x y.0 t.0 f).0) xs (slots_free xs (with_segment a x) b t.1))
 
-pub slots_apart : (xs : List (ℕ × Segment)) (a b : LoadingWorld) → Takes a xs b → EachPair (λ x y. x.0 ≢ y.0) xs
+pub slots_apart : (xs : List (ℕ × Segment)) (a b : LoadingWorld) → Takes a xs b → C.EachPair (λ x y. x.0 ≢ y.0) xs
 slots_apart [] a b t = tt
 slots_apart (x ∷ xs) a b t =
-    (Each-map (λ (y : ℕ × Segment). IsFreeSlot (with_segment a x).handles y.0) (λ (y : ℕ × Segment). x.0 ≢ y.0) (λ y f. (free_before a x y.0 t.0 f).1) xs (slots_free xs (with_segment a x) b t.1), slots_apart xs (with_segment a x) b t.1)
+    (C.Each-map (λ (y : ℕ × Segment). IsFreeSlot (with_segment a x).handles y.0) (λ (y : ℕ × Segment). x.0 ≢ y.0) (λ y f. (free_before a x y.0 t.0 f).1) xs (slots_free xs (with_segment a x) b t.1), slots_apart xs (with_segment a x) b t.1)
 
 -- Each leaves one free slot fewer.
 
@@ -63,14 +64,14 @@ first_counts false x some fewer e = e
 module _ (p less : ℕ → Bool) (q : ℕ) (has : p q ≡ true) (lacks : less q ≡ false) (others : (k : ℕ) → k ≢ q → less k ≡ p k) where
   one_fewer : (n a : ℕ) → a ≤ q → q < a + n → length (filter p (range_with_len a n)) ≡ length (filter less (range_with_len a n)) + 1
   one_fewer zero a le lt = absurd (omega (arith, le, lt))
-  one_fewer (suc n) a le lt = turn (cases_eq a q) (λ before. one_fewer n (a + 1) before (omega (arith, lt)))
+  one_fewer (suc n) a le lt = turn (C.cases_eq a q) (λ before. one_fewer n (a + 1) before (omega (arith, lt)))
     where
       rest : List ℕ
       rest = range_with_len (a + 1) n
 
       turn : (a ≡ q) ⊎ (a ≢ q) → (a + 1 ≤ q → length (filter p rest) ≡ length (filter less rest) + 1) → length (cond {A = List ℕ} (p a) (a ∷ filter p rest) (filter p rest)) ≡ length (cond {A = List ℕ} (less a) (a ∷ filter less rest) (filter less rest)) + 1
       turn (inl e) again =
-          let same : length (filter p rest) ≡ length (filter less rest) = ap length (filter_same p less rest (λ k m. let r : (a + 1 ≤ k) × (k < a + 1 + n) = in_range n (a + 1) k m in let above : a + 1 ≤ k = r.0 in sym (others k (λ f. absurd (omega (arith, above, e, f)))))) in
+          let same : length (filter p rest) ≡ length (filter less rest) = ap length (C.filter_same p less rest (λ k m. let r : (a + 1 ≤ k) × (k < a + 1 + n) = in_range n (a + 1) k m in let above : a + 1 ≤ k = r.0 in sym (others k (λ f. absurd (omega (arith, above, e, f)))))) in
           ap (λ b. length (cond {A = List ℕ} b (a ∷ filter p rest) (filter p rest))) (ap p e ∙ has)
           ∙ (let more : suc (length (filter p rest)) ≡ length (filter less rest) + 1 = omega (arith, same) in more)
           ∙ ap (λ b. length (cond {A = List ℕ} b (a ∷ filter less rest) (filter less rest)) + 1) (sym (ap less e ∙ lacks))
@@ -91,7 +92,7 @@ both_none (Some x) (Some y) h k = refl
 one_taken : (a : LoadingWorld) (x : ℕ × Segment) → IsFreeSlot a.handles x.0 → length (free_slots a.handles) ≡ length (free_slots (with_segment a x).handles) + 1
 one_taken a x f = one_fewer (is_free a) (is_free (with_segment a x)) x.0 (ap (λ p. not (is_some p)) f.1)
     (taken (owner_of (with_segment a x).handles.attributes x.0) (own a.handles.attributes x.0 (attributes_of x.1) refl))
-    (λ k d. ap not (both_none (owner_of (with_segment a x).handles.attributes k) (owner_of a.handles.attributes k) (unowned_before a.handles.attributes x.0 (attributes_of x.1) refl k f.1) (unowned_beside a.handles.attributes x.0 (attributes_of x.1) k refl d)))
+    (λ k d. ap not (both_none (owner_of (with_segment a x).handles.attributes k) (owner_of a.handles.attributes k) (unowned_before a.handles.attributes x.0 (attributes_of x.1) refl k f.1) (C.unowned_beside a.handles.attributes x.0 (attributes_of x.1) k refl d)))
     a.handles.slots FIRST_SLOT f.0.0 f.0.1
   where
     taken : (p : Option ℕ) → (p ≡ None → ⊥) → not (is_some p) ≡ false
@@ -109,12 +110,12 @@ none_in : (xs : List ℕ) → ((q : ℕ) → Member q xs → ⊥) → length xs 
 none_in [] out = refl
 none_in (x ∷ xs) out = absurd (out x (inl refl))
 
-pub no_free_slots : (h : Handles) → HasNoSlot h → length (free_slots h) ≡ 0
+pub no_free_slots : (h : C.Handles) → C.HasNoSlot h → length (free_slots h) ≡ 0
 no_free_slots h none = none_in (free_slots h) (λ q m.
-    let r : Member q (range_with_len FIRST_SLOT h.slots) × IsTrue (not (is_some (owner_of h.attributes q))) = member_filter (λ slot. not (is_some (owner_of h.attributes slot))) (range_with_len FIRST_SLOT h.slots) q m in
+    let r : Member q (range_with_len FIRST_SLOT h.slots) × C.IsTrue (not (is_some (owner_of h.attributes q))) = C.member_filter (λ slot. not (is_some (owner_of h.attributes slot))) (range_with_len FIRST_SLOT h.slots) q m in
     none q (in_range h.slots FIRST_SLOT q r.0, absent (owner_of h.attributes q) r.1))
   where
-    absent : (p : Option ℕ) → IsTrue (not (is_some p)) → p ≡ None
+    absent : (p : Option ℕ) → C.IsTrue (not (is_some p)) → p ≡ None
     absent None t = refl
     absent (Some first) t = absurd (false≢true t)
 
@@ -134,19 +135,19 @@ zip_long [] gs le = refl
 zip_long (s ∷ ss) [] le = absurd (omega (arith, le))
 zip_long (s ∷ ss) (g ∷ gs) le = ap suc (zip_long ss gs (omega (arith, le)))
 
-zip_more : {A B : Type 0} (ss : List A) (gs : List B) (s : A) (g : B) → slice_get gs (length ss) ≡ Some g → zip (ss ++ s ∷ []) gs ≡ zip ss gs ++ (s, g) ∷ []
+zip_more : {A B : Type 0} (ss : List A) (gs : List B) (s : A) (g : B) → C.slice_get gs (length ss) ≡ Some g → zip (ss ++ s ∷ []) gs ≡ zip ss gs ++ (s, g) ∷ []
 zip_more [] [] s g e = cc
 zip_more [] (h ∷ gs) s g e = let f : h ≡ g = cc in (λ i. (s, f i) ∷ [])
 zip_more (t ∷ ss) [] s g e = cc
 zip_more {A} {B} (t ∷ ss) (h ∷ gs) s g e = ap (λ (r : List (A × B)). (t, h) ∷ r) (zip_more ss gs s g e)
 
-pub takes_more : (ss : List ℕ) (gs : List Segment) (s : ℕ) (g : Segment) (a b c : LoadingWorld) → slice_get gs (length ss) ≡ Some g → Takes a (zip ss gs) b → IsFreeSlot b.handles s → c ≡ with_segment b (s, g) → Takes a (zip (ss ++ s ∷ []) gs) c
+pub takes_more : (ss : List ℕ) (gs : List Segment) (s : ℕ) (g : Segment) (a b c : LoadingWorld) → C.slice_get gs (length ss) ≡ Some g → Takes a (zip ss gs) b → IsFreeSlot b.handles s → c ≡ with_segment b (s, g) → Takes a (zip (ss ++ s ∷ []) gs) c
 takes_more ss gs s g a b c e t free put = subst (λ (xs : List (ℕ × Segment)). Takes a xs c) (sym (zip_more ss gs s g e)) (takes_then (zip ss gs) ((s, g) ∷ []) a b c t (free, put))
 
 -- they go again, and nothing is left
-pub takes_back : (ss : List ℕ) (gs : List Segment) (a b : LoadingWorld) → AreHandles a.handles → length ss ≤ length gs → Takes a (zip ss gs) b → without_objects (λ q. is_member q ss) b ≡ a
+pub takes_back : (ss : List ℕ) (gs : List Segment) (a b : LoadingWorld) → C.AreHandles a.handles → length ss ≤ length gs → Takes a (zip ss gs) b → C.without_objects (λ q. is_member q ss) b ≡ a
 takes_back ss gs a b is le t =
-    ap (without_objects (λ q. is_member q ss)) (takes_fold (zip ss gs) a b t)
-    ∙ taken_back_law a ss (zip ss gs) is
-    (All-from_Each (IsFreeSlot a.handles) ss (subst (Each (IsFreeSlot a.handles)) (firsts ss gs le) (each_first (IsFreeSlot a.handles) (zip ss gs) (slots_free (zip ss gs) a b t))))
-    (All-from_Each (λ (x : ℕ × Segment). is_member x.0 ss ≡ true) (zip ss gs) (Each-from (λ (x : ℕ × Segment). is_member x.0 ss ≡ true) (zip ss gs) (λ x m. true-is_member x.0 ss (zipped ss gs x m))))
+    ap (C.without_objects (λ q. is_member q ss)) (takes_fold (zip ss gs) a b t)
+    ∙ C.taken_back_law a ss (zip ss gs) is
+    (C.All-from_Each (IsFreeSlot a.handles) ss (subst (Each (IsFreeSlot a.handles)) (firsts ss gs le) (each_first (IsFreeSlot a.handles) (zip ss gs) (slots_free (zip ss gs) a b t))))
+    (C.All-from_Each (λ (x : ℕ × Segment). is_member x.0 ss ≡ true) (zip ss gs) (C.Each-from (λ (x : ℕ × Segment). is_member x.0 ss ≡ true) (zip ss gs) (λ x m. C.true-is_member x.0 ss (C.zipped ss gs x m))))

@@ -1,13 +1,11 @@
 -- What a store answered of files.
-use Rattle.w16_loader.proofs.Common.{◌≡◌, ℕ, ◌<◌, ◌≤◌, inl, inr, arith, true, false, List, Option, Some, None, Result, Ok, Err, MatchResult, refl, sym, ap, ◌∙◌, subst, file_of, tables_at, ModuleFile, are_sound, Tables, module_file, ne_format, tables_in}
-use Rattle.w16_loader.proofs.Common.{FileFault, Files, IsFault, IsRead, IsUnsound, said, answers_of, read_back, tables_apart}
-use Rattle.w16_ne.specs.Modules as ne
+use Rattle.w16_loader.proofs.Common as C
+use Rattle.w16_loader.proofs.Common.{◌≡◌, ℕ, ◌<◌, ◌≤◌, inl, inr, arith, true, false, List, Option, Some, None, Ok, Err, refl, sym, ap, ◌∙◌, subst, file_of, tables_at, ModuleFile, are_sound, module_file, ne_format, tables_in, Files, IsFault, said, answers_of}
 use Rattle.w16_loading.specs.Answers.{HasTables, said_by}
-use Rattle.w16_store.specs.declared.store.StoreFault.{StoreFault}
-use Rattle.w16_store.specs.declared.store.StoreFault.TheVariants as stores
-use Rattle.w16_store.specs.Files.{IsHonestFault, IsMissing, length_of}
-use Rattle.w16_store.specs.Later.{RoseIf, is_device}
+use Rattle.w16_store.specs.{declared.store.StoreFault.StoreFault, Files.IsHonestFault, Files.IsMissing, Files.length_of, Later.RoseIf, Later.is_device}
 use Rattle.w16_loader.specs.Closing.{fault_of_length}
+use Rattle.w16_ne.specs.Modules as ne
+use Rattle.w16_store.specs.declared.store.StoreFault.TheVariants as stores
 use Rattle.w16_loader.specs.declared.found.FileFault.TheVariants as faults
 
 -- What is said of a file that has these tables.
@@ -17,7 +15,7 @@ pub record Told (p : Option (List ℕ)) (t : ne.Tables) : Type 0 where
   pub tables : tables_at (Some bytes) ≡ Ok t
   pub says : said_by ne_format.says p ≡ Ok (module_file bytes t)
 
-has_tables : (r : Result ModuleFile ℕ) (t : Tables) → HasTables r (Ok t) → (read : ModuleFile) × (r ≡ Ok read) × (read.tables ≡ t)
+has_tables : (r : C.Result ModuleFile ℕ) (t : C.Tables) → HasTables r (Ok t) → (read : ModuleFile) × (r ≡ Ok read) × (read.tables ≡ t)
 has_tables (Ok read) t h = (read, refl, h)
 has_tables (Err number) t h = absurd h
 
@@ -25,11 +23,11 @@ pub told_of : (p : Option (List ℕ)) (t : ne.Tables) → HasTables (said_by ne_
 told_of None t h = absurd h
 told_of (Some bytes) t h =
     let r = has_tables (ne_format.says bytes) (tables_in t) h in
-    let back = (read_back bytes r.0 r.1).1 in
-    let same : back.0 ≡ t = tables_apart back.0 t (ap (λ (x : ModuleFile). x.tables) (sym back.2) ∙ r.2) in
+    let back = (C.read_back bytes r.0 r.1).1 in
+    let same : back.0 ≡ t = C.tables_apart back.0 t (ap (λ (x : ModuleFile). x.tables) (sym back.2) ∙ r.2) in
     record { bytes = bytes; there = refl; tables = back.1 ∙ ap Ok same; says = r.1 ∙ ap Ok (back.2 ∙ ap (module_file bytes) same) }
 
-pub read_told : (p : Option (List ℕ)) (t : ne.Tables) → IsRead p t → HasTables (said_by ne_format.says p) (Ok (tables_in t))
+pub read_told : (p : Option (List ℕ)) (t : ne.Tables) → C.IsRead p t → HasTables (said_by ne_format.says p) (Ok (tables_in t))
 read_told None t is = absurd is
 read_told (Some bytes) t is = subst (λ r. HasTables r (Ok (tables_in t))) (sym is.1) refl
 
@@ -38,7 +36,7 @@ number_told None number e = cc
 number_told (Some bytes) number e = subst (λ r. HasTables r (Err number)) (sym e) refl
 
 module _ (honest : Type 0) (files : Files) (name : List ℕ) where
-  pub refuses_told : (before after : ℕ) (fault : FileFault) → IsFault (λ number. (11 ≤ number) × (number ≤ 14)) 0 1 fault → (honest → IsFault (λ number. said (file_of files name) ≡ Err number) before after fault) → (fault ≡ faults.Device → before < after)
+  pub refuses_told : (before after : ℕ) (fault : C.FileFault) → IsFault (λ number. (11 ≤ number) × (number ≤ 14)) 0 1 fault → (honest → IsFault (λ number. said (file_of files name) ≡ Err number) before after fault) → (fault ≡ faults.Device → before < after)
       → IsFault (λ number. (answers_of honest files).says name (Err number)) before after fault
   refuses_told before after (faults.Refused number) few exact rose = (inr few, λ h. number_told (file_of files name) number (exact h))
   refuses_told before after faults.Device few exact rose = rose refl
@@ -59,13 +57,13 @@ module _ (honest : Type 0) (files : Files) (name : List ℕ) where
     pub sound_told : ((bytes : List ℕ) → honest → file_of files name ≡ Some bytes → tables_at (Some bytes) ≡ Ok t → are_sound (module_file bytes t) ≡ true) → (answers_of honest files).sound name (tables_in t) true
     sound_told sound = λ h.
         let told = told_of (file_of files name) t (says.1 h) in
-        subst (λ r. MatchResult r (λ read. are_sound read ≡ true) (λ number. ⊥)) (sym told.says) (sound told.bytes h told.there told.tables)
+        subst (λ r. C.MatchResult r (λ read. are_sound read ≡ true) (λ number. ⊥)) (sym told.says) (sound told.bytes h told.there told.tables)
 
-    pub unsound_told : (before after : ℕ) (fault : FileFault) → IsFault (λ number. number ≡ 11) 0 1 fault
-        → ((bytes : List ℕ) → honest → file_of files name ≡ Some bytes → tables_at (Some bytes) ≡ Ok t → IsFault (IsUnsound bytes t) before after fault) → (fault ≡ faults.Device → before < after)
+    pub unsound_told : (before after : ℕ) (fault : C.FileFault) → IsFault (λ number. number ≡ 11) 0 1 fault
+        → ((bytes : List ℕ) → honest → file_of files name ≡ Some bytes → tables_at (Some bytes) ≡ Ok t → IsFault (C.IsUnsound bytes t) before after fault) → (fault ≡ faults.Device → before < after)
         → IsFault (λ number. (answers_of honest files).sound name (tables_in t) false × (number ≡ 11)) before after fault
     unsound_told before after (faults.Refused number) few exact rose = (
-      λ h. (let told = told_of (file_of files name) t (says.1 h) in subst (λ r. MatchResult r (λ read. are_sound read ≡ false) (λ number. ⊥)) (sym told.says) (exact told.bytes h told.there told.tables).1),
+      λ h. (let told = told_of (file_of files name) t (says.1 h) in subst (λ r. C.MatchResult r (λ read. are_sound read ≡ false) (λ number. ⊥)) (sym told.says) (exact told.bytes h told.there told.tables).1),
       few,
     )
     unsound_told before after faults.Device few exact rose = rose refl

@@ -1,12 +1,11 @@
 -- New modules that are released leave what was there before them.
-use Rattle.w16_loader.proofs.Common.{◌≡◌, ◌≢◌, ℕ, ◌+◌, ◌<◌, inl, inr, Bool, true, false, cond, not, ◌||◌, ◌==◌, List, [], ◌∷◌, ◌++◌, length, get_or, drop, map, fold, filter, flat_map, Option, Some, None, refl, sym, ap, ◌∙◌, subst, add-one}
-use Rattle.w16_loader.proofs.Common.{arith, AllZip, nat_cmp, FinMap, drop-cons, false≢true, cases_Bool, cases_eq, is_member, Heap, object_at, AreHandles, IsFreeSlot, unused_slot, Member, EachPair, Each-at, Each-from, Each-from_All}
-use Rattle.w16_loader.proofs.Common.{EachPair-from_AllPairs, is_member-true, true-is_member, taken_here, taken_other, LoadingWorld, Module, Modules, IsFreeModule, with_heap, Loaded, Closure, Choice, IsChoice, Given, given, given_from, all_slots}
-use Rattle.w16_loader.proofs.Common.{segments_of, with_segment, with_modules, heap_without, without_objects, without_module, undone, same_values, none_gone, gone_with, went, given_handle, put_here, put_all, chosen, fold_named, retained}
-use Rattle.w16_loader.proofs.Common.{taken_away}
+use Rattle.w16_loader.proofs
+use proofs.Common as C
+use proofs.Common.{◌≡◌, ◌≢◌, ℕ, ◌+◌, ◌<◌, inl, inr, Bool, true, false, cond, not, ◌||◌, ◌==◌, List, [], ◌∷◌, ◌++◌, length, drop, map, fold, filter, Option, Some, None, refl, sym, ap, ◌∙◌, subst, arith, false≢true, is_member, Heap, Member, EachPair, Each-at, Each-from, taken_other}
+use proofs.Common.{LoadingWorld, Module, Modules, Loaded, Given, given, given_from, all_slots, segments_of, with_modules, without_module, went, retained}
 use Rattle.std.specs.List.{AllByRecursion as Each}
-use Rattle.std.specs.FinMap as finmap
 use Rattle.w16_loading.specs.Closure.{Found}
+use Rattle.std.specs.FinMap as finmap
 
 -- What goes in two steps goes in one.
 
@@ -18,8 +17,8 @@ member_append : (q : ℕ) (xs ys : List ℕ) → is_member q (xs ++ ys) ≡ (is_
 member_append q [] ys = refl
 member_append q (x ∷ xs) ys = ap (λ b. (x == q) || b) (member_append q xs ys) ∙ or_assoc (x == q) (is_member q xs) (is_member q ys)
 
-retained_twice : {X : Type 0} (m : FinMap nat_cmp X) (a b : ℕ → Bool) → finmap.retain_keys (finmap.retain_keys m (λ q. not (a q))) (λ q. not (b q)) ≡ finmap.retain_keys m (λ q. not (a q || b q))
-retained_twice {X} m a b = same_values (finmap.retain_keys (finmap.retain_keys m (λ q. not (a q))) (λ q. not (b q))) (finmap.retain_keys m (λ q. not (a q || b q))) (λ q.
+retained_twice : {X : Type 0} (m : C.FinMap C.nat_cmp X) (a b : ℕ → Bool) → finmap.retain_keys (finmap.retain_keys m (λ q. not (a q))) (λ q. not (b q)) ≡ finmap.retain_keys m (λ q. not (a q || b q))
+retained_twice {X} m a b = C.same_values (finmap.retain_keys (finmap.retain_keys m (λ q. not (a q))) (λ q. not (b q))) (finmap.retain_keys m (λ q. not (a q || b q))) (λ q.
     retained (finmap.retain_keys m (λ q. not (a q))) b q ∙ ap (λ p. cond {A = Option X} (not (b q)) p None) (retained m a q) ∙ both (a q) (b q) (finmap.get m q) ∙ sym (retained m (λ q. a q || b q) q))
   where
     both : (x y : Bool) (p : Option X) → cond {A = Option X} (not y) (cond {A = Option X} (not x) p None) None ≡ cond {A = Option X} (not (x || y)) p None
@@ -52,16 +51,16 @@ abbrev handles_of : List Given → List ℕ
 handles_of gs = map (λ g. g.handle) gs
 
 abbrev slots_of : List Given → List ℕ
-slots_of gs = flat_map (λ g. g.slots) gs
+slots_of gs = C.flat_map (λ g. g.slots) gs
 
 abbrev without_given : LoadingWorld → List Given → LoadingWorld
-without_given world gs = let left = without_objects (λ q. is_member q (slots_of gs)) world in record left { modules = fold finmap.remove left.modules (handles_of gs) }
+without_given world gs = let left = C.without_objects (λ q. is_member q (slots_of gs)) world in record left { modules = fold finmap.remove left.modules (handles_of gs) }
 
 module _ (module_of : Given → Module) (owns : (g : Given) → (module_of g).slots ≡ g.slots) where
   abbrev AreThere : LoadingWorld → List Given → Type 0
   AreThere world gs = Each (λ g. finmap.get world.modules g.handle ≡ Some (Loaded (module_of g))) gs
 
-  joined : (world : LoadingWorld) (g : Given) (gs : List Given) → without_given (gone_with world g.handle (module_of g)) gs ≡ without_given world (g ∷ gs)
+  joined : (world : LoadingWorld) (g : Given) (gs : List Given) → without_given (C.gone_with world g.handle (module_of g)) gs ≡ without_given world (g ∷ gs)
   joined world g gs = λ i. record world {
     handles = record world.handles {
       heap = record world.handles.heap {
@@ -77,14 +76,14 @@ module _ (module_of : Given → Module) (owns : (g : Given) → (module_of g).sl
       among : (q : ℕ) → (is_member q (module_of g).slots || is_member q (slots_of gs)) ≡ is_member q (g.slots ++ slots_of gs)
       among q = ap (λ s. is_member q s || is_member q (slots_of gs)) (owns g) ∙ sym (member_append q g.slots (slots_of gs))
 
-      both : {X : Type 0} (m : FinMap nat_cmp X) → finmap.retain_keys (finmap.retain_keys m (λ q. not (is_member q (module_of g).slots))) (λ q. not (is_member q (slots_of gs))) ≡ finmap.retain_keys m (λ q. not (is_member q (g.slots ++ slots_of gs)))
+      both : {X : Type 0} (m : C.FinMap C.nat_cmp X) → finmap.retain_keys (finmap.retain_keys m (λ q. not (is_member q (module_of g).slots))) (λ q. not (is_member q (slots_of gs))) ≡ finmap.retain_keys m (λ q. not (is_member q (g.slots ++ slots_of gs)))
       both m = retained_twice m (λ q. is_member q (module_of g).slots) (λ q. is_member q (slots_of gs)) ∙ (λ i. finmap.retain_keys m (λ q. not (among q i)))
 
   all_go : (gs : List Given) (world : LoadingWorld) → AreThere world gs → EachPair (λ (g h : Given). g.handle ≢ h.handle) gs → fold without_module world (handles_of gs) ≡ without_given world gs
-  all_go [] world there apart = sym (none_gone (λ q. is_member q []) world (λ q. refl))
+  all_go [] world there apart = sym (C.none_gone (λ q. is_member q []) world (λ q. refl))
   all_go (g ∷ gs) world there apart =
       ap (λ (w : LoadingWorld). fold without_module w (handles_of gs)) (went world g.handle (module_of g) there.0)
-      ∙ all_go gs (gone_with world g.handle (module_of g))
+      ∙ all_go gs (C.gone_with world g.handle (module_of g))
       (Each-from (λ (h : Given). finmap.get (finmap.remove world.modules g.handle) h.handle ≡ Some (Loaded (module_of h))) gs (λ h m.
       taken_other world.modules g.handle h.handle (λ e. Each-at (λ (h : Given). g.handle ≢ h.handle) gs apart.0 h m (sym e))
       ∙ Each-at (λ (h : Given). finmap.get world.modules h.handle ≡ Some (Loaded (module_of h))) gs there.1 h m))
@@ -94,7 +93,7 @@ module _ (module_of : Given → Module) (owns : (g : Given) → (module_of g).sl
 -- What a load gives has its handles and its slots.
 
 abbrev pub AreMany : List Found → List (List ℕ) → Type 0
-AreMany found slots = AllZip (λ (f : Found) (s : List ℕ). length s ≡ length f.read.tables.segments) found slots
+AreMany found slots = C.AllZip (λ (f : Found) (s : List ℕ). length s ≡ length f.read.tables.segments) found slots
 
 pub handles_given : (place : ℕ) (fs : List Found) (hs : List ℕ) (ss : List (List ℕ)) → length hs ≡ length fs → AreMany fs ss → handles_of (given_from place fs hs ss) ≡ hs
 handles_given place [] [] ss same many = refl
@@ -103,7 +102,7 @@ handles_given place (f ∷ fs) [] ss same many = absurd (omega (arith, same))
 handles_given place (f ∷ fs) (h ∷ hs) [] same many = absurd many
 handles_given place (f ∷ fs) (h ∷ hs) (s ∷ ss) same many = ap (λ (r : List ℕ). h ∷ r) (handles_given (place + 1) fs hs ss (omega (arith, same)) many.1)
 
-pub slots_given : (place : ℕ) (fs : List Found) (hs : List ℕ) (ss : List (List ℕ)) → length hs ≡ length fs → AreMany fs ss → slots_of (given_from place fs hs ss) ≡ flat_map (λ s. s) ss
+pub slots_given : (place : ℕ) (fs : List Found) (hs : List ℕ) (ss : List (List ℕ)) → length hs ≡ length fs → AreMany fs ss → slots_of (given_from place fs hs ss) ≡ C.flat_map (λ s. s) ss
 slots_given place [] hs [] same many = refl
 slots_given place [] hs (s ∷ ss) same many = absurd many
 slots_given place (f ∷ fs) [] ss same many = absurd (omega (arith, same))
@@ -115,17 +114,17 @@ given_apart place [] hs ss differ = tt
 given_apart place (f ∷ fs) [] ss differ = tt
 given_apart place (f ∷ fs) (h ∷ hs) [] differ = tt
 given_apart place (f ∷ fs) (h ∷ hs) (s ∷ ss) differ =
-    (Each-from (λ (g : Given). h ≢ g.handle) (given_from (place + 1) fs hs ss) (λ g m. Each-at (λ b. h ≢ b) hs differ.0 g.handle (given_handle (place + 1) fs hs ss g m)), given_apart (place + 1) fs hs ss differ.1)
+    (Each-from (λ (g : Given). h ≢ g.handle) (given_from (place + 1) fs hs ss) (λ g m. Each-at (λ b. h ≢ b) hs differ.0 g.handle (C.given_handle (place + 1) fs hs ss g m)), given_apart (place + 1) fs hs ss differ.1)
 
 -- Modules that are put under free handles, and taken away again.
 
 stays_gone : (hs : List ℕ) (m : Modules) (q : ℕ) → finmap.get m q ≡ None → finmap.get (fold finmap.remove m hs) q ≡ None
 stays_gone [] m q none = none
-stays_gone (h ∷ hs) m q none = stays_gone hs (finmap.remove m h) q (elim (cases_eq q h) [ inl e ↦ taken_here m h q e | inr d ↦ taken_other m h q d ∙ none ])
+stays_gone (h ∷ hs) m q none = stays_gone hs (finmap.remove m h) q (elim (C.cases_eq q h) [ inl e ↦ C.taken_here m h q e | inr d ↦ taken_other m h q d ∙ none ])
 
 gone_in : (hs : List ℕ) (m : Modules) (q : ℕ) → Member q hs → finmap.get (fold finmap.remove m hs) q ≡ None
 gone_in [] m q inside = absurd inside
-gone_in (h ∷ hs) m q (inl e) = stays_gone hs (finmap.remove m h) q (taken_here m h q e)
+gone_in (h ∷ hs) m q (inl e) = stays_gone hs (finmap.remove m h) q (C.taken_here m h q e)
 gone_in (h ∷ hs) m q (inr inside) = gone_in hs (finmap.remove m h) q inside
 
 gone_out : (hs : List ℕ) (m : Modules) (q : ℕ) → ((h : ℕ) → Member h hs → q ≢ h) → finmap.get (fold finmap.remove m hs) q ≡ finmap.get m q
@@ -134,35 +133,35 @@ gone_out (h ∷ hs) m q out = gone_out hs (finmap.remove m h) q (λ k inside. ou
 
 module _ (module_of : Given → Module) (fs : List Found) (hs : List ℕ) (ss : List (List ℕ)) (old : Modules) (free : (q : ℕ) → Member q hs → finmap.get old q ≡ None) where
   names_back : fold finmap.remove (with_modules module_of (given_from 0 fs hs ss) old) hs ≡ old
-  names_back = same_values (fold finmap.remove (with_modules module_of (given_from 0 fs hs ss) old) hs) old (λ q. elim (cases_Bool (is_member q hs)) [
-    | inl t ↦ gone_in hs (with_modules module_of (given_from 0 fs hs ss) old) q (is_member-true q hs t) ∙ sym (free q (is_member-true q hs t))
+  names_back = C.same_values (fold finmap.remove (with_modules module_of (given_from 0 fs hs ss) old) hs) old (λ q. elim (C.cases_Bool (is_member q hs)) [
+    | inl t ↦ gone_in hs (with_modules module_of (given_from 0 fs hs ss) old) q (C.is_member-true q hs t) ∙ sym (free q (C.is_member-true q hs t))
     | inr f ↦ gone_out hs (with_modules module_of (given_from 0 fs hs ss) old) q (λ h m e. out q f (subst (λ k. Member k hs) (sym e) m))
-        ∙ put_all module_of (given_from 0 fs hs ss) old q (λ g m e. out q f (subst (λ k. Member k hs) (sym e) (given_handle 0 fs hs ss g m)))
+        ∙ C.put_all module_of (given_from 0 fs hs ss) old q (λ g m e. out q f (subst (λ k. Member k hs) (sym e) (C.given_handle 0 fs hs ss g m)))
   ])
     where
       out : (q : ℕ) → is_member q hs ≡ false → Member q hs → ⊥
-      out q f m = false≢true (sym f ∙ true-is_member q hs m)
+      out q f m = false≢true (sym f ∙ C.true-is_member q hs m)
 
 -- A load that is undone: the new modules go, bound already or not, with their objects, whatever bytes these have got.
-module _ (old : LoadingWorld) (closure : Closure) (choice : Choice) (module_of : Given → Module) (heap : Heap) (is : AreHandles old.handles) (good : IsChoice old closure.found choice)
+module _ (old : LoadingWorld) (closure : C.Closure) (choice : C.Choice) (module_of : Given → Module) (heap : Heap) (is : C.AreHandles old.handles) (good : C.IsChoice old closure.found choice)
     (owns : (g : Given) → (module_of g).slots ≡ g.slots) where
   abbrev gs : List Given
   gs = given closure choice
 
   abbrev taken : LoadingWorld
-  taken = fold with_segment old (segments_of gs)
+  taken = fold C.with_segment old (segments_of gs)
 
   abbrev loaded_on : LoadingWorld → LoadingWorld
-  loaded_on world = with_heap (record world { modules = with_modules module_of gs old.modules }) heap
+  loaded_on world = C.with_heap (record world { modules = with_modules module_of gs old.modules }) heap
 
   differ : EachPair (λ a b. a ≢ b) choice.handles
-  differ = EachPair-from_AllPairs (λ (a b : ℕ). a ≢ b) choice.handles good.apart
+  differ = C.EachPair-from_AllPairs (λ (a b : ℕ). a ≢ b) choice.handles good.apart
 
   free_module : (q : ℕ) → Member q choice.handles → finmap.get old.modules q ≡ None
-  free_module q m = (Each-at (IsFreeModule old.modules) choice.handles (Each-from_All (IsFreeModule old.modules) choice.handles good.free) q m).2
+  free_module q m = (Each-at (C.IsFreeModule old.modules) choice.handles (C.Each-from_All (C.IsFreeModule old.modules) choice.handles good.free) q m).2
 
-  free_object : (q : ℕ) → Member q (all_slots choice) → object_at old.handles.heap q ≡ None
-  free_object q m = unused_slot old.handles is q (Each-at (IsFreeSlot old.handles) (all_slots choice) (Each-from_All (IsFreeSlot old.handles) (all_slots choice) good.slots.free) q m)
+  free_object : (q : ℕ) → Member q (all_slots choice) → C.object_at old.handles.heap q ≡ None
+  free_object q m = C.unused_slot old.handles is q (Each-at (C.IsFreeSlot old.handles) (all_slots choice) (C.Each-from_All (C.IsFreeSlot old.handles) (all_slots choice) good.slots.free) q m)
 
   same_handles : handles_of gs ≡ choice.handles
   same_handles = handles_given 0 closure.found choice.handles choice.slots good.many good.slots.many
@@ -173,25 +172,25 @@ module _ (old : LoadingWorld) (closure : Closure) (choice : Choice) (module_of :
   attributes_back : finmap.retain_keys taken.handles.attributes (λ q. not (is_member q (slots_of gs))) ≡ old.handles.attributes
   attributes_back =
       ap (λ (s : List ℕ). finmap.retain_keys taken.handles.attributes (λ q. not (is_member q s))) same_slots
-      ∙ ap (λ (w : LoadingWorld). w.handles.attributes) (taken_away old is (all_slots choice) free_object (segments_of gs) (chosen 0 closure.found choice.handles choice.slots) taken (fold_named old (segments_of gs)))
+      ∙ ap (λ (w : LoadingWorld). w.handles.attributes) (C.taken_away old is (all_slots choice) free_object (segments_of gs) (C.chosen 0 closure.found choice.handles choice.slots) taken (C.fold_named old (segments_of gs)))
 
   modules_back : fold finmap.remove (with_modules module_of gs old.modules) (handles_of gs) ≡ old.modules
   modules_back = ap (λ hs. fold finmap.remove (with_modules module_of gs old.modules) hs) same_handles ∙ names_back module_of closure.found choice.handles choice.slots old.modules free_module
 
-  pub undone_by_release : fold without_module (loaded_on taken) choice.handles ≡ undone old choice heap
+  pub undone_by_release : fold without_module (loaded_on taken) choice.handles ≡ C.undone old choice heap
   undone_by_release =
       ap (λ hs. fold without_module (loaded_on taken) hs) (sym same_handles)
       ∙ all_go module_of owns gs (loaded_on taken)
-      (Each-from (λ (g : Given). finmap.get (with_modules module_of gs old.modules) g.handle ≡ Some (Loaded (module_of g))) gs (λ g m. put_here module_of 0 closure.found choice.handles choice.slots old.modules differ g m))
+      (Each-from (λ (g : Given). finmap.get (with_modules module_of gs old.modules) g.handle ≡ Some (Loaded (module_of g))) gs (λ g m. C.put_here module_of 0 closure.found choice.handles choice.slots old.modules differ g m))
       (given_apart 0 closure.found choice.handles choice.slots differ)
-      ∙ ap (λ (w : LoadingWorld). without_given (loaded_on w) gs) (fold_named old (segments_of gs)).rest
+      ∙ ap (λ (w : LoadingWorld). without_given (loaded_on w) gs) (C.fold_named old (segments_of gs)).rest
       ∙ (λ i. record old {
-        handles = record old.handles { heap = heap_without (λ q. is_member q (same_slots i)) heap; attributes = attributes_back i };
+        handles = record old.handles { heap = C.heap_without (λ q. is_member q (same_slots i)) heap; attributes = attributes_back i };
         modules = modules_back i;
       })
 
 -- One goes before those that are left.
-pub next_module : (now next : LoadingWorld) (handles : List ℕ) (i : ℕ) → i < length handles → next ≡ without_module now (get_or handles i 0) → fold without_module next (drop (i + 1) handles) ≡ fold without_module now (drop i handles)
+pub next_module : (now next : LoadingWorld) (handles : List ℕ) (i : ℕ) → i < length handles → next ≡ without_module now (C.get_or handles i 0) → fold without_module next (drop (i + 1) handles) ≡ fold without_module now (drop i handles)
 next_module now next handles i lt gone =
     ap (λ (w : LoadingWorld). fold without_module w (drop (i + 1) handles)) gone
-    ∙ ap (fold without_module now) (ap (λ k. get_or handles i 0 ∷ drop k handles) (add-one i) ∙ sym (drop-cons handles i 0 lt))
+    ∙ ap (fold without_module now) (ap (λ k. C.get_or handles i 0 ∷ drop k handles) (C.add-one i) ∙ sym (C.drop-cons handles i 0 lt))

@@ -1,9 +1,10 @@
 -- One more load of what is there already.
-use Rattle.w16_loader.proofs.Common.{◌≡◌, ℕ, true, false, cond, Option, Some, None, refl, ap, nat_lt, MOST_USES, LoadingWorld, Named, module_in, Loaded, BuiltIn, Answer, after_use, used_again, Says, is_application}
+use Rattle.w16_loader.proofs.Common as C
+use Rattle.w16_loader.proofs.Common.{◌≡◌, ℕ, true, false, cond, Some, None, refl, ap, Named, Says}
 
-module _ (old : LoadingWorld) (handle : ℕ) where
+module _ (old : C.LoadingWorld) (handle : ℕ) where
   -- all else is as by LoadLibrary
-  pub once : (p : Option Named) → is_application (module_in p) ≡ false → used_again true old handle p ≡ used_again false old handle p
+  pub once : (p : C.Option Named) → C.is_application (C.module_in p) ≡ false → C.used_again true old handle p ≡ C.used_again false old handle p
   once None e = refl
-  once (Some (Loaded m)) e = ap (λ b. cond {A = Answer × LoadingWorld} b (Says 16, old) (cond (nat_lt m.uses MOST_USES) (Says handle, after_use old handle m) (Says 0, old))) e
-  once (Some (BuiltIn name)) e = refl
+  once (Some (C.Loaded m)) e = ap (λ b. cond {A = C.Answer × C.LoadingWorld} b (Says 16, old) (cond (C.nat_lt m.uses C.MOST_USES) (Says handle, C.after_use old handle m) (Says 0, old))) e
+  once (Some (C.BuiltIn name)) e = refl

@@ -1,8 +1,8 @@
 -- A module in another number of uses.
-use Rattle.w16_loader.proofs.Common.{◌≡◌, ℕ, ◌+◌, ◌-◌, Bool, true, false, cond, if◌then◌else◌, nat_lt, Option, Some, None, refl, sym, ap, ◌∙◌, IsTrue, IsFalse}
-use Rattle.w16_loader.proofs.Common.{MOST_USES, LoadingWorld, Module, Modules, Named, module_in, module_at, Loaded, BuiltIn, used_again, after_use, Says, used_less, in_world}
-use Rattle.std.specs.FinMap as finmap
+use Rattle.w16_loader.proofs
+use proofs.Common.{◌≡◌, ℕ, ◌+◌, ◌-◌, Bool, true, false, cond, if◌then◌else◌, nat_lt, Option, Some, None, refl, sym, ap, ◌∙◌, IsTrue, IsFalse, MOST_USES, LoadingWorld, Module, Modules, Named, module_in, module_at, Loaded, BuiltIn, used_again, after_use, Says, used_less, in_world}
 use Rattle.w16_model.proofs.Maps.{put_same, put_where_taken}
+use Rattle.std.specs.FinMap as finmap
 
 pub loaded_in : (named : Option Named) (m : Module) → module_in named ≡ Some m → named ≡ Some (Loaded m)
 loaded_in None m e = cc

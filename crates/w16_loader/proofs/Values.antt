@@ -1,38 +1,33 @@
 -- The values of relocation records, and what a file says of them.
-use Rattle.w16_loader.proofs.Common.{◌≡◌, ℕ, zero, suc, ◌+◌, ◌-◌, ◌<◌, ◌≤◌, Bool, true, List, [], ◌∷◌, ◌++◌, length, take, map, Some, slice_get, Result, Ok, Err, refl, sym, ap, ◌∙◌, subst, arith, add-one, All}
-use Rattle.w16_loader.proofs.Common.{is_ok, unwrap_or, list_all, and_parts, length-map, map_push, file_of, tables_at, RelocFault}
-use Rattle.w16_loader.proofs.Common.{Record, Held, checked, are_sound, Far, ModuleFile, SegmentData, Target, targets_of, Lookup, Module, value_of}
-use Rattle.w16_loader.proofs.Common.{data_in, target_of, targets_in, module_file, segment_in, tables_in, sound_law, read_back, tables_apart, FileFault, Device, OutOfMemory, Files, IsFailure, IsSaid, IsStoredAs}
-use Rattle.w16_loader.proofs.Common.{values_for}
-use Rattle.w16_store.specs.declared.store.StoreFault.TheVariants as stores
-use Rattle.w16_ne.specs.declared.fault.NeFault.TheVariants as ne_faults
-use Rattle.w16_ne.specs.declared.segment_table.Segment.{Segment}
-use Rattle.w16_ne.specs.Reading.{Refuses}
-use Rattle.w16_ne.specs.Modules.{Tables}
-use Rattle.w16_reloc.specs.declared.fault.RelocFault.TheVariants as relocs
-use Rattle.w16_reloc.specs.declared.value.Far as words
+use Rattle.w16_loader.proofs
+use proofs.Common as C
+use proofs.Common.{◌≡◌, ℕ, zero, suc, ◌+◌, ◌-◌, ◌<◌, ◌≤◌, Bool, true, List, [], ◌∷◌, ◌++◌, length, take, map, Some, slice_get, Ok, Err, refl, sym, ap, ◌∙◌, subst, arith, All, is_ok, list_all, length-map, RelocFault, Held, checked, Far, ModuleFile, Module, data_in, module_file, tables_in}
+use proofs.Common.{Files, IsSaid, IfSome}
+use proofs.Files.{there}
+use Rattle.w16_ne.specs.{declared.segment_table.Segment.Segment, Reading.Refuses, Modules.Tables}
 use Rattle.w16_reloc.specs.Records.{name_in, text_of}
 use Rattle.w16_reloc.specs.declared.record.Record.TheVariants.{Stored, Added, System}
+use Rattle.w16_format.specs.Data.{record_target, target_by}
+use Rattle.w16_loader.specs.{declared.found.FileFault.TheVariants.Refused, Closing.IsFault, Closing.fault_of_check}
+use Rattle.w16_store.specs.declared.store.StoreFault.TheVariants as stores
+use Rattle.w16_ne.specs.declared.fault.NeFault.TheVariants as ne_faults
+use Rattle.w16_reloc.specs.declared.fault.RelocFault.TheVariants as relocs
+use Rattle.w16_reloc.specs.declared.value.Far as words
 use Rattle.w16_reloc.specs.declared.record.Target as pointing
 use Rattle.w16_reloc.specs.declared.record.Target.TheVariants as points
-use Rattle.w16_format.specs.Data.{record_target, target_by}
-use Rattle.w16_loader.proofs.Common.{All-head, All-tail, IfSome}
 use Rattle.w16_reloc.specs.Segments as segments
 use Rattle.w16_loading.specs.File as loading
-use Rattle.w16_loader.proofs.Files.{there}
-use Rattle.w16_loader.specs.declared.found.FileFault.TheVariants.{Refused}
-use Rattle.w16_loader.specs.Closing.{IsFault, fault_of_check}
 
 -- Faults.
 
 -- A fault in a call is one since any time before it.
-pub fault_since : (IsRefused : ℕ → Type 0) (before mid after : ℕ) (fault : FileFault) → before ≤ mid → IsFault IsRefused mid after fault → IsFault IsRefused before after fault
+pub fault_since : (IsRefused : ℕ → Type 0) (before mid after : ℕ) (fault : C.FileFault) → before ≤ mid → IsFault IsRefused mid after fault → IsFault IsRefused before after fault
 fault_since IsRefused before mid after (Refused number) le is = is
-fault_since IsRefused before mid after Device le more = omega (arith, le, more)
-fault_since IsRefused before mid after OutOfMemory le none = tt
+fault_since IsRefused before mid after C.Device le more = omega (arith, le, more)
+fault_since IsRefused before mid after C.OutOfMemory le none = tt
 
 -- a segment that passes its check isn't refused but by the device
-pub check_failed : (before after : ℕ) (held : Held) (e : RelocFault) → segments.Refuses before after e (Ok held) → IsFailure before after (fault_of_check e)
+pub check_failed : (before after : ℕ) (held : Held) (e : RelocFault) → segments.Refuses before after e (Ok held) → C.IsFailure before after (fault_of_check e)
 check_failed before after held relocs.BadRecord h = cc
 check_failed before after held relocs.SiteOutside h = cc
 check_failed before after held relocs.Overlap h = cc
@@ -41,9 +36,9 @@ check_failed before after held (relocs.Store stores.Missing) h = absurd h
 check_failed before after held (relocs.Store stores.Short) h = absurd h
 
 -- The file of a module by its name, and with the tables that the module keeps.
-module _ (files : Files) (m : Module) (file : List ℕ) (t : Tables) (is : IsStoredAs files m file t) (name : List ℕ) (named : name ≡ m.file) (u : Tables) (kept : tables_in u ≡ m.tables) where
-  pub stored_there : file_of files name ≡ Some file
-  stored_there = ap (file_of files) named ∙ is.stored
+module _ (files : Files) (m : Module) (file : List ℕ) (t : Tables) (is : C.IsStoredAs files m file t) (name : List ℕ) (named : name ≡ m.file) (u : Tables) (kept : tables_in u ≡ m.tables) where
+  pub stored_there : C.file_of files name ≡ Some file
+  stored_there = ap (C.file_of files) named ∙ is.stored
 
 -- Records whose names stand in some bytes as in the file point where the file says.
 target_alike : (f g : ℕ → List ℕ) (x : pointing.Target) → IfSome (text_of x) (λ name. f name ≡ g name) → target_by f x ≡ target_by g x
@@ -52,23 +47,23 @@ target_alike f g (points.Entry ordinal) h = refl
 target_alike f g (points.ByOrdinal reference ordinal) h = refl
 target_alike f g (points.ByName reference name) h = ap (loading.Target.ImportName reference) h
 
-record_alike : (f g : ℕ → List ℕ) (r : Record) → IfSome (name_in r) (λ name. f name ≡ g name) → record_target f r ≡ record_target g r
+record_alike : (f g : ℕ → List ℕ) (r : C.Record) → IfSome (name_in r) (λ name. f name ≡ g name) → record_target f r ≡ record_target g r
 record_alike f g (Stored fixup) h = target_alike f g fixup.target h
 record_alike f g (Added fixup) h = target_alike f g fixup.target h
 record_alike f g System h = refl
 
-pub targets_alike : (f g : ℕ → List ℕ) (records : List Record) → All (λ r. IfSome (name_in r) (λ name. f name ≡ g name)) records → map (record_target f) records ≡ map (record_target g) records
+pub targets_alike : (f g : ℕ → List ℕ) (records : List C.Record) → All (λ r. IfSome (name_in r) (λ name. f name ≡ g name)) records → map (record_target f) records ≡ map (record_target g) records
 targets_alike f g [] all = refl
-targets_alike f g (r ∷ rs) all = λ i. record_alike f g r (All-head (λ r. IfSome (name_in r) (λ name. f name ≡ g name)) r rs all) i ∷ targets_alike f g rs (All-tail (λ r. IfSome (name_in r) (λ name. f name ≡ g name)) r rs all) i
+targets_alike f g (r ∷ rs) all = λ i. record_alike f g r (C.All-head (λ r. IfSome (name_in r) (λ name. f name ≡ g name)) r rs all) i ∷ targets_alike f g rs (C.All-tail (λ r. IfSome (name_in r) (λ name. f name ≡ g name)) r rs all) i
 
 -- Values, one more.
 
-module _ (named : Lookup) (m : Module) where
+module _ (named : C.Lookup) (m : Module) where
   module _ {V : Type 0} (view : V → List Far) where
-    pub segment_more : (targets : List (List Target)) (ts : List Target) (vs : List V) (v : V) → view v ≡ map (value_of named m) ts → map view vs ≡ values_for named m targets
-        → map view (vs ++ v ∷ []) ≡ values_for named m (targets ++ ts ∷ [])
+    pub segment_more : (targets : List (List C.Target)) (ts : List C.Target) (vs : List V) (v : V) → view v ≡ map (C.value_of named m) ts → map view vs ≡ C.values_for named m targets
+        → map view (vs ++ v ∷ []) ≡ C.values_for named m (targets ++ ts ∷ [])
     segment_more targets ts vs v one are =
-        map_push view vs v ∙ (λ i. are i ++ one i ∷ []) ∙ sym (map_push (λ ts. map (value_of named m) ts) targets ts)
+        C.map_push view vs v ∙ (λ i. are i ++ one i ∷ []) ∙ sym (C.map_push (λ ts. map (C.value_of named m) ts) targets ts)
 
 -- a front of one more
 front_by : {X Y : Type 0} (f : X → Y) (x : X) (xs : List X) (place : ℕ) → slice_get xs place ≡ Some x → take (suc place) (map f xs) ≡ take place (map f xs) ++ f x ∷ []
@@ -77,16 +72,16 @@ front_by f x (y ∷ ys) zero at = let same : y ≡ x = cc in ap (λ z. f z ∷ [
 front_by f x (y ∷ ys) (suc place) at = ap (λ zs. f y ∷ zs) (front_by f x ys place at)
 
 pub front_more : {X Y : Type 0} (f : X → Y) (xs : List X) (place : ℕ) (x : X) → slice_get xs place ≡ Some x → take (place + 1) (map f xs) ≡ take place (map f xs) ++ f x ∷ []
-front_more f xs place x at = ap (λ n. take n (map f xs)) (add-one place) ∙ front_by f x xs place at
+front_more f xs place x at = ap (λ n. take n (map f xs)) (C.add-one place) ∙ front_by f x xs place at
 
 -- Files.
 
 one_of_all : {X : Type 0} (p : X → Bool) (xs : List X) (k : ℕ) (x : X) → list_all p xs ≡ true → slice_get xs k ≡ Some x → p x ≡ true
 one_of_all p [] k x all at = cc
-one_of_all p (y ∷ ys) zero x all at = let same : y ≡ x = cc in ap p (sym same) ∙ (and_parts (p y) (list_all p ys) all).0
-one_of_all p (y ∷ ys) (suc k) x all at = one_of_all p ys k x (and_parts (p y) (list_all p ys) all).1 at
+one_of_all p (y ∷ ys) zero x all at = let same : y ≡ x = cc in ap p (sym same) ∙ (C.and_parts (p y) (list_all p ys) all).0
+one_of_all p (y ∷ ys) (suc k) x all at = one_of_all p ys k x (C.and_parts (p y) (list_all p ys) all).1 at
 
-ok_is : (r : Result Held RelocFault) → is_ok r ≡ true → (held : Held) × (r ≡ Ok held)
+ok_is : (r : C.Result Held RelocFault) → is_ok r ≡ true → (held : Held) × (r ≡ Ok held)
 ok_is (Ok held) e = (held, refl)
 ok_is (Err fault) e = cc
 
@@ -97,46 +92,46 @@ mapped f (x ∷ xs) (suc k) y at = mapped f xs k y at
 
 -- What the file of a module says that has these tables.
 module _ (files : Files) (m : Module) (read : ModuleFile) (is : IsSaid files m read) (t : Tables) (same : tables_in t ≡ m.tables) where
-  abbrev back : (u : Tables) × (tables_at (Some is.file) ≡ Ok u) × (read ≡ module_file is.file u)
-  back = (read_back is.file read is.accepted).1
+  abbrev back : (u : Tables) × (C.tables_at (Some is.file) ≡ Ok u) × (read ≡ module_file is.file u)
+  back = (C.read_back is.file read is.accepted).1
 
   one : back.0 ≡ t
-  one = tables_apart back.0 t (ap (λ (r : ModuleFile). r.tables) (sym back.2) ∙ is.tables ∙ sym same)
+  one = C.tables_apart back.0 t (ap (λ (r : ModuleFile). r.tables) (sym back.2) ∙ is.tables ∙ sym same)
 
-  pub stored_as : IsStoredAs files m is.file t
+  pub stored_as : C.IsStoredAs files m is.file t
   stored_as = record { stored = is.stored; read = back.1 ∙ ap Ok one; tables = same }
 
   read_is : read ≡ module_file is.file t
   read_is = back.2 ∙ ap (module_file is.file) one
 
   all_pass : list_all (λ s. is_ok (checked is.file t s)) t.segments ≡ true
-  all_pass = sym (sound_law is.file t) ∙ ap are_sound (sym read_is) ∙ is.sound
+  all_pass = sym (C.sound_law is.file t) ∙ ap C.are_sound (sym read_is) ∙ is.sound
 
-  module _ (k : ℕ) (d : SegmentData) (at : slice_get read.segments k ≡ Some d) where
+  module _ (k : ℕ) (d : C.SegmentData) (at : slice_get read.segments k ≡ Some d) where
     pub found : (s : Segment) × (slice_get t.segments k ≡ Some s) × (d ≡ data_in is.file t s)
     found = mapped (data_in is.file t) t.segments k d (ap (λ (r : ModuleFile). slice_get r.segments k) (sym read_is) ∙ at)
 
     passed : (held : Held) × (checked is.file t found.0 ≡ Ok held)
     passed = ok_is (checked is.file t found.0) (one_of_all (λ s. is_ok (checked is.file t s)) t.segments k found.0 all_pass found.1)
 
-    pub targets_are : (held : Held) → checked is.file t found.0 ≡ Ok held → targets_of d ≡ map (target_of is.file t) held.records
-    targets_are held e = ap targets_of found.2 ∙ ap (λ r. unwrap_or (targets_in is.file t r) []) e
+    pub targets_are : (held : Held) → checked is.file t found.0 ≡ Ok held → C.targets_of d ≡ map (C.target_of is.file t) held.records
+    targets_are held e = ap C.targets_of found.2 ∙ ap (λ r. C.unwrap_or (C.targets_in is.file t r) []) e
 
-    pub segment_refused : (before after : ℕ) (e : RelocFault) → segments.Refuses before after e (checked is.file t found.0) → IsFailure before after (fault_of_check e)
+    pub segment_refused : (before after : ℕ) (e : RelocFault) → segments.Refuses before after e (checked is.file t found.0) → C.IsFailure before after (fault_of_check e)
     segment_refused before after e h = check_failed before after passed.0 e (subst (λ r. segments.Refuses before after e r) passed.1 h)
 
 -- as many segments as the module has
 many_said : (files : Files) (m : Module) (read : ModuleFile) → IsSaid files m read → length read.segments ≡ length m.tables.segments
 many_said files m read is =
-    let back = (read_back is.file read is.accepted).1 in
+    let back = (C.read_back is.file read is.accepted).1 in
     let tables : read.tables ≡ tables_in back.0 = ap (λ (r : ModuleFile). r.tables) back.2 in
     ap (λ (r : ModuleFile). length r.segments) back.2 ∙ length-map back.0.segments (data_in is.file back.0)
-    ∙ sym (length-map back.0.segments segment_in) ∙ ap (λ (u : loading.Tables). length u.segments) (sym tables ∙ is.tables)
+    ∙ sym (length-map back.0.segments C.segment_in) ∙ ap (λ (u : loading.Tables). length u.segments) (sym tables ∙ is.tables)
 
 -- and as the tables that it keeps
 pub count_said : (files : Files) (m : Module) (read : ModuleFile) → IsSaid files m read → (t : Tables) → tables_in t ≡ m.tables → (count : ℕ) → count ≡ length t.segments → count ≡ length read.segments
 count_said files m read is t kept count counted =
-    counted ∙ sym (length-map t.segments segment_in) ∙ ap (λ (u : loading.Tables). length u.segments) kept ∙ sym (many_said files m read is)
+    counted ∙ sym (length-map t.segments C.segment_in) ∙ ap (λ (u : loading.Tables). length u.segments) kept ∙ sym (many_said files m read is)
 
 -- what is at a place has the number after it
 pub numbered_there : {X : Type 0} (xs : List X) (place : ℕ) → place < length xs → (x : X) × (slice_get xs place ≡ Some x) × (slice_get xs (place + 1 - 1) ≡ Some x)

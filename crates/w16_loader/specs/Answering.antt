@@ -1,25 +1,16 @@
 -- What a load makes of files, and finds, by what its store answered.
+use Rattle.w16_loader.specs
 use Rattle.std.specs.Prelude.{◌≡◌, ◌<◌, ◌⊎◌, ℕ, true, List, [], ◌∷◌, map, length, All, None, Result, Ok, Err}
 use Rattle.std.specs.List.{AllZip}
-use Rattle.w16_loading.specs.Answers.{Answers, ClosesFrom, ReadsFile, told}
+use Rattle.w16_loading.specs.{Answers.Answers, Answers.ClosesFrom, Answers.ReadsFile, Answers.told, Closure.dll, Closure.Reading.Refused, Closure.Reading.Meant, File.ModuleFile, File.Tables, Modules.Modules, Modules.free_modules}
+use Rattle.w16_format.specs.{Ne.ne_format, Tables.tables_in}
+use specs.Closing.{Files, around_in, found_in, meant_in, referent_of}
+use specs.Following.{LeadsByName, bound_in, number_of_reference}
+use specs.{declared.found.Found.Found, declared.found.Reading.Reading, declared.closure.Closure.Closure, declared.closure.Followed.Followed, Reached.Begins, Reached.IsFoundOf, Naming.IsFit}
 use Rattle.w16_loading.specs.Closure as closing
-use Rattle.w16_loading.specs.Closure.{dll}
-use Rattle.w16_loading.specs.Closure.Reading.{Refused, Meant}
-use Rattle.w16_loading.specs.File.{ModuleFile, Tables}
-use Rattle.w16_loading.specs.Modules.{Modules, free_modules}
-use Rattle.w16_format.specs.Ne.{ne_format}
-use Rattle.w16_format.specs.Tables.{tables_in}
 use Rattle.w16_ne.specs.Modules as ne
-use Rattle.w16_loader.specs.declared.found.Found.{Found}
-use Rattle.w16_loader.specs.declared.found.Reading.{Reading}
 use Rattle.w16_loader.specs.declared.found.Reading.TheVariants as makes
-use Rattle.w16_loader.specs.declared.closure.Closure.{Closure}
-use Rattle.w16_loader.specs.declared.closure.Followed.{Followed}
 use Rattle.w16_loader.specs.declared.closure.Followed.TheVariants as leads
-use Rattle.w16_loader.specs.Closing.{Files, around_in, found_in, meant_in, referent_of}
-use Rattle.w16_loader.specs.Following.{LeadsByName, bound_in, number_of_reference}
-use Rattle.w16_loader.specs.Reached.{Begins, IsFoundOf}
-use Rattle.w16_loader.specs.Naming.{IsFit}
 
 -- a store's answers of what it read, whatever its count of failures
 abbrev pub answers_of : (honest : Type 0) → Files → Answers

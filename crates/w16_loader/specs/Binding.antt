@@ -1,23 +1,15 @@
 -- How the modules of a load get the values of their relocation records, and what their files say.
 use Rattle.std.specs.Prelude.{◌≡◌, ℕ, ◌<◌, true, List, ◌∷◌, length, map, Some, None, IfSome, IsSomeAnd, Ok}
 use Rattle.std.specs.List.{AllZip}
-use Rattle.std.specs.FinMap as finmap
 use Rattle.w16_store.specs.Files.{file_of}
-use Rattle.w16_ne.specs.Modules as ne
 use Rattle.w16_ne.specs.Modules.{tables_at}
-use Rattle.w16_reloc.specs.declared.value.Far as words
-use Rattle.w16_loading.specs.declared.FetchFault.TheVariants.{Store}
-use Rattle.w16_loading.specs.Closure.{are_sound}
-use Rattle.w16_loading.specs.File.{Far, ModuleFile, Target}
-use Rattle.w16_loading.specs.Fill.{is_of_read}
 use Rattle.w16_loading.specs.Modules.{Lookup, Module, Modules, module_at, value_of}
-use Rattle.w16_loading.specs.Modules.Named.{Loaded}
-use Rattle.w16_format.specs.Data.{far_of}
-use Rattle.w16_format.specs.Ne.{ne_format}
-use Rattle.w16_format.specs.Tables.{tables_in}
-use Rattle.w16_loader.specs.Closing.{Files, IsFault}
-use Rattle.w16_loader.specs.declared.found.FileFault.{FileFault}
-use Rattle.w16_loader.specs.declared.binding.BindFault.{BindFault}
+use Rattle.w16_loading.specs.{declared.FetchFault.TheVariants.Store, Closure.are_sound, File.Far, File.ModuleFile, File.Target, Fill.is_of_read, Modules.Named.Loaded}
+use Rattle.w16_format.specs.{Data.far_of, Ne.ne_format, Tables.tables_in}
+use Rattle.w16_loader.specs.{Closing.Files, Closing.IsFault, declared.found.FileFault.FileFault, declared.binding.BindFault.BindFault}
+use Rattle.std.specs.FinMap as finmap
+use Rattle.w16_ne.specs.Modules as ne
+use Rattle.w16_reloc.specs.declared.value.Far as words
 use Rattle.w16_loader.specs.declared.binding.BindFault.TheVariants as binds
 
 -- Values.

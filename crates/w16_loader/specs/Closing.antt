@@ -1,29 +1,20 @@
 -- What a load has found, as the code keeps it, and what it makes of a name and of a file.
 use Rattle.std.specs.Prelude.{◌≡◌, ◌<◌, ℕ, List, [], length, map, false, Option, Some, None, IsSomeAnd, unwrap_or, Result, Ok, Err}
+use Rattle.w16_store.specs.{Files.file_of, declared.store.StoreFault.StoreFault}
+use Rattle.w16_ne.specs.{declared.fault.NeFault.NeFault, Modules.tables_at}
+use Rattle.w16_reloc.specs.declared.fault.RelocFault.{RelocFault}
+use Rattle.w16_loading.specs.{File.ModuleFile, Modules.Modules, Modules.Named, Modules.handle_named, Modules.free_modules, Closure.Around, Closure.are_sound, Closure.Referent.There, Closure.Referent.New, Closure.Reading.Meant, Closure.Reading.Read}
+use Rattle.w16_format.specs.Ne.{ne_format, module_file, number_of}
+use Rattle.w16_loader.specs.declared.found.FileFault.TheVariants.{Refused, Device, OutOfMemory}
+use Rattle.w16_loader.specs.{declared.found.Found.Found, declared.found.Referent.Referent, declared.found.Reading.Reading, declared.found.FileFault.FileFault}
 use Rattle.std.specs.FinMap as finmap
 use Rattle.w16_store.specs.declared.store.StoreFault.TheVariants as stores
-use Rattle.w16_store.specs.Files.{file_of}
-use Rattle.w16_ne.specs.declared.fault.NeFault.{NeFault}
 use Rattle.w16_ne.specs.declared.fault.NeFault.TheVariants as faults
-use Rattle.w16_store.specs.declared.store.StoreFault.{StoreFault}
 use Rattle.w16_ne.specs.Modules as ne
-use Rattle.w16_ne.specs.Modules.{tables_at}
-use Rattle.w16_reloc.specs.declared.fault.RelocFault.{RelocFault}
 use Rattle.w16_reloc.specs.declared.fault.RelocFault.TheVariants as relocs
-use Rattle.w16_loading.specs.File.{ModuleFile}
-use Rattle.w16_loading.specs.Modules.{Modules, Named, handle_named, free_modules}
 use Rattle.w16_loading.specs.Closure as closing
-use Rattle.w16_loading.specs.Closure.{Around, are_sound}
-use Rattle.w16_loading.specs.Closure.Referent.{There, New}
-use Rattle.w16_loading.specs.Closure.Reading.{Meant, Read}
-use Rattle.w16_format.specs.Ne.{ne_format, module_file, number_of}
-use Rattle.w16_loader.specs.declared.found.Found.{Found}
-use Rattle.w16_loader.specs.declared.found.Referent.{Referent}
 use Rattle.w16_loader.specs.declared.found.Referent.TheVariants as refers
-use Rattle.w16_loader.specs.declared.found.Reading.{Reading}
 use Rattle.w16_loader.specs.declared.found.Reading.TheVariants as makes
-use Rattle.w16_loader.specs.declared.found.FileFault.{FileFault}
-use Rattle.w16_loader.specs.declared.found.FileFault.TheVariants.{Refused, Device, OutOfMemory}
 
 abbrev pub Files : Type 0
 Files = List (List ℕ × List ℕ)

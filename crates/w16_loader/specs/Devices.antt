@@ -1,12 +1,10 @@
 -- Which faults of a load, and which answers, tell that the store's device failed.
 use Rattle.std.specs.Prelude.{Bool, true, false}
 use Rattle.w16_loading.specs.declared.FetchFault.{FetchFault}
+use Rattle.w16_loader.specs.{declared.binding.BindFault.BindFault, declared.found.FileFault.FileFault, declared.loading.LoadAnswer.LoadAnswer}
 use Rattle.w16_loading.specs.declared.FetchFault.TheVariants as fetches
-use Rattle.w16_loader.specs.declared.binding.BindFault.{BindFault}
 use Rattle.w16_loader.specs.declared.binding.BindFault.TheVariants as binds
-use Rattle.w16_loader.specs.declared.found.FileFault.{FileFault}
 use Rattle.w16_loader.specs.declared.found.FileFault.TheVariants as files
-use Rattle.w16_loader.specs.declared.loading.LoadAnswer.{LoadAnswer}
 use Rattle.w16_loader.specs.declared.loading.LoadAnswer.TheVariants as answers
 
 abbrev pub is_of_device : FetchFault → Bool

@@ -1,6 +1,5 @@
 -- What the code keeps under a module handle, as the meaning of modules has it.
-use Rattle.w16_loading.specs.Modules.{Named}
-use Rattle.w16_loading.specs.Modules.Named.{Loaded, BuiltIn}
+use Rattle.w16_loading.specs.{Modules.Named, Modules.Named.Loaded, Modules.Named.BuiltIn}
 use Rattle.w16_loader.specs.declared.entry.Entry.{Entry}
 use Rattle.w16_loader.specs.declared.entry.Entry.TheVariants as kept
 

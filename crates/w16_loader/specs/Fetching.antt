@@ -1,28 +1,15 @@
 -- How a segment's object gets its bytes from the file of its module.
 use Rattle.std.specs.Prelude.{◌≡◌, ℕ, ◌-◌, ◌<◌, ◌≤◌, true, List, [], length, map, All, IsSomeAnd, Option, Some, None, Result, Ok, Err, slice_get, slice_index_or}
-use Rattle.w16_model.specs.Handles.{Handles}
-use Rattle.w16_model.specs.Owned.{owned_at}
+use Rattle.w16_model.specs.{Handles.Handles, Owned.owned_at}
 use Rattle.w16_store.specs.Files.{file_of}
-use Rattle.w16_store.specs.declared.store.StoreFault.TheVariants as stores
-use Rattle.w16_ne.specs.declared.segment_table.Segment.{Segment}
-use Rattle.w16_ne.specs.Modules.{Tables, tables_at}
-use Rattle.w16_reloc.specs.declared.fault.RelocFault.{RelocFault}
-use Rattle.w16_reloc.specs.declared.fault.RelocFault.TheVariants as relocs
-use Rattle.w16_reloc.specs.declared.record.Record.{Record}
-use Rattle.w16_reloc.specs.declared.value.Far as words
-use Rattle.w16_reloc.specs.Images.{IsImage}
-use Rattle.w16_reloc.specs.Law.{IsFar}
-use Rattle.w16_reloc.specs.Segments.{Held, any_offer, checked}
-use Rattle.w16_reloc.specs.Sound.{IsSound, IsSoundSegment}
-use Rattle.w16_loading.specs.declared.FetchFault.{FetchFault}
+use Rattle.w16_ne.specs.{declared.segment_table.Segment.Segment, Modules.Tables, Modules.tables_at}
+use Rattle.w16_reloc.specs.{declared.fault.RelocFault.RelocFault, declared.record.Record.Record, Images.IsImage, Law.IsFar, Segments.Held, Segments.any_offer, Segments.checked, Sound.IsSound, Sound.IsSoundSegment}
 use Rattle.w16_loading.specs.declared.FetchFault.TheVariants.{Store, Damaged}
-use Rattle.w16_loading.specs.Answers.{FillsFewest, GivesRead, MayFail}
-use Rattle.w16_loading.specs.Fill.{Fills}
-use Rattle.w16_loading.specs.Law.{IsLoadingWorld, IsOfFiles}
-use Rattle.w16_loading.specs.Modules.{LoadingWorld, Module, IsSegmentOf}
-use Rattle.w16_format.specs.Data.{data_in, far_of}
-use Rattle.w16_format.specs.Ne.{ne_format}
-use Rattle.w16_format.specs.Tables.{tables_in}
+use Rattle.w16_loading.specs.{declared.FetchFault.FetchFault, Answers.FillsFewest, Answers.GivesRead, Answers.MayFail, Fill.Fills, Law.IsLoadingWorld, Law.IsOfFiles, Modules.LoadingWorld, Modules.Module, Modules.IsSegmentOf}
+use Rattle.w16_format.specs.{Data.data_in, Data.far_of, Ne.ne_format, Tables.tables_in}
+use Rattle.w16_store.specs.declared.store.StoreFault.TheVariants as stores
+use Rattle.w16_reloc.specs.declared.fault.RelocFault.TheVariants as relocs
+use Rattle.w16_reloc.specs.declared.value.Far as words
 
 -- why a fetch fails whose segment isn't relocated: the store's device failed, or the file isn't what it was
 abbrev pub fault_of : RelocFault → FetchFault

@@ -1,19 +1,12 @@
 -- What a load gives bytes once its modules have names, and what holds of these and of their objects before.
 use Rattle.std.specs.Prelude.{◌≡◌, ◌≢◌, ℕ, ◌+◌, List, [], ◌∷◌, ◌++◌, length, flat_map, All, AllPairs, Option, Some, None, IfSome, IsSomeAnd, Result, Ok, Err, option_map, slice_get, unwrap_or}
 use Rattle.std.specs.List.{AllZip}
-use Rattle.w16_model.specs.Handles.{Handles}
-use Rattle.w16_model.specs.Heap.{object_at}
-use Rattle.w16_model.specs.Owned.{owned_at}
-use Rattle.w16_loading.specs.declared.FetchFault.{FetchFault}
+use Rattle.w16_model.specs.{Handles.Handles, Heap.object_at, Owned.owned_at}
 use Rattle.w16_loading.specs.File.{Far, ModuleFile, Segment, SegmentData, IsModuleFile}
-use Rattle.w16_loading.specs.Fill as loading
-use Rattle.w16_loading.specs.Answers.{GivesFrom, told}
-use Rattle.w16_loading.specs.Fill.{Filling, Fills, Giving}
+use Rattle.w16_loading.specs.{declared.FetchFault.FetchFault, Answers.GivesFrom, Answers.told, Fill.Filling, Fill.Fills, Fill.Giving, Law.IsItsFiles, Modules.Module, Modules.Modules, Modules.module_at, Naming.fills_from}
 use Rattle.w16_format.specs.Ne.{ne_format}
-use Rattle.w16_loading.specs.Law.{IsItsFiles}
-use Rattle.w16_loading.specs.Modules.{Module, Modules, module_at}
-use Rattle.w16_loading.specs.Naming.{fills_from}
 use Rattle.w16_loader.specs.declared.fault.Failure.{Failure}
+use Rattle.w16_loading.specs.Fill as loading
 
 -- what a load answers, as loading has it: of the module at a place, and of several
 abbrev pub failure_at : {A : Type 0} → ℕ → Result A FetchFault → Option loading.Failure

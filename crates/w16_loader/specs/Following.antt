@@ -1,19 +1,14 @@
 -- How a load follows the references of the modules that it finds, as the code keeps it.
+use Rattle.w16_loader.specs
 use Rattle.std.specs.Prelude.{◌≡◌, ◌≤◌, ◌==◌, if◌then◌else◌, ℕ, suc, List, [], ◌∷◌, ◌++◌, map, drop, length, slice_get, None, Some}
-use Rattle.w16_loading.specs.Modules.{Modules, free_modules}
+use Rattle.w16_loading.specs.{Modules.Modules, Modules.free_modules, Closure.Referent.New, Closure.Reading.Meant}
+use specs.declared.found.FileFault.TheVariants.{Refused, Device, OutOfMemory}
+use specs.Closing.{Files, referent_of, found_in, meant_in}
+use specs.{declared.found.Found.Found, declared.found.FileFault.FileFault, declared.closure.Bound.Bound, declared.closure.Closure.Closure, declared.closure.Followed.Followed}
 use Rattle.w16_loading.specs.Closure as closing
-use Rattle.w16_loading.specs.Closure.Referent.{New}
-use Rattle.w16_loading.specs.Closure.Reading.{Meant}
-use Rattle.w16_loader.specs.declared.found.Found.{Found}
-use Rattle.w16_loader.specs.declared.found.FileFault.{FileFault}
-use Rattle.w16_loader.specs.declared.found.FileFault.TheVariants.{Refused, Device, OutOfMemory}
 use Rattle.w16_loader.specs.declared.found.Referent as kept
 use Rattle.w16_loader.specs.declared.found.Referent.TheVariants as refers
-use Rattle.w16_loader.specs.declared.closure.Bound.{Bound}
-use Rattle.w16_loader.specs.declared.closure.Closure.{Closure}
-use Rattle.w16_loader.specs.declared.closure.Followed.{Followed}
 use Rattle.w16_loader.specs.declared.closure.Followed.TheVariants as leads
-use Rattle.w16_loader.specs.Closing.{Files, referent_of, found_in, meant_in}
 
 -- a file that a reference leads to and that is refused gives 20, want of a handle 0
 abbrev pub number_of_reference : ℕ → ℕ

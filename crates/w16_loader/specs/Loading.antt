@@ -1,30 +1,17 @@
 -- Loads of modules, as the code answers them.
 use Rattle.std.specs.Prelude.{◌≡◌, ℕ, ◌⊎◌, Bool, true, false, not, ◌==◌, if◌then◌else◌, List, fold, slice_index_or, IfOk, Option, None, Some, Result, Ok, Err, alloc_error}
-use Rattle.std.specs.List.{AllZip}
-use Rattle.std.specs.declared.alloc.AllocError.{AllocError}
+use Rattle.std.specs.{List.AllZip, declared.alloc.AllocError.AllocError}
 use Rattle.w16_store.specs.Files.{file_of}
 use Rattle.w16_model.specs.Handles.{Handles}
 use Rattle.w16_format.specs.Ne.{ne_format}
 use Rattle.w16_loading.specs.Answers.{FillsFewest, GivesFrom, MayFail, told}
-use Rattle.w16_loading.specs.Closure as closing
-use Rattle.w16_loading.specs.Closure.{are_sound}
-use Rattle.w16_loading.specs.Free.{without_module}
-use Rattle.w16_loading.specs.Load.{Answer, LoadsNew, refusal_of}
-use Rattle.w16_loading.specs.Load.Answer.{Says, StoreFails}
-use Rattle.w16_loading.specs.Modules.{LoadingWorld, Module, Modules}
-use Rattle.w16_loader.specs.declared.loading.LoadAnswer.{LoadAnswer}
-use Rattle.w16_loader.specs.declared.loading.LoadAnswer.TheVariants as answers
-use Rattle.w16_loader.specs.declared.found.FileFault.{FileFault}
+use Rattle.w16_loading.specs.{Closure.are_sound, Free.without_module, Load.Answer, Load.LoadsNew, Load.refusal_of, Load.Answer.Says, Load.Answer.StoreFails, Modules.LoadingWorld, Modules.Module, Modules.Modules, declared.FetchFault.FetchFault}
 use Rattle.w16_loader.specs.declared.found.FileFault.TheVariants.{Refused, Device, OutOfMemory}
-use Rattle.w16_loader.specs.declared.binding.BindFault.{BindFault}
+use Rattle.w16_loader.specs.{declared.loading.LoadAnswer.LoadAnswer, declared.found.FileFault.FileFault, declared.binding.BindFault.BindFault, Closing.Files, Closing.said, Reached.IsAlike, Answering.AreHeld, Answering.answers_of, Fetching.in_parts, Registry.in_world}
+use Rattle.w16_loading.specs.Closure as closing
+use Rattle.w16_loader.specs.declared.loading.LoadAnswer.TheVariants as answers
 use Rattle.w16_loader.specs.declared.binding.BindFault.TheVariants as binds
-use Rattle.w16_loading.specs.declared.FetchFault.{FetchFault}
 use Rattle.w16_loading.specs.declared.FetchFault.TheVariants as fetches
-use Rattle.w16_loader.specs.Closing.{Files, said}
-use Rattle.w16_loader.specs.Reached.{IsAlike}
-use Rattle.w16_loader.specs.Answering.{AreHeld, answers_of}
-use Rattle.w16_loader.specs.Fetching.{in_parts}
-use Rattle.w16_loader.specs.Registry.{in_world}
 
 -- what the code answers, as loading has it
 abbrev pub answer_in : LoadAnswer → Answer

@@ -1,19 +1,13 @@
 -- How new modules of a load get handles, slots and names.
 use Rattle.std.specs.Prelude.{◌≡◌, ℕ, ◌<◌, ◌≤◌, ◌==◌, if◌then◌else◌, List, [], ◌∷◌, length, map, filter, fold, zip, All, is_none}
 use Rattle.std.specs.List.{AllZip, range_with_len}
-use Rattle.std.specs.FinMap as finmap
-use Rattle.w16_model.specs.declared.TheConstants.{GRAIN}
-use Rattle.w16_model.specs.Heap.{IsMultiple}
-use Rattle.w16_model.specs.Handles.{IsFreeSlot}
+use Rattle.w16_model.specs.{declared.TheConstants.GRAIN, Heap.IsMultiple, Handles.IsFreeSlot}
 use Rattle.w16_loading.specs.declared.TheConstants.{FIRST_MODULE, MOST_MODULES, LARGEST_OWNED}
-use Rattle.w16_loading.specs.File.{Segment}
-use Rattle.w16_loading.specs.Modules.{LoadingWorld, Module, Modules}
-use Rattle.w16_loading.specs.Modules.Named.{Loaded}
-use Rattle.w16_loading.specs.Closure as closing
 use Rattle.w16_loading.specs.Naming.{Choice, IsChoice, Given, given, given_from, imports_at, unbound, with_modules, with_segment, segments_of}
-use Rattle.w16_loader.specs.declared.closure.Closure.{Closure}
-use Rattle.w16_loader.specs.Reached.{IsAlike, IsFoundOf}
-use Rattle.w16_loader.specs.Following.{bound_in}
+use Rattle.w16_loading.specs.{File.Segment, Modules.LoadingWorld, Modules.Module, Modules.Modules, Modules.Named.Loaded}
+use Rattle.w16_loader.specs.{declared.closure.Closure.Closure, Reached.IsAlike, Reached.IsFoundOf, Following.bound_in}
+use Rattle.std.specs.FinMap as finmap
+use Rattle.w16_loading.specs.Closure as closing
 
 module _ {A : Type 0} where
   pub record IsClosureOf (made : Closure A) (closure : closing.Closure) : Type 0 where

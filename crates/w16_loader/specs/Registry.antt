@@ -1,16 +1,11 @@
 -- Modules in a table by handle.
 use Rattle.std.specs.Prelude.{◌≡◌, ℕ, ◌+◌, ◌<◌, ◌==◌, ◌&&◌, not, if◌then◌else◌, List, length, Option, None, Some, slice_index, slice_index_or, find, option_map}
-use Rattle.std.specs.FinMap as finmap
-use Rattle.w16_model.specs.Discards.{is_member}
-use Rattle.w16_model.specs.Table.{by_id}
+use Rattle.w16_model.specs.{Discards.is_member, Table.by_id}
 use Rattle.w16_store.specs.Names.{is_named}
-use Rattle.w16_loading.specs.declared.TheConstants.{FIRST_MODULE, MOST_MODULES}
 use Rattle.w16_loading.specs.Modules.{LoadingWorld, Modules, Named, IsFreeModule, importers_among, name_of}
-use Rattle.w16_loading.specs.Owner.{Owner}
-use Rattle.w16_loading.specs.Owner.Owner.{Script, OfSegment}
-use Rattle.w16_loader.specs.declared.entry.Entry.{Entry}
-use Rattle.w16_loader.specs.declared.table.SegmentOf.{SegmentOf}
-use Rattle.w16_loader.specs.Entries.{named_of}
+use Rattle.w16_loading.specs.{declared.TheConstants.FIRST_MODULE, declared.TheConstants.MOST_MODULES, Owner.Owner, Owner.Owner.Script, Owner.Owner.OfSegment}
+use Rattle.w16_loader.specs.{declared.entry.Entry.Entry, declared.table.SegmentOf.SegmentOf, Entries.named_of}
+use Rattle.std.specs.FinMap as finmap
 
 module _ {A : Type 0} where
   -- what the table names, by handle

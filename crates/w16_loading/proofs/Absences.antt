@@ -1,17 +1,19 @@
 -- Maps and worlds without what goes.
-use Rattle.w16_loading.proofs.Common.{◌≡◌, ℕ, inl, inr, Bool, true, false, cond, not, Option, None, refl, sym, ap, ◌∙◌, nat_cmp_total, nat_cmp, FinMap, same_map, nat_cmp-IsAntisymmetric, cases_eq, taken_here, taken_other, LoadingWorld, without_objects}
+use Rattle.w16_loading.proofs
+use proofs.Common as C
+use proofs.Common.{◌≡◌, ℕ, inl, inr, Bool, true, false, cond, not, None, refl, sym, ap, ◌∙◌, nat_cmp, FinMap, cases_eq, taken_here, taken_other}
+use proofs.Undone.{retained, kept_all}
 use Rattle.std.specs.FinMap as finmap
-use Rattle.w16_loading.proofs.Undone.{retained, kept_all}
 
 -- two maps with the same values are one
 pub same_values : {X : Type 0} (m n : FinMap nat_cmp X) → ((q : ℕ) → finmap.get m q ≡ finmap.get n q) → m ≡ n
-same_values m n same = same_map nat_cmp_total nat_cmp-IsAntisymmetric m n same
+same_values m n same = C.same_map C.nat_cmp_total C.nat_cmp-IsAntisymmetric m n same
 
 -- where nothing goes all stay
 pub all_retained : {X : Type 0} (m : FinMap nat_cmp X) (gone : ℕ → Bool) → ((q : ℕ) → gone q ≡ false) → finmap.retain_keys m (λ q. not (gone q)) ≡ m
 all_retained m gone out = same_values (finmap.retain_keys m (λ q. not (gone q))) m (λ q. retained m gone q ∙ ap (λ b. cond (not b) (finmap.get m q) None) (out q))
 
-pub none_gone : (gone : ℕ → Bool) (world : LoadingWorld) → ((q : ℕ) → gone q ≡ false) → without_objects gone world ≡ world
+pub none_gone : (gone : ℕ → Bool) (world : C.LoadingWorld) → ((q : ℕ) → gone q ≡ false) → C.without_objects gone world ≡ world
 none_gone gone world out = λ i. record world {
   handles = record world.handles {
     heap = record world.handles.heap {
@@ -31,7 +33,7 @@ retained_swapped m a b = same_values _ _ (λ q.
     ∙ swapped (a q) (b q) (finmap.get m q)
     ∙ sym (retained (finmap.retain_keys m (λ q. not (b q))) a q ∙ ap (λ p. cond (not (a q)) p None) (retained m b q)))
   where
-    swapped : {X : Type 0} (s t : Bool) (p : Option X) → cond (not t) (cond (not s) p None) None ≡ cond (not s) (cond (not t) p None) None
+    swapped : {X : Type 0} (s t : Bool) (p : C.Option X) → cond (not t) (cond (not s) p None) None ≡ cond (not s) (cond (not t) p None) None
     swapped true true p = refl
     swapped true false p = refl
     swapped false true p = refl

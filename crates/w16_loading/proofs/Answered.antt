@@ -1,53 +1,49 @@
 -- Steps by answers: what they are by other answers, and what a load leaves, whatever is answered.
-use Rattle.w16_loading.proofs.Common.{◌≡◌, ℕ, zero, suc, ◌<◌, ◌≤◌, inl, inr, ◌⊎◌, Bool, true, false, cond, ◌==◌, List, [], ◌∷◌, length, Option, Some, None, MatchOption, MatchResult, option_map, Result, Ok, Err, refl, sym}
-use Rattle.w16_loading.proofs.Common.{ap, ◌∙◌, subst, arith, option_or, Heap, bytes_at, IsFreeSlot, selector_in, FarAnswer, far_slot, FIRST_MODULE}
-use Rattle.w16_loading.proofs.Common.{FetchFault, Store, Damaged, NoRoom, Format, IsModuleFile, ModuleFile, Resource, LoadingWorld, Load, Named, handle_named, Reply, Giving, Fills}
-use Rattle.w16_loading.proofs.Common.{Closure, Reading, Referent, Found, around, begun, dll, with_bound, with_found, meant, Refused, Meant, Read, There, New, named, fills, Answer, LoadsNew, Fulfils, Refuses, refusal_of, used_again}
-use Rattle.w16_loading.proofs.Common.{Fetching, Accesses, needs_fetch, LoadsResource, LoadsNewResource, LocksResource, AnswersNone, is_too_long, resource_at, load_of, loaded_again, with_resource}
-use Rattle.w16_loading.proofs.Common.{slot_of_resource, LoadingCommand, ModuleCommand, ResourceCommand, Loading, FamilyStep, OfFar, OfModules, OfResources, IsRefusal}
-use Rattle.std.specs.FinMap as finmap
+use Rattle.w16_loading.proofs
+use proofs.Common as C
+use proofs.Common.{◌≡◌, ℕ, zero, suc, ◌<◌, ◌≤◌, inl, inr, ◌⊎◌, Bool, true, false, cond, ◌==◌, List, [], ◌∷◌, length, Option, Some, None, MatchResult, Result, Ok, Err, refl, sym, ap, ◌∙◌, subst, arith, Heap, FIRST_MODULE, FetchFault, Store, Damaged, NoRoom, Resource, LoadingWorld, Load}
+use proofs.Common.{Named, Reply, Fills, Closure, Reading, Found, around, begun, dll, with_bound, meant, Refused, Meant, Read, There, New, named, fills, Answer, Fulfils, used_again, load_of, ModuleCommand, ResourceCommand, OfFar, IsRefusal, Loaded, Module, MOST_USES, Says, after_use, not}
+use proofs.Common.{◌&&◌}
+use proofs.ClosureFacts.{IsClosure, began, bound_more, found_more}
+use proofs.Cases.{IsLoadable, bool_as, option_as}
+use proofs.{Importers.named_there, Fillings.in_turn_so}
 use Rattle.std.specs.List.{AllByRecursion as Each}
 use Rattle.w16_loading.specs.Families.{access_of}
-use Rattle.w16_loading.proofs.Common.{pointer_in}
 use Rattle.w16_loading.specs.Answers.{Answers, ClosesFrom, GivesFrom, LoadsFileFrom, LoadsFrom, ReadsFile, follow, told}
-use Rattle.w16_loading.proofs.Importers.{named_there}
-use Rattle.w16_loading.proofs.Fillings.{in_turn_so}
-use Rattle.w16_loading.proofs.ClosureFacts.{IsClosure, began, bound_more, found_more}
-use Rattle.w16_loading.proofs.Common.{BuiltIn, Loaded, Module, MOST_USES, Says, after_use, ltb-true, nat_lt, not, ◌&&◌}
-use Rattle.w16_loading.proofs.Cases.{IsLoadable, bool_as, option_as}
+use Rattle.std.specs.FinMap as finmap
 
 -- A family's step by some fetches and loads is one by others, where these are those.
 
-module _ (F G : Fetching) (L M : Loading) (old new : LoadingWorld) (reply : Reply) (fetch : (slot : ℕ) (fault : Option FetchFault) (next : LoadingWorld) → F old slot fault next → G old slot fault next) where
-  accesses : (access : LoadingWorld → FarAnswer × LoadingWorld) (selector : ℕ) → Accesses F access old selector reply new → Accesses G access old selector reply new
-  accesses access selector = bool_as (needs_fetch (access old).0 old selector) (λ e h. (h.0, h.1, fetch (far_slot old.handles selector) h.0 h.1 h.2, h.3)) (λ e h. h)
+module _ (F G : C.Fetching) (L M : C.Loading) (old new : LoadingWorld) (reply : Reply) (fetch : (slot : ℕ) (fault : Option FetchFault) (next : LoadingWorld) → F old slot fault next → G old slot fault next) where
+  accesses : (access : LoadingWorld → C.FarAnswer × LoadingWorld) (selector : ℕ) → C.Accesses F access old selector reply new → C.Accesses G access old selector reply new
+  accesses access selector = bool_as (C.needs_fetch (access old).0 old selector) (λ e h. (h.0, h.1, fetch (C.far_slot old.handles selector) h.0 h.1 h.2, h.3)) (λ e h. h)
 
-  locks : (handle : ℕ) → LocksResource F old handle reply new → LocksResource G old handle reply new
-  locks handle = option_as (slot_of_resource old handle) (λ f. f) (λ x e. option_as (bytes_at old.handles.heap x.0) (λ f. (f.0, f.1, fetch x.0 f.0 f.1 f.2, f.3)) (λ bytes some f. f))
+  locks : (handle : ℕ) → C.LocksResource F old handle reply new → C.LocksResource G old handle reply new
+  locks handle = option_as (C.slot_of_resource old handle) (λ f. f) (λ x e. option_as (C.bytes_at old.handles.heap x.0) (λ f. (f.0, f.1, fetch x.0 f.0 f.1 f.2, f.3)) (λ bytes some f. f))
 
-  module _ (made : (handle place slot : ℕ) (r : Resource) → IsFreeSlot old.handles slot → IsLoadable old handle place r → load_of old handle place ≡ None → (fault : Option FetchFault) (next : LoadingWorld)
-      → F (with_resource old slot handle place r) slot fault next → G (with_resource old slot handle place r) slot fault next) (load : (b : Bool) (file : List ℕ) (answer : Answer) → L b old file answer new → M b old file answer new) where
-    makes : (handle place : ℕ) → LoadsResource F old handle place reply new → LoadsResource G old handle place reply new
-    makes handle place = option_as (resource_at old handle place) (λ f. f) (λ r at. bool_as (is_too_long r) (λ long f. f) (λ short f. by_load r (at, short) (load_of old handle place) refl f))
+  module _ (made : (handle place slot : ℕ) (r : Resource) → C.IsFreeSlot old.handles slot → IsLoadable old handle place r → load_of old handle place ≡ None → (fault : Option FetchFault) (next : LoadingWorld)
+      → F (C.with_resource old slot handle place r) slot fault next → G (C.with_resource old slot handle place r) slot fault next) (load : (b : Bool) (file : List ℕ) (answer : Answer) → L b old file answer new → M b old file answer new) where
+    makes : (handle place : ℕ) → C.LoadsResource F old handle place reply new → C.LoadsResource G old handle place reply new
+    makes handle place = option_as (C.resource_at old handle place) (λ f. f) (λ r at. bool_as (C.is_too_long r) (λ long f. f) (λ short f. by_load r (at, short) (load_of old handle place) refl f))
       where
-        Made : Fetching → Resource → Option (ℕ × Load) → Type 0
-        Made fetches r p = MatchOption p ((((slot : ℕ) → IsFreeSlot old.handles slot → ⊥) × AnswersNone old reply new) ⊎ LoadsNewResource fetches old handle place r reply new) (λ x. (reply, new) ≡ loaded_again old r x)
+        Made : C.Fetching → Resource → Option (ℕ × Load) → Type 0
+        Made fetches r p = C.MatchOption p ((((slot : ℕ) → C.IsFreeSlot old.handles slot → ⊥) × C.AnswersNone old reply new) ⊎ C.LoadsNewResource fetches old handle place r reply new) (λ x. (reply, new) ≡ C.loaded_again old r x)
 
         by_load : (r : Resource) → IsLoadable old handle place r → (p : Option (ℕ × Load)) → load_of old handle place ≡ p → Made F r p → Made G r p
         by_load r at None e (inl f) = inl f
         by_load r at None e (inr f) = inr (record { slot = f.slot; free = f.free; fault = f.fault; next = f.next; fetched = made handle place f.slot r f.free at e f.fault f.next f.fetched; outcome = f.outcome })
         by_load r at (Some x) e f = f
 
-    pub turned : (command : LoadingCommand) → FamilyStep F L old command reply new → FamilyStep G M old command reply new
-    turned (OfFar command) f = accesses (access_of command) (selector_in (pointer_in command)) f
-    turned (OfModules (ModuleCommand.LoadModule file)) f = (f.0, f.1, load true file f.0 f.2)
-    turned (OfModules (ModuleCommand.LoadLibrary file)) f = (f.0, f.1, load false file f.0 f.2)
-    turned (OfResources (ResourceCommand.LoadResource handle place)) f = makes handle place f
-    turned (OfResources (ResourceCommand.LockResource handle)) f = locks handle f
+    pub turned : (command : C.LoadingCommand) → C.FamilyStep F L old command reply new → C.FamilyStep G M old command reply new
+    turned (OfFar command) f = accesses (access_of command) (C.selector_in (C.pointer_in command)) f
+    turned (C.OfModules (ModuleCommand.LoadModule file)) f = (f.0, f.1, load true file f.0 f.2)
+    turned (C.OfModules (ModuleCommand.LoadLibrary file)) f = (f.0, f.1, load false file f.0 f.2)
+    turned (C.OfResources (ResourceCommand.LoadResource handle place)) f = makes handle place f
+    turned (C.OfResources (ResourceCommand.LockResource handle)) f = locks handle f
     turned other f = f
 
 -- One way to give bytes as another, in a load.
-pub fulfils_as : (f g : Giving) (Is : Heap → Type 0) → ((old : Heap) (slot : ℕ) (bytes : List ℕ) (fault : Option FetchFault) (new : Heap) → Is old → f old slot bytes fault new → g old slot bytes fault new × Is new)
+pub fulfils_as : (f g : C.Giving) (Is : Heap → Type 0) → ((old : Heap) (slot : ℕ) (bytes : List ℕ) (fault : Option FetchFault) (new : Heap) → Is old → f old slot bytes fault new → g old slot bytes fault new × Is new)
     → (old : LoadingWorld) (closure : Closure) (answer : Answer) (new : LoadingWorld) → (h : Fulfils f old closure answer new) → Is (named old closure h.choice).handles.heap → Fulfils g old closure answer new
 fulfils_as f g Is turns old closure answer new h is = record {
   choice = h.choice;
@@ -64,15 +60,15 @@ fulfils_as f g Is turns old closure answer new h is = record {
 -- answers as any store may give them
 pub record AreAnswers (answers : Answers) : Type 0 where
   pub refuses : (name : List ℕ) (number : ℕ) → answers.says name (Err number) → number ≤ 14
-  pub holds : (name : List ℕ) (read : ModuleFile) → answers.holds name read → IsModuleFile read
+  pub holds : (name : List ℕ) (read : C.ModuleFile) → answers.holds name read → C.IsModuleFile read
 
-pub told_answers : (honest : Type 0) (format : Format) (files : List (List ℕ × List ℕ)) (before after : ℕ) → AreAnswers (told honest format files before after)
+pub told_answers : (honest : Type 0) (format : C.Format) (files : List (List ℕ × List ℕ)) (before after : ℕ) → AreAnswers (told honest format files before after)
 told_answers honest format files before after = record { refuses = λ name number h. elim h.0 [ inl e ↦ omega (arith, e.0) | inr f ↦ f.1 ]; holds = λ name read h. h.0 }
 
 small : (number : ℕ) → number ≤ 32 → number < FIRST_MODULE
 small number le = let first : FIRST_MODULE ≡ 33 = refl in omega (arith, first, le)
 
-small_refusal : (place : ℕ) (fault : FetchFault) → IsRefusal (refusal_of place fault)
+small_refusal : (place : ℕ) (fault : FetchFault) → IsRefusal (C.refusal_of place fault)
 small_refusal place Store = tt
 small_refusal place NoRoom = small 0 (omega arith)
 small_refusal place Damaged = turn (place == 0)
@@ -82,7 +78,7 @@ small_refusal place Damaged = turn (place == 0)
     turn false = small 20 (omega arith)
 
 -- A load is refused in the same world; or of a module that is there; or of new modules, as they were told.
-abbrev pub LoadsOf : Answers → Loading
+abbrev pub LoadsOf : Answers → C.Loading
 LoadsOf answers b old file answer new =
     (IsRefusal answer × (new ≡ old))
     ⊎ ((handle : ℕ) × (n : Named) × (finmap.get old.modules handle ≡ Some n) × ((answer, new) ≡ used_again b old handle (Some n)))
@@ -121,16 +117,16 @@ module _ (answers : Answers) (are : AreAnswers answers) (old : LoadingWorld) whe
       Goes : Type 0
       Goes = (c : Closure) → IsClosure answers (around old).named c → ClosesFrom answers (around old) n c outcome → IsEnd outcome
 
-      by_meant : Goes → (referent : Referent) → ClosesFrom answers (around old) n (with_bound here place referent) outcome → IsEnd outcome
+      by_meant : Goes → (referent : C.Referent) → ClosesFrom answers (around old) n (with_bound here place referent) outcome → IsEnd outcome
       by_meant go referent = go (with_bound here place referent) (bound_more answers (around old) here place referent few.0 is)
 
       by_reading : Goes → (r : Reading) → ReadsFile answers (around old) closure.found (dll name) r
           → MatchResult (follow here place name r) (λ c. ClosesFrom answers (around old) n c outcome) (λ number. outcome ≡ Err number) → IsEnd outcome
       by_reading go (Refused answer) reads f = subst IsEnd (sym f) (small_follow answer)
       by_reading go (Meant referent) reads f = by_meant go referent f
-      by_reading go (Read read) (says, none, sound, held, free) f = go (with_bound (with_found here (dll name) read) place (New (length closure.found))) (found_more answers (around old) here place (dll name) read few.0 is held none) f
+      by_reading go (Read read) (says, none, sound, held, free) f = go (with_bound (C.with_found here (dll name) read) place (New (length closure.found))) (found_more answers (around old) here place (dll name) read few.0 is held none) f
 
-      by_name : Goes → (p : Option Referent) → MatchOption p ((r : Reading) × ReadsFile answers (around old) closure.found (dll name) r
+      by_name : Goes → (p : Option C.Referent) → C.MatchOption p ((r : Reading) × ReadsFile answers (around old) closure.found (dll name) r
           × MatchResult (follow here place name r) (λ c. ClosesFrom answers (around old) n c outcome) (λ number. outcome ≡ Err number))
           (λ referent. ClosesFrom answers (around old) n (with_bound here place referent) outcome) → IsEnd outcome
       by_name go None (r, reads, f) = by_reading go r reads f
@@ -140,14 +136,14 @@ module _ (answers : Answers) (are : AreAnswers answers) (old : LoadingWorld) whe
   closure_loads b file answer new (inl f) = inl (subst IsRefusal (sym f.1) tt, f.2)
   closure_loads b file answer new (inr (r, reads, f)) = turn r reads f
     where
-      refused : (number : ℕ) → number < FIRST_MODULE → Refuses old number answer new → LoadsOf answers b old file answer new
+      refused : (number : ℕ) → number < FIRST_MODULE → C.Refuses old number answer new → LoadsOf answers b old file answer new
       refused number few f = inl (subst IsRefusal (sym f.0) few, f.1)
 
       turn : (r : Reading) → ReadsFile answers (around old) [] file r → LoadsFileFrom Fills answers b old file r answer new → LoadsOf answers b old file answer new
       turn (Refused number) e f = refused number (small_number [] file number e) f
-      turn (Meant (There handle)) (t, says, e) f = by_name (handle_named old.modules t.name) refl e
+      turn (Meant (There handle)) (t, says, e) f = by_name (C.handle_named old.modules t.name) refl e
         where
-          by_name : (p : Option ℕ) → handle_named old.modules t.name ≡ p → option_or (option_map There p) None ≡ Some (There handle) → LoadsOf answers b old file answer new
+          by_name : (p : Option ℕ) → C.handle_named old.modules t.name ≡ p → C.option_or (C.option_map There p) None ≡ Some (There handle) → LoadsOf answers b old file answer new
           by_name None g e = cc
           by_name (Some k) g e =
               let same : k ≡ handle = cc in
@@ -157,7 +153,7 @@ module _ (answers : Answers) (are : AreAnswers answers) (old : LoadingWorld) whe
       turn (Read read) (says, none, sound, held, few) (count, outcome, closes, f) = ended outcome (closed count (begun file read) outcome (began answers (around old) file read held none) closes) f
         where
           ended : (outcome : Result Closure ℕ) → IsEnd outcome
-              → MatchResult outcome (λ closure. LoadsNew (GivesFrom Fills answers) old closure answer new ⊎ ((place : ℕ) × (fault : FetchFault) × answers.fails fault × (answer ≡ refusal_of place fault) × (new ≡ old))) (λ number. Refuses old number answer new)
+              → MatchResult outcome (λ closure. C.LoadsNew (GivesFrom Fills answers) old closure answer new ⊎ ((place : ℕ) × (fault : FetchFault) × answers.fails fault × (answer ≡ C.refusal_of place fault) × (new ≡ old))) (λ number. C.Refuses old number answer new)
               → LoadsOf answers b old file answer new
           ended (Ok closure) h (inl (inl f)) = refused 0 (small 0 (omega arith)) f.1
           ended (Ok closure) h (inl (inr f)) = inr (inr (closure, h, f))
@@ -172,15 +168,15 @@ module _ (answers : Answers) (are : AreAnswers answers) (old : LoadingWorld) whe
       where
         by : (p : Option Named) → ((m : Module) → p ≡ Some (Loaded m) → m.uses < MOST_USES → P (Says handle) (after_use old handle m)) → P (used_again b old handle p).0 (used_again b old handle p).1
         by None more = good (Says handle)
-        by (Some (BuiltIn name)) more = good (Says handle)
-        by (Some (Loaded m)) more = turn (b && not m.tables.is_library) (nat_lt m.uses MOST_USES) refl
+        by (Some (C.BuiltIn name)) more = good (Says handle)
+        by (Some (Loaded m)) more = turn (b && not m.tables.is_library) (C.nat_lt m.uses MOST_USES) refl
           where
             outcome : Bool → Bool → Answer × LoadingWorld
             outcome s t = cond {A = Answer × LoadingWorld} s (Says 16, old) (cond t (Says handle, after_use old handle m) (Says 0, old))
 
-            turn : (s t : Bool) → nat_lt m.uses MOST_USES ≡ t → P (outcome s t).0 (outcome s t).1
+            turn : (s t : Bool) → C.nat_lt m.uses MOST_USES ≡ t → P (outcome s t).0 (outcome s t).1
             turn true t f = good (Says 16)
-            turn false true f = more m refl (ltb-true m.uses MOST_USES f)
+            turn false true f = more m refl (C.ltb-true m.uses MOST_USES f)
             turn false false f = good (Says 0)
 
     pub loaded_by : (b : Bool) (file : List ℕ) (answer : Answer) (new : LoadingWorld) → ((handle : ℕ) (m : Module) → finmap.get old.modules handle ≡ Some (Loaded m) → m.uses < MOST_USES → P (Says handle) (after_use old handle m))

@@ -1,18 +1,18 @@
 -- A module that others import stays, whoever takes its explicit uses away.
-use Rattle.w16_loading.proofs.Common.{[], ◌≡◌, ℕ, ◌-◌, ◌<◌, ◌⊎◌, inl, inr, true, false, cond, not, List, ◌∷◌, Option, Some, None, IfSome, IsSomeAnd, is_some, refl, sym, ap, ◌∙◌, subst, arith, cases_eq, inserted_here, inserted_other}
-use Rattle.w16_loading.proofs.Common.{Resource, numbered, LoadingWorld, Load, Module, Named, module_at, module_in, imports, importers, Loaded, Go, used_less, is_left_over, without_orphans, IsLoadingWorld, IsLoad, UsesApartLaw}
-use Rattle.std.specs.FinMap as finmap
-use Rattle.w16_loading.proofs.Given.{loaded_is}
-use Rattle.w16_loading.proofs.Absences.{all_retained, none_gone}
-use Rattle.w16_loading.proofs.Importers.{HasImporter, Idle, importer_of, idle_parts, none_idle}
-use Rattle.w16_loading.proofs.Bound.{world_used_less}
+use Rattle.w16_loading.proofs
+use proofs.Common as C
+use proofs.Common.{[], ◌≡◌, ℕ, ◌-◌, ◌<◌, ◌⊎◌, inl, inr, true, false, cond, not, List, ◌∷◌, Option, Some, None, is_some, refl, sym, ap, ◌∙◌, subst, arith, cases_eq, inserted_here, inserted_other, LoadingWorld, Load, Module, Named, module_at, module_in, imports, importers, Loaded, Go}
+use proofs.Common.{is_left_over}
+use proofs.Importers.{HasImporter, Idle, importer_of, idle_parts, none_idle}
+use proofs.{Given.loaded_is, Absences.all_retained, Absences.none_gone, Bound.world_used_less}
 use Rattle.w16_model.proofs.Maps.{put_same}
+use Rattle.std.specs.FinMap as finmap
 
-module _ (old : LoadingWorld) (is : IsLoadingWorld old) (handle : ℕ) (m : Module) (loaded : finmap.get old.modules handle ≡ Some (Loaded m)) where
+module _ (old : LoadingWorld) (is : C.IsLoadingWorld old) (handle : ℕ) (m : Module) (loaded : finmap.get old.modules handle ≡ Some (Loaded m)) where
   abbrev less : LoadingWorld
   less = record old { modules = finmap.insert old.modules handle (Loaded (record m { uses = m.uses - 1 })) }
 
-  is_less : used_less old handle ≡ less
+  is_less : C.used_less old handle ≡ less
   is_less = ap (λ p. world_used_less old handle (module_in p)) loaded
 
   -- its importers still import it, and those of other modules those
@@ -69,18 +69,18 @@ module _ (old : LoadingWorld) (is : IsLoadingWorld old) (handle : ℕ) (m : Modu
   ]
 
   -- and so no resource is left over
-  has_module : (place : ℕ) (P : Resource → Type 0) (p : Option Module) → IsSomeAnd (elim p [ None ↦ None | Some n ↦ numbered n.tables.resources place ]) P → is_some p ≡ true
+  has_module : (place : ℕ) (P : C.Resource → Type 0) (p : Option Module) → C.IsSomeAnd (elim p [ None ↦ None | Some n ↦ C.numbered n.tables.resources place ]) P → is_some p ≡ true
   has_module place P None h = absurd h
   has_module place P (Some n) h = refl
 
   none_over : (q : ℕ) → is_left_over less q ≡ false
   none_over q = turn (finmap.get old.loads q) (is.loads q)
     where
-      turn : (p : Option Load) → IfSome p (IsLoad old q) → elim p [ None ↦ false | Some load ↦ not (is_some (module_at less.modules load.handle)) ] ≡ false
+      turn : (p : Option Load) → C.IfSome p (C.IsLoad old q) → elim p [ None ↦ false | Some load ↦ not (is_some (module_at less.modules load.handle)) ] ≡ false
       turn None h = refl
       turn (Some load) h = ap not (there_still load.handle (has_module load.place _ (module_at old.modules load.handle) h.resource))
 
-  same_without : without_orphans less ≡ less
+  same_without : C.without_orphans less ≡ less
   same_without = (λ i. record (none_gone (is_left_over less) less none_over i) { loads = finmap.retain_keys less.loads (λ q. not (is_left_over less q)) })
       ∙ (λ i. record less { loads = all_retained less.loads (is_left_over less) none_over i })
 
@@ -90,7 +90,7 @@ module _ (old : LoadingWorld) (is : IsLoadingWorld old) (handle : ℕ) (m : Modu
       one_less : m.uses - 1 ≡ m.uses
       one_less = omega (arith, e)
 
-pub uses_apart_law : UsesApartLaw
+pub uses_apart_law : C.UsesApartLaw
 uses_apart_law old new handle answer m is at used f = record {
   answered = f.ended.answered ∙ ap (λ b. cond b 1 0) (ap (λ (w : LoadingWorld). finmap.contains_key w.modules handle) left ∙ ap is_some here);
   less = ap (λ (w : LoadingWorld). module_at w.modules handle) all ∙ ap module_in here;
@@ -110,4 +110,4 @@ uses_apart_law old new handle answer m is at used f = record {
     left = none_goes old is handle m loaded used f.ended.gone f.left (subst (λ (w : LoadingWorld). Go w f.ended.gone f.left) (is_less old is handle m loaded) f.ended.went)
 
     all : new ≡ less old is handle m loaded
-    all = f.after ∙ ap without_orphans left ∙ same_without old is handle m loaded
+    all = f.after ∙ ap C.without_orphans left ∙ same_without old is handle m loaded

@@ -1,12 +1,12 @@
 -- What was bound at load stays until the module goes.
-use Rattle.w16_loading.proofs.Common.{Fills, ◌≡◌, ◌≢◌, ℕ, ◌+◌, ◌-◌, inl, inr, ◌⊎◌, List, [], ◌∷◌, Option, Some, None, refl, sym, ap, ◌∙◌, subst, cases_eq, is_member, Member, Each-at, Each-from_All, inserted_here, inserted_other}
-use Rattle.w16_loading.proofs.Common.{taken_here, taken_other, LoadingWorld, Module, Modules, Named, IsFreeModule, module_at, module_in, with_heap, Loaded, BuiltIn, Giving, Failure, Closure}
-use Rattle.w16_loading.proofs.Common.{Found, Given, given_from, with_modules, bound, named, Answer, Fulfils, undone, left, without_objects, Go, Frees, used_less, without_module, BoundOnceLaw}
-use Rattle.std.specs.FinMap as finmap
-use Rattle.w16_loading.proofs.Given.{given_handle, put_all}
-use Rattle.w16_loading.proofs.Stepping.{Parts, nothing_asked, family}
+use Rattle.w16_loading.proofs
+use proofs.Common as C
+use proofs.Common.{Fills, ◌≡◌, ◌≢◌, ℕ, ◌+◌, ◌-◌, inl, inr, ◌⊎◌, List, [], ◌∷◌, Option, Some, None, refl, sym, ap, ◌∙◌, subst, cases_eq, LoadingWorld, Module, Modules, Named, module_at, module_in, Loaded, Found, Given, given_from, bound, named, left, Go, Frees, used_less, without_module}
+use proofs.Given.{given_handle, put_all}
+use proofs.Stepping.{Parts, nothing_asked, family}
+use proofs.Answered.{loaded_by, told_answers}
 use Rattle.w16_loading.specs.Answers.{Answers, FetchesFrom, GivesFrom, LoadsFrom, told}
-use Rattle.w16_loading.proofs.Answered.{loaded_by, told_answers}
+use Rattle.std.specs.FinMap as finmap
 
 abbrev pub Same : Module → Module → Type 0
 Same m n = (n.values ≡ m.values) × (n.slots ≡ m.slots) × (n.imports ≡ m.imports)
@@ -31,14 +31,14 @@ absurd_none p m e f = let g : ◌≡◌ {A = Option Module} None (Some m) = sym 
 put_new : (old : Modules) (k : ℕ) (x : Named) → finmap.get old k ≡ None → Good old (finmap.insert old k x)
 put_new old k x none handle m n a b = elim (cases_eq handle k) [
   | inl e ↦ absurd_none (finmap.get old handle) m (ap (finmap.get old) e ∙ none) a
-  | inr d ↦ one (module_at old handle) m n a (ap module_in (sym (inserted_other old k x handle d)) ∙ b)
+  | inr d ↦ one (module_at old handle) m n a (ap module_in (sym (C.inserted_other old k x handle d)) ∙ b)
 ]
 
 -- another count of uses
 put_uses : (old : Modules) (k : ℕ) (x : Module) (uses : ℕ) → module_at old k ≡ Some x → Good old (finmap.insert old k (Loaded (record x { uses = uses })))
 put_uses old k x uses there handle m n a b = elim (cases_eq handle k) [
-  | inl e ↦ here (sym a ∙ ap (module_at old) e ∙ there) (sym b ∙ ap module_in (inserted_here old k (Loaded (record x { uses = uses })) handle e))
-  | inr d ↦ one (module_at old handle) m n a (ap module_in (sym (inserted_other old k (Loaded (record x { uses = uses })) handle d)) ∙ b)
+  | inl e ↦ here (sym a ∙ ap (module_at old) e ∙ there) (sym b ∙ ap module_in (C.inserted_here old k (Loaded (record x { uses = uses })) handle e))
+  | inr d ↦ one (module_at old handle) m n a (ap module_in (sym (C.inserted_other old k (Loaded (record x { uses = uses })) handle d)) ∙ b)
 ]
   where
     here : Some m ≡ Some x → Some n ≡ Some (record x { uses = uses }) → Same m n
@@ -47,18 +47,18 @@ put_uses old k x uses there handle m n a b = elim (cases_eq handle k) [
 
 -- Loads.
 
-new_modules : (old : Modules) (module_of : Given → Module) (fs : List Found) (hs : List ℕ) (ss : List (List ℕ)) → ((k : ℕ) → Member k hs → finmap.get old k ≡ None) → Good old (with_modules module_of (given_from 0 fs hs ss) old)
+new_modules : (old : Modules) (module_of : Given → Module) (fs : List Found) (hs : List ℕ) (ss : List (List ℕ)) → ((k : ℕ) → C.Member k hs → finmap.get old k ≡ None) → Good old (C.with_modules module_of (given_from 0 fs hs ss) old)
 new_modules old module_of fs hs ss free handle m n a b = one (module_at old handle) m n a (ap module_in (sym (put_all module_of (given_from 0 fs hs ss) old handle out)) ∙ b)
   where
-    out : (g : Given) → Member g (given_from 0 fs hs ss) → handle ≢ g.handle
+    out : (g : Given) → C.Member g (given_from 0 fs hs ss) → handle ≢ g.handle
     out g mem e = absurd_none (finmap.get old handle) m (ap (finmap.get old) e ∙ free g.handle (given_handle 0 fs hs ss g mem)) a
 
-fulfilled : (gives : Giving) (old : LoadingWorld) (closure : Closure) (answer : Answer) (new : LoadingWorld) → Fulfils gives old closure answer new → Good old.modules new.modules
+fulfilled : (gives : C.Giving) (old : LoadingWorld) (closure : C.Closure) (answer : C.Answer) (new : LoadingWorld) → C.Fulfils gives old closure answer new → Good old.modules new.modules
 fulfilled gives old closure answer new f = subst (λ (w : LoadingWorld). Good old.modules w.modules) (sym f.after) (turn f.failure)
   where
-    turn : (failure : Option Failure) → Good old.modules (left failure (with_heap (named old closure f.choice) f.heap) (undone old f.choice f.heap)).modules
+    turn : (failure : Option C.Failure) → Good old.modules (left failure (C.with_heap (named old closure f.choice) f.heap) (C.undone old f.choice f.heap)).modules
     turn (Some failure) = unchanged old.modules old.modules refl
-    turn None = new_modules old.modules (bound old closure f.choice) closure.found f.choice.handles f.choice.slots (λ k m. (Each-at (IsFreeModule old.modules) f.choice.handles (Each-from_All (IsFreeModule old.modules) f.choice.handles f.is_choice.free) k m).2)
+    turn None = new_modules old.modules (bound old closure f.choice) closure.found f.choice.handles f.choice.slots (λ k m. (C.Each-at (C.IsFreeModule old.modules) f.choice.handles (C.Each-from_All (C.IsFreeModule old.modules) f.choice.handles f.is_choice.free) k m).2)
 
 -- Uses that end.
 
@@ -70,13 +70,13 @@ left_good old mid new good l handle m n a b = turn (l handle)
     turn (inr e) = good handle m n a (sym e ∙ b)
 
 abbrev pub world_without : LoadingWorld → ℕ → Option Module → LoadingWorld
-world_without world handle p = elim p [ None ↦ world | Some m ↦ let left = without_objects (λ q. is_member q m.slots) world in record left { modules = finmap.remove left.modules handle } ]
+world_without world handle p = elim p [ None ↦ world | Some m ↦ let left = C.without_objects (λ q. C.is_member q m.slots) world in record left { modules = finmap.remove left.modules handle } ]
 
 gone_one : (old : LoadingWorld) (k handle : ℕ) → (module_at (without_module old k).modules handle ≡ None) ⊎ (module_at (without_module old k).modules handle ≡ module_at old.modules handle)
 gone_one old k handle = turn (module_at old.modules k)
   where
     removed : (module_at (finmap.remove old.modules k) handle ≡ None) ⊎ (module_at (finmap.remove old.modules k) handle ≡ module_at old.modules handle)
-    removed = elim (cases_eq handle k) [ inl e ↦ inl (ap module_in (taken_here old.modules k handle e)) | inr d ↦ inr (ap module_in (taken_other old.modules k handle d)) ]
+    removed = elim (cases_eq handle k) [ inl e ↦ inl (ap module_in (C.taken_here old.modules k handle e)) | inr d ↦ inr (ap module_in (C.taken_other old.modules k handle d)) ]
 
     turn : (p : Option Module) → (module_at (world_without old k p).modules handle ≡ None) ⊎ (module_at (world_without old k p).modules handle ≡ module_at old.modules handle)
     turn None = inr refl
@@ -108,7 +108,7 @@ freed old k answer new f = subst (λ (w : LoadingWorld). Good old.modules w.modu
 
 -- Steps.
 
-pub bound_law : (honest : Type 0) → BoundOnceLaw honest
+pub bound_law : (honest : Type 0) → C.BoundOnceLaw honest
 bound_law honest format old new command reply step = family (FetchesFrom Fills answers) (LoadsFrom Fills answers) (λ slice. Unit {0}) old Bound parts (record new { failures = old.failures }) reply command (nothing_asked command) step.step
   where
     answers : Answers
@@ -128,7 +128,7 @@ bound_law honest format old new command reply step = family (FetchesFrom Fills a
       reads = λ selector offset n world good. good;
       writes = λ selector offset slice world ours good. good;
       fetched = λ slot fault next f. unchanged old.modules next.modules (ap (λ (w : LoadingWorld). w.modules) f.rest);
-      built = λ name handle none free. put_new old.modules handle (BuiltIn name) free.2;
+      built = λ name handle none free. put_new old.modules handle (C.BuiltIn name) free.2;
       loaded = λ b file answer next f. loaded_by answers (told_answers honest format old.files old.failures new.failures) old (λ answer. Bound) (λ answer. same) b file answer next
           (λ handle m there few. put_uses old.modules handle m (m.uses + 1) (ap module_in there)) (λ closure facts. fulfilled (GivesFrom Fills answers) old closure answer next) f;
       freed = λ handle answer new f. freed old handle answer new f;

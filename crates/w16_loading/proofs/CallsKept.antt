@@ -1,22 +1,20 @@
 -- What calls on handles, resizes among them, leave of what modules own: each object, and code with its bytes or none. So they keep what holds of
 -- every world, and code as its files say it.
-use Rattle.w16_loading.proofs.Common.{◌≡◌, ◌≢◌, ℕ, ◌+◌, ◌-◌, true, false, Option, Some, None, IsSomeAnd, is_some, option_map, unwrap_or, refl, sym, ap, ◌∙◌, subst, false≢true, Attributes, Owned, GMEM_MOVEABLE}
-use Rattle.w16_loading.proofs.Common.{object_at, Handles, AreHandles, slot_of_handle, owned_in, owned_at, is_owned, owns, HandleCommand, Walked, Call, CallStep, Outcome, Calls, ReAllocs, IsSame, IsUnmoved, IsLocked}
-use Rattle.w16_loading.proofs.Common.{IsUnlocked, IsFreed, IsNewest, IsOldest, IsEntered, IsAllocated, IsCompacted, IsModified, IsDiscarded, IsResized, handle_in, IsAbout, taken_other, handle_law, resize_law}
-use Rattle.w16_loading.proofs.Common.{outcome, bystander, Format, LoadingWorld, Reply, HandleReplies, ResizeReplies, answer_in, ResizeCommand, ResizeStep, GlobalReAlloc, GlobalDiscard, IsLoadingWorld, CallsKeepWorldsLaw}
+use Rattle.w16_loading.proofs
+use proofs.Common as C
+use proofs.Common.{◌≡◌, ◌≢◌, ℕ, ◌+◌, ◌-◌, true, false, Option, Some, None, IsSomeAnd, is_some, option_map, unwrap_or, refl, sym, ap, ◌∙◌, subst, false≢true, Owned, object_at, Handles, AreHandles, slot_of_handle, is_owned, owns, Walked, Call, CallStep, Calls, ReAllocs, handle_in, IsAbout}
+use proofs.Common.{Format, Reply, ResizeStep, GlobalReAlloc, GlobalDiscard, IsLoadingWorld}
+use proofs.KeptCode.{KeepsCode, same_source, as_it_was}
+use proofs.KeptWorlds.{IsLeft, same_left, put_left, kept_left, left_owned, left_bytes, world_stays}
+use proofs.{OwnedKept.SameOwned, OwnedKept.owned_by, Owners.some_of}
+use Rattle.w16_model.specs.{Calls.Answer, Calls.Answer.Word, Calls.Answer.Dword}
 use Rattle.std.specs.FinMap as finmap
-use Rattle.w16_model.specs.Calls.{Answer}
-use Rattle.w16_model.specs.Calls.Answer.{Word, Dword}
-use Rattle.w16_loading.proofs.OwnedKept.{SameOwned, owned_by}
-use Rattle.w16_loading.proofs.KeptCode.{KeepsCode, same_source, as_it_was}
-use Rattle.w16_loading.proofs.KeptWorlds.{IsLeft, same_left, put_left, kept_left, left_owned, left_bytes, world_stays}
-use Rattle.w16_loading.proofs.Owners.{some_of}
 
 module _ (old : Handles) (is : AreHandles old) (call : Call) (answer : Answer) (new : Handles) (q : ℕ) (mine : is_owned old q ≡ true) where
   there : is_some (object_at old.heap q) ≡ true
   there = sym (is.attributed q) ∙ some (finmap.get old.attributes q) mine
     where
-      some : (p : Option Attributes) → is_some (owned_in p) ≡ true → is_some p ≡ true
+      some : (p : Option C.Attributes) → is_some (C.owned_in p) ≡ true → is_some p ≡ true
       some None t = absurd (false≢true t)
       some (Some a) t = refl
 
@@ -34,38 +32,38 @@ module _ (old : Handles) (is : AreHandles old) (call : Call) (answer : Answer) (
   none_about : handle_in call ≡ None → IsAbout old call q → ⊥
   none_about e about = subst (λ p. IsSomeAnd p (λ handle. slot_of_handle old handle ≡ Some q)) e about
 
-  other : Outcome old call answer new → (IsAbout old call q → ⊥) → IsLeft old.heap new.heap q
-  other o out = kept_left old.heap new.heap q there (bystander old new is call answer q o (λ m. there) out)
+  other : C.Outcome old call answer new → (IsAbout old call q → ⊥) → IsLeft old.heap new.heap q
+  other o out = kept_left old.heap new.heap q there (C.bystander old new is call answer q o (λ m. there) out)
 
-  left : Outcome old call answer new → IsLeft old.heap new.heap q
-  left (IsSame s e) = same (ap (λ (h : Handles). object_at h.heap q) e)
-  left (IsUnmoved s e) = same (ap (λ (h : Handles). object_at h.heap q) e)
-  left (IsLocked l) = subst (λ (h : Handles). IsLeft old.heap h.heap q) (sym l.rest) (put_left old.heap l.slot l.object (record l.object { locks = l.object.locks + 1 }) l.named.there refl refl q there)
-  left (IsUnlocked u) = subst (λ (h : Handles). IsLeft old.heap h.heap q) (sym u.rest) (put_left old.heap u.slot u.object (record u.object { locks = u.object.locks - 1 }) u.named.there refl refl q there)
-  left (IsFreed f) = same (ap (λ (h : Handles). object_at h.heap q) f.rest ∙ taken_other old.heap.objects f.slot q (λ e. not_named f.handle f.own (f.named.found ∙ ap Some (sym e))))
-  left (IsNewest n) = same (ap (λ (h : Handles). object_at h.heap q) n.rest)
-  left (IsOldest n) = same (ap (λ (h : Handles). object_at h.heap q) n.rest)
-  left (IsEntered e) = other (IsEntered e) (none_about (ap handle_in e.asked))
-  left (IsAllocated a) = other (IsAllocated a) (none_about (ap handle_in a.asked))
-  left (IsCompacted c) = other (IsCompacted c) (none_about (ap handle_in c.asked))
-  left (IsModified m) = other (IsModified m) (not_about (Some m.handle) (ap handle_in m.asked) m.own)
-  left (IsDiscarded d) = other (IsDiscarded d) (not_about (Some d.handle) (ap handle_in d.asked) d.own)
-  left (IsResized r) = other (IsResized r) (not_about (Some r.handle) (ap handle_in r.asked) r.own)
+  left : C.Outcome old call answer new → IsLeft old.heap new.heap q
+  left (C.IsSame s e) = same (ap (λ (h : Handles). object_at h.heap q) e)
+  left (C.IsUnmoved s e) = same (ap (λ (h : Handles). object_at h.heap q) e)
+  left (C.IsLocked l) = subst (λ (h : Handles). IsLeft old.heap h.heap q) (sym l.rest) (put_left old.heap l.slot l.object (record l.object { locks = l.object.locks + 1 }) l.named.there refl refl q there)
+  left (C.IsUnlocked u) = subst (λ (h : Handles). IsLeft old.heap h.heap q) (sym u.rest) (put_left old.heap u.slot u.object (record u.object { locks = u.object.locks - 1 }) u.named.there refl refl q there)
+  left (C.IsFreed f) = same (ap (λ (h : Handles). object_at h.heap q) f.rest ∙ C.taken_other old.heap.objects f.slot q (λ e. not_named f.handle f.own (f.named.found ∙ ap Some (sym e))))
+  left (C.IsNewest n) = same (ap (λ (h : Handles). object_at h.heap q) n.rest)
+  left (C.IsOldest n) = same (ap (λ (h : Handles). object_at h.heap q) n.rest)
+  left (C.IsEntered e) = other (C.IsEntered e) (none_about (ap handle_in e.asked))
+  left (C.IsAllocated a) = other (C.IsAllocated a) (none_about (ap handle_in a.asked))
+  left (C.IsCompacted c) = other (C.IsCompacted c) (none_about (ap handle_in c.asked))
+  left (C.IsModified m) = other (C.IsModified m) (not_about (Some m.handle) (ap handle_in m.asked) m.own)
+  left (C.IsDiscarded d) = other (C.IsDiscarded d) (not_about (Some d.handle) (ap handle_in d.asked) d.own)
+  left (C.IsResized r) = other (C.IsResized r) (not_about (Some r.handle) (ap handle_in r.asked) r.own)
 
-module _ (old : LoadingWorld) (is : IsLoadingWorld old) where
+module _ (old : C.LoadingWorld) (is : IsLoadingWorld old) where
   module _ (call : Call) (answer : Answer) (next : Handles) (step : CallStep old.handles call answer next) where
     is_left : (q : ℕ) → is_owned old.handles q ≡ true → IsLeft old.handles.heap next.heap q
-    is_left q mine = left old.handles is.handles call answer next q mine (outcome old.handles next call answer is.handles step)
+    is_left q mine = left old.handles is.handles call answer next q mine (C.outcome old.handles next call answer is.handles step)
 
     attributes_stay : SameOwned old.handles next
-    attributes_stay = owned_by old.handles is.handles call answer next (outcome old.handles next call answer is.handles step)
+    attributes_stay = owned_by old.handles is.handles call answer next (C.outcome old.handles next call answer is.handles step)
 
     are : AreHandles next
     are = by call answer step
       where
         by : (call : Call) (answer : Answer) → CallStep old.handles call answer next → AreHandles next
-        by (Calls command) answer step = handle_law old.handles next command answer is.handles step
-        by (ReAllocs handle size flags) (Word answer) step = resize_law old.handles next handle size flags answer is.handles step
+        by (Calls command) answer step = C.handle_law old.handles next command answer is.handles step
+        by (ReAllocs handle size flags) (Word answer) step = C.resize_law old.handles next handle size flags answer is.handles step
         by (ReAllocs handle size flags) (Dword answer) step = absurd step
         by (ReAllocs handle size flags) (Walked answer) step = absurd step
 
@@ -77,7 +75,7 @@ module _ (old : LoadingWorld) (is : IsLoadingWorld old) where
       files = refl;
       modules = λ h m e. (m, e, same_source m);
       coded = λ q t. ap (λ p. unwrap_or (option_map (λ (o : Owned). o.code) p) false) (sym (attributes_stay q)) ∙ t;
-      bytes = λ slot h number m s t. as_it_was format old next.heap slot number m (left_bytes old.handles.heap next.heap slot (is_left slot (owned (owned_at old.handles slot) t)));
+      bytes = λ slot h number m s t. as_it_was format old next.heap slot number m (left_bytes old.handles.heap next.heap slot (is_left slot (owned (C.owned_at old.handles slot) t)));
     }
       where
         owned : (p : Option Owned) → unwrap_or (option_map (λ (o : Owned). o.code) p) false ≡ true → is_some p ≡ true
@@ -85,9 +83,9 @@ module _ (old : LoadingWorld) (is : IsLoadingWorld old) where
         owned (Some o) t = refl
 
   -- by what is printed of them
-  module _ (command : HandleCommand) (reply : Reply) (next : Handles) (step : HandleReplies old.handles command reply next) where
+  module _ (command : C.HandleCommand) (reply : Reply) (next : Handles) (step : C.HandleReplies old.handles command reply next) where
     pub answered : (answer : Answer) × CallStep old.handles (Calls command) answer next
-    answered = some_of (λ answer. CallStep old.handles (Calls command) answer next) (answer_in reply) step
+    answered = some_of (λ answer. CallStep old.handles (Calls command) answer next) (C.answer_in reply) step
 
     pub handles_world : IsLoadingWorld (record old { handles = next })
     handles_world = call_world (Calls command) answered.0 next answered.1
@@ -98,13 +96,13 @@ module _ (old : LoadingWorld) (is : IsLoadingWorld old) where
     pub handles_code : (format : Format) → KeepsCode format old (record old { handles = next })
     handles_code = call_code (Calls command) answered.0 next answered.1
 
-  module _ (command : ResizeCommand) (reply : Reply) (next : Handles) (step : ResizeReplies old.handles command reply next) where
+  module _ (command : C.ResizeCommand) (reply : Reply) (next : Handles) (step : C.ResizeReplies old.handles command reply next) where
     resized : (call : Call) × (answer : Answer) × CallStep old.handles call answer next
-    resized = let s : (answer : Answer) × ResizeStep old.handles command answer next = some_of (λ answer. ResizeStep old.handles command answer next) (answer_in reply) step in by command s.0 s.1
+    resized = let s : (answer : Answer) × ResizeStep old.handles command answer next = some_of (λ answer. ResizeStep old.handles command answer next) (C.answer_in reply) step in by command s.0 s.1
       where
-        by : (command : ResizeCommand) (answer : Answer) → ResizeStep old.handles command answer next → (call : Call) × (answer : Answer) × CallStep old.handles call answer next
+        by : (command : C.ResizeCommand) (answer : Answer) → ResizeStep old.handles command answer next → (call : Call) × (answer : Answer) × CallStep old.handles call answer next
         by (GlobalReAlloc handle size flags) (Word answer) step = (ReAllocs handle size flags, Word answer, step)
-        by (GlobalDiscard handle) (Word answer) step = (ReAllocs handle 0 GMEM_MOVEABLE, Word answer, step)
+        by (GlobalDiscard handle) (Word answer) step = (ReAllocs handle 0 C.GMEM_MOVEABLE, Word answer, step)
         by (GlobalReAlloc handle size flags) (Dword answer) step = absurd step
         by (GlobalReAlloc handle size flags) (Walked answer) step = absurd step
         by (GlobalDiscard handle) (Dword answer) step = absurd step
@@ -119,5 +117,5 @@ module _ (old : LoadingWorld) (is : IsLoadingWorld old) where
     pub resizes_code : (format : Format) → KeepsCode format old (record old { handles = next })
     resizes_code = call_code resized.0 resized.1 next resized.2
 
-pub calls_keep_worlds_law : CallsKeepWorldsLaw
+pub calls_keep_worlds_law : C.CallsKeepWorldsLaw
 calls_keep_worlds_law old new command reply is f = subst IsLoadingWorld (sym f.2) (handles_world old is command reply f.0 f.1)

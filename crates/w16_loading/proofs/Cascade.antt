@@ -1,18 +1,17 @@
 -- The order in which unused modules go doesn't matter: what is idle stays so until it goes, and two go in either order.
-use Rattle.w16_loading.proofs.Common.{◌≡◌, ◌≢◌, ℕ, inl, inr, ◌⊎◌, Bool, true, not, List, [], ◌∷◌, Option, Some, None, sym, ap, ◌∙◌, subst, false≢true, cases_eq, is_member}
-use Rattle.w16_loading.proofs.Common.{taken_here, taken_other, filter_swapped, LoadingWorld, Module, Named, module_in, is_idle, Loaded, without_objects, Go, without_module}
-use Rattle.w16_loading.proofs.Common.{OneEndLaw}
+use Rattle.w16_loading.proofs
+use proofs.Common as C
+use proofs.Common.{◌≡◌, ◌≢◌, ℕ, inl, inr, ◌⊎◌, Bool, true, not, List, [], ◌∷◌, Some, None, sym, ap, ◌∙◌, subst, false≢true, is_member, taken_other, LoadingWorld, Module, Named, Go, without_module}
+use proofs.Importers.{HasImporter, Idle, idle_parts, is_then_idle}
+use proofs.{Absences.retained_swapped, Absences.removed_swapped, Bound.world_without}
 use Rattle.std.specs.FinMap as finmap
-use Rattle.w16_loading.proofs.Absences.{retained_swapped, removed_swapped}
-use Rattle.w16_loading.proofs.Importers.{HasImporter, Idle, idle_parts, is_then_idle}
-use Rattle.w16_loading.proofs.Bound.{world_without}
 
 -- the world without a module that is there
 abbrev pub gone_with : LoadingWorld → ℕ → Module → LoadingWorld
-gone_with world handle m = let left = without_objects (λ q. is_member q m.slots) world in record left { modules = finmap.remove left.modules handle }
+gone_with world handle m = let left = C.without_objects (λ q. is_member q m.slots) world in record left { modules = finmap.remove left.modules handle }
 
-pub went : (world : LoadingWorld) (handle : ℕ) (m : Module) → finmap.get world.modules handle ≡ Some (Loaded m) → without_module world handle ≡ gone_with world handle m
-went world handle m e = ap (λ p. world_without world handle (module_in p)) e
+pub went : (world : LoadingWorld) (handle : ℕ) (m : Module) → finmap.get world.modules handle ≡ Some (C.Loaded m) → without_module world handle ≡ gone_with world handle m
+went world handle m e = ap (λ p. world_without world handle (C.module_in p)) e
 
 -- what is idle stays idle until it goes
 stays_idle : (world : LoadingWorld) (handle k : ℕ) (m : Module) → k ≢ handle → Idle world.modules k → Idle (gone_with world handle m).modules k
@@ -24,12 +23,12 @@ stays_idle world handle k m d h = record {
 }
   where
     before : (i : HasImporter (finmap.remove world.modules handle) k) → finmap.get world.modules i.who ≡ Some i.importer
-    before i = elim (cases_eq i.who handle) [
-      | inl e ↦ absurd (none (sym (taken_here world.modules handle i.who e) ∙ i.there))
+    before i = elim (C.cases_eq i.who handle) [
+      | inl e ↦ absurd (none (sym (C.taken_here world.modules handle i.who e) ∙ i.there))
       | inr f ↦ sym (taken_other world.modules handle i.who f) ∙ i.there
     ]
       where
-        none : ◌≡◌ {A = Option Named} None (Some i.importer) → ⊥
+        none : ◌≡◌ {A = C.Option Named} None (Some i.importer) → ⊥
         none e = cc
 
 -- two go in either order
@@ -39,7 +38,7 @@ swapped world a b m n = λ i. record world {
     heap = record world.handles.heap {
       objects = retained_swapped world.handles.heap.objects in_m in_n i;
       places = retained_swapped world.handles.heap.places in_m in_n i;
-      order = filter_swapped (λ q. not (in_n q)) (λ q. not (in_m q)) world.handles.heap.order i;
+      order = C.filter_swapped (λ q. not (in_n q)) (λ q. not (in_m q)) world.handles.heap.order i;
     };
     attributes = retained_swapped world.handles.attributes in_m in_n i;
   };
@@ -55,7 +54,7 @@ swapped world a b m n = λ i. record world {
 -- what is idle may go first
 goes_first : (old : LoadingWorld) (k : ℕ) → Idle old.modules k → (xs : List ℕ) (end : LoadingWorld) → Go old xs end → (rest : List ℕ) × Go (without_module old k) rest end
 goes_first old k idle [] end go = absurd (false≢true (sym (go.0 k) ∙ is_then_idle old.modules k idle))
-goes_first old k idle (x ∷ xs) end go = turn (λ later. goes_first (without_module old x) k later xs end go.1) (cases_eq k x)
+goes_first old k idle (x ∷ xs) end go = turn (λ later. goes_first (without_module old x) k later xs end go.1) (C.cases_eq k x)
   where
     first : Idle old.modules x
     first = idle_parts old.modules x go.0
@@ -69,7 +68,7 @@ goes_first old k idle (x ∷ xs) end go = turn (λ later. goes_first (without_mo
         let same : without_module (without_module old x) k ≡ without_module (without_module old k) x = both_ways later sooner in (
           x ∷ rest.0,
           (
-            subst (λ (w : LoadingWorld). is_idle w.modules x ≡ true) (sym (went old k idle.idle idle.loaded)) (is_then_idle (gone_with old k idle.idle).modules x sooner),
+            subst (λ (w : LoadingWorld). C.is_idle w.modules x ≡ true) (sym (went old k idle.idle idle.loaded)) (is_then_idle (gone_with old k idle.idle).modules x sooner),
             subst (λ (w : LoadingWorld). Go w rest.0 end) same rest.1,
           ),
         )
@@ -81,7 +80,7 @@ goes_first old k idle (x ∷ xs) end go = turn (λ later. goes_first (without_mo
             ∙ swapped old x k first.idle idle.idle
             ∙ sym (ap (λ (w : LoadingWorld). without_module w x) (went old k idle.idle idle.loaded) ∙ went (gone_with old k idle.idle) x first.idle (taken_other old.modules k x (λ e. d (sym e)) ∙ first.loaded))
 
-pub one_end_law : OneEndLaw
+pub one_end_law : C.OneEndLaw
 one_end_law old a b [] [] go other = go.1 ∙ sym other.1
 one_end_law old a b (x ∷ xs) [] go other = absurd (false≢true (sym (other.0 x) ∙ go.0))
 one_end_law old a b xs (y ∷ ys) go other =

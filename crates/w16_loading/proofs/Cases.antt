@@ -1,6 +1,6 @@
 -- Steps by their cases, and one way to make each of them as another.
-use Rattle.w16_loading.proofs.Common.{◌≡◌, ℕ, inl, inr, ◌⊎◌, Bool, true, false, Option, Some, None, MatchOption, MatchBool, refl, bytes_at, FarAnswer, far_slot, FetchFault, Resource, LoadingWorld, Load, Reply, Dword, Failed}
-use Rattle.w16_loading.proofs.Common.{Fetching, Accesses, needs_fetch, gives, LoadsResource, LoadsNewResource, LocksResource, AnswersNone, is_too_long, resource_at, load_of, loaded_again, locked, lock_outcome, slot_of_resource}
+use Rattle.w16_loading.proofs.Common as C
+use Rattle.w16_loading.proofs.Common.{◌≡◌, ℕ, inl, inr, ◌⊎◌, Bool, true, false, Option, Some, None, MatchOption, MatchBool, refl, LoadingWorld, Load, Reply, Dword, gives, load_of}
 
 pub by_option : {A X : Type 0} {Y : A → Type 0} (p : Option A) → MatchOption p X Y → ((p ≡ None) × X) ⊎ ((a : A) × (p ≡ Some a) × Y a)
 by_option None x = inl (refl, x)
@@ -19,23 +19,23 @@ bool_as true x y h = x refl h
 bool_as false x y h = y refl h
 
 -- a resource of a place that may be loaded
-abbrev pub IsLoadable : LoadingWorld → ℕ → ℕ → Resource → Type 0
-IsLoadable world handle place r = (resource_at world handle place ≡ Some r) × (is_too_long r ≡ false)
+abbrev pub IsLoadable : LoadingWorld → ℕ → ℕ → C.Resource → Type 0
+IsLoadable world handle place r = (C.resource_at world handle place ≡ Some r) × (C.is_too_long r ≡ false)
 
-module _ (fetches : Fetching) (old : LoadingWorld) (reply : Reply) (new : LoadingWorld) where
+module _ (fetches : C.Fetching) (old : LoadingWorld) (reply : Reply) (new : LoadingWorld) where
   -- an access, after a fetch or without one
-  pub access_cases : (access : LoadingWorld → FarAnswer × LoadingWorld) (selector : ℕ) → Accesses fetches access old selector reply new
-      → ((fault : Option FetchFault) × (next : LoadingWorld) × fetches old (far_slot old.handles selector) fault next × MatchOption fault (gives (access next) reply new) (λ f. (reply ≡ Failed f) × (new ≡ next)))
+  pub access_cases : (access : LoadingWorld → C.FarAnswer × LoadingWorld) (selector : ℕ) → C.Accesses fetches access old selector reply new
+      → ((fault : Option C.FetchFault) × (next : LoadingWorld) × fetches old (C.far_slot old.handles selector) fault next × MatchOption fault (gives (access next) reply new) (λ f. (reply ≡ C.Failed f) × (new ≡ next)))
       ⊎ gives (access old) reply new
-  access_cases access selector step = elim (by_bool (needs_fetch (access old).0 old selector) step) [ inl (e, f) ↦ inl f | inr (e, f) ↦ inr f ]
+  access_cases access selector step = elim (by_bool (C.needs_fetch (access old).0 old selector) step) [ inl (e, f) ↦ inl f | inr (e, f) ↦ inr f ]
 
   -- a load of a resource: none, one more, or the first
-  pub resource_cases : (handle place : ℕ) → LoadsResource fetches old handle place reply new → AnswersNone old reply new
-      ⊎ ((r : Resource) × IsLoadable old handle place r
-      × (((x : ℕ × Load) × (load_of old handle place ≡ Some x) × ((reply, new) ≡ loaded_again old r x)) ⊎ ((load_of old handle place ≡ None) × LoadsNewResource fetches old handle place r reply new)))
-  resource_cases handle place step = elim (by_option (resource_at old handle place) step) [
+  pub resource_cases : (handle place : ℕ) → C.LoadsResource fetches old handle place reply new → C.AnswersNone old reply new
+      ⊎ ((r : C.Resource) × IsLoadable old handle place r
+      × (((x : ℕ × Load) × (load_of old handle place ≡ Some x) × ((reply, new) ≡ C.loaded_again old r x)) ⊎ ((load_of old handle place ≡ None) × C.LoadsNewResource fetches old handle place r reply new)))
+  resource_cases handle place step = elim (by_option (C.resource_at old handle place) step) [
     | inl (e, f) ↦ inl f
-    | inr (r, at, f) ↦ elim (by_bool (is_too_long r) f) [
+    | inr (r, at, f) ↦ elim (by_bool (C.is_too_long r) f) [
       | inl (t, f) ↦ inl f
       | inr (short, f) ↦ elim (by_option (load_of old handle place) f) [
         | inl (none, inl f) ↦ inl f.1
@@ -46,10 +46,10 @@ module _ (fetches : Fetching) (old : LoadingWorld) (reply : Reply) (new : Loadin
   ]
 
   -- a lock of one: none, after a fetch, or without one
-  pub lock_cases : (handle : ℕ) → LocksResource fetches old handle reply new → ((reply ≡ Dword 0) × (new ≡ old))
-      ⊎ ((x : ℕ × Load) × (slot_of_resource old handle ≡ Some x)
-      × (((fault : Option FetchFault) × (next : LoadingWorld) × fetches old x.0 fault next × ((reply, new) ≡ lock_outcome fault handle next)) ⊎ ((reply, new) ≡ locked old handle)))
-  lock_cases handle step = elim (by_option (slot_of_resource old handle) step) [
+  pub lock_cases : (handle : ℕ) → C.LocksResource fetches old handle reply new → ((reply ≡ Dword 0) × (new ≡ old))
+      ⊎ ((x : ℕ × Load) × (C.slot_of_resource old handle ≡ Some x)
+      × (((fault : Option C.FetchFault) × (next : LoadingWorld) × fetches old x.0 fault next × ((reply, new) ≡ C.lock_outcome fault handle next)) ⊎ ((reply, new) ≡ C.locked old handle)))
+  lock_cases handle step = elim (by_option (C.slot_of_resource old handle) step) [
     | inl (e, f) ↦ inl f
-    | inr (x, e, f) ↦ elim (by_option (bytes_at old.handles.heap x.0) f) [ inl (none, f) ↦ inr (x, e, inl f) | inr (bytes, some, f) ↦ inr (x, e, inr f) ]
+    | inr (x, e, f) ↦ elim (by_option (C.bytes_at old.handles.heap x.0) f) [ inl (none, f) ↦ inr (x, e, inl f) | inr (bytes, some, f) ↦ inr (x, e, inr f) ]
   ]

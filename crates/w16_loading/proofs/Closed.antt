@@ -1,14 +1,15 @@
 -- A closure has one outcome.
-use Rattle.w16_loading.proofs.Common.{◌≡◌, ℕ, zero, suc, List, [], ◌∷◌, Result, Ok, Err, IfOk, refl, sym, ap, ◌∙◌, subst, Saying, Around, Closure, followed, after, OneClosureLaw}
-use Rattle.w16_loading.proofs.Common.{Answers, Bool, ClosesFrom, ClosureFilesLaw, Format, Found, HasTables, LoadingWorld, MatchOption, MatchResult, Meant, ModuleFile, None, Option, Read, Reading, ReadsFile, Referent, Refused, Some, Tables}
-use Rattle.w16_loading.proofs.Common.{are_sound, around, cond, dll, false, file_of, follow, inl, inr, length, meant, nat_lt, reading, said_by, told, true, with_bound}
+use Rattle.w16_loading.proofs
+use proofs.Common as C
+use proofs.Common.{◌≡◌, ℕ, zero, suc, List, [], ◌∷◌, Result, Ok, Err, IfOk, refl, sym, ap, ◌∙◌, subst, Closure, after, Bool, ClosesFrom, Found, MatchResult, Meant, ModuleFile, None, Option, Read, Reading, ReadsFile, Referent, Refused, Some, are_sound, around, cond, dll, false, follow, inl}
+use proofs.Common.{inr, length, meant, nat_lt, reading, told, true, with_bound}
+use proofs.Readings.{from_next, from_list}
 use Rattle.std.proofs.lemmas.Bool.{le-ltb, lt-ltb}
-use Rattle.w16_loading.proofs.Readings.{from_next, from_list}
 
 abbrev IsDone : Result Closure ℕ → Type 0
 IsDone outcome = IfOk outcome (λ c. c.pending ≡ [])
 
-module _ (says : Saying) (around : Around) where
+module _ (says : C.Saying) (around : C.Around) where
   -- with nothing pending nothing changes
   still : (n : ℕ) (closure : Closure) → closure.pending ≡ [] → after says around n closure ≡ Ok closure
   still zero closure e = refl
@@ -24,23 +25,23 @@ module _ (says : Saying) (around : Around) where
 
   one_list : (n m : ℕ) → One n m → (closure : Closure) (p : List (ℕ × List ℕ)) → IsDone (from_list says around n closure p) → IsDone (from_list says around m closure p) → from_list says around n closure p ≡ from_list says around m closure p
   one_list n m one closure [] a b = refl
-  one_list n m one closure (x ∷ rest) a b = one_next n m one (followed says around (record closure { pending = rest }) x.0 x.1) a b
+  one_list n m one closure (x ∷ rest) a b = one_next n m one (C.followed says around (record closure { pending = rest }) x.0 x.1) a b
 
   one : (n m : ℕ) → One n m
   one zero m closure a b = sym (still m closure a)
   one (suc n) zero closure a b = still (suc n) closure b
   one (suc n) (suc m) closure a b = one_list n m (one n m) closure closure.pending a b
 
-pub one_law : OneClosureLaw
+pub one_law : C.OneClosureLaw
 one_law says around closure a b x y = sym x.1 ∙ one says around x.0 y.0 closure (subst IsDone (sym x.1) x.2) (subst IsDone (sym y.1) y.2) ∙ y.1
 
 -- Over an honest store a load finds what its files say.
 
-module _ {honest : Type 0} (truly : honest) (format : Format) (before later : ℕ) (old : LoadingWorld) where
-  abbrev a : Around
+module _ {honest : Type 0} (truly : honest) (format : C.Format) (before later : ℕ) (old : C.LoadingWorld) where
+  abbrev a : C.Around
   a = around old
 
-  abbrev answers : Answers
+  abbrev answers : C.Answers
   answers = told honest format old.files before later
 
   module _ (found : List Found) (name : List ℕ) where
@@ -53,21 +54,21 @@ module _ {honest : Type 0} (truly : honest) (format : Format) (before later : �
     abbrev reading_of : Result ModuleFile ℕ → Reading
     reading_of said = elim said [ Err answer ↦ Refused answer | Ok read ↦ by_name read (meant a found read.tables.name) ]
 
-    said_so : (p : Option (List ℕ)) → reading format.says (record a { file = λ name. p }) found [] ≡ reading_of (said_by format.says p)
+    said_so : (p : Option (List ℕ)) → reading format.says (record a { file = λ name. p }) found [] ≡ reading_of (C.said_by format.says p)
     said_so None = refl
     said_so (Some bytes) = refl
 
     -- what is told of a file, where it says this
     abbrev said : Result ModuleFile ℕ
-    said = said_by format.says (file_of old.files name)
+    said = C.said_by format.says (C.file_of old.files name)
 
-    refused : (s : Result ModuleFile ℕ) (answer : ℕ) → HasTables s (Err answer) → reading_of s ≡ Refused answer
+    refused : (s : Result ModuleFile ℕ) (answer : ℕ) → C.HasTables s (Err answer) → reading_of s ≡ Refused answer
     refused (Err number) answer e = ap Refused e
     refused (Ok read) answer h = absurd h
 
-    named_so : (s : Result ModuleFile ℕ) (t : Tables) (p : Option Referent) → meant a found t.name ≡ p → HasTables s (Ok t) → (read : ModuleFile) × (s ≡ Ok read) × (meant a found read.tables.name ≡ p)
+    named_so : (s : Result ModuleFile ℕ) (t : C.Tables) (p : Option Referent) → meant a found t.name ≡ p → C.HasTables s (Ok t) → (read : ModuleFile) × (s ≡ Ok read) × (meant a found read.tables.name ≡ p)
     named_so (Err number) t p e h = absurd h
-    named_so (Ok read) t p e same = (read, refl, ap (λ (t : Tables). meant a found t.name) same ∙ e)
+    named_so (Ok read) t p e same = (read, refl, ap (λ (t : C.Tables). meant a found t.name) same ∙ e)
 
     new_so : (read : ModuleFile) → said ≡ Ok read → meant a found read.tables.name ≡ None → (s t : Bool) → MatchResult said (λ read. are_sound read ≡ s) (λ number. ⊥) → nat_lt (length found) a.free ≡ t → reading_of said ≡ by_tests read s t
     new_so read e none s t sound few =
@@ -84,7 +85,7 @@ module _ {honest : Type 0} (truly : honest) (format : Format) (before later : �
     reads_so (Read read) (says, none, sound, held, few) = new_so read (held.2 truly) none true true (sound truly) (lt-ltb (length found) a.free few)
 
     reads : (r : Reading) → ReadsFile answers a found name r → reading format.says a found name ≡ r
-    reads r h = said_so (file_of old.files name) ∙ reads_so r h
+    reads r h = said_so (C.file_of old.files name) ∙ reads_so r h
 
   -- so each reference leads where they say
   closes : (n : ℕ) (closure : Closure) (outcome : Result Closure ℕ) → ClosesFrom answers a n closure outcome → (after format.says a n closure ≡ outcome) × IsDone outcome
@@ -102,11 +103,11 @@ module _ {honest : Type 0} (truly : honest) (format : Format) (before later : �
       ends go (Err number) e = (sym e, subst IsDone (sym e) tt)
 
       follows : ((c : Closure) → ClosesFrom answers a n c outcome → Ends (Ok c)) → (p : Option Referent)
-          → MatchOption p ((r : Reading) × ReadsFile answers a closure.found (dll name) r × MatchResult (follow here place name r) (λ c. ClosesFrom answers a n c outcome) (λ number. outcome ≡ Err number))
+          → C.MatchOption p ((r : Reading) × ReadsFile answers a closure.found (dll name) r × MatchResult (follow here place name r) (λ c. ClosesFrom answers a n c outcome) (λ number. outcome ≡ Err number))
           (λ referent. ClosesFrom answers a n (with_bound here place referent) outcome)
           → Ends (elim p [ Some referent ↦ Ok (with_bound here place referent) | None ↦ follow here place name (reading format.says a closure.found (dll name)) ])
       follows go (Some referent) f = go (with_bound here place referent) f
       follows go None (r, h, f) = subst (λ (x : Reading). Ends (follow here place name x)) (sym (reads closure.found (dll name) r h)) (ends go (follow here place name r) f)
 
-pub files_law : (honest : Type 0) → ClosureFilesLaw honest
+pub files_law : (honest : Type 0) → C.ClosureFilesLaw honest
 files_law honest format before later old count closure outcome truly f = let c = closes truly format before later old count closure outcome f in (count, c.0, c.1)

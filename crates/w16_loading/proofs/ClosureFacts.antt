@@ -1,16 +1,16 @@
 -- What a closure has found: modules of names that nothing had, each but the first asked for by another.
-use Rattle.w16_loading.proofs.Common.{◌≡◌, ◌≢◌, ℕ, ◌+◌, ◌<◌, ◌≤◌, inl, inr, Bool, true, false, nat_lt, List, [], ◌∷◌, ◌++◌, length, map, position, Option, Some, None}
-use Rattle.w16_loading.proofs.Common.{option_map, refl, sym, ap, ◌∙◌, subst, arith, ltb-true, ltb-false, length-append, option_or, Member, EachPair, is_named}
-use Rattle.w16_loading.proofs.Common.{Answers, ModuleFile, Around, Closure, Found, Referent, meant, begun, with_bound, with_found, There, New}
+use Rattle.w16_loading.proofs
+use proofs.Common as C
+use proofs.Common.{◌≡◌, ◌≢◌, ℕ, ◌+◌, ◌<◌, ◌≤◌, inl, inr, Bool, true, false, List, [], ◌∷◌, ◌++◌, length, map, Some, None, refl, sym, ap, ◌∙◌, subst, arith, length-append, Member, EachPair, is_named, Closure, Found, Referent, meant, begun, There, New}
+use proofs.Undone.{in_first, in_second, parted}
+use proofs.Given.{no_place}
 use Rattle.std.specs.List.{AllByRecursion as Each}
-use Rattle.w16_loading.proofs.Undone.{in_first, in_second, parted}
-use Rattle.w16_loading.proofs.Given.{no_place}
 
 abbrev name_of : Found → List ℕ
 name_of f = f.read.tables.name
 
 -- What holds of a closure on the way.
-pub record IsClosure (answers : Answers) (named : List ℕ → Option ℕ) (closure : Closure) : Type 0 where
+pub record IsClosure (answers : C.Answers) (named : List ℕ → C.Option ℕ) (closure : Closure) : Type 0 where
   -- what was read was told so
   pub held : (f : Found) → Member f closure.found → answers.holds f.file f.read
   -- names are new, and different
@@ -26,12 +26,12 @@ each_both : {X : Type 0} (P : X → Type 0) (xs ys : List X) → Each P xs → E
 each_both P [] ys h k = k
 each_both P (x ∷ xs) ys h k = (h.0, each_both P xs ys h.1 k)
 
-module _ (answers : Answers) (a : Around) where
+module _ (answers : C.Answers) (a : C.Around) where
   -- what nothing means, nothing has the name of
   meant_none : (found : List Found) (name : List ℕ) → meant a found name ≡ None → (a.named name ≡ None) × ((f : Found) → Member f found → is_named (name_of f) name ≡ false)
-  meant_none found name e = turn (a.named name) (position (λ f. is_named (name_of f) name) found) refl refl e
+  meant_none found name e = turn (a.named name) (C.position (λ f. is_named (name_of f) name) found) refl refl e
     where
-      turn : (p r : Option ℕ) → a.named name ≡ p → position (λ f. is_named (name_of f) name) found ≡ r → option_or (option_map There p) (option_map New r) ≡ None → (a.named name ≡ None) × ((f : Found) → Member f found → is_named (name_of f) name ≡ false)
+      turn : (p r : C.Option ℕ) → a.named name ≡ p → C.position (λ f. is_named (name_of f) name) found ≡ r → C.option_or (C.option_map There p) (C.option_map New r) ≡ None → (a.named name ≡ None) × ((f : Found) → Member f found → is_named (name_of f) name ≡ false)
       turn None None x y e = (x, λ f m. no_place (λ f. is_named (name_of f) name) found y f m)
       turn None (Some r) x y e = cc
       turn (Some p) r x y e = cc
@@ -41,7 +41,7 @@ module _ (answers : Answers) (a : Around) where
   each_longer (x ∷ xs) m n le h = ((let lt : x.0 < m = h.0 in omega (arith, lt, le)), each_longer xs m n le h.1)
 
   -- one more reference is bound
-  pub bound_more : (closure : Closure) (place : ℕ) (referent : Referent) → place < length closure.found → IsClosure answers a.named closure → IsClosure answers a.named (with_bound closure place referent)
+  pub bound_more : (closure : Closure) (place : ℕ) (referent : Referent) → place < length closure.found → IsClosure answers a.named closure → IsClosure answers a.named (C.with_bound closure place referent)
   bound_more closure place referent lt is = record {
     held = is.held;
     new = is.new;
@@ -62,8 +62,8 @@ module _ (answers : Answers) (a : Around) where
   each_mapped place n (name ∷ names) lt = (lt, each_mapped place n names lt)
 
   -- one more module is found, for a reference of another
-  pub found_more : (closure : Closure) (place : ℕ) (file : List ℕ) (read : ModuleFile) → place < length closure.found → IsClosure answers a.named closure → answers.holds file read → meant a closure.found read.tables.name ≡ None
-      → IsClosure answers a.named (with_bound (with_found closure file read) place (New (length closure.found)))
+  pub found_more : (closure : Closure) (place : ℕ) (file : List ℕ) (read : C.ModuleFile) → place < length closure.found → IsClosure answers a.named closure → answers.holds file read → meant a closure.found read.tables.name ≡ None
+      → IsClosure answers a.named (C.with_bound (C.with_found closure file read) place (New (length closure.found)))
   found_more closure place file read lt is its none = record {
     held = λ f m. elim (parted f closure.found (one ∷ []) m) [ inl k ↦ is.held f k | inr (inl e) ↦ subst (λ (g : Found). answers.holds g.file g.read) (sym e) its | inr (inr k) ↦ absurd k ];
     new = λ f m. elim (parted f closure.found (one ∷ []) m) [ inl k ↦ is.new f k | inr k ↦ newest f k ];
@@ -73,7 +73,7 @@ module _ (answers : Answers) (a : Around) where
         (each_mapped (length closure.found) (length (closure.found ++ one ∷ [])) read.tables.references (omega (arith, long)));
     bound = each_both (λ (x : ℕ × Referent). x.0 < length (closure.found ++ one ∷ [])) closure.bound ((place, New (length closure.found)) ∷ [])
         (each_longer closure.bound (length closure.found) (length (closure.found ++ one ∷ [])) (omega (arith, long)) is.bound) (omega (arith, long, lt), tt);
-    asked = λ p some few. asks p some few (nat_lt p (length closure.found)) refl;
+    asked = λ p some few. asks p some few (C.nat_lt p (length closure.found)) refl;
   }
     where
       one : Found
@@ -89,18 +89,18 @@ module _ (answers : Answers) (a : Around) where
       newest f (inl e) = ap (λ (g : Found). a.named (name_of g)) e ∙ unnamed.0
       newest f (inr m) = absurd m
 
-      asks : (p : ℕ) → 0 < p → p < length (closure.found ++ record { file = file; read = read } ∷ []) → (b : Bool) → nat_lt p (length closure.found) ≡ b
+      asks : (p : ℕ) → 0 < p → p < length (closure.found ++ record { file = file; read = read } ∷ []) → (b : Bool) → C.nat_lt p (length closure.found) ≡ b
           → (by : ℕ) × Member {X = ℕ × Referent} (by, New p) (closure.bound ++ (place, New (length closure.found)) ∷ []) × (by ≢ p)
       asks p some few true t =
-          let was : (by : ℕ) × Member {X = ℕ × Referent} (by, New p) closure.bound × (by ≢ p) = is.asked p some (ltb-true p (length closure.found) t) in
+          let was : (by : ℕ) × Member {X = ℕ × Referent} (by, New p) closure.bound × (by ≢ p) = is.asked p some (C.ltb-true p (length closure.found) t) in
           (was.0, in_first {A = ℕ × Referent} (was.0, New p) closure.bound ((place, New (length closure.found)) ∷ []) was.1, was.2)
       asks p some few false t =
-          let le : length closure.found ≤ p = ltb-false p (length closure.found) t in
+          let le : length closure.found ≤ p = C.ltb-false p (length closure.found) t in
           let same : p ≡ length closure.found = omega (arith, le, few, long) in
           (place, in_second {A = ℕ × Referent} (place, New p) closure.bound ((place, New (length closure.found)) ∷ []) (inl (λ i. (place, New (same i)))), λ e. absurd (omega (arith, e, lt, le)))
 
   -- the module asked for
-  pub began : (file : List ℕ) (read : ModuleFile) → answers.holds file read → meant a [] read.tables.name ≡ None → IsClosure answers a.named (begun file read)
+  pub began : (file : List ℕ) (read : C.ModuleFile) → answers.holds file read → meant a [] read.tables.name ≡ None → IsClosure answers a.named (begun file read)
   began file read its none = record {
     held = λ g m. elim m [ inl same ↦ subst (λ (f : Found). answers.holds f.file f.read) (sym same) its | inr k ↦ absurd k ];
     new = λ g m. elim m [ inl same ↦ ap (λ (x : Found). a.named (name_of x)) same ∙ (meant_none [] read.tables.name none).0 | inr k ↦ absurd k ];

@@ -1,14 +1,13 @@
 -- A load gives code the bytes that its files say, and leaves all other code as it was.
-use Rattle.w16_loading.proofs.Common.{◌≡◌, ◌≢◌, ℕ, ◌-◌, ◌<◌, inl, inr, ◌⊎◌, true, false, cond, ◌&&◌, List, [], ◌∷◌, length, fold, map, slice_get, slice_index_or, Option, Some, None, IfSome, IsSomeAnd, is_some, option_map, unwrap_or, Ok, refl}
-use Rattle.w16_loading.proofs.Common.{sym, ap, ◌∙◌, subst, arith, ne_eqb, AllZip, list_all, false≢true, cases_eq, length-map, Heap, bytes_at, Member, EachPair, EachPair-from_AllPairs, inserted_here, inserted_other, bytes_in, Format, ModuleFile, Segment}
-use Rattle.w16_loading.proofs.Common.{SegmentData, Far, Target, targets_of, numbered, Owned, LoadingWorld, Module, IsSegmentOf, module_at, with_heap, Answers, GivesFrom, Fills, Filling, InTurn, Closure, Found, are_sound}
-use Rattle.w16_loading.proofs.Common.{Choice, IsChoice, Given, all_slots, given, segments_of, with_segment, bound, named, fills, read_of, segment_bytes, is_code, IsLoadingWorld, CodeIsItsFiles, IsItsFiles, ModulesAreItsFiles, IsOfFiles, unused_slot}
-use Rattle.w16_loading.proofs.Undone.{chosen, fold_named, same_owned}
-use Rattle.w16_loading.proofs.Named.{named_heap, free_slot}
-use Rattle.w16_loading.proofs.Given.{place_member, one_place, index_place, given_found, given_slot, given_slots_differ, one_given, new_or_old, IsFilledBy, filled_by, filled_chosen}
-use Rattle.w16_loading.proofs.Common.{Err, Result, file_of, said_by}
-use Rattle.w16_loading.proofs.KeptCode.{IsFilled, ReadsAgain, image_of, read_in, fills_bytes}
-use Rattle.w16_loading.proofs.Owners.{segment_object}
+use Rattle.w16_loading.proofs
+use proofs.Common.{◌≡◌, ◌≢◌, ℕ, ◌-◌, ◌<◌, inl, inr, ◌⊎◌, true, false, cond, ◌&&◌, List, [], ◌∷◌, length, fold, map, slice_get, slice_index_or, Option, Some, None, IfSome, IsSomeAnd, is_some, option_map, unwrap_or, Ok, refl, sym, ap, ◌∙◌, subst, arith, ne_eqb, AllZip, list_all, false≢true}
+use proofs.Common.{cases_eq, length-map, Heap, bytes_at, Member, EachPair, EachPair-from_AllPairs, inserted_here, inserted_other, bytes_in, Format, ModuleFile, Segment, SegmentData, Far, Target, targets_of, numbered, Owned, LoadingWorld, Module, IsSegmentOf, module_at, with_heap, Answers}
+use proofs.Common.{GivesFrom, Fills, Filling, InTurn, Closure, Found, are_sound, Choice, IsChoice, Given, all_slots, given, segments_of, with_segment, bound, named, fills, read_of, segment_bytes, is_code, IsLoadingWorld, CodeIsItsFiles, IsItsFiles, ModulesAreItsFiles, IsOfFiles}
+use proofs.Common.{unused_slot, Err, Result, file_of, said_by}
+use proofs.Undone.{chosen, fold_named, same_owned}
+use proofs.Given.{place_member, one_place, index_place, given_found, given_slot, given_slots_differ, one_given, new_or_old, IsFilledBy, filled_by, filled_chosen}
+use proofs.KeptCode.{IsFilled, ReadsAgain, image_of, read_in, fills_bytes}
+use proofs.{Named.named_heap, Named.free_slot, Owners.segment_object}
 
 -- What a closure found are files as they are.
 

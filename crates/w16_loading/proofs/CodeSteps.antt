@@ -1,31 +1,24 @@
 -- The steps of the families, but for loads, keep code as its files say it.
-use Rattle.w16_loading.proofs.Common.{◌≡◌, ◌≢◌, ℕ, ◌+◌, ◌-◌, inl, inr, ◌⊎◌, Bool, true, false, cond, not, ◌==◌, List, [], ◌∷◌, length, Option, Some, None, option_map, unwrap_or, refl, sym, ap, ◌∙◌, subst, nat_cmp, false≢true, cases_Bool, cases_eq, FarFault}
-use Rattle.w16_loading.proofs.Common.{BadSelector, NotPresent, Limit, put_part, is_member, Heap, object_at, bytes_at, after_touch, IsFreeSlot, global_lock, far_fault, far_slot, after_write, get-update_other, inserted_here, inserted_other, taken_here}
-use Rattle.w16_loading.proofs.Common.{taken_other, bytes_in, entered_heap, FetchFault, Format, Resource, Owned, LoadingWorld, Load, Module, Modules, module_at, module_in, with_heap, Loaded, BuiltIn, without_objects, Answers, FetchesFrom, Fills, told, is_code, far_read, far_write}
-use Rattle.w16_loading.proofs.Common.{Go, Frees, used_less, without_module, without_orphans, is_left_over, Attributes, owned_in, refuses_write, attributes_for, with_resource, locked, IsLoadingWorld, IsOfFiles, unused_slot, Part, part_of_selector, is_past}
-use Rattle.w16_loading.proofs.Common.{far_at}
+use Rattle.w16_loading.proofs
+use proofs.Common as C
+use proofs.Common.{◌≡◌, ◌≢◌, ℕ, ◌+◌, ◌-◌, inl, inr, ◌⊎◌, Bool, true, false, cond, not, ◌==◌, List, [], ◌∷◌, Option, Some, None, option_map, unwrap_or, refl, sym, ap, ◌∙◌, subst, false≢true, cases_eq, Limit, Heap, after_touch, far_slot, after_write, inserted_here, inserted_other, Owned}
+use proofs.Common.{LoadingWorld, Load, Module, module_at, module_in, Loaded, BuiltIn, without_objects, Fills, told, is_code, Go, Frees, owned_in, with_resource, Part, far_at}
+use proofs.KeptBytes.{KeepsBytes, same_object, no_object, no_bytes}
+use proofs.KeptCode.{with_code, KeepsCode, SameSource, FetchesCode, code_kept, same_source, as_it_was, fetched_code}
+use proofs.{OwnedKept.locked as owned_locked, Undone.retained, Again.segment_image, Given.loaded_is, Bound.world_used_less, Bound.world_without, Stepping.without_load, FarCases.read_cases, FarCases.write_cases}
 use Rattle.std.specs.FinMap as finmap
-use Rattle.w16_loading.proofs.OwnedKept.{locked as owned_locked}
-use Rattle.w16_loading.proofs.Undone.{retained}
-use Rattle.w16_loading.proofs.Again.{segment_image}
-use Rattle.w16_loading.proofs.Given.{loaded_is}
-use Rattle.w16_loading.proofs.Bound.{world_used_less, world_without}
-use Rattle.w16_loading.proofs.Stepping.{without_load}
-use Rattle.w16_loading.proofs.FarCases.{read_cases, write_cases}
 use Rattle.w16_loading.proofs.KeptBytes as kept
-use Rattle.w16_loading.proofs.KeptBytes.{KeepsBytes, same_object, no_object, no_bytes}
-use Rattle.w16_loading.proofs.KeptCode.{with_code, KeepsCode, SameSource, FetchesCode, code_kept, same_source, as_it_was, fetched_code}
 
-module _ (format : Format) where
+module _ (format : C.Format) where
   abbrev Good : LoadingWorld → Type 0
-  Good world = IsOfFiles format world
+  Good world = C.IsOfFiles format world
 
   -- a world with another heap
-  pub heap_kept : (old : LoadingWorld) (heap : Heap) → ((q : ℕ) → is_code old q ≡ true → KeepsBytes old.handles.heap heap q) → KeepsCode format old (with_heap old heap)
+  pub heap_kept : (old : LoadingWorld) (heap : Heap) → ((q : ℕ) → is_code old q ≡ true → KeepsBytes old.handles.heap heap q) → KeepsCode format old (C.with_heap old heap)
   heap_kept old heap keeps = with_code format old heap (λ slot handle number m s t. as_it_was format old heap slot number m (keeps slot t))
 
   -- and with other modules, of which each has the source of one that was there
-  modules_kept : (old : LoadingWorld) (modules : Modules) → ((handle : ℕ) (m : Module) → module_at modules handle ≡ Some m → (before : Module) × (module_at old.modules handle ≡ Some before) × SameSource m before)
+  modules_kept : (old : LoadingWorld) (modules : C.Modules) → ((handle : ℕ) (m : Module) → module_at modules handle ≡ Some m → (before : Module) × (module_at old.modules handle ≡ Some before) × SameSource m before)
       → KeepsCode format old (record old { modules = modules })
   modules_kept old modules sources = record {
     files = refl;
@@ -35,7 +28,7 @@ module _ (format : Format) where
   }
 
   -- and with other loads of resources
-  pub loads_kept : (old : LoadingWorld) (loads : finmap.FinMap nat_cmp Load) → KeepsCode format old (record old { loads = loads })
+  pub loads_kept : (old : LoadingWorld) (loads : finmap.FinMap C.nat_cmp Load) → KeepsCode format old (record old { loads = loads })
   loads_kept old loads = record {
     files = refl;
     modules = λ handle m e. (m, e, same_source m);
@@ -48,35 +41,35 @@ module _ (format : Format) where
   as_before : (world : LoadingWorld) → KeepsCode format world world
   as_before world = heap_kept world world.handles.heap (λ q t. same_object world.handles.heap world.handles.heap q refl)
 
-  pub read_keeps : (selector offset n : ℕ) (world : LoadingWorld) → KeepsCode format world (far_read selector offset n world).1
+  pub read_keeps : (selector offset n : ℕ) (world : LoadingWorld) → KeepsCode format world (C.far_read selector offset n world).1
   read_keeps selector offset n world = read_cases (KeepsCode format world) world (as_before world) selector offset n
       (heap_kept world (after_touch world.handles.heap (far_slot world.handles selector)) (λ q t. same_object world.handles.heap (after_touch world.handles.heap (far_slot world.handles selector)) q refl))
 
   -- whether code is written to is asked of the object that is written to
-  asked : (world : LoadingWorld) (selector offset n : ℕ) → far_fault world.handles selector offset n ≡ None → refuses_write world.handles selector ≡ is_code world (far_slot world.handles selector)
-  asked world selector offset n = turn (part_of_selector world.handles selector)
+  asked : (world : LoadingWorld) (selector offset n : ℕ) → C.far_fault world.handles selector offset n ≡ None → C.refuses_write world.handles selector ≡ is_code world (far_slot world.handles selector)
+  asked world selector offset n = turn (C.part_of_selector world.handles selector)
     where
-      turn : (p : Option Part) → ◌≡◌ {A = Option FarFault} (elim p [
-        | None ↦ Some BadSelector
-        | Some p ↦ elim (bytes_at world.handles.heap p.slot) [
-          | None ↦ Some NotPresent
-          | Some bytes ↦ cond (is_past (length bytes) p (offset + n)) (Some Limit) None
+      turn : (p : Option Part) → ◌≡◌ {A = Option C.FarFault} (elim p [
+        | None ↦ Some C.BadSelector
+        | Some p ↦ elim (C.bytes_at world.handles.heap p.slot) [
+          | None ↦ Some C.NotPresent
+          | Some bytes ↦ cond (C.is_past (C.length bytes) p (offset + n)) (Some Limit) None
         ]
       ]) None → unwrap_or (option_map (λ (p : Part). is_code world p.slot) p) false ≡ is_code world (unwrap_or p (record { slot = 0; number = 0 })).slot
       turn None e = cc
       turn (Some p) e = refl
 
-  pub write_keeps : (selector offset : ℕ) (slice : List ℕ) (world : LoadingWorld) → KeepsCode format world (far_write selector offset slice world).1
+  pub write_keeps : (selector offset : ℕ) (slice : List ℕ) (world : LoadingWorld) → KeepsCode format world (C.far_write selector offset slice world).1
   write_keeps selector offset slice world = write_cases (KeepsCode format world) world (as_before world) selector offset slice
-      (λ f e. heap_kept world (after_touch (after_write world.handles.heap (far_slot world.handles selector) (far_at world.handles selector offset) slice) (far_slot world.handles selector)) (others (sym (asked world selector offset (length slice) e) ∙ f)))
+      (λ f e. heap_kept world (after_touch (after_write world.handles.heap (far_slot world.handles selector) (far_at world.handles selector offset) slice) (far_slot world.handles selector)) (others (sym (asked world selector offset (C.length slice) e) ∙ f)))
     where
       others : is_code world (far_slot world.handles selector) ≡ false → (q : ℕ) → is_code world q ≡ true
           → KeepsBytes world.handles.heap (after_touch (after_write world.handles.heap (far_slot world.handles selector) (far_at world.handles selector offset) slice) (far_slot world.handles selector)) q
       others f q t = same_object world.handles.heap (after_touch (after_write world.handles.heap (far_slot world.handles selector) (far_at world.handles selector offset) slice) (far_slot world.handles selector)) q
-          (get-update_other world.handles.heap.objects (far_slot world.handles selector) (λ o. record o { bytes = option_map (λ bytes. put_part bytes (far_at world.handles selector offset) slice) o.bytes }) q (λ e. false≢true (sym f ∙ ap (is_code world) (sym e) ∙ t)))
+          (C.get-update_other world.handles.heap.objects (far_slot world.handles selector) (λ o. record o { bytes = option_map (λ bytes. C.put_part bytes (far_at world.handles selector offset) slice) o.bytes }) q (λ e. false≢true (sym f ∙ ap (is_code world) (sym e) ∙ t)))
 
   -- what an honest store gives is the object's image
-  pub world_fetches : {honest : Type 0} → honest → (before after : ℕ) (old : LoadingWorld) → IsLoadingWorld old → (slot : ℕ) → FetchesCode format (told honest format old.files before after) old slot
+  pub world_fetches : {honest : Type 0} → honest → (before after : ℕ) (old : LoadingWorld) → C.IsLoadingWorld old → (slot : ℕ) → FetchesCode format (told honest format old.files before after) old slot
   world_fetches truly before after old is slot handle number m bytes s coded given = segment_image format old slot handle number m bytes is s (given.1 truly)
 
   -- Uses.
@@ -96,8 +89,8 @@ module _ (format : Format) where
   released_code gone old = record {
     files = refl;
     modules = λ handle m e. (m, e, same_source m);
-    coded = λ q t. coded q (cases_Bool (gone q)) t;
-    bytes = λ slot handle number m s t. as_it_was format old (without_objects gone old).handles.heap slot number m (kept_or_gone slot (cases_Bool (gone slot)));
+    coded = λ q t. coded q (C.cases_Bool (gone q)) t;
+    bytes = λ slot handle number m s t. as_it_was format old (without_objects gone old).handles.heap slot number m (kept_or_gone slot (C.cases_Bool (gone slot)));
   }
     where
       coded : (q : ℕ) → (gone q ≡ true) ⊎ (gone q ≡ false) → is_code (without_objects gone old) q ≡ true → is_code old q ≡ true
@@ -105,10 +98,10 @@ module _ (format : Format) where
       coded q (inr g) t = sym (ap (λ p. unwrap_or (option_map (λ (o : Owned). o.code) p) false) (ap owned_in (retained old.handles.attributes gone q ∙ ap (λ b. cond (not b) (finmap.get old.handles.attributes q) None) g))) ∙ t
 
       kept_or_gone : (q : ℕ) → (gone q ≡ true) ⊎ (gone q ≡ false) → KeepsBytes old.handles.heap (without_objects gone old).handles.heap q
-      kept_or_gone q (inl g) = no_object old.handles.heap (without_objects gone old).handles.heap q (retained old.handles.heap.objects gone q ∙ ap (λ b. cond (not b) (object_at old.handles.heap q) None) g)
-      kept_or_gone q (inr g) = same_object old.handles.heap (without_objects gone old).handles.heap q (retained old.handles.heap.objects gone q ∙ ap (λ b. cond (not b) (object_at old.handles.heap q) None) g)
+      kept_or_gone q (inl g) = no_object old.handles.heap (without_objects gone old).handles.heap q (retained old.handles.heap.objects gone q ∙ ap (λ b. cond (not b) (C.object_at old.handles.heap q) None) g)
+      kept_or_gone q (inr g) = same_object old.handles.heap (without_objects gone old).handles.heap q (retained old.handles.heap.objects gone q ∙ ap (λ b. cond (not b) (C.object_at old.handles.heap q) None) g)
 
-  less_used : (old : LoadingWorld) (handle : ℕ) → Good old → Good (used_less old handle)
+  less_used : (old : LoadingWorld) (handle : ℕ) → Good old → Good (C.used_less old handle)
   less_used old handle good = turn (module_at old.modules handle) refl
     where
       turn : (p : Option Module) → module_at old.modules handle ≡ p → Good (world_used_less old handle p)
@@ -118,31 +111,31 @@ module _ (format : Format) where
   -- a module that goes
   gone_module : (old : LoadingWorld) (handle : ℕ) → KeepsCode format old (record old { modules = finmap.remove old.modules handle })
   gone_module old handle = modules_kept old (finmap.remove old.modules handle) (λ h m e. elim (cases_eq h handle) [
-    | inl same ↦ absurd (none m (sym (ap module_in (taken_here old.modules handle h same)) ∙ e))
-    | inr other ↦ (m, ap module_in (sym (taken_other old.modules handle h other)) ∙ e, same_source m)
+    | inl same ↦ absurd (none m (sym (ap module_in (C.taken_here old.modules handle h same)) ∙ e))
+    | inr other ↦ (m, ap module_in (sym (C.taken_other old.modules handle h other)) ∙ e, same_source m)
   ])
     where
       none : (m : Module) → ◌≡◌ {A = Option Module} None (Some m) → ⊥
       none m e = cc
 
-  one_goes : (old : LoadingWorld) (handle : ℕ) → Good old → Good (without_module old handle)
+  one_goes : (old : LoadingWorld) (handle : ℕ) → Good old → Good (C.without_module old handle)
   one_goes old handle good = turn (module_at old.modules handle)
     where
       turn : (p : Option Module) → Good (world_without old handle p)
       turn None = good
       turn (Some m) =
-          let left : LoadingWorld = without_objects (λ q. is_member q m.slots) old in
-          code_kept format left (record left { modules = finmap.remove left.modules handle }) (gone_module left handle) (code_kept format old left (released_code (λ q. is_member q m.slots) old) good)
+          let left : LoadingWorld = without_objects (λ q. C.is_member q m.slots) old in
+          code_kept format left (record left { modules = finmap.remove left.modules handle }) (gone_module left handle) (code_kept format old left (released_code (λ q. C.is_member q m.slots) old) good)
 
   all_go : (old : LoadingWorld) (gone : List ℕ) (new : LoadingWorld) → Go old gone new → Good old → Good new
   all_go old [] new go good = subst Good (sym go.1) good
-  all_go old (handle ∷ gone) new go good = all_go (without_module old handle) gone new go.1 (one_goes old handle good)
+  all_go old (handle ∷ gone) new go good = all_go (C.without_module old handle) gone new go.1 (one_goes old handle good)
 
   pub by_free : (old new : LoadingWorld) (handle answer : ℕ) → Frees old handle answer new → Good old → Good new
   by_free old new handle answer f good =
-      let left : LoadingWorld = without_objects (is_left_over f.left) f.left in
-      subst Good (sym f.after) (code_kept format left (without_orphans f.left) (loads_kept left (without_orphans f.left).loads)
-      (code_kept format f.left left (released_code (is_left_over f.left) f.left) (all_go (used_less old handle) f.ended.gone f.left f.ended.went (less_used old handle good))))
+      let left : LoadingWorld = without_objects (C.is_left_over f.left) f.left in
+      subst Good (sym f.after) (code_kept format left (C.without_orphans f.left) (loads_kept left (C.without_orphans f.left).loads)
+      (code_kept format f.left left (released_code (C.is_left_over f.left) f.left) (all_go (C.used_less old handle) f.ended.gone f.left f.ended.went (less_used old handle good))))
 
   -- Built-ins.
 
@@ -158,7 +151,7 @@ module _ (format : Format) where
   -- Resources.
 
   -- a new object, which isn't code
-  pub entered_code : (old : LoadingWorld) (slot handle place : ℕ) (r : Resource) → IsFreeSlot old.handles slot → KeepsCode format old (with_resource old slot handle place r)
+  pub entered_code : (old : LoadingWorld) (slot handle place : ℕ) (r : C.Resource) → C.IsFreeSlot old.handles slot → KeepsCode format old (with_resource old slot handle place r)
   entered_code old slot handle place r free = record {
     files = refl;
     modules = λ h m e. (m, e, same_source m);
@@ -166,38 +159,38 @@ module _ (format : Format) where
     bytes = λ q h number m s t. as_it_was format old (with_resource old slot handle place r).handles.heap q number m (entered q (cases_eq q slot));
   }
     where
-      owner : Attributes
-      owner = attributes_for r
+      owner : C.Attributes
+      owner = C.attributes_for r
 
       coded : (q : ℕ) → is_code (with_resource old slot handle place r) q ≡ true → (q ≡ slot) ⊎ (q ≢ slot) → is_code old q ≡ true
       coded q t (inl e) = absurd (false≢true (sym (ap (λ p. unwrap_or (option_map (λ (o : Owned). o.code) p) false) (ap owned_in (inserted_here old.handles.attributes slot owner q e))) ∙ t))
       coded q t (inr d) = sym (ap (λ p. unwrap_or (option_map (λ (o : Owned). o.code) p) false) (ap owned_in (inserted_other old.handles.attributes slot owner q d))) ∙ t
 
       entered : (q : ℕ) → (q ≡ slot) ⊎ (q ≢ slot) → KeepsBytes old.handles.heap (with_resource old slot handle place r).handles.heap q
-      entered q (inl e) = no_bytes old.handles.heap (with_resource old slot handle place r).handles.heap q (ap bytes_in (inserted_here old.handles.heap.objects slot (record { kind = r.kind; locks = 0; bytes = None }) q e))
+      entered q (inl e) = no_bytes old.handles.heap (with_resource old slot handle place r).handles.heap q (ap C.bytes_in (inserted_here old.handles.heap.objects slot (record { kind = r.kind; locks = 0; bytes = None }) q e))
       entered q (inr d) = same_object old.handles.heap (with_resource old slot handle place r).handles.heap q (inserted_other old.handles.heap.objects slot (record { kind = r.kind; locks = 0; bytes = None }) q d)
 
   -- which is fetched
-  pub made_code : {answers : Answers} {slot : ℕ} {fault : Option FetchFault} {next : LoadingWorld} (old : LoadingWorld) → IsLoadingWorld old → (handle place : ℕ) (r : Resource) → IsFreeSlot old.handles slot
-      → FetchesFrom Fills answers (with_resource old slot handle place r) slot fault next → Good old → Good next
+  pub made_code : {answers : C.Answers} {slot : ℕ} {fault : Option C.FetchFault} {next : LoadingWorld} (old : LoadingWorld) → C.IsLoadingWorld old → (handle place : ℕ) (r : C.Resource) → C.IsFreeSlot old.handles slot
+      → C.FetchesFrom Fills answers (with_resource old slot handle place r) slot fault next → Good old → Good next
   made_code {answers} {slot} {fault} {next} old is handle place r free f good = code_kept format made next fetched (code_kept format old made (entered_code old slot handle place r free) good)
     where
       made : LoadingWorld
       made = with_resource old slot handle place r
 
       not_code : is_code made slot ≡ true → ⊥
-      not_code t = false≢true (sym (ap (λ p. unwrap_or (option_map (λ (o : Owned). o.code) p) false) (ap owned_in (inserted_here old.handles.attributes slot (attributes_for r) slot refl))) ∙ t)
+      not_code t = false≢true (sym (ap (λ p. unwrap_or (option_map (λ (o : Owned). o.code) p) false) (ap owned_in (inserted_here old.handles.attributes slot (C.attributes_for r) slot refl))) ∙ t)
 
       fetched : KeepsCode format made next
-      fetched = fetched_code format (entered_heap old.handles.heap is.handles.heap slot r.kind (unused_slot old.handles is.handles slot free)) (λ h number m bytes s coded given. absurd (not_code coded)) f
+      fetched = fetched_code format (C.entered_heap old.handles.heap is.handles.heap slot r.kind (C.unused_slot old.handles is.handles slot free)) (λ h number m bytes s coded given. absurd (not_code coded)) f
 
   -- a lock
-  pub locked_code : (old : LoadingWorld) (handle : ℕ) → Good old → Good (locked old handle).1
-  locked_code old handle good = code_kept format old (locked old handle).1 (record {
+  pub locked_code : (old : LoadingWorld) (handle : ℕ) → Good old → Good (C.locked old handle).1
+  locked_code old handle good = code_kept format old (C.locked old handle).1 (record {
     files = refl;
     modules = λ h m e. (m, e, same_source m);
     coded = λ q t. ap (λ p. unwrap_or (option_map (λ (o : Owned). o.code) p) false) (sym (owned_locked old.handles handle q)) ∙ t;
-    bytes = λ slot h number m s t. as_it_was format old (global_lock old.handles handle).1.heap slot number m (kept.locked old.handles slot handle);
+    bytes = λ slot h number m s t. as_it_was format old (C.global_lock old.handles handle).1.heap slot number m (kept.locked old.handles slot handle);
   }) good
 
   -- the last load of a resource gone

@@ -1,25 +1,22 @@
 -- What calls of modules and resources are for, proved from their steps.
-use Rattle.w16_loading.proofs.Common.{◌≡◌, ◌≢◌, ℕ, ◌+◌, ◌-◌, ◌<◌, ◌≤◌, ◌&&◌, ◌==◌, inl, inr, Bool, true, false, cond, if◌then◌else◌, nat_lt, List, position, Option, Some, None, option_map, unwrap_or, slice_get, refl, sym, ap, ◌∙◌, subst, arith}
-use Rattle.w16_loading.proofs.Common.{IfSome, get_or, and_parts, eq-eqb, ne_eqb, IsTrue, MatchOption, object_at, slot_of_handle, locks_at, inserted_here, taken_here, is_named, is_named-Decides, slice_get-get_or, position-Some}
-use Rattle.w16_loading.proofs.Common.{Resource, Load, LoadingWorld, Modules, Named, module_at, name_of, handle_named, BuiltIn, Loaded, Reply, Word, IsLoadingWorld, without_objects}
-use Rattle.w16_loading.proofs.Common.{AddsBuiltIn, built_in, free_resource, numbered}
+use Rattle.w16_loading.proofs
+use proofs.Common as C
+use proofs.Common.{◌≡◌, ◌≢◌, ℕ, ◌+◌, ◌-◌, ◌<◌, ◌≤◌, ◌&&◌, ◌==◌, inl, inr, Bool, true, false, cond, if◌then◌else◌, nat_lt, List, position, Option, Some, None, option_map, unwrap_or, slice_get, refl, sym, ap, ◌∙◌, subst, arith, get_or, locks_at, is_named, Resource, Load, LoadingWorld, Named}
+use proofs.Common.{name_of, handle_named, BuiltIn, Reply, Word, free_resource, numbered}
+use proofs.{Given.no_place, Given.place_member, Importers.named_there, ModuleWorlds.not_named, ShrunkWorlds.value_gone}
 use Rattle.std.proofs.Common.{le-ltb, lt-ltb}
-use Rattle.std.specs.FinMap as finmap
 use Rattle.w16_loading.specs.File.{is_label}
-use Rattle.w16_model.specs.declared.Kind.TheVariants.{Fixed}
 use Rattle.w16_loading.specs.Effects.{BuiltInLaw, FindLaw, FreeLaw, NamedLaw, SizeofLaw}
-use Rattle.w16_loading.proofs.Given.{no_place, place_member}
-use Rattle.w16_loading.proofs.Importers.{named_there}
-use Rattle.w16_loading.proofs.ModuleWorlds.{not_named}
-use Rattle.w16_loading.proofs.ShrunkWorlds.{value_gone}
+use Rattle.w16_model.specs.declared.Kind.TheVariants.{Fixed}
+use Rattle.std.specs.FinMap as finmap
 
 -- Names.
 
 -- 0 names nothing
-never_0 : (world : LoadingWorld) → IsLoadingWorld world → (n : Named) → finmap.get world.modules 0 ≡ Some n → ⊥
+never_0 : (world : LoadingWorld) → C.IsLoadingWorld world → (n : Named) → finmap.get world.modules 0 ≡ Some n → ⊥
 never_0 world is n there = turn (finmap.get world.modules 0) there (is.numbers 0)
   where
-    turn : (p : Option Named) → p ≡ Some n → IfSome p (λ _. (33 ≤ 0) × (0 < 33 + 200)) → ⊥
+    turn : (p : Option Named) → p ≡ Some n → C.IfSome p (λ _. (33 ≤ 0) × (0 < 33 + 200)) → ⊥
     turn None e h = cc
     turn (Some m) e h = omega (arith, h.0)
 
@@ -44,21 +41,21 @@ built_in_law honest format old new name answer step some =
     (turn step.step.0 (λ none. some (sym says ∙ none)) (handle_named old.modules name) refl step.step.2)
   where
     is_own : is_named name name ≡ true
-    is_own = (is_named-Decides name name).1 refl
+    is_own = (C.is_named-Decides name name).1 refl
 
-    there : (a : ℕ) → a ≢ 0 → (handle : ℕ) (n : Named) → finmap.get old.modules handle ≡ Some n → is_named (name_of n) name ≡ true → (p : Option Named) → finmap.get old.modules handle ≡ p → a ≡ built_in p handle → new.modules ≡ old.modules
+    there : (a : ℕ) → a ≢ 0 → (handle : ℕ) (n : Named) → finmap.get old.modules handle ≡ Some n → is_named (name_of n) name ≡ true → (p : Option Named) → finmap.get old.modules handle ≡ p → a ≡ C.built_in p handle → new.modules ≡ old.modules
         → (own : List ℕ) × (finmap.get new.modules a ≡ Some (BuiltIn own)) × (is_named own name ≡ true)
     there a some handle n at named None e says same = absurd (some says)
-    there a some handle n at named (Some (Loaded m)) e says same = absurd (some says)
+    there a some handle n at named (Some (C.Loaded m)) e says same = absurd (some says)
     there a some handle n at named (Some (BuiltIn own)) e says same =
         let is : n ≡ BuiltIn own = (let f = sym at ∙ e in cc) in
-        (own, ap (λ (ms : Modules). finmap.get ms a) same ∙ ap (finmap.get old.modules) says ∙ e, subst (λ (m : Named). is_named (name_of m) name ≡ true) is named)
+        (own, ap (λ (ms : C.Modules). finmap.get ms a) same ∙ ap (finmap.get old.modules) says ∙ e, subst (λ (m : Named). is_named (name_of m) name ≡ true) is named)
 
     turn : (a : ℕ) → a ≢ 0 → (p : Option ℕ) → handle_named old.modules name ≡ p
-        → MatchOption p (AddsBuiltIn old name a (record new { failures = old.failures })) (λ handle. (a ≡ built_in (finmap.get old.modules handle) handle) × (record new { failures = old.failures } ≡ old))
+        → C.MatchOption p (C.AddsBuiltIn old name a (record new { failures = old.failures })) (λ handle. (a ≡ C.built_in (finmap.get old.modules handle) handle) × (record new { failures = old.failures } ≡ old))
         → (own : List ℕ) × (finmap.get new.modules a ≡ Some (BuiltIn own)) × (is_named own name ≡ true)
     turn a some None e (inl full) = absurd (some full.1)
-    turn a some None e (inr added) = (name, ap (λ (w : LoadingWorld). finmap.get w.modules a) added.1 ∙ inserted_here old.modules a (BuiltIn name) a refl, is_own)
+    turn a some None e (inr added) = (name, ap (λ (w : LoadingWorld). finmap.get w.modules a) added.1 ∙ C.inserted_here old.modules a (BuiltIn name) a refl, is_own)
     turn a some (Some handle) e gives =
         let h = named_there old.modules name handle e in
         there a some handle h.0 h.1 h.2 (finmap.get old.modules handle) refl gives.0 (ap (λ (w : LoadingWorld). w.modules) gives.1)
@@ -81,32 +78,32 @@ find_law honest format old new handle answer name kind m there step = turn (posi
     turn None e says = let none : answer ≡ 0 = cc in ((λ some. absurd (some none)), λ _ i r at. no_place fits m.tables.resources e r (place_member m.tables.resources i r at))
     turn (Some i) e says =
         let is : answer ≡ i + 1 = cc in
-        let h = position-Some fits m.tables.resources i any e in
-        let parts : IsTrue (is_label (get_or m.tables.resources i any).label name) × IsTrue (is_label (get_or m.tables.resources i any).kind_of kind) = and_parts _ _ h.1 in
+        let h = C.position-Some fits m.tables.resources i any e in
+        let parts : C.IsTrue (is_label (get_or m.tables.resources i any).label name) × C.IsTrue (is_label (get_or m.tables.resources i any).kind_of kind) = C.and_parts _ _ h.1 in
         let less : answer - 1 ≡ i = omega (arith, is) in (
-          λ _. (get_or m.tables.resources i any, ap (slice_get m.tables.resources) less ∙ slice_get-get_or m.tables.resources i any h.0, parts.0, parts.1),
+          λ _. (get_or m.tables.resources i any, ap (slice_get m.tables.resources) less ∙ C.slice_get-get_or m.tables.resources i any h.0, parts.0, parts.1),
           λ none. absurd (omega (arith, is, none)),
         )
 
 pub sizeof_law : (honest : Type 0) → SizeofLaw honest
 sizeof_law honest format old new handle place answer m r there some at step =
-    let numbered_is : numbered m.tables.resources place ≡ Some r = ap (λ b. cond {A = Option Resource} b None (slice_get m.tables.resources (place - 1))) (ne_eqb place 0 (λ e. absurd (omega (arith, e, some)))) ∙ at in
-    let says : answer ≡ unwrap_or (option_map {T = Resource} {U = ℕ} (λ r. r.length_in) (elim (module_at old.modules handle) [ None ↦ None | Some n ↦ numbered n.tables.resources place ])) 0 = (let e = step.step.0 in cc) in
+    let numbered_is : numbered m.tables.resources place ≡ Some r = ap (λ b. cond {A = Option Resource} b None (slice_get m.tables.resources (place - 1))) (C.ne_eqb place 0 (λ e. absurd (omega (arith, e, some)))) ∙ at in
+    let says : answer ≡ unwrap_or (option_map {T = Resource} {U = ℕ} (λ r. r.length_in) (elim (C.module_at old.modules handle) [ None ↦ None | Some n ↦ numbered n.tables.resources place ])) 0 = (let e = step.step.0 in cc) in
     says ∙ ap (λ p. unwrap_or (option_map {T = Resource} {U = ℕ} (λ r. r.length_in) (elim p as (λ _. Option Resource) [ None ↦ None | Some n ↦ numbered n.tables.resources place ])) 0) there
     ∙ ap (λ p. unwrap_or (option_map {T = Resource} {U = ℕ} (λ r. r.length_in) p) 0) numbered_is
 
-module _ (old : LoadingWorld) (handle slot : ℕ) (load : Load) (found : slot_of_handle old.handles handle ≡ Some slot) (there : finmap.get old.loads slot ≡ Some load) where
+module _ (old : LoadingWorld) (handle slot : ℕ) (load : Load) (found : C.slot_of_handle old.handles handle ≡ Some slot) (there : finmap.get old.loads slot ≡ Some load) where
   abbrev one_less : LoadingWorld
   one_less = record old { loads = finmap.insert old.loads slot (record load { loads = load.loads - 1 }) }
 
   abbrev gone : LoadingWorld
-  gone = let left = without_objects (λ q. q == slot) old in record left { loads = finmap.remove left.loads slot }
+  gone = let left = C.without_objects (λ q. q == slot) old in record left { loads = finmap.remove left.loads slot }
 
   freed : free_resource old handle ≡ (if nat_lt 1 load.loads then (0, one_less) else (if nat_lt 0 (locks_at old.handles.heap slot) then (1, old) else (0, gone)))
   freed = ap (λ p. elim p as (λ _. ℕ × LoadingWorld) [
     | None ↦ (1, old)
     | Some x ↦ if nat_lt 1 x.1.loads then (0, record old { loads = finmap.insert old.loads x.0 (record x.1 { loads = x.1.loads - 1 }) })
-        else (if nat_lt 0 (locks_at old.handles.heap x.0) then (1, old) else (0, (let left = without_objects (λ q. q == x.0) old in record left { loads = finmap.remove left.loads x.0 })))
+        else (if nat_lt 0 (locks_at old.handles.heap x.0) then (1, old) else (0, (let left = C.without_objects (λ q. q == x.0) old in record left { loads = finmap.remove left.loads x.0 })))
   ]) (ap (λ p. elim p as (λ _. Option (ℕ × Load)) [ None ↦ None | Some s ↦ option_map {T = Load} {U = ℕ × Load} (λ l. (s, l)) (finmap.get old.loads s) ]) found ∙ ap (option_map {T = Load} {U = ℕ × Load} (λ l. (slot, l))) there)
 
 pub free_law : (honest : Type 0) → FreeLaw honest
@@ -117,7 +114,7 @@ free_law honest format old new handle slot answer load found there step = (
         says ∙ ap (λ p. p.0) is,
         ap (λ (w : LoadingWorld). w.handles) all,
         ap (λ (w : LoadingWorld). w.modules) all,
-        ap (λ (w : LoadingWorld). finmap.get w.loads slot) all ∙ inserted_here old.loads slot (record load { loads = load.loads - 1 }) slot refl,
+        ap (λ (w : LoadingWorld). finmap.get w.loads slot) all ∙ C.inserted_here old.loads slot (record load { loads = load.loads - 1 }) slot refl,
       ),
   λ last locked.
       let is = last_is last ∙ ap (λ b. cond {A = ℕ × LoadingWorld} b (1, old) (0, gone old handle slot load found there)) (lt-ltb 0 (locks_at old.handles.heap slot) locked) in
@@ -127,8 +124,8 @@ free_law honest format old new handle slot answer load found there step = (
       let is = last_is last ∙ ap (λ b. cond {A = ℕ × LoadingWorld} b (1, old) (0, gone old handle slot load found there)) (le-ltb 0 (locks_at old.handles.heap slot) (omega (arith, loose))) in
       let all = step.step.1 ∙ ap (λ p. p.1) is in (
         says ∙ ap (λ p. p.0) is,
-        ap (λ (w : LoadingWorld). object_at w.handles.heap slot) all ∙ value_gone old.handles.heap.objects (λ q. q == slot) slot (eq-eqb slot slot refl),
-        ap (λ (w : LoadingWorld). finmap.get w.loads slot) all ∙ taken_here old.loads slot slot refl,
+        ap (λ (w : LoadingWorld). C.object_at w.handles.heap slot) all ∙ value_gone old.handles.heap.objects (λ q. q == slot) slot (C.eq-eqb slot slot refl),
+        ap (λ (w : LoadingWorld). finmap.get w.loads slot) all ∙ C.taken_here old.loads slot slot refl,
         ap (λ (w : LoadingWorld). w.modules) all,
       ),
 )

@@ -1,15 +1,16 @@
 -- Closures of small files, worked out.
+use Rattle.w16_loading.proofs
+use proofs.Common as C
 use base.Stored.Gv.{gnil}
-use Rattle.w16_loading.proofs.Common.{◌≡◌, ℕ, zero, suc, Bool, true, false, List, [], ◌∷◌, codes, Some, None, Result, Ok, Err, if◌then◌else◌, slice_index, replicate, ◌==◌, refl, Saying, ModuleFile, is_named, file_of, Moveable}
-use Rattle.w16_loading.proofs.Common.{LoadingWorld, Module, usage_with, importers_among, Loaded, BuiltIn, Choice, Given, unbound, used_again, after_use, Says, Found, Around, Closure, reading, begun, after, There, New, Refused}
-use Rattle.w16_loading.proofs.Common.{Meant}
+use proofs.Common.{◌≡◌, ℕ, zero, suc, Bool, true, false, List, [], ◌∷◌, codes, Some, None, Ok, Err, if◌then◌else◌, slice_index, ◌==◌, refl, Saying, ModuleFile, is_named, file_of, LoadingWorld, usage_with, Loaded, Given, used_again, Says, Found, reading, begun, after, There, New, Refused}
+use proofs.Common.{Meant}
 
 -- a file without segments
 abbrev plain : List ℕ → Bool → List (List ℕ) → ModuleFile
 plain name library references = record { tables = record { name = name; is_library = library; segments = []; references = references; entries = []; names = []; resources = []; layout = gnil }; segments = [] }
 
 -- A imports B and C; B imports A; the file of C has the module X, which imports b and D; there is no D
-abbrev by_number : ℕ → Result ModuleFile ℕ
+abbrev by_number : ℕ → C.Result ModuleFile ℕ
 by_number (suc zero) = Ok (plain (codes "A") false (codes "B" ∷ codes "C" ∷ []))
 by_number (suc (suc zero)) = Ok (plain (codes "B") true (codes "A" ∷ []))
 by_number (suc (suc (suc zero))) = Ok (plain (codes "X") true (codes "b" ∷ []))
@@ -22,7 +23,7 @@ toy bytes = by_number (slice_index bytes 0)
 abbrev files : List (List ℕ × List ℕ)
 files = (codes "A.EXE", 1 ∷ []) ∷ (codes "b.dll", 2 ∷ []) ∷ (codes "C.DLL", 3 ∷ []) ∷ (codes "E.DLL", 4 ∷ []) ∷ []
 
-abbrev with_free : ℕ → Around
+abbrev with_free : ℕ → C.Around
 with_free free = record { named = λ _. None; file = file_of files; free = free }
 
 abbrev a : ModuleFile
@@ -71,7 +72,7 @@ unfolding is_named file_of
 built_in = refl
 
 -- nothing is there, and these files are
-abbrev over : List (List ℕ × List ℕ) → Around
+abbrev over : List (List ℕ × List ℕ) → C.Around
 over all = record { named = λ _. None; file = file_of all; free = 200 }
 
 -- two libraries that import each other are found once each
@@ -119,8 +120,8 @@ refused_by_format n = refl
 -- 11, where a segment's relocations aren't sound, also with no free handle
 abbrev unsound : ModuleFile
 unsound = record {
-  tables = record { name = codes "U"; is_library = true; segments = record { kind = Moveable; is_code = false; is_preload = false; size = 32 } ∷ []; references = []; entries = []; names = []; resources = []; layout = gnil };
-  segments = record { targets = None; image = λ values. replicate 32 0 } ∷ [];
+  tables = record { name = codes "U"; is_library = true; segments = record { kind = C.Moveable; is_code = false; is_preload = false; size = 32 } ∷ []; references = []; entries = []; names = []; resources = []; layout = gnil };
+  segments = record { targets = None; image = λ values. C.replicate 32 0 } ∷ [];
 }
 
 refused_unsound : reading (λ bytes. Ok unsound) (record { named = λ _. None; file = λ _. Some []; free = 0 }) [] (codes "U.DLL") ≡ Refused 11
@@ -132,30 +133,30 @@ meant_unsound : reading (λ bytes. Ok unsound) (record { named = λ _. Some 40; 
 meant_unsound = refl
 
 -- 16 for an application that LoadModule loads again, also where its uses are full, and one use more by LoadLibrary; 0 where uses are full
-abbrev application : ℕ → Module
+abbrev application : ℕ → C.Module
 application uses = record { file = codes "A.EXE"; tables = a.tables; uses = uses; slots = []; values = []; imports = [] }
 
 twice : (old : LoadingWorld) → used_again true old 33 (Some (Loaded (application 65000))) ≡ (Says 16, old)
 twice old = refl
 
-as_library : (old : LoadingWorld) → used_again false old 33 (Some (Loaded (application 1))) ≡ (Says 33, after_use old 33 (application 1))
+as_library : (old : LoadingWorld) → used_again false old 33 (Some (Loaded (application 1))) ≡ (Says 33, C.after_use old 33 (application 1))
 as_library old = refl
 
 full : (old : LoadingWorld) → used_again false old 33 (Some (Loaded (application 65000))) ≡ (Says 0, old)
 full old = refl
 
 -- a built-in is never full
-never_full : (old : LoadingWorld) → used_again true old 33 (Some (BuiltIn (codes "KERNEL"))) ≡ (Says 33, old)
+never_full : (old : LoadingWorld) → used_again true old 33 (Some (C.BuiltIn (codes "KERNEL"))) ≡ (Says 33, old)
 never_full old = refl
 
 -- Uses: the module asked for begins with one, the others with none; importers count beside them, and a built-in has importers alone.
 abbrev new_module : ℕ → Given
 new_module place = record { place = place; found = found_as (codes "L.DLL") (codes "L") []; handle = 33; slots = [] }
 
-asked_for : (closure : Closure) (choice : Choice) → (unbound closure choice (new_module 0)).uses ≡ 1
+asked_for : (closure : C.Closure) (choice : C.Choice) → (C.unbound closure choice (new_module 0)).uses ≡ 1
 asked_for closure choice = refl
 
-brought_in : (closure : Closure) (choice : Choice) → (unbound closure choice (new_module 1)).uses ≡ 0
+brought_in : (closure : C.Closure) (choice : C.Choice) → (C.unbound closure choice (new_module 1)).uses ≡ 0
 brought_in closure choice = refl
 
 used_by_two : usage_with (Some (Loaded (application 0))) 2 ≡ 2
@@ -164,13 +165,13 @@ used_by_two = refl
 used_by_both : usage_with (Some (Loaded (application 3))) 2 ≡ 5
 used_by_both = refl
 
-used_built_in : usage_with (Some (BuiltIn (codes "KERNEL"))) 2 ≡ 2
+used_built_in : usage_with (Some (C.BuiltIn (codes "KERNEL"))) 2 ≡ 2
 used_built_in = refl
 
 -- a module doesn't import itself: the references of one that names itself mean it, and it isn't its importer
-own : importers_among ((33, Loaded (record (application 1) { imports = 33 ∷ [] })) ∷ []) 33 ≡ 0
+own : C.importers_among ((33, Loaded (record (application 1) { imports = 33 ∷ [] })) ∷ []) 33 ≡ 0
 own = refl
 
 -- and one that names another twice is one importer
-twice_named : importers_among ((33, Loaded (record (application 1) { imports = 34 ∷ 34 ∷ [] })) ∷ (34, Loaded (application 0)) ∷ []) 34 ≡ 1
+twice_named : C.importers_among ((33, Loaded (record (application 1) { imports = 34 ∷ 34 ∷ [] })) ∷ (34, Loaded (application 0)) ∷ []) 34 ≡ 1
 twice_named = refl

@@ -1,23 +1,23 @@
 -- The requests of loads and fetches discard as few as they can, since each is an allocation whose new bytes are given.
-use Rattle.w16_loading.proofs.Common.{◌≡◌, ℕ, Bool, false, List, length, Option, Some, None, refl, sym, ap, ◌∙◌, subst, false≢true, Heap, Object, IsHeap, with_newest, Request, IsNew, Allocates, discards_needed}
-use Rattle.w16_loading.proofs.Common.{AllocatesFewest, revival_options, allocation_law, Fills, asked_of}
+use Rattle.w16_loading.proofs.Common as C
+use Rattle.w16_loading.proofs.Common.{◌≡◌, ℕ, Bool, false, List, length, Some, None, refl, sym, ap, ◌∙◌, subst, false≢true, Heap, IsNew, revival_options, Fills}
 
 -- what is filled is allocated
-pub fill_allocates : (old : Heap) (slot : ℕ) (bytes : List ℕ) (answered : Bool) (new : Heap) → (f : Fills old slot bytes answered new) → Allocates old slot (length bytes) f.before.kind f.before.locks revival_options answered new
+pub fill_allocates : (old : Heap) (slot : ℕ) (bytes : List ℕ) (answered : Bool) (new : Heap) → (f : Fills old slot bytes answered new) → C.Allocates old slot (length bytes) f.before.kind f.before.locks revival_options answered new
 fill_allocates old slot bytes answered new f = record {
   some = f.some;
   rounded = f.rounded;
-  without_bytes = ap (λ (p : Option Object). elim p [ Some o ↦ o.bytes | None ↦ None ]) f.there ∙ f.absent;
-  request = turn (discards_needed old (length bytes) (Some slot) revival_options) f.request;
+  without_bytes = ap (λ (p : C.Option C.Object). elim p [ Some o ↦ o.bytes | None ↦ None ]) f.there ∙ f.absent;
+  request = turn (C.discards_needed old (length bytes) (Some slot) revival_options) f.request;
 }
   where
-    is_new : (o : Object) → o ≡ record f.before { bytes = Some bytes } → IsNew false (length bytes) f.before.kind f.before.locks o
+    is_new : (o : C.Object) → o ≡ record f.before { bytes = Some bytes } → IsNew false (length bytes) f.before.kind f.before.locks o
     is_new o e = subst (IsNew false (length bytes) f.before.kind f.before.locks) (sym e) (record { same_kind = refl; same_locks = refl; new_bytes = (refl, f.are_bytes, λ z. absurd (false≢true z)) })
 
-    turn : (p : Option ℕ) → Request old slot (record (asked_of old slot f.before bytes) { prefix = p }) answered new
-        → Request old slot (record { options = revival_options; prefix = p; becomes = IsNew revival_options.zero (length bytes) f.before.kind f.before.locks; order = with_newest slot }) answered new
+    turn : (p : C.Option ℕ) → C.Request old slot (record (C.asked_of old slot f.before bytes) { prefix = p }) answered new
+        → C.Request old slot (record { options = revival_options; prefix = p; becomes = IsNew revival_options.zero (length bytes) f.before.kind f.before.locks; order = C.with_newest slot }) answered new
     turn None r = r
     turn (Some k) r = (r.0, (r.1.0, is_new r.1.0 r.1.1, r.1.2))
 
-pub fill_fewest : (old : Heap) (slot : ℕ) (bytes : List ℕ) (answered : Bool) (new : Heap) → IsHeap old → Fills old slot bytes answered new → AllocatesFewest old slot (length bytes) revival_options answered new
-fill_fewest old slot bytes answered new is f = allocation_law old new slot (length bytes) f.before.kind f.before.locks revival_options answered is (fill_allocates old slot bytes answered new f)
+pub fill_fewest : (old : Heap) (slot : ℕ) (bytes : List ℕ) (answered : Bool) (new : Heap) → C.IsHeap old → Fills old slot bytes answered new → C.AllocatesFewest old slot (length bytes) revival_options answered new
+fill_fewest old slot bytes answered new is f = C.allocation_law old new slot (length bytes) f.before.kind f.before.locks revival_options answered is (fill_allocates old slot bytes answered new f)

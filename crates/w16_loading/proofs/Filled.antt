@@ -1,34 +1,35 @@
 -- An allocation, and a write of all its bytes.
-use Rattle.w16_loading.proofs.Common.{◌≡◌, ℕ, inl, inr, Bool, true, false, cond, ◌<◌, IsSomeAnd, List, ◌++◌, length, All, Option, Some, None, option_map, refl, sym, ap, ◌∙◌, subst, arith, nat_cmp_total}
-use Rattle.w16_loading.proofs.Common.{nat_cmp, FinMap, same_map, nat_cmp-IsAntisymmetric, false≢true, cases_eq, append-nil, drop_all, Heap, Object, update, with_newest, with_ordered, Request, IsNew}
-use Rattle.w16_loading.proofs.Common.{AreNew, Settles, discarded, stays_for, discards_needed, put_part, after_write, revival_options, inserted_here, inserted_other, written_heap, Fills, FillLaw}
+use Rattle.w16_loading.proofs
+use proofs.Common as C
+use proofs.Common.{◌≡◌, ℕ, inl, inr, Bool, true, false, cond, ◌<◌, List, ◌++◌, length, All, Option, Some, None, refl, sym, ap, ◌∙◌, subst, arith, nat_cmp, FinMap, false≢true, Heap, Object, with_newest, Request, IsNew, discarded, discards_needed, put_part, after_write, revival_options}
+use proofs.Common.{inserted_here, inserted_other, Fills}
 use Rattle.std.specs.FinMap as finmap
 
 -- the last object put under an id counts
 put_twice : (m : FinMap nat_cmp Object) (id : ℕ) (a b : Object) → finmap.insert (finmap.insert m id a) id b ≡ finmap.insert m id b
-put_twice m id a b = same_map nat_cmp_total nat_cmp-IsAntisymmetric (finmap.insert (finmap.insert m id a) id b) (finmap.insert m id b) (λ q. elim (cases_eq q id) [
+put_twice m id a b = C.same_map C.nat_cmp_total C.nat_cmp-IsAntisymmetric (finmap.insert (finmap.insert m id a) id b) (finmap.insert m id b) (λ q. elim (C.cases_eq q id) [
   | inl e ↦ inserted_here (finmap.insert m id a) id b q e ∙ sym (inserted_here m id b q e)
   | inr d ↦ inserted_other (finmap.insert m id a) id b q d ∙ inserted_other m id a q d ∙ sym (inserted_other m id b q d)
 ])
 
 -- an object that was put and then changed
-put_changed : (m : FinMap nat_cmp Object) (id : ℕ) (a : Object) (f : Object → Object) → update (finmap.insert m id a) id f ≡ finmap.insert m id (f a)
+put_changed : (m : FinMap nat_cmp Object) (id : ℕ) (a : Object) (f : Object → Object) → C.update (finmap.insert m id a) id f ≡ finmap.insert m id (f a)
 put_changed m id a f =
     (λ i. elim (inserted_here m id a id refl i) [ Some p ↦ finmap.insert (finmap.insert m id a) id (f p) | None ↦ finmap.insert m id a ]) ∙ put_twice m id a (f a)
 
 -- all bytes replaced
 all_replaced : (b bytes : List ℕ) → length b ≡ length bytes → put_part b 0 bytes ≡ bytes
-all_replaced b bytes e = ap (λ rest. bytes ++ rest) (drop_all (length bytes) b (omega (arith, e))) ∙ append-nil bytes
+all_replaced b bytes e = ap (λ rest. bytes ++ rest) (C.drop_all (length bytes) b (omega (arith, e))) ∙ C.append-nil bytes
 
 module _ (old : Heap) (slot : ℕ) (o : Object) (bytes : List ℕ) (ours : All (λ b. b < 256) bytes) where
   abbrev with_bytes : List ℕ → Object
   with_bytes b = record o { bytes = Some b }
 
   abbrev put : ℕ → Object → Heap
-  put k x = with_ordered (discarded old k (Some slot)) slot x (with_newest slot x)
+  put k x = C.with_ordered (discarded old k (Some slot)) slot x (with_newest slot x)
 
   abbrev Good : ℕ → Object → Heap → Type 0
-  Good k x new = Settles old (stays_for slot revival_options) (put k x) new
+  Good k x new = C.Settles old (C.stays_for slot revival_options) (put k x) new
 
   -- what is written into the heap in which the object has other bytes
   abbrev standing : ℕ → List ℕ → FinMap nat_cmp ℕ → Heap
@@ -37,20 +38,20 @@ module _ (old : Heap) (slot : ℕ) (o : Object) (bytes : List ℕ) (ours : All (
   written : (k : ℕ) (b : List ℕ) (places : FinMap nat_cmp ℕ) → length b ≡ length bytes → Good k (with_bytes b) (standing k b places) → Good k (with_bytes bytes) (after_write (standing k b places) slot 0 bytes)
   written k b places e s = record {
     same = λ i. record (put k (with_bytes bytes)) { places = places; objects = objects i };
-    sound = written_heap (standing k b places) s.sound slot (with_bytes b) (inserted_here (discarded old k (Some slot)).objects slot (with_bytes b) slot refl) b refl 0 bytes (omega (arith, e)) ours;
+    sound = C.written_heap (standing k b places) s.sound slot (with_bytes b) (inserted_here (discarded old k (Some slot)).objects slot (with_bytes b) slot refl) b refl 0 bytes (omega (arith, e)) ours;
     kept = s.kept;
   }
     where
-      objects : update (finmap.insert (discarded old k (Some slot)).objects slot (with_bytes b)) slot (λ x. record x { bytes = option_map (λ c. put_part c 0 bytes) x.bytes })
+      objects : C.update (finmap.insert (discarded old k (Some slot)).objects slot (with_bytes b)) slot (λ x. record x { bytes = C.option_map (λ c. put_part c 0 bytes) x.bytes })
           ≡ finmap.insert (discarded old k (Some slot)).objects slot (with_bytes bytes)
-      objects = put_changed (discarded old k (Some slot)).objects slot (with_bytes b) (λ x. record x { bytes = option_map (λ c. put_part c 0 bytes) x.bytes })
+      objects = put_changed (discarded old k (Some slot)).objects slot (with_bytes b) (λ x. record x { bytes = C.option_map (λ c. put_part c 0 bytes) x.bytes })
           ∙ ap (λ c. finmap.insert (discarded old k (Some slot)).objects slot (with_bytes c)) (all_replaced b bytes e)
 
   -- a new object of the right kind has some bytes
   some_bytes : (x : Object) → IsNew false (length bytes) o.kind o.locks x → (b : List ℕ) × (length b ≡ length bytes) × (x ≡ with_bytes b)
   some_bytes x is = from x.bytes refl is.new_bytes
     where
-      from : (p : Option (List ℕ)) → x.bytes ≡ p → IsSomeAnd p (AreNew false (length bytes)) → (b : List ℕ) × (length b ≡ length bytes) × (x ≡ with_bytes b)
+      from : (p : Option (List ℕ)) → x.bytes ≡ p → C.IsSomeAnd p (C.AreNew false (length bytes)) → (b : List ℕ) × (length b ≡ length bytes) × (x ≡ with_bytes b)
       from None e new = absurd new
       from (Some b) e new = (b, new.0, λ i. record { kind = is.same_kind i; locks = is.same_locks i; bytes = e i })
 
@@ -70,7 +71,7 @@ module _ (old : Heap) (slot : ℕ) (o : Object) (bytes : List ℕ) (ours : All (
   request next (Some k) false r = absurd (false≢true r.0)
   request next (Some k) true r = (refl, (with_bytes bytes, refl, written_any k r.1.0 next r.1.1 r.1.2))
 
-pub fill_law : FillLaw
+pub fill_law : C.FillLaw
 fill_law old next slot o bytes answered there absent ours a = turn answered a.request
   where
     turn : (t : Bool) → Request old slot (record { options = revival_options; prefix = discards_needed old (length bytes) (Some slot) revival_options; becomes = IsNew false (length bytes) o.kind o.locks; order = with_newest slot }) t next

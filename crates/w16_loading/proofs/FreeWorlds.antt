@@ -1,23 +1,21 @@
 -- Uses that end keep what holds of every world.
-use Rattle.w16_loading.proofs.Common.{◌≡◌, ◌≢◌, ℕ, zero, suc, ◌+◌, ◌-◌, ◌<◌, ◌≤◌, inl, inr, ◌⊎◌, Bool, true, false, not, List, [], ◌∷◌, Option, Some, None, IfSome, is_some, slice_get, refl, sym, ap, ◌∙◌, subst, arith, nat_cmp, FinMap, false≢true}
-use Rattle.w16_loading.proofs.Common.{cases_Bool, cases_eq, Kind, Owned, is_member, AreHandles, owned_at, Member, is_member-true, true-is_member, inserted_here, inserted_other, taken_here, taken_other, is_named, MOST_USES, LoadingWorld, Load, Module}
-use Rattle.w16_loading.proofs.Common.{Modules, Named, IsSegmentOf, IsResourceOf, name_of, module_at, module_in, importers, usage, usage_with, is_idle, Loaded, Go, Frees, used_less, without_module, is_left_over, without_orphans, IsLoadingWorld, IsObjectOf}
+use Rattle.w16_loading.proofs
+use proofs.Common as C
+use proofs.Common.{◌≡◌, ◌≢◌, ℕ, zero, suc, ◌+◌, ◌-◌, ◌<◌, ◌≤◌, inl, inr, ◌⊎◌, Bool, true, false, not, List, [], ◌∷◌, Option, Some, None, IfSome, is_some, slice_get, refl, sym, ap, ◌∙◌, subst, arith, nat_cmp, FinMap, false≢true, cases_eq, Kind, Owned, owned_at, Member, inserted_here}
+use proofs.Common.{inserted_other, MOST_USES, LoadingWorld, Load, Module, Named, IsSegmentOf, name_of, module_at, module_in, importers, usage, is_idle, Loaded, Go, Frees, used_less, IsLoadingWorld, IsObjectOf}
+use proofs.Given.{loaded_is, member_place, place_member}
+use proofs.Importers.{Idle, idle_parts, is_then_idle, of_importer}
+use proofs.Worlds.{SameModule, same_module, IsNumber, HasOwner, is_used, is_load, follows}
+use proofs.ShrunkWorlds.{stays_of, owner_left, value_left, value_gone, released_handles}
+use proofs.{Bound.world_used_less, Cascade.gone_with, Cascade.went, Owners.loaded_of}
 use Rattle.std.specs.FinMap as finmap
-use Rattle.w16_loading.proofs.Given.{loaded_is}
-use Rattle.w16_loading.proofs.Bound.{world_used_less}
-use Rattle.w16_loading.proofs.Importers.{Idle, idle_parts, is_then_idle, of_importer}
-use Rattle.w16_loading.proofs.Cascade.{gone_with, went}
-use Rattle.w16_loading.proofs.Given.{member_place, place_member}
-use Rattle.w16_loading.proofs.Owners.{loaded_of}
-use Rattle.w16_loading.proofs.Worlds.{SameModule, same_module, IsNumber, HasOwner, is_used, is_load, follows}
-use Rattle.w16_loading.proofs.ShrunkWorlds.{stays_of, owner_left, value_left, value_gone, released_handles}
 
 no_value : {X A : Type 0} (p : Option X) (x : X) → p ≡ None → p ≡ Some x → A
 no_value p x e f = let h : ◌≡◌ {A = Option _} None (Some x) = sym e ∙ f in cc
 
 -- What is left on the way: modules are as they were but for their uses, and their objects and those of resources are as they were.
 pub record Leaves (old now : LoadingWorld) : Type 0 where
-  pub handles : AreHandles now.handles
+  pub handles : C.AreHandles now.handles
   pub loads : now.loads ≡ old.loads
   pub named : (a : ℕ) (n : Named) → finmap.get now.modules a ≡ Some n → (was : Named) × (finmap.get old.modules a ≡ Some was) × (name_of n ≡ name_of was)
   pub sources : (a : ℕ) (m : Module) → module_at now.modules a ≡ Some m → (was : Module) × (module_at old.modules a ≡ Some was) × SameModule m was × (m.uses ≤ was.uses)
@@ -27,7 +25,7 @@ pub record Leaves (old now : LoadingWorld) : Type 0 where
 
 -- One use less.
 module _ (old : LoadingWorld) (is : IsLoadingWorld old) where
-  owned_by : (modules : Modules) → ((a : ℕ) (m : Module) → module_at old.modules a ≡ Some m → (n : Module) × (module_at modules a ≡ Some n) × SameModule n m)
+  owned_by : (modules : C.Modules) → ((a : ℕ) (m : Module) → module_at old.modules a ≡ Some m → (n : Module) × (module_at modules a ≡ Some n) × SameModule n m)
       → (q : ℕ) → is_some (owned_at old.handles q) ≡ true → ((a number : ℕ) × (m : Module) × IsSegmentOf (record old { modules = modules }) q a number m) ⊎ ((load : Load) × (finmap.get old.loads q ≡ Some load))
   owned_by modules stays q some = turn (owned_at old.handles q) some (is.owners q)
     where
@@ -53,7 +51,7 @@ module _ (old : LoadingWorld) (is : IsLoadingWorld old) where
     abbrev less : Module
     less = record m { uses = m.uses - 1 }
 
-    abbrev fewer : Modules
+    abbrev fewer : C.Modules
     fewer = finmap.insert old.modules handle (Loaded less)
 
     less_uses : Leaves old (record old { modules = fewer })
@@ -113,26 +111,26 @@ module _ (old : LoadingWorld) (is : IsLoadingWorld old) where
   no_load : {A : Type 0} (now : LoadingWorld) → Leaves old now → (a : ℕ) (m : Module) (q : ℕ) (load : Load) → module_at now.modules a ≡ Some m → Member q m.slots → finmap.get old.loads q ≡ Some load → A
   no_load now l a m q load e k at =
       let x : (was : Module) × (i : ℕ) × IsSegmentOf old q a (i + 1) was = was_segment now l a m q e k in
-      let r : (n : Module) × IsResourceOf old q load.handle load.place n = loaded_of old is q load at in
+      let r : (n : Module) × C.IsResourceOf old q load.handle load.place n = loaded_of old is q load at in
       absurd (is.no_resource q a (x.1 + 1) load.handle load.place x.0 r.0 x.2 r.1)
 
   -- One module more goes.
   module _ (now : LoadingWorld) (l : Leaves old now) (handle : ℕ) (m : Module) (there : finmap.get now.modules handle ≡ Some (Loaded m)) where
     abbrev mine : ℕ → Bool
-    mine q = is_member q m.slots
+    mine q = C.is_member q m.slots
 
     -- a module that is left is another
     still_there : (a : ℕ) (n : Named) → finmap.get (finmap.remove now.modules handle) a ≡ Some n → (a ≢ handle) × (finmap.get now.modules a ≡ Some n)
     still_there a n e = elim (cases_eq a handle) [
-      | inl same ↦ no_value (finmap.get (finmap.remove now.modules handle) a) n (taken_here now.modules handle a same) e
-      | inr other ↦ (other, sym (taken_other now.modules handle a other) ∙ e)
+      | inl same ↦ no_value (finmap.get (finmap.remove now.modules handle) a) n (C.taken_here now.modules handle a same) e
+      | inr other ↦ (other, sym (C.taken_other now.modules handle a other) ∙ e)
     ]
 
     still_loaded : (a : ℕ) (n : Module) → module_at (finmap.remove now.modules handle) a ≡ Some n → (a ≢ handle) × (module_at now.modules a ≡ Some n)
     still_loaded a n e = let r : (a ≢ handle) × (finmap.get now.modules a ≡ Some (Loaded n)) = still_there a (Loaded n) (loaded_is (finmap.get (finmap.remove now.modules handle) a) n e) in (r.0, ap module_in r.1)
 
     not_mine : (q : ℕ) → (Member q m.slots → ⊥) → mine q ≡ false
-    not_mine q out = elim (cases_Bool (mine q)) [ inl t ↦ absurd (out (is_member-true q m.slots t)) | inr t ↦ t ]
+    not_mine q out = elim (C.cases_Bool (mine q)) [ inl t ↦ absurd (out (C.is_member-true q m.slots t)) | inr t ↦ t ]
 
     one_less : Leaves old (gone_with now handle m)
     one_less = record {
@@ -150,8 +148,8 @@ module _ (old : LoadingWorld) (is : IsLoadingWorld old) where
           s.2,
           record {
             loaded = ap module_in
-                (taken_other now.modules handle s.0 (λ same. false≢true
-                (sym left.0 ∙ true-is_member q m.slots (its q s.2 (place_member s.2.slots (s.1 - 1) q s.3.has.1)
+                (C.taken_other now.modules handle s.0 (λ same. false≢true
+                (sym left.0 ∙ C.true-is_member q m.slots (its q s.2 (place_member s.2.slots (s.1 - 1) q s.3.has.1)
                 (sym s.3.loaded ∙ ap (module_at now.modules) same ∙ ap module_in there))))) ∙ s.3.loaded;
             has = s.3.has;
           },
@@ -167,17 +165,17 @@ module _ (old : LoadingWorld) (is : IsLoadingWorld old) where
   all_left now end [] l go = subst (Leaves old) (sym go.1) l
   all_left now end (handle ∷ handles) l go =
       let idle : Idle now.modules handle = idle_parts now.modules handle go.0 in
-      all_left (without_module now handle) end handles (subst (Leaves old) (sym (went now handle idle.idle idle.loaded)) (one_less now l handle idle.idle idle.loaded)) go.1
+      all_left (C.without_module now handle) end handles (subst (Leaves old) (sym (went now handle idle.idle idle.loaded)) (one_less now l handle idle.idle idle.loaded)) go.1
 
 -- in the end none is idle
 none_left : (now end : LoadingWorld) (handles : List ℕ) → Go now handles end → (handle : ℕ) → is_idle end.modules handle ≡ false
 none_left now end [] go handle = ap (λ (w : LoadingWorld). is_idle w.modules handle) go.1 ∙ go.0 handle
-none_left now end (k ∷ handles) go handle = none_left (without_module now k) end handles go.1 handle
+none_left now end (k ∷ handles) go handle = none_left (C.without_module now k) end handles go.1 handle
 
 -- The sweep.
 module _ (old : LoadingWorld) (is : IsLoadingWorld old) (end : LoadingWorld) (l : Leaves old end) (busy : (handle : ℕ) → is_idle end.modules handle ≡ false) where
   abbrev over : ℕ → Bool
-  over q = is_left_over end q
+  over q = C.is_left_over end q
 
   abbrev loads : FinMap nat_cmp Load
   loads = finmap.retain_keys end.loads (λ q. not (over q))
@@ -198,7 +196,7 @@ module _ (old : LoadingWorld) (is : IsLoadingWorld old) (end : LoadingWorld) (l 
 
   -- a load that is left
   left_load : (q : ℕ) (load : Load) → finmap.get loads q ≡ Some load → (over q ≡ false) × (finmap.get end.loads q ≡ Some load)
-  left_load q load e = elim (cases_Bool (over q)) [ inl t ↦ no_value (finmap.get loads q) load (value_gone end.loads over q t) e | inr t ↦ (t, sym (value_left end.loads over q t) ∙ e) ]
+  left_load q load e = elim (C.cases_Bool (over q)) [ inl t ↦ no_value (finmap.get loads q) load (value_gone end.loads over q t) e | inr t ↦ (t, sym (value_left end.loads over q t) ∙ e) ]
 
   -- a segment isn't left over
   not_over : (a : ℕ) (m : Module) (q : ℕ) → module_at end.modules a ≡ Some m → Member q m.slots → over q ≡ false
@@ -214,7 +212,7 @@ module _ (old : LoadingWorld) (is : IsLoadingWorld old) (end : LoadingWorld) (l 
       let was : (was : Module) × (module_at old.modules a ≡ Some was) × SameModule m was × (m.uses ≤ was.uses) = l.sources a m e in
       let full : was.0.uses ≤ MOST_USES = (is_used old is a was.0 was.1).1 in
       let fewer : m.uses ≤ was.0.uses = was.3 in
-      (subst (λ p. 0 < usage_with p (importers end.modules a)) (sym at) (turn at m.uses (importers end.modules a) refl refl), omega (arith, full, fewer))
+      (subst (λ p. 0 < C.usage_with p (importers end.modules a)) (sym at) (turn at m.uses (importers end.modules a) refl refl), omega (arith, full, fewer))
     where
       turn : finmap.get end.modules a ≡ Some (Loaded m) → (n k : ℕ) → m.uses ≡ n → importers end.modules a ≡ k → 0 < m.uses + importers end.modules a
       turn at zero zero x y = absurd (false≢true (sym (busy a) ∙ is_then_idle end.modules a (record { idle = m; loaded = at; unused = x; alone = λ i. let some : 0 < importers end.modules a = of_importer end.modules a i in absurd (omega (arith, some, y)) })))
@@ -236,14 +234,14 @@ module _ (old : LoadingWorld) (is : IsLoadingWorld old) (end : LoadingWorld) (l 
       one : (n : Module) → Some n ≡ Some before → n ≡ before
       one n e = cc
 
-  pub orphans_world : IsLoadingWorld (without_orphans end)
-  orphans_world = follows old (without_orphans end) is (record {
+  pub orphans_world : IsLoadingWorld (C.without_orphans end)
+  orphans_world = follows old (C.without_orphans end) is (record {
     handles = released_handles end.handles l.handles over;
     numbers = λ a. numbers a (finmap.get end.modules a) refl;
     names = λ a b x y e f t.
         let u : (was : Named) × (finmap.get old.modules a ≡ Some was) × (name_of x ≡ name_of was) = l.named a x e in
         let v : (was : Named) × (finmap.get old.modules b ≡ Some was) × (name_of y ≡ name_of was) = l.named b y f in
-        is.names a b u.0 v.0 u.1 v.1 (subst (λ s. is_named s (name_of v.0) ≡ true) u.2 (subst (λ s. is_named (name_of x) s ≡ true) v.2 t));
+        is.names a b u.0 v.0 u.1 v.1 (subst (λ s. C.is_named s (name_of v.0) ≡ true) u.2 (subst (λ s. C.is_named (name_of x) s ≡ true) v.2 t));
     sources = λ a m e. let was : (was : Module) × (module_at old.modules a ≡ Some was) × SameModule m was × (m.uses ≤ was.uses) = l.sources a m e in (was.0, was.1, was.2);
     used = used;
     loads = λ q load e. let at : finmap.get old.loads q ≡ Some load = was_load q load (left_load q load e).1 in (load.loads, at, (is_load old is q load at).0, (is_load old is q load at).1);

@@ -1,11 +1,12 @@
 -- Lists of modules with the handles and slots that a load gives them, and what of them gets bytes.
-use Rattle.w16_loading.proofs.Common.{◌≡◌, ◌≢◌, ℕ, zero, suc, ◌+◌, ◌<◌, ◌≤◌, inl, inr, ◌⊎◌, Bool, true, false, cond, not, nat_lt, ◌||◌, List, [], ◌∷◌, ◌++◌, length, flat_map, zip, position, slice_get, slice_index_or, Option, Some}
-use Rattle.w16_loading.proofs.Common.{None, option_map, refl, sym, ap, ◌∙◌, subst, arith, ltb-false, position_or_len, AllZip, false≢true, cases_eq, is_fixed, Member, EachPair, Each-at, inserted_here, inserted_other, is_named}
-use Rattle.w16_loading.proofs.Common.{is_named-Decides, Segment, SegmentData, Far, Module, Modules, Named, module_at, module_in, Loaded, BuiltIn, Filling, Found, Given, given_from, segments_of, with_modules, fills_from, fills_of}
+use Rattle.w16_loading.proofs
+use proofs.Common as C
+use proofs.Common.{◌≡◌, ◌≢◌, ℕ, zero, suc, ◌+◌, ◌<◌, ◌≤◌, inl, inr, ◌⊎◌, Bool, true, false, cond, not, ◌||◌, List, [], ◌∷◌, ◌++◌, length, flat_map, zip, slice_get, Some, None, refl, sym, ap, ◌∙◌, subst, arith, position_or_len, false≢true, Member, EachPair, Each-at, is_named, Segment}
+use proofs.Common.{SegmentData, Far, Module, Modules, Named, Loaded, Filling, Found, Given, given_from, segments_of, with_modules, fills_from, fills_of}
+use proofs.Undone.{in_first, in_second, parted}
+use proofs.Named.{apart_after}
 use Rattle.std.specs.List.{AllByRecursion as Each}
 use Rattle.std.specs.FinMap as finmap
-use Rattle.w16_loading.proofs.Undone.{in_first, in_second, parted}
-use Rattle.w16_loading.proofs.Named.{apart_after}
 
 -- no element passes where there is no place of one
 all_fail : {X : Type 0} (p : X → Bool) (xs : List X) → length xs ≤ position_or_len p xs → (x : X) → Member x xs → p x ≡ false
@@ -17,12 +18,12 @@ all_fail p (y ∷ xs) le x m = turn (p y) refl le (λ more k. all_fail p xs more
     turn false t le rest (inl same) = ap p same ∙ t
     turn false t le rest (inr m) = rest (omega (arith, le)) m
 
-pub no_place : {X : Type 0} (p : X → Bool) (xs : List X) → position p xs ≡ None → (x : X) → Member x xs → p x ≡ false
-no_place p xs e x m = turn (nat_lt (position_or_len p xs) (length xs)) refl e
+pub no_place : {X : Type 0} (p : X → Bool) (xs : List X) → C.position p xs ≡ None → (x : X) → Member x xs → p x ≡ false
+no_place p xs e x m = turn (C.nat_lt (position_or_len p xs) (length xs)) refl e
   where
-    turn : (b : Bool) → nat_lt (position_or_len p xs) (length xs) ≡ b → cond {A = Option ℕ} b (Some (position_or_len p xs)) None ≡ None → p x ≡ false
+    turn : (b : Bool) → C.nat_lt (position_or_len p xs) (length xs) ≡ b → cond {A = C.Option ℕ} b (Some (position_or_len p xs)) None ≡ None → p x ≡ false
     turn true t e = cc
-    turn false t e = all_fail p xs (ltb-false (position_or_len p xs) (length xs) t) x m
+    turn false t e = all_fail p xs (C.ltb-false (position_or_len p xs) (length xs) t) x m
 
 pub member_place : {X : Type 0} (xs : List X) (x : X) → Member x xs → (i : ℕ) × (slice_get xs i ≡ Some x)
 member_place [] x m = absurd m
@@ -37,7 +38,7 @@ place_member (y ∷ xs) (suc i) x e = inr (place_member xs i x e)
 pub zip_place : {A B : Type 0} (xs : List A) (ys : List B) (i : ℕ) (p : A × B) → slice_get (zip xs ys) i ≡ Some p → (slice_get xs i ≡ Some p.0) × (slice_get ys i ≡ Some p.1)
 zip_place [] ys i p e = cc
 zip_place (x ∷ xs) [] i p e = cc
-zip_place (x ∷ xs) (y ∷ ys) zero p e = (ap (option_map (λ q. q.0)) e, ap (option_map (λ q. q.1)) e)
+zip_place (x ∷ xs) (y ∷ ys) zero p e = (ap (C.option_map (λ q. q.0)) e, ap (C.option_map (λ q. q.1)) e)
 zip_place (x ∷ xs) (y ∷ ys) (suc i) p e = zip_place xs ys i p e
 
 pub zip_member : {A B : Type 0} (xs : List A) (ys : List B) (i : ℕ) (x : A) (y : B) → slice_get xs i ≡ Some x → slice_get ys i ≡ Some y → Member {X = A × B} (x, y) (zip xs ys)
@@ -46,7 +47,7 @@ zip_member (a ∷ xs) [] i x y e f = cc
 zip_member (a ∷ xs) (b ∷ ys) zero x y e f = let s : a ≡ x = cc in let t : b ≡ y = cc in inl (λ i. (sym s i, sym t i))
 zip_member (a ∷ xs) (b ∷ ys) (suc i) x y e f = inr (zip_member xs ys i x y e f)
 
-pub index_place : {X : Type 0} (xs : List X) (i : ℕ) (x d : X) → slice_get xs i ≡ Some x → slice_index_or xs i d ≡ x
+pub index_place : {X : Type 0} (xs : List X) (i : ℕ) (x d : X) → slice_get xs i ≡ Some x → C.slice_index_or xs i d ≡ x
 index_place [] i x d e = cc
 index_place (y ∷ xs) zero x d e = cc
 index_place (y ∷ xs) (suc i) x d e = index_place xs i x d e
@@ -109,7 +110,7 @@ given_slots_differ place (f ∷ fs) (h ∷ hs) (s ∷ ss) g differ (inr m) = giv
 
 -- Modules that are given.
 
-pub given_long : (place : ℕ) (fs : List Found) (hs : List ℕ) (ss : List (List ℕ)) → AllZip (λ (f : Found) (s : List ℕ). length s ≡ length f.read.tables.segments) fs ss → (g : Given) → Member g (given_from place fs hs ss) → length g.slots ≡ length g.found.read.tables.segments
+pub given_long : (place : ℕ) (fs : List Found) (hs : List ℕ) (ss : List (List ℕ)) → C.AllZip (λ (f : Found) (s : List ℕ). length s ≡ length f.read.tables.segments) fs ss → (g : Given) → Member g (given_from place fs hs ss) → length g.slots ≡ length g.found.read.tables.segments
 given_long place [] hs ss long g m = absurd m
 given_long place (f ∷ fs) [] ss long g m = absurd m
 given_long place (f ∷ fs) (h ∷ hs) [] long g m = absurd m
@@ -137,7 +138,7 @@ segment_given (h ∷ gs) x m = elim (parted x (zip h.slots h.found.read.tables.s
 ]
 
 -- the module at a place
-pub at_place : (first : ℕ) (fs : List Found) (hs : List ℕ) (ss : List (List ℕ)) → length hs ≡ length fs → AllZip (λ (f : Found) (s : List ℕ). length s ≡ length f.read.tables.segments) fs ss → (i : ℕ) → i < length fs
+pub at_place : (first : ℕ) (fs : List Found) (hs : List ℕ) (ss : List (List ℕ)) → length hs ≡ length fs → C.AllZip (λ (f : Found) (s : List ℕ). length s ≡ length f.read.tables.segments) fs ss → (i : ℕ) → i < length fs
     → (g : Given) × Member g (given_from first fs hs ss) × (g.place ≡ first + i) × (slice_get hs i ≡ Some g.handle)
 at_place first [] hs ss same long i lt = absurd (omega (arith, lt))
 at_place first (f ∷ fs) [] ss same long i lt = absurd (omega (arith, same))
@@ -161,7 +162,7 @@ given_index first (f ∷ fs) (h ∷ hs) (s ∷ ss) g (inr m) =
     (suc r.0, omega (arith, e), omega (arith, lt), r.3)
 
 pub named_back : (a b : List ℕ) → is_named a b ≡ true → is_named b a ≡ true
-named_back a b t = (is_named-Decides b a).1 (sym ((is_named-Decides a b).0 t))
+named_back a b t = (C.is_named-Decides b a).1 (sym ((C.is_named-Decides a b).0 t))
 
 -- modules of equal names are one
 pub one_named : (first : ℕ) (fs : List Found) (hs : List ℕ) (ss : List (List ℕ)) → EachPair (λ (f g : Found). is_named f.read.tables.name g.read.tables.name ≡ false) fs → (g h : Given) → Member g (given_from first fs hs ss) → Member h (given_from first fs hs ss)
@@ -181,7 +182,7 @@ one_named first (f ∷ fs) (k ∷ hs) (s ∷ ss) apart g h (inr m) (inr n) t = o
 -- what a handle names once all have names
 pub put_all : (module_of : Given → Module) (gs : List Given) (old : Modules) (handle : ℕ) → ((g : Given) → Member g gs → handle ≢ g.handle) → finmap.get (with_modules module_of gs old) handle ≡ finmap.get old handle
 put_all module_of [] old handle out = refl
-put_all module_of (g ∷ gs) old handle out = put_all module_of gs (finmap.insert old g.handle (Loaded (module_of g))) handle (λ x m. out x (inr m)) ∙ inserted_other old g.handle (Loaded (module_of g)) handle (out g (inl refl))
+put_all module_of (g ∷ gs) old handle out = put_all module_of gs (finmap.insert old g.handle (Loaded (module_of g))) handle (λ x m. out x (inr m)) ∙ C.inserted_other old g.handle (Loaded (module_of g)) handle (out g (inl refl))
 
 pub put_named : (module_of : Given → Module) (gs : List Given) (old : Modules) (handle : ℕ) (n : Named) → finmap.get (with_modules module_of gs old) handle ≡ Some n
     → ((g : Given) × Member g gs × (g.handle ≡ handle) × (n ≡ Loaded (module_of g))) ⊎ (finmap.get old handle ≡ Some n)
@@ -194,21 +195,21 @@ put_named module_of (g ∷ gs) old handle n e = turn (put_named module_of gs (fi
     turn : ((h : Given) × Member h gs × (h.handle ≡ handle) × (n ≡ Loaded (module_of h))) ⊎ (finmap.get (finmap.insert old g.handle (Loaded (module_of g))) handle ≡ Some n)
         → ((h : Given) × Member h (g ∷ gs) × (h.handle ≡ handle) × (n ≡ Loaded (module_of h))) ⊎ (finmap.get old handle ≡ Some n)
     turn (inl r) = inl (r.0, inr r.1, r.2, r.3)
-    turn (inr r) = elim (cases_eq handle g.handle) [
-      | inl d ↦ inl (g, inl refl, sym d, same (sym (inserted_here old g.handle (Loaded (module_of g)) handle d) ∙ r))
-      | inr d ↦ inr (sym (inserted_other old g.handle (Loaded (module_of g)) handle d) ∙ r)
+    turn (inr r) = elim (C.cases_eq handle g.handle) [
+      | inl d ↦ inl (g, inl refl, sym d, same (sym (C.inserted_here old g.handle (Loaded (module_of g)) handle d) ∙ r))
+      | inr d ↦ inr (sym (C.inserted_other old g.handle (Loaded (module_of g)) handle d) ∙ r)
     ]
 
 -- what a handle names that names a module
-pub loaded_is : (p : Option Named) (m : Module) → module_in p ≡ Some m → p ≡ Some (Loaded m)
+pub loaded_is : (p : C.Option Named) (m : Module) → C.module_in p ≡ Some m → p ≡ Some (Loaded m)
 loaded_is None m e = cc
 loaded_is (Some (Loaded n)) m e = let f : n ≡ m = cc in ap (λ (x : Module). Some (Loaded x)) f
-loaded_is (Some (BuiltIn name)) m e = cc
+loaded_is (Some (C.BuiltIn name)) m e = cc
 
 -- so a module that is there once they have names is one of them, or was there
-pub new_or_old : (module_of : Given → Module) (gs : List Given) (old : Modules) (handle : ℕ) (m : Module) → module_at (with_modules module_of gs old) handle ≡ Some m
-    → ((g : Given) × Member g gs × (g.handle ≡ handle) × (m ≡ module_of g)) ⊎ (module_at old handle ≡ Some m)
-new_or_old module_of gs old handle m e = elim (put_named module_of gs old handle (Loaded m) (loaded_is (finmap.get (with_modules module_of gs old) handle) m e)) [ inl r ↦ inl (r.0, r.1, r.2, same r.0 r.3) | inr f ↦ inr (ap module_in f) ]
+pub new_or_old : (module_of : Given → Module) (gs : List Given) (old : Modules) (handle : ℕ) (m : Module) → C.module_at (with_modules module_of gs old) handle ≡ Some m
+    → ((g : Given) × Member g gs × (g.handle ≡ handle) × (m ≡ module_of g)) ⊎ (C.module_at old handle ≡ Some m)
+new_or_old module_of gs old handle m e = elim (put_named module_of gs old handle (Loaded m) (loaded_is (finmap.get (with_modules module_of gs old) handle) m e)) [ inl r ↦ inl (r.0, r.1, r.2, same r.0 r.3) | inr f ↦ inr (ap C.module_in f) ]
   where
     same : (g : Given) → Loaded m ≡ Loaded (module_of g) → m ≡ module_of g
     same g e = cc
@@ -225,7 +226,7 @@ put_here module_of place (f ∷ fs) (h ∷ hs) [] old differ g m = absurd m
 put_here module_of place (f ∷ fs) (h ∷ hs) (s ∷ ss) old differ g (inl e) =
     let one : Given = record { place = place; found = f; handle = h; slots = s } in
     put_all module_of (given_from (place + 1) fs hs ss) (finmap.insert old h (Loaded (module_of one))) g.handle (λ x n. subst (λ k. k ≢ x.handle) (sym (λ i. (e i).handle)) (later_handles (place + 1) fs hs ss h differ.0 x n))
-    ∙ inserted_here old h (Loaded (module_of one)) g.handle (λ i. (e i).handle) ∙ (λ i. Some (Loaded (module_of (sym e i))))
+    ∙ C.inserted_here old h (Loaded (module_of one)) g.handle (λ i. (e i).handle) ∙ (λ i. Some (Loaded (module_of (sym e i))))
 put_here module_of place (f ∷ fs) (h ∷ hs) (s ∷ ss) old differ g (inr m) = put_here module_of (place + 1) fs hs ss (finmap.insert old h (Loaded (module_of (record { place = place; found = f; handle = h; slots = s })))) differ.1 g m
 
 -- What is filled is some segment's image: at one place among a module's.
@@ -245,7 +246,7 @@ fill_of place [] segments data_of values x m = absurd m
 fill_of place (q ∷ qs) [] data_of values x m = absurd m
 fill_of place (q ∷ qs) (g ∷ gs) [] values x m = absurd m
 fill_of place (q ∷ qs) (g ∷ gs) (s ∷ ss) [] x m = absurd m
-fill_of place (q ∷ qs) (g ∷ gs) (s ∷ ss) (v ∷ vs) x m = turn (is_fixed g.kind || g.is_preload) (λ n. fill_of place qs gs ss vs x n) m
+fill_of place (q ∷ qs) (g ∷ gs) (s ∷ ss) (v ∷ vs) x m = turn (C.is_fixed g.kind || g.is_preload) (λ n. fill_of place qs gs ss vs x n) m
   where
     later : IsFillOf qs gs ss vs x → IsFillOf (q ∷ qs) (g ∷ gs) (s ∷ ss) (v ∷ vs) x
     later f = record { place = suc f.place; segment = f.segment; its_data = f.its_data; its_values = f.its_values; slot_at = f.slot_at; segment_at = f.segment_at; data_at = f.data_at; values_at = f.values_at; image = f.image }

@@ -1,5 +1,6 @@
 -- Bytes that are kept: an object has those that it had, or none.
-use Rattle.w16_loading.proofs.Common.{◌≡◌, ℕ, inl, inr, true, List, Option, Some, None, IfSome, IsSomeAnd, is_some, refl, sym, ap, Discardable, Heap, Object, object_at, bytes_at, Handles, global_lock, GlobalLock, Calls, KeepsContents, IsKeptOrDiscarded, bytes_in, call_outcome, contents}
+use Rattle.w16_loading.proofs.Common as C
+use Rattle.w16_loading.proofs.Common.{◌≡◌, ℕ, inl, inr, true, List, Option, Some, None, IfSome, refl, sym, ap, Heap, object_at, bytes_at, Handles, global_lock, Calls, bytes_in}
 
 abbrev pub KeepsBytes : Heap → Heap → ℕ → Type 0
 KeepsBytes old new q = IfSome (bytes_at new q) (λ b. bytes_at old q ≡ Some b)
@@ -24,11 +25,11 @@ no_bytes old new q e = from_none (λ b. bytes_at old q ≡ Some b) (bytes_at new
 pub no_object : (old new : Heap) (q : ℕ) → object_at new q ≡ None → KeepsBytes old new q
 no_object old new q e = no_bytes old new q (ap bytes_in e)
 
-pub kept_bytes : (old new : Heap) (q : ℕ) → IsKeptOrDiscarded old new q → KeepsBytes old new q
+pub kept_bytes : (old new : Heap) (q : ℕ) → C.IsKeptOrDiscarded old new q → KeepsBytes old new q
 kept_bytes old new q (inl e) = same_object old new q e
 kept_bytes old new q (inr h) = turn (object_at old q) h
   where
-    turn : (p : Option Object) → IsSomeAnd p (λ o. (o.kind ≡ Discardable) × (o.locks ≡ 0) × (is_some o.bytes ≡ true) × (object_at new q ≡ Some (record o { bytes = None }))) → KeepsBytes old new q
+    turn : (p : Option C.Object) → C.IsSomeAnd p (λ o. (o.kind ≡ C.Discardable) × (o.locks ≡ 0) × (C.is_some o.bytes ≡ true) × (object_at new q ≡ Some (record o { bytes = None }))) → KeepsBytes old new q
     turn None h = absurd h
     turn (Some o) h = no_bytes old new q (ap bytes_in h.3)
 
@@ -36,5 +37,5 @@ kept_bytes old new q (inr h) = turn (object_at old q) h
 pub locked : (old : Handles) (q handle : ℕ) → KeepsBytes old.heap (global_lock old handle).1.heap q
 locked old q handle =
     let new : Handles = (global_lock old handle).1 in
-    let k : KeepsContents old new = contents old new (Calls (GlobalLock handle)) (global_lock old handle).0 (call_outcome old new (GlobalLock handle) (global_lock old handle).0 (refl, refl)) refl in
+    let k : C.KeepsContents old new = C.contents old new (Calls (C.GlobalLock handle)) (global_lock old handle).0 (C.call_outcome old new (C.GlobalLock handle) (global_lock old handle).0 (refl, refl)) refl in
     same_bytes old.heap new.heap q (k.bytes q)

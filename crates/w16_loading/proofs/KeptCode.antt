@@ -1,9 +1,9 @@
 -- What keeps code as its files say it.
-use Rattle.w16_loading.proofs.Common.{◌≡◌, ℕ, ◌-◌, inl, inr, ◌⊎◌, true, List, [], length, Option, Some, None, IfSome, IsSomeAnd, option_map, slice_get, slice_index_or, Ok, Err, refl, sym, ap, ◌∙◌, subst}
-use Rattle.w16_loading.proofs.Common.{AllZip, cases_eq, Heap, IsHeap, bytes_at, Member, bytes_in, file_of, FetchFault, Format, ModuleFile, SegmentData, Far, numbered, LoadingWorld, Module, IsSegmentOf, module_at}
-use Rattle.w16_loading.proofs.Common.{Fills, Filling, Failure, InTurn, Answers, FetchesFrom, GivesFrom, with_heap, read_of, segment_bytes, is_code, CodeIsItsFiles, IsItsFiles, ModulesAreItsFiles, IsOfFiles}
-use Rattle.w16_loading.proofs.Fillings.{any_do, fetch_outcome, filled_object, filled_other}
-use Rattle.w16_loading.proofs.KeptBytes.{KeepsBytes, kept_bytes, same_bytes}
+use Rattle.w16_loading.proofs
+use proofs.Common as C
+use proofs.Common.{◌≡◌, ℕ, ◌-◌, inl, inr, ◌⊎◌, true, List, [], Option, Some, None, IfSome, IsSomeAnd, Ok, Err, refl, sym, ap, ◌∙◌, subst, Heap, IsHeap, bytes_at, Format, Far, LoadingWorld, Module, IsSegmentOf, module_at, Fills, Filling, Answers, read_of, segment_bytes, is_code, IsItsFiles}
+use proofs.Fillings.{any_do, fetch_outcome, filled_object, filled_other}
+use proofs.KeptBytes.{KeepsBytes, kept_bytes, same_bytes}
 
 -- a module has the source of another: its file, the values that were bound for it, and its slots
 pub record SameSource (m before : Module) : Type 0 where
@@ -21,8 +21,8 @@ pub record KeepsCode (format : Format) (old new : LoadingWorld) : Type 0 where
       → IfSome (bytes_at new.handles.heap slot) (λ b. (bytes_at old.handles.heap slot ≡ Some b) ⊎ (segment_bytes format old m number ≡ Some b))
 
 -- the bytes of a segment, by the files, the name of its module's file and the values of its module
-abbrev pub read_in : Format → List (List ℕ × List ℕ) → List ℕ → Option ModuleFile
-read_in format files file = elim (file_of files file) [
+abbrev pub read_in : Format → List (List ℕ × List ℕ) → List ℕ → Option C.ModuleFile
+read_in format files file = elim (C.file_of files file) [
   | None ↦ None
   | Some bytes ↦ elim (format.says bytes) [ Ok read ↦ Some read | Err _ ↦ None ]
 ]
@@ -30,17 +30,17 @@ read_in format files file = elim (file_of files file) [
 abbrev pub image_of : Format → List (List ℕ × List ℕ) → List ℕ → List (List Far) → ℕ → Option (List ℕ)
 image_of format files file values number = elim (read_in format files file) [
   | None ↦ None
-  | Some read ↦ option_map (λ (s : SegmentData). s.image (slice_index_or values (number - 1) [])) (numbered read.segments number)
+  | Some read ↦ C.option_map (λ (s : C.SegmentData). s.image (C.slice_index_or values (number - 1) [])) (C.numbered read.segments number)
 ]
 
-bytes_kept : (format : Format) (old new : LoadingWorld) → KeepsCode format old new → CodeIsItsFiles format old → CodeIsItsFiles format new
+bytes_kept : (format : Format) (old new : LoadingWorld) → KeepsCode format old new → C.CodeIsItsFiles format old → C.CodeIsItsFiles format new
 bytes_kept format old new keeps code slot handle number m segment coded = turn (bytes_at new.handles.heap slot) (keeps.bytes slot handle number was.0 before (keeps.coded slot coded))
   where
     was : (before : Module) × (module_at old.modules handle ≡ Some before) × SameSource m before
     was = keeps.modules handle m segment.loaded
 
     before : IsSegmentOf old slot handle number was.0
-    before = record { loaded = was.1; has = (segment.has.0, ap (λ (s : List ℕ). slice_get s (number - 1)) (sym was.2.slots) ∙ segment.has.1) }
+    before = record { loaded = was.1; has = (segment.has.0, ap (λ (s : List ℕ). C.slice_get s (number - 1)) (sym was.2.slots) ∙ segment.has.1) }
 
     same : segment_bytes format new m number ≡ segment_bytes format old was.0 number
     same = λ i. image_of format (keeps.files i) (was.2.file i) (was.2.values i) number
@@ -50,19 +50,19 @@ bytes_kept format old new keeps code slot handle number m segment coded = turn (
     turn (Some b) (inl e) = same ∙ subst (λ p. IfSome p (λ b. segment_bytes format old was.0 number ≡ Some b)) e (code slot handle number was.0 before (keeps.coded slot coded))
     turn (Some b) (inr e) = same ∙ e
 
-modules_kept : (format : Format) (old new : LoadingWorld) → KeepsCode format old new → ModulesAreItsFiles format old → ModulesAreItsFiles format new
+modules_kept : (format : Format) (old new : LoadingWorld) → KeepsCode format old new → C.ModulesAreItsFiles format old → C.ModulesAreItsFiles format new
 modules_kept format old new keeps modules handle m loaded =
     let was : (before : Module) × (module_at old.modules handle ≡ Some before) × SameSource m before = keeps.modules handle m loaded in
     turn was.0 was.2 (read_of format old was.0) (λ i. read_in format (keeps.files i) (was.2.file i)) (modules handle was.0 was.1)
   where
-    turn : (before : Module) → SameSource m before → (p : Option ModuleFile) → read_of format new m ≡ p → IsSomeAnd p (IsItsFiles before) → IsSomeAnd (read_of format new m) (IsItsFiles m)
+    turn : (before : Module) → SameSource m before → (p : Option C.ModuleFile) → read_of format new m ≡ p → IsSomeAnd p (IsItsFiles before) → IsSomeAnd (read_of format new m) (IsItsFiles m)
     turn before same None e h = absurd h
     turn before same (Some read) e h = subst (λ p. IsSomeAnd p (IsItsFiles m)) (sym e) (record {
       tables = h.tables ∙ sym same.tables;
-      values = subst (λ v. AllZip (λ (s : SegmentData) (values : List Far). IsSomeAnd s.targets (λ targets. length values ≡ length targets)) read.segments v) (sym same.values) h.values;
+      values = subst (λ v. C.AllZip (λ (s : C.SegmentData) (values : List Far). IsSomeAnd s.targets (λ targets. C.length values ≡ C.length targets)) read.segments v) (sym same.values) h.values;
     })
 
-pub code_kept : (format : Format) (old new : LoadingWorld) → KeepsCode format old new → IsOfFiles format old → IsOfFiles format new
+pub code_kept : (format : Format) (old new : LoadingWorld) → KeepsCode format old new → C.IsOfFiles format old → C.IsOfFiles format new
 code_kept format old new keeps good = record { code = bytes_kept format old new keeps good.code; modules = modules_kept format old new keeps good.modules }
 
 -- modules that are the same
@@ -80,24 +80,24 @@ as_it_was format old new slot number m = if_some (bytes_at new slot) (λ b e. in
 
 -- a world with another heap
 pub with_code : (format : Format) (old : LoadingWorld) (heap : Heap) → ((slot handle number : ℕ) (m : Module) → IsSegmentOf old slot handle number m → is_code old slot ≡ true
-    → IfSome (bytes_at heap slot) (λ b. (bytes_at old.handles.heap slot ≡ Some b) ⊎ (segment_bytes format old m number ≡ Some b))) → KeepsCode format old (with_heap old heap)
+    → IfSome (bytes_at heap slot) (λ b. (bytes_at old.handles.heap slot ≡ Some b) ⊎ (segment_bytes format old m number ≡ Some b))) → KeepsCode format old (C.with_heap old heap)
 with_code format old heap bytes = record { files = refl; modules = λ handle m e. (m, e, same_source m); coded = λ q t. t; bytes = bytes }
 
 -- what was filled has these bytes, and all else the bytes that it had, or none
 one_bytes : (old : Heap) (slot : ℕ) (bytes : List ℕ) (new : Heap) → IsHeap old → Fills old slot bytes true new → (q : ℕ) → IfSome (bytes_at new q) (λ b. (bytes_at old q ≡ Some b) ⊎ ((q ≡ slot) × (b ≡ bytes)))
-one_bytes old slot bytes new is f q = elim (cases_eq q slot) [
-  | inl same ↦ subst (λ p. IfSome p (λ b. (bytes_at old q ≡ Some b) ⊎ ((q ≡ slot) × (b ≡ bytes)))) (sym (ap (bytes_at new) same ∙ ap bytes_in (filled_object old slot bytes new f))) (inr (same, refl))
+one_bytes old slot bytes new is f q = elim (C.cases_eq q slot) [
+  | inl same ↦ subst (λ p. IfSome p (λ b. (bytes_at old q ≡ Some b) ⊎ ((q ≡ slot) × (b ≡ bytes)))) (sym (ap (bytes_at new) same ∙ ap C.bytes_in (filled_object old slot bytes new f))) (inr (same, refl))
   | inr other ↦ if_some (bytes_at new q) (λ b e. inl e) (kept_bytes old new q (filled_other old slot bytes new f is q other))
 ]
 
 -- all that was filled has its bytes, where these are read again
 abbrev pub IsFilled : List Filling → ℕ → List ℕ → Type 0
-IsFilled xs q b = (x : Filling) × Member x xs × (q ≡ x.slot) × (b ≡ x.bytes)
+IsFilled xs q b = (x : Filling) × C.Member x xs × (q ≡ x.slot) × (b ≡ x.bytes)
 
 abbrev pub ReadsAgain : Answers → Type 0
 ReadsAgain answers = (held read : List ℕ) → answers.again held read → read ≡ held
 
-pub fills_bytes : (answers : Answers) → ReadsAgain answers → (old new : Heap) (xs : List Filling) (failure : Option Failure) → IsHeap old → InTurn (GivesFrom Fills answers) old xs failure new
+pub fills_bytes : (answers : Answers) → ReadsAgain answers → (old new : Heap) (xs : List Filling) (failure : Option C.Failure) → IsHeap old → C.InTurn (C.GivesFrom Fills answers) old xs failure new
     → (q : ℕ) → IfSome (bytes_at new q) (λ b. (bytes_at old q ≡ Some b) ⊎ IsFilled xs q b)
 fills_bytes answers exact old new xs failure is f q = (any_do answers Has (λ h. if_some (bytes_at h q) (λ b e. inl e) (same_bytes h h q refl)) then old new xs failure is
     (λ x m a b h read long again g. if_some (bytes_at b q) (λ c k. elim k [ inl e ↦ inl e | inr e ↦ inr (x, m, e.0, e.1 ∙ exact x.bytes read again) ]) (one_bytes a x.slot read b h g q)) f).0
@@ -112,7 +112,7 @@ fills_bytes answers exact old new xs failure is f q = (any_do answers Has (λ h.
 abbrev pub FetchesCode : Format → Answers → LoadingWorld → ℕ → Type 0
 FetchesCode format answers old slot = (handle number : ℕ) (m : Module) (bytes : List ℕ) → IsSegmentOf old slot handle number m → is_code old slot ≡ true → answers.gives old slot bytes → segment_bytes format old m number ≡ Some bytes
 
-pub fetched_code : {answers : Answers} {old : LoadingWorld} {slot : ℕ} {fault : Option FetchFault} {new : LoadingWorld} (format : Format) → IsHeap old.handles.heap → FetchesCode format answers old slot → FetchesFrom Fills answers old slot fault new → KeepsCode format old new
+pub fetched_code : {answers : Answers} {old : LoadingWorld} {slot : ℕ} {fault : Option C.FetchFault} {new : LoadingWorld} (format : Format) → IsHeap old.handles.heap → FetchesCode format answers old slot → C.FetchesFrom Fills answers old slot fault new → KeepsCode format old new
 fetched_code {answers} {old} {slot} {fault} {new} format is fetches f = subst (KeepsCode format old) (sym f.rest) (with_code format old new.handles.heap bytes)
   where
     bytes : (q handle number : ℕ) (m : Module) → IsSegmentOf old q handle number m → is_code old q ≡ true → IfSome (bytes_at new.handles.heap q) (λ b. (bytes_at old.handles.heap q ≡ Some b) ⊎ (segment_bytes format old m number ≡ Some b))

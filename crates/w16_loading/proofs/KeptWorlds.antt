@@ -1,10 +1,9 @@
 -- A world stays one where its objects keep their kinds, and their sizes or no bytes at all.
-use Rattle.w16_loading.proofs.Common.{◌≡◌, ℕ, inl, inr, Bool, true, List, length, Option, Some, None, IfSome, IsSomeAnd, is_some, refl, sym, ap, ◌∙◌, subst, false≢true, cases_eq, Kind, Heap}
-use Rattle.w16_loading.proofs.Common.{Object, object_at, with_object, Handles, AreHandles, IsKeptOrDiscarded, inserted_here, inserted_other, bytes_in, LoadingWorld, IsLoadingWorld, IsObjectOf}
-use Rattle.w16_loading.proofs.Fillings.{IsLost}
-use Rattle.w16_loading.proofs.KeptBytes.{KeepsBytes}
-use Rattle.w16_loading.proofs.OwnedKept.{SameOwned}
-use Rattle.w16_loading.proofs.Worlds.{same_module, is_used, is_load, owner_stays, follows}
+use Rattle.w16_loading.proofs
+use proofs.Common.{◌≡◌, ℕ, inl, inr, Bool, true, List, length, Option, Some, None, IfSome, IsSomeAnd, is_some, refl, sym, ap, ◌∙◌, subst, false≢true, cases_eq, Kind, Heap, Object, object_at, with_object, Handles, AreHandles, IsKeptOrDiscarded, inserted_here, inserted_other, bytes_in}
+use proofs.Common.{LoadingWorld, IsLoadingWorld, IsObjectOf}
+use proofs.Worlds.{same_module, is_used, is_load, owner_stays, follows}
+use proofs.{Fillings.IsLost, KeptBytes.KeepsBytes, OwnedKept.SameOwned}
 
 -- an object that a module owns, of a kind and a size
 abbrev pub IsOwned : Heap → ℕ → Kind → ℕ → Type 0

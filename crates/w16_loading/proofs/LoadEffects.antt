@@ -1,31 +1,27 @@
 -- What LoadModule and LoadLibrary are for, proved from their steps over any store.
-use Rattle.w16_loading.proofs.Common.{◌≡◌, ◌≢◌, ℕ, zero, suc, ◌+◌, ◌<◌, ◌≤◌, ◌==◌, ◌&&◌, ◌||◌, not, inl, inr, ◌⊎◌, Bool, true, false, cond, nat_lt, List, [], ◌∷◌, length, flat_map, map, Option, Some, None, IsSomeAnd, is_some, slice_get, slice_index_or, refl, sym, ap, ◌∙◌, subst, arith}
-use Rattle.w16_loading.proofs.Common.{AllZip, false≢true, cases_eq, eq-eqb, Kind, Discardable, Heap, Object, IsHeap, object_at, owned_at, bytes_at, bytes_in, is_fixed, IsKeptOrDiscarded, Member, inserted_here, inserted_other, FIRST_MODULE, MOST_USES, FetchFault, Store, Damaged, NoRoom}
-use Rattle.w16_loading.proofs.Common.{IsModuleFile, IsSegmentData, Segment, SegmentData, Far, LoadingWorld, Module, Named, Loaded, BuiltIn, with_heap, Filling, Failure, Fills, InTurn, Answers, GivesFrom, LoadsFrom, told, Closure, Found, around, Choice, IsChoice, Given, given, segments_of}
-use Rattle.w16_loading.proofs.Common.{bound, named, fills, fills_from, fills_of, Answer, Says, Fulfils, after_use, left, outcome_of, refusal_of, undone, used_again, Word, ModuleStep, LoadModule, LoadLibrary, IsLoadingWorld, ModuleCommand}
+use Rattle.w16_loading.proofs
+use proofs.Common as C
+use proofs.Given as M
+use proofs.Common.{◌≡◌, ◌≢◌, ℕ, zero, suc, ◌+◌, ◌<◌, ◌≤◌, ◌==◌, ◌&&◌, ◌||◌, not, inl, inr, ◌⊎◌, Bool, true, false, cond, List, [], ◌∷◌, length, flat_map, map, Option, Some, None, IsSomeAnd, is_some, slice_get, slice_index_or, refl, sym, ap, ◌∙◌, subst, arith, false≢true, Kind, Discardable}
+use proofs.Common.{Heap, Object, object_at, bytes_at, is_fixed, Member, FIRST_MODULE, Store, Damaged, NoRoom, Segment, Far, LoadingWorld, Module, Named, Loaded, Filling, Fills, InTurn, GivesFrom, LoadsFrom, told, Found, Given, given, segments_of, bound, named, fills, fills_from, fills_of}
+use proofs.Common.{Answer, Says, left, Word, ModuleStep}
+use proofs.Answered.{AreAnswers, closure_loads, told_answers}
+use proofs.Fillings.{IsLost, any_do, filled_heap, filled_object, filled_other}
+use proofs.LoadWorlds.{free_handle, handles_differ, named_new, segments_differ, sized, was_free}
+use proofs.Undone.{fold_named, in_first, in_second}
+use proofs.{ClosureFacts.IsClosure, Named.named_heap, Preloads.all_after}
+use Rattle.w16_model.specs.{declared.Kind.TheVariants.Fixed, declared.Kind.TheVariants.Moveable, Heap.is_discardable}
+use Rattle.w16_loading.specs.{Effects.IsUsedOnce, Effects.LoadLaw, Families.reply_of, Load.Answer.StoreFails}
 use Rattle.std.specs.FinMap as finmap
-use Rattle.w16_model.specs.declared.Kind.TheVariants.{Fixed, Moveable}
-use Rattle.w16_model.specs.Heap.{is_discardable}
 use Rattle.w16_loading.specs.declared.FetchFault.TheVariants as faults
-use Rattle.w16_loading.specs.Effects.{IsUsedOnce, LoadLaw}
-use Rattle.w16_loading.specs.Families.{reply_of}
-use Rattle.w16_loading.specs.Load.Answer.{StoreFails}
-use Rattle.w16_loading.proofs.ClosureFacts.{IsClosure}
-use Rattle.w16_loading.proofs.Answered.{AreAnswers, closure_loads, told_answers}
-use Rattle.w16_loading.proofs.Fillings.{IsLost, any_do, filled_heap, filled_object, filled_other}
-use Rattle.w16_loading.proofs.Given.{at_place, given_found, given_segment, index_place, put_here, put_named, zip_member}
-use Rattle.w16_loading.proofs.LoadWorlds.{free_handle, handles_differ, named_new, segments_differ, sized, was_free}
-use Rattle.w16_loading.proofs.Named.{named_heap}
-use Rattle.w16_loading.proofs.Preloads.{all_after}
-use Rattle.w16_loading.proofs.Undone.{fold_named, in_first, in_second}
 
 -- An object of some kind that isn't discardable keeps what a filling gave it.
 module _ (k : Kind) (firm : k ≢ Discardable) (q : ℕ) where
   abbrev Has : (Option (List ℕ) → Type 0) → Heap → Type 0
   Has W heap = IsSomeAnd (object_at heap q) (λ o. (o.kind ≡ k) × W o.bytes)
 
-  filled_keeps : (W : Option (List ℕ) → Type 0) → ((b : List ℕ) → W (Some b)) → (a : Heap) (slot : ℕ) (bytes : List ℕ) (b : Heap) → IsHeap a → Fills a slot bytes true b → Has W a → Has W b
-  filled_keeps W some a slot bytes b is f h = elim (cases_eq q slot) [
+  filled_keeps : (W : Option (List ℕ) → Type 0) → ((b : List ℕ) → W (Some b)) → (a : Heap) (slot : ℕ) (bytes : List ℕ) (b : Heap) → C.IsHeap a → Fills a slot bytes true b → Has W a → Has W b
+  filled_keeps W some a slot bytes b is f h = elim (C.cases_eq q slot) [
     | inl e ↦ subst (λ p. IsSomeAnd p (λ (o : Object). (o.kind ≡ k) × W o.bytes)) (sym (ap (object_at b) e ∙ filled_object a slot bytes b f)) ((subst (λ p. IsSomeAnd p (λ (o : Object). (o.kind ≡ k) × W o.bytes)) (ap (object_at a) e ∙ f.there) h).0, some bytes)
     | inr d ↦ kept (filled_other a slot bytes b f is q d)
   ]
@@ -34,7 +30,7 @@ module _ (k : Kind) (firm : k ≢ Discardable) (q : ℕ) where
       lost None l h = l
       lost (Some o) l h = firm (sym h.0 ∙ l.0)
 
-      kept : IsKeptOrDiscarded a b q → Has W b
+      kept : C.IsKeptOrDiscarded a b q → Has W b
       kept (inl e) = subst (λ p. IsSomeAnd p (λ (o : Object). (o.kind ≡ k) × W o.bytes)) (sym e) h
       kept (inr l) = absurd (lost (object_at a q) l h)
 
@@ -42,9 +38,9 @@ module _ (k : Kind) (firm : k ≢ Discardable) (q : ℕ) where
   HasBytes = Has (λ p. is_some p ≡ true)
 
   -- so it has bytes at the end
-  all_filled : (answers : Answers) (old new : Heap) (xs : List Filling) (x : Filling) → Member x xs → x.slot ≡ q → IsHeap old → InTurn (GivesFrom Fills answers) old xs None new → Has (λ p. Unit {0}) old → HasBytes new
+  all_filled : (answers : C.Answers) (old new : Heap) (xs : List Filling) (x : Filling) → Member x xs → x.slot ≡ q → C.IsHeap old → InTurn (GivesFrom Fills answers) old xs None new → Has (λ p. Unit {0}) old → HasBytes new
   all_filled answers old new [] x m e is f h = absurd m
-  all_filled answers old new (y ∷ xs) x m e is (Some fault, next, g, rest) h = let none : ◌≡◌ {A = Option Failure} None (Some (record { place = y.place; fault = fault })) = rest.0 in cc
+  all_filled answers old new (y ∷ xs) x m e is (Some fault, next, g, rest) h = let none : ◌≡◌ {A = Option C.Failure} None (Some (record { place = y.place; fault = fault })) = rest.0 in cc
   all_filled answers old new (y ∷ xs) x (inl same) e is (None, next, g, rest) h = (any_do answers (λ a b. HasBytes a → HasBytes b) (λ a h. h) (λ a b c s t h. t (s h)) next new xs None (filled_heap old y.slot g.0 next g.3)
       (λ z n a b here read long again f. filled_keeps (λ p. is_some p ≡ true) (λ b. refl) a z.slot read b here f) rest).0 given_now
     where
@@ -57,7 +53,7 @@ module _ (k : Kind) (firm : k ≢ Discardable) (q : ℕ) where
   all_filled answers old new (y ∷ xs) x (inr m) e is (None, next, g, rest) h = all_filled answers next new xs x m e (filled_heap old y.slot g.0 next g.3) rest (filled_keeps (λ p. Unit {0}) (λ b. tt) old y.slot g.0 next is g.3 h)
 
 -- A segment that is fixed or preload is filled.
-fill_there : (f : SegmentData → List Far) (place : ℕ) (slots : List ℕ) (segments : List Segment) (parts : List SegmentData) → AllZip IsSegmentData segments parts → (i slot : ℕ) (s : Segment) → slice_get slots i ≡ Some slot → slice_get segments i ≡ Some s
+fill_there : (f : C.SegmentData → List Far) (place : ℕ) (slots : List ℕ) (segments : List Segment) (parts : List C.SegmentData) → C.AllZip C.IsSegmentData segments parts → (i slot : ℕ) (s : Segment) → slice_get slots i ≡ Some slot → slice_get segments i ≡ Some s
     → (is_fixed s.kind || s.is_preload) ≡ true → (x : Filling) × Member x (fills_from place slots segments parts (map f parts)) × (x.slot ≡ slot)
 fill_there f place [] segments parts all i slot s at there t = cc
 fill_there f place (q ∷ qs) [] parts all i slot s at there t = cc
@@ -79,7 +75,7 @@ in_all module_of [] g x m n = absurd m
 in_all module_of (h ∷ gs) g x (inl e) n = in_first x (fills_of module_of h) (flat_map (fills_of module_of) gs) (subst (λ y. Member x (fills_of module_of y)) e n)
 in_all module_of (h ∷ gs) g x (inr m) n = in_second x (fills_of module_of h) (flat_map (fills_of module_of) gs) (in_all module_of gs g x m n)
 
-module _ (answers : Answers) (are : AreAnswers answers) (old : LoadingWorld) (is : IsLoadingWorld old) (answer : ℕ) (new : LoadingWorld) where
+module _ (answers : C.Answers) (are : AreAnswers answers) (old : LoadingWorld) (is : C.IsLoadingWorld old) (answer : ℕ) (new : LoadingWorld) where
   abbrev HasOrLost : Heap → ℕ → Segment → Type 0
   HasOrLost heap slot s = (is_some (bytes_at heap slot) ≡ true) ⊎ ((s.kind ≡ Discardable) × ((q : ℕ) → IsSomeAnd (object_at old.handles.heap q) (λ o. (o.kind ≡ Discardable) × (o.locks ≡ 0)) → bytes_at heap q ≡ None))
 
@@ -97,7 +93,7 @@ module _ (answers : Answers) (are : AreAnswers answers) (old : LoadingWorld) (is
   first = refl
 
   -- A load that has come to its end.
-  module _ (closure : Closure) (facts : IsClosure answers (around old).named closure) (choice : Choice) (good : IsChoice old closure.found choice) (heap : Heap) (filled : InTurn (GivesFrom Fills answers) (named old closure choice).handles.heap (fills old closure choice) None heap) where
+  module _ (closure : C.Closure) (facts : IsClosure answers (C.around old).named closure) (choice : C.Choice) (good : C.IsChoice old closure.found choice) (heap : Heap) (filled : InTurn (GivesFrom Fills answers) (named old closure choice).handles.heap (fills old closure choice) None heap) where
     abbrev gs : List Given
     gs = given closure choice
 
@@ -105,11 +101,11 @@ module _ (answers : Answers) (are : AreAnswers answers) (old : LoadingWorld) (is
     module_of = bound old closure choice
 
     abbrev done : LoadingWorld
-    done = with_heap (named old closure choice) heap
+    done = C.with_heap (named old closure choice) heap
 
     module _ (g : Given) (member : Member g gs) (i slot : ℕ) (s : Segment) (there : slice_get g.found.read.tables.segments i ≡ Some s) (at : slice_get g.slots i ≡ Some slot) (t : (is_fixed s.kind || s.is_preload) ≡ true) where
-      file : IsModuleFile g.found.read
-      file = are.holds g.found.file g.found.read (facts.held g.found (given_found 0 closure.found choice.handles choice.slots g member))
+      file : C.IsModuleFile g.found.read
+      file = are.holds g.found.file g.found.read (facts.held g.found (M.given_found 0 closure.found choice.handles choice.slots g member))
 
       x : (x : Filling) × Member x (fills_of module_of g) × (x.slot ≡ slot)
       x = fill_there _ g.place g.slots g.found.read.tables.segments g.found.read.segments file.segments i slot s at there t
@@ -122,10 +118,10 @@ module _ (answers : Answers) (are : AreAnswers answers) (old : LoadingWorld) (is
           (all_filled s.kind firm slot answers (named old closure choice).handles.heap heap (fills old closure choice) x.0 filling x.2 (named_heap old closure choice is.handles good) filled
           (subst (λ p. IsSomeAnd p (λ (o : Object). (o.kind ≡ s.kind) × Unit {0})) (sym begun.0) (refl, tt)))
         where
-          begun : (object_at (named old closure choice).handles.heap slot ≡ Some (record { kind = s.kind; locks = 0; bytes = None })) × (owned_at (named old closure choice).handles slot ≡ Some (record { size = s.size; code = s.is_code }))
-          begun = named_new old (segments_of gs) (segments_differ answers are old is closure choice good facts heap filled) (slot, s) (given_segment gs g (slot, s) member (zip_member g.slots g.found.read.tables.segments i slot s at there))
+          begun : (object_at (named old closure choice).handles.heap slot ≡ Some (record { kind = s.kind; locks = 0; bytes = None })) × (C.owned_at (named old closure choice).handles slot ≡ Some (record { size = s.size; code = s.is_code }))
+          begun = named_new old (segments_of gs) (segments_differ answers are old is closure choice good facts heap filled) (slot, s) (M.given_segment gs g (slot, s) member (M.zip_member g.slots g.found.read.tables.segments i slot s at there))
 
-          has_some : (p : Option Object) → IsSomeAnd p (λ o. (o.kind ≡ s.kind) × (is_some o.bytes ≡ true)) → is_some (bytes_in p) ≡ true
+          has_some : (p : Option Object) → IsSomeAnd p (λ o. (o.kind ≡ s.kind) × (is_some o.bytes ≡ true)) → is_some (C.bytes_in p) ≡ true
           has_some None h = absurd h
           has_some (Some o) h = h.1
 
@@ -162,7 +158,7 @@ module _ (answers : Answers) (are : AreAnswers answers) (old : LoadingWorld) (is
     or_true false = refl
 
     ready : IsReady done
-    ready handle i slot m s unnamed there at slot_at asked = elim (put_named module_of gs old.modules handle (Loaded m) there) [
+    ready handle i slot m s unnamed there at slot_at asked = elim (M.put_named module_of gs old.modules handle (Loaded m) there) [
       | inr f ↦ no_value (finmap.get old.modules handle) m unnamed f
       | inl r ↦ let same : m ≡ module_of r.0 = unloaded r.0 r.3 in has_or_lost r.0 r.1 i slot s (ap (λ (x : Module). slice_get x.tables.segments i) (sym same) ∙ at) (ap (λ (x : Module). slice_get x.slots i) (sym same) ∙ slot_at) (wanted asked)
     ]
@@ -184,20 +180,20 @@ module _ (answers : Answers) (are : AreAnswers answers) (old : LoadingWorld) (is
             none [] e f = omega (arith, f, le, first)
             none (h ∷ hs) e f = omega (arith, e)
         by (f ∷ fs) e =
-            let g : (g : Given) × Member g gs × (g.place ≡ 0 + 0) × (slice_get choice.handles 0 ≡ Some g.handle) = at_place 0 closure.found choice.handles choice.slots good.many good.slots.many 0 (subst (λ xs. 0 < length xs) (sym e) (omega arith)) in
-            let same : answer ≡ g.0.handle = says ∙ index_place choice.handles 0 g.0.handle 0 g.3 in
+            let g : (g : Given) × Member g gs × (g.place ≡ 0 + 0) × (slice_get choice.handles 0 ≡ Some g.handle) = M.at_place 0 closure.found choice.handles choice.slots good.many good.slots.many 0 (subst (λ xs. 0 < length xs) (sym e) (omega arith)) in
+            let same : answer ≡ g.0.handle = says ∙ M.index_place choice.handles 0 g.0.handle 0 g.3 in
             let place : g.0.place ≡ 0 + 0 = g.2 in
             subst (λ (a : ℕ). IsUsedOnce (finmap.get old.modules a) (finmap.get done.modules a)) (sym same) (subst (λ p. IsUsedOnce p (finmap.get done.modules g.0.handle)) (sym (free_handle answers are old is closure choice good facts heap filled g.0 g.1).2)
-            (module_of g.0, put_here module_of 0 closure.found choice.handles choice.slots old.modules (handles_differ answers are old is closure choice good facts heap filled) g.0 g.1, ap (λ b. cond b 1 0) (eq-eqb g.0.place 0 (omega (arith, place)))))
+            (module_of g.0, M.put_here module_of 0 closure.found choice.handles choice.slots old.modules (handles_differ answers are old is closure choice good facts heap filled) g.0 g.1, ap (λ b. cond b 1 0) (C.eq-eqb g.0.place 0 (omega (arith, place)))))
 
   module _ (le : FIRST_MODULE ≤ answer) where
     small : {A : Type 0} (n : ℕ) → Says answer ≡ Says n → n < 33 → A
     small n e lt = let same : answer ≡ n = cc in absurd (omega (arith, same, lt, le, first))
 
-    fulfilled : (closure : Closure) → IsClosure answers (around old).named closure → Fulfils (GivesFrom Fills answers) old closure (Says answer) new → Does new
+    fulfilled : (closure : C.Closure) → IsClosure answers (C.around old).named closure → C.Fulfils (GivesFrom Fills answers) old closure (Says answer) new → Does new
     fulfilled closure facts f = by f.failure f.filled f.answered f.after
       where
-        by_fault : (place : ℕ) (fault : FetchFault) → Says answer ≡ refusal_of place fault → Does new
+        by_fault : (place : ℕ) (fault : C.FetchFault) → Says answer ≡ C.refusal_of place fault → Does new
         by_fault place faults.NoRoom e = small 0 e (omega arith)
         by_fault place faults.Store e = cc
         by_fault place faults.Damaged e = turn (place == 0) e
@@ -206,25 +202,25 @@ module _ (answers : Answers) (are : AreAnswers answers) (old : LoadingWorld) (is
             turn true e = small 11 e (omega arith)
             turn false e = small 20 e (omega arith)
 
-        by : (failure : Option Failure) → InTurn (GivesFrom Fills answers) (named old closure f.choice).handles.heap (fills old closure f.choice) failure f.heap → Says answer ≡ outcome_of failure (slice_index_or f.choice.handles 0 0)
-            → new ≡ left failure (with_heap (named old closure f.choice) f.heap) (undone old f.choice f.heap) → Does new
+        by : (failure : Option C.Failure) → InTurn (GivesFrom Fills answers) (named old closure f.choice).handles.heap (fills old closure f.choice) failure f.heap → Says answer ≡ C.outcome_of failure (slice_index_or f.choice.handles 0 0)
+            → new ≡ left failure (C.with_heap (named old closure f.choice) f.heap) (C.undone old f.choice f.heap) → Does new
         by (Some failure) filled says after = by_fault failure.place failure.fault says
         by None filled says after =
             let same : answer ≡ slice_index_or f.choice.handles 0 0 = cc in
             subst Does (sym after) (used closure facts f.choice f.is_choice f.heap filled same le, ready closure facts f.choice f.is_choice f.heap filled)
 
-    again : (b : Bool) (handle : ℕ) (n : Named) → finmap.get old.modules handle ≡ Some n → ◌≡◌ {A = Answer × LoadingWorld} (Says answer, new) (used_again b old handle (Some n)) → Does new
-    again b handle (BuiltIn name) there e =
+    again : (b : Bool) (handle : ℕ) (n : Named) → finmap.get old.modules handle ≡ Some n → ◌≡◌ {A = Answer × LoadingWorld} (Says answer, new) (C.used_again b old handle (Some n)) → Does new
+    again b handle (C.BuiltIn name) there e =
         let says : Says answer ≡ Says handle = ap (λ (x : Answer × LoadingWorld). x.0) e in
         let same : answer ≡ handle = cc in
-        let at : finmap.get old.modules answer ≡ Some (BuiltIn name) = ap (finmap.get old.modules) same ∙ there in
+        let at : finmap.get old.modules answer ≡ Some (C.BuiltIn name) = ap (finmap.get old.modules) same ∙ there in
         subst Does (sym (ap (λ (x : Answer × LoadingWorld). x.1) e)) (subst (λ p. IsUsedOnce p p) (sym at) refl, λ a i slot m s none some. no_value (finmap.get old.modules a) m none some)
-    again b handle (Loaded m) there e = by (b && not m.tables.is_library) (nat_lt m.uses MOST_USES) e
+    again b handle (Loaded m) there e = by (b && not m.tables.is_library) (C.nat_lt m.uses C.MOST_USES) e
       where
         more : Named
         more = Loaded (record m { uses = m.uses + 1 })
 
-        by : (s t : Bool) → ◌≡◌ {A = Answer × LoadingWorld} (Says answer, new) (cond {A = Answer × LoadingWorld} s (Says 16, old) (cond {A = Answer × LoadingWorld} t (Says handle, after_use old handle m) (Says 0, old))) → Does new
+        by : (s t : Bool) → ◌≡◌ {A = Answer × LoadingWorld} (Says answer, new) (cond {A = Answer × LoadingWorld} s (Says 16, old) (cond {A = Answer × LoadingWorld} t (Says handle, C.after_use old handle m) (Says 0, old))) → Does new
         by true t e = small 16 (ap (λ (x : Answer × LoadingWorld). x.0) e) (omega arith)
         by false false e = small 0 (ap (λ (x : Answer × LoadingWorld). x.0) e) (omega arith)
         by false true e =
@@ -232,10 +228,10 @@ module _ (answers : Answers) (are : AreAnswers answers) (old : LoadingWorld) (is
             let same : answer ≡ handle = cc in
             let at : finmap.get old.modules answer ≡ Some (Loaded m) = ap (finmap.get old.modules) same ∙ there in
             subst Does (sym (ap (λ (x : Answer × LoadingWorld). x.1) e)) (
-              subst (λ p. IsUsedOnce p (finmap.get (after_use old handle m).modules answer)) (sym at) (inserted_here old.modules handle (Loaded (record m { uses = m.uses + 1 })) answer same),
-              λ a i slot n s none some. elim (cases_eq a handle) [
+              subst (λ p. IsUsedOnce p (finmap.get (C.after_use old handle m).modules answer)) (sym at) (C.inserted_here old.modules handle (Loaded (record m { uses = m.uses + 1 })) answer same),
+              λ a i slot n s none some. elim (C.cases_eq a handle) [
                 | inl d ↦ no_value (finmap.get old.modules a) m none (ap (finmap.get old.modules) d ∙ there)
-                | inr d ↦ no_value (finmap.get old.modules a) n none (sym (inserted_other old.modules handle (Loaded (record m { uses = m.uses + 1 })) a d) ∙ some)
+                | inr d ↦ no_value (finmap.get old.modules a) n none (sym (C.inserted_other old.modules handle (Loaded (record m { uses = m.uses + 1 })) a d) ∙ some)
               ],
             )
 
@@ -251,9 +247,9 @@ module _ (answers : Answers) (are : AreAnswers answers) (old : LoadingWorld) (is
     printed b file (Says n) e f = let same : n ≡ answer = cc in loads b file (subst (λ k. LoadsFrom Fills answers b old file (Says k) new) same f)
     printed b file StoreFails e f = cc
 
-    steps : (command : ModuleCommand) (file : List ℕ) → (command ≡ LoadModule file) ⊎ (command ≡ LoadLibrary file) → ModuleStep (LoadsFrom Fills answers) old command (Word answer) new → Does new
-    steps command file (inl e) step = let f : ModuleStep (LoadsFrom Fills answers) old (LoadModule file) (Word answer) new = subst (λ c. ModuleStep (LoadsFrom Fills answers) old c (Word answer) new) e step in printed true file f.0 f.1 f.2
-    steps command file (inr e) step = let f : ModuleStep (LoadsFrom Fills answers) old (LoadLibrary file) (Word answer) new = subst (λ c. ModuleStep (LoadsFrom Fills answers) old c (Word answer) new) e step in printed false file f.0 f.1 f.2
+    steps : (command : C.ModuleCommand) (file : List ℕ) → (command ≡ C.LoadModule file) ⊎ (command ≡ C.LoadLibrary file) → ModuleStep (LoadsFrom Fills answers) old command (Word answer) new → Does new
+    steps command file (inl e) step = let f : ModuleStep (LoadsFrom Fills answers) old (C.LoadModule file) (Word answer) new = subst (λ c. ModuleStep (LoadsFrom Fills answers) old c (Word answer) new) e step in printed true file f.0 f.1 f.2
+    steps command file (inr e) step = let f : ModuleStep (LoadsFrom Fills answers) old (C.LoadLibrary file) (Word answer) new = subst (λ c. ModuleStep (LoadsFrom Fills answers) old c (Word answer) new) e step in printed false file f.0 f.1 f.2
 
 pub load_law : (honest : Type 0) → LoadLaw honest
 load_law honest format old new command file answer is which le step =

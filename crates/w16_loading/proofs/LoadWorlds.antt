@@ -1,27 +1,21 @@
 -- A load that has come to its end keeps what holds of every world.
-use Rattle.w16_loading.proofs.Common.{◌≡◌, ◌≢◌, ℕ, zero, suc, ◌+◌, ◌-◌, ◌<◌, ◌≤◌, ◌==◌, inl, inr, ◌⊎◌, Bool, true, false, cond, List, [], ◌∷◌, length, fold, filter, map, zip, slice_get, slice_index_or, Option, Some, None, IfSome, IsSomeAnd}
-use Rattle.w16_loading.proofs.Common.{MatchOption, is_some, refl, sym, ap, ◌∙◌, subst, arith, eq-eqb, AllZip, nat_cmp, false≢true, cases_eq, AllZip-left, Kind, Heap, Object, IsHeap, object_at, AreHandles, owned_in, owned_at, Member, EachPair}
-use Rattle.w16_loading.proofs.Common.{Each-at, Each-from_All, EachPair-from_AllPairs, filter_member, true-is_member, inserted_here, other_handles, is_named, MOST_USES, IsModuleFile, IsSegmentData, Segment, LoadingWorld, Load, Module, Named}
-use Rattle.w16_loading.proofs.Common.{IsFreeModule, IsSegmentOf, name_of, module_at, module_in, importers, usage, usage_with, with_heap, Loaded, Filling, InTurn, Closure, Referent, around, New, attributes_of, Choice, IsChoice, Given, all_slots}
-use Rattle.w16_loading.proofs.Common.{given, segments_of, with_segment, bound, imports_at, handle_meant, named, fills, Answers, GivesFrom, Fills, IsLoadingWorld, IsModule, IsObjectOf, slots_at, slots_for, owned_slots, unused_slot, Owned, SegmentData}
+use Rattle.w16_loading.proofs
+use proofs.Common as C
+use proofs.Given as M
+use proofs.Common.{◌≡◌, ◌≢◌, ℕ, zero, suc, ◌+◌, ◌-◌, ◌<◌, ◌≤◌, ◌==◌, inl, inr, ◌⊎◌, Bool, true, false, cond, List, [], ◌∷◌, length, fold, map, zip, slice_get, Option, Some, None, IfSome, IsSomeAnd, is_some, refl, sym, ap, ◌∙◌, subst, arith, false≢true, Kind, Heap, object_at, owned_in}
+use proofs.Common.{owned_at, Member, Each-at, true-is_member, inserted_here, is_named, MOST_USES, IsSegmentData, Segment, LoadingWorld, Load, Module, Named, IsFreeModule, name_of, module_at, importers, usage, usage_with, Loaded, Filling, Referent, New, attributes_of, Given, given}
+use proofs.Common.{segments_of, with_segment, bound, imports_at, handle_meant, named, fills, Fills, IsModule, IsObjectOf, slots_at, slots_for, Owned}
+use proofs.Undone.{chosen, fold_named, same_owned}
+use proofs.Fillings.{SameRange, any_do, any_kept, any_there, any_range, any_sized}
+use proofs.Named.{AreApart, given_slots_apart, named_handles, free_slot}
+use proofs.Given.{given_found, member_place, place_member, put_named, put_here, loaded_is}
+use proofs.Worlds.{IsNumber, AreNamesApart, HasOwner, same_module, is_used, is_load, owner_stays, extends}
+use proofs.ModuleWorlds.{importers_stay, still_used, not_named}
+use proofs.{Importers.HasImporter, Importers.of_importer, KeptWorlds.IsOwned, FetchWorlds.filled_owned, ClosureFacts.IsClosure, Answered.AreAnswers, Owners.object_there}
 use Rattle.std.specs.FinMap as finmap
-use Rattle.w16_loading.proofs.Undone.{chosen, fold_named, same_owned}
-use Rattle.w16_loading.proofs.Fillings.{SameRange, any_do, any_kept, any_there, any_range, any_sized}
-use Rattle.w16_loading.proofs.Named.{AreApart, given_slots_apart, named_handles, free_slot}
-use Rattle.w16_loading.proofs.Given.{given_found, given_slot, given_slots_differ, one_given, member_place, place_member, zip_place, index_place, one_place, given_long, given_handle}
-use Rattle.w16_loading.proofs.Given.{given_segment, segment_given, at_place, given_index, one_named, put_all, put_named, put_here, named_back, IsFilledBy, filled_by, zip_member, new_or_old}
-use Rattle.w16_loading.proofs.Given.{loaded_is}
-use Rattle.w16_loading.proofs.Importers.{HasImporter, of_importer}
-use Rattle.w16_loading.proofs.KeptWorlds.{IsOwned}
-use Rattle.w16_loading.proofs.FetchWorlds.{filled_owned}
-use Rattle.w16_loading.proofs.Worlds.{IsNumber, AreNamesApart, HasOwner, same_module, is_used, is_load, owner_stays, extends}
-use Rattle.w16_loading.proofs.ModuleWorlds.{importers_stay, still_used, not_named}
-use Rattle.w16_loading.proofs.ClosureFacts.{IsClosure}
-use Rattle.w16_loading.proofs.Answered.{AreAnswers}
-use Rattle.w16_loading.proofs.Owners.{object_there}
 
 -- What is filled has its size, and all else what it had.
-all_owned : (answers : Answers) (old new : Heap) (xs : List Filling) → IsHeap old → InTurn (GivesFrom Fills answers) old xs None new → (q : ℕ) (kind : Kind) (size : ℕ) → ((x : Filling) → Member x xs → q ≡ x.slot → length x.bytes ≡ size) → IsOwned old q kind size → IsOwned new q kind size
+all_owned : (answers : C.Answers) (old new : Heap) (xs : List Filling) → C.IsHeap old → C.InTurn (C.GivesFrom Fills answers) old xs None new → (q : ℕ) (kind : Kind) (size : ℕ) → ((x : Filling) → Member x xs → q ≡ x.slot → length x.bytes ≡ size) → IsOwned old q kind size → IsOwned new q kind size
 all_owned answers old new xs is f q kind size long = (any_do answers (λ a b. IsOwned a q kind size → IsOwned b q kind size) (λ a k. k) (λ a b c x y k. y (x k)) old new xs None is
     (λ x m a b h read same again g. filled_owned a x.slot read b h g q kind size (λ e. same ∙ long x m e)) f).0
 
@@ -49,8 +43,8 @@ one_segment_of (z ∷ xs) apart x y (inr m) (inl f) e = absurd (Each-at (λ (k :
 one_segment_of (z ∷ xs) apart x y (inr m) (inr n) e = one_segment_of xs apart.1 x y m n e
 
 -- The world.
-module _ (answers : Answers) (are : AreAnswers answers) (old : LoadingWorld) (is : IsLoadingWorld old) (closure : Closure) (choice : Choice) (good : IsChoice old closure.found choice) (facts : IsClosure answers (around old).named closure)
-    (heap : Heap) (filled : InTurn (GivesFrom Fills answers) (named old closure choice).handles.heap (fills old closure choice) None heap) where
+module _ (answers : C.Answers) (are : AreAnswers answers) (old : LoadingWorld) (is : C.IsLoadingWorld old) (closure : C.Closure) (choice : C.Choice) (good : C.IsChoice old closure.found choice) (facts : IsClosure answers (C.around old).named closure)
+    (heap : Heap) (filled : C.InTurn (C.GivesFrom Fills answers) (named old closure choice).handles.heap (fills old closure choice) None heap) where
   abbrev gs : List Given
   gs = given closure choice
 
@@ -61,13 +55,13 @@ module _ (answers : Answers) (are : AreAnswers answers) (old : LoadingWorld) (is
   begun = named old closure choice
 
   abbrev new : LoadingWorld
-  new = with_heap begun heap
+  new = C.with_heap begun heap
 
-  pub slots_differ : EachPair (λ a b. a ≢ b) (all_slots choice)
-  slots_differ = EachPair-from_AllPairs (λ (a b : ℕ). a ≢ b) (all_slots choice) good.slots.apart
+  pub slots_differ : C.EachPair (λ a b. a ≢ b) (C.all_slots choice)
+  slots_differ = C.EachPair-from_AllPairs (λ (a b : ℕ). a ≢ b) (C.all_slots choice) good.slots.apart
 
-  pub handles_differ : EachPair (λ a b. a ≢ b) choice.handles
-  handles_differ = EachPair-from_AllPairs (λ (a b : ℕ). a ≢ b) choice.handles good.apart
+  pub handles_differ : C.EachPair (λ a b. a ≢ b) choice.handles
+  handles_differ = C.EachPair-from_AllPairs (λ (a b : ℕ). a ≢ b) choice.handles good.apart
 
   pub segments_differ : AreApart (segments_of gs)
   segments_differ = given_slots_apart 0 closure.found choice.handles choice.slots slots_differ
@@ -75,26 +69,26 @@ module _ (answers : Answers) (are : AreAnswers answers) (old : LoadingWorld) (is
   -- each segment is small enough for one slot
   small : (x : ℕ × Segment) → Member x (segments_of gs) → 1 ≡ slots_for x.1.size
   small x m =
-      let r : (g : Given) × Member g gs × Member x (zip g.slots g.found.read.tables.segments) = segment_given gs x m in
+      let r : (g : Given) × Member g gs × Member x (zip g.slots g.found.read.tables.segments) = M.segment_given gs x m in
       let p : (i : ℕ) × (slice_get (zip r.0.slots r.0.found.read.tables.segments) i ≡ Some x) = member_place (zip r.0.slots r.0.found.read.tables.segments) x r.2 in
-      let file : IsModuleFile r.0.found.read = are.holds r.0.found.file r.0.found.read (facts.held r.0.found (given_found 0 closure.found choice.handles choice.slots r.0 r.1)) in
-      of_data (slice_get r.0.found.read.segments p.0) (subst (λ a. MatchOption a (Unit {0}) (λ y. IsSomeAnd (slice_get r.0.found.read.segments p.0) (IsSegmentData y))) (zip_place r.0.slots r.0.found.read.tables.segments p.0 x p.1).1
-      (AllZip-left IsSegmentData r.0.found.read.tables.segments r.0.found.read.segments file.segments p.0))
+      let file : C.IsModuleFile r.0.found.read = are.holds r.0.found.file r.0.found.read (facts.held r.0.found (given_found 0 closure.found choice.handles choice.slots r.0 r.1)) in
+      of_data (slice_get r.0.found.read.segments p.0) (subst (λ a. C.MatchOption a (Unit {0}) (λ y. IsSomeAnd (slice_get r.0.found.read.segments p.0) (IsSegmentData y))) (M.zip_place r.0.slots r.0.found.read.tables.segments p.0 x p.1).1
+      (C.AllZip-left IsSegmentData r.0.found.read.tables.segments r.0.found.read.segments file.segments p.0))
     where
-      of_data : (d : Option SegmentData) → IsSomeAnd d (IsSegmentData x.1) → 1 ≡ slots_for x.1.size
+      of_data : (d : Option C.SegmentData) → IsSomeAnd d (IsSegmentData x.1) → 1 ≡ slots_for x.1.size
       of_data None h = absurd h
       of_data (Some d) h = omega (arith, h.some, h.small)
 
-  begun_handles : AreHandles begun.handles
+  begun_handles : C.AreHandles begun.handles
   begun_handles = named_handles old closure choice is.handles good small
 
   -- a slot of a new segment was free
   pub was_free : (x : ℕ × Segment) → Member x (segments_of gs) → object_at old.handles.heap x.0 ≡ None
-  was_free x m = unused_slot old.handles is.handles x.0 (free_slot old closure choice good x.0 (chosen 0 closure.found choice.handles choice.slots x m))
+  was_free x m = C.unused_slot old.handles is.handles x.0 (free_slot old closure choice good x.0 (chosen 0 closure.found choice.handles choice.slots x m))
 
   -- a handle of a new module was free
   pub free_handle : (g : Given) → Member g gs → IsFreeModule old.modules g.handle
-  free_handle g m = Each-at (IsFreeModule old.modules) choice.handles (Each-from_All (IsFreeModule old.modules) choice.handles good.free) g.handle (given_handle 0 closure.found choice.handles choice.slots g m)
+  free_handle g m = Each-at (IsFreeModule old.modules) choice.handles (C.Each-from_All (IsFreeModule old.modules) choice.handles good.free) g.handle (M.given_handle 0 closure.found choice.handles choice.slots g m)
 
   none_some : {X A : Type 0} (p : Option X) (x : X) → p ≡ None → p ≡ Some x → A
   none_some p x e f = let h : ◌≡◌ {A = Option _} None (Some x) = sym e ∙ f in cc
@@ -104,18 +98,18 @@ module _ (answers : Answers) (are : AreAnswers answers) (old : LoadingWorld) (is
   -- what is filled has the size of its segment
   pub sized : (x : Filling) → Member x (fills old closure choice) → (segment : Segment) × Member {X = ℕ × Segment} (x.slot, segment) (segments_of gs) × (length x.bytes ≡ segment.size)
   sized x m =
-      let r : (g : Given) × Member g gs × IsFilledBy module_of g x = filled_by module_of gs x m in
-      let f : IsFilledBy module_of r.0 x = r.2 in
-      let file : IsModuleFile r.0.found.read = are.holds r.0.found.file r.0.found.read (facts.held r.0.found (given_found 0 closure.found choice.handles choice.slots r.0 r.1)) in
-      let both : IsSomeAnd (slice_get r.0.found.read.segments f.place) (IsSegmentData f.segment) = subst (λ p. MatchOption p (Unit {0}) (λ y. IsSomeAnd (slice_get r.0.found.read.segments f.place) (IsSegmentData y))) f.segment_at
-      (AllZip-left IsSegmentData r.0.found.read.tables.segments r.0.found.read.segments file.segments f.place) in
+      let r : (g : Given) × Member g gs × M.IsFilledBy module_of g x = M.filled_by module_of gs x m in
+      let f : M.IsFilledBy module_of r.0 x = r.2 in
+      let file : C.IsModuleFile r.0.found.read = are.holds r.0.found.file r.0.found.read (facts.held r.0.found (given_found 0 closure.found choice.handles choice.slots r.0 r.1)) in
+      let both : IsSomeAnd (slice_get r.0.found.read.segments f.place) (IsSegmentData f.segment) = subst (λ p. C.MatchOption p (Unit {0}) (λ y. IsSomeAnd (slice_get r.0.found.read.segments f.place) (IsSegmentData y))) f.segment_at
+      (C.AllZip-left IsSegmentData r.0.found.read.tables.segments r.0.found.read.segments file.segments f.place) in
       let is_data : IsSegmentData f.segment f.its_data = subst (λ p. IsSomeAnd p (IsSegmentData f.segment)) f.data_at both in
-      (f.segment, given_segment gs r.0 (x.slot, f.segment) r.1 (zip_member r.0.slots r.0.found.read.tables.segments f.place x.slot f.segment f.slot_at f.segment_at), ap length f.image ∙ (is_data.image f.its_values).0)
+      (f.segment, M.given_segment gs r.0 (x.slot, f.segment) r.1 (M.zip_member r.0.slots r.0.found.read.tables.segments f.place x.slot f.segment f.slot_at f.segment_at), ap length f.image ∙ (is_data.image f.its_values).0)
 
-  filled_handles : AreHandles (record begun.handles { heap = heap })
+  filled_handles : C.AreHandles (record begun.handles { heap = heap })
   filled_handles =
       let range : SameRange begun.handles.heap heap = any_range answers begun.handles.heap heap (fills old closure choice) None begun_handles.heap filled in
-      other_handles begun.handles begun_handles heap (any_kept answers begun.handles.heap heap (fills old closure choice) None begun_handles.heap filled).0 range.lo range.grain
+      C.other_handles begun.handles begun_handles heap (any_kept answers begun.handles.heap heap (fills old closure choice) None begun_handles.heap filled).0 range.lo range.grain
       (any_there answers begun.handles.heap heap (fills old closure choice) None begun_handles.heap filled)
       (λ q. any_sized answers begun.handles.heap heap (fills old closure choice) None begun_handles.heap filled q (slots_at begun.handles.attributes q) (enough q) (begun_handles.sized q))
     where
@@ -123,14 +117,14 @@ module _ (answers : Answers) (are : AreAnswers answers) (old : LoadingWorld) (is
       enough q y n e =
           let s : (segment : Segment) × Member {X = ℕ × Segment} (y.slot, segment) (segments_of gs) × (length y.bytes ≡ segment.size) = sized y n in
           ap (slots_at begun.handles.attributes) e
-          ∙ subst (λ p. IfSome p (λ (o : Owned). slots_at begun.handles.attributes y.slot ≡ slots_for o.size)) (named_new old (segments_of gs) segments_differ (y.slot, s.0) s.1).1 (owned_slots begun.handles begun_handles y.slot)
+          ∙ subst (λ p. IfSome p (λ (o : Owned). slots_at begun.handles.attributes y.slot ≡ slots_for o.size)) (named_new old (segments_of gs) segments_differ (y.slot, s.0) s.1).1 (C.owned_slots begun.handles begun_handles y.slot)
           ∙ ap slots_for (sym s.2)
 
   -- a new segment's object
   made : (x : ℕ × Segment) → Member x (segments_of gs) → IsObjectOf new x.0 x.1.kind x.1.size x.1.is_code
   made x m = record {
     object = all_owned answers begun.handles.heap heap (fills old closure choice) begun_handles.heap filled x.0 x.1.kind x.1.size long
-        (subst (λ p. IsSomeAnd p (λ (o : Object). (o.kind ≡ x.1.kind) × IfSome o.bytes (λ b. length b ≡ x.1.size))) (sym ((named_new old (segments_of gs) segments_differ x m).0)) (refl, tt));
+        (subst (λ p. IsSomeAnd p (λ (o : C.Object). (o.kind ≡ x.1.kind) × IfSome o.bytes (λ b. length b ≡ x.1.size))) (sym ((named_new old (segments_of gs) segments_differ x m).0)) (refl, tt));
     owned = (named_new old (segments_of gs) segments_differ x m).1;
   }
     where
@@ -147,7 +141,7 @@ module _ (answers : Answers) (are : AreAnswers answers) (old : LoadingWorld) (is
   kept : (q : ℕ) (kind : Kind) (size : ℕ) (code : Bool) → IsObjectOf old q kind size code → IsObjectOf new q kind size code
   kept q kind size code h = record {
     object = all_owned answers begun.handles.heap heap (fills old closure choice) begun_handles.heap filled q kind size (λ y n e. absurd (out y n e))
-        (subst (λ p. IsSomeAnd p (λ (o : Object). (o.kind ≡ kind) × IfSome o.bytes (λ b. length b ≡ size))) (sym ((fold_named old (segments_of gs)).others q (not_new q kind size code h))) h.object);
+        (subst (λ p. IsSomeAnd p (λ (o : C.Object). (o.kind ≡ kind) × IfSome o.bytes (λ b. length b ≡ size))) (sym ((fold_named old (segments_of gs)).others q (not_new q kind size code h))) h.object);
     owned = same_owned old (segments_of gs) q (not_new q kind size code h) ∙ h.owned;
   }
     where
@@ -161,7 +155,7 @@ module _ (answers : Answers) (are : AreAnswers answers) (old : LoadingWorld) (is
   is_new g m n e = none_some (finmap.get old.modules g.handle) n (free_handle g m).2 e
 
   there_still : (a : ℕ) (n : Named) → finmap.get old.modules a ≡ Some n → finmap.get new.modules a ≡ Some n
-  there_still a n e = put_all module_of gs old.modules a (λ g m same. is_new g m n (ap (finmap.get old.modules) (sym same) ∙ e)) ∙ e
+  there_still a n e = M.put_all module_of gs old.modules a (λ g m same. is_new g m n (ap (finmap.get old.modules) (sym same) ∙ e)) ∙ e
 
   numbers : (a : ℕ) → IfSome (finmap.get new.modules a) (λ _. IsNumber a)
   numbers a = turn (finmap.get new.modules a) refl
@@ -183,19 +177,19 @@ module _ (answers : Answers) (are : AreAnswers answers) (old : LoadingWorld) (is
     where
       turn : ((g : Given) × Member g gs × (g.handle ≡ a) × (x ≡ Loaded (module_of g))) ⊎ (finmap.get old.modules a ≡ Some x) → ((g : Given) × Member g gs × (g.handle ≡ b) × (y ≡ Loaded (module_of g))) ⊎ (finmap.get old.modules b ≡ Some y) → a ≡ b
       turn (inl u) (inl v) =
-          let same : u.0 ≡ v.0 = one_named 0 closure.found choice.handles choice.slots facts.apart u.0 v.0 u.1 v.1 (subst (λ (n : Named). is_named u.0.found.read.tables.name (name_of n) ≡ true) v.3 (subst (λ (n : Named). is_named (name_of n) (name_of y) ≡ true) u.3 t)) in
+          let same : u.0 ≡ v.0 = M.one_named 0 closure.found choice.handles choice.slots facts.apart u.0 v.0 u.1 v.1 (subst (λ (n : Named). is_named u.0.found.read.tables.name (name_of n) ≡ true) v.3 (subst (λ (n : Named). is_named (name_of n) (name_of y) ≡ true) u.3 t)) in
           sym u.2 ∙ (λ i. (same i).handle) ∙ v.2
-      turn (inl u) (inr v) = absurd (false≢true (sym (unnamed u.0 u.1 b y v) ∙ named_back u.0.found.read.tables.name (name_of y) (subst (λ (n : Named). is_named (name_of n) (name_of y) ≡ true) u.3 t)))
+      turn (inl u) (inr v) = absurd (false≢true (sym (unnamed u.0 u.1 b y v) ∙ M.named_back u.0.found.read.tables.name (name_of y) (subst (λ (n : Named). is_named (name_of n) (name_of y) ≡ true) u.3 t)))
       turn (inr u) (inl v) = absurd (false≢true (sym (unnamed v.0 v.1 a x u) ∙ subst (λ (n : Named). is_named (name_of x) (name_of n) ≡ true) v.3 t))
       turn (inr u) (inr v) = is.names a b x y u v t
 
   -- a module that is there is a new one, or was there
   which : (a : ℕ) (m : Module) → module_at new.modules a ≡ Some m → ((g : Given) × Member g gs × (g.handle ≡ a) × (m ≡ module_of g)) ⊎ (module_at old.modules a ≡ Some m)
-  which a m e = new_or_old module_of gs old.modules a m e
+  which a m e = M.new_or_old module_of gs old.modules a m e
 
   -- its segments
   zip_all : (slots : List ℕ) (segments : List Segment) → length slots ≡ length segments → ((x : ℕ × Segment) → Member x (zip slots segments) → IsObjectOf new x.0 x.1.kind x.1.size x.1.is_code)
-      → AllZip (λ slot (s : Segment). IsObjectOf new slot s.kind s.size s.is_code) slots segments
+      → C.AllZip (λ slot (s : Segment). IsObjectOf new slot s.kind s.size s.is_code) slots segments
   zip_all [] [] e f = tt
   zip_all [] (s ∷ ss) e f = absurd (omega (arith, e))
   zip_all (q ∷ qs) [] e f = absurd (omega (arith, e))
@@ -204,24 +198,24 @@ module _ (answers : Answers) (are : AreAnswers answers) (old : LoadingWorld) (is
   -- a module that another asked for has an importer
   asked_for : (g : Given) → Member g gs → 0 < g.place → HasImporter new.modules g.handle
   asked_for g member some =
-      let i : (i : ℕ) × (g.place ≡ 0 + i) × (i < length closure.found) × (slice_get choice.handles i ≡ Some g.handle) = given_index 0 closure.found choice.handles choice.slots g member in
+      let i : (i : ℕ) × (g.place ≡ 0 + i) × (i < length closure.found) × (slice_get choice.handles i ≡ Some g.handle) = M.given_index 0 closure.found choice.handles choice.slots g member in
       let same : g.place ≡ 0 + i.0 = i.1 in
       let asks : (by : ℕ) × Member {X = ℕ × Referent} (by, New i.0) closure.bound × (by ≢ i.0) = facts.asked i.0 (omega (arith, same, some)) i.2 in
       let few : asks.0 < length closure.found = Each-at (λ (x : ℕ × Referent). x.0 < length closure.found) closure.bound facts.bound (asks.0, New i.0) asks.1 in
-      let h : (h : Given) × Member h gs × (h.place ≡ 0 + asks.0) × (slice_get choice.handles asks.0 ≡ Some h.handle) = at_place 0 closure.found choice.handles choice.slots good.many good.slots.many asks.0 few in
+      let h : (h : Given) × Member h gs × (h.place ≡ 0 + asks.0) × (slice_get choice.handles asks.0 ≡ Some h.handle) = M.at_place 0 closure.found choice.handles choice.slots good.many good.slots.many asks.0 few in
       let its_place : h.0.place ≡ 0 + asks.0 = h.2 in
       let exact : asks.0 ≡ h.0.place = omega (arith, its_place) in
       record {
         who = h.0.handle;
         importer = Loaded (module_of h.0);
         there = put_here module_of 0 closure.found choice.handles choice.slots old.modules handles_differ h.0 h.1;
-        other = λ e. asks.2 (one_place choice.handles asks.0 i.0 g.handle handles_differ (h.3 ∙ ap Some e) i.3);
-        uses = true-is_member g.handle (imports_at closure choice h.0.place) (meant_member closure.bound h.0.place i.0 (subst (λ p. Member {X = ℕ × Referent} (p, New i.0) closure.bound) exact asks.1) g.handle (index_place choice.handles i.0 g.handle 0 i.3));
+        other = λ e. asks.2 (M.one_place choice.handles asks.0 i.0 g.handle handles_differ (h.3 ∙ ap Some e) i.3);
+        uses = true-is_member g.handle (imports_at closure choice h.0.place) (meant_member closure.bound h.0.place i.0 (subst (λ p. Member {X = ℕ × Referent} (p, New i.0) closure.bound) exact asks.1) g.handle (M.index_place choice.handles i.0 g.handle 0 i.3));
       }
     where
-      meant_member : (bound : List (ℕ × Referent)) (place p : ℕ) → Member {X = ℕ × Referent} (place, New p) bound → (handle : ℕ) → slice_index_or choice.handles p 0 ≡ handle
-          → Member handle (map (λ (b : ℕ × Referent). handle_meant choice.handles b.1) (filter (λ (b : ℕ × Referent). b.0 == place) bound))
-      meant_member bound place p m handle e = mapped (filter (λ (b : ℕ × Referent). b.0 == place) bound) (filter_member (λ (b : ℕ × Referent). b.0 == place) bound (place, New p) m (eq-eqb place place refl))
+      meant_member : (bound : List (ℕ × Referent)) (place p : ℕ) → Member {X = ℕ × Referent} (place, New p) bound → (handle : ℕ) → C.slice_index_or choice.handles p 0 ≡ handle
+          → Member handle (map (λ (b : ℕ × Referent). handle_meant choice.handles b.1) (C.filter (λ (b : ℕ × Referent). b.0 == place) bound))
+      meant_member bound place p m handle e = mapped (C.filter (λ (b : ℕ × Referent). b.0 == place) bound) (C.filter_member (λ (b : ℕ × Referent). b.0 == place) bound (place, New p) m (C.eq-eqb place place refl))
         where
           mapped : (xs : List (ℕ × Referent)) → Member {X = ℕ × Referent} (place, New p) xs → Member handle (map (λ (b : ℕ × Referent). handle_meant choice.handles b.1) xs)
           mapped [] m = absurd m
@@ -237,7 +231,7 @@ module _ (answers : Answers) (are : AreAnswers answers) (old : LoadingWorld) (is
       turn false t = let some : 0 < importers new.modules g.handle = of_importer new.modules g.handle (asked_for g member (not_zero g.place t)) in omega (arith, some)
         where
           not_zero : (n : ℕ) → (n == 0) ≡ false → 0 < n
-          not_zero zero t = absurd (false≢true (sym t ∙ eq-eqb 0 0 refl))
+          not_zero zero t = absurd (false≢true (sym t ∙ C.eq-eqb 0 0 refl))
           not_zero (suc n) t = omega arith
 
   few_uses : (g : Given) → (module_of g).uses ≤ MOST_USES
@@ -249,7 +243,7 @@ module _ (answers : Answers) (are : AreAnswers answers) (old : LoadingWorld) (is
 
   new_module : (g : Given) → Member g gs → IsModule new g.handle (module_of g)
   new_module g member = record {
-    segments = zip_all g.slots g.found.read.tables.segments (given_long 0 closure.found choice.handles choice.slots good.slots.many g member) (λ x m. made x (given_segment gs g x member m));
+    segments = zip_all g.slots g.found.read.tables.segments (M.given_long 0 closure.found choice.handles choice.slots good.slots.many g member) (λ x m. made x (M.given_segment gs g x member m));
     used = subst (λ p. 0 < usage_with p (importers new.modules g.handle)) (sym (put_here module_of 0 closure.found choice.handles choice.slots old.modules handles_differ g member)) (new_used g member);
     full = few_uses g;
   }
@@ -264,27 +258,27 @@ module _ (answers : Answers) (are : AreAnswers answers) (old : LoadingWorld) (is
   -- Resources.
 
   same_load : (q : ℕ) → finmap.get new.loads q ≡ finmap.get old.loads q
-  same_load q = ap (λ (m : finmap.FinMap nat_cmp Load). finmap.get m q) (ap (λ (w : LoadingWorld). w.loads) (fold_named old (segments_of gs)).rest)
+  same_load q = ap (λ (m : finmap.FinMap C.nat_cmp Load). finmap.get m q) (ap (λ (w : LoadingWorld). w.loads) (fold_named old (segments_of gs)).rest)
 
   module_still : (a : ℕ) (m : Module) → module_at old.modules a ≡ Some m → module_at new.modules a ≡ Some m
-  module_still a m e = ap module_in (there_still a (Loaded m) (loaded_is (finmap.get old.modules a) m e))
+  module_still a m e = ap C.module_in (there_still a (Loaded m) (loaded_is (finmap.get old.modules a) m e))
 
   -- Owners.
 
   -- a new segment's slot had no object
   slot_free : (q i : ℕ) (g : Given) → Member g gs → slice_get g.slots i ≡ Some q → object_at old.handles.heap q ≡ None
-  slot_free q i g m e = unused_slot old.handles is.handles q (free_slot old closure choice good q (given_slot 0 closure.found choice.handles choice.slots g q m (place_member g.slots i q e)))
+  slot_free q i g m e = C.unused_slot old.handles is.handles q (free_slot old closure choice good q (M.given_slot 0 closure.found choice.handles choice.slots g q m (place_member g.slots i q e)))
 
   abbrev IsNew : ℕ → Module → Type 0
   IsNew a m = (g : Given) × Member g gs × (g.handle ≡ a) × (m ≡ module_of g)
 
-  one_new : (q a i b j : ℕ) (m n : Module) → IsNew a m → IsNew b n → IsSegmentOf new q a i m → IsSegmentOf new q b j n → (a ≡ b) × (i ≡ j)
+  one_new : (q a i b j : ℕ) (m n : Module) → IsNew a m → IsNew b n → C.IsSegmentOf new q a i m → C.IsSegmentOf new q b j n → (a ≡ b) × (i ≡ j)
   one_new q a i b j m n u v s t =
       let x : slice_get u.0.slots (i - 1) ≡ Some q = ap (λ (k : Module). slice_get k.slots (i - 1)) (sym u.3) ∙ s.has.1 in
       let y : slice_get v.0.slots (j - 1) ≡ Some q = ap (λ (k : Module). slice_get k.slots (j - 1)) (sym v.3) ∙ t.has.1 in
-      let same : v.0 ≡ u.0 = one_given 0 closure.found choice.handles choice.slots u.0 v.0 q slots_differ u.1 v.1 (place_member u.0.slots (i - 1) q x) (place_member v.0.slots (j - 1) q y) in (
+      let same : v.0 ≡ u.0 = M.one_given 0 closure.found choice.handles choice.slots u.0 v.0 q slots_differ u.1 v.1 (place_member u.0.slots (i - 1) q x) (place_member v.0.slots (j - 1) q y) in (
         sym u.2 ∙ (λ k. (sym same k).handle) ∙ v.2,
-        place i j s.has.0 t.has.0 (one_place u.0.slots (i - 1) (j - 1) q (given_slots_differ 0 closure.found choice.handles choice.slots u.0 slots_differ u.1) x (ap (λ (g : Given). slice_get g.slots (j - 1)) (sym same) ∙ y)),
+        place i j s.has.0 t.has.0 (M.one_place u.0.slots (i - 1) (j - 1) q (M.given_slots_differ 0 closure.found choice.handles choice.slots u.0 slots_differ u.1) x (ap (λ (g : Given). slice_get g.slots (j - 1)) (sym same) ∙ y)),
       )
     where
       place : (i j : ℕ) → 0 < i → 0 < j → i - 1 ≡ j - 1 → i ≡ j
@@ -293,7 +287,7 @@ module _ (answers : Answers) (are : AreAnswers answers) (old : LoadingWorld) (is
   -- whether a slot is a new segment's
   is_given : (q : ℕ) (xs : List (ℕ × Segment)) → ((x : ℕ × Segment) × Member x xs × (x.0 ≡ q)) ⊎ ((x : ℕ × Segment) → Member x xs → q ≢ x.0)
   is_given q [] = inr (λ x m. absurd m)
-  is_given q (y ∷ xs) = turn (cases_eq q y.0) (is_given q xs)
+  is_given q (y ∷ xs) = turn (C.cases_eq q y.0) (is_given q xs)
     where
       turn : (q ≡ y.0) ⊎ (q ≢ y.0) → ((x : ℕ × Segment) × Member x xs × (x.0 ≡ q)) ⊎ ((x : ℕ × Segment) → Member x xs → q ≢ x.0) → ((x : ℕ × Segment) × Member x (y ∷ xs) × (x.0 ≡ q)) ⊎ ((x : ℕ × Segment) → Member x (y ∷ xs) → q ≢ x.0)
       turn (inl e) r = inl (y, inl refl, sym e)
@@ -302,14 +296,14 @@ module _ (answers : Answers) (are : AreAnswers answers) (old : LoadingWorld) (is
 
   owner_is : (q : ℕ) → ((x : ℕ × Segment) × Member x (segments_of gs) × (x.0 ≡ q)) ⊎ ((x : ℕ × Segment) → Member x (segments_of gs) → q ≢ x.0) → is_some (owned_at new.handles q) ≡ true → HasOwner new q
   owner_is q (inl r) some =
-      let g : (g : Given) × Member g gs × Member r.0 (zip g.slots g.found.read.tables.segments) = segment_given gs r.0 r.1 in
+      let g : (g : Given) × Member g gs × Member r.0 (zip g.slots g.found.read.tables.segments) = M.segment_given gs r.0 r.1 in
       let i : (i : ℕ) × (slice_get (zip g.0.slots g.0.found.read.tables.segments) i ≡ Some r.0) = member_place (zip g.0.slots g.0.found.read.tables.segments) r.0 g.2 in
-      let at : slice_get g.0.slots i.0 ≡ Some r.0.0 = (zip_place g.0.slots g.0.found.read.tables.segments i.0 r.0 i.1).0 in (
+      let at : slice_get g.0.slots i.0 ≡ Some r.0.0 = (M.zip_place g.0.slots g.0.found.read.tables.segments i.0 r.0 i.1).0 in (
         g.0.handle,
         i.0 + 1,
         module_of g.0,
         inl (record {
-          loaded = ap module_in (put_here module_of 0 closure.found choice.handles choice.slots old.modules handles_differ g.0 g.1);
+          loaded = ap C.module_in (put_here module_of 0 closure.found choice.handles choice.slots old.modules handles_differ g.0 g.1);
           has = (omega arith, ap (slice_get g.0.slots) (back i.0) ∙ at ∙ ap Some r.2);
         }),
       )
@@ -318,7 +312,7 @@ module _ (answers : Answers) (are : AreAnswers answers) (old : LoadingWorld) (is
       back n = omega arith
   owner_is q (inr out) some = owner_stays old is new (λ a m e. (m, module_still a m e, same_module m)) (λ k l e. (l.loads, same_load k ∙ e)) q (sym (ap is_some (same_owned old (segments_of gs) q out)) ∙ some)
 
-  pub loaded_world : IsLoadingWorld new
+  pub loaded_world : C.IsLoadingWorld new
   loaded_world = extends IsNew (λ _ _. ⊥) old new is (record {
     handles = filled_handles;
     numbers = numbers;

@@ -1,11 +1,11 @@
 -- A world stays one where its modules keep their slots and tables, names stay different, and each module stays in use.
-use Rattle.w16_loading.proofs.Common.{◌≡◌, ◌≢◌, ℕ, zero, suc, ◌+◌, ◌<◌, ◌≤◌, inl, inr, ◌⊎◌, Bool, true, false, cond, List, [], ◌∷◌, Option, Some, None, IfSome, option_map, refl, sym, ap, ◌∙◌, subst, arith, find, false≢true, cases_eq, Member, inserted_here}
-use Rattle.w16_loading.proofs.Common.{inserted_other, is_named, MOST_USES, LoadingWorld, Module, Modules, Named, IsFreeModule, name_of, handle_named, module_at, module_in, imports, importers, usage, usage_with, Loaded, BuiltIn, after_use, IsLoadingWorld, IsModule}
+use Rattle.w16_loading.proofs
+use proofs.Common.{◌≡◌, ◌≢◌, ℕ, zero, suc, ◌+◌, ◌<◌, ◌≤◌, inl, inr, ◌⊎◌, Bool, true, false, cond, List, [], ◌∷◌, Option, Some, None, IfSome, option_map, refl, sym, ap, ◌∙◌, subst, arith, find, false≢true, cases_eq, Member, inserted_here, inserted_other, is_named, MOST_USES, LoadingWorld}
+use proofs.Common.{Module, Modules, Named, IsFreeModule, name_of, handle_named, module_at, module_in, imports, importers, usage, usage_with, Loaded, BuiltIn, after_use, IsLoadingWorld, IsModule}
+use proofs.Given.{named_back, loaded_is}
+use proofs.Worlds.{SameModule, IsNumber, AreNamesApart, is_load, owner_stays, follows}
+use proofs.Importers.{HasImporter, importer_of, of_importer, there_entry}
 use Rattle.std.specs.FinMap as finmap
-use Rattle.w16_loading.proofs.Given.{named_back}
-use Rattle.w16_loading.proofs.Worlds.{SameModule, IsNumber, AreNamesApart, is_load, owner_stays, follows}
-use Rattle.w16_loading.proofs.Given.{loaded_is}
-use Rattle.w16_loading.proofs.Importers.{HasImporter, importer_of, of_importer, there_entry}
 
 module _ (old : LoadingWorld) (is : IsLoadingWorld old) (modules : Modules)
     (numbers : (handle : ℕ) → IfSome (finmap.get modules handle) (λ _. IsNumber handle))

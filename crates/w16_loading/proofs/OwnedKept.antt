@@ -1,9 +1,8 @@
 -- Calls on handles leave what a module owns: no object comes to be one's, or ceases to.
-use Rattle.w16_loading.proofs.Common.{◌≡◌, ℕ, inl, inr, false, Option, Some, None, is_some, option_map, unwrap_or, refl, sym, ap, ◌∙◌, false≢true, cases_eq, Attributes, Owned, object_at, Handles, AreHandles, slot_of_handle, owned_in, owned_at}
-use Rattle.w16_loading.proofs.Common.{is_owned, owns, global_lock, GlobalLock, Call, Outcome, attributes_asked, Calls, IsSame, IsUnmoved, IsLocked, IsUnlocked, IsFreed, IsNewest, IsOldest, IsEntered, IsAllocated, IsCompacted, IsModified, IsDiscarded}
-use Rattle.w16_loading.proofs.Common.{IsResized, call_outcome, KeepsContents, contents, inserted_here, inserted_other, taken_here, taken_other, Resized, FinMap, nat_cmp, slots_for, rounded_size, realloc_options, unused, some_slots, was_free}
-use Rattle.std.specs.FinMap as finmap
+use Rattle.w16_loading.proofs.Common as C
+use Rattle.w16_loading.proofs.Common.{◌≡◌, ℕ, inl, inr, false, Option, Some, None, is_some, refl, sym, ap, ◌∙◌, false≢true, cases_eq, Attributes, Owned, Handles, owned_in, owned_at, is_owned, owns, global_lock, Call, attributes_asked, Calls, nat_cmp, slots_for, rounded_size}
 use Rattle.w16_model.specs.Calls.{Answer}
+use Rattle.std.specs.FinMap as finmap
 
 -- each slot's object is a module's, or none's, as it was
 abbrev pub SameOwned : Handles → Handles → Type 0
@@ -17,39 +16,39 @@ no_owner : (p : Option Owned) → is_some p ≡ false → p ≡ None
 no_owner None e = refl
 no_owner (Some o) e = absurd (false≢true (sym e))
 
-module _ (old : Handles) (is : AreHandles old) (call : Call) (answer : Answer) (new : Handles) where
+module _ (old : Handles) (is : C.AreHandles old) (call : Call) (answer : Answer) (new : Handles) where
   -- the same attributes
   same : new.attributes ≡ old.attributes → SameOwned old new
   same e q = ap (λ a. owned_in (finmap.get a q)) e
 
   -- a free slot gets an object of no module's
-  given : (slot flags size : ℕ) → object_at old.heap slot ≡ None → new.attributes ≡ finmap.insert old.attributes slot (attributes_asked flags size) → SameOwned old new
+  given : (slot flags size : ℕ) → C.object_at old.heap slot ≡ None → new.attributes ≡ finmap.insert old.attributes slot (attributes_asked flags size) → SameOwned old new
   given slot flags size none e q = ap (λ a. owned_in (finmap.get a q)) e ∙ elim (cases_eq q slot) [
-    | inl e ↦ ap owned_in (inserted_here old.attributes slot (attributes_asked flags size) q e) ∙ sym (none_owned (finmap.get old.attributes q) (is.attributed q ∙ ap is_some (ap (object_at old.heap) e ∙ none)))
-    | inr d ↦ ap owned_in (inserted_other old.attributes slot (attributes_asked flags size) q d)
+    | inl e ↦ ap owned_in (C.inserted_here old.attributes slot (attributes_asked flags size) q e) ∙ sym (none_owned (finmap.get old.attributes q) (is.attributed q ∙ ap is_some (ap (C.object_at old.heap) e ∙ none)))
+    | inr d ↦ ap owned_in (C.inserted_other old.attributes slot (attributes_asked flags size) q d)
   ]
 
   -- an object of no module's goes
-  freed : (handle slot : ℕ) → slot_of_handle old handle ≡ Some slot → owns old handle ≡ false → new.attributes ≡ finmap.remove old.attributes slot → SameOwned old new
+  freed : (handle slot : ℕ) → C.slot_of_handle old handle ≡ Some slot → owns old handle ≡ false → new.attributes ≡ finmap.remove old.attributes slot → SameOwned old new
   freed handle slot found own e q = ap (λ a. owned_in (finmap.get a q)) e ∙ elim (cases_eq q slot) [
-    | inl e ↦ ap owned_in (taken_here old.attributes slot q e) ∙ sym (no_owner (owned_at old q) (ap (is_owned old) e ∙ sym (ap (λ p. unwrap_or (option_map (is_owned old) p) false) found) ∙ own))
-    | inr d ↦ ap owned_in (taken_other old.attributes slot q d)
+    | inl e ↦ ap owned_in (C.taken_here old.attributes slot q e) ∙ sym (no_owner (owned_at old q) (ap (is_owned old) e ∙ sym (ap (λ p. C.unwrap_or (C.option_map (is_owned old) p) false) found) ∙ own))
+    | inr d ↦ ap owned_in (C.taken_other old.attributes slot q d)
   ]
 
   -- an object of no module's gets another run
-  another_run : (r : Resized old call answer new) (p : Option Attributes) → finmap.get old.attributes r.slot ≡ p → (q : ℕ)
-      → owned_in (finmap.get (elim p as (λ _. FinMap nat_cmp Attributes) [ Some a ↦ finmap.insert (finmap.remove old.attributes r.slot) r.first (record a { slots = slots_for (rounded_size r.size) }) | None ↦ old.attributes ]) q) ≡ owned_at old q
+  another_run : (r : C.Resized old call answer new) (p : Option Attributes) → finmap.get old.attributes r.slot ≡ p → (q : ℕ)
+      → owned_in (finmap.get (elim p as (λ _. C.FinMap nat_cmp Attributes) [ Some a ↦ finmap.insert (finmap.remove old.attributes r.slot) r.first (record a { slots = slots_for (rounded_size r.size) }) | None ↦ old.attributes ]) q) ≡ owned_at old q
   another_run r None there q = refl
   another_run r (Some a) there q = elim (cases_eq q r.first) [
-    | inl e ↦ ap owned_in (inserted_here (finmap.remove old.attributes r.slot) r.first (record a { slots = slots_for (rounded_size r.size) }) q e) ∙ nobody_here ∙ sym (ap (owned_at old) e ∙ none_first)
-    | inr d ↦ ap owned_in (inserted_other (finmap.remove old.attributes r.slot) r.first (record a { slots = slots_for (rounded_size r.size) }) q d) ∙ elim (cases_eq q r.slot) [
-      | inl e ↦ ap owned_in (taken_here old.attributes r.slot q e) ∙ sym (ap (owned_at old) e ∙ nobodys)
-      | inr c ↦ ap owned_in (taken_other old.attributes r.slot q c)
+    | inl e ↦ ap owned_in (C.inserted_here (finmap.remove old.attributes r.slot) r.first (record a { slots = slots_for (rounded_size r.size) }) q e) ∙ nobody_here ∙ sym (ap (owned_at old) e ∙ none_first)
+    | inr d ↦ ap owned_in (C.inserted_other (finmap.remove old.attributes r.slot) r.first (record a { slots = slots_for (rounded_size r.size) }) q d) ∙ elim (cases_eq q r.slot) [
+      | inl e ↦ ap owned_in (C.taken_here old.attributes r.slot q e) ∙ sym (ap (owned_at old) e ∙ nobodys)
+      | inr c ↦ ap owned_in (C.taken_other old.attributes r.slot q c)
     ]
   ]
     where
       nobodys : owned_at old r.slot ≡ None
-      nobodys = no_owner (owned_at old r.slot) (sym (ap (λ p. unwrap_or (option_map (is_owned old) p) false) r.named.found) ∙ r.own)
+      nobodys = no_owner (owned_at old r.slot) (sym (ap (λ p. C.unwrap_or (C.option_map (is_owned old) p) false) r.named.found) ∙ r.own)
 
       nobody_here : a.owned ≡ None
       nobody_here = sym (ap owned_in there) ∙ nobodys
@@ -57,27 +56,27 @@ module _ (old : Handles) (is : AreHandles old) (call : Call) (answer : Answer) (
       none_first : owned_at old r.first ≡ None
       none_first = elim (cases_eq r.slot r.first) [
         | inl e ↦ ap (owned_at old) (sym e) ∙ nobodys
-        | inr d ↦ none_owned (finmap.get old.attributes r.first) (is.attributed r.first ∙ ap is_some (was_free old is r.slot (rounded_size r.size) (realloc_options r.flags) r.object r.named.there r.first r.gets r.heap r.resized d))
+        | inr d ↦ none_owned (finmap.get old.attributes r.first) (is.attributed r.first ∙ ap is_some (C.was_free old is r.slot (rounded_size r.size) (C.realloc_options r.flags) r.object r.named.there r.first r.gets r.heap r.resized d))
       ]
 
-  pub owned_by : Outcome old call answer new → SameOwned old new
-  owned_by (IsSame s e) = same (ap (λ (h : Handles). h.attributes) e)
-  owned_by (IsUnmoved s e) = same (ap (λ (h : Handles). h.attributes) e)
-  owned_by (IsLocked l) = same (ap (λ (h : Handles). h.attributes) l.rest)
-  owned_by (IsUnlocked u) = same (ap (λ (h : Handles). h.attributes) u.rest)
-  owned_by (IsFreed f) = freed f.handle f.slot f.named.found f.own (ap (λ (h : Handles). h.attributes) f.rest)
-  owned_by (IsNewest n) = same (ap (λ (h : Handles). h.attributes) n.rest)
-  owned_by (IsOldest n) = same (ap (λ (h : Handles). h.attributes) n.rest)
-  owned_by (IsEntered e) = given e.slot e.flags e.size (unused old is e.slot (slots_for (rounded_size e.size)) (some_slots (rounded_size e.size)) e.free) (ap (λ (h : Handles). h.attributes) e.rest)
-  owned_by (IsAllocated a) = given a.slot a.flags a.size (unused old is a.slot (slots_for (rounded_size a.size)) (some_slots (rounded_size a.size)) a.free) (ap (λ (h : Handles). h.attributes) a.rest)
-  owned_by (IsCompacted c) = same (ap (λ (h : Handles). h.attributes) c.rest)
-  owned_by (IsModified m) = same (ap (λ (h : Handles). h.attributes) m.rest)
-  owned_by (IsDiscarded d) = same (ap (λ (h : Handles). h.attributes) d.rest)
-  owned_by (IsResized r) = λ q. ap (λ (h : Handles). owned_at h q) r.rest ∙ another_run r (finmap.get old.attributes r.slot) refl q
+  pub owned_by : C.Outcome old call answer new → SameOwned old new
+  owned_by (C.IsSame s e) = same (ap (λ (h : Handles). h.attributes) e)
+  owned_by (C.IsUnmoved s e) = same (ap (λ (h : Handles). h.attributes) e)
+  owned_by (C.IsLocked l) = same (ap (λ (h : Handles). h.attributes) l.rest)
+  owned_by (C.IsUnlocked u) = same (ap (λ (h : Handles). h.attributes) u.rest)
+  owned_by (C.IsFreed f) = freed f.handle f.slot f.named.found f.own (ap (λ (h : Handles). h.attributes) f.rest)
+  owned_by (C.IsNewest n) = same (ap (λ (h : Handles). h.attributes) n.rest)
+  owned_by (C.IsOldest n) = same (ap (λ (h : Handles). h.attributes) n.rest)
+  owned_by (C.IsEntered e) = given e.slot e.flags e.size (C.unused old is e.slot (slots_for (rounded_size e.size)) (C.some_slots (rounded_size e.size)) e.free) (ap (λ (h : Handles). h.attributes) e.rest)
+  owned_by (C.IsAllocated a) = given a.slot a.flags a.size (C.unused old is a.slot (slots_for (rounded_size a.size)) (C.some_slots (rounded_size a.size)) a.free) (ap (λ (h : Handles). h.attributes) a.rest)
+  owned_by (C.IsCompacted c) = same (ap (λ (h : Handles). h.attributes) c.rest)
+  owned_by (C.IsModified m) = same (ap (λ (h : Handles). h.attributes) m.rest)
+  owned_by (C.IsDiscarded d) = same (ap (λ (h : Handles). h.attributes) d.rest)
+  owned_by (C.IsResized r) = λ q. ap (λ (h : Handles). owned_at h q) r.rest ∙ another_run r (finmap.get old.attributes r.slot) refl q
 
 -- a lock keeps them in any handles
 pub locked : (old : Handles) (handle : ℕ) → SameOwned old (global_lock old handle).1
 locked old handle q =
     let new : Handles = (global_lock old handle).1 in
-    let k : KeepsContents old new = contents old new (Calls (GlobalLock handle)) (global_lock old handle).0 (call_outcome old new (GlobalLock handle) (global_lock old handle).0 (refl, refl)) refl in
+    let k : C.KeepsContents old new = C.contents old new (Calls (C.GlobalLock handle)) (global_lock old handle).0 (C.call_outcome old new (C.GlobalLock handle) (global_lock old handle).0 (refl, refl)) refl in
     ap (λ a. owned_in (finmap.get a q)) k.attributes

@@ -1,19 +1,19 @@
 -- What each segment and each resource has: an object, whose owner it is.
-use Rattle.w16_loading.proofs.Common.{◌≡◌, ℕ, ◌+◌, ◌-◌, ◌<◌, ◌==◌, inl, inr, ◌⊎◌, Bool, true, false, List, [], ◌∷◌, length, Option, Some, None, IfSome, IsSomeAnd, MatchOption, is_some, option_map, position, slice_get, get_or, refl, sym, ap, ◌∙◌}
-use Rattle.w16_loading.proofs.Common.{subst, arith, eqb-true, eq-eqb, slice_get-get_or, position-Some, false≢true, AllZip-left, Kind, Owned, Object, object_at, rounded_size, owned_at, Member, Segment, Resource, numbered, LoadingWorld, Load, Module}
-use Rattle.w16_loading.proofs.Common.{Named, IsSegmentOf, IsResourceOf, module_at, module_in, Loaded, BuiltIn, IsLoadingWorld, IsModule, IsObjectOf, IsLoad, Owner, OwnerLaw, IsOwnerOf, owner_of, number_in, segment_among, Script, OfSegment, OfResource}
+use Rattle.w16_loading.proofs
+use proofs.Common as C
+use proofs.Common.{◌≡◌, ℕ, ◌+◌, ◌-◌, ◌<◌, ◌==◌, inl, inr, ◌⊎◌, Bool, true, false, List, [], ◌∷◌, Option, Some, None, IfSome, IsSomeAnd, is_some, position, slice_get, refl, sym, ap, ◌∙◌, subst, arith, false≢true, Kind, Owned, object_at, rounded_size, owned_at, Member, Segment, Resource}
+use proofs.Common.{numbered, LoadingWorld, Load, Module, Named, IsSegmentOf, IsResourceOf, Loaded, IsLoadingWorld, IsObjectOf, IsLoad, Owner, IsOwnerOf, segment_among, Script, OfSegment, OfResource}
+use proofs.Given.{loaded_is, place_member, no_place}
+use proofs.Importers.{entry_there, there_entry}
 use Rattle.std.specs.FinMap as finmap
-use Rattle.w16_loading.proofs.Given.{loaded_is}
-use Rattle.w16_loading.proofs.Importers.{entry_there, there_entry}
-use Rattle.w16_loading.proofs.Given.{place_member, no_place}
 
 module _ (world : LoadingWorld) (is : IsLoadingWorld world) (slot handle number : ℕ) (m : Module) where
   pub of_segment : IsSegmentOf world slot handle number m → IsSomeAnd (slice_get m.tables.segments (number - 1)) (λ g. IsObjectOf world slot g.kind g.size g.is_code)
-  of_segment s = subst (λ p. MatchOption p (Unit {0}) (λ q. IsSomeAnd (slice_get m.tables.segments (number - 1)) (λ g. IsObjectOf world q g.kind g.size g.is_code))) s.has.1
-      (AllZip-left (λ q (g : Segment). IsObjectOf world q g.kind g.size g.is_code) m.slots m.tables.segments sound.segments (number - 1))
+  of_segment s = subst (λ p. C.MatchOption p (Unit {0}) (λ q. IsSomeAnd (slice_get m.tables.segments (number - 1)) (λ g. IsObjectOf world q g.kind g.size g.is_code))) s.has.1
+      (C.AllZip-left (λ q (g : Segment). IsObjectOf world q g.kind g.size g.is_code) m.slots m.tables.segments sound.segments (number - 1))
     where
-      sound : IsModule world handle m
-      sound = subst (λ p. IfSome p (IsModule world handle)) s.loaded (is.modules handle)
+      sound : C.IsModule world handle m
+      sound = subst (λ p. IfSome p (C.IsModule world handle)) s.loaded (is.modules handle)
 
   pub of_resource : IsResourceOf world slot handle number m → IsSomeAnd (numbered m.tables.resources number) (λ r. IsObjectOf world slot r.kind (rounded_size r.length_in) false)
   of_resource r = subst (λ p. IsSomeAnd (elim p as (λ _. Option Resource) [ None ↦ None | Some n ↦ numbered n.tables.resources number ]) (λ x. IsObjectOf world slot x.kind (rounded_size x.length_in) false)) r.loaded sound.resource
@@ -25,7 +25,7 @@ module _ (world : LoadingWorld) (is : IsLoadingWorld world) (slot handle number 
 pub object_there : (world : LoadingWorld) (slot : ℕ) (kind : Kind) (size : ℕ) (code : Bool) → IsObjectOf world slot kind size code → is_some (object_at world.handles.heap slot) ≡ true
 object_there world slot kind size code h = some _ (object_at world.handles.heap slot) h.object
   where
-    some : (P : Object → Type 0) (p : Option Object) → IsSomeAnd p P → is_some p ≡ true
+    some : (P : C.Object → Type 0) (p : Option C.Object) → IsSomeAnd p P → is_some p ≡ true
     some P None h = absurd h
     some P (Some o) h = refl
 
@@ -48,12 +48,12 @@ module _ (world : LoadingWorld) (is : IsLoadingWorld world) (slot handle number 
 
 -- a load is of a module that is there
 pub loaded_of : (world : LoadingWorld) → IsLoadingWorld world → (slot : ℕ) (load : Load) → finmap.get world.loads slot ≡ Some load → (m : Module) × IsResourceOf world slot load.handle load.place m
-loaded_of world is slot load at = turn (module_at world.modules load.handle) refl sound.resource
+loaded_of world is slot load at = turn (C.module_at world.modules load.handle) refl sound.resource
   where
     sound : IsLoad world slot load
     sound = subst (λ p. IfSome p (IsLoad world slot)) at (is.loads slot)
 
-    turn : (p : Option Module) → module_at world.modules load.handle ≡ p → IsSomeAnd (elim p as (λ _. Option Resource) [ None ↦ None | Some n ↦ numbered n.tables.resources load.place ]) (λ r. IsObjectOf world slot r.kind (rounded_size r.length_in) false)
+    turn : (p : Option Module) → C.module_at world.modules load.handle ≡ p → IsSomeAnd (elim p as (λ _. Option Resource) [ None ↦ None | Some n ↦ numbered n.tables.resources load.place ]) (λ r. IsObjectOf world slot r.kind (rounded_size r.length_in) false)
         → (m : Module) × IsResourceOf world slot load.handle load.place m
     turn None e h = absurd h
     turn (Some m) e h = (m, record { loaded = e; loads = load.loads; has = at })
@@ -63,8 +63,8 @@ loaded_of world is slot load at = turn (module_at world.modules load.handle) ref
 -- the first place of a slot
 first_place : (slot : ℕ) (xs : List ℕ) (i : ℕ) → position (λ q. q == slot) xs ≡ Some i → slice_get xs i ≡ Some slot
 first_place slot xs i e =
-    let f : (i < length xs) × ((get_or xs i 0 == slot) ≡ true) × _ = position-Some (λ q. q == slot) xs i 0 e in
-    slice_get-get_or xs i 0 f.0 ∙ ap Some (eqb-true (get_or xs i 0) slot f.1)
+    let f : (i < C.length xs) × ((C.get_or xs i 0 == slot) ≡ true) × _ = C.position-Some (λ q. q == slot) xs i 0 e in
+    C.slice_get-get_or xs i 0 f.0 ∙ ap Some (C.eqb-true (C.get_or xs i 0) slot f.1)
 
 module _ (world : LoadingWorld) (is : IsLoadingWorld world) (slot : ℕ) where
   abbrev IsAmong : List (ℕ × Named) → Owner → Type 0
@@ -81,15 +81,15 @@ module _ (world : LoadingWorld) (is : IsLoadingWorld world) (slot : ℕ) where
       later (OfSegment handle number) out h = (h.0, inr h.1, h.2, h.3)
       later (OfResource handle place) out h = h
 
-      by : (n : Named) → e.1 ≡ n → IsAmong es (segment_among es slot) → IsAmong (e ∷ es) (elim (number_in n slot) [ Some number ↦ OfSegment e.0 number | None ↦ segment_among es slot ])
-      by (BuiltIn name) at h = later (segment_among es slot) (λ m f. let g : ◌≡◌ {A = Named} (BuiltIn name) (Loaded m) = sym at ∙ f in cc) h
+      by : (n : Named) → e.1 ≡ n → IsAmong es (segment_among es slot) → IsAmong (e ∷ es) (elim (C.number_in n slot) [ Some number ↦ OfSegment e.0 number | None ↦ segment_among es slot ])
+      by (C.BuiltIn name) at h = later (segment_among es slot) (λ m f. let g : ◌≡◌ {A = Named} (C.BuiltIn name) (Loaded m) = sym at ∙ f in cc) h
       by (Loaded m) at h = turn (position (λ q. q == slot) m.slots) refl
         where
           out : position (λ q. q == slot) m.slots ≡ None → Member slot m.slots → ⊥
-          out f k = false≢true (sym (no_place (λ q. q == slot) m.slots f slot k) ∙ eq-eqb slot slot refl)
+          out f k = false≢true (sym (no_place (λ q. q == slot) m.slots f slot k) ∙ C.eq-eqb slot slot refl)
 
           turn : (p : Option ℕ) → position (λ q. q == slot) m.slots ≡ p
-              → IsAmong (e ∷ es) (elim (option_map (λ i. i + 1) p) as (λ _. Owner) [ Some number ↦ OfSegment e.0 number | None ↦ segment_among es slot ])
+              → IsAmong (e ∷ es) (elim (C.option_map (λ i. i + 1) p) as (λ _. Owner) [ Some number ↦ OfSegment e.0 number | None ↦ segment_among es slot ])
           turn None f = later (segment_among es slot) (λ n g k. out f (subst (λ (y : Module). Member slot y.slots) (same n (sym g ∙ at)) k)) h
             where
               same : (n : Module) → Loaded n ≡ Loaded m → n ≡ m
@@ -99,7 +99,7 @@ module _ (world : LoadingWorld) (is : IsLoadingWorld world) (slot : ℕ) where
               back : (n : ℕ) → n + 1 - 1 ≡ n
               back n = omega arith
 
-  is_owner : IsOwnerOf world slot (owner_of world slot)
+  is_owner : IsOwnerOf world slot (C.owner_of world slot)
   is_owner = by_load (finmap.get world.loads slot) refl
     where
       script : finmap.get world.loads slot ≡ None → IsAmong (finmap.entries world.modules) Script → owned_at world.handles slot ≡ None
@@ -112,7 +112,7 @@ module _ (world : LoadingWorld) (is : IsLoadingWorld world) (slot : ℕ) where
 
       by_segment : finmap.get world.loads slot ≡ None → (owner : Owner) → IsAmong (finmap.entries world.modules) owner → IsOwnerOf world slot owner
       by_segment none Script h = script none h
-      by_segment none (OfSegment handle number) h = (h.0, record { loaded = ap module_in (entry_there world.modules handle (Loaded h.0) h.1); has = (h.2, h.3) })
+      by_segment none (OfSegment handle number) h = (h.0, record { loaded = ap C.module_in (entry_there world.modules handle (Loaded h.0) h.1); has = (h.2, h.3) })
       by_segment none (OfResource handle place) h = absurd h
 
       by_load : (p : Option Load) → finmap.get world.loads slot ≡ p → IsOwnerOf world slot (elim p as (λ _. Owner) [ Some load ↦ OfResource load.handle load.place | None ↦ segment_among (finmap.entries world.modules) slot ])
@@ -135,5 +135,5 @@ module _ (world : LoadingWorld) (is : IsLoadingWorld world) (slot : ℕ) where
   one_owner (OfResource a i) (OfResource b j) x y = let e : ◌≡◌ {A = Option Load} (Some (record { handle = a; place = i; loads = x.1.loads })) (Some (record { handle = b; place = j; loads = y.1.loads })) = sym x.1.has ∙ y.1.has in
       let f : ◌≡◌ {A = Load} (record { handle = a; place = i; loads = x.1.loads }) (record { handle = b; place = j; loads = y.1.loads }) = cc in λ k. OfResource (f k).handle (f k).place
 
-pub owner_law : OwnerLaw
-owner_law world slot owner is = (λ e. subst (IsOwnerOf world slot) e (is_owner world is slot), λ h. one_owner world is slot (owner_of world slot) owner (is_owner world is slot) h)
+pub owner_law : C.OwnerLaw
+owner_law world slot owner is = (λ e. subst (IsOwnerOf world slot) e (is_owner world is slot), λ h. one_owner world is slot (C.owner_of world slot) owner (is_owner world is slot) h)

@@ -1,16 +1,13 @@
 -- A discardable segment that a load filled loses its bytes to a later one only after all that was there before and may be discarded.
-use Rattle.w16_loading.proofs.Common.{◌≡◌, ◌≢◌, ℕ, zero, suc, inl, inr, ◌⊎◌, ◌==◌, ◌&&◌, ◌||◌, Bool, true, false, cond, not, nat_lt, List, [], ◌∷◌, ◌++◌, fold, filter, take, Option, Some, None, IsSomeAnd, is_some, refl, sym, ap, ◌∙◌, subst, eqb-true, eq-eqb, ne_eqb}
-use Rattle.w16_loading.proofs.Common.{IsTrue, and_parts, false≢true, cases_Bool, cases_eq, Discardable, Heap, Object, IsHeap, object_at, bytes_at, bytes_in, absent, blocks, discarded, eligible, is_in_order, is_member, is_pinned_object, is_fixed, with_newest}
-use Rattle.w16_loading.proofs.Common.{stays_for, with_ordered, Settles, revival_options, KeepsOthers, Member, IsBlockOf, member_filter, filter_member, is_member-true, true-is_member, Filling, Failure, Fills, InTurn, Answers, GivesFrom, Block}
+use Rattle.w16_loading.proofs
+use proofs.Common as C
+use proofs.Fillings as M
+use proofs.Common.{◌≡◌, ◌≢◌, ℕ, zero, suc, inl, inr, ◌⊎◌, ◌==◌, ◌&&◌, ◌||◌, Bool, true, false, cond, not, List, [], ◌∷◌, ◌++◌, fold, filter, take, Option, Some, None, IsSomeAnd, is_some, refl, sym, ap, ◌∙◌, subst, false≢true, Discardable, Heap, Object, object_at, bytes_at, bytes_in}
+use proofs.Common.{blocks, Member, Filling, Fills, Block}
+use proofs.Undone.{parted}
 use Rattle.std.specs.List.{list_any}
-use Rattle.w16_model.specs.Discards.{is_about, is_pinned_id}
-use Rattle.w16_model.specs.Gap.{is_pinned, holds_still}
-use Rattle.w16_model.specs.declared.Hold.TheVariants.{Pinned, Loose}
-use Rattle.w16_model.specs.Heap.{is_discardable}
-use Rattle.w16_model.proofs.Common.{hold_of_object}
-use Rattle.w16_model.proofs.Heaps.{member_block}
-use Rattle.w16_loading.proofs.Fillings.{IsLost, any_do, filled_heap, filled_object, filled_other, filled_others, settled_so}
-use Rattle.w16_loading.proofs.Undone.{parted}
+use Rattle.w16_model.specs.{Discards.is_about, Discards.is_pinned_id, Gap.is_pinned, Gap.holds_still, declared.Hold.TheVariants.Pinned, declared.Hold.TheVariants.Loose, Heap.is_discardable}
+use Rattle.w16_model.proofs.{Common.hold_of_object, Heaps.member_block}
 
 any_member : {X : Type 0} (p : X → Bool) (xs : List X) → list_any p xs ≡ true → (x : X) × Member x xs × (p x ≡ true)
 any_member p [] t = absurd (false≢true t)
@@ -21,14 +18,14 @@ any_member p (y ∷ ys) t = turn (p y) refl t (λ more. any_member p ys more)
     turn false e t rest = let r = rest t in (r.0, inr r.1, r.2)
 
 -- what isn't pinned is no pinned block
-loose_id : (heap : Heap) (q : ℕ) (o : Object) → object_at heap q ≡ Some o → is_pinned_object o ≡ false → is_pinned_id (blocks heap) q ≡ false
-loose_id heap q o there loose = elim (cases_Bool (is_pinned_id (blocks heap) q)) [ inr t ↦ t | inl t ↦ absurd (never (any_member (λ (x : Block). x.id == q && is_pinned x) (blocks heap) t)) ]
+loose_id : (heap : Heap) (q : ℕ) (o : Object) → object_at heap q ≡ Some o → C.is_pinned_object o ≡ false → is_pinned_id (blocks heap) q ≡ false
+loose_id heap q o there loose = elim (C.cases_Bool (is_pinned_id (blocks heap) q)) [ inr t ↦ t | inl t ↦ absurd (never (any_member (λ (x : Block). x.id == q && is_pinned x) (blocks heap) t)) ]
   where
     never : (x : Block) × Member x (blocks heap) × ((x.id == q && is_pinned x) ≡ true) → ⊥
     never (x, m, t) =
-        let parts : IsTrue (x.id == q) × IsTrue (is_pinned x) = and_parts (x.id == q) (is_pinned x) t in
-        let b : IsBlockOf heap x = member_block heap x m in
-        let same : b.object ≡ o = (let e : Some b.object ≡ Some o = sym b.is_there ∙ ap (object_at heap) (eqb-true x.id q parts.0) ∙ there in cc) in
+        let parts : C.IsTrue (x.id == q) × C.IsTrue (is_pinned x) = C.and_parts (x.id == q) (is_pinned x) t in
+        let b : C.IsBlockOf heap x = member_block heap x m in
+        let same : b.object ≡ o = (let e : Some b.object ≡ Some o = sym b.is_there ∙ ap (object_at heap) (C.eqb-true x.id q parts.0) ∙ there in cc) in
         false≢true (sym (ap holds_still (b.hold ∙ ap hold_of_object same) ∙ ap (λ p. holds_still (cond p Pinned Loose)) loose) ∙ parts.1)
 
 module _ (x q : ℕ) where
@@ -42,7 +39,7 @@ module _ (x q : ℕ) where
   last_filter p (y ∷ ys) h = turn (p y) (last_filter p ys h.1)
     where
       turn : (b : Bool) → IsLast (filter p ys) → IsLast (cond {A = List ℕ} b (y ∷ filter p ys) (filter p ys))
-      turn true r = (λ e m. h.0 e (member_filter p ys q m).0, r)
+      turn true r = (λ e m. h.0 e (C.member_filter p ys q m).0, r)
       turn false r = r
 
   last_then : (xs : List ℕ) (z : ℕ) → q ≢ z → IsLast xs → IsLast (xs ++ z ∷ [])
@@ -53,9 +50,9 @@ module _ (x q : ℕ) where
   none_last [] out = tt
   none_last (y ∷ ys) out = (λ e m. out (inl (sym e)), none_last ys (λ m. out (inr m)))
 
-  last_absent : (ids : List ℕ) (heap : Heap) → IsLast heap.order → IsLast (fold absent heap ids).order
+  last_absent : (ids : List ℕ) (heap : Heap) → IsLast heap.order → IsLast (fold C.absent heap ids).order
   last_absent [] heap h = h
-  last_absent (id ∷ ids) heap h = last_absent ids (absent heap id) (last_filter (λ r. not (r == id)) heap.order h)
+  last_absent (id ∷ ids) heap h = last_absent ids (C.absent heap id) (last_filter (λ r. not (r == id)) heap.order h)
 
   -- so where an x is among the first, all of q are
   in_take : (k : ℕ) (xs : List ℕ) → IsLast xs → Member x (take k xs) → Member q xs → Member q (take k xs)
@@ -73,7 +70,7 @@ module _ (x q : ℕ) where
     last : IsLast heap.order
     lost : bytes_at heap x ≡ None → bytes_at heap q ≡ None
 
-  module _ (a : Heap) (slot : ℕ) (bytes : List ℕ) (b : Heap) (is : IsHeap a) (f : Fills a slot bytes true b) (d : q ≢ slot) (may : MayLose a) where
+  module _ (a : Heap) (slot : ℕ) (bytes : List ℕ) (b : Heap) (is : C.IsHeap a) (f : Fills a slot bytes true b) (d : q ≢ slot) (may : MayLose a) where
     its : (o : Object) × (object_at a q ≡ Some o) × (o.kind ≡ Discardable) × (o.locks ≡ 0)
     its = turn (object_at a q) refl may
       where
@@ -83,7 +80,7 @@ module _ (x q : ℕ) where
 
     -- q is as it was, or has lost its bytes alone
     now : (object_at b q ≡ Some its.0) ⊎ (object_at b q ≡ Some (record its.0 { bytes = None }))
-    now = elim (filled_other a slot bytes b f is q d) [ inl e ↦ inl (e ∙ its.1) | inr l ↦ inr ((subst (λ p. IsSomeAnd p (IsLost b q)) its.1 l).3) ]
+    now = elim (M.filled_other a slot bytes b f is q d) [ inl e ↦ inl (e ∙ its.1) | inr l ↦ inr ((subst (λ p. IsSomeAnd p (M.IsLost b q)) its.1 l).3) ]
 
     may_then : MayLose b
     may_then = elim now [
@@ -95,15 +92,15 @@ module _ (x q : ℕ) where
     none_stays none = elim now [ inl e ↦ ap bytes_in e ∙ ap bytes_in (sym its.1) ∙ none | inr e ↦ ap bytes_in e ]
 
     abbrev listed : List ℕ
-    listed = eligible (blocks a) a.order (Some slot)
+    listed = C.eligible (blocks a) a.order (Some slot)
 
-    settled_k : (k : ℕ) × (o : Object) × Settles a (stays_for slot revival_options) (with_ordered (discarded a k (Some slot)) slot o (with_newest slot o)) b
-    settled_k = settled_so a slot bytes b f
+    settled_k : (k : ℕ) × (o : Object) × C.Settles a (C.stays_for slot C.revival_options) (C.with_ordered (C.discarded a k (Some slot)) slot o (C.with_newest slot o)) b
+    settled_k = M.settled_so a slot bytes b f
 
     abbrev order_before : List ℕ
-    order_before = (discarded a settled_k.0 (Some slot)).order
+    order_before = (C.discarded a settled_k.0 (Some slot)).order
 
-    order_is : b.order ≡ with_newest slot settled_k.1 order_before
+    order_is : b.order ≡ C.with_newest slot settled_k.1 order_before
     order_is = ap (λ (h : Heap). h.order) settled_k.2.same
 
     abbrev rest_before : List ℕ
@@ -115,14 +112,14 @@ module _ (x q : ℕ) where
     last_newest false h = h
 
     last_then_of : IsLast rest_before → IsLast b.order
-    last_then_of h = subst IsLast (sym order_is) (last_newest (is_in_order (Some settled_k.1)) h)
+    last_then_of h = subst IsLast (sym order_is) (last_newest (C.is_in_order (Some settled_k.1)) h)
 
     -- where the segment itself is filled
     filled_now : slot ≡ x → IsAfter b
     filled_now same = record {
       may = may_then;
-      last = last_then_of (none_last rest_before (λ m. false≢true (sym (ap not (eq-eqb x slot (sym same))) ∙ (member_filter (λ r. not (r == slot)) order_before x m).1)));
-      lost = λ e. let g : ◌≡◌ {A = Option (List ℕ)} None (Some bytes) = sym e ∙ ap (bytes_at b) (sym same) ∙ ap bytes_in (filled_object a slot bytes b f) in cc;
+      last = last_then_of (none_last rest_before (λ m. false≢true (sym (ap not (C.eq-eqb x slot (sym same))) ∙ (C.member_filter (λ r. not (r == slot)) order_before x m).1)));
+      lost = λ e. let g : ◌≡◌ {A = Option (List ℕ)} None (Some bytes) = sym e ∙ ap (bytes_at b) (sym same) ∙ ap bytes_in (M.filled_object a slot bytes b f) in cc;
     }
 
     -- where another is
@@ -133,28 +130,28 @@ module _ (x q : ℕ) where
       lost = lost_then;
     }
       where
-        others : (k : ℕ) × KeepsOthers a (Some slot) k b
-        others = filled_others a slot bytes b f is
+        others : (k : ℕ) × C.KeepsOthers a (Some slot) k b
+        others = M.filled_others a slot bytes b f is
 
-        loose : is_pinned_object its.0 ≡ false
-        loose = ap (λ k. is_fixed k || nat_lt 0 its.0.locks) its.2 ∙ ap (nat_lt 0) its.3
+        loose : C.is_pinned_object its.0 ≡ false
+        loose = ap (λ k. C.is_fixed k || C.nat_lt 0 its.0.locks) its.2 ∙ ap (C.nat_lt 0) its.3
 
         q_eligible : is_some (bytes_at a q) ≡ true → Member q listed
-        q_eligible some = filter_member (λ r. not (is_pinned_id (blocks a) r) && not (is_about (Some slot) r)) a.order q
-            (is_member-true q a.order (is.in_order q ∙ ap is_in_order its.1 ∙ ap (λ k. is_discardable k && is_some its.0.bytes) its.2 ∙ ap is_some (sym (ap bytes_in its.1)) ∙ some))
-            (ap (λ t. not t && not (q == slot)) (loose_id a q its.0 its.1 loose) ∙ ap not (ne_eqb q slot d))
+        q_eligible some = C.filter_member (λ r. not (is_pinned_id (blocks a) r) && not (is_about (Some slot) r)) a.order q
+            (C.is_member-true q a.order (is.in_order q ∙ ap C.is_in_order its.1 ∙ ap (λ k. is_discardable k && is_some its.0.bytes) its.2 ∙ ap is_some (sym (ap bytes_in its.1)) ∙ some))
+            (ap (λ t. not t && not (q == slot)) (loose_id a q its.0 its.1 loose) ∙ ap not (C.ne_eqb q slot d))
 
-        also : is_member x (take others.0 listed) ≡ true → (p : Option (List ℕ)) → bytes_at a q ≡ p → bytes_at b q ≡ None
+        also : C.is_member x (take others.0 listed) ≡ true → (p : Option (List ℕ)) → bytes_at a q ≡ p → bytes_at b q ≡ None
         also t None e = none_stays e
         also t (Some c) e =
             let m : Member q (take others.0 listed) = in_take others.0 listed (last_filter (λ r. not (is_pinned_id (blocks a) r) && not (is_about (Some slot) r)) a.order h.last)
-            (is_member-true x (take others.0 listed) t) (q_eligible (ap is_some e)) in
-            ap bytes_in (subst (λ p. IsSomeAnd p (IsLost b q)) its.1 (others.1.discarded q (true-is_member q (take others.0 listed) m))).3
+            (C.is_member-true x (take others.0 listed) t) (q_eligible (ap is_some e)) in
+            ap bytes_in (subst (λ p. IsSomeAnd p (M.IsLost b q)) its.1 (others.1.discarded q (C.true-is_member q (take others.0 listed) m))).3
 
         lost_then : bytes_at b x ≡ None → bytes_at b q ≡ None
-        lost_then e = elim (cases_eq x slot) [
-          | inl same ↦ absurd (full (sym e ∙ ap (bytes_at b) same ∙ ap bytes_in (filled_object a slot bytes b f)))
-          | inr apart ↦ elim (cases_Bool (is_member x (take others.0 listed))) [
+        lost_then e = elim (C.cases_eq x slot) [
+          | inl same ↦ absurd (full (sym e ∙ ap (bytes_at b) same ∙ ap bytes_in (M.filled_object a slot bytes b f)))
+          | inr apart ↦ elim (C.cases_Bool (C.is_member x (take others.0 listed))) [
             | inl t ↦ also t (bytes_at a q) refl
             | inr t ↦ none_stays (h.lost (sym (ap bytes_in (others.1.kept x (λ s. apart (sym (its_slot s))) (λ u. false≢true (sym t ∙ u)))) ∙ e))
           ]
@@ -167,12 +164,12 @@ module _ (x q : ℕ) where
             its_slot e = cc
 
   -- All of a load.
-  pub all_after : (answers : Answers) (old new : Heap) (xs : List Filling) (y : Filling) → Member y xs → y.slot ≡ x → ((z : Filling) → Member z xs → q ≢ z.slot) → IsHeap old → InTurn (GivesFrom Fills answers) old xs None new → MayLose old → bytes_at new x ≡ None → bytes_at new q ≡ None
+  pub all_after : (answers : C.Answers) (old new : Heap) (xs : List Filling) (y : Filling) → Member y xs → y.slot ≡ x → ((z : Filling) → Member z xs → q ≢ z.slot) → C.IsHeap old → C.InTurn (C.GivesFrom Fills answers) old xs None new → MayLose old → bytes_at new x ≡ None → bytes_at new q ≡ None
   all_after answers old new [] y m e out is f may none = absurd m
-  all_after answers old new (z ∷ zs) y m e out is (Some fault, next, g, rest) may lost = let none : ◌≡◌ {A = Option Failure} None (Some (record { place = z.place; fault = fault })) = rest.0 in cc
+  all_after answers old new (z ∷ zs) y m e out is (Some fault, next, g, rest) may lost = let none : ◌≡◌ {A = Option C.Failure} None (Some (record { place = z.place; fault = fault })) = rest.0 in cc
   all_after answers old new (z ∷ zs) y (inl same) e out is (None, next, g, rest) may none =
       let first : IsAfter next = filled_now old z.slot g.0 next is g.3 (out z (inl refl)) may ((λ i. (sym same i).slot) ∙ e) in
-      let last : IsAfter new = (any_do answers (λ a b. IsAfter a → IsAfter b) (λ a h. h) (λ a b c s t h. t (s h)) next new zs None (filled_heap old z.slot g.0 next g.3)
+      let last : IsAfter new = (M.any_do answers (λ a b. IsAfter a → IsAfter b) (λ a h. h) (λ a b c s t h. t (s h)) next new zs None (M.filled_heap old z.slot g.0 next g.3)
       (λ w n a b here read long again f h. filled_then a w.slot read b here f (out w (inr n)) h.may h) rest).0 first in
       last.lost none
-  all_after answers old new (z ∷ zs) y (inr m) e out is (None, next, g, rest) may none = all_after answers next new zs y m e (λ w n. out w (inr n)) (filled_heap old z.slot g.0 next g.3) rest (may_then old z.slot g.0 next is g.3 (out z (inl refl)) may) none
+  all_after answers old new (z ∷ zs) y (inr m) e out is (None, next, g, rest) may none = all_after answers next new zs y m e (λ w n. out w (inr n)) (M.filled_heap old z.slot g.0 next g.3) rest (may_then old z.slot g.0 next is g.3 (out z (inl refl)) may) none

@@ -1,7 +1,6 @@
 -- What a load reads and follows, by cases.
-use Rattle.w16_loading.proofs.Common.{◌≡◌, ℕ, ◌<◌, ◌==◌, Bool, true, false, cond, nat_lt, List, [], ◌∷◌, length, Option, Some, None, Result, Ok, Err, refl}
-use Rattle.w16_loading.proofs.Common.{ltb-true, Saying, ModuleFile, Around, Closure, Found, Reading, Referent, reading, meant, are_sound, followed, after, dll, with_bound, with_found, Refused, Meant, Read}
-use Rattle.w16_loading.proofs.Common.{New}
+use Rattle.w16_loading.proofs.Common.{◌≡◌, ℕ, ◌<◌, ◌==◌, Bool, true, false, cond, nat_lt, List, [], ◌∷◌, length, Option, Some, None, Result, Ok, Err, refl, ltb-true, Saying, ModuleFile, Around, Closure, Found, Reading, Referent, reading, meant, are_sound, followed, after, dll, with_bound}
+use Rattle.w16_loading.proofs.Common.{with_found, Refused, Meant, Read, New}
 
 module _ (says : Saying) (a : Around) where
   -- what a load makes of a file: it is refused, or means what is there, or is read while a handle is free

@@ -1,26 +1,19 @@
 -- What LoadResource and LockResource are for, proved from their steps over any store.
-use Rattle.w16_loading.proofs.Common.{◌≡◌, ◌≢◌, ℕ, ◌+◌, ◌-◌, ◌<◌, ◌≤◌, ◌==◌, ◌&&◌, inl, inr, ◌⊎◌, Bool, true, false, cond, not, nat_lt, List, length, Option, Some, None, IfSome, IsSomeAnd, MatchOption, is_some, option_map, slice_get, refl, sym, ap, ◌∙◌, subst, arith, eqb-true}
-use Rattle.w16_loading.proofs.Common.{false≢true, and_parts, IsTrue, Heap, Object, Handles, object_at, bytes_at, bytes_in, is_fixed, handle_of, slot_of_handle, selector_of, rounded_size, global_lock, owned_in, inserted_here, inserted_other}
-use Rattle.w16_loading.proofs.Common.{with_ordered, FetchFault, NoRoom, Store, Damaged, numbered, Resource, Load, LoadingWorld, Module, module_at, with_heap, Reply, Word, Dword, Failed, MOST_USES, IsLoad, IsLoadingWorld, IsObjectOf, Answers, FetchesFrom, Fills, told}
-use Rattle.w16_loading.proofs.Common.{AnswersNone, LoadsNewResource, LoadsResource, LocksResource, attributes_for, is_too_long, load_of, loaded_again, lock_outcome, locked, resource_at, resource_outcome, slot_of_resource, with_resource}
+use Rattle.w16_loading.proofs
+use proofs.Common as C
+use Rattle.w16_loading.specs.Effects as M
+use proofs.Common.{◌≡◌, ◌≢◌, ℕ, ◌+◌, ◌-◌, ◌<◌, ◌≤◌, ◌==◌, ◌&&◌, inl, inr, ◌⊎◌, Bool, true, false, cond, not, List, length, Option, Some, None, IfSome, IsSomeAnd, MatchOption, is_some, option_map, refl, sym, ap, ◌∙◌, subst, arith, eqb-true, false≢true, IsTrue, Heap, Object, Handles}
+use proofs.Common.{object_at, is_fixed, handle_of, slot_of_handle, selector_of, rounded_size, inserted_here, inserted_other, FetchFault, Store, Damaged, Resource, Load, LoadingWorld, Module, module_at, Reply, Word, Dword, Failed, Answers, FetchesFrom, Fills, told, resource_at}
+use proofs.Common.{slot_of_resource, with_resource}
+use proofs.Stepping.{found_load, resource_load, with_count}
+use proofs.{Cases.resource_cases, Importers.found_passes, Fillings.fetch_outcome, Fillings.filled_object, ResourceWorlds.none_of_place, SparedByUses.named_slot}
 use Rattle.std.proofs.Common.{Result, Ok, Err}
-use Rattle.w16_loading.proofs.Cases.{resource_cases}
-use Rattle.std.specs.FinMap as finmap
-use Rattle.w16_model.specs.Changes.{touched}
-use Rattle.w16_model.specs.Calls as calls
-use Rattle.w16_model.specs.Handles.{far_pointer}
-use Rattle.w16_model.specs.OneObject.{after_lock}
-use Rattle.w16_model.specs.declared.Refusal.{Refusal}
-use Rattle.w16_model.specs.declared.Refusal.TheVariants as refusals
-use Rattle.w16_model.proofs.Fewest.{some_handle}
-use Rattle.w16_model.proofs.Naming.{names_law}
-use Rattle.w16_loading.specs.Effects.{IsLoadedAgain, IsLoadedFirst, IsLockedOnce, LoadResourceLaw, LockResourceLaw}
+use Rattle.w16_model.specs.{Changes.touched, Handles.far_pointer, OneObject.after_lock, declared.Refusal.Refusal}
+use Rattle.w16_model.proofs.{Fewest.some_handle, Naming.names_law}
 use Rattle.w16_loading.specs.Resource.{reply_of_call}
-use Rattle.w16_loading.proofs.Importers.{found_passes}
-use Rattle.w16_loading.proofs.Fillings.{fetch_outcome, filled_object}
-use Rattle.w16_loading.proofs.ResourceWorlds.{none_of_place}
-use Rattle.w16_loading.proofs.SparedByUses.{named_slot}
-use Rattle.w16_loading.proofs.Stepping.{found_load, resource_load, with_count}
+use Rattle.std.specs.FinMap as finmap
+use Rattle.w16_model.specs.Calls as calls
+use Rattle.w16_model.specs.declared.Refusal.TheVariants as refusals
 
 -- the handle of an object that is there finds its slot
 finds : (handles : Handles) (slot : ℕ) (o : Object) → object_at handles.heap slot ≡ Some o → slot_of_handle handles (handle_of o.kind slot) ≡ Some slot
@@ -28,13 +21,13 @@ finds handles slot o there = (names_law handles (handle_of o.kind slot) slot).0.
 
 -- Loads.
 
-module _ (answers : Answers) (old : LoadingWorld) (is : IsLoadingWorld old) (handle place answer : ℕ) (new : LoadingWorld) where
+module _ (answers : Answers) (old : LoadingWorld) (is : C.IsLoadingWorld old) (handle place answer : ℕ) (new : LoadingWorld) where
   abbrev Does : Type 0
   Does = (new.modules ≡ old.modules) × (answer ≡ 0 → (new.loads ≡ old.loads) × (new.handles ≡ old.handles))
       × (answer ≢ 0 → (slot : ℕ) × (slot_of_handle new.handles answer ≡ Some slot) × ((q : ℕ) → q ≢ slot → finmap.get new.loads q ≡ finmap.get old.loads q)
-      × (IsLoadedAgain old handle place slot new ⊎ IsLoadedFirst old handle place slot new))
+      × (M.IsLoadedAgain old handle place slot new ⊎ M.IsLoadedFirst old handle place slot new))
 
-  none : AnswersNone old (Word answer) new → Does
+  none : C.AnswersNone old (Word answer) new → Does
   none (says, same) = let zero : answer ≡ 0 = cc in (
     ap (λ (w : LoadingWorld). w.modules) same,
     λ z. (ap (λ (w : LoadingWorld). w.loads) same, ap (λ (w : LoadingWorld). w.handles) same),
@@ -49,24 +42,24 @@ module _ (answers : Answers) (old : LoadingWorld) (is : IsLoadingWorld old) (han
   its_object : (r : Resource) (x : ℕ × Load) → resource_at old handle place ≡ Some r → finmap.get old.loads x.0 ≡ Some x.1 → x.1.handle ≡ handle → x.1.place ≡ place → (o : Object) × (object_at old.handles.heap x.0 ≡ Some o) × (o.kind ≡ r.kind)
   its_object r x at there h p = by (object_at old.handles.heap x.0) refl owned.object
     where
-      load : IsLoad old x.0 x.1
-      load = subst (λ p. IfSome p (IsLoad old x.0)) there (is.loads x.0)
+      load : C.IsLoad old x.0 x.1
+      load = subst (λ p. IfSome p (C.IsLoad old x.0)) there (is.loads x.0)
 
-      owned : IsObjectOf old x.0 r.kind (rounded_size r.length_in) false
-      owned = subst (λ p. IsSomeAnd p (λ r. IsObjectOf old x.0 r.kind (rounded_size r.length_in) false)) ((λ i. resource_at old (h i) (p i)) ∙ at) load.resource
+      owned : C.IsObjectOf old x.0 r.kind (rounded_size r.length_in) false
+      owned = subst (λ p. IsSomeAnd p (λ r. C.IsObjectOf old x.0 r.kind (rounded_size r.length_in) false)) ((λ i. resource_at old (h i) (p i)) ∙ at) load.resource
 
       by : (p : Option Object) → object_at old.handles.heap x.0 ≡ p → IsSomeAnd p (λ o. (o.kind ≡ r.kind) × IfSome o.bytes (λ bytes. length bytes ≡ rounded_size r.length_in)) → (o : Object) × (object_at old.handles.heap x.0 ≡ Some o) × (o.kind ≡ r.kind)
       by None e h = absurd h
       by (Some o) e h = (o, e, h.0)
 
-  again : (r : Resource) (x : ℕ × Load) → resource_at old handle place ≡ Some r → load_of old handle place ≡ Some x → ◌≡◌ {A = Reply × LoadingWorld} (Word answer, new) (loaded_again old r x) → Does
-  again r x at found e = by (nat_lt x.1.loads MOST_USES) e
+  again : (r : Resource) (x : ℕ × Load) → resource_at old handle place ≡ Some r → C.load_of old handle place ≡ Some x → ◌≡◌ {A = Reply × LoadingWorld} (Word answer, new) (C.loaded_again old r x) → Does
+  again r x at found e = by (C.nat_lt x.1.loads C.MOST_USES) e
     where
       there : finmap.get old.loads x.0 ≡ Some x.1
       there = found_load old handle place x found
 
       passes : IsTrue (x.1.handle == handle) × IsTrue (x.1.place == place)
-      passes = and_parts _ _ (found_passes (λ (y : ℕ × Load). (y.1.handle == handle) && (y.1.place == place)) (finmap.entries old.loads) x found).1
+      passes = C.and_parts _ _ (found_passes (λ (y : ℕ × Load). (y.1.handle == handle) && (y.1.place == place)) (finmap.entries old.loads) x found).1
 
       h : x.1.handle ≡ handle
       h = eqb-true x.1.handle handle passes.0
@@ -99,20 +92,20 @@ module _ (answers : Answers) (old : LoadingWorld) (is : IsLoadingWorld old) (han
 
   -- whose resource it is
   abbrev HasResource : Resource → Type 0
-  HasResource r = (m : Module) × (module_at old.modules handle ≡ Some m) × (0 < place) × (slice_get m.tables.resources (place - 1) ≡ Some r)
+  HasResource r = (m : Module) × (module_at old.modules handle ≡ Some m) × (0 < place) × (C.slice_get m.tables.resources (place - 1) ≡ Some r)
 
   its_module : (r : Resource) → resource_at old handle place ≡ Some r → HasResource r
   its_module r at = by (module_at old.modules handle) refl at
     where
-      by_place : (m : Module) → module_at old.modules handle ≡ Some m → (b : Bool) → (place == 0) ≡ b → cond b None (slice_get m.tables.resources (place - 1)) ≡ Some r → HasResource r
+      by_place : (m : Module) → module_at old.modules handle ≡ Some m → (b : Bool) → (place == 0) ≡ b → cond b None (C.slice_get m.tables.resources (place - 1)) ≡ Some r → HasResource r
       by_place m there true t e = cc
       by_place m there false t e = (m, there, grind (arith, t), e)
 
-      by : (p : Option Module) → module_at old.modules handle ≡ p → elim p as (λ _. Option Resource) [ None ↦ None | Some m ↦ numbered m.tables.resources place ] ≡ Some r → HasResource r
+      by : (p : Option Module) → module_at old.modules handle ≡ p → elim p as (λ _. Option Resource) [ None ↦ None | Some m ↦ C.numbered m.tables.resources place ] ≡ Some r → HasResource r
       by None e f = cc
       by (Some m) e f = by_place m e (place == 0) refl f
 
-  first : (r : Resource) → resource_at old handle place ≡ Some r → is_too_long r ≡ false → load_of old handle place ≡ None → LoadsNewResource (FetchesFrom Fills answers) old handle place r (Word answer) new → Does
+  first : (r : Resource) → resource_at old handle place ≡ Some r → C.is_too_long r ≡ false → C.load_of old handle place ≡ None → C.LoadsNewResource (FetchesFrom Fills answers) old handle place r (Word answer) new → Does
   first r at short unloaded l = by l.fault l.fetched l.outcome
     where
       slot : ℕ
@@ -124,19 +117,19 @@ module _ (answers : Answers) (old : LoadingWorld) (is : IsLoadingWorld old) (han
       entered : Object
       entered = record { kind = r.kind; locks = 0; bytes = None }
 
-      by : (fault : Option FetchFault) → FetchesFrom Fills answers (with_resource old l.slot handle place r) l.slot fault l.next → ◌≡◌ {A = Reply × LoadingWorld} (Word answer, new) (resource_outcome fault (handle_of r.kind l.slot) l.next old) → Does
-      by (Some NoRoom) f e = none (reply_is _ e)
+      by : (fault : Option FetchFault) → FetchesFrom Fills answers (with_resource old l.slot handle place r) l.slot fault l.next → ◌≡◌ {A = Reply × LoadingWorld} (Word answer, new) (C.resource_outcome fault (handle_of r.kind l.slot) l.next old) → Does
+      by (Some C.NoRoom) f e = none (reply_is _ e)
       by (Some Store) f e = let g : Word answer ≡ Failed Store = (reply_is _ e).0 in cc
       by (Some Damaged) f e = let g : Word answer ≡ Failed Damaged = (reply_is _ e).0 in cc
       by None f e =
           let both = reply_is (Word (handle_of r.kind l.slot), l.next) e in
           let says : answer ≡ handle_of r.kind l.slot = (let f : Word answer ≡ Word (handle_of r.kind l.slot) = both.0 in cc) in
-          let rest : new ≡ with_heap (with_resource old l.slot handle place r) l.next.handles.heap = both.1 ∙ f.rest in
+          let rest : new ≡ C.with_heap (with_resource old l.slot handle place r) l.next.handles.heap = both.1 ∙ f.rest in
           let loads : new.loads ≡ finmap.insert old.loads l.slot (record { handle = handle; place = place; loads = 1 }) = ap (λ (w : LoadingWorld). w.loads) rest in
           let before : f.given.3.before ≡ entered = (let g : Some f.given.3.before ≡ Some entered = sym f.given.3.there ∙ inserted_here old.handles.heap.objects l.slot entered l.slot refl in cc) in
           let object : object_at new.handles.heap l.slot ≡ Some (record entered { bytes = Some f.given.0 }) = ap (λ (w : LoadingWorld). object_at w.handles.heap l.slot) rest
           ∙ filled_object _ l.slot f.given.0 l.next.handles.heap f.given.3 ∙ ap (λ (o : Object). Some (record o { bytes = Some f.given.0 })) before in
-          let long : length f.given.0 ≡ rounded_size r.length_in = subst (λ p. IsSomeAnd p (λ owned. length f.given.0 ≡ owned.size)) (ap owned_in (inserted_here old.handles.attributes l.slot (attributes_for r) l.slot refl)) f.given.1 in
+          let long : length f.given.0 ≡ rounded_size r.length_in = subst (λ p. IsSomeAnd p (λ owned. length f.given.0 ≡ owned.size)) (ap C.owned_in (inserted_here old.handles.attributes l.slot (C.attributes_for r) l.slot refl)) f.given.1 in
           let m = its_module r at in (
             ap (λ (w : LoadingWorld). w.modules) rest,
             λ zero. absurd (some_handle r.kind l.slot (sym says ∙ zero)),
@@ -158,14 +151,14 @@ module _ (answers : Answers) (old : LoadingWorld) (is : IsLoadingWorld old) (han
             ),
           )
 
-  loads : LoadsResource (FetchesFrom Fills answers) old handle place (Word answer) new → Does
+  loads : C.LoadsResource (FetchesFrom Fills answers) old handle place (Word answer) new → Does
   loads step = elim (resource_cases (FetchesFrom Fills answers) old (Word answer) new handle place step) [
     | inl f ↦ none f
     | inr (r, at, inl (x, e, f)) ↦ again r x at.0 e f
     | inr (r, at, inr (e, f)) ↦ first r at.0 at.1 e f
   ]
 
-pub load_resource_law : (honest : Type 0) → LoadResourceLaw honest
+pub load_resource_law : (honest : Type 0) → M.LoadResourceLaw honest
 load_resource_law honest format old new handle place answer is step = loads (told honest format old.files old.failures new.failures) old is handle place answer (record new { failures = old.failures }) step.step
 
 -- Locks.
@@ -176,7 +169,7 @@ module _ (h : Handles) (slot : ℕ) (o : Object) (there : object_at h.heap slot 
   more = record o { locks = o.locks + 1 }
 
   abbrev counted : Heap
-  counted = with_ordered h.heap slot more (touched slot)
+  counted = C.with_ordered h.heap slot more (touched slot)
 
   abbrev outcome : Result Heap Refusal → calls.Answer × Handles
   outcome r = elim r [
@@ -188,7 +181,7 @@ module _ (h : Handles) (slot : ℕ) (o : Object) (there : object_at h.heap slot 
   abbrev lock_if : Bool → Bool → Bool → Result Heap Refusal
   lock_if b c d = cond (not b) (Err refusals.Absent) (cond c (Err refusals.Fixed) (cond d (Err refusals.LockFull) (Ok counted)))
 
-  is_locked : (handle : ℕ) → slot_of_handle h handle ≡ Some slot → global_lock h handle ≡ outcome (lock_if true (is_fixed o.kind) (o.locks == 255))
+  is_locked : (handle : ℕ) → slot_of_handle h handle ≡ Some slot → C.global_lock h handle ≡ outcome (lock_if true (is_fixed o.kind) (o.locks == 255))
   is_locked handle found =
       ap (λ (p : Option ℕ). elim p as (λ _. calls.Answer × Handles) [
         | None ↦ (calls.Answer.Dword 0, h)
@@ -201,14 +194,14 @@ module _ (h : Handles) (slot : ℕ) (o : Object) (there : object_at h.heap slot 
       ∙ ap outcome (ap (λ (p : Option Object). elim p as (λ _. Result Heap Refusal) [
         | None ↦ Err refusals.Absent
         | Some x ↦ cond (not (is_some x.bytes)) (Err refusals.Absent)
-            (cond (is_fixed x.kind) (Err refusals.Fixed) (cond (x.locks == 255) (Err refusals.LockFull) (Ok (with_ordered h.heap slot (record x { locks = x.locks + 1 }) (touched slot)))))
+            (cond (is_fixed x.kind) (Err refusals.Fixed) (cond (x.locks == 255) (Err refusals.LockFull) (Ok (C.with_ordered h.heap slot (record x { locks = x.locks + 1 }) (touched slot)))))
       ]) there
       ∙ ap (λ b. lock_if b (is_fixed o.kind) (o.locks == 255)) bytes)
 
 some_pointer : (slot : ℕ) → far_pointer (selector_of slot) 0 ≡ 0 → ⊥
 some_pointer slot e = omega (arith, e)
 
-module _ (answers : Answers) (old : LoadingWorld) (is : IsLoadingWorld old) (handle answer : ℕ) (new : LoadingWorld) where
+module _ (answers : Answers) (old : LoadingWorld) (is : C.IsLoadingWorld old) (handle answer : ℕ) (new : LoadingWorld) where
   -- a world is left as it was for want of a count; or the object has a lock more, unless it is fixed
   abbrev IsFull : LoadingWorld → Object → Type 0
   IsFull world o = (answer ≡ 0) × (new ≡ world) × (o.locks ≡ 255) × (is_fixed o.kind ≡ false)
@@ -218,7 +211,7 @@ module _ (answers : Answers) (old : LoadingWorld) (is : IsLoadingWorld old) (han
       × (object_at new.handles.heap slot ≡ Some (record o { locks = cond (is_fixed o.kind) o.locks (o.locks + 1) }))
 
   lock_at : (world : LoadingWorld) (slot : ℕ) (o : Object) → object_at world.handles.heap slot ≡ Some o → is_some o.bytes ≡ true → o.locks ≤ 255 → slot_of_handle world.handles handle ≡ Some slot
-      → ◌≡◌ {A = Reply × LoadingWorld} (Dword answer, new) (locked world handle) → IsFull world o ⊎ IsLocked world slot o
+      → ◌≡◌ {A = Reply × LoadingWorld} (Dword answer, new) (C.locked world handle) → IsFull world o ⊎ IsLocked world slot o
   lock_at world slot o there bytes few found e = by (is_fixed o.kind) (o.locks == 255) refl refl (e ∙ ap printed (is_locked world.handles slot o there bytes handle found))
     where
       printed : calls.Answer × Handles → Reply × LoadingWorld
@@ -250,10 +243,10 @@ module _ (answers : Answers) (old : LoadingWorld) (is : IsLoadingWorld old) (han
 
   abbrev Locks : Type 0
   Locks = (new.modules ≡ old.modules) × (new.loads ≡ old.loads) × (answer ≡ 0 → new.handles ≡ old.handles)
-      × (answer ≢ 0 → (slot : ℕ) × (load : Load) × (slot_of_handle old.handles handle ≡ Some slot) × (finmap.get old.loads slot ≡ Some load) × (answer ≡ far_pointer (selector_of slot) 0) × IsLockedOnce old slot new)
+      × (answer ≢ 0 → (slot : ℕ) × (load : Load) × (slot_of_handle old.handles handle ≡ Some slot) × (finmap.get old.loads slot ≡ Some load) × (answer ≡ far_pointer (selector_of slot) 0) × M.IsLockedOnce old slot new)
 
   abbrev Fetched : ℕ → Option (List ℕ) → Type 0
-  Fetched slot p = MatchOption p ((fault : Option FetchFault) × (next : LoadingWorld) × FetchesFrom Fills answers old slot fault next × ((Dword answer, new) ≡ lock_outcome fault handle next)) (λ _. (Dword answer, new) ≡ locked old handle)
+  Fetched slot p = MatchOption p ((fault : Option FetchFault) × (next : LoadingWorld) × FetchesFrom Fills answers old slot fault next × ((Dword answer, new) ≡ C.lock_outcome fault handle next)) (λ _. (Dword answer, new) ≡ C.locked old handle)
 
   unlocked : answer ≡ 0 → new ≡ old → Locks
   unlocked zero same = (ap (λ (w : LoadingWorld). w.modules) same, ap (λ (w : LoadingWorld). w.loads) same, λ z. ap (λ (w : LoadingWorld). w.handles) same, λ d. absurd (d zero))
@@ -279,8 +272,8 @@ module _ (answers : Answers) (old : LoadingWorld) (is : IsLoadingWorld old) (han
     counts : (o.locks ≤ 255) × (IsTrue (is_fixed o.kind) → o.locks ≡ 0) × (o.bytes ≡ None → o.locks ≡ 0)
     counts = subst (λ p. IfSome p (λ o. (o.locks ≤ 255) × (IsTrue (is_fixed o.kind) → o.locks ≡ 0) × (o.bytes ≡ None → o.locks ≡ 0))) there (is.handles.heap.counted slot)
 
-    fetched : (fault : Option FetchFault) (next : LoadingWorld) → o.bytes ≡ None → FetchesFrom Fills answers old slot fault next → ◌≡◌ {A = Reply × LoadingWorld} (Dword answer, new) (lock_outcome fault handle next) → Locks
-    fetched (Some NoRoom) next none f e =
+    fetched : (fault : Option FetchFault) (next : LoadingWorld) → o.bytes ≡ None → FetchesFrom Fills answers old slot fault next → ◌≡◌ {A = Reply × LoadingWorld} (Dword answer, new) (C.lock_outcome fault handle next) → Locks
+    fetched (Some C.NoRoom) next none f e =
         let zero : answer ≡ 0 = (let g : Dword answer ≡ Dword 0 = ap (λ (x : Reply × LoadingWorld). x.0) e in cc) in
         unlocked zero (ap (λ (x : Reply × LoadingWorld). x.1) e ∙ (fetch_outcome f).0 refl)
     fetched (Some Store) next none f e = let g : Dword answer ≡ Failed Store = ap (λ (x : Reply × LoadingWorld). x.0) e in cc
@@ -299,7 +292,7 @@ module _ (answers : Answers) (old : LoadingWorld) (is : IsLoadingWorld old) (han
         names_it : IsSomeAnd (object_at old.handles.heap slot) (λ x. handle ≡ handle_of x.kind slot)
         names_it = (names_law old.handles handle slot).0.0 found
 
-        finds_next : next ≡ with_heap old next.handles.heap → slot_of_handle next.handles handle ≡ Some slot
+        finds_next : next ≡ C.with_heap old next.handles.heap → slot_of_handle next.handles handle ≡ Some slot
         finds_next rest = (names_law next.handles handle slot).0.1 (subst (λ p. IsSomeAnd p (λ x. handle ≡ handle_of x.kind slot)) (sym object) (subst (λ p. IsSomeAnd p (λ x. handle ≡ handle_of x.kind slot)) there names_it))
 
     by_bytes : (p : Option (List ℕ)) → o.bytes ≡ p
@@ -310,23 +303,23 @@ module _ (answers : Answers) (old : LoadingWorld) (is : IsLoadingWorld old) (han
       | inr l ↦ locked_once bytes (subst (λ p. IfSome p (λ b. bytes ≡ b)) (sym e) refl) old refl refl (subst (λ (x : Object). IsLocked old slot x) (λ i. record o { bytes = e i }) l)
     ]
 
-  locks : LocksResource (FetchesFrom Fills answers) old handle (Dword answer) new → Locks
+  locks : C.LocksResource (FetchesFrom Fills answers) old handle (Dword answer) new → Locks
   locks step = by_slot (slot_of_resource old handle) refl step
     where
       by_object : (x : ℕ × Load) → slot_of_resource old handle ≡ Some x → (p : Option Object) → object_at old.handles.heap x.0 ≡ p → IsSomeAnd p (λ o. handle ≡ handle_of o.kind x.0)
-          → Fetched x.0 (bytes_in p) → Locks
+          → Fetched x.0 (C.bytes_in p) → Locks
       by_object x e None at h f = absurd h
       by_object x e (Some o) at h f = by_bytes x.0 x.1 (named_slot old handle x e) (resource_load old handle x e) o at o.bytes refl f
 
-      by_slot : (p : Option (ℕ × Load)) → slot_of_resource old handle ≡ p → MatchOption p ((◌≡◌ {A = Reply} (Dword answer) (Dword 0)) × (new ≡ old)) (λ x. Fetched x.0 (bytes_at old.handles.heap x.0)) → Locks
+      by_slot : (p : Option (ℕ × Load)) → slot_of_resource old handle ≡ p → MatchOption p ((◌≡◌ {A = Reply} (Dword answer) (Dword 0)) × (new ≡ old)) (λ x. Fetched x.0 (C.bytes_at old.handles.heap x.0)) → Locks
       by_slot None e f = unlocked (let g : Dword answer ≡ Dword 0 = f.0 in cc) f.1
       by_slot (Some x) e f = by_object x e (object_at old.handles.heap x.0) refl ((names_law old.handles handle x.0).0.0 (named_slot old handle x e)) f
 
   -- what has bytes is answered, unless its count is full
   answered : (slot : ℕ) (load : Load) (o : Object) → slot_of_handle old.handles handle ≡ Some slot → finmap.get old.loads slot ≡ Some load → object_at old.handles.heap slot ≡ Some o → is_some o.bytes ≡ true → (is_fixed o.kind ≡ true) ⊎ (o.locks < 255)
-      → LocksResource (FetchesFrom Fills answers) old handle (Dword answer) new → answer ≢ 0
-  answered slot load o found loaded there bytes few step = by o.bytes bytes (subst (Fetched slot) (ap bytes_in there)
-      (subst (λ p. MatchOption p ((◌≡◌ {A = Reply} (Dword answer) (Dword 0)) × (new ≡ old)) (λ x. Fetched x.0 (bytes_at old.handles.heap x.0))) is_it step))
+      → C.LocksResource (FetchesFrom Fills answers) old handle (Dword answer) new → answer ≢ 0
+  answered slot load o found loaded there bytes few step = by o.bytes bytes (subst (Fetched slot) (ap C.bytes_in there)
+      (subst (λ p. MatchOption p ((◌≡◌ {A = Reply} (Dword answer) (Dword 0)) × (new ≡ old)) (λ x. Fetched x.0 (C.bytes_at old.handles.heap x.0))) is_it step))
     where
       is_it : slot_of_resource old handle ≡ Some (slot, load)
       is_it = ap (λ p. elim p as (λ _. Option (ℕ × Load)) [ None ↦ None | Some s ↦ option_map {T = Load} {U = ℕ × Load} (λ l. (s, l)) (finmap.get old.loads s) ]) found ∙ ap (option_map {T = Load} {U = ℕ × Load} (λ l. (slot, l))) loaded
@@ -338,7 +331,7 @@ module _ (answers : Answers) (old : LoadingWorld) (is : IsLoadingWorld old) (han
         | inr l ↦ some_pointer slot (sym l.0 ∙ zero)
       ]
 
-pub lock_resource_law : (honest : Type 0) → LockResourceLaw honest
+pub lock_resource_law : (honest : Type 0) → M.LockResourceLaw honest
 lock_resource_law honest format old new handle answer is step =
     let answers : Answers = told honest format old.files old.failures new.failures in
     let l = locks answers old is handle answer (record new { failures = old.failures }) step.step in

@@ -1,22 +1,18 @@
 -- The calls on resources keep what holds of every world.
-use Rattle.w16_loading.proofs.Common.{◌≡◌, ◌≢◌, ℕ, ◌+◌, ◌-◌, ◌<◌, ◌≤◌, inl, inr, ◌⊎◌, Bool, true, false, ◌&&◌, ◌==◌, length, Option, Some, None, IfSome, IsSomeAnd, is_some, slice_get, refl, sym, ap, ◌∙◌, subst, arith}
-use Rattle.w16_loading.proofs.Common.{eq-eqb, ne_eqb, nat_cmp, FinMap, false≢true, cases_eq, Kind, Object, object_at, IsFreeSlot, HandleCommand, rounded_size, global_lock, Member, inserted_here, inserted_other}
-use Rattle.w16_loading.proofs.Common.{taken_here, taken_other, with_absent_object, MOST_USES, Resource, numbered, Attributes, Owned, owned_in, owned_at, LoadingWorld, Load, Module, IsResourceOf, module_at, attributes_for}
-use Rattle.w16_loading.proofs.Common.{is_too_long, resource_at, load_of, with_resource, locked, IsLoadingWorld, IsObjectOf, IsLoad, Calls, unused_slot, run_of_one, slots_for, LARGEST_OWNED, ltb-false, nat_lt, ◌||◌}
+use Rattle.w16_loading.proofs
+use proofs.Common as C
+use proofs.Common.{◌≡◌, ◌≢◌, ℕ, ◌+◌, ◌-◌, ◌<◌, ◌≤◌, inl, inr, ◌⊎◌, Bool, true, false, ◌&&◌, ◌==◌, Option, Some, None, IfSome, IsSomeAnd, is_some, refl, sym, ap, ◌∙◌, subst, arith, eq-eqb, false≢true, cases_eq, Kind, Object, object_at, HandleCommand, rounded_size, inserted_here}
+use proofs.Common.{inserted_other, with_absent_object, MOST_USES, Resource, Owned, owned_in, owned_at, LoadingWorld, Load, Module, module_at, is_too_long, IsLoadingWorld, IsObjectOf, IsLoad, Calls, unused_slot, run_of_one, LARGEST_OWNED, ◌||◌}
+use proofs.Worlds.{same_module, is_used, is_load, HasOwner, owner_stays, extends, follows}
+use proofs.ShrunkWorlds.{shrunk, stays_of, owner_left, released_handles}
+use proofs.Owners.{object_there, loaded_of, resource_object}
+use proofs.{Importers.there_entry, Given.member_place, CallsKept.call_world, ModuleWorlds.find_none, Stepping.with_count}
 use Rattle.std.specs.FinMap as finmap
-use Rattle.w16_loading.proofs.Importers.{there_entry}
-use Rattle.w16_loading.proofs.Given.{member_place}
-use Rattle.w16_loading.proofs.CallsKept.{call_world}
-use Rattle.w16_loading.proofs.ModuleWorlds.{find_none}
-use Rattle.w16_loading.proofs.Stepping.{with_count}
-use Rattle.w16_loading.proofs.Worlds.{same_module, is_used, is_load, HasOwner, owner_stays, extends, follows}
-use Rattle.w16_loading.proofs.ShrunkWorlds.{shrunk, stays_of, owner_left, released_handles}
-use Rattle.w16_loading.proofs.Owners.{object_there, loaded_of, resource_object}
 
 -- A lock.
 
-pub locked_world : (old : LoadingWorld) → IsLoadingWorld old → (handle : ℕ) → IsLoadingWorld (locked old handle).1
-locked_world old is handle = call_world old is (Calls (HandleCommand.GlobalLock handle)) (global_lock old.handles handle).0 (global_lock old.handles handle).1 (refl, refl)
+pub locked_world : (old : LoadingWorld) → IsLoadingWorld old → (handle : ℕ) → IsLoadingWorld (C.locked old handle).1
+locked_world old is handle = call_world old is (Calls (HandleCommand.GlobalLock handle)) (C.global_lock old.handles handle).0 (C.global_lock old.handles handle).1 (refl, refl)
 
 -- Another count of loads.
 
@@ -24,7 +20,7 @@ module _ (old : LoadingWorld) (is : IsLoadingWorld old) (slot : ℕ) (load : Loa
   abbrev counted : Load
   counted = record load { loads = count }
 
-  abbrev loads : FinMap nat_cmp Load
+  abbrev loads : C.FinMap C.nat_cmp Load
   loads = finmap.insert old.loads slot counted
 
   abbrev counted_now : LoadingWorld
@@ -71,23 +67,23 @@ module _ (old : LoadingWorld) (is : IsLoadingWorld old) (slot : ℕ) (load : Loa
 -- A new object for a resource that isn't loaded.
 
 -- one slot is enough for a resource that isn't too long
-one_slot : (r : Resource) → is_too_long r ≡ false → 1 ≡ slots_for (rounded_size r.length_in)
-one_slot r = turn (r.length_in == 0) (nat_lt LARGEST_OWNED r.length_in) refl
+one_slot : (r : Resource) → is_too_long r ≡ false → 1 ≡ C.slots_for (rounded_size r.length_in)
+one_slot r = turn (r.length_in == 0) (C.nat_lt LARGEST_OWNED r.length_in) refl
   where
-    turn : (a b : Bool) → nat_lt LARGEST_OWNED r.length_in ≡ b → (a || b) ≡ false → 1 ≡ slots_for (rounded_size r.length_in)
+    turn : (a b : Bool) → C.nat_lt LARGEST_OWNED r.length_in ≡ b → (a || b) ≡ false → 1 ≡ C.slots_for (rounded_size r.length_in)
     turn true b t e = cc
     turn false true t e = cc
-    turn false false t e = omega (arith, ltb-false LARGEST_OWNED r.length_in t)
+    turn false false t e = omega (arith, C.ltb-false LARGEST_OWNED r.length_in t)
 
-module _ (old : LoadingWorld) (is : IsLoadingWorld old) (slot : ℕ) (free : IsFreeSlot old.handles slot) (handle place : ℕ) (r : Resource) (at : resource_at old handle place ≡ Some r) (short : is_too_long r ≡ false) (unloaded : load_of old handle place ≡ None) where
+module _ (old : LoadingWorld) (is : IsLoadingWorld old) (slot : ℕ) (free : C.IsFreeSlot old.handles slot) (handle place : ℕ) (r : Resource) (at : C.resource_at old handle place ≡ Some r) (short : is_too_long r ≡ false) (unloaded : C.load_of old handle place ≡ None) where
   abbrev made : LoadingWorld
-  made = with_resource old slot handle place r
+  made = C.with_resource old slot handle place r
 
   abbrev entered : Object
   entered = record { kind = r.kind; locks = 0; bytes = None }
 
-  abbrev owner : Attributes
-  owner = attributes_for r
+  abbrev owner : C.Attributes
+  owner = C.attributes_for r
 
   abbrev first : Load
   first = record { handle = handle; place = place; loads = 1 }
@@ -98,13 +94,13 @@ module _ (old : LoadingWorld) (is : IsLoadingWorld old) (slot : ℕ) (free : IsF
 
   still : (q : ℕ) (kind : Kind) (size : ℕ) (code : Bool) → IsObjectOf old q kind size code → IsObjectOf made q kind size code
   still q kind size code h = record {
-    object = subst (λ p. IsSomeAnd p (λ (o : Object). (o.kind ≡ kind) × IfSome o.bytes (λ bytes. length bytes ≡ size))) (sym (inserted_other old.handles.heap.objects slot entered q (other_slot q kind size code h))) h.object;
+    object = subst (λ p. IsSomeAnd p (λ (o : Object). (o.kind ≡ kind) × IfSome o.bytes (λ bytes. C.length bytes ≡ size))) (sym (inserted_other old.handles.heap.objects slot entered q (other_slot q kind size code h))) h.object;
     owned = ap owned_in (inserted_other old.handles.attributes slot owner q (other_slot q kind size code h)) ∙ h.owned;
   }
 
   here : IsObjectOf made slot r.kind (rounded_size r.length_in) false
   here = record {
-    object = subst (λ p. IsSomeAnd p (λ (o : Object). (o.kind ≡ r.kind) × IfSome o.bytes (λ bytes. length bytes ≡ rounded_size r.length_in))) (sym (inserted_here old.handles.heap.objects slot entered slot refl)) (refl, tt);
+    object = subst (λ p. IsSomeAnd p (λ (o : Object). (o.kind ≡ r.kind) × IfSome o.bytes (λ bytes. C.length bytes ≡ rounded_size r.length_in))) (sym (inserted_here old.handles.heap.objects slot entered slot refl)) (refl, tt);
     owned = ap owned_in (inserted_here old.handles.attributes slot owner slot refl);
   }
 
@@ -136,10 +132,10 @@ module _ (old : LoadingWorld) (is : IsLoadingWorld old) (slot : ℕ) (free : IsF
 
   loads_stay : (q : ℕ) (l : Load) → finmap.get old.loads q ≡ Some l → (n : ℕ) × (finmap.get made.loads q ≡ Some (record l { loads = n }))
   loads_stay q l e =
-      let r : (m : Module) × IsResourceOf old q l.handle l.place m = loaded_of old is q l e in
+      let r : (m : Module) × C.IsResourceOf old q l.handle l.place m = loaded_of old is q l e in
       (l.loads, inserted_other old.loads slot first q (λ same. false≢true (sym (ap is_some (ap (object_at old.handles.heap) same ∙ unused_slot old.handles is.handles slot free)) ∙ resource_object old is q l.handle l.place r.0 r.1)) ∙ e)
 
-  its_module : (p : Option Module) → elim p as (λ _. Option Resource) [ None ↦ None | Some n ↦ numbered n.tables.resources place ] ≡ Some r → (m : Module) × (p ≡ Some m)
+  its_module : (p : Option Module) → elim p as (λ _. Option Resource) [ None ↦ None | Some n ↦ C.numbered n.tables.resources place ] ≡ Some r → (m : Module) × (p ≡ Some m)
   its_module None e = cc
   its_module (Some m) e = (m, refl)
 
@@ -177,16 +173,16 @@ module _ (old : LoadingWorld) (is : IsLoadingWorld old) (slot : ℕ) (load : Loa
   abbrev gone : ℕ → Bool
   gone q = q == slot
 
-  abbrev left_loads : FinMap nat_cmp Load
+  abbrev left_loads : C.FinMap C.nat_cmp Load
   left_loads = finmap.remove old.loads slot
 
-  mine : (m : Module) × IsResourceOf old slot load.handle load.place m
+  mine : (m : Module) × C.IsResourceOf old slot load.handle load.place m
   mine = loaded_of old is slot load there
 
-  kept_slots : (handle : ℕ) (m : Module) (q : ℕ) → module_at old.modules handle ≡ Some m → Member q m.slots → gone q ≡ false
-  kept_slots handle m q e member = ne_eqb q slot (λ same.
-      let i : (i : ℕ) × (slice_get m.slots i ≡ Some q) = member_place m.slots q member in
-      is.no_resource slot handle (i.0 + 1) load.handle load.place m mine.0 (record { loaded = e; has = (omega arith, ap (slice_get m.slots) (back i.0) ∙ i.1 ∙ ap Some same) }) mine.1)
+  kept_slots : (handle : ℕ) (m : Module) (q : ℕ) → module_at old.modules handle ≡ Some m → C.Member q m.slots → gone q ≡ false
+  kept_slots handle m q e member = C.ne_eqb q slot (λ same.
+      let i : (i : ℕ) × (C.slice_get m.slots i ≡ Some q) = member_place m.slots q member in
+      is.no_resource slot handle (i.0 + 1) load.handle load.place m mine.0 (record { loaded = e; has = (omega arith, ap (C.slice_get m.slots) (back i.0) ∙ i.1 ∙ ap Some same) }) mine.1)
     where
       back : (n : ℕ) → n + 1 - 1 ≡ n
       back n = omega arith
@@ -194,8 +190,8 @@ module _ (old : LoadingWorld) (is : IsLoadingWorld old) (slot : ℕ) (load : Loa
   -- a load that is left is of another slot
   left : (q : ℕ) (l : Load) → finmap.get left_loads q ≡ Some l → (gone q ≡ false) × (finmap.get old.loads q ≡ Some l)
   left q l e = elim (cases_eq q slot) [
-    | inl same ↦ absurd (none (sym (taken_here old.loads slot q same) ∙ e))
-    | inr other ↦ (ne_eqb q slot other, sym (taken_other old.loads slot q other) ∙ e)
+    | inl same ↦ absurd (none (sym (C.taken_here old.loads slot q same) ∙ e))
+    | inr other ↦ (C.ne_eqb q slot other, sym (C.taken_other old.loads slot q other) ∙ e)
   ]
     where
       none : ◌≡◌ {A = Option Load} None (Some l) → ⊥
@@ -204,7 +200,7 @@ module _ (old : LoadingWorld) (is : IsLoadingWorld old) (slot : ℕ) (load : Loa
   owner_is : (q : ℕ) → gone q ≡ false → (p : Option Owned) → is_some p ≡ true → IfSome p (λ _. HasOwner old q) → HasOwner (shrunk old gone old.modules left_loads) q
   owner_is q t None e h = absurd (false≢true e)
   owner_is q t (Some o) e (handle, number, m, inl s) = (handle, number, m, inl (record { loaded = s.loaded; has = s.has }))
-  owner_is q t (Some o) e (handle, number, m, inr r) = (handle, number, m, inr (record { loaded = r.loaded; loads = r.loads; has = taken_other old.loads slot q (λ same. false≢true (sym t ∙ eq-eqb q slot same)) ∙ r.has }))
+  owner_is q t (Some o) e (handle, number, m, inr r) = (handle, number, m, inr (record { loaded = r.loaded; loads = r.loads; has = C.taken_other old.loads slot q (λ same. false≢true (sym t ∙ eq-eqb q slot same)) ∙ r.has }))
 
   pub last_world : IsLoadingWorld (shrunk old gone old.modules left_loads)
   last_world = follows old (shrunk old gone old.modules left_loads) is (record {

@@ -1,9 +1,8 @@
 -- The sample modules: TLIB, a library of two segments of code, and TAPP, an application that imports three entries of it, of which one doesn't
 -- exist. Their bindings are worked out.
+use Rattle.w16_loading.proofs.Common as C
 use base.Stored.Gv.{gnil}
-use Rattle.w16_loading.proofs.Common.{◌≡◌, ℕ, ◌+◌, ◌/◌, ◌%◌, ◌==◌, Bool, true, false, if◌then◌else◌, List, [], ◌∷◌, ◌++◌, replicate, codes, slice_index_or, Some, None, Ok, refl, Discardable, is_named}
-use Rattle.w16_loading.proofs.Common.{file_of, Far, Segment, Saying, ModuleFile, InSegment, Internal, Import, ImportName, Module, Lookup, address_at, address_named, Loaded, BuiltIn, begun, after, New}
-use Rattle.w16_loading.proofs.Common.{bound_in}
+use Rattle.w16_loading.proofs.Common.{◌≡◌, ℕ, ◌+◌, ◌/◌, ◌%◌, ◌==◌, Bool, true, false, if◌then◌else◌, List, [], ◌∷◌, ◌++◌, replicate, codes, slice_index_or, Some, None, Ok, refl, is_named, Far, ModuleFile, Module, Lookup, address_at, Loaded, begun, after, New, bound_in}
 
 -- the bytes of a word, of a far pointer, and of the first, second and third value of a segment
 abbrev word : ℕ → List ℕ
@@ -16,8 +15,8 @@ abbrev value : List Far → ℕ → Far
 value values i = slice_index_or values i (record { selector = 0; offset = 0 })
 
 -- TLIB. Its first segment calls far twice, and adds to a word, always at the entry GETB.
-abbrev code : Bool → Segment
-code preload = record { kind = Discardable; is_code = true; is_preload = preload; size = 32 }
+abbrev code : Bool → C.Segment
+code preload = record { kind = C.Discardable; is_code = true; is_preload = preload; size = 32 }
 
 abbrev library : List ℕ → ModuleFile
 library name = record {
@@ -26,14 +25,14 @@ library name = record {
     is_library = true;
     segments = code true ∷ code false ∷ [];
     references = [];
-    entries = Some (InSegment 1 0) ∷ Some (InSegment 2 4) ∷ [];
+    entries = Some (C.InSegment 1 0) ∷ Some (C.InSegment 2 4) ∷ [];
     names = (codes "GETA", 1) ∷ (codes "GETB", 2) ∷ [];
     resources = [];
     layout = gnil;
   };
   segments =
       record {
-        targets = Some (Internal 2 4 ∷ Internal 2 4 ∷ []);
+        targets = Some (C.Internal 2 4 ∷ C.Internal 2 4 ∷ []);
         image = λ values. 154 ∷ far (value values 0) ++ (154 ∷ far (value values 0) ++ (184 ∷ word (16 + (value values 1).offset) ++ (203 ∷ 144 ∷ 144 ∷ replicate 16 0)));
       }
       ∷ record { targets = Some []; image = λ values. 1 ∷ 2 ∷ 3 ∷ 4 ∷ 203 ∷ 144 ∷ 144 ∷ 144 ∷ replicate 24 0 }
@@ -46,7 +45,7 @@ application = record {
   tables = record { name = codes "TAPP"; is_library = false; segments = code true ∷ []; references = codes "TLIB" ∷ []; entries = []; names = []; resources = []; layout = gnil };
   segments =
       record {
-        targets = Some (Import 1 1 ∷ ImportName 1 (codes "GETB") ∷ Import 1 9 ∷ []);
+        targets = Some (C.Import 1 1 ∷ C.ImportName 1 (codes "GETB") ∷ C.Import 1 9 ∷ []);
         image = λ values. 154 ∷ far (value values 0) ++ (154 ∷ far (value values 1) ++ (154 ∷ far (value values 2) ++ (203 ∷ replicate 16 0)));
       }
       ∷ [];
@@ -75,7 +74,7 @@ alone_reads = refl
 abbrev at_33 : Lookup
 at_33 handle = if handle == 33 then Some (Loaded alone) else None
 
-geta : address_named at_33 33 (codes "geta") ≡ record { selector = 263; offset = 0 }
+geta : C.address_named at_33 33 (codes "geta") ≡ record { selector = 263; offset = 0 }
 unfolding is_named
 geta = refl
 
@@ -87,7 +86,7 @@ no_entry = refl
 
 -- a built-in's entry is its handle and the ordinal, but for ordinal 0 and for names
 abbrev kernel : Lookup
-kernel handle = if handle == 33 then Some (BuiltIn (codes "KERNEL")) else None
+kernel handle = if handle == 33 then Some (C.BuiltIn (codes "KERNEL")) else None
 
 by_ordinal : address_at kernel 33 5 ≡ record { selector = 33; offset = 5 }
 by_ordinal = refl
@@ -95,7 +94,7 @@ by_ordinal = refl
 by_zero : address_at kernel 33 0 ≡ record { selector = 0; offset = 0 }
 by_zero = refl
 
-by_name : address_named kernel 33 (codes "GLOBALALLOC") ≡ record { selector = 0; offset = 0 }
+by_name : C.address_named kernel 33 (codes "GLOBALALLOC") ≡ record { selector = 0; offset = 0 }
 by_name = refl
 
 -- TAPP at handle 33 and slot 32, TLIB at handle 34 and slots 33 and 34
@@ -115,15 +114,15 @@ app_reads : (slice_index_or application.segments 0 (record { targets = None; ima
 app_reads = refl
 
 -- The file TLIB.DLL may have the module XLIB: the reference means what the file has, and binds alike, whatever is named TLIB later.
-abbrev renamed : Saying
+abbrev renamed : C.Saying
 renamed bytes = Ok (library (codes "XLIB"))
 
-other_name : after renamed (record { named = λ _. None; file = file_of ((codes "TLIB.DLL", []) ∷ []); free = 200 }) 9 (begun (codes "TAPP.EXE") application) ≡ Ok (record {
+other_name : after renamed (record { named = λ _. None; file = C.file_of ((codes "TLIB.DLL", []) ∷ []); free = 200 }) 9 (begun (codes "TAPP.EXE") application) ≡ Ok (record {
   found = record { file = codes "TAPP.EXE"; read = application } ∷ record { file = codes "TLIB.DLL"; read = library (codes "XLIB") } ∷ [];
   pending = [];
   bound = (0, New 1) ∷ [];
 })
-unfolding is_named file_of
+unfolding is_named C.file_of
 other_name = refl
 
 renamed_bound : (bound_in (both_of (codes "XLIB")) app application.segments).values ≡ (record { selector = 271; offset = 0 } ∷ record { selector = 279; offset = 4 } ∷ record { selector = 0; offset = 0 } ∷ []) ∷ []

@@ -1,11 +1,11 @@
 -- Slots for the segments of a load are there exactly where as many are free.
-use Rattle.w16_loading.proofs.Common.{◌≡◌, ◌≢◌, ℕ, zero, suc, ◌+◌, ◌-◌, ◌<◌, ◌≤◌, inl, inr, Bool, not, IsTrue, List, [], ◌∷◌, ◌++◌, length, take, drop, flat_map, Option, Some, None, is_some, refl, sym, ap, ◌∙◌, subst, arith}
-use Rattle.w16_loading.proofs.Common.{length-append, AllZip, range_with_len, false≢true, cases_eq, take-append-drop, append_assoc, length-take-le, length-drop, sum_by-cons, FIRST_SLOT, Handles, IsFreeSlot, Member, EachPair}
-use Rattle.w16_loading.proofs.Common.{Each-at, Each-from, Each-from_All, All-from_Each, EachPair-from_AllPairs, AllPairs-from_EachPair, pairs_filter, member_filter, filter_member, Found, AreSlots, free_slots, segments_in}
-use Rattle.w16_loading.proofs.Common.{SlotsLaw}
+use Rattle.w16_loading.proofs
+use proofs.Common as C
+use proofs.Common.{◌≡◌, ◌≢◌, ℕ, zero, suc, ◌+◌, ◌-◌, ◌<◌, ◌≤◌, inl, inr, Bool, not, List, [], ◌∷◌, ◌++◌, length, take, drop, flat_map, Some, None, is_some, refl, sym, ap, ◌∙◌, subst, arith, range_with_len, false≢true, FIRST_SLOT, IsFreeSlot, Member, EachPair, Found, free_slots}
+use proofs.Common.{segments_in}
+use proofs.Given.{first_apart}
 use Rattle.std.specs.List.{AllByRecursion as Each}
 use Rattle.w16_model.specs.Handles.{owner_of}
-use Rattle.w16_loading.proofs.Given.{first_apart}
 
 -- Numbers of which no two are equal, all of them in a list, are no more than that has.
 
@@ -23,7 +23,7 @@ fits [] ys apart inside = omega arith
 fits (x ∷ xs) ys apart inside =
     let r : (zs : List ℕ) × (length ys ≡ length zs + 1) × ((q : ℕ) → q ≢ x → Member q ys → Member q zs) = taken x ys (inside x (inl refl)) in
     let n : length ys ≡ length r.0 + 1 = r.1 in
-    let le : length xs ≤ length r.0 = fits xs r.0 apart.1 (λ q m. r.2 q (λ e. Each-at (λ b. x ≢ b) xs apart.0 q m (sym e)) (inside q (inr m))) in
+    let le : length xs ≤ length r.0 = fits xs r.0 apart.1 (λ q m. r.2 q (λ e. C.Each-at (λ b. x ≢ b) xs apart.0 q m (sym e)) (inside q (inr m))) in
     omega (arith, n, le)
 
 -- Ranges.
@@ -35,43 +35,43 @@ in_range (suc n) a q (inr m) = let r : (a + 1 ≤ q) × (q < a + 1 + n) = in_ran
 
 range_has : (n a q : ℕ) → a ≤ q → q < a + n → Member q (range_with_len a n)
 range_has zero a q le lt = absurd (omega (arith, le, lt))
-range_has (suc n) a q le lt = elim (cases_eq q a) [ inl e ↦ inl e | inr d ↦ inr (range_has n (a + 1) q (let f : q ≡ a → ⊥ = d in omega (arith, le, f)) (omega (arith, lt))) ]
+range_has (suc n) a q le lt = elim (C.cases_eq q a) [ inl e ↦ inl e | inr d ↦ inr (range_has n (a + 1) q (let f : q ≡ a → ⊥ = d in omega (arith, le, f)) (omega (arith, lt))) ]
 
 range_apart : (n a : ℕ) → EachPair (λ a b. a ≢ b) (range_with_len a n)
 range_apart zero a = tt
-range_apart (suc n) a = (Each-from (λ b. a ≢ b) (range_with_len (a + 1) n) (λ q m e. let r : (a + 1 ≤ q) × _ = in_range n (a + 1) q m in let le : a + 1 ≤ q = r.0 in absurd (omega (arith, le, e))), range_apart n (a + 1))
+range_apart (suc n) a = (C.Each-from (λ b. a ≢ b) (range_with_len (a + 1) n) (λ q m e. let r : (a + 1 ≤ q) × _ = in_range n (a + 1) q m in let le : a + 1 ≤ q = r.0 in absurd (omega (arith, le, e))), range_apart n (a + 1))
 
-module _ (handles : Handles) where
+module _ (handles : C.Handles) where
   abbrev is_free : ℕ → Bool
   is_free slot = not (is_some (owner_of handles.attributes slot))
 
   free_is : (q : ℕ) → Member q (free_slots handles) → IsFreeSlot handles q
   free_is q m =
-      let r : Member q (range_with_len FIRST_SLOT handles.slots) × IsTrue (is_free q) = member_filter is_free (range_with_len FIRST_SLOT handles.slots) q m in
+      let r : Member q (range_with_len FIRST_SLOT handles.slots) × C.IsTrue (is_free q) = C.member_filter is_free (range_with_len FIRST_SLOT handles.slots) q m in
       (in_range handles.slots FIRST_SLOT q r.0, none (owner_of handles.attributes q) r.1)
     where
-      none : (p : Option ℕ) → IsTrue (not (is_some p)) → p ≡ None
+      none : (p : C.Option ℕ) → C.IsTrue (not (is_some p)) → p ≡ None
       none None t = refl
       none (Some first) t = absurd (false≢true t)
 
   is_free_slot : (q : ℕ) → IsFreeSlot handles q → Member q (free_slots handles)
-  is_free_slot q f = filter_member is_free (range_with_len FIRST_SLOT handles.slots) q (range_has handles.slots FIRST_SLOT q f.0.0 f.0.1) (ap (λ p. not (is_some p)) f.1)
+  is_free_slot q f = C.filter_member is_free (range_with_len FIRST_SLOT handles.slots) q (range_has handles.slots FIRST_SLOT q f.0.0 f.0.1) (ap (λ p. not (is_some p)) f.1)
 
 abbrev AreMany : List Found → List (List ℕ) → Type 0
-AreMany found slots = AllZip (λ (f : Found) (s : List ℕ). length s ≡ length f.read.tables.segments) found slots
+AreMany found slots = C.AllZip (λ (f : Found) (s : List ℕ). length s ≡ length f.read.tables.segments) found slots
 
 -- slots in as many lists as there are modules
 split : (found : List Found) (xs : List ℕ) → segments_in found ≤ length xs → (slots : List (List ℕ)) × (rest : List ℕ) × AreMany found slots × (flat_map (λ s. s) slots ++ rest ≡ xs)
 split [] xs le = ([], xs, tt, refl)
 split (f ∷ fs) xs le =
-    let n : segments_in (f ∷ fs) ≡ length f.read.tables.segments + segments_in fs = sum_by-cons (λ (g : Found). length g.read.tables.segments) f fs in
+    let n : segments_in (f ∷ fs) ≡ length f.read.tables.segments + segments_in fs = C.sum_by-cons (λ (g : Found). length g.read.tables.segments) f fs in
     let k : length f.read.tables.segments ≤ length xs = omega (arith, n, le) in
-    let d : length (drop (length f.read.tables.segments) xs) ≡ length xs - length f.read.tables.segments = length-drop (length f.read.tables.segments) xs in
+    let d : length (drop (length f.read.tables.segments) xs) ≡ length xs - length f.read.tables.segments = C.length-drop (length f.read.tables.segments) xs in
     let r : (slots : List (List ℕ)) × (rest : List ℕ) × AreMany fs slots × (flat_map (λ s. s) slots ++ rest ≡ drop (length f.read.tables.segments) xs) = split fs (drop (length f.read.tables.segments) xs) (omega (arith, n, le, d)) in (
       take (length f.read.tables.segments) xs ∷ r.0,
       r.1,
-      (length-take-le (length f.read.tables.segments) xs k, r.2),
-      append_assoc (take (length f.read.tables.segments) xs) (flat_map (λ s. s) r.0) r.1 ∙ ap (λ ys. take (length f.read.tables.segments) xs ++ ys) r.3 ∙ take-append-drop (length f.read.tables.segments) xs,
+      (C.length-take-le (length f.read.tables.segments) xs k, r.2),
+      C.append_assoc (take (length f.read.tables.segments) xs) (flat_map (λ s. s) r.0) r.1 ∙ ap (λ ys. take (length f.read.tables.segments) xs ++ ys) r.3 ∙ C.take-append-drop (length f.read.tables.segments) xs,
     )
 
 counted : (found : List Found) (slots : List (List ℕ)) → AreMany found slots → length (flat_map (λ s. s) slots) ≡ segments_in found
@@ -80,34 +80,34 @@ counted [] (s ∷ ss) h = absurd h
 counted (f ∷ fs) [] h = absurd h
 counted (f ∷ fs) (s ∷ ss) h =
     let e : length s ≡ length f.read.tables.segments = h.0 in
-    let m : length (s ++ flat_map (λ s. s) ss) ≡ length s + length (flat_map (λ s. s) ss) = length-append s (flat_map (λ s. s) ss) in
-    m ∙ (λ i. e i + counted fs ss h.1 i) ∙ sym (sum_by-cons (λ (g : Found). length g.read.tables.segments) f fs)
+    let m : length (s ++ flat_map (λ s. s) ss) ≡ length s + length (flat_map (λ s. s) ss) = C.length-append s (flat_map (λ s. s) ss) in
+    m ∙ (λ i. e i + counted fs ss h.1 i) ∙ sym (C.sum_by-cons (λ (g : Found). length g.read.tables.segments) f fs)
 
 first_each : (P : ℕ → Type 0) (s more : List ℕ) → Each P (s ++ more) → Each P s
 first_each P [] more h = tt
 first_each P (x ∷ s) more h = (h.0, first_each P s more h.1)
 
-pub slots_law : SlotsLaw
+pub slots_law : C.SlotsLaw
 slots_law world found = (λ le. chosen le, λ s. enough s.0 s.1)
   where
-    enough : (slots : List (List ℕ)) → AreSlots world found slots → segments_in found ≤ length (free_slots world.handles)
+    enough : (slots : List (List ℕ)) → C.AreSlots world found slots → segments_in found ≤ length (free_slots world.handles)
     enough slots a =
         let n : length (flat_map (λ s. s) slots) ≡ segments_in found = counted found slots a.many in
-        let le : length (flat_map (λ s. s) slots) ≤ length (free_slots world.handles) = fits (flat_map (λ s. s) slots) (free_slots world.handles) (EachPair-from_AllPairs (λ (a b : ℕ). a ≢ b) (flat_map (λ s. s) slots) a.apart)
-        (λ q m. is_free_slot world.handles q (Each-at (IsFreeSlot world.handles) (flat_map (λ s. s) slots) (Each-from_All (IsFreeSlot world.handles) (flat_map (λ s. s) slots) a.free) q m)) in
+        let le : length (flat_map (λ s. s) slots) ≤ length (free_slots world.handles) = fits (flat_map (λ s. s) slots) (free_slots world.handles) (C.EachPair-from_AllPairs (λ (a b : ℕ). a ≢ b) (flat_map (λ s. s) slots) a.apart)
+        (λ q m. is_free_slot world.handles q (C.Each-at (IsFreeSlot world.handles) (flat_map (λ s. s) slots) (C.Each-from_All (IsFreeSlot world.handles) (flat_map (λ s. s) slots) a.free) q m)) in
         omega (arith, n, le)
 
-    chosen : segments_in found ≤ length (free_slots world.handles) → (slots : List (List ℕ)) × AreSlots world found slots
+    chosen : segments_in found ≤ length (free_slots world.handles) → (slots : List (List ℕ)) × C.AreSlots world found slots
     chosen le =
         let r : (slots : List (List ℕ)) × (rest : List ℕ) × AreMany found slots × (flat_map (λ s. s) slots ++ rest ≡ free_slots world.handles) = split found (free_slots world.handles) le in (
           r.0,
           record {
             many = r.2;
-            free = All-from_Each (IsFreeSlot world.handles) (flat_map (λ s. s) r.0) (first_each (IsFreeSlot world.handles) (flat_map (λ s. s) r.0) r.1
-                (subst (Each (IsFreeSlot world.handles)) (sym r.3) (Each-from (IsFreeSlot world.handles) (free_slots world.handles) (free_is world.handles))));
-            apart = AllPairs-from_EachPair (λ (a b : ℕ). a ≢ b) (flat_map (λ s. s) r.0)
+            free = C.All-from_Each (IsFreeSlot world.handles) (flat_map (λ s. s) r.0) (first_each (IsFreeSlot world.handles) (flat_map (λ s. s) r.0) r.1
+                (subst (Each (IsFreeSlot world.handles)) (sym r.3) (C.Each-from (IsFreeSlot world.handles) (free_slots world.handles) (free_is world.handles))));
+            apart = C.AllPairs-from_EachPair (λ (a b : ℕ). a ≢ b) (flat_map (λ s. s) r.0)
                 (first_apart (flat_map (λ s. s) r.0) r.1 (subst (EachPair (λ (a b : ℕ). a ≢ b)) (sym r.3)
-                (pairs_filter (λ (a b : ℕ). a ≢ b) (λ slot. not (is_some (owner_of world.handles.attributes slot)))
+                (C.pairs_filter (λ (a b : ℕ). a ≢ b) (λ slot. not (is_some (owner_of world.handles.attributes slot)))
                 (range_with_len FIRST_SLOT world.handles.slots) (range_apart world.handles.slots FIRST_SLOT))));
           },
         )

@@ -1,18 +1,13 @@
 -- Modules and resources that go take their objects with them, and spare every other.
-use Rattle.w16_loading.proofs.Common.{◌≡◌, ◌≢◌, ℕ, ◌+◌, ◌-◌, ◌≤◌, inl, inr, ◌⊎◌, ◌==◌, Bool, true, false, cond, not, nat_lt, List, [], ◌∷◌, Option, Some, None, IfSome, IsSomeAnd, is_some, slice_get, refl, sym, ap, ◌∙◌, subst, arith, eq-eqb, ne_eqb, ltb-false, false≢true}
-use Rattle.w16_loading.proofs.Common.{cases_Bool, cases_eq, locks_at, is_member, object_at, is_member-true, inserted_here, inserted_other, taken_here, taken_other, LoadingWorld, Load}
-use Rattle.w16_loading.proofs.Common.{Module, Named, IsSegmentOf, IsResourceOf, module_at, module_in, imports, BuiltIn, Loaded, Frees, Go, is_left_over, used_less, without_module, IsLoad, IsLoadingWorld, heap_without, without_objects, free_resource, slot_of_resource}
-use Rattle.w16_loading.proofs.Common.{IsFreedResource, IsUnloaded, IsUnused}
+use Rattle.w16_loading.proofs
+use proofs.Common as C
+use proofs.Common.{◌≡◌, ◌≢◌, ℕ, ◌+◌, ◌-◌, ◌≤◌, inl, inr, ◌⊎◌, ◌==◌, Bool, true, false, cond, not, nat_lt, List, [], ◌∷◌, Option, Some, None, is_some, slice_get, refl, sym, ap, ◌∙◌, subst, arith, false≢true, cases_eq, locks_at, is_member, object_at, inserted_here, inserted_other}
+use proofs.Common.{taken_here, taken_other, LoadingWorld, Load, Module, Named, module_at, module_in, imports, Loaded, Frees, Go, is_left_over, free_resource, slot_of_resource, IsUnused}
+use proofs.Importers.{HasImporter, Idle, idle_parts, none_idle}
+use proofs.Spared.{IsSpared, same_spared, spared_then, spared_without}
+use proofs.Stepping.{freed_by, resource_load, with_count, without_load}
+use proofs.{Bound.world_used_less, Cascade.gone_with, Cascade.went, Given.loaded_is, Given.member_place, Owners.loaded_of, SparedByUses.named_slot, Undone.retained}
 use Rattle.std.specs.FinMap as finmap
-use Rattle.w16_loading.proofs.Bound.{world_used_less}
-use Rattle.w16_loading.proofs.Cascade.{gone_with, went}
-use Rattle.w16_loading.proofs.Given.{loaded_is, member_place}
-use Rattle.w16_loading.proofs.Importers.{HasImporter, Idle, idle_parts, none_idle}
-use Rattle.w16_loading.proofs.Owners.{loaded_of}
-use Rattle.w16_loading.proofs.Spared.{IsSpared, same_spared, spared_then, spared_without}
-use Rattle.w16_loading.proofs.SparedByUses.{named_slot}
-use Rattle.w16_loading.proofs.Stepping.{freed_by, resource_load, with_count, without_load}
-use Rattle.w16_loading.proofs.Undone.{retained}
 
 no_module : {A : Type 0} (p : Option Module) (m : Module) → p ≡ None → p ≡ Some m → A
 no_module p m e f = let g : ◌≡◌ {A = Option Module} None (Some m) = sym e ∙ f in cc
@@ -25,7 +20,7 @@ record IsLeftOf (handle a : ℕ) (n was : Module) : Type 0 where
 
 -- a segment's object that is gone with its module
 abbrev IsOfGone : LoadingWorld → ℕ → LoadingWorld → Type 0
-IsOfGone old q world = (object_at world.handles.heap q ≡ None) × (a number : ℕ) × (m : Module) × IsSegmentOf old q a number m × (module_at world.modules a ≡ None)
+IsOfGone old q world = (object_at world.handles.heap q ≡ None) × (a number : ℕ) × (m : Module) × C.IsSegmentOf old q a number m × (module_at world.modules a ≡ None)
 
 -- on the way: an object is spared, or was a segment's of a module that is gone; and what is gone is unused
 record OnTheWay (old : LoadingWorld) (handle q : ℕ) (world : LoadingWorld) : Type 0 where
@@ -34,41 +29,41 @@ record OnTheWay (old : LoadingWorld) (handle q : ℕ) (world : LoadingWorld) : T
   sources : (a : ℕ) (n : Module) → module_at world.modules a ≡ Some n → (was : Module) × (module_at old.modules a ≡ Some was) × IsLeftOf handle a n was
   gone : (a : ℕ) (m : Module) → module_at old.modules a ≡ Some m → module_at world.modules a ≡ None → IsUnused old handle world a m
 
-module _ (old : LoadingWorld) (is : IsLoadingWorld old) (q : ℕ) where
+module _ (old : LoadingWorld) (is : C.IsLoadingWorld old) (q : ℕ) where
   abbrev Spared : LoadingWorld → Type 0
   Spared world = IsSpared old.handles.heap world.handles.heap q
 
   -- objects go
-  object_left : (gone : ℕ → Bool) (world : LoadingWorld) (b : Bool) → gone q ≡ b → object_at (heap_without gone world.handles.heap) q ≡ cond (not b) (object_at world.handles.heap q) None
+  object_left : (gone : ℕ → Bool) (world : LoadingWorld) (b : Bool) → gone q ≡ b → object_at (C.heap_without gone world.handles.heap) q ≡ cond (not b) (object_at world.handles.heap q) None
   object_left gone world b t = retained world.handles.heap.objects gone q ∙ ap (λ b. cond (not b) (object_at world.handles.heap q) None) t
 
-  spared_left : (gone : ℕ → Bool) (world : LoadingWorld) → gone q ≡ false → Spared world → Spared (without_objects gone world)
-  spared_left gone world t s = spared_then old.handles.heap world.handles.heap (heap_without gone world.handles.heap) q s (spared_without gone world.handles.heap q t)
+  spared_left : (gone : ℕ → Bool) (world : LoadingWorld) → gone q ≡ false → Spared world → Spared (C.without_objects gone world)
+  spared_left gone world t s = spared_then old.handles.heap world.handles.heap (C.heap_without gone world.handles.heap) q s (spared_without gone world.handles.heap q t)
 
   -- Resources.
 
-  pub resource_ended : (handle : ℕ) → Spared (free_resource old handle).1 ⊎ ((object_at (free_resource old handle).1.handles.heap q ≡ None) × IsFreedResource old handle (free_resource old handle).1 q)
+  pub resource_ended : (handle : ℕ) → Spared (free_resource old handle).1 ⊎ ((object_at (free_resource old handle).1.handles.heap q ≡ None) × C.IsFreedResource old handle (free_resource old handle).1 q)
   resource_ended handle = turn (slot_of_resource old handle) refl
     where
       Ended : LoadingWorld → Type 0
-      Ended world = Spared world ⊎ ((object_at world.handles.heap q ≡ None) × IsFreedResource old handle world q)
+      Ended world = Spared world ⊎ ((object_at world.handles.heap q ≡ None) × C.IsFreedResource old handle world q)
 
       last : (x : ℕ × Load) → slot_of_resource old handle ≡ Some x → nat_lt 1 x.1.loads ≡ false → nat_lt 0 (locks_at old.handles.heap x.0) ≡ false → Ended (without_load old x.0)
       last x e one loose = elim (cases_eq q x.0) [
-        | inr d ↦ inl (spared_left (λ k. k == x.0) old (ne_eqb q x.0 d) (same_spared old.handles.heap q))
+        | inr d ↦ inl (spared_left (λ k. k == x.0) old (C.ne_eqb q x.0 d) (same_spared old.handles.heap q))
         | inl same ↦ inr (
-          object_left (λ k. k == x.0) old true (eq-eqb q x.0 same),
+          object_left (λ k. k == x.0) old true (C.eq-eqb q x.0 same),
           (
             named_slot old handle x e ∙ ap Some (sym same),
-            subst (λ p. IsSomeAnd p (λ (load : Load). load.loads ≡ 1)) (sym (ap (finmap.get old.loads) same ∙ resource_load old handle x e)) (omega (arith, load.used, ltb-false 1 x.1.loads one)),
-            ap (locks_at old.handles.heap) same ∙ omega (arith, ltb-false 0 (locks_at old.handles.heap x.0) loose),
+            subst (λ p. C.IsSomeAnd p (λ (load : Load). load.loads ≡ 1)) (sym (ap (finmap.get old.loads) same ∙ resource_load old handle x e)) (omega (arith, load.used, C.ltb-false 1 x.1.loads one)),
+            ap (locks_at old.handles.heap) same ∙ omega (arith, C.ltb-false 0 (locks_at old.handles.heap x.0) loose),
             taken_here old.loads x.0 q same,
           ),
         )
       ]
         where
-          load : IsLoad old x.0 x.1
-          load = subst (λ p. IfSome p (IsLoad old x.0)) (resource_load old handle x e) (is.loads x.0)
+          load : C.IsLoad old x.0 x.1
+          load = subst (λ p. C.IfSome p (C.IsLoad old x.0)) (resource_load old handle x e) (is.loads x.0)
 
       by_test : (x : ℕ × Load) → slot_of_resource old handle ≡ Some x → (b c : Bool) → nat_lt 1 x.1.loads ≡ b → nat_lt 0 (locks_at old.handles.heap x.0) ≡ c
           → Ended (cond {A = ℕ × LoadingWorld} b (0, with_count old x.0 x.1 (x.1.loads - 1)) (cond {A = ℕ × LoadingWorld} c (1, old) (0, without_load old x.0))).1
@@ -83,7 +78,7 @@ module _ (old : LoadingWorld) (is : IsLoadingWorld old) (q : ℕ) where
   -- Modules.
   module _ (handle : ℕ) where
     abbrev begun : LoadingWorld
-    begun = used_less old handle
+    begun = C.used_less old handle
 
     start : OnTheWay old handle q begun
     start = turn (module_at old.modules handle) refl
@@ -118,7 +113,7 @@ module _ (old : LoadingWorld) (is : IsLoadingWorld old) (q : ℕ) where
             alike a same n f = let g : n ≡ record m { uses = m.uses - 1 } = cc in record {
               slots = ap (λ (x : Module). x.slots) g;
               imports = ap (λ (x : Module). x.imports) g;
-              uses = subst (λ (x : Module). m.uses ≤ x.uses + cond (a == handle) 1 0) (sym g) (subst (λ b. m.uses ≤ m.uses - 1 + cond b 1 0) (sym (eq-eqb a handle same)) (omega arith));
+              uses = subst (λ (x : Module). m.uses ≤ x.uses + cond (a == handle) 1 0) (sym g) (subst (λ b. m.uses ≤ m.uses - 1 + cond b 1 0) (sym (C.eq-eqb a handle same)) (omega arith));
             }
 
     -- an importer of the first world is one, if it is left
@@ -147,7 +142,7 @@ module _ (old : LoadingWorld) (is : IsLoadingWorld old) (q : ℕ) where
       its = h.sources k idle.idle (ap module_in idle.loaded)
 
       outcome_then : Spared next ⊎ IsOfGone old q next
-      outcome_then = by_test (cases_Bool (is_member q idle.idle.slots)) h.outcome
+      outcome_then = by_test (C.cases_Bool (is_member q idle.idle.slots)) h.outcome
         where
           back : (n : ℕ) → n + 1 - 1 ≡ n
           back n = omega arith
@@ -156,7 +151,7 @@ module _ (old : LoadingWorld) (is : IsLoadingWorld old) (q : ℕ) where
               → Spared world ⊎ IsOfGone old q world
               → Spared next ⊎ IsOfGone old q next
           by_test (inl t) o =
-              let i : (i : ℕ) × (slice_get idle.idle.slots i ≡ Some q) = member_place idle.idle.slots q (is_member-true q idle.idle.slots t) in
+              let i : (i : ℕ) × (slice_get idle.idle.slots i ≡ Some q) = member_place idle.idle.slots q (C.is_member-true q idle.idle.slots t) in
               inr (
                 object_left (λ q. is_member q idle.idle.slots) world true t,
                 k,
@@ -204,7 +199,7 @@ module _ (old : LoadingWorld) (is : IsLoadingWorld old) (q : ℕ) where
     all_gone alone world [] last g h = subst (OnTheWay old handle q) (sym g.1) h
     all_gone alone world (k ∷ ks) last g h =
         let idle : Idle world.modules k = idle_parts world.modules k g.0 in
-        all_gone alone (without_module world k) ks last g.1 (subst (OnTheWay old handle q) (sym (went world k idle.idle idle.loaded)) (one_gone alone world h k idle))
+        all_gone alone (C.without_module world k) ks last g.1 (subst (OnTheWay old handle q) (sym (went world k idle.idle idle.loaded)) (one_gone alone world h k idle))
 
     -- the handle's own module goes first, if any does, so none imports it
     first_alone : (k : ℕ) → Idle begun.modules k → IsAlone
@@ -218,7 +213,7 @@ module _ (old : LoadingWorld) (is : IsLoadingWorld old) (q : ℕ) where
 
         unused : k ≢ handle → its.0.uses ≡ 0
         unused other =
-            let le : its.0.uses ≤ idle.idle.uses + 0 = subst (λ b. its.0.uses ≤ idle.idle.uses + cond b 1 0) (ne_eqb k handle other) its.2.uses in
+            let le : its.0.uses ≤ idle.idle.uses + 0 = subst (λ b. its.0.uses ≤ idle.idle.uses + cond b 1 0) (C.ne_eqb k handle other) its.2.uses in
             omega (arith, le, idle.unused)
 
         -- none is gone yet
@@ -246,14 +241,14 @@ module _ (old : LoadingWorld) (is : IsLoadingWorld old) (q : ℕ) where
                 record { who = i.who; importer = Loaded m; there = loaded_is (finmap.get begun.modules i.who) m f; other = i.other; uses = ap (is_member k) (s.2.imports ∙ ap (λ (x : Module). x.imports) (sym same)) ∙ t }
 
             by : (x : Named) → finmap.get old.modules i.who ≡ Some x → imports x k ≡ true → HasImporter begun.modules k
-            by (BuiltIn name) there t = absurd (false≢true t)
+            by (C.BuiltIn name) there t = absurd (false≢true t)
             by (Loaded n) there t = by_module n (ap module_in there) t (module_at begun.modules i.who) refl
 
-    pub uses_ended : (answer : ℕ) (new : LoadingWorld) → Frees old handle answer new → Spared new ⊎ ((object_at new.handles.heap q ≡ None) × IsUnloaded old handle new q)
-    uses_ended answer new f = subst Ended (sym f.after) (by_test (cases_Bool (is_left_over f.left q)) h.outcome)
+    pub uses_ended : (answer : ℕ) (new : LoadingWorld) → Frees old handle answer new → Spared new ⊎ ((object_at new.handles.heap q ≡ None) × C.IsUnloaded old handle new q)
+    uses_ended answer new f = subst Ended (sym f.after) (by_test (C.cases_Bool (is_left_over f.left q)) h.outcome)
       where
         Ended : LoadingWorld → Type 0
-        Ended world = Spared world ⊎ ((object_at world.handles.heap q ≡ None) × IsUnloaded old handle world q)
+        Ended world = Spared world ⊎ ((object_at world.handles.heap q ≡ None) × C.IsUnloaded old handle world q)
 
         went_so : (handles : List ℕ) → Go begun handles f.left → OnTheWay old handle q f.left
         went_so [] g = subst (OnTheWay old handle q) (sym g.1) start
@@ -271,10 +266,10 @@ module _ (old : LoadingWorld) (is : IsLoadingWorld old) (q : ℕ) where
             none (Some m) t = absurd (false≢true t)
 
         by_test : (is_left_over f.left q ≡ true) ⊎ (is_left_over f.left q ≡ false) → Spared f.left ⊎ IsOfGone old q f.left
-            → Ended (without_objects (is_left_over f.left) f.left)
+            → Ended (C.without_objects (is_left_over f.left) f.left)
         by_test (inl t) o =
             let l = left_over (finmap.get f.left.loads q) refl t in
-            let m : (m : Module) × IsResourceOf old q l.0.handle l.0.place m = loaded_of old is q l.0 l.1 in
+            let m : (m : Module) × C.IsResourceOf old q l.0.handle l.0.place m = loaded_of old is q l.0 l.1 in
             inr (object_left (is_left_over f.left) f.left true t, (l.0.handle, l.0.place, m.0, inr m.1, h.gone l.0.handle m.0 m.1.loaded l.2))
         by_test (inr t) (inl s) = inl (spared_left (is_left_over f.left) f.left t s)
         by_test (inr t) (inr g) = inr (object_left (is_left_over f.left) f.left false t ∙ g.0, (g.1, g.2, g.3, inl g.4, h.gone g.1 g.3 g.4.loaded g.5))

@@ -1,36 +1,32 @@
 -- Loads of modules and of resources spare every object that was there.
-use Rattle.w16_loading.proofs.Common.{◌≡◌, ◌≢◌, ℕ, inl, inr, Bool, true, false, cond, nat_lt, ◌+◌, fold, List, Option, Some, None, is_some, refl, sym, ap, ◌∙◌, subst, false≢true, cases_Bool}
-use Rattle.w16_loading.proofs.Common.{is_member, Heap, object_at, IsFreeSlot, handle_of, Member, is_member-true, inserted_other, FetchFault, Resource, LoadingWorld, Load, with_heap, Failure, InTurn, heap_without}
-use Rattle.w16_loading.proofs.Common.{Closure, Choice, IsChoice, all_slots, bound, fills, given, named, segments_of, with_segment, Answer, Fulfils, left, undone, Answers, FetchesFrom, GivesFrom, LoadsFrom, Fills, IsLoadingWorld, Reply}
-use Rattle.w16_loading.proofs.Common.{Word, MOST_USES, LoadsResource, LoadsNewResource, loaded_again, resource_outcome, with_resource, unused_slot, IsHeap, entered_heap}
+use Rattle.w16_loading.proofs
+use proofs.Common as C
+use proofs.Common.{◌≡◌, ◌≢◌, ℕ, inl, inr, Bool, true, false, cond, ◌+◌, fold, List, Option, Some, None, refl, sym, ap, ◌∙◌, subst, false≢true, is_member, Heap, handle_of, LoadingWorld, Load, all_slots, bound, fills, given, named, segments_of, left, FetchesFrom, GivesFrom, Fills, Reply}
+use proofs.Common.{Word, with_resource}
+use proofs.Spared.{IsSpared, left_alone, same_spared, spared_then, spared_without, filled_spared, fetch_spares}
+use proofs.Undone.{IsNamed, chosen, fold_named}
+use proofs.{Fillings.any_do, Given.filled_chosen, Named.free_slot, Named.named_heap, Cases.resource_cases, Answered.AreAnswers, Answered.loaded_by}
 use Rattle.std.specs.FinMap as finmap
 use Rattle.w16_loading.specs.declared.FetchFault.TheVariants as faults
-use Rattle.w16_loading.proofs.Fillings.{any_do}
-use Rattle.w16_loading.proofs.Given.{filled_chosen}
-use Rattle.w16_loading.proofs.Named.{free_slot, named_heap}
-use Rattle.w16_loading.proofs.Spared.{IsSpared, left_alone, same_spared, spared_then, spared_without, filled_spared, fetch_spares}
-use Rattle.w16_loading.proofs.Cases.{resource_cases}
-use Rattle.w16_loading.proofs.Answered.{AreAnswers, loaded_by}
-use Rattle.w16_loading.proofs.Undone.{IsNamed, chosen, fold_named}
 
-module _ (answers : Answers) (old : LoadingWorld) (is : IsLoadingWorld old) (q : ℕ) (there : is_some (object_at old.handles.heap q) ≡ true) where
+module _ (answers : C.Answers) (old : LoadingWorld) (is : C.IsLoadingWorld old) (q : ℕ) (there : C.is_some (C.object_at old.handles.heap q) ≡ true) where
   abbrev Spared : LoadingWorld → Type 0
   Spared world = IsSpared old.handles.heap world.handles.heap q
 
-  not_free : (slot : ℕ) → IsFreeSlot old.handles slot → q ≢ slot
-  not_free slot free e = false≢true (sym (ap is_some (ap (object_at old.handles.heap) e ∙ unused_slot old.handles is.handles slot free)) ∙ there)
+  not_free : (slot : ℕ) → C.IsFreeSlot old.handles slot → q ≢ slot
+  not_free slot free e = false≢true (sym (ap C.is_some (ap (C.object_at old.handles.heap) e ∙ C.unused_slot old.handles is.handles slot free)) ∙ there)
 
   -- Modules.
 
-  module _ (closure : Closure) (choice : Choice) (good : IsChoice old closure.found choice) (failure : Option Failure) (heap : Heap)
-      (filled : InTurn (GivesFrom Fills answers) (named old closure choice).handles.heap (fills old closure choice) failure heap) where
+  module _ (closure : C.Closure) (choice : C.Choice) (good : C.IsChoice old closure.found choice) (failure : Option C.Failure) (heap : Heap)
+      (filled : C.InTurn (GivesFrom Fills answers) (named old closure choice).handles.heap (fills old closure choice) failure heap) where
     abbrev begun : Heap
     begun = (named old closure choice).handles.heap
 
-    not_chosen : (slot : ℕ) → Member slot (all_slots choice) → q ≢ slot
+    not_chosen : (slot : ℕ) → C.Member slot (all_slots choice) → q ≢ slot
     not_chosen slot m = not_free slot (free_slot old closure choice good slot m)
 
-    named_is : IsNamed old (fold with_segment old (segments_of (given closure choice))) (segments_of (given closure choice))
+    named_is : IsNamed old (fold C.with_segment old (segments_of (given closure choice))) (segments_of (given closure choice))
     named_is = fold_named old (segments_of (given closure choice))
 
     named_spared : IsSpared old.handles.heap begun q
@@ -43,20 +39,20 @@ module _ (answers : Answers) (old : LoadingWorld) (is : IsLoadingWorld old) (q :
     load_spared : IsSpared old.handles.heap heap q
     load_spared = spared_then old.handles.heap begun heap q named_spared all_filled
 
-    undone_spared : IsSpared old.handles.heap (heap_without (λ q. is_member q (all_slots choice)) heap) q
-    undone_spared = spared_then old.handles.heap heap (heap_without (λ q. is_member q (all_slots choice)) heap) q load_spared (spared_without (λ q. is_member q (all_slots choice)) heap q stays)
+    undone_spared : IsSpared old.handles.heap (C.heap_without (λ q. is_member q (all_slots choice)) heap) q
+    undone_spared = spared_then old.handles.heap heap (C.heap_without (λ q. is_member q (all_slots choice)) heap) q load_spared (spared_without (λ q. is_member q (all_slots choice)) heap q stays)
       where
         stays : is_member q (all_slots choice) ≡ false
-        stays = elim (cases_Bool (is_member q (all_slots choice))) [ inl t ↦ absurd (not_chosen q (is_member-true q (all_slots choice) t) refl) | inr t ↦ t ]
+        stays = elim (C.cases_Bool (is_member q (all_slots choice))) [ inl t ↦ absurd (not_chosen q (C.is_member-true q (all_slots choice) t) refl) | inr t ↦ t ]
 
-  fulfilled : (closure : Closure) (answer : Answer) (new : LoadingWorld) → Fulfils (GivesFrom Fills answers) old closure answer new → Spared new
+  fulfilled : (closure : C.Closure) (answer : C.Answer) (new : LoadingWorld) → C.Fulfils (GivesFrom Fills answers) old closure answer new → Spared new
   fulfilled closure answer new f = subst Spared (sym f.after) (turn f.failure f.filled)
     where
-      turn : (failure : Option Failure) → InTurn (GivesFrom Fills answers) (named old closure f.choice).handles.heap (fills old closure f.choice) failure f.heap → Spared (left failure (with_heap (named old closure f.choice) f.heap) (undone old f.choice f.heap))
+      turn : (failure : Option C.Failure) → C.InTurn (GivesFrom Fills answers) (named old closure f.choice).handles.heap (fills old closure f.choice) failure f.heap → Spared (left failure (C.with_heap (named old closure f.choice) f.heap) (C.undone old f.choice f.heap))
       turn None filled = load_spared closure f.choice f.is_choice None f.heap filled
       turn (Some failure) filled = undone_spared closure f.choice f.is_choice (Some failure) f.heap filled
 
-  pub modules_loaded : AreAnswers answers → (b : Bool) (file : List ℕ) (answer : Answer) (new : LoadingWorld) → LoadsFrom Fills answers b old file answer new → Spared new
+  pub modules_loaded : AreAnswers answers → (b : Bool) (file : List ℕ) (answer : C.Answer) (new : LoadingWorld) → C.LoadsFrom Fills answers b old file answer new → Spared new
   modules_loaded are b file answer new = loaded_by answers are old (λ answer. Spared) (λ answer. same_spared old.handles.heap q) b file answer new (λ handle m here few. same_spared old.handles.heap q) (λ closure facts. fulfilled closure answer new)
 
   -- Resources.
@@ -68,33 +64,33 @@ module _ (answers : Answers) (old : LoadingWorld) (is : IsLoadingWorld old) (q :
     outcome_is : (outcome : Reply × LoadingWorld) → ◌≡◌ {A = Reply × LoadingWorld} (reply, new) outcome → Spared outcome.1 → Spared new
     outcome_is outcome e good = subst (λ (p : Reply × LoadingWorld). Spared p.1) (sym e) good
 
-    fresh : (r : Resource) → LoadsNewResource (FetchesFrom Fills answers) old handle place r reply new → Spared new
-    fresh r f = outcome_is (resource_outcome f.fault (handle_of r.kind f.slot) f.next old) f.outcome (turn f.fault)
+    fresh : (r : C.Resource) → C.LoadsNewResource (FetchesFrom Fills answers) old handle place r reply new → Spared new
+    fresh r f = outcome_is (C.resource_outcome f.fault (handle_of r.kind f.slot) f.next old) f.outcome (turn f.fault)
       where
-        are : IsHeap (with_resource old f.slot handle place r).handles.heap
-        are = entered_heap old.handles.heap is.handles.heap f.slot r.kind (unused_slot old.handles is.handles f.slot f.free)
+        are : C.IsHeap (with_resource old f.slot handle place r).handles.heap
+        are = C.entered_heap old.handles.heap is.handles.heap f.slot r.kind (C.unused_slot old.handles is.handles f.slot f.free)
 
         next_spared : Spared f.next
         next_spared = spared_then old.handles.heap (with_resource old f.slot handle place r).handles.heap f.next.handles.heap q
-            (left_alone old.handles.heap (with_resource old f.slot handle place r).handles.heap q (inserted_other old.handles.heap.objects f.slot (record { kind = r.kind; locks = 0; bytes = None }) q (not_free f.slot f.free)) refl)
+            (left_alone old.handles.heap (with_resource old f.slot handle place r).handles.heap q (C.inserted_other old.handles.heap.objects f.slot (record { kind = r.kind; locks = 0; bytes = None }) q (not_free f.slot f.free)) refl)
             (fetch_spares are f.fetched q (not_free f.slot f.free))
 
-        turn : (fault : Option FetchFault) → Spared (resource_outcome fault (handle_of r.kind f.slot) f.next old).1
+        turn : (fault : Option C.FetchFault) → Spared (C.resource_outcome fault (handle_of r.kind f.slot) f.next old).1
         turn None = next_spared
         turn (Some faults.Store) = same_spared old.handles.heap q
         turn (Some faults.NoRoom) = same_spared old.handles.heap q
         turn (Some faults.Damaged) = same_spared old.handles.heap q
 
-    again : (r : Resource) (x : ℕ × Load) → Spared (loaded_again old r x).1
-    again r x = turn (nat_lt x.1.loads MOST_USES)
+    again : (r : C.Resource) (x : ℕ × Load) → Spared (C.loaded_again old r x).1
+    again r x = turn (C.nat_lt x.1.loads C.MOST_USES)
       where
         turn : (b : Bool) → Spared (cond {A = Reply × LoadingWorld} b (Word (handle_of r.kind x.0), record old { loads = finmap.insert old.loads x.0 (record x.1 { loads = x.1.loads + 1 }) }) (Word 0, old)).1
         turn true = same_spared old.handles.heap q
         turn false = same_spared old.handles.heap q
 
-    pub resource_loaded : LoadsResource (FetchesFrom Fills answers) old handle place reply new → Spared new
+    pub resource_loaded : C.LoadsResource (FetchesFrom Fills answers) old handle place reply new → Spared new
     resource_loaded step = elim (resource_cases (FetchesFrom Fills answers) old reply new handle place step) [
       | inl f ↦ same_world f.1
-      | inr (r, at, inl (x, e, f)) ↦ outcome_is (loaded_again old r x) f (again r x)
+      | inr (r, at, inl (x, e, f)) ↦ outcome_is (C.loaded_again old r x) f (again r x)
       | inr (r, at, inr (none, f)) ↦ fresh r f
     ]

@@ -1,7 +1,8 @@
 -- Names that are taken back leave the same world.
-use Rattle.w16_loading.proofs.Common.{◌≡◌, ◌≢◌, ℕ, ◌+◌, inl, inr, ◌⊎◌, Bool, true, false, cond, not, List, [], ◌∷◌, ◌++◌, fold, filter, flat_map, zip, Option, Some, None, All, is_some, refl, sym, ap, ◌∙◌, subst, nat_cmp_total, nat_cmp, FinMap}
-use Rattle.w16_loading.proofs.Common.{same_map, nat_cmp-IsAntisymmetric, get-retain_keys, false≢true, cases_Bool, is_member, object_at, is_in_order, AreHandles, IsFreeSlot, owned_in, owned_at, Member, Each-from_All, Each-at, is_member-true}
-use Rattle.w16_loading.proofs.Common.{true-is_member, inserted_other, Segment, LoadingWorld, with_heap, Found, given, given_from, all_slots, segments_of, with_segment, attributes_of, without_objects, TakenBackLaw, UndoneLaw, unused_slot}
+use Rattle.w16_loading.proofs
+use proofs.Common as C
+use proofs.Common.{◌≡◌, ◌≢◌, ℕ, ◌+◌, inl, inr, ◌⊎◌, Bool, true, false, cond, not, List, [], ◌∷◌, ◌++◌, fold, filter, flat_map, zip, Some, None, All, is_some, refl, sym, ap, ◌∙◌, subst, false≢true, is_member, object_at, IsFreeSlot, Member, inserted_other, Segment, LoadingWorld, Found}
+use proofs.Common.{given, segments_of, with_segment, without_objects}
 use Rattle.std.specs.FinMap as finmap
 
 -- Slots of segments are slots that were chosen.
@@ -27,11 +28,11 @@ parted x (y ∷ xs) ys (inl e) = inl (inl e)
 parted x (y ∷ xs) ys (inr m) = elim (parted x xs ys m) [ inl a ↦ inl (inr a) | inr b ↦ inr b ]
 
 -- by modules
-pub chosen : (place : ℕ) (fs : List Found) (hs : List ℕ) (ss : List (List ℕ)) (x : ℕ × Segment) → Member x (segments_of (given_from place fs hs ss)) → Member x.0 (flat_map (λ s. s) ss)
+pub chosen : (place : ℕ) (fs : List Found) (hs : List ℕ) (ss : List (List ℕ)) (x : ℕ × Segment) → Member x (segments_of (C.given_from place fs hs ss)) → Member x.0 (flat_map (λ s. s) ss)
 chosen place [] hs ss x m = absurd m
 chosen place (f ∷ fs) [] ss x m = absurd m
 chosen place (f ∷ fs) (h ∷ hs) [] x m = absurd m
-chosen place (f ∷ fs) (h ∷ hs) (s ∷ ss) x m = elim (parted x (zip s f.read.tables.segments) (segments_of (given_from (place + 1) fs hs ss)) m) [
+chosen place (f ∷ fs) (h ∷ hs) (s ∷ ss) x m = elim (parted x (zip s f.read.tables.segments) (segments_of (C.given_from (place + 1) fs hs ss)) m) [
   | inl a ↦ in_first x.0 s (flat_map (λ s. s) ss) (zipped s f.read.tables.segments x a)
   | inr b ↦ in_second x.0 s (flat_map (λ s. s) ss) (chosen (place + 1) fs hs ss x b)
 ]
@@ -47,41 +48,41 @@ fold_named w [] = record { rest = refl; others = λ q out. refl; attributes = λ
 fold_named w (x ∷ xs) = let r : IsNamed (with_segment w x) (fold with_segment (with_segment w x) xs) xs = fold_named (with_segment w x) xs in record {
   rest = r.rest;
   others = λ q out. r.others q (λ y m. out y (inr m)) ∙ inserted_other w.handles.heap.objects x.0 (record { kind = x.1.kind; locks = 0; bytes = None }) q (out x (inl refl));
-  attributes = λ q out. r.attributes q (λ y m. out y (inr m)) ∙ inserted_other w.handles.attributes x.0 (attributes_of x.1) q (out x (inl refl));
+  attributes = λ q out. r.attributes q (λ y m. out y (inr m)) ∙ inserted_other w.handles.attributes x.0 (C.attributes_of x.1) q (out x (inl refl));
 }
 
-pub same_owned : (w : LoadingWorld) (xs : List (ℕ × Segment)) (q : ℕ) → ((x : ℕ × Segment) → Member x xs → q ≢ x.0) → owned_at (fold with_segment w xs).handles q ≡ owned_at w.handles q
-same_owned w xs q out = ap owned_in ((fold_named w xs).attributes q out)
+pub same_owned : (w : LoadingWorld) (xs : List (ℕ × Segment)) (q : ℕ) → ((x : ℕ × Segment) → Member x xs → q ≢ x.0) → C.owned_at (fold with_segment w xs).handles q ≡ C.owned_at w.handles q
+same_owned w xs q out = ap C.owned_in ((fold_named w xs).attributes q out)
 
 -- What isn't there needn't go.
 pub kept_all : (gone : ℕ → Bool) (ids : List ℕ) → ((q : ℕ) → Member q ids → gone q ≡ false) → filter (λ q. not (gone q)) ids ≡ ids
 kept_all gone [] out = refl
 kept_all gone (q ∷ ids) out = ap (λ b. cond {A = List ℕ} (not b) (q ∷ filter (λ q. not (gone q)) ids) (filter (λ q. not (gone q)) ids)) (out q (inl refl)) ∙ ap (λ (r : List ℕ). q ∷ r) (kept_all gone ids (λ p m. out p (inr m)))
 
-pub retained : {X : Type 0} (m : FinMap nat_cmp X) (gone : ℕ → Bool) (q : ℕ) → finmap.get (finmap.retain_keys m (λ q. not (gone q))) q ≡ cond (not (gone q)) (finmap.get m q) None
-retained m gone q = get-retain_keys m (λ q. not (gone q)) q (λ x t. ap (λ k. not (gone k)) (sym (nat_cmp-IsAntisymmetric q x t)))
+pub retained : {X : Type 0} (m : C.FinMap C.nat_cmp X) (gone : ℕ → Bool) (q : ℕ) → finmap.get (finmap.retain_keys m (λ q. not (gone q))) q ≡ cond (not (gone q)) (finmap.get m q) None
+retained m gone q = C.get-retain_keys m (λ q. not (gone q)) q (λ x t. ap (λ k. not (gone k)) (sym (C.nat_cmp-IsAntisymmetric q x t)))
 
-module _ (old : LoadingWorld) (is : AreHandles old.handles) (slots : List ℕ) (free : (q : ℕ) → Member q slots → object_at old.handles.heap q ≡ None) where
+module _ (old : LoadingWorld) (is : C.AreHandles old.handles) (slots : List ℕ) (free : (q : ℕ) → Member q slots → object_at old.handles.heap q ≡ None) where
   abbrev gone : ℕ → Bool
   gone q = is_member q slots
 
   no_object : (q : ℕ) → gone q ≡ true → object_at old.handles.heap q ≡ None
-  no_object q t = free q (is_member-true q slots t)
+  no_object q t = free q (C.is_member-true q slots t)
 
-  none : {X : Type 0} (p : Option X) → is_some p ≡ false → p ≡ None
+  none : {X : Type 0} (p : C.Option X) → is_some p ≡ false → p ≡ None
   none None e = refl
   none (Some at) e = absurd (false≢true (sym e))
 
   not_in_order : (q : ℕ) → Member q old.handles.heap.order → gone q ≡ false
-  not_in_order q m = elim (cases_Bool (gone q)) [
-    | inl t ↦ absurd (false≢true (sym (is.heap.in_order q ∙ ap is_in_order (no_object q t)) ∙ true-is_member q old.handles.heap.order m))
+  not_in_order q m = elim (C.cases_Bool (gone q)) [
+    | inl t ↦ absurd (false≢true (sym (is.heap.in_order q ∙ ap C.is_in_order (no_object q t)) ∙ C.true-is_member q old.handles.heap.order m))
     | inr t ↦ t
   ]
 
   -- a map that has nothing there
-  unchanged : {X : Type 0} (before after : FinMap nat_cmp X) → ((q : ℕ) → gone q ≡ true → finmap.get before q ≡ None) → ((q : ℕ) → gone q ≡ false → finmap.get after q ≡ finmap.get before q)
+  unchanged : {X : Type 0} (before after : C.FinMap C.nat_cmp X) → ((q : ℕ) → gone q ≡ true → finmap.get before q ≡ None) → ((q : ℕ) → gone q ≡ false → finmap.get after q ≡ finmap.get before q)
       → finmap.retain_keys after (λ q. not (gone q)) ≡ before
-  unchanged before after none same = same_map nat_cmp_total nat_cmp-IsAntisymmetric (finmap.retain_keys after (λ q. not (gone q))) before (λ q. retained after gone q ∙ elim (cases_Bool (gone q)) [
+  unchanged before after none same = C.same_map C.nat_cmp_total C.nat_cmp-IsAntisymmetric (finmap.retain_keys after (λ q. not (gone q))) before (λ q. retained after gone q ∙ elim (C.cases_Bool (gone q)) [
     | inl t ↦ ap (λ b. cond (not b) (finmap.get after q) None) t ∙ sym (none q t)
     | inr t ↦ ap (λ b. cond (not b) (finmap.get after q) None) t ∙ same q t
   ])
@@ -91,7 +92,7 @@ module _ (old : LoadingWorld) (is : AreHandles old.handles) (slots : List ℕ) (
       ap (without_objects gone) n.rest ∙ (λ i. record old { handles = record old.handles { heap = record old.handles.heap { objects = objects i; places = places i; order = order i }; attributes = attributes i } })
     where
       out : (q : ℕ) → gone q ≡ false → (x : ℕ × Segment) → Member x xs → q ≢ x.0
-      out q t x m e = false≢true (sym t ∙ true-is_member q slots (subst (λ k. Member k slots) (sym e) (inside x m)))
+      out q t x m e = false≢true (sym t ∙ C.true-is_member q slots (subst (λ k. Member k slots) (sym e) (inside x m)))
 
       objects : finmap.retain_keys new.handles.heap.objects (λ q. not (gone q)) ≡ old.handles.heap.objects
       objects = unchanged old.handles.heap.objects new.handles.heap.objects no_object (λ q t. n.others q (out q t))
@@ -106,14 +107,14 @@ module _ (old : LoadingWorld) (is : AreHandles old.handles) (slots : List ℕ) (
       attributes : finmap.retain_keys new.handles.attributes (λ q. not (gone q)) ≡ old.handles.attributes
       attributes = unchanged old.handles.attributes new.handles.attributes (λ q t. none (finmap.get old.handles.attributes q) (is.attributed q ∙ ap is_some (no_object q t))) (λ q t. n.attributes q (out q t))
 
-free_objects : (old : LoadingWorld) → AreHandles old.handles → (slots : List ℕ) → All (IsFreeSlot old.handles) slots → (q : ℕ) → Member q slots → object_at old.handles.heap q ≡ None
-free_objects old is slots free q m = unused_slot old.handles is q (Each-at (IsFreeSlot old.handles) slots (Each-from_All (IsFreeSlot old.handles) slots free) q m)
+free_objects : (old : LoadingWorld) → C.AreHandles old.handles → (slots : List ℕ) → All (IsFreeSlot old.handles) slots → (q : ℕ) → Member q slots → object_at old.handles.heap q ≡ None
+free_objects old is slots free q m = C.unused_slot old.handles is q (C.Each-at (IsFreeSlot old.handles) slots (C.Each-from_All (IsFreeSlot old.handles) slots free) q m)
 
-pub taken_back_law : TakenBackLaw
+pub taken_back_law : C.TakenBackLaw
 taken_back_law old slots xs is free inside = taken_away old is slots (free_objects old is slots free) xs
-    (λ x m. is_member-true x.0 slots (Each-at (λ (x : ℕ × Segment). is_member x.0 slots ≡ true) xs (Each-from_All (λ (x : ℕ × Segment). is_member x.0 slots ≡ true) xs inside) x m))
+    (λ x m. C.is_member-true x.0 slots (C.Each-at (λ (x : ℕ × Segment). is_member x.0 slots ≡ true) xs (C.Each-from_All (λ (x : ℕ × Segment). is_member x.0 slots ≡ true) xs inside) x m))
     (fold with_segment old xs) (fold_named old xs)
 
-pub undone_law : UndoneLaw
-undone_law old closure choice is chosen_well = ap (λ (w : LoadingWorld). with_heap old w.handles.heap) (taken_away old is (all_slots choice) (free_objects old is (all_slots choice) chosen_well.slots.free) (segments_of (given closure choice))
+pub undone_law : C.UndoneLaw
+undone_law old closure choice is chosen_well = ap (λ (w : LoadingWorld). C.with_heap old w.handles.heap) (taken_away old is (C.all_slots choice) (free_objects old is (C.all_slots choice) chosen_well.slots.free) (segments_of (given closure choice))
     (chosen 0 closure.found choice.handles choice.slots) (fold with_segment old (segments_of (given closure choice))) (fold_named old (segments_of (given closure choice))))

@@ -1,37 +1,31 @@
 -- Each step of each family keeps what holds of every world, whatever the store answers.
-use Rattle.w16_loading.proofs.Common.{◌<◌, All, Option, Some, None, refl, sym, ap, subst, Heap, FarCommand, other_handles, All-repeated, LoadingWorld, with_heap, Failure, InTurn, Closure, around, named, fills}
-use Rattle.w16_loading.proofs.Common.{Answer, Fulfils, undone, left, Answers, FetchesFrom, GivesFrom, LoadsFrom, Fills, told, LoadingCommand, IsLoadingCommand, IsLoadingWorld, OnlyDiscards, KeepsWorldsLaw, slots_at}
-use Rattle.w16_loading.proofs.Fillings.{lost, kept_sized}
-use Rattle.w16_loading.proofs.RefusedLoad.{undone_discards}
-use Rattle.w16_loading.proofs.KeptWorlds.{kept_left, left_owned, world_stays, recounted}
-use Rattle.w16_loading.proofs.CallsKept.{handles_world, resizes_world}
-use Rattle.w16_loading.proofs.FetchWorlds.{fetched_world}
-use Rattle.w16_loading.proofs.FarWorlds.{read_world, write_world}
-use Rattle.w16_loading.proofs.ModuleWorlds.{used_world, built_world}
-use Rattle.w16_loading.proofs.ResourceWorlds.{locked_world, counted_world, made_world, last_world}
-use Rattle.w16_loading.proofs.FreeWorlds.{free_world}
-use Rattle.w16_loading.proofs.ClosureFacts.{IsClosure}
-use Rattle.w16_loading.proofs.LoadWorlds.{loaded_world}
-use Rattle.w16_loading.proofs.Answered.{AreAnswers, loaded_by, told_answers}
-use Rattle.w16_loading.proofs.Stepping.{Parts, Writes, family}
-use Rattle.w16_loading.proofs.Owners.{object_there}
+use Rattle.w16_loading.proofs
+use proofs.Common as C
+use proofs.Common.{◌<◌, All, Some, None, refl, sym, ap, subst, Heap, FarCommand, LoadingWorld, named, fills, left, Answers, Fills, told, LoadingCommand, IsLoadingWorld}
+use proofs.KeptWorlds.{kept_left, left_owned, world_stays, recounted}
+use proofs.FarWorlds.{read_world, write_world}
+use proofs.ModuleWorlds.{used_world, built_world}
+use proofs.ResourceWorlds.{locked_world, counted_world, made_world, last_world}
+use proofs.Answered.{AreAnswers, loaded_by, told_answers}
+use proofs.Stepping.{Parts, Writes, family}
+use proofs.{Fillings.lost, Fillings.kept_sized, RefusedLoad.undone_discards, CallsKept.handles_world, CallsKept.resizes_world, FetchWorlds.fetched_world, FreeWorlds.free_world, ClosureFacts.IsClosure, LoadWorlds.loaded_world, Owners.object_there}
 
 -- what a refused load leaves
-discards_world : (old : LoadingWorld) → IsLoadingWorld old → (heap : Heap) → OnlyDiscards old.handles.heap heap → IsLoadingWorld (with_heap old heap)
+discards_world : (old : LoadingWorld) → IsLoadingWorld old → (heap : Heap) → C.OnlyDiscards old.handles.heap heap → IsLoadingWorld (C.with_heap old heap)
 discards_world old is heap d = world_stays old is (record old.handles { heap = heap })
-    (other_handles old.handles is.handles heap d.sound (ap (λ (h : Heap). h.lo) d.rest) (ap (λ (h : Heap). h.grain) d.rest) (λ q. lost old.handles.heap heap q (d.objects q))
-    (λ q. kept_sized old.handles.heap heap q (slots_at old.handles.attributes q) (d.objects q) (is.handles.sized q))) (λ q. refl)
+    (C.other_handles old.handles is.handles heap d.sound (ap (λ (h : Heap). h.lo) d.rest) (ap (λ (h : Heap). h.grain) d.rest) (λ q. lost old.handles.heap heap q (d.objects q))
+    (λ q. kept_sized old.handles.heap heap q (C.slots_at old.handles.attributes q) (d.objects q) (is.handles.sized q))) (λ q. refl)
     (λ q kind size code h. left_owned old.handles.heap heap q kind size (kept_left old.handles.heap heap q (object_there old q kind size code h) (d.objects q)) h.object)
 
 module _ (answers : Answers) (are : AreAnswers answers) (old : LoadingWorld) (is : IsLoadingWorld old) where
-  fulfilled : (closure : Closure) → IsClosure answers (around old).named closure → (answer : Answer) (new : LoadingWorld) → Fulfils (GivesFrom Fills answers) old closure answer new → IsLoadingWorld new
+  fulfilled : (closure : C.Closure) → IsClosure answers (C.around old).named closure → (answer : C.Answer) (new : LoadingWorld) → C.Fulfils (C.GivesFrom Fills answers) old closure answer new → IsLoadingWorld new
   fulfilled closure facts answer new f = subst IsLoadingWorld (sym f.after) (turn f.failure f.filled)
     where
-      turn : (failure : Option Failure) → InTurn (GivesFrom Fills answers) (named old closure f.choice).handles.heap (fills old closure f.choice) failure f.heap → IsLoadingWorld (left failure (with_heap (named old closure f.choice) f.heap) (undone old f.choice f.heap))
+      turn : (failure : C.Option C.Failure) → C.InTurn (C.GivesFrom Fills answers) (named old closure f.choice).handles.heap (fills old closure f.choice) failure f.heap → IsLoadingWorld (left failure (C.with_heap (named old closure f.choice) f.heap) (C.undone old f.choice f.heap))
       turn None filled = loaded_world answers are old is closure f.choice f.is_choice facts f.heap filled
-      turn (Some failure) filled = discards_world old is (undone old f.choice f.heap).handles.heap (undone_discards answers old is closure f.choice f.is_choice (Some failure) f.heap filled)
+      turn (Some failure) filled = discards_world old is (C.undone old f.choice f.heap).handles.heap (undone_discards answers old is closure f.choice f.is_choice (Some failure) f.heap filled)
 
-  parts : Parts (FetchesFrom Fills answers) (LoadsFrom Fills answers) (λ slice. All (λ b. b < 256) slice) old IsLoadingWorld
+  parts : Parts (C.FetchesFrom Fills answers) (C.LoadsFrom Fills answers) (λ slice. All (λ b. b < 256) slice) old IsLoadingWorld
   parts = record {
     start = is;
     handles = λ command reply next step. handles_world old is command reply next step;
@@ -48,13 +42,13 @@ module _ (answers : Answers) (are : AreAnswers answers) (old : LoadingWorld) (is
     last = λ slot load there. last_world old is slot load there;
   }
 
-ours : (command : LoadingCommand) → IsLoadingCommand command → Writes (λ slice. All (λ b. b < 256) slice) command
+ours : (command : LoadingCommand) → C.IsLoadingCommand command → Writes (λ slice. All (λ b. b < 256) slice) command
 ours (LoadingCommand.OfFar (FarCommand.Write pointer bytes)) known = known
-ours (LoadingCommand.OfFar (FarCommand.Fill pointer count byte)) known = All-repeated count byte known
+ours (LoadingCommand.OfFar (FarCommand.Fill pointer count byte)) known = C.All-repeated count byte known
 ours command known = tt
 
-pub keeps_worlds_law : (honest : Type 0) → KeepsWorldsLaw honest
+pub keeps_worlds_law : (honest : Type 0) → C.KeepsWorldsLaw honest
 keeps_worlds_law honest format old new command reply is known step =
     let answers : Answers = told honest format old.files old.failures new.failures in
-    recounted (record new { failures = old.failures }) (family (FetchesFrom Fills answers) (LoadsFrom Fills answers) (λ slice. All (λ b. b < 256) slice) old IsLoadingWorld
+    recounted (record new { failures = old.failures }) (family (C.FetchesFrom Fills answers) (C.LoadsFrom Fills answers) (λ slice. All (λ b. b < 256) slice) old IsLoadingWorld
     (parts answers (told_answers honest format old.files old.failures new.failures) old is) (record new { failures = old.failures }) reply command (ours command known) step.step) new.failures

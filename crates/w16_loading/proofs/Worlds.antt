@@ -1,10 +1,10 @@
 -- A world follows another where its modules and loads of resources are of those that were there, and their objects with them.
-use Rattle.w16_loading.proofs.Common.{◌≡◌, ℕ, ◌+◌, ◌-◌, ◌<◌, ◌≤◌, inl, inr, ◌⊎◌, Bool, true, false, List, [], ◌∷◌, Option, Some, None, IfSome, IsSomeAnd, is_some, slice_get, refl, sym, ap, ◌∙◌, subst}
-use Rattle.w16_loading.proofs.Common.{AllZip, false≢true, Kind, Owned, object_at, AreHandles, rounded_size, owned_at, Member, is_named, FIRST_MODULE, MOST_MODULES, MOST_USES, Tables, Segment, Resource}
-use Rattle.w16_loading.proofs.Common.{numbered, LoadingWorld, Load, Module, Modules, Named, IsSegmentOf, IsResourceOf, name_of, module_at, usage, IsLoadingWorld, is_too_long, IsModule, IsObjectOf, IsLoad}
+use Rattle.w16_loading.proofs
+use proofs.Common.{◌≡◌, ℕ, ◌+◌, ◌-◌, ◌<◌, ◌≤◌, inl, inr, ◌⊎◌, Bool, true, false, List, [], ◌∷◌, Option, Some, None, IfSome, IsSomeAnd, is_some, slice_get, refl, sym, ap, ◌∙◌, subst, AllZip, false≢true, Kind, Owned, object_at, AreHandles, rounded_size, owned_at, Member, is_named}
+use proofs.Common.{FIRST_MODULE, MOST_MODULES, MOST_USES, Tables, Segment, Resource, numbered, LoadingWorld, Load, Module, Modules, Named, IsSegmentOf, IsResourceOf, name_of, module_at, usage, IsLoadingWorld, is_too_long, IsModule, IsObjectOf, IsLoad}
+use proofs.Owners.{loaded_of, of_resource, segment_object, resource_object}
+use proofs.Given.{place_member}
 use Rattle.std.specs.FinMap as finmap
-use Rattle.w16_loading.proofs.Owners.{loaded_of, of_resource, segment_object, resource_object}
-use Rattle.w16_loading.proofs.Given.{place_member}
 
 -- a module of two sets of modules, with the same slots and tables
 pub record SameModule (m before : Module) : Type 0 where

@@ -1,24 +1,17 @@
 -- Steps over what a store answers. Each time that a file is read it may say something else, so each question that a step puts has an answer of its
 -- own, which says no more than what was read for it. A store that is honest answers what its files say.
+use Rattle.w16_loading.specs
 use Rattle.std.specs.Prelude.{◌≡◌, ℕ, zero, suc, ◌<◌, ◌≤◌, ◌⊎◌, Bool, true, false, List, [], ◌∷◌, length, Option, Some, None, IsSomeAnd, MatchOption, Result, Ok, Err, MatchResult, if◌then◌else◌, ◌==◌}
-use Rattle.std.specs.FinMap as finmap
-use Rattle.w16_model.specs.Heap.{Heap}
-use Rattle.w16_model.specs.Owned.{owned_at, revival_options}
-use Rattle.w16_model.specs.Fewest.{AllocatesFewest}
+use Rattle.w16_model.specs.{Heap.Heap, Owned.owned_at, Owned.revival_options, Fewest.AllocatesFewest}
 use Rattle.w16_store.specs.Files.{file_of}
-use Rattle.w16_loading.specs.declared.FetchFault.{FetchFault}
-use Rattle.w16_loading.specs.declared.FetchFault.TheVariants.{Store, NoRoom}
-use Rattle.w16_loading.specs.File.{Saying, Format, ModuleFile, IsModuleFile, Tables}
-use Rattle.w16_loading.specs.Modules.{LoadingWorld, with_heap}
-use Rattle.w16_loading.specs.Fill.{Giving, Fills, is_of_read}
-use Rattle.w16_loading.specs.Closure.{Around, Closure, Found, Reading, are_sound, around, begun, dll, meant, with_bound, with_found}
-use Rattle.w16_loading.specs.Closure.Referent.{There, New}
-use Rattle.w16_loading.specs.Closure.Reading.{Refused, Meant, Read}
-use Rattle.w16_loading.specs.Load.{Answer, LoadsNew, Refuses, refusal_of, used_again}
-use Rattle.w16_loading.specs.Load.Answer.{StoreFails}
-use Rattle.w16_loading.specs.Fetch.{IsImage, IsRead}
-use Rattle.w16_loading.specs.Replies.{Reply}
-use Rattle.w16_loading.specs.Families.{LoadingCommand, FamilyStep}
+use specs.declared.FetchFault.TheVariants.{Store, NoRoom}
+use specs.File.{Saying, Format, ModuleFile, IsModuleFile, Tables}
+use specs.Closure.{Around, Closure, Found, Reading, are_sound, around, begun, dll, meant, with_bound, with_found}
+use specs.Closure.Referent.{There, New}
+use specs.Closure.Reading.{Refused, Meant, Read}
+use specs.Load.{Answer, LoadsNew, Refuses, refusal_of, used_again}
+use specs.{declared.FetchFault.FetchFault, Modules.LoadingWorld, Modules.with_heap, Fill.Giving, Fill.Fills, Fill.is_of_read, Load.Answer.StoreFails, Fetch.IsImage, Fetch.IsRead, Replies.Reply, Families.LoadingCommand, Families.FamilyStep}
+use Rattle.std.specs.FinMap as finmap
 
 -- Which answers each question may get.
 pub record Answers : Type 1 where

@@ -1,27 +1,16 @@
 -- What a step leaves of objects that it isn't about, whatever the store answers.
+use Rattle.w16_loading.specs
 use Rattle.std.specs.Prelude.{◌≡◌, ◌≢◌, ℕ, ◌≤◌, ◌⊎◌, ◌==◌, Bool, true, false, if◌then◌else◌, is_some, IsSomeAnd, None, Some}
-use Rattle.std.specs.FinMap as finmap
-use Rattle.w16_model.specs.declared.TheConstants.{GMEM_MOVEABLE}
-use Rattle.w16_model.specs.CallLaws.{IsAbout, IsKeptOrDiscarded, may_move_own}
-use Rattle.w16_model.specs.Calls.{locks_at}
-use Rattle.w16_model.specs.Discards.{is_member}
-use Rattle.w16_model.specs.Effects.{pointer_in}
 use Rattle.w16_model.specs.Handles.{Handles, Part, selector_in, slot_of_handle, part_of_selector}
-use Rattle.w16_model.specs.Heap.{object_at, is_pinned_object}
-use Rattle.w16_model.specs.Law.{StandsStill}
-use Rattle.w16_model.specs.Outcomes.{Call}
 use Rattle.w16_model.specs.Outcomes.Call.{Calls, ReAllocs}
-use Rattle.w16_loading.specs.Answers.{StepOver}
-use Rattle.w16_loading.specs.Families.{LoadingCommand}
-use Rattle.w16_loading.specs.Families.LoadingCommand.{OfHandles, OfResizes, OfFar, OfModules, OfResources}
-use Rattle.w16_loading.specs.Families.ModuleCommand.{FreeLibrary, FreeModule}
-use Rattle.w16_loading.specs.Families.ResourceCommand.{LockResource, FreeResource}
-use Rattle.w16_loading.specs.File.{Format}
-use Rattle.w16_loading.specs.Law.{IsLoadingWorld}
-use Rattle.w16_loading.specs.Modules.{LoadingWorld, Module, IsSegmentOf, IsResourceOf, module_at}
-use Rattle.w16_loading.specs.Replies.{Reply}
-use Rattle.w16_loading.specs.Resizes.{ResizeCommand}
-use Rattle.w16_loading.specs.Resizes.ResizeCommand.{GlobalReAlloc, GlobalDiscard}
+use Rattle.w16_model.specs.{declared.TheConstants.GMEM_MOVEABLE, CallLaws.IsAbout, CallLaws.IsKeptOrDiscarded, CallLaws.may_move_own, Calls.locks_at, Discards.is_member, Effects.pointer_in, Heap.object_at, Heap.is_pinned_object, Law.StandsStill, Outcomes.Call}
+use specs.Families.LoadingCommand.{OfHandles, OfResizes, OfFar, OfModules, OfResources}
+use specs.Families.ModuleCommand.{FreeLibrary, FreeModule}
+use specs.Families.ResourceCommand.{LockResource, FreeResource}
+use specs.Modules.{LoadingWorld, Module, IsSegmentOf, IsResourceOf, module_at}
+use specs.Resizes.ResizeCommand.{GlobalReAlloc, GlobalDiscard}
+use specs.{Answers.StepOver, Families.LoadingCommand, File.Format, Law.IsLoadingWorld, Replies.Reply, Resizes.ResizeCommand}
+use Rattle.std.specs.FinMap as finmap
 
 -- GlobalDiscard is a GlobalReAlloc to 0 bytes with GMEM_MOVEABLE
 abbrev pub call_of : ResizeCommand → Call

@@ -1,12 +1,8 @@
 -- Which modules a load finds, and in which order. It depends on no choice.
 use Rattle.std.specs.Prelude.{◌≡◌, ℕ, zero, suc, Bool, ◌==◌, if◌then◌else◌, nat_lt, List, [], ◌∷◌, ◌++◌, length, map, codes, position, Option, Some, None, is_some, Result, Ok, Err, IfOk}
-use Rattle.std.specs.List.{list_all}
-use Rattle.std.specs.Option.{option_or}
-use Rattle.w16_store.specs.Names.{is_named}
-use Rattle.w16_store.specs.Files.{file_of}
-use Rattle.w16_loading.specs.File.{Saying, ModuleFile}
-use Rattle.w16_loading.specs.Modules.{LoadingWorld, handle_named, free_modules}
-use Rattle.std.specs.Option.{option_map}
+use Rattle.std.specs.{List.list_all, Option.option_or, Option.option_map}
+use Rattle.w16_store.specs.{Names.is_named, Files.file_of}
+use Rattle.w16_loading.specs.{File.Saying, File.ModuleFile, Modules.LoadingWorld, Modules.handle_named, Modules.free_modules}
 
 -- a new module: the name of its file, and what that says
 pub record Found : Type 0 where

@@ -1,19 +1,17 @@
 -- By what a proof tells worlds with modules apart, so that a world can be the value of a model.
+use Rattle.w16_loading.specs
 use Rattle.std.specs.Prelude.{◌≡◌, ℕ, ◌⊎◌, Bool, List, Option, refl}
+use Rattle.std.specs.Coded.{Coded, code_by, coded×, coded⊎, coded_ℕ, coded_bool, coded_list, coded_option}
+use Rattle.std.specs.{Ordering.nat_cmp, FinMap.FinMap}
+use Rattle.w16_model.specs.{declared.Kind.Kind, Handles.Handles, Codes.kind_code, Codes.handles_code}
+use specs.File.{Far, Segment, Entry, Label, Resource, Tables}
+use specs.File.Entry.{InSegment, Constant}
+use specs.File.Label.{Number, Text}
+use specs.Modules.{Module, Named, Load, LoadingWorld}
+use specs.Modules.Named.{Loaded, BuiltIn}
 use mathlib.Core.Logic.{inl, inr}
 use base.Stored.{Gv}
-use Rattle.std.specs.Coded.{Coded, code_by, coded×, coded⊎, coded_ℕ, coded_bool, coded_list, coded_option}
-use Rattle.std.specs.Ordering.{nat_cmp}
 use Rattle.std.specs.FinMap as finmap
-use Rattle.std.specs.FinMap.{FinMap}
-use Rattle.w16_model.specs.declared.Kind.{Kind}
-use Rattle.w16_model.specs.Handles.{Handles}
-use Rattle.w16_model.specs.Codes.{kind_code, handles_code}
-use Rattle.w16_loading.specs.File.{Far, Segment, Entry, Label, Resource, Tables}
-use Rattle.w16_loading.specs.File.Entry.{InSegment, Constant}
-use Rattle.w16_loading.specs.File.Label.{Number, Text}
-use Rattle.w16_loading.specs.Modules.{Module, Named, Load, LoadingWorld}
-use Rattle.w16_loading.specs.Modules.Named.{Loaded, BuiltIn}
 
 abbrev pub text_code : Coded (List ℕ)
 text_code = coded_list coded_ℕ

@@ -1,22 +1,17 @@
 -- What calls of modules and resources are for: by their replies, and by what the worlds before and after have.
+use Rattle.w16_loading.specs
 use Rattle.std.specs.Prelude.{◌≡◌, ◌≢◌, ℕ, ◌+◌, ◌-◌, ◌<◌, ◌≤◌, ◌⊎◌, ◌&&◌, true, false, if◌then◌else◌, is_some, List, length, Option, Some, None, IfSome, IsSomeAnd, slice_get}
-use Rattle.std.specs.FinMap as finmap
-use Rattle.w16_model.specs.declared.Kind.TheVariants.{Fixed, Discardable}
-use Rattle.w16_model.specs.Heap.{Object, object_at, bytes_at, is_fixed}
-use Rattle.w16_model.specs.Handles.{IsFreeSlot, slot_of_handle, selector_of, far_pointer}
-use Rattle.w16_model.specs.Calls.{locks_at, rounded_size}
+use Rattle.w16_model.specs.{declared.Kind.TheVariants.Fixed, declared.Kind.TheVariants.Discardable, Heap.Object, Heap.object_at, Heap.bytes_at, Heap.is_fixed, Handles.IsFreeSlot, Handles.slot_of_handle, Handles.selector_of, Handles.far_pointer, Calls.locks_at, Calls.rounded_size}
 use Rattle.w16_store.specs.Names.{is_named}
-use Rattle.w16_loading.specs.declared.TheConstants.{FIRST_MODULE}
-use Rattle.w16_loading.specs.File.{Format, Label, Resource, Segment, is_label}
-use Rattle.w16_loading.specs.Modules.{Load, LoadingWorld, Module, Named, module_at, name_of}
-use Rattle.w16_loading.specs.Modules.Named.{BuiltIn, Loaded}
-use Rattle.w16_loading.specs.Replies.Reply.{Dword, Word}
-use Rattle.w16_loading.specs.Families.{ModuleCommand}
-use Rattle.w16_loading.specs.Families.LoadingCommand.{OfModules, OfResources}
-use Rattle.w16_loading.specs.Families.ModuleCommand.{Builtin, GetModuleHandle, LoadLibrary, LoadModule}
-use Rattle.w16_loading.specs.Families.ResourceCommand.{FindResource, FreeResource, LoadResource, LockResource, SizeofResource}
-use Rattle.w16_loading.specs.Answers.{StepOver}
-use Rattle.w16_loading.specs.Law.{IsLoadingWorld}
+use specs.File.{Format, Label, Resource, Segment, is_label}
+use specs.Modules.{Load, LoadingWorld, Module, Named, module_at, name_of}
+use specs.Modules.Named.{BuiltIn, Loaded}
+use specs.Replies.Reply.{Dword, Word}
+use specs.Families.LoadingCommand.{OfModules, OfResources}
+use specs.Families.ModuleCommand.{Builtin, GetModuleHandle, LoadLibrary, LoadModule}
+use specs.Families.ResourceCommand.{FindResource, FreeResource, LoadResource, LockResource, SizeofResource}
+use specs.{declared.TheConstants.FIRST_MODULE, Families.ModuleCommand, Answers.StepOver, Law.IsLoadingWorld}
+use Rattle.std.specs.FinMap as finmap
 
 -- GetModuleHandle: a module or built-in of this name, or 0 where there is none
 abbrev pub NamedLaw : (honest : Type 0) → Type 0

@@ -1,27 +1,18 @@
 -- The machine with modules, family by family: the calls on handles, far accesses, modules, resources.
+use Rattle.w16_loading.specs
 use Rattle.std.specs.Prelude.{◌≡◌, ℕ, ◌⊎◌, Bool, true, false, List, Option, Some, MatchOption, unwrap_or}
-use Rattle.std.specs.FinMap as finmap
-use Rattle.w16_model.specs.Handles.{Handles, selector_in, offset_in, dword_of}
-use Rattle.w16_model.specs.Bytes.{repeated}
-use Rattle.w16_model.specs.Calls.{HandleCommand}
-use Rattle.w16_model.specs.Effects.{pointer_in}
-use Rattle.w16_model.specs.Far.{FarAnswer, FarCommand, IsFarCommand}
 use Rattle.w16_model.specs.Far.FarCommand.{Read, Write, Fill}
+use Rattle.w16_model.specs.{Handles.Handles, Handles.selector_in, Handles.offset_in, Handles.dword_of, Bytes.repeated, Calls.HandleCommand, Effects.pointer_in, Far.FarAnswer, Far.FarCommand, Far.IsFarCommand}
+use specs.Replies.{HandleReplies, ResizeReplies, Reply}
+use specs.File.Label.{Number, Text}
+use specs.Modules.{LoadingWorld, Named, IsFreeModule, handle_named, usage, address_at, address_named}
+use specs.Load.Answer.{Says, StoreFails}
+use specs.Fetch.{Fetching, Accesses, far_read, far_write, needs_fetch}
+use specs.Resource.{LoadsResource, LocksResource, find_resource, size_of_resource, free_resource}
+use specs.{Resizes.ResizeCommand, File.Far, File.Label, Modules.Named.BuiltIn, Load.Answer, Replies.Reply.Failed, Free.Frees}
+use Rattle.std.specs.FinMap as finmap
 use Rattle.w16_loading.specs.Replies as replies
-use Rattle.w16_loading.specs.Replies.{HandleReplies, ResizeReplies}
-use Rattle.w16_loading.specs.Resizes.{ResizeCommand}
 use Rattle.w16_loading.specs.declared.FetchFault.TheVariants as faults
-use Rattle.w16_loading.specs.File.{Far, Label}
-use Rattle.w16_loading.specs.File.Label.{Number, Text}
-use Rattle.w16_loading.specs.Modules.{LoadingWorld, Named, IsFreeModule, handle_named, usage, address_at, address_named}
-use Rattle.w16_loading.specs.Modules.Named.{BuiltIn}
-use Rattle.w16_loading.specs.Load.{Answer}
-use Rattle.w16_loading.specs.Load.Answer.{Says, StoreFails}
-use Rattle.w16_loading.specs.Replies.{Reply}
-use Rattle.w16_loading.specs.Fetch.{Fetching, Accesses, far_read, far_write, needs_fetch}
-use Rattle.w16_loading.specs.Replies.Reply.{Failed}
-use Rattle.w16_loading.specs.Free.{Frees}
-use Rattle.w16_loading.specs.Resource.{LoadsResource, LocksResource, find_resource, size_of_resource, free_resource}
 
 pub data ModuleCommand : Type 0 where
   Builtin : (name : List ℕ) → ModuleCommand

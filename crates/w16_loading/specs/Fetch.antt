@@ -1,17 +1,13 @@
 -- Fetches: an object that a module owns gets its bytes again; and the far accesses that ask for them.
 use Rattle.std.specs.Prelude.{◌≡◌, ℕ, ◌-◌, ◌⊎◌, Bool, true, false, ◌&&◌, MatchBool, List, [], length, Option, Some, None, MatchOption, Ok, Err, option_map, slice_index_or}
+use Rattle.w16_model.specs.{Handles.Handles, Far.FarAnswer, Far.far_slot}
+use Rattle.w16_loading.specs.Modules.{LoadingWorld, Module, IsSegmentOf, IsResourceOf, is_owned}
+use Rattle.w16_loading.specs.{declared.FetchFault.FetchFault, Replies.Reply, Replies.Reply.Failed, File.Format, File.ModuleFile, File.SegmentData, File.numbered}
+use Rattle.w16_store.specs.Files.{file_of}
 use Rattle.w16_model.specs.declared.FarFault.TheVariants as far
-use Rattle.w16_model.specs.Handles.{Handles}
 use Rattle.w16_model.specs.Owned as owned
 use Rattle.w16_model.specs.Far as far_access
-use Rattle.w16_model.specs.Far.{FarAnswer, far_slot}
 use Rattle.w16_loading.specs.Replies as replies
-use Rattle.w16_loading.specs.declared.FetchFault.{FetchFault}
-use Rattle.w16_loading.specs.Replies.{Reply}
-use Rattle.w16_loading.specs.Replies.Reply.{Failed}
-use Rattle.w16_store.specs.Files.{file_of}
-use Rattle.w16_loading.specs.File.{Format, ModuleFile, SegmentData, numbered}
-use Rattle.w16_loading.specs.Modules.{LoadingWorld, Module, IsSegmentOf, IsResourceOf, is_owned}
 
 -- What the file of a module says, and what it gives of a segment, under the values that were bound at load, and of a resource.
 abbrev pub read_of : Format → LoadingWorld → Module → Option ModuleFile

@@ -1,10 +1,5 @@
 -- What the requests of a step promise of discards, one by one.
-use Rattle.w16_loading.specs.File.{Format}
-use Rattle.w16_loading.specs.Modules.{LoadingWorld}
-use Rattle.w16_loading.specs.Replies.{Reply}
-use Rattle.w16_loading.specs.Families.{LoadingCommand}
-use Rattle.w16_loading.specs.Answers.{FewestOver, StepOver}
-use Rattle.w16_loading.specs.Law.{IsLoadingWorld}
+use Rattle.w16_loading.specs.{File.Format, Modules.LoadingWorld, Replies.Reply, Families.LoadingCommand, Answers.FewestOver, Answers.StepOver, Law.IsLoadingWorld}
 
 -- each request of a step, that of a fetch and those of a load, discards as few objects as it can,
 abbrev pub RequestsFewestLaw : (honest : Type 0) → Type 0

@@ -1,13 +1,10 @@
 -- What a module file says, apart from how it says it: what the formats of files and relocations give to a load.
 use Rattle.std.specs.Prelude.{◌≡◌, ℕ, ◌-◌, ◌<◌, ◌≤◌, Bool, false, ◌==◌, if◌then◌else◌, List, [], length, find, All, MatchResult, Option, None, IfSome, IsSomeAnd, Result, IfOk, unwrap_or, option_map, slice_get}
-use Rattle.w16_model.specs.declared.Kind.{Kind}
-use Rattle.w16_model.specs.declared.TheConstants.{GRAIN}
-use Rattle.w16_loading.specs.declared.TheConstants.{LARGEST_OWNED}
 use Rattle.std.specs.List.{AllZip}
-use Rattle.w16_model.specs.Heap.{IsMultiple}
-use Rattle.w16_model.specs.Calls.{rounded_size}
-use base.Stored.{Gv}
+use Rattle.w16_model.specs.{declared.Kind.Kind, declared.TheConstants.GRAIN, Heap.IsMultiple, Calls.rounded_size}
+use Rattle.w16_loading.specs.declared.TheConstants.{LARGEST_OWNED}
 use Rattle.w16_store.specs.Names.{is_named}
+use base.Stored.{Gv}
 
 -- a selector and an offset
 pub record Far : Type 0 where

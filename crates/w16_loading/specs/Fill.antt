@@ -1,11 +1,7 @@
 -- Bytes for an object that has none: a request for room, as of an allocation with no flags, whose new bytes are given.
 use Rattle.std.specs.Prelude.{◌≡◌, ◌<◌, All, ℕ, Bool, true, false, List, [], ◌∷◌, length, Option, Some, None, MatchOption}
-use Rattle.w16_model.specs.Heap.{Heap, Object, IsMultiple, object_at}
-use Rattle.w16_model.specs.Changes.{with_newest}
-use Rattle.w16_model.specs.Request.{Request, Asked, discards_needed}
-use Rattle.w16_model.specs.Owned.{revival_options}
-use Rattle.w16_loading.specs.declared.FetchFault.{FetchFault}
-use Rattle.w16_loading.specs.declared.FetchFault.TheVariants.{NoRoom}
+use Rattle.w16_model.specs.{Heap.Heap, Heap.Object, Heap.IsMultiple, Heap.object_at, Changes.with_newest, Request.Request, Request.Asked, Request.discards_needed, Owned.revival_options}
+use Rattle.w16_loading.specs.{declared.FetchFault.FetchFault, declared.FetchFault.TheVariants.NoRoom}
 
 -- what is asked for the object: that it is as before, but has these bytes
 abbrev pub asked_of : Heap → ℕ → Object → List ℕ → Asked

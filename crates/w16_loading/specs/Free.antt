@@ -1,10 +1,8 @@
 -- Uses that end: FreeLibrary and FreeModule, which are the same (profile).
 use Rattle.std.specs.Prelude.{◌≡◌, ℕ, ◌-◌, not, Bool, true, false, if◌then◌else◌, List, [], ◌∷◌, Some, None, is_some}
-use Rattle.std.specs.FinMap as finmap
 use Rattle.w16_model.specs.Discards.{is_member}
-use Rattle.w16_loading.specs.Modules.{LoadingWorld, module_at, is_idle}
-use Rattle.w16_loading.specs.Modules.Named.{Loaded}
-use Rattle.w16_loading.specs.Release.{without_objects}
+use Rattle.w16_loading.specs.{Modules.LoadingWorld, Modules.module_at, Modules.is_idle, Modules.Named.Loaded, Release.without_objects}
+use Rattle.std.specs.FinMap as finmap
 
 -- one explicit use less, if there is one
 abbrev pub used_less : LoadingWorld → ℕ → LoadingWorld

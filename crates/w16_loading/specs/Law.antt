@@ -1,41 +1,24 @@
 -- What holds of every world with modules, and the laws that show the definitions right.
+use Rattle.w16_loading.specs
 use Rattle.std.specs.Prelude.{◌≡◌, ◌≢◌, ℕ, ◌+◌, ◌-◌, ◌<◌, ◌≤◌, ◌⊎◌, Bool, true, false, List, length, All, if◌then◌else◌, Option, Some, None, is_some, IfSome, IsSomeAnd, Result, fold, ◌↔◌, []}
 use Rattle.std.specs.List.{AllZip, AllByRecursion}
-use Rattle.std.specs.FinMap as finmap
-use Rattle.w16_model.specs.Bytes.{part}
-use Rattle.w16_model.specs.Far.FarCommand.{Read}
-use Rattle.w16_loading.specs.Replies.Reply.{Bytes}
 use Rattle.w16_model.specs.Handles.{Handles, AreHandles, empty_handles, slot_of_selector, selector_in, offset_in, IsFreeSlot}
-use Rattle.w16_model.specs.Owned.{owned_at, revival_options}
-use Rattle.w16_model.specs.Heap.{Heap, Object, IsHeap, object_at, bytes_at}
-use Rattle.w16_model.specs.declared.TheConstants.{MOST_SLOTS}
-use Rattle.w16_model.specs.CallLaws.{IsKeptOrDiscarded}
-use Rattle.w16_model.specs.Request.{Allocates}
-use Rattle.w16_model.specs.Calls.{HandleCommand, rounded_size}
-use Rattle.w16_model.specs.Far.{after_write}
-use Rattle.w16_model.specs.declared.Kind.{Kind}
-use Rattle.w16_model.specs.Law.{KeepsOthers}
-use Rattle.w16_loading.specs.declared.TheConstants.{FIRST_MODULE, LARGEST_OWNED, MOST_MODULES, MOST_USES}
-use Rattle.w16_loading.specs.declared.FetchFault.{FetchFault}
-use Rattle.w16_loading.specs.declared.FetchFault.TheVariants as faults
+use Rattle.w16_model.specs.{Bytes.part, Far.FarCommand.Read, Owned.owned_at, Owned.revival_options, Heap.Heap, Heap.Object, Heap.IsHeap, Heap.object_at, Heap.bytes_at, declared.TheConstants.MOST_SLOTS, CallLaws.IsKeptOrDiscarded, Request.Allocates, Calls.HandleCommand, Calls.rounded_size}
+use Rattle.w16_model.specs.{Far.after_write, declared.Kind.Kind, Law.KeepsOthers, Discards.is_member}
+use specs.declared.TheConstants.{FIRST_MODULE, LARGEST_OWNED, MOST_MODULES, MOST_USES}
+use specs.File.{Saying, Format, ModuleFile, Segment, SegmentData, Far, Target}
+use specs.Modules.{with_heap, LoadingWorld, Lookup, Module, Load, Named, value_of, IsSegmentOf, IsResourceOf, name_of, module_at, usage, importers}
+use specs.Fill.{Fills, Filling, Failure, InTurn}
+use specs.Closure.{Around, Closure, Closes, Found, around}
+use specs.Naming.{Choice, IsChoice, AreSlots, free_slots, segments_in, given, with_modules, unbound, bound, named, with_segment}
+use specs.Load.Answer.{Says, StoreFails}
+use specs.Answers.{ClosesFrom, FetchesOver, GivesFrom, LoadsOver, StepOver, told}
+use specs.Families.{LoadingCommand, IsLoadingCommand, HandleStep}
+use specs.Families.LoadingCommand.{OfFar}
+use specs.{Replies.Reply.Bytes, declared.FetchFault.FetchFault, Modules.Named.Loaded, Release.without_objects, Load.Answer, Load.undone, Replies.Reply, Fetch.read_of, Fetch.segment_bytes, Fetch.is_code, Free.Go, Free.Frees, Resource.is_too_long, Resource.resource_at}
 use Rattle.w16_store.specs.Names.{is_named}
-use Rattle.w16_loading.specs.File.{Saying, Format, ModuleFile, Segment, SegmentData, Far, Target}
-use Rattle.w16_loading.specs.Modules.{with_heap, LoadingWorld, Lookup, Module, Load, Named, value_of, IsSegmentOf, IsResourceOf, name_of, module_at, usage, importers}
-use Rattle.w16_loading.specs.Modules.Named.{Loaded}
-use Rattle.w16_loading.specs.Fill.{Fills, Filling, Failure, InTurn}
-use Rattle.w16_loading.specs.Closure.{Around, Closure, Closes, Found, around}
-use Rattle.w16_model.specs.Discards.{is_member}
-use Rattle.w16_loading.specs.Release.{without_objects}
-use Rattle.w16_loading.specs.Naming.{Choice, IsChoice, AreSlots, free_slots, segments_in, given, with_modules, unbound, bound, named, with_segment}
-use Rattle.w16_loading.specs.Load.{Answer, undone}
-use Rattle.w16_loading.specs.Load.Answer.{Says, StoreFails}
-use Rattle.w16_loading.specs.Replies.{Reply}
-use Rattle.w16_loading.specs.Fetch.{read_of, segment_bytes, is_code}
-use Rattle.w16_loading.specs.Free.{Go, Frees}
-use Rattle.w16_loading.specs.Resource.{is_too_long, resource_at}
-use Rattle.w16_loading.specs.Answers.{ClosesFrom, FetchesOver, GivesFrom, LoadsOver, StepOver, told}
-use Rattle.w16_loading.specs.Families.{LoadingCommand, IsLoadingCommand, HandleStep}
-use Rattle.w16_loading.specs.Families.LoadingCommand.{OfFar}
+use Rattle.std.specs.FinMap as finmap
+use Rattle.w16_loading.specs.declared.FetchFault.TheVariants as faults
 
 -- the figures of the profile, each as it is told to users
 pub record AreFigures : Type 0 where

@@ -1,17 +1,12 @@
 -- Loads: LoadModule and LoadLibrary.
+use Rattle.w16_loading.specs
 use Rattle.std.specs.Prelude.{◌≡◌, ℕ, ◌+◌, ◌<◌, ◌⊎◌, Bool, not, ◌&&◌, ◌==◌, if◌then◌else◌, nat_lt, length, Option, Some, None, slice_index_or}
+use Rattle.w16_model.specs.{Heap.Heap, Discards.is_member}
+use specs.declared.FetchFault.TheVariants.{Store, Damaged, NoRoom}
+use specs.Modules.{LoadingWorld, Module, Named, with_heap}
+use specs.Naming.{free_slots, segments_in, IsChoice, Choice, all_slots, named, fills}
+use specs.{declared.TheConstants.MOST_USES, declared.FetchFault.FetchFault, Modules.Named.Loaded, Fill.Giving, Fill.Failure, Fill.InTurn, Release.heap_without, Closure.Closure}
 use Rattle.std.specs.FinMap as finmap
-use Rattle.w16_model.specs.Heap.{Heap}
-use Rattle.w16_model.specs.Discards.{is_member}
-use Rattle.w16_loading.specs.declared.TheConstants.{MOST_USES}
-use Rattle.w16_loading.specs.declared.FetchFault.{FetchFault}
-use Rattle.w16_loading.specs.declared.FetchFault.TheVariants.{Store, Damaged, NoRoom}
-use Rattle.w16_loading.specs.Modules.{LoadingWorld, Module, Named, with_heap}
-use Rattle.w16_loading.specs.Modules.Named.{Loaded}
-use Rattle.w16_loading.specs.Fill.{Giving, Failure, InTurn}
-use Rattle.w16_loading.specs.Release.{heap_without}
-use Rattle.w16_loading.specs.Closure.{Closure}
-use Rattle.w16_loading.specs.Naming.{free_slots, segments_in, IsChoice, Choice, all_slots, named, fills}
 
 -- a handle or a number of 32 or below, or that the store's device failed
 pub data Answer : Type 0 where

@@ -1,17 +1,15 @@
 -- The world with modules: the handles as they were, and beside them what belongs to modules.
+use Rattle.w16_loading.specs
 use Rattle.std.specs.Prelude.{◌≡◌, ℕ, ◌+◌, ◌-◌, ◌<◌, ◌≤◌, Bool, false, not, ◌&&◌, ◌==◌, if◌then◌else◌, List, count_by, find, option_map, slice_get, slice_index_or, Option, Some, None, is_some}
-use Rattle.std.specs.Ordering.{nat_cmp}
-use Rattle.std.specs.FinMap as finmap
-use Rattle.std.specs.FinMap.{FinMap}
-use Rattle.w16_model.specs.Discards.{is_member}
-use Rattle.w16_model.specs.Heap.{Heap}
-use Rattle.w16_model.specs.Handles.{Handles, selector_of}
-use Rattle.w16_model.specs.Owned as owned
-use Rattle.w16_loading.specs.declared.TheConstants.{FIRST_MODULE, MOST_MODULES}
+use Rattle.std.specs.{Ordering.nat_cmp, FinMap.FinMap}
+use Rattle.w16_model.specs.{Discards.is_member, Heap.Heap, Handles.Handles, Handles.selector_of}
+use specs.declared.TheConstants.{FIRST_MODULE, MOST_MODULES}
+use specs.File.{Far, Tables, Entry, Target, entry_at, entry_named}
+use specs.File.Entry.{InSegment, Constant}
+use specs.File.Target.{Internal, InternalEntry, Import, ImportName, System}
 use Rattle.w16_store.specs.Names.{is_named}
-use Rattle.w16_loading.specs.File.{Far, Tables, Entry, Target, entry_at, entry_named}
-use Rattle.w16_loading.specs.File.Entry.{InSegment, Constant}
-use Rattle.w16_loading.specs.File.Target.{Internal, InternalEntry, Import, ImportName, System}
+use Rattle.std.specs.FinMap as finmap
+use Rattle.w16_model.specs.Owned as owned
 
 -- A module that is loaded: the file that it came from and what that says; its explicit uses; for each segment the slot of its object, and the
 -- values of its relocation records, bound once; for each reference the handle of the module or built-in that it means.

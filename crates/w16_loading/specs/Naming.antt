@@ -1,18 +1,14 @@
 -- The new modules of a load with the handles and slots that they get, before any has bytes.
+use Rattle.w16_loading.specs
 use Rattle.std.specs.Prelude.{◌≡◌, ◌≢◌, ℕ, ◌+◌, ◌==◌, ◌||◌, false, not, is_some, sum_by, if◌then◌else◌, List, [], ◌∷◌, length, map, filter, fold, flat_map, zip, All, AllPairs, Some, None, slice_index_or}
 use Rattle.std.specs.List.{AllZip, range_with_len}
+use Rattle.w16_model.specs.{Heap.is_fixed, Changes.with_object, declared.Attributes.Attributes, Handles.Handles, Handles.IsFreeSlot, Handles.owner_of, declared.TheConstants.FIRST_SLOT}
+use specs.File.{Segment, SegmentData, Far, targets_of}
+use specs.Modules.{LoadingWorld, Lookup, Module, Modules, IsFreeModule, value_of}
+use specs.Closure.{Closure, Found, Referent}
+use specs.Closure.Referent.{There, New}
+use specs.{Fill.Filling, Modules.Named.Loaded}
 use Rattle.std.specs.FinMap as finmap
-use Rattle.w16_model.specs.Heap.{is_fixed}
-use Rattle.w16_model.specs.Changes.{with_object}
-use Rattle.w16_model.specs.declared.Attributes.{Attributes}
-use Rattle.w16_model.specs.Handles.{Handles, IsFreeSlot, owner_of}
-use Rattle.w16_model.specs.declared.TheConstants.{FIRST_SLOT}
-use Rattle.w16_loading.specs.File.{Segment, SegmentData, Far, targets_of}
-use Rattle.w16_loading.specs.Fill.{Filling}
-use Rattle.w16_loading.specs.Modules.{LoadingWorld, Lookup, Module, Modules, IsFreeModule, value_of}
-use Rattle.w16_loading.specs.Modules.Named.{Loaded}
-use Rattle.w16_loading.specs.Closure.{Closure, Found, Referent}
-use Rattle.w16_loading.specs.Closure.Referent.{There, New}
 
 -- what a load chooses: a handle for each new module, and a slot for each of its segments
 pub record Choice : Type 0 where

@@ -1,10 +1,9 @@
 -- Where an object comes from.
 use Rattle.std.specs.Prelude.{◌≡◌, ℕ, ◌+◌, ◌==◌, ◌↔◌, List, [], ◌∷◌, Option, Some, None, option_map, position}
-use Rattle.std.specs.FinMap as finmap
 use Rattle.w16_model.specs.Owned.{owned_at}
 use Rattle.w16_loading.specs.Modules.{LoadingWorld, Module, Named, IsSegmentOf, IsResourceOf}
-use Rattle.w16_loading.specs.Modules.Named.{Loaded, BuiltIn}
-use Rattle.w16_loading.specs.Law.{IsLoadingWorld}
+use Rattle.w16_loading.specs.{Modules.Named.Loaded, Modules.Named.BuiltIn, Law.IsLoadingWorld}
+use Rattle.std.specs.FinMap as finmap
 
 -- the script, a segment of a module by its number, or a resource of one by its place
 pub data Owner : Type 0 where

@@ -1,13 +1,9 @@
 -- What is printed of an answer, whichever family of commands gave it.
 use Rattle.std.specs.Prelude.{ℕ, List, IsSomeAnd, Option, Some, None}
-use Rattle.w16_model.specs.declared.FarFault.{FarFault}
+use Rattle.w16_model.specs.{declared.FarFault.FarFault, Calls.HandleCommand, Calls.HandleStep, Far.FarCommand, Far.FarStep, Handles.Handles}
+use Rattle.w16_loading.specs.{declared.FetchFault.FetchFault, Resizes.ResizeCommand, Resizes.ResizeStep}
 use Rattle.w16_model.specs.Calls as calls
-use Rattle.w16_model.specs.Calls.{HandleCommand, HandleStep}
 use Rattle.w16_model.specs.Far as far
-use Rattle.w16_model.specs.Far.{FarCommand, FarStep}
-use Rattle.w16_model.specs.Handles.{Handles}
-use Rattle.w16_loading.specs.declared.FetchFault.{FetchFault}
-use Rattle.w16_loading.specs.Resizes.{ResizeCommand, ResizeStep}
 
 pub data Reply : Type 0 where
   Word : (value : ℕ) → Reply

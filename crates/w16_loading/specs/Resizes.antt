@@ -1,9 +1,6 @@
 -- The calls that give an object another size or another kind.
 use Rattle.std.specs.Prelude.{ℕ}
-use Rattle.w16_model.specs.Calls.{Answer}
-use Rattle.w16_model.specs.Calls.Answer.{Word}
-use Rattle.w16_model.specs.Handles.{Handles}
-use Rattle.w16_model.specs.Resizes.{GlobalReAllocs, GlobalDiscards}
+use Rattle.w16_model.specs.{Calls.Answer, Calls.Answer.Word, Handles.Handles, Resizes.GlobalReAllocs, Resizes.GlobalDiscards}
 
 -- such a call, with its arguments as numbers
 pub data ResizeCommand : Type 0 where

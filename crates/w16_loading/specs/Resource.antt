@@ -1,21 +1,15 @@
 -- Resources.
+use Rattle.w16_loading.specs
 use Rattle.std.specs.Prelude.{◌≡◌, ℕ, ◌+◌, ◌-◌, ◌⊎◌, ◌==◌, ◌||◌, ◌&&◌, Bool, false, if◌then◌else◌, MatchBool, nat_lt, find, position, Option, Some, None, MatchOption, option_map, unwrap_or}
+use Rattle.w16_model.specs.{Heap.bytes_at, Changes.with_object, declared.Attributes.Attributes, Handles.IsFreeSlot, Handles.handle_of, Handles.slot_of_handle, Calls.rounded_size, Calls.global_lock, Calls.locks_at}
+use specs.declared.TheConstants.{MOST_USES, LARGEST_OWNED}
+use specs.File.{Label, Resource, is_label, numbered}
+use specs.Modules.{LoadingWorld, Load, module_at}
+use specs.Replies.Reply.{Word, Dword, Walked, Failed}
+use specs.{declared.FetchFault.FetchFault, Replies.Reply, Fetch.Fetching, Fetch.with_handles, Release.without_objects}
 use Rattle.std.specs.FinMap as finmap
-use Rattle.w16_model.specs.Heap.{bytes_at}
-use Rattle.w16_model.specs.Changes.{with_object}
-use Rattle.w16_model.specs.declared.Attributes.{Attributes}
-use Rattle.w16_model.specs.Handles.{IsFreeSlot, handle_of, slot_of_handle}
 use Rattle.w16_model.specs.Calls as calls
-use Rattle.w16_model.specs.Calls.{rounded_size, global_lock, locks_at}
-use Rattle.w16_loading.specs.declared.TheConstants.{MOST_USES, LARGEST_OWNED}
-use Rattle.w16_loading.specs.declared.FetchFault.{FetchFault}
 use Rattle.w16_loading.specs.declared.FetchFault.TheVariants as faults
-use Rattle.w16_loading.specs.File.{Label, Resource, is_label, numbered}
-use Rattle.w16_loading.specs.Modules.{LoadingWorld, Load, module_at}
-use Rattle.w16_loading.specs.Replies.{Reply}
-use Rattle.w16_loading.specs.Fetch.{Fetching, with_handles}
-use Rattle.w16_loading.specs.Replies.Reply.{Word, Dword, Walked, Failed}
-use Rattle.w16_loading.specs.Release.{without_objects}
 
 -- FindResource: the place in the table, from 1; else 0
 abbrev pub find_resource : LoadingWorld → ℕ → Label → Label → ℕ

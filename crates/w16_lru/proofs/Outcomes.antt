@@ -1,24 +1,24 @@
 -- What the methods answer and leave, from the ring that is kept.
-use Rattle.w16_lru.proofs.Common.{swap, slice_index, Vec, ◌≡◌, ◌≢◌, ℕ, suc, ◌+◌, ◌-◌, ◌<◌, ◌≤◌, Bool, true, false, ◌⊎◌, inl, inr, drop, get_or, List, [], ◌∷◌, ◌++◌, length, slice_get, Some, None, length-append, refl, sym, ap, ◌∙◌, subst}
-use Rattle.w16_lru.proofs.Common.{arith, with_items, get_or_read, with_items_is, length-swap, slice_get_past, is_member, without, without_absent, EachPair-from_AllPairs, Each-from_All, End, Oldest, Newest, Uses, AreUses, at_end, ids_of, Leads, IsRing, uses_of}
+use Rattle.w16_lru.proofs
+use proofs.Common as C
+use proofs.Ways as M
+use proofs.Common.{swap, slice_index, Vec, ◌≡◌, ◌≢◌, ℕ, suc, ◌+◌, ◌-◌, ◌<◌, ◌≤◌, Bool, true, false, ◌⊎◌, inl, inr, drop, get_or, List, [], ◌∷◌, ◌++◌, length, slice_get, Some, None, refl, sym, ap, ◌∙◌, subst, arith, with_items, is_member, without, End, Oldest, Newest, Uses, ids_of, Leads}
+use proofs.Common.{IsRing, uses_of}
+use proofs.Members.{fewer, member_below, few}
+use proofs.Rings.{ring-out, ring-oldest, ring-newest}
+use proofs.Renamed.{relinked, none_renamed, ring-renamed}
 use Rattle.std.specs.List.{AllByRecursion as Each}
-use Rattle.w16_lru.proofs.Members.{fewer, member_below, few}
-use Rattle.w16_lru.proofs.Ways.{follow-leads, length-follow, follow-next, leads-behind, leads-some, leads-no, leads-none, leads-stuck, each_at, each-drop, slice_get-behind}
-use Rattle.w16_lru.proofs.Rings.{ring-out, ring-oldest, ring-newest}
-use Rattle.std.proofs.Common.{length-set, set}
-use Rattle.std.proofs.lemmas.List.{length-map}
+use Rattle.std.proofs.{Common.length-set, Common.set, lemmas.List.length-map}
 use Rattle.w16_lru.specs.Uses.{renamed}
-use Rattle.w16_lru.proofs.Ways.{each_other}
-use Rattle.w16_lru.proofs.Renamed.{relinked, none_renamed, ring-renamed}
 
 -- the ids of a ring are followed along its links
 pub kept : (cap members : ℕ) (after before ids : List ℕ) → IsRing cap after before ids → length ids ≡ members → IsRing cap after before (ids_of cap after members)
 kept cap members after before ids ring e =
-    subst (IsRing cap after before) (sym (follow-leads after (slice_index after cap) ids cap ring.around) ∙ ap (ids_of cap after) e) ring
+    subst (IsRing cap after before) (sym (M.follow-leads after (slice_index after cap) ids cap ring.around) ∙ ap (ids_of cap after) e) ring
 
 pub viewed : (cap members : ℕ) (after before ids : List ℕ) → IsRing cap after before ids → length ids ≡ members → (let are : Uses = record { cap = cap; ids = ids } in uses_of cap after members ≡ are)
 viewed cap members after before ids ring e =
-    λ i. record { cap = cap; ids = (ap (ids_of cap after) (sym e) ∙ follow-leads after (slice_index after cap) ids cap ring.around) i }
+    λ i. record { cap = cap; ids = (ap (ids_of cap after) (sym e) ∙ M.follow-leads after (slice_index after cap) ids cap ring.around) i }
 
 -- what is no member put at an end
 abbrev pub put : End → ℕ → List ℕ → List ℕ
@@ -30,7 +30,7 @@ abbrev pub with_ids : Uses → List ℕ → Uses
 with_ids uses ids = record uses { ids = ids }
 
 -- what was taken out and is put at an end is at that end
-pub put_back : (old new : Uses) (id : ℕ) (end : End) → new ≡ with_ids old (without id old.ids) → with_ids new (put end id new.ids) ≡ with_ids old (at_end end id old.ids)
+pub put_back : (old new : Uses) (id : ℕ) (end : End) → new ≡ with_ids old (without id old.ids) → with_ids new (put end id new.ids) ≡ with_ids old (C.at_end end id old.ids)
 put_back old new id Oldest e = ap (λ (u : Uses). with_ids u (put Oldest id u.ids)) e
 put_back old new id Newest e = ap (λ (u : Uses). with_ids u (put Newest id u.ids)) e
 
@@ -42,8 +42,8 @@ IsFront cap before front Newest = front ≡ get_or before cap front
 -- the items of a table after an exchange
 pub exchanged_after : {Z : Type 0} (table : Vec ℕ Z) (seen new : List ℕ) (p x : ℕ) → seen ≡ table.items → new ≡ swap seen p x → (with_items table new).items ≡ swap table.items p x
 exchanged_after table seen new p x same e =
-    let long : length new ≡ table.len = ap length e ∙ length-swap seen p x ∙ ap length same ∙ sym table.ok.0 in
-    with_items_is table new long ∙ e ∙ ap (λ (l : List ℕ). swap l p x) same
+    let long : length new ≡ table.len = ap length e ∙ C.length-swap seen p x ∙ ap length same ∙ sym table.ok.0 in
+    C.with_items_is table new long ∙ e ∙ ap (λ (l : List ℕ). swap l p x) same
 
 pub exchanged_before : {Z : Type 0} (table : Vec ℕ Z) (links seen_links seen new : List ℕ) (p x : ℕ) → seen_links ≡ links → seen ≡ table.items
     → new ≡ swap seen (slice_index seen_links p) (slice_index seen_links x) → (with_items table new).items ≡ swap table.items (slice_index links p) (slice_index links x)
@@ -56,7 +56,7 @@ pub relinked_items : {Z : Type 0} (table : Vec ℕ Z) (seen new : List ℕ) (fro
 relinked_items table seen new from id to same e =
     let long : length new ≡ table.len = ap length e ∙ length-set (set (set seen to (slice_index seen id)) from to) id id
     ∙ length-set (set seen to (slice_index seen id)) from to ∙ length-set seen to (slice_index seen id) ∙ ap length same ∙ sym table.ok.0 in
-    with_items_is table new long ∙ e ∙ ap (λ (l : List ℕ). relinked l from id to) same
+    C.with_items_is table new long ∙ e ∙ ap (λ (l : List ℕ). relinked l from id to) same
 
 module _ (cap members : ℕ) (after before : List ℕ) (now : Uses) (ring : IsRing cap after before (ids_of cap after members)) (view : uses_of cap after members ≡ now) where
   ids_are : ids_of cap after members ≡ now.ids
@@ -65,35 +65,35 @@ module _ (cap members : ℕ) (after before : List ℕ) (now : Uses) (ring : IsRi
   cap_is : cap ≡ now.cap
   cap_is = ap (λ (u : Uses). u.cap) view
 
-  pub are_uses : AreUses now
-  are_uses = subst AreUses view ring.uses
+  pub are_uses : C.AreUses now
+  are_uses = subst C.AreUses view ring.uses
 
   around : Leads after (slice_index after cap) now.ids cap
   around = subst (λ l. Leads after (slice_index after cap) l cap) ids_are ring.around
 
   below : Each (λ q. q < cap) now.ids
-  below = subst (λ l. Each (λ q. q < cap) l) ids_are (Each-from_All (λ q. q < cap) (ids_of cap after members) ring.uses.below)
+  below = subst (λ l. Each (λ q. q < cap) l) ids_are (C.Each-from_All (λ q. q < cap) (ids_of cap after members) ring.uses.below)
 
   pub read_after : (i x : ℕ) → i ≤ cap → x ≡ get_or after i x → x ≡ slice_index after i
-  read_after i x le e = let long = ring.after_long in get_or_read after i x (omega arith) e 0
+  read_after i x le e = let long = ring.after_long in C.get_or_read after i x (omega arith) e 0
 
   pub read_before : (i x : ℕ) → i ≤ cap → x ≡ get_or before i x → x ≡ slice_index before i
-  read_before i x le e = let long = ring.before_long in get_or_read before i x (omega arith) e 0
+  read_before i x le e = let long = ring.before_long in C.get_or_read before i x (omega arith) e 0
 
   pub count : length now.ids ≡ members
-  count = ap (length {A = ℕ}) (sym ids_are) ∙ length-follow members after (slice_index after cap)
+  count = ap (length {A = ℕ}) (sym ids_are) ∙ M.length-follow members after (slice_index after cap)
 
   pub first_some : (x : ℕ) → x ≡ get_or after cap x → x ≢ cap → Some x ≡ slice_get now.ids 0
   first_some x e other =
       let is = read_after cap x (omega arith) e in
-      ap (λ (q : ℕ). Some q) is ∙ leads-some after (slice_index after cap) now.ids cap (λ same. other (is ∙ same)) around
+      ap (λ (q : ℕ). Some q) is ∙ M.leads-some after (slice_index after cap) now.ids cap (λ same. other (is ∙ same)) around
 
   -- there is none behind the newest
   pub past : (i : ℕ) → members ≤ i → None ≡ slice_get now.ids i
-  past i le = sym (slice_get_past now.ids i (let long = count in omega arith))
+  past i le = sym (C.slice_get_past now.ids i (let long = count in omega arith))
 
   pub member_at : (k id : ℕ) → slice_get now.ids k ≡ Some id → id < cap
-  member_at k id at = each_at (λ q. q < cap) now.ids k id below at
+  member_at k id at = M.each_at (λ q. q < cap) now.ids k id below at
 
   -- the ids on the way to the one that is asked for
   pub step : (k id next : ℕ) → k + 1 < members → slice_get now.ids k ≡ Some id → next ≡ get_or after id next → slice_get now.ids (k + 1) ≡ Some next
@@ -101,7 +101,7 @@ module _ (cap members : ℕ) (after before : List ℕ) (now : Uses) (ring : IsRi
       let lower = member_at k id at in
       ap (slice_get now.ids) (let f : k + 1 ≡ suc k = omega arith in f)
       ∙ ap (λ (l : List ℕ). slice_get l (suc k)) (sym ids_are)
-      ∙ follow-next members after (slice_index after cap) k id (omega arith) (ap (λ (l : List ℕ). slice_get l k) ids_are ∙ at)
+      ∙ M.follow-next members after (slice_index after cap) k id (omega arith) (ap (λ (l : List ℕ). slice_get l k) ids_are ∙ at)
       ∙ ap (λ (q : ℕ). Some q) (sym (read_after id next (omega arith) e))
 
   -- behind a member comes the one that it is linked to
@@ -109,25 +109,25 @@ module _ (cap members : ℕ) (after before : List ℕ) (now : Uses) (ring : IsRi
   next_some id next i lt e other at =
       let is = read_after id next (omega arith) e in
       ap (λ (q : ℕ). Some q) is
-      ∙ leads-some after (slice_index after id) (drop (suc i) now.ids) cap (λ same. other (is ∙ same)) (leads-behind after (slice_index after cap) now.ids cap i id around at)
-      ∙ slice_get-behind now.ids i
+      ∙ M.leads-some after (slice_index after id) (drop (suc i) now.ids) cap (λ same. other (is ∙ same)) (M.leads-behind after (slice_index after cap) now.ids cap i id around at)
+      ∙ M.slice_get-behind now.ids i
 
   -- behind the newest no one
   pub next_none : (id next i : ℕ) → id < cap → next ≡ get_or after id next → (next ≡ cap) ⊎ (next ≡ id) → slice_get now.ids i ≡ Some id → None ≡ slice_get now.ids (i + 1)
   next_none id next i lt e none at =
       let is = read_after id next (omega arith) e in
-      let way = leads-behind after (slice_index after cap) now.ids cap i id around at in
-      leads-no after (slice_index after id) (drop (suc i) now.ids) cap (sym is ∙ last is way none) (each-drop (λ q. q < cap) (suc i) now.ids below) way
-      ∙ slice_get-behind now.ids i
+      let way = M.leads-behind after (slice_index after cap) now.ids cap i id around at in
+      M.leads-no after (slice_index after id) (drop (suc i) now.ids) cap (sym is ∙ last is way none) (M.each-drop (λ q. q < cap) (suc i) now.ids below) way
+      ∙ M.slice_get-behind now.ids i
     where
       last : next ≡ slice_index after id → Leads after (slice_index after id) (drop (suc i) now.ids) cap → (next ≡ cap) ⊎ (next ≡ id) → next ≡ cap
       last is way (inl f) = f
-      last is way (inr f) = f ∙ leads-stuck after id (drop (suc i) now.ids) cap (sym is ∙ f) (subst (λ q. Leads after q (drop (suc i) now.ids) cap) (sym is ∙ f) way)
+      last is way (inr f) = f ∙ M.leads-stuck after id (drop (suc i) now.ids) cap (sym is ∙ f) (subst (λ q. Leads after q (drop (suc i) now.ids) cap) (sym is ∙ f) way)
 
   -- what is linked to itself is no member, and what is too large
   pub alone_none : (id next : ℕ) → id < cap → next ≡ get_or after id next → next ≡ id → is_member id now.ids ≡ false
   alone_none id next lt e self =
-      leads-none after (slice_index after cap) now.ids cap id (sym (read_after id next (omega arith) e) ∙ self) (λ f. let g : id ≡ cap = f in absurd (omega arith)) around
+      M.leads-none after (slice_index after cap) now.ids cap id (sym (read_after id next (omega arith) e) ∙ self) (λ f. let g : id ≡ cap = f in absurd (omega arith)) around
 
   pub large_none : (id : ℕ) → cap ≤ id → is_member id now.ids ≡ false
   large_none id le = turn (is_member id now.ids) refl
@@ -137,10 +137,10 @@ module _ (cap members : ℕ) (after before : List ℕ) (now : Uses) (ring : IsRi
       turn false e = refl
 
   pub as_many : (id : ℕ) → is_member id now.ids ≡ false → members ≡ length (without id now.ids)
-  as_many id none = sym (ap length (without_absent id now.ids none) ∙ count)
+  as_many id none = sym (ap length (C.without_absent id now.ids none) ∙ count)
 
   pub same_without : (id : ℕ) → is_member id now.ids ≡ false → now ≡ with_ids now (without id now.ids)
-  same_without id none = ap (with_ids now) (sym (without_absent id now.ids none))
+  same_without id none = ap (with_ids now) (sym (C.without_absent id now.ids none))
 
   ring_now : IsRing cap after before now.ids
   ring_now = subst (IsRing cap after before) ids_are ring
@@ -151,7 +151,7 @@ module _ (cap members : ℕ) (after before : List ℕ) (now : Uses) (ring : IsRi
   -- One that is no member takes the place of another.
   module _ (id to next : ℕ) (lt : id < cap) (is_next : next ≡ get_or after id next) where
     pub none_there : next ≡ id → now ≡ with_ids now (renamed id to now.ids)
-    none_there self = ap (with_ids now) (sym (none_renamed id to now.ids (each_other id now.ids (alone_none id next lt is_next self))))
+    none_there self = ap (with_ids now) (sym (none_renamed id to now.ids (M.each_other id now.ids (alone_none id next lt is_next self))))
 
     module _ (to_lt : to < cap) (none : is_member to now.ids ≡ false) (other : next ≢ id) {front : ℕ} (leads : front ≡ get_or before id front)
         (forward backward : List ℕ) (a : forward ≡ relinked after front id to) (b : backward ≡ relinked before next id to) where
@@ -184,7 +184,7 @@ module _ (cap members : ℕ) (after before : List ℕ) (now : Uses) (ring : IsRi
         turn false e = absurd (linked (ring_now.alone id lt e))
 
     pub less : length (without id now.ids) + 1 ≡ members
-    less = fewer id now.ids (EachPair-from_AllPairs (λ a b. a ≡ b → ⊥) now.ids are_uses.apart) there ∙ count
+    less = fewer id now.ids (C.EachPair-from_AllPairs (λ a b. a ≡ b → ⊥) now.ids are_uses.apart) there ∙ count
 
   -- the links after an exchange
   module _ (id front : ℕ) (lt : id < cap) (forward backward : List ℕ) (a : forward ≡ swap after front id) (b : backward ≡ swap before (slice_index after front) (slice_index after id)) where
@@ -220,7 +220,7 @@ module _ (cap members : ℕ) (after before : List ℕ) (now : Uses) (ring : IsRi
 
       more : (end : End) → length (put end id now.ids) ≡ members + 1
       more Oldest = let long = count in omega arith
-      more Newest = let long = count in omega (arith, length-append now.ids (id ∷ []))
+      more Newest = let long = count in omega (arith, C.length-append now.ids (id ∷ []))
 
       pub joined_kept : (end : End) → IsFront cap before front end → IsRing cap forward backward (ids_of cap forward (members + 1))
       joined_kept end is = kept cap (members + 1) forward backward (put end id now.ids) (joined end is) (more end)

@@ -1,9 +1,9 @@
 -- Rings of ids in which the links of two numbers are exchanged.
-use Rattle.w16_lru.proofs.Common.{swap, range_with_len, slice_index, ◌≡◌, ◌≢◌, ℕ, ◌+◌, ◌<◌, ◌⊎◌, Bool, true, false, cond, not, ◌&&◌, ◌||◌, ◌==◌, List, [], ◌∷◌, ◌++◌, AllPairs, refl, sym, ap, ◌∙◌}
-use Rattle.w16_lru.proofs.Common.{subst, arith, inl, inr, eq-eqb, true≢false, ne_eqb, cases_eq, Swapped, swapped_from_swap, length-swap, All-append, All-cons, All-nil, All-filter, length-range_with_len}
-use Rattle.w16_lru.proofs.Common.{get_or-range_with_len, AllPairs-filter, is_member, without, without_absent, Each-from_All, member_without, newest_differ, oldest_differ, AreUses, Leads, LeadBack, IsRing}
+use Rattle.w16_lru.proofs
+use proofs.Common as C
+use proofs.Ways as M
+use proofs.Common.{swap, range_with_len, slice_index, ◌≡◌, ◌≢◌, ℕ, ◌+◌, ◌<◌, ◌⊎◌, Bool, true, false, cond, not, ◌&&◌, ◌||◌, ◌==◌, List, [], ◌∷◌, ◌++◌, refl, sym, ap, ◌∙◌, subst, arith, inl, inr, eq-eqb, true≢false, ne_eqb, cases_eq, Swapped, is_member, without, Leads, IsRing}
 use Rattle.std.specs.List.{AllByRecursion as Each}
-use Rattle.w16_lru.proofs.Ways.{each_other, leads-same, leads-longer, leads-shorter, longer, shorter}
 
 -- two ways of linking that lead back, once where two numbers lead is exchanged
 module _ (count p x : ℕ) (f g h k : ℕ → ℕ) (p_in : p < count) (x_in : x < count)
@@ -53,21 +53,21 @@ module _ (cap : ℕ) (after before ids : List ℕ) (ring : IsRing cap after befo
   backward = swap before (slice_index after p) (slice_index after x)
 
   one : Swapped (slice_index after) (slice_index forward) p x
-  one = let long = ring.after_long in swapped_from_swap after forward p x 0 (omega arith) (omega arith) refl
+  one = let long = ring.after_long in C.swapped_from_swap after forward p x 0 (omega arith) (omega arith) refl
 
   other : Swapped (slice_index before) (slice_index backward) (slice_index after p) (slice_index after x)
   other =
       let long = ring.before_long in let a = (ring.forth p p_in).0 in let b = (ring.forth x (omega arith)).0 in
-      swapped_from_swap before backward (slice_index after p) (slice_index after x) 0 (omega arith) (omega arith) refl
+      C.swapped_from_swap before backward (slice_index after p) (slice_index after x) 0 (omega arith) (omega arith) refl
 
   below : Each (λ q. q < cap) ids
-  below = Each-from_All (λ q. q < cap) ids ring.uses.below
+  below = C.Each-from_All (λ q. q < cap) ids ring.uses.below
 
   ring_of : (new : List ℕ) → Leads forward (slice_index forward cap) new cap → ((id : ℕ) → id < cap → is_member id new ≡ false → slice_index forward id ≡ id)
-      → AreUses (record { cap = cap; ids = new }) → IsRing cap forward backward new
+      → C.AreUses (record { cap = cap; ids = new }) → IsRing cap forward backward new
   ring_of new around alone uses = record {
-    after_long = length-swap after p x ∙ ring.after_long;
-    before_long = length-swap before (slice_index after p) (slice_index after x) ∙ ring.before_long;
+    after_long = C.length-swap after p x ∙ ring.after_long;
+    before_long = C.length-swap before (slice_index after p) (slice_index after x) ∙ ring.before_long;
     forth = exchanged_forth (cap + 1) p x (slice_index after) (slice_index before) (slice_index forward) (slice_index backward) p_in (omega arith) ring.forth ring.back one other;
     back = exchanged_back (cap + 1) p x (slice_index after) (slice_index before) (slice_index forward) (slice_index backward) p_in (omega arith) ring.forth ring.back one other;
     around = around;
@@ -80,7 +80,7 @@ module _ (cap : ℕ) (after before ids : List ℕ) (ring : IsRing cap after befo
     to_x : slice_index after p ≡ x
     to_x = ap (slice_index after) (sym here) ∙ (ring.back x (omega arith)).1
 
-    skipped : (q : ℕ) → q < cap + 1 → q ≢ x → slice_index forward q ≡ shorter after forward x cap x_in (slice_index after q)
+    skipped : (q : ℕ) → q < cap + 1 → q ≢ x → slice_index forward q ≡ M.shorter after forward x cap x_in (slice_index after q)
     skipped q lt no_x = elim (cases_eq q p) [
       | inl e ↦ ap (slice_index forward) e ∙ one.0 ∙ sym (ap (λ t. cond t (slice_index after x) (slice_index after q)) (eq-eqb (slice_index after q) x (ap (slice_index after) e ∙ to_x)))
       | inr no_p ↦
@@ -92,7 +92,7 @@ module _ (cap : ℕ) (after before ids : List ℕ) (ring : IsRing cap after befo
     left q lt none = elim (cases_eq q x) [
       | inl e ↦ ap (slice_index forward) e ∙ one.1 ∙ to_x ∙ sym e
       | inr no_x ↦
-          let alone = ring.alone q lt (stays (is_member q ids) (q == x) (ne_eqb q x no_x) (sym (member_without q x ids) ∙ none)) in
+          let alone = ring.alone q lt (stays (is_member q ids) (q == x) (ne_eqb q x no_x) (sym (C.member_without q x ids) ∙ none)) in
           skipped q (omega arith) no_x
           ∙ ap (λ t. cond t (slice_index after x) (slice_index after q)) (ne_eqb (slice_index after q) x (λ f. no_x (sym alone ∙ f))) ∙ alone
     ]
@@ -106,22 +106,22 @@ module _ (cap : ℕ) (after before ids : List ℕ) (ring : IsRing cap after befo
     pub ring-out : IsRing cap forward backward (without x ids)
     ring-out = ring_of (without x ids)
         (subst (λ q. Leads forward q (without x ids) cap) (sym (skipped cap (omega arith) (λ e. let f : cap ≡ x = e in absurd (omega arith))))
-        (leads-shorter after forward x cap x_in (λ q lt no. skipped q (omega arith) no) linked (slice_index after cap) ids below ring.around))
+        (M.leads-shorter after forward x cap x_in (λ q lt no. skipped q (omega arith) no) linked (slice_index after cap) ids below ring.around))
         left
         record {
-          below = All-filter (λ q. not (q == x)) (λ q. q < cap) ids ring.uses.below;
-          apart = AllPairs-filter (λ a b. a ≡ b → ⊥) (λ q. not (q == x)) ids ring.uses.apart;
+          below = C.All-filter (λ q. not (q == x)) (λ q. q < cap) ids ring.uses.below;
+          apart = C.AllPairs-filter (λ a b. a ≡ b → ⊥) (λ q. not (q == x)) ids ring.uses.apart;
         }
 
   module _ (none : is_member x ids ≡ false) where
     others : Each (λ q. q ≢ x) ids
-    others = each_other x ids none
+    others = M.each_other x ids none
 
     alone_x : slice_index after x ≡ x
     alone_x = ring.alone x x_in none
 
     taken : without x ids ≡ ids
-    taken = without_absent x ids none
+    taken = C.without_absent x ids none
 
     -- what is alone, and isn't the front, stays so
     stay : (p ≡ cap) ⊎ (slice_index after p ≡ cap) → (q : ℕ) → q < cap → q ≢ x → slice_index after q ≡ q → slice_index forward q ≡ q
@@ -136,29 +136,29 @@ module _ (cap : ℕ) (after before ids : List ℕ) (ring : IsRing cap after befo
     ring-oldest front = ring_of (x ∷ ids) (
       ap (slice_index forward) (sym front) ∙ one.0 ∙ alone_x,
       subst (λ q. Leads forward q ids cap) (sym (one.1 ∙ ap (slice_index after) front))
-          (leads-same after forward x cap x_in (λ q lt no_x. one.2 q (λ e. let f : q ≡ p = e in absurd (omega arith)) no_x) (slice_index after cap) ids below others ring.around),
+          (M.leads-same after forward x cap x_in (λ q lt no_x. one.2 q (λ e. let f : q ≡ p = e in absurd (omega arith)) no_x) (slice_index after cap) ids below others ring.around),
     )
         (λ q lt out. elim (cases_eq x q) [
           | inl e ↦ absurd (true≢false (sym (ap (λ t. t || is_member q ids) (eq-eqb x q e)) ∙ out))
           | inr apart ↦ stay (inl front) q lt (λ e. apart (sym e)) (ring.alone q lt (sym (ap (λ t. t || is_member q ids) (ne_eqb x q apart)) ∙ out))
         ])
         record {
-          below = All-cons (λ q. q < cap) x ids x_in ring.uses.below;
-          apart = subst (λ (l : List ℕ). AllPairs (λ a b. a ≡ b → ⊥) (x ∷ l)) taken (oldest_differ x ids ring.uses.apart);
+          below = C.All-cons (λ q. q < cap) x ids x_in ring.uses.below;
+          apart = subst (λ (l : List ℕ). C.AllPairs (λ a b. a ≡ b → ⊥) (x ∷ l)) taken (C.oldest_differ x ids ring.uses.apart);
         }
 
     -- and the newest
     pub ring-newest : slice_index after p ≡ cap → IsRing cap forward backward (ids ++ x ∷ [])
     ring-newest front = ring_of (ids ++ x ∷ [])
         (subst (λ q. Leads forward q (ids ++ x ∷ []) cap) (sym (lengthened cap (omega arith) (λ e. let f : cap ≡ x = e in absurd (omega arith))))
-        (leads-longer after forward x cap x_in (λ q lt no. lengthened q (omega arith) no) (one.1 ∙ front) (slice_index after cap) ids below others ring.around))
+        (M.leads-longer after forward x cap x_in (λ q lt no. lengthened q (omega arith) no) (one.1 ∙ front) (slice_index after cap) ids below others ring.around))
         (λ q lt out. let apart = neither q ids out in stay (inr front) q lt (λ e. apart.1 (sym e)) (ring.alone q lt apart.0))
         record {
-          below = All-append (λ q. q < cap) ids (x ∷ []) ring.uses.below (All-cons (λ q. q < cap) x [] x_in (All-nil (λ q. q < cap)));
-          apart = subst (λ (l : List ℕ). AllPairs (λ a b. a ≡ b → ⊥) (l ++ x ∷ [])) taken (newest_differ x ids ring.uses.apart);
+          below = C.All-append (λ q. q < cap) ids (x ∷ []) ring.uses.below (C.All-cons (λ q. q < cap) x [] x_in (C.All-nil (λ q. q < cap)));
+          apart = subst (λ (l : List ℕ). C.AllPairs (λ a b. a ≡ b → ⊥) (l ++ x ∷ [])) taken (C.newest_differ x ids ring.uses.apart);
         }
       where
-        lengthened : (q : ℕ) → q < cap + 1 → q ≢ x → slice_index forward q ≡ longer after forward x cap x_in (slice_index after q)
+        lengthened : (q : ℕ) → q < cap + 1 → q ≢ x → slice_index forward q ≡ M.longer after forward x cap x_in (slice_index after q)
         lengthened q lt no_x = elim (cases_eq q p) [
           | inl e ↦ ap (slice_index forward) e ∙ one.0 ∙ alone_x ∙ sym (ap (λ t. cond t x (slice_index after q)) (eq-eqb (slice_index after q) cap (ap (slice_index after) e ∙ front)))
           | inr no_p ↦
@@ -179,17 +179,17 @@ pub ring-empty : (cap : ℕ) (after before : List ℕ) → after ≡ range_with_
 ring-empty cap after before e f = rw (e, f) numbered
   where
     self : (q : ℕ) → q < cap + 1 → slice_index (range_with_len 0 (cap + 1)) q ≡ q
-    self q lt = let e = get_or-range_with_len 0 (cap + 1) q 0 lt in omega arith
+    self q lt = let e = C.get_or-range_with_len 0 (cap + 1) q 0 lt in omega arith
 
     numbered : IsRing cap (range_with_len 0 (cap + 1)) (range_with_len 0 (cap + 1)) []
     numbered =
-        let lead : LeadBack (cap + 1) (range_with_len 0 (cap + 1)) (range_with_len 0 (cap + 1)) =
+        let lead : C.LeadBack (cap + 1) (range_with_len 0 (cap + 1)) (range_with_len 0 (cap + 1)) =
         λ q lt. (subst (λ k. k < cap + 1) (sym (self q lt)) lt, ap (slice_index (range_with_len 0 (cap + 1))) (self q lt) ∙ self q lt) in record {
-          after_long = length-range_with_len 0 (cap + 1);
-          before_long = length-range_with_len 0 (cap + 1);
+          after_long = C.length-range_with_len 0 (cap + 1);
+          before_long = C.length-range_with_len 0 (cap + 1);
           forth = lead;
           back = lead;
           around = self cap (omega arith);
           alone = λ id lt none. self id (omega arith);
-          uses = record { below = All-nil (λ q. q < cap); apart = λ i j d lt within. absurd (omega arith) };
+          uses = record { below = C.All-nil (λ q. q < cap); apart = λ i j d lt within. absurd (omega arith) };
         }

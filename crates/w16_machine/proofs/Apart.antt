@@ -1,11 +1,9 @@
 -- No two objects of a world share a byte.
 use Rattle.w16_machine.proofs.Common.{◌≡◌, ℕ, List, length, Some, refl, ap, sym, unwrap_or, Heap, Object, IsHeap, IsBlockOf, object_at, two_placed}
-use Rattle.std.specs.FinMap as finmap
-use Rattle.w16_model.specs.declared.Block.{Block}
-use Rattle.w16_model.specs.Heap.{hold_of_object}
-use Rattle.w16_machine.specs.Law.{ApartLaw, AreApart}
-use Rattle.w16_machine.specs.Local.{heap_of}
 use Rattle.w16_machine.proofs.LocalFacts.{heap_here, local_there, object_of}
+use Rattle.w16_model.specs.{declared.Block.Block, Heap.hold_of_object}
+use Rattle.w16_machine.specs.{Law.ApartLaw, Law.AreApart, Local.heap_of}
+use Rattle.std.specs.FinMap as finmap
 
 -- the block of an object with bytes
 abbrev block_at : ℕ → ℕ → List ℕ → Object → Block

@@ -1,22 +1,14 @@
 -- What each step spares, and so each step of a run.
-use Rattle.w16_machine.proofs.Common.{◌≡◌, ◌≢◌, ℕ, ◌⊎◌, inl, inr, true, List, Option, Some, None, IsSomeAnd, option_map, refl, sym, ap, ◌∙◌, subst, cases_Bool, cases_eq, Object, object_at, is_pinned_object}
-use Rattle.w16_machine.proofs.Common.{StandsStill, Table, bytes_in, LoadingCommand, Format, Reply, Word, Done, bystanders_law, pinned_law, World, IsWorld, LocalHeap, heap_of, local_in, current_heap, segment_bytes}
-use Rattle.w16_machine.proofs.Common.{LocalCommand, LocalStep, DS, HasSameObjects, IsHeapKept, IsLocalKept, IsObjectKept, IsRewritten, KeepsRest, asks_for_room, but_bytes, may_move_named, Step}
-use Rattle.w16_machine.proofs.Common.{OfLoading, OfLocals, IsLocalAbout, IsLocalSpared, StepSparesLaw, RunSparesLaw, ◌<◌, is_some, bytes_at, Discardable, IsHeapLeft, IsLeftByGrowth, IsLengthened, KeepsRestLonger}
-use Rattle.w16_machine.proofs.Common.{length}
+use Rattle.w16_machine.proofs
+use proofs.Common.{◌≡◌, ◌≢◌, ℕ, ◌⊎◌, inl, inr, true, List, Option, Some, None, IsSomeAnd, option_map, refl, sym, ap, ◌∙◌, subst, cases_Bool, cases_eq, Object, object_at, is_pinned_object, StandsStill, Table, bytes_in, LoadingCommand, Format, Reply, Word, Done, bystanders_law, pinned_law}
+use proofs.Common.{World, IsWorld, LocalHeap, heap_of, local_in, current_heap, segment_bytes, LocalCommand, LocalStep, DS, HasSameObjects, IsHeapKept, IsLocalKept, IsObjectKept, IsRewritten, KeepsRest, asks_for_room, but_bytes, may_move_named, Step, OfLoading, OfLocals, IsLocalAbout}
+use proofs.Common.{IsLocalSpared, StepSparesLaw, RunSparesLaw, ◌<◌, is_some, bytes_at, Discardable, IsHeapLeft, IsLeftByGrowth, IsLengthened, KeepsRestLonger, length}
+use proofs.LocalFacts.{IsThere, current_there, local_there, object_of, there_local, found}
+use proofs.LocalOthers.{local_others_law, local_pinned_law, stands_same}
+use proofs.LocalOutcomes.{Outcome, outcome}
+use proofs.{LocalFar.same_heaps, LocalFrame.frame_law, LocalGoes.goes_law, LocalGoes.left_inside, LocalLeft.left_is, LocalLonger.leaves_longer, Runs.run_each, Worlds.world_law}
+use Rattle.w16_machine.specs.Bystanders.{IsSpared, Spares}
 use Rattle.std.specs.FinMap as finmap
-use Rattle.w16_machine.specs.Bystanders.{IsSpared}
-use Rattle.w16_machine.proofs.LocalFacts.{IsThere, current_there, local_there, object_of, there_local, found}
-use Rattle.w16_machine.proofs.LocalFar.{same_heaps}
-use Rattle.w16_machine.proofs.LocalFrame.{frame_law}
-use Rattle.w16_machine.proofs.LocalGoes.{goes_law, left_inside}
-use Rattle.w16_machine.proofs.LocalLeft.{left_is}
-use Rattle.w16_machine.proofs.LocalLonger.{leaves_longer}
-use Rattle.w16_machine.proofs.LocalOthers.{local_others_law, local_pinned_law, stands_same}
-use Rattle.w16_machine.proofs.LocalOutcomes.{Outcome, outcome}
-use Rattle.w16_machine.specs.Bystanders.{Spares}
-use Rattle.w16_machine.proofs.Runs.{run_each}
-use Rattle.w16_machine.proofs.Worlds.{world_law}
 
 -- DS.
 outcome_ds : (old new : World) (command : LocalCommand) (answer : ℕ) → Outcome old command answer new → new.ds ≡ old.ds

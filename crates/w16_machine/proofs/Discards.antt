@@ -1,8 +1,10 @@
 -- Each step of a run discards as few as it can.
-use Rattle.w16_machine.proofs.Common.{◌≡◌, subst, GlobalAlloc, GlobalCompact, global_alloc_law, global_compact_law, resize_fewest_law, Format, Reply, Word, Dword, GlobalReAlloc, World, IsWorld, Event, Command, Step, IsFewest}
+use Rattle.w16_machine.proofs
+use proofs.Common as C
+use proofs.Common.{◌≡◌, subst, Format, Reply, Word, Dword, World, Event, Command, Step}
+use proofs.LocalFewest.{local_alloc_law, local_compact_law, local_realloc_law}
+use proofs.Stepped.{call_replies, resize_replies}
 use Rattle.w16_loading.proofs.Requests.{any_requests_fewest}
-use Rattle.w16_machine.proofs.LocalFewest.{local_alloc_law, local_compact_law, local_realloc_law}
-use Rattle.w16_machine.proofs.Stepped.{call_replies, resize_replies}
 
 -- the same step, told with its command, and with its reply
 asked : (honest : Type 0) (format : Format) (old : World) (event : Event) {command : Command} → event.command ≡ command → Step honest format old event.command event.reply event.after → Step honest format old command event.reply event.after
@@ -12,14 +14,14 @@ told : (honest : Type 0) (format : Format) (old : World) (event : Event) {comman
     → Step honest format old command reply event.after
 told honest format old event {command} c r step = subst (λ (answer : Reply). Step honest format old command answer event.after) r (asked honest format old event c step)
 
-pub step_fewest : (honest : Type 0) (format : Format) (old : World) (event : Event) → IsWorld old → Step honest format old event.command event.reply event.after → IsFewest old event
+pub step_fewest : (honest : Type 0) (format : Format) (old : World) (event : Event) → C.IsWorld old → Step honest format old event.command event.reply event.after → C.IsFewest old event
 step_fewest honest format old event is step = record {
-  alloc = λ flags size handle c r. global_alloc_law old.loading.handles event.after.loading.handles flags size handle is.heaps.handles
-      (call_replies honest format old.loading event.after.loading (GlobalAlloc flags size) (Word handle) (told honest format old event c r step).0);
-  realloc = λ handle size flags answer c r. resize_fewest_law old.loading.handles event.after.loading.handles handle size flags answer is.heaps.handles
-      (resize_replies honest format old.loading event.after.loading (GlobalReAlloc handle size flags) (Word answer) (told honest format old event c r step).0);
-  compact = λ size answer c r. global_compact_law old.loading.handles event.after.loading.handles size answer is.heaps.handles
-      (call_replies honest format old.loading event.after.loading (GlobalCompact size) (Dword answer) (told honest format old event c r step).0);
+  alloc = λ flags size handle c r. C.global_alloc_law old.loading.handles event.after.loading.handles flags size handle is.heaps.handles
+      (call_replies honest format old.loading event.after.loading (C.GlobalAlloc flags size) (Word handle) (told honest format old event c r step).0);
+  realloc = λ handle size flags answer c r. C.resize_fewest_law old.loading.handles event.after.loading.handles handle size flags answer is.heaps.handles
+      (resize_replies honest format old.loading event.after.loading (C.GlobalReAlloc handle size flags) (Word answer) (told honest format old event c r step).0);
+  compact = λ size answer c r. C.global_compact_law old.loading.handles event.after.loading.handles size answer is.heaps.handles
+      (call_replies honest format old.loading event.after.loading (C.GlobalCompact size) (Dword answer) (told honest format old event c r step).0);
   local_alloc = λ flags size answer at c r current. local_alloc_law old event.after flags size answer at is.heaps (told honest format old event c r step) current;
   local_realloc = λ name size flags answer o c r named unmodified some. local_realloc_law old event.after name size flags answer o is.heaps (told honest format old event c r step) named unmodified some;
   local_compact = λ size answer at c r current. local_compact_law old event.after size answer at is.heaps (told honest format old event c r step) current;

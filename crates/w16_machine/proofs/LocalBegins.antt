@@ -1,8 +1,8 @@
 -- Where a local heap may begin, and that it has no object then.
-use Rattle.w16_machine.proofs.Common.{◌≡◌, ℕ, zero, suc, ◌+◌, ◌*◌, ◌/◌, ◌<◌, ◌≤◌, Bool, true, false, cond, ◌&&◌, nat_le, nat_lt, min, IsTrue, IfSome, IsSomeAnd, List, [], length, get_or, replicate, Option, Some, None, option_map}
-use Rattle.w16_machine.proofs.Common.{is_some, refl, sym, ap, ◌∙◌, subst, arith, leb-true, ltb-true, nat_cmp, get-empty, and_parts, le-leb, lt-ltb, length-replicate, Entry, Span, Block, Heap, Object, IsMultiple, object_at}
-use Rattle.w16_machine.proofs.Common.{is_fixed, is_code, slot_of_selector, Table, IsSound, IsCountedBy, entry_at, hold_of_entry, is_listed, by_id, heap_in, All-from_Each, AllPairs-from_EachPair, LOCAL_GRAIN, LOCAL_ENTRIES, World}
-use Rattle.w16_machine.proofs.Common.{Beginning, IsLocalTable, IsLocalIn, AreNamed, segment_bytes, is_range, range_in, beginning, beginning_in, new_table, selector_or_ds, rounded_up, rounded_down, MayBegin, BeginLaw, NewHeapLaw}
+use Rattle.w16_machine.proofs
+use proofs.Common as C
+use proofs.Common.{◌≡◌, ℕ, zero, suc, ◌+◌, ◌*◌, ◌/◌, ◌<◌, ◌≤◌, Bool, true, false, cond, ◌&&◌, nat_le, min, IsTrue, IfSome, IsSomeAnd, List, [], length, Option, Some, None, option_map, is_some, refl, sym, ap, ◌∙◌, subst, arith, Entry, Span, Block, Heap, IsMultiple, is_code}
+use proofs.Common.{slot_of_selector, Table, by_id, LOCAL_ENTRIES, World, Beginning, segment_bytes, is_range, range_in, beginning_in, new_table, selector_or_ds, rounded_up, rounded_down, MayBegin}
 use Rattle.std.specs.FinMap as finmap
 
 -- The range.
@@ -18,14 +18,14 @@ pub record IsRangeOf (size start end : ℕ) (range : Span) : Type 0 where
 
 tested : (size start end : ℕ) → is_range size start end ≡ true → (4 ≤ start) × (end ≤ size) × (end ≤ 65536) × (rounded_up start < rounded_down end)
 tested size start end t =
-    let both : IsTrue (nat_le 4 start && nat_le end (min size 65536)) × IsTrue (nat_lt (rounded_up start) (rounded_down end)) = and_parts (nat_le 4 start && nat_le end (min size 65536)) (nat_lt (rounded_up start) (rounded_down end)) t in
-    let first : IsTrue (nat_le 4 start) × IsTrue (nat_le end (min size 65536)) = and_parts (nat_le 4 start) (nat_le end (min size 65536)) both.0 in
-    let under : end ≤ min size 65536 = leb-true end (min size 65536) first.1 in
-    (leb-true 4 start first.0, omega (arith, under), omega (arith, under), ltb-true (rounded_up start) (rounded_down end) both.1)
+    let both : IsTrue (nat_le 4 start && nat_le end (min size 65536)) × IsTrue (C.nat_lt (rounded_up start) (rounded_down end)) = C.and_parts (nat_le 4 start && nat_le end (min size 65536)) (C.nat_lt (rounded_up start) (rounded_down end)) t in
+    let first : IsTrue (nat_le 4 start) × IsTrue (nat_le end (min size 65536)) = C.and_parts (nat_le 4 start) (nat_le end (min size 65536)) both.0 in
+    let under : end ≤ min size 65536 = C.leb-true end (min size 65536) first.1 in
+    (C.leb-true 4 start first.0, omega (arith, under), omega (arith, under), C.ltb-true (rounded_up start) (rounded_down end) both.1)
 
 test_of : (size start end : ℕ) → 4 ≤ start → end ≤ size → end ≤ 65536 → rounded_up start < rounded_down end → is_range size start end ≡ true
 test_of size start end low inside high some =
-    λ i. (le-leb 4 start low i && le-leb end (min size 65536) (omega arith) i) && lt-ltb (rounded_up start) (rounded_down end) some i
+    λ i. (C.le-leb 4 start low i && C.le-leb end (min size 65536) (omega arith) i) && C.lt-ltb (rounded_up start) (rounded_down end) some i
 
 range_tells : (size start end : ℕ) (range : Span) → range_in size start end ≡ Some range → IsRangeOf size start end range
 range_tells size start end range = turn (is_range size start end) refl
@@ -91,7 +91,7 @@ module _ (w : World) (selector start end : ℕ) (b : Beginning) where
             some = is.some;
           })
 
-  begins : beginning w selector start end ≡ Some b → MayBegin w selector start end b
+  begins : C.beginning w selector start end ≡ Some b → MayBegin w selector start end b
   begins e = turn (slot_of_selector w.loading.handles (selector_or_ds w selector)) refl e
     where
       turn : (s : Option ℕ) → slot_of_selector w.loading.handles (selector_or_ds w selector) ≡ s → ◌≡◌
@@ -108,7 +108,7 @@ module _ (w : World) (selector start end : ℕ) (b : Beginning) where
           by_code true n e = cc
           by_code false n e = may slot s n (finmap.get w.heaps slot) refl (segment_bytes w slot) refl e
 
-  may_begin : MayBegin w selector start end b → beginning w selector start end ≡ Some b
+  may_begin : MayBegin w selector start end b → C.beginning w selector start end ≡ Some b
   may_begin is =
       ap (λ (s : Option ℕ). elim s as (λ _. Option Beginning) [ None ↦ None | Some slot ↦ cond {A = Option Beginning} (is_code w.loading.handles slot) None (beginning_in w start end slot) ]) is.selected
       ∙ ap (λ b1. cond {A = Option Beginning} b1 None (beginning_in w start end b.slot)) is.uncoded
@@ -119,7 +119,7 @@ module _ (w : World) (selector start end : ℕ) (b : Beginning) where
       turn None h = absurd h
       turn (Some bytes) h = ap (option_map (λ (range : Span). let x : Beginning = record { slot = b.slot; range = range } in x)) (told_range (length bytes) start end b.range (record { low = is.low; inside = h; high = is.high; from = is.from; to = is.to; some = is.some }))
 
-pub begin_law : BeginLaw
+pub begin_law : C.BeginLaw
 begin_law w selector start end b = (begins w selector start end b, may_begin w selector start end b)
 
 -- The new heap.
@@ -127,42 +127,42 @@ begin_law w selector start end b = (begins w selector start end b, may_begin w s
 abbrev none : Option Entry
 none = None
 
-no_entry : (n q : ℕ) → get_or (replicate n none) q None ≡ None
+no_entry : (n q : ℕ) → C.get_or (C.replicate n none) q None ≡ None
 no_entry zero q = refl
 no_entry (suc n) zero = refl
 no_entry (suc n) (suc q) = no_entry n q
 
-nothing_by_id : (give : ℕ → Entry → Object) (n id : ℕ) → by_id give id (replicate n none) ≡ []
+nothing_by_id : (give : ℕ → Entry → C.Object) (n id : ℕ) → by_id give id (C.replicate n none) ≡ []
 nothing_by_id give zero id = refl
 nothing_by_id give (suc n) id = nothing_by_id give n (id + 1)
 
-pub new_heap_law : NewHeapLaw
-new_heap_law range bytes = λ i. record (heap_in (new_table range) bytes) { objects = finmap.from_entries (nothing_by_id (λ id e. record { kind = e.kind; locks = e.locks; bytes = None }) LOCAL_ENTRIES 0 i) }
+pub new_heap_law : C.NewHeapLaw
+new_heap_law range bytes = λ i. record (C.heap_in (new_table range) bytes) { objects = finmap.from_entries (nothing_by_id (λ id e. record { kind = e.kind; locks = e.locks; bytes = None }) LOCAL_ENTRIES 0 i) }
 
 -- it is one, wherever it may begin
-pub new_local : (w : World) (selector start end : ℕ) (b : Beginning) → MayBegin w selector start end b → IsSomeAnd (segment_bytes w b.slot) (IsLocalIn (new_table b.range))
+pub new_local : (w : World) (selector start end : ℕ) (b : Beginning) → MayBegin w selector start end b → IsSomeAnd (segment_bytes w b.slot) (C.IsLocalIn (new_table b.range))
 new_local w selector start end b may = turn (segment_bytes w b.slot) may.inside
   where
-    entries_none : (q : ℕ) → entry_at (new_table b.range) q ≡ None
+    entries_none : (q : ℕ) → C.entry_at (new_table b.range) q ≡ None
     entries_none q = no_entry LOCAL_ENTRIES q
 
-    sound : IsSound (new_table b.range)
+    sound : C.IsSound (new_table b.range)
     sound = record {
-      table = record { laid = omega (arith, may.some); ids = AllPairs-from_EachPair (λ (x y : Block). x.id ≡ y.id → ⊥) [] tt; holds = All-from_Each (λ (x : Block). IsSomeAnd (entry_at (new_table b.range) x.id) (λ e. x.hold ≡ hold_of_entry e)) [] tt };
-      grained = All-from_Each (λ (x : Block). IsMultiple LOCAL_GRAIN x.at × IsMultiple LOCAL_GRAIN x.size) [] tt;
+      table = record { laid = omega (arith, may.some); ids = C.AllPairs-from_EachPair (λ (x y : Block). x.id ≡ y.id → ⊥) [] tt; holds = C.All-from_Each (λ (x : Block). IsSomeAnd (C.entry_at (new_table b.range) x.id) (λ e. x.hold ≡ C.hold_of_entry e)) [] tt };
+      grained = C.All-from_Each (λ (x : Block). IsMultiple C.LOCAL_GRAIN x.at × IsMultiple C.LOCAL_GRAIN x.size) [] tt;
       low_grained = may.from.0;
-      in_order = λ q. sym (ap (λ e. is_listed e None) (entries_none q));
-      no_repeats = AllPairs-from_EachPair (λ a b. a ≡ b → ⊥) [] tt;
-      counted = λ q. subst (λ e. IfSome e (IsCountedBy None)) (sym (entries_none q)) tt;
+      in_order = λ q. sym (ap (λ e. C.is_listed e None) (entries_none q));
+      no_repeats = C.AllPairs-from_EachPair (λ a b. a ≡ b → ⊥) [] tt;
+      counted = λ q. subst (λ e. IfSome e (C.IsCountedBy None)) (sym (entries_none q)) tt;
     }
 
-    named : (bytes : List ℕ) → AreNamed (heap_in (new_table b.range) bytes)
-    named bytes q = subst (λ (h : Heap). IfSome (object_at h q) (λ o. is_fixed o.kind ≡ true → is_some o.bytes ≡ true)) (sym (new_heap_law b.range bytes))
-        (subst (λ (p : Option Object). IfSome p (λ o. is_fixed o.kind ≡ true → is_some o.bytes ≡ true)) (sym (get-empty nat_cmp q)) tt)
+    named : (bytes : List ℕ) → C.AreNamed (C.heap_in (new_table b.range) bytes)
+    named bytes q = subst (λ (h : Heap). IfSome (C.object_at h q) (λ o. C.is_fixed o.kind ≡ true → is_some o.bytes ≡ true)) (sym (new_heap_law b.range bytes))
+        (subst (λ (p : Option C.Object). IfSome p (λ o. C.is_fixed o.kind ≡ true → is_some o.bytes ≡ true)) (sym (C.get-empty C.nat_cmp q)) tt)
 
-    is_local : IsLocalTable (new_table b.range)
-    is_local = record { sound = sound; grain = refl; entries = length-replicate LOCAL_ENTRIES none; low = omega (arith, may.low, may.from.1); high = omega (arith, may.to.1, may.high) }
+    is_local : C.IsLocalTable (new_table b.range)
+    is_local = record { sound = sound; grain = refl; entries = C.length-replicate LOCAL_ENTRIES none; low = omega (arith, may.low, may.from.1); high = omega (arith, may.to.1, may.high) }
 
-    turn : (p : Option (List ℕ)) → IsSomeAnd p (λ bytes. end ≤ length bytes) → IsSomeAnd p (IsLocalIn (new_table b.range))
+    turn : (p : Option (List ℕ)) → IsSomeAnd p (λ bytes. end ≤ length bytes) → IsSomeAnd p (C.IsLocalIn (new_table b.range))
     turn None h = absurd h
     turn (Some bytes) h = (is_local, omega (arith, may.to.1, h), named bytes)

@@ -1,11 +1,12 @@
 -- What a local call makes of the heap that DS names.
-use Rattle.w16_machine.proofs.Common.{◌≡◌, ℕ, inl, inr, Option, Some, None, refl, sym, ap, ◌∙◌, subst, cases_eq, Heap, Table, heap_in, inserted_other, Reply, Word, Done, World, LocalHeap, segment_bytes}
-use Rattle.w16_machine.proofs.Common.{heap_of, local_in, current_heap, new_table, LocalCommand, LocalStep, DS, IsHeap, AreLocalHeaps, asks_for_room, ending, Lengthens, longer, with_longer, true, local_options}
+use Rattle.w16_machine.proofs
+use proofs.Common as C
+use proofs.Common.{◌≡◌, ℕ, inl, inr, Option, Some, None, refl, sym, ap, ◌∙◌, subst, Heap, Table, heap_in, Reply, Word, Done, World, LocalHeap, heap_of, local_in, current_heap, LocalCommand, DS, ending, true, local_options}
+use proofs.LocalFacts.{IsThere, current_there, there_local, heap_here, acted_there, became_there}
+use proofs.LocalBegins.{begin_law}
+use proofs.LocalGrown.{grown_there, grown_world, longer_is}
+use proofs.LocalOutcomes.{IsGrown, IsMade, IsRoomed, IsStepped, IsDone, Outcome, grow_asks, outcome}
 use Rattle.std.specs.FinMap as finmap
-use Rattle.w16_machine.proofs.LocalFacts.{IsThere, current_there, there_local, heap_here, acted_there, became_there}
-use Rattle.w16_machine.proofs.LocalBegins.{begin_law}
-use Rattle.w16_machine.proofs.LocalGrown.{grown_there, grown_world, longer_is}
-use Rattle.w16_machine.proofs.LocalOutcomes.{IsGrown, IsMade, IsRoomed, IsStepped, IsDone, Outcome, grow_asks, outcome}
 
 -- the heap that was done something in is the current one
 in_place : (P : Heap → Type 0) (new : World) (slot : ℕ) (after mine : LocalHeap) → local_in new slot ≡ Some after → IsThere new mine → mine.slot ≡ slot → P (heap_of mine) → P (heap_of after)
@@ -15,20 +16,20 @@ in_place P new slot after mine e now placed holds =
     subst (λ (h : LocalHeap). P (heap_of h)) is_after holds
 
 -- what holds once room is made in the heap, which then ends later, holds where it grew for that
-pub grown_becomes : (old : World) → AreLocalHeaps old → (at : LocalHeap) → current_heap old ≡ Some at → (command : LocalCommand) (new : World) (P : Heap → Type 0)
-    → ((answer : ℕ) (next : Heap) (end : ℕ) → asks_for_room command ≡ true → IsHeap (ending (heap_of at) end) → IsMade (heap_of at) (ending (heap_of at) end) command answer next → P next)
+pub grown_becomes : (old : World) → C.AreLocalHeaps old → (at : LocalHeap) → current_heap old ≡ Some at → (command : LocalCommand) (new : World) (P : Heap → Type 0)
+    → ((answer : ℕ) (next : Heap) (end : ℕ) → C.asks_for_room command ≡ true → C.IsHeap (ending (heap_of at) end) → IsMade (heap_of at) (ending (heap_of at) end) command answer next → P next)
     → (answer : ℕ) (after : LocalHeap) → local_in new at.slot ≡ Some after → IsGrown old command answer new at → P (heap_of after)
 grown_becomes old is at c command new P made answer after e g =
     let there : IsThere old at = current_there old at c in
     let size : ℕ = g.grows.size in
-    let l : Lengthens old at (local_options g.flags) size = g.grows.lengthens in
-    let mine : LocalHeap = longer at size l.bytes in
-    let next : World = with_longer old l.handles mine in
-    let now : AreLocalHeaps next = grown_world old is at there (local_options g.flags) size g.grows.growth.served.longer l in
+    let l : C.Lengthens old at (local_options g.flags) size = g.grows.lengthens in
+    let mine : LocalHeap = C.longer at size l.bytes in
+    let next : World = C.with_longer old l.handles mine in
+    let now : C.AreLocalHeaps next = grown_world old is at there (local_options g.flags) size g.grows.growth.served.longer l in
     let here : IsThere next mine = grown_there old is at there (local_options g.flags) size g.grows.growth.served.longer l in
     let same : heap_of mine ≡ ending (heap_of at) size = longer_is old is at there (local_options g.flags) size g.grows.growth.served.longer l in
     in_place P new at.slot after (record { slot = at.slot; table = g.grows.grown.table; bytes = g.grows.grown.bytes }) e (acted_there next new mine (IsMade (heap_of at) (heap_of mine) command answer) here g.grows.grown) refl
-    (made answer (heap_in g.grows.grown.table g.grows.grown.bytes) size (grow_asks command g.may) (subst IsHeap same (heap_here next now mine here))
+    (made answer (heap_in g.grows.grown.table g.grows.grown.bytes) size (grow_asks command g.may) (subst C.IsHeap same (heap_here next now mine here))
     (subst (λ heap. IsMade (heap_of at) heap command answer (heap_in g.grows.grown.table g.grows.grown.bytes)) same g.grows.grown.acted))
 
 module _ (old : World) (at : LocalHeap) (c : current_heap old ≡ Some at) (P : Heap → Type 0) (same : P (heap_of at)) where
@@ -52,11 +53,11 @@ module _ (old : World) (at : LocalHeap) (c : current_heap old ≡ Some at) (P : 
 
     called : (after : LocalHeap) → local_in new at.slot ≡ Some after → Outcome old command answer new → P (heap_of after)
     called after e (inl stays) = same_heap after (sym (there_local old at here) ∙ ap (λ (w : World). local_in w at.slot) (sym stays) ∙ e)
-    called after e (inr (inl init)) = elim (cases_eq at.slot init.begun.slot) [
+    called after e (inr (inl init)) = elim (C.cases_eq at.slot init.begun.slot) [
       | inl f ↦ absurd (taken (sym here.table ∙ ap (finmap.get old.heaps) f ∙ ((begin_law old init.selector init.start init.end init.begun).0 init.may).none))
       | inr d ↦ same_heap after (sym (there_local new at (record {
-        table = ap (λ (w : World). finmap.get w.heaps at.slot) init.rest ∙ inserted_other old.heaps init.begun.slot (new_table init.begun.range) at.slot d ∙ here.table;
-        bytes = ap (λ (w : World). segment_bytes w at.slot) init.rest ∙ here.bytes;
+        table = ap (λ (w : World). finmap.get w.heaps at.slot) init.rest ∙ C.inserted_other old.heaps init.begun.slot (C.new_table init.begun.range) at.slot d ∙ here.table;
+        bytes = ap (λ (w : World). C.segment_bytes w at.slot) init.rest ∙ here.bytes;
         inside = here.inside;
       })) ∙ e)
     ]
@@ -69,7 +70,7 @@ module _ (old : World) (at : LocalHeap) (c : current_heap old ≡ Some at) (P : 
 pub current_becomes : (old : World) (at : LocalHeap) → current_heap old ≡ Some at → (command : LocalCommand) (reply : Reply) (new : World) (P : Heap → Type 0) → P (heap_of at)
     → ((next : Heap) → IsStepped (heap_of at) command next → P next) → ((answer : ℕ) (next : Heap) → IsRoomed (heap_of at) command answer next → P next)
     → ((answer : ℕ) (after : LocalHeap) → local_in new at.slot ≡ Some after → IsGrown old command answer new at → P (heap_of after))
-    → (after : LocalHeap) → local_in new at.slot ≡ Some after → LocalStep old command reply new → P (heap_of after)
+    → (after : LocalHeap) → local_in new at.slot ≡ Some after → C.LocalStep old command reply new → P (heap_of after)
 current_becomes old at c (DS selector) Done new P same stepped roomed grown after e step = same_heap old at c P same after (sym (there_local old at (current_there old at c)) ∙ ap (λ (w : World). local_in w at.slot) (sym step) ∙ e)
 current_becomes old at c command (Word answer) new P same stepped roomed grown after e step = called old at c P same command answer stepped (roomed answer) new (grown answer) after e (outcome old command answer new step)
 current_becomes old at c command reply new P same stepped roomed grown after e step = absurd step

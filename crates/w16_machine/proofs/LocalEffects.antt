@@ -1,14 +1,14 @@
 -- What local calls do.
-use Rattle.w16_machine.proofs.Common.{◌≡◌, ℕ, ◌+◌, ◌-◌, ◌<◌, inl, inr, true, false, cond, not, ◌||◌, ◌&&◌, ◌==◌, nat_lt, MatchBool, MatchOption, IfOk, IsSomeAnd, Bool, List, Option, Some, None, Result, Ok, Err, option_map, unwrap_or, is_some, refl}
-use Rattle.w16_machine.proofs.Common.{sym, ap, ◌∙◌, subst, arith, ne_eqb, false≢true, Refusal, Kind, Heap, Object, IsHeap, object_at, is_fixed, is_discardable, is_in_order, with_object, with_ordered, with_newest, newest, touched, removed, absent}
-use Rattle.w16_machine.proofs.Common.{after_lock, after_unlock, after_free, after_discard, after_modify, has_flag, discard_is, get-update_same, inserted_here, taken_here, bytes_in, Reply, Word, Done, LMEM_MOVEABLE, LMEM_MODIFY, World, LocalHeap}
-use Rattle.w16_machine.proofs.Common.{LocalObject, Becomes, Acts, Stays, heap_of, object_named, LocalCommand, Answers, LocalStep, Leaves, GivesUp, OnNamed, ModifiesObject, DiscardsObject, SizesObject, moveable_or_discardable, near_pointer, lock_refused}
-use Rattle.w16_machine.proofs.Common.{locks_left, LocalReAlloc, LocalDiscard, LocalFree, LocalLock, LocalUnlock, DS, Left, Ends, IsLocalNamed, LockLaw, UnlockLaw, FreeLaw, ModifyLaw, DiscardLaw, RefusedLaw, discard_is_refused, is_refused, named_by}
+use Rattle.w16_machine.proofs
+use proofs.Common as C
+use proofs.LocalFacts as M
+use proofs.Common.{◌≡◌, ℕ, ◌+◌, ◌-◌, ◌<◌, inl, inr, true, false, cond, not, ◌||◌, ◌&&◌, ◌==◌, nat_lt, MatchBool, IfOk, Bool, List, Option, Some, None, Result, Ok, Err, is_some, refl, sym, ap, ◌∙◌, subst, arith, false≢true, Refusal, Kind, Heap, Object, object_at, is_fixed, is_discardable}
+use proofs.Common.{with_object, with_ordered, with_newest, newest, touched, removed, absent, after_lock, after_unlock, after_free, after_discard, after_modify, has_flag, inserted_here, Reply, Word, Done, LMEM_MOVEABLE, LMEM_MODIFY, World, LocalHeap, LocalObject, Becomes, Acts, Stays}
+use proofs.Common.{heap_of, object_named, LocalStep, Leaves, GivesUp, ModifiesObject, DiscardsObject, SizesObject, moveable_or_discardable, near_pointer, lock_refused, locks_left, LocalReAlloc, DS, Left, Ends, discard_is_refused}
+use proofs.LocalNamed.{not_fixed}
+use Rattle.w16_model.proofs.Absence.{answer as discard_answer}
 use Rattle.std.specs.FinMap as finmap
 use Rattle.w16_model.specs.declared.Refusal.TheVariants as refusals
-use Rattle.w16_model.proofs.Absence.{answer as discard_answer}
-use Rattle.w16_machine.proofs.LocalFacts.{IsThere, current_there, named_there, there_local, heap_here, acted_there, became_there}
-use Rattle.w16_machine.proofs.LocalNamed.{not_fixed}
 
 -- What each step of a heap leaves where nothing refuses it.
 module _ (heap : Heap) (id : ℕ) (o : Object) (there : object_at heap id ≡ Some o) where
@@ -29,7 +29,7 @@ module _ (heap : Heap) (id : ℕ) (o : Object) (there : object_at heap id ≡ So
       ]) there
       ∙ ap (λ b. cond {A = Result Heap Refusal} (not b) (Err refusals.Absent) (cond (is_fixed o.kind) (Err refusals.Fixed) (cond (o.locks == 255) (Err refusals.LockFull) (Ok locked)))) has
       ∙ ap (λ b. cond {A = Result Heap Refusal} b (Err refusals.Fixed) (cond (o.locks == 255) (Err refusals.LockFull) (Ok locked))) loose
-      ∙ ap (λ b. cond {A = Result Heap Refusal} b (Err refusals.LockFull) (Ok locked)) (ne_eqb o.locks 255 (λ e. omega (arith, e, few)))
+      ∙ ap (λ b. cond {A = Result Heap Refusal} b (Err refusals.LockFull) (Ok locked)) (C.ne_eqb o.locks 255 (λ e. omega (arith, e, few)))
 
   unlock_is : is_fixed o.kind ≡ false → after_unlock heap id ≡ Ok unlocked
   unlock_is loose =
@@ -52,39 +52,39 @@ module _ (heap : Heap) (id : ℕ) (o : Object) (there : object_at heap id ≡ So
       ∙ ap (λ b. cond {A = Result Heap Refusal} b (Err refusals.Fixed) (Ok (modified kind))) asked
 
   discarded_is : is_discardable o.kind ≡ true → o.locks ≡ 0 → after_discard heap id ≡ Ok (absent heap id)
-  discarded_is may free = discard_is heap id (Some o) there ∙ ap (λ k. discard_answer heap id (nat_lt 0 k) (is_discardable o.kind)) free ∙ ap (discard_answer heap id false) may
+  discarded_is may free = C.discard_is heap id (Some o) there ∙ ap (λ k. discard_answer heap id (nat_lt 0 k) (is_discardable o.kind)) free ∙ ap (discard_answer heap id false) may
 
   -- an object with bytes has a place, and a discardable one is in the order
-  module _ (is : IsHeap heap) (has : is_some o.bytes ≡ true) where
+  module _ (is : C.IsHeap heap) (has : is_some o.bytes ≡ true) where
     placed : finmap.get heap.places id ≡ Some (near_pointer heap id)
-    placed = turn (finmap.get heap.places id) (is.at_bytes id ∙ ap (λ p. is_some (bytes_in p)) there ∙ has)
+    placed = turn (finmap.get heap.places id) (is.at_bytes id ∙ ap (λ p. is_some (C.bytes_in p)) there ∙ has)
       where
-        turn : (p : Option ℕ) → is_some p ≡ true → p ≡ Some (unwrap_or p 0)
+        turn : (p : Option ℕ) → is_some p ≡ true → p ≡ Some (C.unwrap_or p 0)
         turn None e = cc
         turn (Some at) e = refl
 
     touched_newest : is_discardable o.kind ≡ true → touched id heap.order ≡ newest id heap.order
-    touched_newest may = ap (λ b. cond {A = List ℕ} b (newest id heap.order) heap.order) (is.in_order id ∙ ap is_in_order there ∙ (λ i. may i && has i))
+    touched_newest may = ap (λ b. cond {A = List ℕ} b (newest id heap.order) heap.order) (is.in_order id ∙ ap C.is_in_order there ∙ (λ i. may i && has i))
 
 -- In the current heap.
 module _ (old new : World) (name : ℕ) (n : LocalObject) (named : object_named old name ≡ Some n) where
-  here : IsThere old n.heap
-  here = current_there old n.heap (named_there old name n named).0
+  here : M.IsThere old n.heap
+  here = M.current_there old n.heap (M.named_there old name n named).0
 
   -- what is so of the heap that a step leaves
   became : (heap : Heap) (Q : Heap → Type 0) → Q heap → Becomes old n.heap heap new → Left new n.heap Q
   became heap Q so b =
       let mine : LocalHeap = record { slot = n.heap.slot; table = b.table; bytes = n.heap.bytes } in
-      subst (λ p. IsSomeAnd p (λ after. Q (heap_of after))) (sym (there_local new mine (became_there old new n.heap heap here b))) (subst Q (sym b.same) so)
+      subst (λ p. C.IsSomeAnd p (λ after. Q (heap_of after))) (sym (M.there_local new mine (M.became_there old new n.heap heap here b))) (subst Q (sym b.same) so)
 
   acted : (heap : Heap) (Q : Heap → Type 0) → Q heap → Acts old n.heap (λ next. next ≡ heap) new → Left new n.heap Q
   acted heap Q so a =
       let mine : LocalHeap = record { slot = n.heap.slot; table = a.table; bytes = a.bytes } in
-      subst (λ p. IsSomeAnd p (λ after. Q (heap_of after))) (sym (there_local new mine (acted_there old new n.heap (λ next. next ≡ heap) here a))) (subst Q (sym a.acted) so)
+      subst (λ p. C.IsSomeAnd p (λ after. Q (heap_of after))) (sym (M.there_local new mine (M.acted_there old new n.heap (λ next. next ≡ heap) here a))) (subst Q (sym a.acted) so)
 
   -- a step is taken where it is known what it leaves
-  on : (otherwise answer : ℕ) (so : LocalObject → Type 0) → OnNamed old name otherwise answer new so → so n
-  on otherwise answer so step = subst (λ p. MatchOption p (Stays old otherwise answer new) so) named step
+  on : (otherwise answer : ℕ) (so : LocalObject → Type 0) → C.OnNamed old name otherwise answer new so → so n
+  on otherwise answer so step = subst (λ p. C.MatchOption p (Stays old otherwise answer new) so) named step
 
   taken : (r : Result Heap Refusal) (heap : Heap) (value : Heap → ℕ) (refused : Refusal → ℕ) (answer : ℕ) → r ≡ Ok heap → Leaves old n.heap r value refused answer new → (answer ≡ value heap) × Becomes old n.heap heap new
   taken r heap value refused answer e l = subst (λ r. Leaves old n.heap r value refused answer new) e l
@@ -92,14 +92,14 @@ module _ (old new : World) (name : ℕ) (n : LocalObject) (named : object_named 
   given : (r : Result Heap Refusal) (heap : Heap) (value refused answer : ℕ) → r ≡ Ok heap → GivesUp old n.heap r value refused answer new → (answer ≡ value) × Acts old n.heap (λ next. next ≡ heap) new
   given r heap value refused answer e g = subst (λ r. GivesUp old n.heap r value refused answer new) e g
 
-pub lock_law : LockLaw
+pub lock_law : C.LockLaw
 lock_law old new name n o (Word answer) is m has loose few step =
     let heap : Heap = heap_of n.heap in
     let pointer : ℕ = near_pointer heap n.id in
     let left : Heap = locked heap n.id o m.there in
     let l : (answer ≡ pointer) × Becomes old n.heap left new = taken old new name n m.named (after_lock heap n.id) left (λ _. pointer) (lock_refused pointer) answer (lock_is heap n.id o m.there has loose few)
     (on old new name n m.named 0 answer (λ o. Leaves old o.heap (after_lock (heap_of o.heap) o.id) (λ _. near_pointer (heap_of o.heap) o.id) (lock_refused (near_pointer (heap_of o.heap) o.id)) answer new) step) in
-    let is_heap : IsHeap heap = heap_here old is n.heap (here old new name n m.named) in
+    let is_heap : C.IsHeap heap = M.heap_here old is n.heap (here old new name n m.named) in
     record {
       counted = became old new name n m.named left (λ next. object_at next n.id ≡ Some (record o { locks = o.locks + 1 })) (inserted_here heap.objects n.id (record o { locks = o.locks + 1 }) n.id refl) l.1;
       newest = λ may. became old new name n m.named left (λ next. next.order ≡ newest n.id heap.order) (touched_newest heap n.id o m.there is_heap has may) l.1;
@@ -107,7 +107,7 @@ lock_law old new name n o (Word answer) is m has loose few step =
     }
 lock_law old new name n o reply is m has loose few step = absurd step
 
-pub unlock_law : UnlockLaw
+pub unlock_law : C.UnlockLaw
 unlock_law old new name n o (Word answer) m loose step =
     let heap : Heap = heap_of n.heap in
     let less : Object = record o { locks = o.locks - 1 } in
@@ -116,23 +116,23 @@ unlock_law old new name n o (Word answer) m loose step =
     let l : (answer ≡ locks_left n.id left) × Becomes old n.heap left new = taken old new name n m.named (after_unlock heap n.id) left (locks_left n.id) (λ _. 0) answer (unlock_is heap n.id o m.there loose)
     (on old new name n m.named 0 answer (λ o. Leaves old o.heap (after_unlock (heap_of o.heap) o.id) (locks_left o.id) (λ _. 0) answer new) step) in (
       became old new name n m.named left (λ next. object_at next n.id ≡ Some less) here l.1,
-      ap Word (l.0 ∙ ap (λ (p : Option Object). cond (nat_lt 0 (unwrap_or (option_map (λ (o : Object). o.locks) p) 0)) 1 0) here),
+      ap Word (l.0 ∙ ap (λ (p : Option Object). cond (nat_lt 0 (C.unwrap_or (C.option_map (λ (o : Object). o.locks) p) 0)) 1 0) here),
     )
 unlock_law old new name n o reply m loose step = absurd step
 
-pub free_law : FreeLaw
+pub free_law : C.FreeLaw
 free_law old new name n o (Word answer) m free step =
     let heap : Heap = heap_of n.heap in
     let g : (answer ≡ 0) × Acts old n.heap (λ next. next ≡ removed heap n.id) new = given old new name n m.named (after_free heap n.id) (removed heap n.id) 0 name answer (free_is heap n.id o m.there free)
     (on old new name n m.named name answer (λ o. GivesUp old o.heap (after_free (heap_of o.heap) o.id) 0 name answer new) step) in
-    (acted old new name n m.named (removed heap n.id) (λ next. object_at next n.id ≡ None) (taken_here heap.objects n.id n.id refl) g.1, ap Word g.0)
+    (acted old new name n m.named (removed heap n.id) (λ next. object_at next n.id ≡ None) (C.taken_here heap.objects n.id n.id refl) g.1, ap Word g.0)
 free_law old new name n o reply m free step = absurd step
 
 -- LocalReAlloc
 abbrev Reallocs : World → ℕ → ℕ → ℕ → ℕ → World → LocalObject → Type 0
 Reallocs old name size flags answer new o = MatchBool (has_flag flags LMEM_MODIFY) (ModifiesObject old name flags answer new o) (MatchBool (size == 0) (DiscardsObject old name flags answer new o) (SizesObject old size flags answer new o))
 
-pub modify_law : ModifyLaw
+pub modify_law : C.ModifyLaw
 modify_law old new name size flags n o (Word answer) m modify loose step =
     let heap : Heap = heap_of n.heap in
     let kind : Kind = moveable_or_discardable flags in
@@ -143,20 +143,20 @@ modify_law old new name size flags n o (Word answer) m modify loose step =
 modify_law old new name size flags n o reply m modify loose step = absurd step
 
 -- a size of 0
-discards : (old new : World) (name flags : ℕ) (n : LocalObject) (o : Object) (answer : ℕ) → IsLocalNamed old name n o → has_flag flags LMEM_MODIFY ≡ false → has_flag flags LMEM_MOVEABLE ≡ true → is_discardable o.kind ≡ true → o.locks ≡ 0
-    → OnNamed old name 0 answer new (Reallocs old name 0 flags answer new) → Ends new n (Some (record o { bytes = None })) × (answer ≡ name)
+discards : (old new : World) (name flags : ℕ) (n : LocalObject) (o : Object) (answer : ℕ) → C.IsLocalNamed old name n o → has_flag flags LMEM_MODIFY ≡ false → has_flag flags LMEM_MOVEABLE ≡ true → is_discardable o.kind ≡ true → o.locks ≡ 0
+    → C.OnNamed old name 0 answer new (Reallocs old name 0 flags answer new) → Ends new n (Some (record o { bytes = None })) × (answer ≡ name)
 discards old new name flags n o answer m keeps moveable may free step =
     let heap : Heap = heap_of n.heap in
     let bare : Object → Object = (λ o. record o { bytes = None }) in
     let asked : DiscardsObject old name flags answer new n = subst (λ b. MatchBool b (ModifiesObject old name flags answer new n) (DiscardsObject old name flags answer new n)) keeps (on old new name n m.named 0 answer (Reallocs old name 0 flags answer new) step) in
     let g : (answer ≡ name) × Acts old n.heap (λ next. next ≡ absent heap n.id) new = given old new name n m.named (after_discard heap n.id) (absent heap n.id) name 0 answer (discarded_is heap n.id o m.there may free)
     (subst (λ b. MatchBool b (GivesUp old n.heap (after_discard heap n.id) name 0 answer new) (Stays old 0 answer new)) moveable asked) in
-    (acted old new name n m.named (absent heap n.id) (λ next. object_at next n.id ≡ Some (bare o)) (get-update_same heap.objects n.id bare ∙ ap (option_map bare) m.there) g.1, g.0)
+    (acted old new name n m.named (absent heap n.id) (λ next. object_at next n.id ≡ Some (bare o)) (C.get-update_same heap.objects n.id bare ∙ ap (C.option_map bare) m.there) g.1, g.0)
 
-pub discard_law : DiscardLaw
+pub discard_law : C.DiscardLaw
 discard_law old new name command n o reply m (inl e) may free step = turn reply (subst (λ c. LocalStep old c reply new) e step)
   where
-    turn : (reply : Reply) → LocalStep old (LocalDiscard name) reply new → Ends new n (Some (record o { bytes = None })) × (reply ≡ Word name)
+    turn : (reply : Reply) → LocalStep old (C.LocalDiscard name) reply new → Ends new n (Some (record o { bytes = None })) × (reply ≡ Word name)
     turn (Word answer) step = let d : Ends new n (Some (record o { bytes = None })) × (answer ≡ name) = discards old new name LMEM_MOVEABLE n o answer m refl refl may free step in (d.0, ap Word d.1)
     turn other step = absurd step
 discard_law old new name command n o reply m (inr (flags, keeps, moveable, e)) may free step = turn reply (subst (λ c. LocalStep old c reply new) e step)
@@ -210,7 +210,7 @@ module _ (heap : Heap) (id : ℕ) (o : Object) (there : object_at heap id ≡ So
   ])) (sym there) (one_never (is_fixed o.kind || is_fixed kind) refusals.Fixed (modified heap id o there kind) (ap (λ b. b || is_fixed kind) r))
 
   no_discard : discard_is_refused o ≡ true → Never (after_discard heap id)
-  no_discard r = subst Never (sym (discard_is heap id (Some o) there)) (discard_never (nat_lt 0 o.locks) (is_discardable o.kind) (absent heap id) r)
+  no_discard r = subst Never (sym (C.discard_is heap id (Some o) there)) (discard_never (nat_lt 0 o.locks) (is_discardable o.kind) (absent heap id) r)
 
 module _ (old new : World) (n : LocalObject) (o : Object) (there : object_at (heap_of n.heap) n.id ≡ Some o) (answer : ℕ) where
   left_so : (r : Result Heap Refusal) (taken : Heap → ℕ) (refused : Refusal → ℕ) → Never r → Leaves old n.heap r taken refused answer new → new ≡ old
@@ -221,7 +221,7 @@ module _ (old new : World) (n : LocalObject) (o : Object) (there : object_at (he
   given_so (Ok heap) taken refused never g = absurd never
   given_so (Err refusal) taken refused never g = g.1
 
-  reallocs_so : (name size flags : ℕ) → is_refused (LocalReAlloc name size flags) o ≡ true → Reallocs old name size flags answer new n → new ≡ old
+  reallocs_so : (name size flags : ℕ) → C.is_refused (LocalReAlloc name size flags) o ≡ true → Reallocs old name size flags answer new n → new ≡ old
   reallocs_so name size flags = modify (has_flag flags LMEM_MODIFY)
     where
       discard : (b : Bool) → (not b || discard_is_refused o) ≡ true → MatchBool b (GivesUp old n.heap (after_discard (heap_of n.heap) n.id) name 0 answer new) (Stays old 0 answer new) → new ≡ old
@@ -237,27 +237,27 @@ module _ (old new : World) (n : LocalObject) (o : Object) (there : object_at (he
       modify true r l = left_so (after_modify (heap_of n.heap) n.id (moveable_or_discardable flags)) (λ _. name) (λ _. name) (no_modify (heap_of n.heap) n.id o there (moveable_or_discardable flags) r) l
       modify false r s = sized (size == 0) r s
 
-module _ (old new : World) (name : ℕ) (n : LocalObject) (o : Object) (m : IsLocalNamed old name n o) (answer : ℕ) where
+module _ (old new : World) (name : ℕ) (n : LocalObject) (o : Object) (m : C.IsLocalNamed old name n o) (answer : ℕ) where
   -- a call's own name names the object
   own : (own : ℕ) → ◌≡◌ {A = Option ℕ} (Some own) (Some name) → object_named old own ≡ Some n
   own other e = let same : other ≡ name = cc in ap (object_named old) same ∙ m.named
 
-  refused : (command : LocalCommand) → named_by command ≡ Some name → is_refused command o ≡ true → Answers old command answer new → new ≡ old
-  refused (LocalLock name) e r step =
+  refused : (command : C.LocalCommand) → C.named_by command ≡ Some name → C.is_refused command o ≡ true → C.Answers old command answer new → new ≡ old
+  refused (C.LocalLock name) e r step =
       let pointer : ℕ = near_pointer (heap_of n.heap) n.id in
       left_so old new n o m.there answer (after_lock (heap_of n.heap) n.id) (λ _. pointer) (lock_refused pointer) (no_lock (heap_of n.heap) n.id o m.there r)
       (on old new name n (own name e) 0 answer (λ o. Leaves old o.heap (after_lock (heap_of o.heap) o.id) (λ _. near_pointer (heap_of o.heap) o.id) (lock_refused (near_pointer (heap_of o.heap) o.id)) answer new) step)
-  refused (LocalUnlock name) e r step =
+  refused (C.LocalUnlock name) e r step =
       left_so old new n o m.there answer (after_unlock (heap_of n.heap) n.id) (locks_left n.id) (λ _. 0) (no_unlock (heap_of n.heap) n.id o m.there r)
       (on old new name n (own name e) 0 answer (λ o. Leaves old o.heap (after_unlock (heap_of o.heap) o.id) (locks_left o.id) (λ _. 0) answer new) step)
-  refused (LocalFree name) e r step =
+  refused (C.LocalFree name) e r step =
       given_so old new n o m.there answer (after_free (heap_of n.heap) n.id) 0 name (no_free (heap_of n.heap) n.id o m.there r)
       (on old new name n (own name e) name answer (λ o. GivesUp old o.heap (after_free (heap_of o.heap) o.id) 0 name answer new) step)
   refused (LocalReAlloc name size flags) e r step = reallocs_so old new n o m.there answer name size flags r (on old new name n (own name e) 0 answer (Reallocs old name size flags answer new) step)
-  refused (LocalDiscard name) e r step = reallocs_so old new n o m.there answer name 0 LMEM_MOVEABLE r (on old new name n (own name e) 0 answer (Reallocs old name 0 LMEM_MOVEABLE answer new) step)
+  refused (C.LocalDiscard name) e r step = reallocs_so old new n o m.there answer name 0 LMEM_MOVEABLE r (on old new name n (own name e) 0 answer (Reallocs old name 0 LMEM_MOVEABLE answer new) step)
   refused other e r step = absurd (false≢true r)
 
-pub refused_law : RefusedLaw
+pub refused_law : C.RefusedLaw
 refused_law old new (DS selector) Done name n o asked m r step = absurd (false≢true r)
 refused_law old new command (Word answer) name n o asked m r step = refused old new name n o m answer command asked r step
 refused_law old new command reply name n o asked m r step = absurd step

@@ -1,6 +1,7 @@
 -- Local heaps worked out by hand: where they may begin, names, flags, and the room of small heaps.
-use Rattle.w16_machine.proofs.Common.{◌≡◌, ℕ, true, false, [], ◌∷◌, Some, None, refl, Block, Hold, Pinned, Loose, Kind, Fixed, Moveable, Discardable, Snapshot, snapshot, needed, fits_in_place, prefix_for}
-use Rattle.w16_machine.proofs.Common.{growth_for, room, Heap, Object, range_in, rounded_up, name_of, local_kind, local_options, local_flags_of, lock_refused, is_absent_asked, moveable_or_discardable, growth_flags}
+use Rattle.w16_machine.proofs
+use proofs.Common as C
+use proofs.Common.{◌≡◌, ℕ, true, false, [], ◌∷◌, Some, None, refl, Block, Hold, Pinned, Loose, Kind, Fixed, Moveable, Discardable, Snapshot, snapshot, prefix_for, room, Heap, range_in, rounded_up, name_of, local_kind, local_options, local_flags_of, lock_refused, is_absent_asked}
 use Rattle.std.specs.FinMap as finmap
 use Rattle.w16_model.specs.declared.Refusal.TheVariants as refusals
 
@@ -47,7 +48,7 @@ past_words = refl
 sizes : (rounded_up 0 ≡ 0) × (rounded_up 1 ≡ 4) × (rounded_up 10 ≡ 12) × (rounded_up 65535 ≡ 65536)
 sizes = (refl, refl, refl, refl)
 
-abbrev object_of : Kind → Object
+abbrev object_of : Kind → C.Object
 object_of kind = record { kind = kind; locks = 0; bytes = Some (7 ∷ []) }
 
 -- a moveable or discardable object is named by its entry, wherever it stands, and a fixed one by its place
@@ -67,7 +68,7 @@ by_place heap id = refl
 kinds : (local_kind 3906 ≡ Discardable) × (local_kind 2050 ≡ Discardable) × (local_kind 16386 ≡ Moveable) × (local_kind 3840 ≡ Fixed)
 kinds = (refl, refl, refl, refl)
 
-modified : (moveable_or_discardable 256 ≡ Discardable) × (moveable_or_discardable 2 ≡ Moveable)
+modified : (C.moveable_or_discardable 256 ≡ Discardable) × (C.moveable_or_discardable 2 ≡ Moveable)
 modified = (refl, refl)
 
 ways : (local_options 66 ≡ record { compact = true; discard = true; zero = true; may_move = true }) × (local_options 48 ≡ record { compact = false; discard = false; zero = false; may_move = false })
@@ -102,11 +103,11 @@ abbrev full : Snapshot
 full = snapshot 4 64 (block 0 4 12 Pinned ∷ block 1 16 8 Loose ∷ block 2 24 40 Loose ∷ []) (1 ∷ [])
 
 -- 4 bytes more cost the discard, and without one there is no room
-one_discard : (needed full 4 None ≡ Some 1) × (prefix_for full 4 None (local_options 34) ≡ None) × (prefix_for full 4 None (local_options 18) ≡ None)
+one_discard : (C.needed full 4 None ≡ Some 1) × (prefix_for full 4 None (local_options 34) ≡ None) × (prefix_for full 4 None (local_options 18) ≡ None)
 one_discard = (refl, refl, refl)
 
 -- what no discard makes free is refused
-too_much : needed full 52 None ≡ None
+too_much : C.needed full 52 None ≡ None
 too_much = refl
 
 -- Once the new object stands behind it the fixed one doesn't grow where it stands. With LMEM_MOVEABLE it gets the 4 bytes that are free,
@@ -114,7 +115,7 @@ too_much = refl
 abbrev after : Snapshot
 after = snapshot 4 64 (block 0 4 12 Pinned ∷ block 3 16 4 Loose ∷ block 2 24 40 Loose ∷ []) []
 
-no_growth : (fits_in_place after 16 0 ≡ false) × (growth_for after 16 0 (local_options 2) ≡ Some 0) × (growth_for after 20 0 (local_options 2) ≡ None)
+no_growth : (C.fits_in_place after 16 0 ≡ false) × (C.growth_for after 16 0 (local_options 2) ≡ Some 0) × (C.growth_for after 20 0 (local_options 2) ≡ None)
 no_growth = (refl, refl, refl)
 
 -- A heap with a moveable object of 40 bytes, which ends at 64 where its segment does: 40 more have no room in it, and have some where it ends at 96.
@@ -133,5 +134,5 @@ grown_twice : (prefix_for (two 96) 96 (Some 2) (local_options 0) ≡ None) × (p
 grown_twice = (refl, refl, refl)
 
 -- with LMEM_NODISCARD no object of the global heap is discarded for it either
-growths : (growth_flags (local_options 0) ≡ 0) × (growth_flags (local_options 32) ≡ 32)
+growths : (C.growth_flags (local_options 0) ≡ 0) × (C.growth_flags (local_options 32) ≡ 32)
 growths = (refl, refl)

@@ -1,33 +1,29 @@
 -- Local calls for room discard as few as they can, as each heap's requests do.
-use Rattle.w16_machine.proofs.Common.{◌≡◌, ◌≢◌, ℕ, ◌+◌, ◌*◌, ◌<◌, ◌≤◌, ◌⊎◌, inl, inr, Bool, true, false, cond, ◌&&◌, ◌==◌, MatchBool, MatchOption, IsSomeAnd, Option, Some, None, refl, sym, ap, ◌∙◌, subst, arith, ne_eqb, false≢true, Block, block_end, Heap}
-use Rattle.w16_machine.proofs.Common.{Object, IsHeap, blocks, object_at, size_of, is_fixed, MakesRoom, most_room, has_flag, AllocatesFewest, CompactsFewest, LacksRoom, LacksPlace, ReallocatesFewest, allocation_law, compaction_law, lacking, Each-at, Each-from_All}
-use Rattle.w16_machine.proofs.Common.{IsBlockOf, block_member, fewest_law, LMEM_MOVEABLE, LMEM_MODIFY, World, LocalHeap, AreLocalHeaps, Becomes, Acts, Stays, heap_of, local_in, current_heap, name_of, name_at, rounded_up, EntersObject, AllocatesObject}
-use Rattle.w16_machine.proofs.Common.{ResizesObject, AllocatesIn, CompactsIn, ModifiesObject, DiscardsObject, SizesObject, IsRefusedAlloc, IsEmptyFixed, HasNoEntry, is_absent_asked, local_kind, local_options, LocalAlloc, LocalReAlloc, Left, AllocFewest}
-use Rattle.w16_machine.proofs.Common.{ReallocFewest, AllocLaw, ReallocLaw, CompactLaw, is_some, RoomOptions, ending, is_answered, HasNoRoom, Grows, Lengthens, longer, with_longer, AllocatedFewest, ReallocatedFewest, LacksBytes, LacksGrowth, LocalObject}
-use Rattle.w16_machine.proofs.Common.{KeepsRest}
-use Rattle.std.specs.FinMap as finmap
+use Rattle.w16_machine.proofs
+use proofs.Common as C
+use proofs.Common.{◌≡◌, ◌≢◌, ℕ, ◌+◌, ◌*◌, ◌<◌, ◌≤◌, ◌⊎◌, inl, inr, Bool, true, false, cond, ◌&&◌, ◌==◌, MatchBool, MatchOption, IsSomeAnd, Option, Some, None, refl, sym, ap, ◌∙◌, subst, arith, ne_eqb, false≢true, Block, Heap, Object, object_at, MakesRoom, most_room, has_flag}
+use proofs.Common.{CompactsFewest, LacksRoom, ReallocatesFewest, fewest_law, World, LocalHeap, AreLocalHeaps, Becomes, Acts, Stays, heap_of, current_heap, name_at, rounded_up, EntersObject, AllocatesObject, ResizesObject, SizesObject, is_absent_asked, local_options, Left, ending, Grows}
+use proofs.Common.{longer, AllocatedFewest, ReallocatedFewest, LacksBytes}
+use proofs.LocalFacts.{IsThere, current_there, named_there, there_local, heap_here, acted_there, became_there}
+use proofs.LocalFewestLonger.{alloc_lacks, grows_fewest, lacks_growth, later_heap, realloc_lacks}
+use proofs.LocalGrown.{grown_current, grown_world, longer_is}
+use proofs.{LocalFrame.acts_rest, LocalNames.block_placed, LocalOutcomes.outcome, LocalWorlds.local_world}
 use Rattle.w16_model.specs.Request.{Reallocates, ReallocatesObject}
-use Rattle.w16_machine.proofs.LocalFacts.{IsThere, current_there, named_there, there_local, heap_here, acted_there, became_there}
-use Rattle.w16_machine.proofs.LocalFewestLonger.{alloc_lacks, grows_fewest, lacks_growth, later_heap, realloc_lacks}
-use Rattle.w16_machine.proofs.LocalFrame.{acts_rest}
-use Rattle.w16_machine.proofs.LocalGrown.{grown_current, grown_world, longer_is}
-use Rattle.w16_machine.proofs.LocalNames.{block_placed}
-use Rattle.w16_machine.proofs.LocalOutcomes.{outcome}
-use Rattle.w16_machine.proofs.LocalWorlds.{local_world}
+use Rattle.std.specs.FinMap as finmap
 
 -- no name is 0
-pub some_name : (heap : Heap) → IsHeap heap → 4 ≤ heap.lo → (id : ℕ) → name_at heap id ≡ Some 0 → ⊥
+pub some_name : (heap : Heap) → C.IsHeap heap → 4 ≤ heap.lo → (id : ℕ) → name_at heap id ≡ Some 0 → ⊥
 some_name heap is low id = turn (object_at heap id)
   where
     by_kind : (f : Bool) → cond f (finmap.get heap.places id) (Some (4 * id + 2)) ≡ Some 0 → ⊥
     by_kind true e =
-        let x : (x : Block) × IsBlockOf heap x × (x.id ≡ id) × (x.at ≡ 0) = block_placed heap is id 0 e in
-        omega (arith, low, x.3, (Each-at (λ x. (heap.lo ≤ x.at) × (0 < x.size) × (block_end x ≤ heap.hi)) (blocks heap) (Each-from_All _ (blocks heap) is.placed.inside) x.0 (block_member heap x.0 x.1)).0)
+        let x : (x : Block) × C.IsBlockOf heap x × (x.id ≡ id) × (x.at ≡ 0) = block_placed heap is id 0 e in
+        omega (arith, low, x.3, (C.Each-at (λ x. (heap.lo ≤ x.at) × (0 < x.size) × (C.block_end x ≤ heap.hi)) (C.blocks heap) (C.Each-from_All _ (C.blocks heap) is.placed.inside) x.0 (C.block_member heap x.0 x.1)).0)
     by_kind false e = let same : 4 * id + 2 ≡ 0 = cc in omega (arith, same)
 
-    turn : (p : Option Object) → ◌≡◌ {A = Option ℕ} (elim p [ None ↦ None | Some o ↦ name_of heap id o ]) (Some 0) → ⊥
+    turn : (p : Option Object) → ◌≡◌ {A = Option ℕ} (elim p [ None ↦ None | Some o ↦ C.name_of heap id o ]) (Some 0) → ⊥
     turn None e = cc
-    turn (Some o) e = by_kind (is_fixed o.kind) e
+    turn (Some o) e = by_kind (C.is_fixed o.kind) e
 
 module _ (old : World) (is : AreLocalHeaps old) (at : LocalHeap) (c : current_heap old ≡ Some at) (new : World) where
   here : IsThere old at
@@ -41,7 +37,7 @@ module _ (old : World) (is : AreLocalHeaps old) (at : LocalHeap) (c : current_he
 
   -- and what one leaves that stays
   left_same : (Q : Heap → Type 0) → new ≡ old → Q (heap_of at) → Left new at Q
-  left_same Q same q = subst (λ p. IsSomeAnd p (λ after. Q (heap_of after))) (sym (ap (λ (w : World). local_in w at.slot) same ∙ there_local old at here)) q
+  left_same Q same q = subst (λ p. IsSomeAnd p (λ after. Q (heap_of after))) (sym (ap (λ (w : World). C.local_in w at.slot) same ∙ there_local old at here)) q
 
   -- in a world with local heaps no answered name is 0
   not_0 : AreLocalHeaps new → (P : Heap → Type 0) (id answer : ℕ) → ((heap : Heap) → P heap → name_at heap id ≡ Some answer) → Acts old at P new → answer ≢ 0
@@ -54,18 +50,18 @@ module _ (old : World) (is : AreLocalHeaps old) (at : LocalHeap) (c : current_he
   there = current_there old at c
 
   -- an allocation of bytes that isn't answered in the heap, or in it as it ends later
-  no_room : (flags size : ℕ) → HasNoRoom (heap_of at) flags size → LacksRoom (heap_of at) None (rounded_up size) (local_options flags)
-  no_room flags size lacks = lacking (heap_of at) (heap_here old is at there) (rounded_up size) None (local_options flags) (local_options flags).compact (local_options flags).discard refl refl lacks.1
+  no_room : (flags size : ℕ) → C.HasNoRoom (heap_of at) flags size → LacksRoom (heap_of at) None (rounded_up size) (local_options flags)
+  no_room flags size lacks = C.lacking (heap_of at) (heap_here old is at there) (rounded_up size) None (local_options flags) (local_options flags).compact (local_options flags).discard refl refl lacks.1
 
-  no_later : (flags size id : ℕ) → object_at (heap_of at) id ≡ None → (e : ℕ) → at.table.hi ≤ e → is_answered (ending (heap_of at) e) id (rounded_up size) (local_options flags) ≡ false
+  no_later : (flags size id : ℕ) → object_at (heap_of at) id ≡ None → (e : ℕ) → at.table.hi ≤ e → C.is_answered (ending (heap_of at) e) id (rounded_up size) (local_options flags) ≡ false
       → LacksRoom (ending (heap_of at) e) None (rounded_up size) (local_options flags)
   no_later flags size id free e le refused = alloc_lacks (ending (heap_of at) e) (later_heap (heap_of at) e (heap_here old is at there) le) id free (rounded_up size) (local_options flags) refused
 
-  allocs : AreLocalHeaps new → (flags size answer : ℕ) → AllocatesIn old flags size answer new at → AllocFewest old at flags size answer new
+  allocs : AreLocalHeaps new → (flags size answer : ℕ) → C.AllocatesIn old flags size answer new at → C.AllocFewest old at flags size answer new
   allocs now flags size answer (inl refused) = record { answered = λ some _. absurd (some refused.1.0); refused = λ _. (refused.1.1, reason refused.0) }
     where
-      reason : IsRefusedAlloc (heap_of at) flags size → IsEmptyFixed flags size ⊎ HasNoEntry (heap_of at)
-          ⊎ (LacksRoom (heap_of at) None (rounded_up size) (local_options flags) × LacksGrowth old at (local_options flags) (λ heap. LacksRoom heap None (rounded_up size) (local_options flags)))
+      reason : C.IsRefusedAlloc (heap_of at) flags size → C.IsEmptyFixed flags size ⊎ C.HasNoEntry (heap_of at)
+          ⊎ (LacksRoom (heap_of at) None (rounded_up size) (local_options flags) × C.LacksGrowth old at (local_options flags) (λ heap. LacksRoom heap None (rounded_up size) (local_options flags)))
       reason (inl fixed) = inl fixed
       reason (inr full) = inr (inl full)
   allocs now flags size answer (inr (id, free, inr (lacks, inl short))) = record {
@@ -88,14 +84,14 @@ module _ (old : World) (is : AreLocalHeaps old) (at : LocalHeap) (c : current_he
     refused = λ none. absurd (not_0 next grown mine still new now (AllocatesObject (heap_of mine) flags size id answer) id answer (λ heap m. m.named) acts none);
   }
     where
-      l : Lengthens old at (local_options flags) g.size
+      l : C.Lengthens old at (local_options flags) g.size
       l = g.lengthens
 
       mine : LocalHeap
       mine = longer at g.size l.bytes
 
       next : World
-      next = with_longer old l.handles mine
+      next = C.with_longer old l.handles mine
 
       grown : AreLocalHeaps next
       grown = grown_world old is at there (local_options flags) g.size g.growth.served.longer l
@@ -105,15 +101,15 @@ module _ (old : World) (is : AreLocalHeaps old) (at : LocalHeap) (c : current_he
 
       acts : Acts next mine (AllocatesObject (heap_of mine) flags size id answer) new
       acts = subst (λ b. MatchBool b ((heap : Heap) × EntersObject (heap_of mine) flags id answer heap × Becomes next mine heap new) (Acts next mine (AllocatesObject (heap_of mine) flags size id answer) new))
-          (ap (λ b. b && has_flag flags LMEM_MOVEABLE) (ne_eqb size 0 (λ e. absurd (omega (arith, e, lacks.0))))) g.grown
+          (ap (λ b. b && has_flag flags C.LMEM_MOVEABLE) (ne_eqb size 0 (λ e. absurd (omega (arith, e, lacks.0))))) g.grown
 
       served : AllocatedFewest (heap_of mine) new at id (rounded_up size) (local_options flags) answer
-      served = left next grown mine still new (AllocatesObject (heap_of mine) flags size id answer) (λ heap. (name_at heap id ≡ Some answer) × AllocatesFewest (heap_of mine) id (rounded_up size) (local_options flags) true heap)
-          (λ heap m. (m.named, allocation_law (heap_of mine) heap id (rounded_up size) (local_kind flags) 0 (local_options flags) true (heap_here next grown mine (current_there next mine still)) m.allocated)) acts
+      served = left next grown mine still new (AllocatesObject (heap_of mine) flags size id answer) (λ heap. (name_at heap id ≡ Some answer) × C.AllocatesFewest (heap_of mine) id (rounded_up size) (local_options flags) true heap)
+          (λ heap m. (m.named, C.allocation_law (heap_of mine) heap id (rounded_up size) (C.local_kind flags) 0 (local_options flags) true (heap_here next grown mine (current_there next mine still)) m.allocated)) acts
   allocs now flags size answer (inr (id, free, inl makes)) = turn (is_absent_asked flags size) refl makes
     where
       with_bytes : 0 < size → is_absent_asked flags size ≡ false
-      with_bytes some = ap (λ b. b && has_flag flags LMEM_MOVEABLE) (ne_eqb size 0 (λ e. absurd (omega (arith, e, some))))
+      with_bytes some = ap (λ b. b && has_flag flags C.LMEM_MOVEABLE) (ne_eqb size 0 (λ e. absurd (omega (arith, e, some))))
 
       -- the name of an object without bytes isn't 0
       entered_some : (next : Heap) → EntersObject (heap_of at) flags id answer next → Becomes old at next new → answer ≢ 0
@@ -122,74 +118,74 @@ module _ (old : World) (is : AreLocalHeaps old) (at : LocalHeap) (c : current_he
           let mine_there : IsThere new mine = became_there old new at next there b in
           some_name (heap_of mine) (heap_here new now mine mine_there) b.is_local.low id (ap (λ (h : Heap). name_at h id) b.same ∙ e.named ∙ ap Some zero)
 
-      turn : (b : Bool) → is_absent_asked flags size ≡ b → MatchBool b ((next : Heap) × EntersObject (heap_of at) flags id answer next × Becomes old at next new) (Acts old at (AllocatesObject (heap_of at) flags size id answer) new) → AllocFewest old at flags size answer new
+      turn : (b : Bool) → is_absent_asked flags size ≡ b → MatchBool b ((next : Heap) × EntersObject (heap_of at) flags id answer next × Becomes old at next new) (Acts old at (AllocatesObject (heap_of at) flags size id answer) new) → C.AllocFewest old at flags size answer new
       turn true t e = record { answered = λ _ some. absurd (false≢true (sym (with_bytes some) ∙ t)); refused = λ none. absurd (entered_some e.0 e.1 e.2 none) }
       turn false t acts = record {
         answered = λ _ some. (
           id,
-          inl (left old is at c new (AllocatesObject (heap_of at) flags size id answer) (λ next. (name_at next id ≡ Some answer) × AllocatesFewest (heap_of at) id (rounded_up size) (local_options flags) true next)
-              (λ next m. (m.named, allocation_law (heap_of at) next id (rounded_up size) (local_kind flags) 0 (local_options flags) true (heap_here old is at there) m.allocated)) acts),
+          inl (left old is at c new (AllocatesObject (heap_of at) flags size id answer) (λ next. (name_at next id ≡ Some answer) × C.AllocatesFewest (heap_of at) id (rounded_up size) (local_options flags) true next)
+              (λ next m. (m.named, C.allocation_law (heap_of at) next id (rounded_up size) (C.local_kind flags) 0 (local_options flags) true (heap_here old is at there) m.allocated)) acts),
         );
         refused = λ none. absurd (not_0 old is at c new now (AllocatesObject (heap_of at) flags size id answer) id answer (λ next m. m.named) acts none);
       }
 
-  compacts : (size answer : ℕ) → CompactsIn old size answer new at → Left new at (CompactsFewest (heap_of at) size answer)
+  compacts : (size answer : ℕ) → C.CompactsIn old size answer new at → Left new at (CompactsFewest (heap_of at) size answer)
   compacts size answer = turn (size == 0) refl
     where
       turn : (b : Bool) → (size == 0) ≡ b → MatchBool b (Stays old (most_room (heap_of at)) answer new) (Acts old at (MakesRoom (heap_of at) size answer) new) → Left new at (CompactsFewest (heap_of at) size answer)
       turn true e s = left_same old is at c new (CompactsFewest (heap_of at) size answer) s.1
-          (compaction_law (heap_of at) (heap_of at) size answer (heap_here old is at there) (subst (λ b. MatchBool b ((answer ≡ most_room (heap_of at)) × (heap_of at ≡ heap_of at)) (MakesRoom (heap_of at) size answer (heap_of at))) (sym e) (s.0, refl)))
+          (C.compaction_law (heap_of at) (heap_of at) size answer (heap_here old is at there) (subst (λ b. MatchBool b ((answer ≡ most_room (heap_of at)) × (heap_of at ≡ heap_of at)) (MakesRoom (heap_of at) size answer (heap_of at))) (sym e) (s.0, refl)))
       turn false e a = left old is at c new (MakesRoom (heap_of at) size answer) (CompactsFewest (heap_of at) size answer)
-          (λ next m. compaction_law (heap_of at) next size answer (heap_here old is at there) (subst (λ b. MatchBool b ((answer ≡ most_room (heap_of at)) × (next ≡ heap_of at)) (MakesRoom (heap_of at) size answer next)) (sym e) m)) a
+          (λ next m. C.compaction_law (heap_of at) next size answer (heap_here old is at there) (subst (λ b. MatchBool b ((answer ≡ most_room (heap_of at)) × (next ≡ heap_of at)) (MakesRoom (heap_of at) size answer next)) (sym e) m)) a
 
-pub local_alloc_law : AllocLaw
+pub local_alloc_law : C.AllocLaw
 local_alloc_law old new flags size answer at is step c =
-    allocs old is at c new (local_world old is (LocalAlloc flags size) answer new (outcome old (LocalAlloc flags size) answer new step)) flags size answer
-    (subst (λ p. MatchOption p (Stays old 0 answer new) (AllocatesIn old flags size answer new)) c step)
+    allocs old is at c new (local_world old is (C.LocalAlloc flags size) answer new (outcome old (C.LocalAlloc flags size) answer new step)) flags size answer
+    (subst (λ p. MatchOption p (Stays old 0 answer new) (C.AllocatesIn old flags size answer new)) c step)
 
-pub local_compact_law : CompactLaw
-local_compact_law old new size answer at is step c = compacts old is at c new size answer (subst (λ p. MatchOption p (Stays old 0 answer new) (CompactsIn old size answer new)) c step)
+pub local_compact_law : C.CompactLaw
+local_compact_law old new size answer at is step c = compacts old is at c new size answer (subst (λ p. MatchOption p (Stays old 0 answer new) (C.CompactsIn old size answer new)) c step)
 
 -- A reallocation to a size above 0.
-module _ (old : World) (is : AreLocalHeaps old) (o : LocalObject) (c : current_heap old ≡ Some o.heap) (new : World) (now : AreLocalHeaps new) (size flags answer : ℕ) where
+module _ (old : World) (is : AreLocalHeaps old) (o : C.LocalObject) (c : current_heap old ≡ Some o.heap) (new : World) (now : AreLocalHeaps new) (size flags answer : ℕ) where
   at_hand : IsThere old o.heap
   at_hand = current_there old o.heap c
 
-  heap : IsHeap (heap_of o.heap)
+  heap : C.IsHeap (heap_of o.heap)
   heap = heap_here old is o.heap at_hand
 
-  abbrev options : RoomOptions
+  abbrev options : C.RoomOptions
   options = local_options flags
 
   abbrev n : ℕ
   n = rounded_up size
 
-  refusal : (p : Option Object) → IsSomeAnd p (λ before. ReallocatesFewest (heap_of o.heap) o.id n before options false (heap_of o.heap)) → IsSomeAnd p (λ before. (size_of before < n) × LacksPlace (heap_of o.heap) o.id n before options)
+  refusal : (p : Option Object) → IsSomeAnd p (λ before. ReallocatesFewest (heap_of o.heap) o.id n before options false (heap_of o.heap)) → IsSomeAnd p (λ before. (C.size_of before < n) × C.LacksPlace (heap_of o.heap) o.id n before options)
   refusal None h = absurd h
-  refusal (Some before) h = let r : (size_of before < n) × LacksPlace (heap_of o.heap) o.id n before options × (heap_of o.heap ≡ heap_of o.heap) = h.refused refl in (r.0, r.1)
+  refusal (Some before) h = let r : (C.size_of before < n) × C.LacksPlace (heap_of o.heap) o.id n before options × (heap_of o.heap ≡ heap_of o.heap) = h.refused refl in (r.0, r.1)
 
   -- it lacks the bytes in the heap, and in it as it ends later
   module _ (lacks : Reallocates (heap_of o.heap) o.id n options false (heap_of o.heap)) where
     lacks_now : LacksBytes o n options (heap_of o.heap)
     lacks_now = refusal (object_at (heap_of o.heap) o.id) (fewest_law (heap_of o.heap) (heap_of o.heap) o.id n options false heap lacks)
 
-    is_there : (p : Option Object) → IsSomeAnd p (λ x. ReallocatesObject (heap_of o.heap) o.id x n options false (heap_of o.heap)) → is_some p ≡ true
+    is_there : (p : Option Object) → IsSomeAnd p (λ x. ReallocatesObject (heap_of o.heap) o.id x n options false (heap_of o.heap)) → C.is_some p ≡ true
     is_there None h = absurd h
     is_there (Some x) h = refl
 
-    lacks_later : (e : ℕ) → o.heap.table.hi ≤ e → is_answered (ending (heap_of o.heap) e) o.id n options ≡ false → LacksBytes o n options (ending (heap_of o.heap) e)
+    lacks_later : (e : ℕ) → o.heap.table.hi ≤ e → C.is_answered (ending (heap_of o.heap) e) o.id n options ≡ false → LacksBytes o n options (ending (heap_of o.heap) e)
     lacks_later e le refused = realloc_lacks (ending (heap_of o.heap) e) (later_heap (heap_of o.heap) e heap le) o.heap o.id n options lacks.some lacks.rounded (is_there (object_at (heap_of o.heap) o.id) lacks.object) refused
 
   -- once it is longer
   module _ (g : Grows old o.heap o.id n options (λ next longer. Acts next longer (ResizesObject (heap_of longer) o.id size flags answer) new)) where
-    abbrev l : Lengthens old o.heap options g.size
+    abbrev l : C.Lengthens old o.heap options g.size
     l = g.lengthens
 
     abbrev mine : LocalHeap
     mine = longer o.heap g.size l.bytes
 
     abbrev next : World
-    next = with_longer old l.handles mine
+    next = C.with_longer old l.handles mine
 
     grown : AreLocalHeaps next
     grown = grown_world old is o.heap at_hand options g.size g.growth.served.longer l
@@ -205,13 +201,13 @@ module _ (old : World) (is : AreLocalHeaps old) (o : LocalObject) (c : current_h
     served_later : ReallocatedFewest (ending (heap_of o.heap) g.size) new o n options answer
     served_later = subst (λ heap. ReallocatedFewest heap new o n options answer) (longer_is old is o.heap at_hand options g.size g.growth.served.longer l) served
 
-    rest_longer : KeepsRest next new
+    rest_longer : C.KeepsRest next new
     rest_longer = acts_rest next mine still (ResizesObject (heap_of mine) o.id size flags answer) new g.grown
 
     some_answer : answer ≢ 0
     some_answer = not_0 next grown mine still new now (ResizesObject (heap_of mine) o.id size flags answer) o.id answer (λ heap r. r.named) g.grown
 
-  sizes : SizesObject old size flags answer new o → ReallocFewest old o size flags answer new
+  sizes : SizesObject old size flags answer new o → C.ReallocFewest old o size flags answer new
   sizes (inl acts) = record {
     answered = λ _. inl (left old is o.heap c new (ResizesObject (heap_of o.heap) o.id size flags answer)
         (λ next. (name_at next o.id ≡ Some answer) × IsSomeAnd (object_at (heap_of o.heap) o.id) (λ before. ReallocatesFewest (heap_of o.heap) o.id n before options true next))
@@ -227,21 +223,21 @@ module _ (old : World) (is : AreLocalHeaps old) (o : LocalObject) (c : current_h
     refused = λ none. absurd (some_answer g none);
   }
 
-pub local_realloc_law : ReallocLaw
+pub local_realloc_law : C.ReallocLaw
 local_realloc_law old new name size flags answer o is step named unmodified some =
-    turn (has_flag flags LMEM_MODIFY) unmodified (size == 0) (ne_eqb size 0 (λ e. absurd (omega (arith, e, some))))
+    turn (has_flag flags C.LMEM_MODIFY) unmodified (size == 0) (ne_eqb size 0 (λ e. absurd (omega (arith, e, some))))
     (subst (λ p. MatchOption p (Stays old 0 answer new)
-    (λ o. MatchBool (has_flag flags LMEM_MODIFY) (ModifiesObject old name flags answer new o)
-    (MatchBool (size == 0) (DiscardsObject old name flags answer new o) (SizesObject old size flags answer new o))))
+    (λ o. MatchBool (has_flag flags C.LMEM_MODIFY) (C.ModifiesObject old name flags answer new o)
+    (MatchBool (size == 0) (C.DiscardsObject old name flags answer new o) (SizesObject old size flags answer new o))))
     named step)
   where
     c : current_heap old ≡ Some o.heap
     c = (named_there old name o named).0
 
     now : AreLocalHeaps new
-    now = local_world old is (LocalReAlloc name size flags) answer new (outcome old (LocalReAlloc name size flags) answer new step)
+    now = local_world old is (C.LocalReAlloc name size flags) answer new (outcome old (C.LocalReAlloc name size flags) answer new step)
 
-    turn : (m : Bool) → m ≡ false → (z : Bool) → z ≡ false → MatchBool m (ModifiesObject old name flags answer new o) (MatchBool z (DiscardsObject old name flags answer new o) (SizesObject old size flags answer new o)) → ReallocFewest old o size flags answer new
+    turn : (m : Bool) → m ≡ false → (z : Bool) → z ≡ false → MatchBool m (C.ModifiesObject old name flags answer new o) (MatchBool z (C.DiscardsObject old name flags answer new o) (SizesObject old size flags answer new o)) → C.ReallocFewest old o size flags answer new
     turn true e z f s = absurd (false≢true (sym e))
     turn false e true f s = absurd (false≢true (sym f))
     turn false e false f s = sizes old is o c new now size flags answer s

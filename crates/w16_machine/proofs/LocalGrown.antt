@@ -1,28 +1,16 @@
 -- A local heap that has grown with its segment: what both are then, and the world with them.
-use Rattle.w16_machine.proofs.Common.{◌≡◌, ℕ, ◌+◌, ◌/◌, ◌≤◌, ◌==◌, inl, inr, Bool, true, false, cond, IsSomeAnd, List, [], ◌∷◌, length, take, Option, Some, None, unwrap_or, refl, sym, ap, ◌∙◌, subst, arith, cases_eq}
-use Rattle.w16_machine.proofs.Common.{take_all, Object, AreResized, bytes_at, object_at, ending, Handles, AreHandles, slot_of_selector, Table, IsSound, has_flag, inserted_here, inserted_other, World, LocalHeap}
-use Rattle.w16_machine.proofs.Common.{AreLocalHeaps, IsLocalIn, IsLocalTable, heap_of, left_in, local_in, current_heap, IsLongerSize, Lengthens, growth_flags, longer, with_longer, LAST_LOCAL_END, ◌≢◌, bytes_in}
+use Rattle.w16_machine.proofs
+use proofs.Common as C
+use proofs.Common.{◌≡◌, ℕ, ◌+◌, ◌/◌, ◌≤◌, ◌==◌, inl, inr, Bool, true, false, cond, IsSomeAnd, List, [], ◌∷◌, length, take, Option, Some, None, refl, sym, ap, ◌∙◌, subst, arith, Object, AreResized, bytes_at, object_at, ending, Handles, AreHandles, slot_of_selector, Table, IsSound, World}
+use proofs.Common.{LocalHeap, IsLocalIn, heap_of, left_in, local_in, current_heap, IsLongerSize, growth_flags, ◌≢◌}
+use proofs.LocalFacts.{IsThere, local_here, local_there, there_local, object_of}
+use proofs.{LocalLeft.IsLocalAt, LocalLeft.heaps_after, LocalNamed.named_in}
 use Rattle.std.specs.Prelude.{drop}
-use Rattle.std.proofs.Common.{take-take}
-use Rattle.std.proofs.lemmas.List.{drop_all}
-use Rattle.w16_model.specs.declared.Block.{Block}
-use Rattle.w16_model.specs.declared.RoomOptions.{RoomOptions}
+use Rattle.std.proofs.{Common.take-take, lemmas.List.drop_all}
 use Rattle.w16_model.specs.declared.TheConstants.{REACH, GMEM_MODIFY, GMEM_NODISCARD}
-use Rattle.w16_model.specs.Calls.{rounded_size}
-use Rattle.w16_model.specs.Effects.{HasNewSize}
-use Rattle.w16_model.specs.Gap.{IsLaid, block_end}
-use Rattle.w16_model.specs.Handles.{handle_of, selector_of, slot_of_handle}
-use Rattle.w16_model.specs.Reallocation.{IsResized}
-use Rattle.w16_model.specs.Resizes.{GlobalReAllocs, realloc_options}
-use Rattle.w16_model.proofs.KeptHandles.{moved_handles}
-use Rattle.w16_model.proofs.Naming.{names_law}
-use Rattle.w16_model.proofs.NewSize.{size_law}
-use Rattle.w16_model.proofs.Ranges.{range_law}
-use Rattle.w16_model.proofs.ResizedHandles.{resize_law, one_slot_law}
+use Rattle.w16_model.specs.{declared.Block.Block, declared.RoomOptions.RoomOptions, Calls.rounded_size, Effects.HasNewSize, Gap.IsLaid, Gap.block_end, Handles.handle_of, Handles.selector_of, Handles.slot_of_handle, Reallocation.IsResized, Resizes.GlobalReAllocs, Resizes.realloc_options}
+use Rattle.w16_model.proofs.{KeptHandles.moved_handles, Naming.names_law, NewSize.size_law, Ranges.range_law, ResizedHandles.resize_law, ResizedHandles.one_slot_law}
 use Rattle.w16_loading.specs.Modules.{with_handles}
-use Rattle.w16_machine.proofs.LocalFacts.{IsThere, local_here, local_there, there_local, object_of}
-use Rattle.w16_machine.proofs.LocalLeft.{IsLocalAt, heaps_after}
-use Rattle.w16_machine.proofs.LocalNamed.{named_in}
 
 laid_later : (lo hi end : ℕ) (bs : List Block) → IsLaid lo hi bs → hi ≤ end → IsLaid lo end bs
 laid_later lo hi end [] laid le = omega (arith, laid, le)
@@ -43,19 +31,19 @@ later_sound t end s le = record {
   counted = s.counted;
 }
 
-pub later_local : (t : Table) (end : ℕ) → IsLocalTable t → t.hi ≤ end → end ≤ LAST_LOCAL_END → IsLocalTable (record t { hi = end })
+pub later_local : (t : Table) (end : ℕ) → C.IsLocalTable t → t.hi ≤ end → end ≤ C.LAST_LOCAL_END → C.IsLocalTable (record t { hi = end })
 later_local t end is le most = record { sound = later_sound t end is.sound le; grain = is.grain; entries = is.entries; low = is.low; high = most }
 
 -- the flags of a growth change no kind
-pub plain_flags : (options : RoomOptions) → has_flag (growth_flags options) GMEM_MODIFY ≡ false
+pub plain_flags : (options : RoomOptions) → C.has_flag (growth_flags options) GMEM_MODIFY ≡ false
 plain_flags options = turn options.discard
   where
-    turn : (b : Bool) → has_flag (cond b 0 GMEM_NODISCARD) GMEM_MODIFY ≡ false
+    turn : (b : Bool) → C.has_flag (cond b 0 GMEM_NODISCARD) GMEM_MODIFY ≡ false
     turn true = refl
     turn false = refl
 
 -- one slot is enough for the size
-pub rounded_few : (size : ℕ) → size ≤ LAST_LOCAL_END → rounded_size size ≤ REACH
+pub rounded_few : (size : ℕ) → size ≤ C.LAST_LOCAL_END → rounded_size size ≤ REACH
 rounded_few size most = omega (arith, most)
 
 -- a handle's slot is told by it alone
@@ -128,9 +116,9 @@ module _ (old : World) (are : AreHandles old.loading.handles) (at : LocalHeap) (
 
         of_object : (o : Object) (p : Option Object) → object_at handles.heap at.slot ≡ p → IsSomeAnd p (IsResized zero (rounded_size size) o) → (bytes : List ℕ) × (bytes_at handles.heap at.slot ≡ Some bytes)
         of_object o None e h = absurd h
-        of_object o (Some p) e h = of_bytes (unwrap_or o.bytes []) p.bytes (ap bytes_in e) h.bytes
+        of_object o (Some p) e h = of_bytes (C.unwrap_or o.bytes []) p.bytes (ap C.bytes_in e) h.bytes
 
-module _ (old : World) (are : AreHandles old.loading.handles) (at : LocalHeap) (there : IsThere old at) (options : RoomOptions) (size : ℕ) (is_size : IsLongerSize at size) (l : Lengthens old at options size) where
+module _ (old : World) (are : AreHandles old.loading.handles) (at : LocalHeap) (there : IsThere old at) (options : RoomOptions) (size : ℕ) (is_size : IsLongerSize at size) (l : C.Lengthens old at options size) where
   abbrev any : Bool
   any = (realloc_options (growth_flags options)).zero
 
@@ -145,7 +133,7 @@ module _ (old : World) (are : AreHandles old.loading.handles) (at : LocalHeap) (
           let here : IsSomeAnd (object_at l.handles.heap at.slot) (IsResized any (rounded_size size) o.0) =
           segment_resized old are at there options size is_size l.handle l.named l.answer l.answered l.handles l.reallocated o.0 o.1 in
           let r : IsResized any (rounded_size size) o.0 p.0 = subst (λ q. IsSomeAnd q (IsResized any (rounded_size size) o.0)) p.1 here in
-          let b : AreResized any (rounded_size size) at.bytes l.bytes = resized_bytes p.0.bytes p.2 (subst (λ q. IsSomeAnd p.0.bytes (AreResized any (rounded_size size) (unwrap_or q []))) o.2 r.bytes) in
+          let b : AreResized any (rounded_size size) at.bytes l.bytes = resized_bytes p.0.bytes p.2 (subst (λ q. IsSomeAnd p.0.bytes (AreResized any (rounded_size size) (C.unwrap_or q []))) o.2 r.bytes) in
           record {
             before = o.0;
             was = o.1;
@@ -156,11 +144,11 @@ module _ (old : World) (are : AreHandles old.loading.handles) (at : LocalHeap) (
             kind = r.kind;
             locks = r.locks;
             long = b.long ∙ rounded old are at there options size is_size;
-            start = b.same ∙ take_all (rounded_size size) at.bytes (omega (arith, rounded old are at there options size is_size, is_size.more));
+            start = b.same ∙ C.take_all (rounded_size size) at.bytes (omega (arith, rounded old are at there options size is_size, is_size.more));
           }
 
   -- its local heap's objects are those that it had, with their bytes and in their places, and the heap ends later
-  pub same_later : IsSound at.table → heap_of (longer at size l.bytes) ≡ ending (heap_of at) size
+  pub same_later : IsSound at.table → heap_of (C.longer at size l.bytes) ≡ ending (heap_of at) size
   same_later sound = ap (λ heap. ending heap size) ((range_law at.table at.table.hi (length at.bytes + length l.bytes) at.bytes l.bytes sound.table (record { below = below; above = above })).0 (omega arith))
     where
       below : take at.table.hi l.bytes ≡ take at.table.hi at.bytes
@@ -169,16 +157,16 @@ module _ (old : World) (are : AreHandles old.loading.handles) (at : LocalHeap) (
       above : drop (length at.bytes + length l.bytes) l.bytes ≡ drop (length at.bytes + length l.bytes) at.bytes
       above = drop_all (length at.bytes + length l.bytes) l.bytes (omega arith) ∙ sym (drop_all (length at.bytes + length l.bytes) at.bytes (omega arith))
 
-module _ (old : World) (is : AreLocalHeaps old) (at : LocalHeap) (there : IsThere old at) (options : RoomOptions) (size : ℕ) (is_size : IsLongerSize at size) (l : Lengthens old at options size) where
+module _ (old : World) (is : C.AreLocalHeaps old) (at : LocalHeap) (there : IsThere old at) (options : RoomOptions) (size : ℕ) (is_size : IsLongerSize at size) (l : C.Lengthens old at options size) where
   grown : IsGrownObject old at l.handles size l.bytes
   grown = grown_object old is.handles at there options size is_size l
 
   -- The heap that it is, and the world.
   abbrev mine : LocalHeap
-  mine = longer at size l.bytes
+  mine = C.longer at size l.bytes
 
   abbrev next : World
-  next = with_longer old l.handles mine
+  next = C.with_longer old l.handles mine
 
   abbrev left : World
   left = record old { loading = with_handles old.loading (record l.handles { moved = old.loading.handles.moved }); heaps = left_in l.handles.heap old.heaps }
@@ -200,18 +188,18 @@ module _ (old : World) (is : AreLocalHeaps old) (at : LocalHeap) (there : IsTher
   pub grown_handles : AreHandles next.loading.handles
   grown_handles = moved_handles l.handles (resize_law old.loading.handles l.handles l.handle size (growth_flags options) l.answer is.handles l.reallocated) old.loading.handles.moved
 
-  pub grown_world : AreLocalHeaps next
+  pub grown_world : C.AreLocalHeaps next
   grown_world = record {
     handles = grown_handles;
-    heaps = λ q. elim (cases_eq q at.slot) [
-      | inl e ↦ subst (λ t. IsLocalAt t (bytes_at l.handles.heap q)) (sym (inserted_here (left_in l.handles.heap old.heaps) at.slot mine.table q e))
+    heaps = λ q. elim (C.cases_eq q at.slot) [
+      | inl e ↦ subst (λ t. IsLocalAt t (bytes_at l.handles.heap q)) (sym (C.inserted_here (left_in l.handles.heap old.heaps) at.slot mine.table q e))
           (subst (λ k. IsSomeAnd (bytes_at l.handles.heap k) (IsLocalIn mine.table)) (sym e) (subst (λ b. IsSomeAnd b (IsLocalIn mine.table)) (sym l.has) grown_in))
-      | inr d ↦ subst (λ t. IsLocalAt t (bytes_at l.handles.heap q)) (sym (inserted_other (left_in l.handles.heap old.heaps) at.slot mine.table q d)) ((heaps_after old left is grown_handles refl).heaps q)
+      | inr d ↦ subst (λ t. IsLocalAt t (bytes_at l.handles.heap q)) (sym (C.inserted_other (left_in l.handles.heap old.heaps) at.slot mine.table q d)) ((heaps_after old left is grown_handles refl).heaps q)
     ];
   }
 
   pub grown_there : IsThere next mine
-  grown_there = record { table = inserted_here (left_in l.handles.heap old.heaps) at.slot mine.table at.slot refl; bytes = l.has; inside = inside }
+  grown_there = record { table = C.inserted_here (left_in l.handles.heap old.heaps) at.slot mine.table at.slot refl; bytes = l.has; inside = inside }
 
   -- it is the current heap still
   pub grown_current : current_heap old ≡ Some at → current_heap next ≡ Some mine

@@ -1,32 +1,30 @@
 -- The growth of a local heap is a step of loading, but for the number of bytes moved and for the heap's end; so it keeps what holds of every world.
-use Rattle.w16_machine.proofs.Common.{◌≡◌, ℕ, inl, inr, false, length, Option, Some, None, IfSome, refl, sym, ap, ◌∙◌, subst, cond, le-leb, cases_eq, bytes_at, Table, inserted_here, inserted_other, is_code, Err, Format, IsOfFiles, OfResizes}
-use Rattle.w16_machine.proofs.Common.{GlobalReAlloc, Word, world_stays, code_law, World, IsWorld, LocalHeap, RoomOptions, Step, OfLoading, after_loading, left_in, with_handles, IsLongerSize, Lengthens, growth_flags, longer, with_longer, arith}
+use Rattle.w16_machine.proofs
+use proofs.Common as C
+use proofs.Common.{◌≡◌, ℕ, inl, inr, false, Some, None, IfSome, refl, sym, ap, ◌∙◌, subst, cond, Table, is_code, Err, Format, IsOfFiles, OfResizes, GlobalReAlloc, Word, World, IsWorld, Step, with_handles, growth_flags, arith}
+use proofs.LocalGrown.{grown_handles, grown_object, grown_world}
+use proofs.{Loaded.loading_world_kept, LocalFacts.IsThere, LocalLeft.left_is, LocalLeft.left_over, Stepped.handles_step}
 use Rattle.std.specs.FinMap as finmap
-use Rattle.w16_machine.proofs.Loaded.{loading_world_kept}
-use Rattle.w16_machine.proofs.LocalFacts.{IsThere}
-use Rattle.w16_machine.proofs.LocalGrown.{grown_handles, grown_object, grown_world}
-use Rattle.w16_machine.proofs.LocalLeft.{left_is, left_over}
-use Rattle.w16_machine.proofs.Stepped.{handles_step}
 
 -- a format that accepts nothing
 abbrev nothing : Format
 nothing = record { says = λ file. Err 11; contents = λ file number. None; relocated = λ t source table values size. None }
 
-module _ (old : World) (at : LocalHeap) (options : RoomOptions) (size : ℕ) (l : Lengthens old at options size) where
+module _ (old : World) (at : C.LocalHeap) (options : C.RoomOptions) (size : ℕ) (l : C.Lengthens old at options size) where
   -- the world that the reallocation leaves
   abbrev pub reallocated : World
-  reallocated = after_loading old (with_handles old.loading l.handles)
+  reallocated = C.after_loading old (with_handles old.loading l.handles)
 
   -- this is a step
-  pub growth_step : (honest : Type 0) (format : Format) → Step honest format old (OfLoading (OfResizes (GlobalReAlloc l.handle size (growth_flags options)))) (Word l.answer) reallocated
+  pub growth_step : (honest : Type 0) (format : Format) → Step honest format old (C.OfLoading (OfResizes (GlobalReAlloc l.handle size (growth_flags options)))) (Word l.answer) reallocated
   growth_step honest format = (handles_step honest format old.loading l.handles (OfResizes (GlobalReAlloc l.handle size (growth_flags options))) (Word l.answer) tt l.reallocated, refl)
 
-  module _ (is : IsWorld old) (there : IsThere old at) (is_size : IsLongerSize at size) where
-    abbrev mine : LocalHeap
-    mine = longer at size l.bytes
+  module _ (is : IsWorld old) (there : IsThere old at) (is_size : C.IsLongerSize at size) where
+    abbrev mine : C.LocalHeap
+    mine = C.longer at size l.bytes
 
     abbrev grown : World
-    grown = with_longer old l.handles mine
+    grown = C.with_longer old l.handles mine
 
     is_reallocated : IsWorld reallocated
     is_reallocated = loading_world_kept ⊥ nothing old reallocated is (OfResizes (GlobalReAlloc l.handle size (growth_flags options))) (Word l.answer) (growth_step ⊥ nothing).0 refl tt
@@ -34,19 +32,19 @@ module _ (old : World) (at : LocalHeap) (options : RoomOptions) (size : ℕ) (l 
     -- its heap's segment is no code
     still_here : finmap.get reallocated.heaps at.slot ≡ Some at.table
     still_here =
-        left_is l.handles.heap old.heaps at.slot ∙ ap (λ p. left_over p (bytes_at l.handles.heap at.slot)) there.table ∙ ap (left_over (Some at.table)) l.has
-        ∙ ap (λ b. cond {A = Option Table} b (Some at.table) None) (le-leb at.table.hi (length l.bytes) (omega (arith, there.inside, is_size.more, (grown_object old is.heaps.handles at there options size is_size l).long)))
+        left_is l.handles.heap old.heaps at.slot ∙ ap (λ p. left_over p (C.bytes_at l.handles.heap at.slot)) there.table ∙ ap (left_over (Some at.table)) l.has
+        ∙ ap (λ b. cond {A = C.Option Table} b (Some at.table) None) (C.le-leb at.table.hi (C.length l.bytes) (omega (arith, there.inside, is_size.more, (grown_object old is.heaps.handles at there options size is_size l).long)))
 
     uncoded : (slot : ℕ) → IfSome (finmap.get grown.heaps slot) (λ _. is_code l.handles slot ≡ false)
-    uncoded slot = elim (cases_eq slot at.slot) [
-      | inl e ↦ subst (λ p. IfSome p (λ _. is_code l.handles slot ≡ false)) (sym (inserted_here (left_in l.handles.heap old.heaps) at.slot mine.table slot e))
+    uncoded slot = elim (C.cases_eq slot at.slot) [
+      | inl e ↦ subst (λ p. IfSome p (λ _. is_code l.handles slot ≡ false)) (sym (C.inserted_here (C.left_in l.handles.heap old.heaps) at.slot mine.table slot e))
           (subst (λ p. IfSome p (λ _. is_code l.handles slot ≡ false)) (ap (finmap.get reallocated.heaps) e ∙ still_here) (is_reallocated.uncoded slot))
-      | inr d ↦ subst (λ p. IfSome p (λ _. is_code l.handles slot ≡ false)) (sym (inserted_other (left_in l.handles.heap old.heaps) at.slot mine.table slot d)) (is_reallocated.uncoded slot)
+      | inr d ↦ subst (λ p. IfSome p (λ _. is_code l.handles slot ≡ false)) (sym (C.inserted_other (C.left_in l.handles.heap old.heaps) at.slot mine.table slot d)) (is_reallocated.uncoded slot)
     ]
 
     pub growth_world : IsWorld grown
     growth_world = record {
-      loading = world_stays (with_handles old.loading l.handles) is_reallocated.loading grown.loading.handles (grown_handles old is.heaps at there options size is_size l) (λ q. refl) (λ slot kind size code h. h.object);
+      loading = C.world_stays (with_handles old.loading l.handles) is_reallocated.loading grown.loading.handles (grown_handles old is.heaps at there options size is_size l) (λ q. refl) (λ slot kind size code h. h.object);
       heaps = grown_world old is.heaps at there options size is_size l;
       uncoded = uncoded;
     }
@@ -58,4 +56,4 @@ module _ (old : World) (at : LocalHeap) (options : RoomOptions) (size : ℕ) (l 
     }
       where
         after : IsOfFiles format (with_handles old.loading l.handles)
-        after = code_law (Unit {0}) format old.loading (with_handles old.loading l.handles) (OfResizes (GlobalReAlloc l.handle size (growth_flags options))) (Word l.answer) tt is.loading of (growth_step (Unit {0}) format).0
+        after = C.code_law (Unit {0}) format old.loading (with_handles old.loading l.handles) (OfResizes (GlobalReAlloc l.handle size (growth_flags options))) (Word l.answer) tt is.loading of (growth_step (Unit {0}) format).0

@@ -1,22 +1,16 @@
 -- What the reallocation of a segment leaves of the order of use, and of attributes, where one slot is enough.
-use Rattle.w16_machine.proofs.Common.{◌≡◌, ◌≢◌, ℕ, ◌<◌, ◌≤◌, ◌==◌, inl, inr, Bool, true, false, cond, nat_lt, MatchBool, IsSomeAnd, IfSome, List, [], ◌∷◌, length, take, is_some, option_map, unwrap_or, Option, Some, None, refl, sym, ap, ◌∙◌, subst, arith, cases_eq, eq-eqb}
-use Rattle.w16_machine.proofs.Common.{false≢true, Discardable, Heap, Object, bytes_at, bytes_in, object_at, blocks, eligible, is_member, Handles, AreHandles, OnlyLeave, FinMap, nat_cmp, not, ◌&&◌, is_discardable, taken_other, inserted_here, inserted_other, has_flag}
-use Rattle.std.specs.FinMap as finmap
+use Rattle.w16_machine.proofs
+use proofs.Common as C
+use proofs.Common.{◌≡◌, ◌≢◌, ℕ, ◌<◌, ◌≤◌, ◌==◌, inl, inr, Bool, true, false, cond, MatchBool, IsSomeAnd, List, [], ◌∷◌, length, take, is_some, Option, Some, None, refl, sym, ap, ◌∙◌, subst, arith, false≢true, Heap, object_at, Handles, OnlyLeave, not, ◌&&◌}
+use proofs.LocalOneGrowth.{resizes}
 use Rattle.std.specs.Prelude.{◌++◌}
-use Rattle.w16_model.specs.declared.Attributes.{Attributes}
 use Rattle.w16_model.specs.declared.TheConstants.{LARGEST_SIZE, REACH, GMEM_MODIFY}
-use Rattle.w16_model.specs.Calls.{rounded_size}
-use Rattle.w16_model.specs.Handles.{slots_at, slots_for}
-use Rattle.w16_model.specs.Outcomes.{IsNamed}
-use Rattle.w16_model.specs.Owned.{owns}
-use Rattle.w16_model.specs.Reallocation.{KeepsRest}
-use Rattle.w16_model.specs.Request.{Reallocates}
 use Rattle.w16_model.specs.Resizes.{Anew, GetsRun, GlobalReAllocs, IsNull, ReAllocsOwn, ResizesObject, realloc_options, rehoused, with_run}
-use Rattle.w16_model.proofs.Housed.{stays}
-use Rattle.w16_model.proofs.KeptRest.{no_more, rest_law}
-use Rattle.w16_machine.proofs.LocalOneGrowth.{resizes}
+use Rattle.w16_model.specs.{declared.Attributes.Attributes, Calls.rounded_size, Handles.slots_at, Handles.slots_for, Outcomes.IsNamed, Owned.owns, Reallocation.KeepsRest, Request.Reallocates}
+use Rattle.w16_model.proofs.{Housed.stays, KeptRest.no_more, KeptRest.rest_law}
+use Rattle.std.specs.FinMap as finmap
 
-module _ (old new : Handles) (is : AreHandles old) (handle slot size flags answer : ℕ) (o : Object) (bytes : List ℕ) (n : IsNamed old handle slot o) (has : o.bytes ≡ Some bytes) (keeps : has_flag flags GMEM_MODIFY ≡ false)
+module _ (old new : Handles) (is : C.AreHandles old) (handle slot size flags answer : ℕ) (o : C.Object) (bytes : List ℕ) (n : IsNamed old handle slot o) (has : o.bytes ≡ Some bytes) (keeps : C.has_flag flags GMEM_MODIFY ≡ false)
     (some : 0 < size) (few : rounded_size size ≤ REACH) (short : length bytes ≤ REACH) (answers : answer ≢ 0) (step : GlobalReAllocs old handle size flags answer new) where
   -- what it leaves
   abbrev LeavesOrder : Type 0
@@ -28,7 +22,7 @@ module _ (old new : Handles) (is : AreHandles old) (handle slot size flags answe
     here = stays old is slot o n.there (rounded_size size) (realloc_options flags) first few gets
 
     heap_is : new.heap ≡ heap
-    heap_is = ap (λ (h : Handles). h.heap) anew.1 ∙ ap (rehoused heap slot) here ∙ turn (slot == slot) _ (eq-eqb slot slot refl)
+    heap_is = ap (λ (h : Handles). h.heap) anew.1 ∙ ap (rehoused heap slot) here ∙ turn (slot == slot) _ (C.eq-eqb slot slot refl)
       where
         turn : (b : Bool) (moved : Heap) → b ≡ true → cond b heap moved ≡ heap
         turn true moved e = refl
@@ -37,18 +31,18 @@ module _ (old new : Handles) (is : AreHandles old) (handle slot size flags answe
     rest : KeepsRest old.heap slot (rounded_size size) o (realloc_options flags) heap
     rest = subst (λ p. IsSomeAnd p (λ o. KeepsRest old.heap slot (rounded_size size) o (realloc_options flags) heap)) n.there (rest_law old.heap heap slot (rounded_size size) (realloc_options flags) is.heap r)
 
-    without_bytes : (q : ℕ) → is_member q (take rest.count (eligible (blocks old.heap) old.heap.order (Some slot))) ≡ true → bytes_at heap q ≡ None
+    without_bytes : (q : ℕ) → C.is_member q (take rest.count (C.eligible (C.blocks old.heap) old.heap.order (Some slot))) ≡ true → C.bytes_at heap q ≡ None
     without_bytes q t = turn (object_at old.heap q) (rest.others.discarded q t)
       where
-        turn : (p : Option Object) → IsSomeAnd p (λ o. (o.kind ≡ Discardable) × (o.locks ≡ 0) × (is_some o.bytes ≡ true) × (object_at heap q ≡ Some (record o { bytes = None }))) → bytes_at heap q ≡ None
+        turn : (p : Option C.Object) → IsSomeAnd p (λ o. (o.kind ≡ C.Discardable) × (o.locks ≡ 0) × (is_some o.bytes ≡ true) × (object_at heap q ≡ Some (record o { bytes = None }))) → C.bytes_at heap q ≡ None
         turn None h = absurd h
-        turn (Some o) h = ap bytes_in h.3
+        turn (Some o) h = ap C.bytes_in h.3
 
     order : OnlyLeave heap old.heap.order heap.order
     order = record {
-      gone = take rest.count (eligible (blocks old.heap) old.heap.order (Some slot));
+      gone = take rest.count (C.eligible (C.blocks old.heap) old.heap.order (Some slot));
       without_bytes = without_bytes;
-      order_is = rest.order ∙ turn (is_some o.bytes) (is_discardable o.kind) _ (ap is_some has);
+      order_is = rest.order ∙ turn (is_some o.bytes) (C.is_discardable o.kind) _ (ap is_some has);
     }
       where
         turn : (b may : Bool) (left : List ℕ) → b ≡ true → left ++ cond {A = List ℕ} (not b && may) (slot ∷ []) [] ≡ left
@@ -61,13 +55,13 @@ module _ (old new : Handles) (is : AreHandles old) (handle slot size flags answe
     -- the object had one slot
     slots_are : (a : Attributes) → finmap.get old.attributes slot ≡ Some a → a.slots ≡ 1
     slots_are a e =
-        sym (ap (λ p. unwrap_or (option_map (λ (a : Attributes). a.slots) p) 0) e)
-        ∙ subst (λ b. IfSome b (λ bytes. slots_at old.attributes slot ≡ slots_for (length bytes))) (ap bytes_in n.there ∙ has) (is.sized slot) ∙ one_slot (length bytes) short
+        sym (ap (λ p. C.unwrap_or (C.option_map (λ (a : Attributes). a.slots) p) 0) e)
+        ∙ subst (λ b. C.IfSome b (λ bytes. slots_at old.attributes slot ≡ slots_for (length bytes))) (ap C.bytes_in n.there ∙ has) (is.sized slot) ∙ one_slot (length bytes) short
 
     attributes : (q : ℕ) → finmap.get new.attributes q ≡ finmap.get old.attributes q
     attributes q = ap (λ (h : Handles). finmap.get h.attributes q) anew.1 ∙ turn (finmap.get old.attributes slot) refl
       where
-        run : Option Attributes → FinMap nat_cmp Attributes
+        run : Option Attributes → C.FinMap C.nat_cmp Attributes
         run p = elim p [ Some a ↦ finmap.insert (finmap.remove old.attributes slot) first (record a { slots = slots_for (rounded_size size) }) | None ↦ old.attributes ]
 
         turn : (p : Option Attributes) → finmap.get old.attributes slot ≡ p → finmap.get (with_run old.attributes slot first (slots_for (rounded_size size))) q ≡ finmap.get old.attributes q
@@ -75,9 +69,9 @@ module _ (old new : Handles) (is : AreHandles old) (handle slot size flags answe
         turn (Some a) e =
             let given : Attributes = record a { slots = slots_for (rounded_size size) } in
             let same : given ≡ a = (let count : slots_for (rounded_size size) ≡ a.slots = one_slot (rounded_size size) few ∙ sym (slots_are a e) in λ i. record a { slots = count i }) in
-            ap (λ p. finmap.get (run p) q) e ∙ elim (cases_eq q slot) [
-              | inl f ↦ inserted_here (finmap.remove old.attributes slot) first given q (f ∙ sym here) ∙ ap Some same ∙ sym e ∙ ap (finmap.get old.attributes) (sym f)
-              | inr d ↦ inserted_other (finmap.remove old.attributes slot) first given q (λ f. d (f ∙ here)) ∙ taken_other old.attributes slot q d
+            ap (λ p. finmap.get (run p) q) e ∙ elim (C.cases_eq q slot) [
+              | inl f ↦ C.inserted_here (finmap.remove old.attributes slot) first given q (f ∙ sym here) ∙ ap Some same ∙ sym e ∙ ap (finmap.get old.attributes) (sym f)
+              | inr d ↦ C.inserted_other (finmap.remove old.attributes slot) first given q (λ f. d (f ∙ here)) ∙ C.taken_other old.attributes slot q d
             ]
 
     leaves : LeavesOrder
@@ -98,7 +92,7 @@ module _ (old new : Handles) (is : AreHandles old) (handle slot size flags answe
 
   by_owner : (owned : Bool) → MatchBool owned (IsNull old answer new) (ReAllocsOwn old handle size flags answer new) → LeavesOrder
   by_owner true g = absurd (answers g.0)
-  by_owner false g = by_size (nat_lt LARGEST_SIZE size) (resizes old handle slot size flags n.found keeps some answer new g)
+  by_owner false g = by_size (C.nat_lt LARGEST_SIZE size) (resizes old handle slot size flags n.found keeps some answer new g)
 
   pub leaves_order : LeavesOrder
   leaves_order = by_owner (owns old handle) step

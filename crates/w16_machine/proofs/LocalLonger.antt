@@ -1,41 +1,36 @@
 -- What a growth leaves of the world.
-use Rattle.w16_machine.proofs.Common.{◌≡◌, ◌≢◌, ℕ, ◌<◌, ◌≤◌, ◌⊎◌, inl, inr, Bool, true, false, cond, false≢true, nat_cmp, FinMap, IfSome, Discardable, RoomOptions, LocalCommand, List, length, take, Option, Some, None, IsSomeAnd, is_some}
-use Rattle.w16_machine.proofs.Common.{refl, sym, ap, ◌∙◌, subst, arith, cases_eq, Object, bytes_at, object_at, bytes_in, Handles, Table, IsSameOutside, inserted_here, inserted_other, World, LocalHeap, AreLocalHeaps, current_heap, left_in}
-use Rattle.w16_machine.proofs.Common.{GrowthLaw, IsHeapKept, IsHeapLeft, IsLeftByGrowth, IsLengthened, IsObjectKept, IsRewritten, KeepsRestLonger, LeavesLonger, Lengthens, growth_flags, longer, with_longer, OnlyLeave, local_options, segment_bytes}
-use Rattle.std.specs.FinMap as finmap
+use Rattle.w16_machine.proofs
+use proofs.Common as C
+use proofs.Common.{◌≡◌, ◌≢◌, ℕ, ◌<◌, ◌≤◌, ◌⊎◌, inl, inr, Bool, true, false, cond, false≢true, List, length, take, Option, Some, None, IsSomeAnd, is_some, refl, sym, ap, ◌∙◌, subst, arith, cases_eq, Object, bytes_at, object_at, bytes_in, Handles, Table, World, LocalHeap, current_heap}
+use proofs.Common.{left_in, IsLengthened, IsObjectKept, IsRewritten, growth_flags, local_options, segment_bytes}
+use proofs.LocalFacts.{IsThere, current_there, local_here}
+use proofs.LocalGrown.{IsGrownObject, grown_object, laid_bounds, plain_flags, rounded_few}
+use proofs.{LocalLengthened.leaves_order, LocalLeft.left_is, LocalLeft.left_over}
 use Rattle.std.proofs.Common.{take-take}
-use Rattle.w16_model.specs.declared.TheConstants.{GMEM_NODISCARD}
-use Rattle.w16_model.specs.CallLaws.{IsKeptOrDiscarded, may_move_own}
-use Rattle.w16_model.specs.Calls.Answer.{Word}
-use Rattle.w16_model.specs.Handles.{slot_of_handle}
-use Rattle.w16_model.specs.Outcomes.Call.{ReAllocs}
-use Rattle.w16_model.proofs.Bystanders.{bystanders_law, pinned_law}
-use Rattle.w16_model.proofs.CallLaws.{slots_law}
-use Rattle.w16_machine.proofs.LocalFacts.{IsThere, current_there, local_here}
-use Rattle.w16_machine.proofs.LocalGrown.{IsGrownObject, grown_object, laid_bounds, plain_flags, rounded_few}
-use Rattle.w16_machine.proofs.LocalLengthened.{leaves_order}
-use Rattle.w16_machine.proofs.LocalLeft.{left_is, left_over}
+use Rattle.w16_model.specs.{declared.TheConstants.GMEM_NODISCARD, CallLaws.IsKeptOrDiscarded, CallLaws.may_move_own, Calls.Answer.Word, Handles.slot_of_handle, Outcomes.Call.ReAllocs}
+use Rattle.w16_model.proofs.{Bystanders.bystanders_law, Bystanders.pinned_law, CallLaws.slots_law}
+use Rattle.std.specs.FinMap as finmap
 
 -- the flags of a growth don't let the segment move where it is fixed or locked
-pub held_flags : (options : RoomOptions) (handle size : ℕ) → may_move_own (ReAllocs handle size (growth_flags options)) ≡ false
+pub held_flags : (options : C.RoomOptions) (handle size : ℕ) → may_move_own (ReAllocs handle size (growth_flags options)) ≡ false
 held_flags options handle size = turn options.discard
   where
     turn : (b : Bool) → may_move_own (ReAllocs handle size (cond b 0 GMEM_NODISCARD)) ≡ false
     turn true = refl
     turn false = refl
 
-module _ (old new : World) (command : LocalCommand) (is : AreLocalHeaps old) (r : KeepsRestLonger old command new) where
+module _ (old new : World) (command : C.LocalCommand) (is : C.AreLocalHeaps old) (r : C.KeepsRestLonger old command new) where
   abbrev at : LocalHeap
   at = r.at
 
-  abbrev l : Lengthens old at (local_options r.flags) r.size
+  abbrev l : C.Lengthens old at (local_options r.flags) r.size
   l = r.lengthens
 
   abbrev mine : LocalHeap
-  mine = longer at r.size l.bytes
+  mine = C.longer at r.size l.bytes
 
   abbrev next : World
-  next = with_longer old l.handles mine
+  next = C.with_longer old l.handles mine
 
   there : IsThere old at
   there = current_there old at r.current
@@ -70,20 +65,20 @@ module _ (old new : World) (command : LocalCommand) (is : AreLocalHeaps old) (r 
 
         as_new : IsKeptOrDiscarded old.loading.handles.heap l.handles.heap slot → IsKeptOrDiscarded old.loading.handles.heap new.loading.handles.heap slot
         as_new kept = subst (λ (p : Option Object). (p ≡ object_at old.loading.handles.heap slot)
-            ⊎ IsSomeAnd (object_at old.loading.handles.heap slot) (λ o. (o.kind ≡ Discardable) × (o.locks ≡ 0) × (is_some o.bytes ≡ true) × (p ≡ Some (record o { bytes = None })))) (sym same_object) kept
+            ⊎ IsSomeAnd (object_at old.loading.handles.heap slot) (λ o. (o.kind ≡ C.Discardable) × (o.locks ≡ 0) × (is_some o.bytes ≡ true) × (p ≡ Some (record o { bytes = None })))) (sym same_object) kept
 
     other_heap : finmap.get new.heaps slot ≡ finmap.get (left_in new.loading.handles.heap old.heaps) slot
     other_heap = turn (r.rest.heaps slot)
       where
         was : finmap.get next.heaps slot ≡ finmap.get (left_in new.loading.handles.heap old.heaps) slot
-        was = inserted_other (left_in l.handles.heap old.heaps) at.slot mine.table slot d ∙ left_is l.handles.heap old.heaps slot
+        was = C.inserted_other (left_in l.handles.heap old.heaps) at.slot mine.table slot d ∙ left_is l.handles.heap old.heaps slot
             ∙ ap (left_over (finmap.get old.heaps slot)) (ap bytes_in (sym same_object)) ∙ sym (left_is new.loading.handles.heap old.heaps slot)
 
         of_current : (p : Option LocalHeap) → current_heap next ≡ p → (P : LocalHeap → Type 0) → IsSomeAnd p (λ h. (h.slot ≡ slot) × P h) → ⊥
         of_current None e P h = h
         of_current (Some c) e P h = let same : mine ≡ c = (let both : ◌≡◌ {A = Option LocalHeap} (Some mine) (Some c) = sym r.still ∙ e in cc) in d (sym h.0 ∙ sym (ap (λ (h : LocalHeap). h.slot) same))
 
-        turn : IsHeapKept next new slot → finmap.get new.heaps slot ≡ finmap.get (left_in new.loading.handles.heap old.heaps) slot
+        turn : C.IsHeapKept next new slot → finmap.get new.heaps slot ≡ finmap.get (left_in new.loading.handles.heap old.heaps) slot
         turn (inl same) = same ∙ was
         turn (inr (inl none)) = r.begins_none slot none.0 ∙ sym none.0 ∙ was
         turn (inr (inr h)) = absurd (of_current (current_heap next) refl (λ c. IsSomeAnd (finmap.get new.heaps slot) (λ t. (t.lo ≡ c.table.lo) × (t.hi ≡ c.table.hi))) h)
@@ -101,7 +96,7 @@ module _ (old new : World) (command : LocalCommand) (is : AreLocalHeaps old) (r 
       as_grown : IsLengthened at grown.before grown.after
       as_grown = record { kind = grown.kind; locks = grown.locks; had = grown.had; has = subst (λ b. IsSomeAnd b (λ bytes. (length at.bytes < length bytes) × (take at.table.lo bytes ≡ take at.table.lo at.bytes))) (sym grown.has) (with_bytes l.bytes (refl, refl)) }
 
-      in_bytes : (b : Option (List ℕ)) → IsSomeAnd b (λ bytes. (length bytes ≡ length l.bytes) × IsSameOutside at.table.lo r.size l.bytes bytes) → IsSomeAnd b (λ bytes. (length at.bytes < length bytes) × (take at.table.lo bytes ≡ take at.table.lo at.bytes))
+      in_bytes : (b : Option (List ℕ)) → IsSomeAnd b (λ bytes. (length bytes ≡ length l.bytes) × C.IsSameOutside at.table.lo r.size l.bytes bytes) → IsSomeAnd b (λ bytes. (length at.bytes < length bytes) × (take at.table.lo bytes ≡ take at.table.lo at.bytes))
       in_bytes None h = absurd h
       in_bytes (Some bytes) h = with_bytes bytes (h.0, h.1.below)
 
@@ -119,7 +114,7 @@ module _ (old new : World) (command : LocalCommand) (is : AreLocalHeaps old) (r 
   sized : IsSomeAnd (segment_bytes new at.slot) (λ bytes. length bytes ≡ r.size)
   sized = turn (r.rest.objects at.slot)
     where
-      in_bytes : (b : Option (List ℕ)) → IsSomeAnd b (λ bytes. (length bytes ≡ length l.bytes) × IsSameOutside at.table.lo r.size l.bytes bytes) → IsSomeAnd b (λ bytes. length bytes ≡ r.size)
+      in_bytes : (b : Option (List ℕ)) → IsSomeAnd b (λ bytes. (length bytes ≡ length l.bytes) × C.IsSameOutside at.table.lo r.size l.bytes bytes) → IsSomeAnd b (λ bytes. length bytes ≡ r.size)
       in_bytes None h = absurd h
       in_bytes (Some bytes) h = h.0 ∙ grown.long
 
@@ -148,7 +143,7 @@ module _ (old new : World) (command : LocalCommand) (is : AreLocalHeaps old) (r 
   later = turn (r.rest.heaps at.slot)
     where
       is_there : finmap.get next.heaps at.slot ≡ Some mine.table
-      is_there = inserted_here (left_in l.handles.heap old.heaps) at.slot mine.table at.slot refl
+      is_there = C.inserted_here (left_in l.handles.heap old.heaps) at.slot mine.table at.slot refl
 
       never : ◌≡◌ {A = Option Table} (Some mine.table) None → ⊥
       never e = cc
@@ -157,12 +152,12 @@ module _ (old new : World) (command : LocalCommand) (is : AreLocalHeaps old) (r 
       in_table None h = absurd h
       in_table (Some t) h = ends_later t h
 
-      turn : IsHeapKept next new at.slot → IsSomeAnd (finmap.get new.heaps at.slot) EndsLater
+      turn : C.IsHeapKept next new at.slot → IsSomeAnd (finmap.get new.heaps at.slot) EndsLater
       turn (inl same) = in_table (finmap.get new.heaps at.slot) (subst (λ p. IsSomeAnd p (λ t. (t.lo ≡ at.table.lo) × (t.hi ≡ r.size))) (sym (same ∙ is_there)) (refl, refl))
       turn (inr (inl none)) = absurd (never (sym is_there ∙ none.0))
       turn (inr (inr h)) = in_table (finmap.get new.heaps at.slot) (of_mine at.slot (λ c. IsSomeAnd (finmap.get new.heaps at.slot) (λ t. (t.lo ≡ c.table.lo) × (t.hi ≡ c.table.hi))) h)
 
-  pub left_by_growth : (slot : ℕ) → is_some (object_at old.loading.handles.heap slot) ≡ true → IsLeftByGrowth old new slot
+  pub left_by_growth : (slot : ℕ) → is_some (object_at old.loading.handles.heap slot) ≡ true → C.IsLeftByGrowth old new slot
   left_by_growth slot some = elim (cases_eq slot at.slot) [
     | inl e ↦ inr (subst (λ p. IsSomeAnd p (λ h. (h.slot ≡ slot) × IsSomeAnd (object_at old.loading.handles.heap slot) (λ before. IsSomeAnd (object_at new.loading.handles.heap slot) (IsLengthened h before)))) (sym r.current) (
       sym e,
@@ -172,7 +167,7 @@ module _ (old new : World) (command : LocalCommand) (is : AreLocalHeaps old) (r 
     | inr d ↦ inl (other_object slot d some)
   ]
 
-  heap_left : (slot : ℕ) → IsHeapLeft old new slot
+  heap_left : (slot : ℕ) → C.IsHeapLeft old new slot
   heap_left slot = elim (cases_eq slot at.slot) [
     | inl e ↦ inr (subst (λ p. IsSomeAnd p (λ h. (h.slot ≡ slot) × IsSomeAnd (finmap.get new.heaps slot) (λ t. (t.lo ≡ h.table.lo) × (h.table.hi < t.hi) × IsSomeAnd (segment_bytes new slot) (λ bytes. t.hi ≡ length bytes)))) (sym r.current)
         (sym e, subst (λ s. IsSomeAnd (finmap.get new.heaps s) (λ t. (t.lo ≡ at.table.lo) × (at.table.hi < t.hi) × IsSomeAnd (segment_bytes new s) (λ bytes. t.hi ≡ length bytes))) (sym e) later))
@@ -180,7 +175,7 @@ module _ (old new : World) (command : LocalCommand) (is : AreLocalHeaps old) (r 
   ]
 
   -- the order of use, and attributes
-  order_left : OnlyLeave l.handles.heap old.loading.handles.heap.order l.handles.heap.order × ((q : ℕ) → finmap.get l.handles.attributes q ≡ finmap.get old.loading.handles.attributes q)
+  order_left : C.OnlyLeave l.handles.heap old.loading.handles.heap.order l.handles.heap.order × ((q : ℕ) → finmap.get l.handles.attributes q ≡ finmap.get old.loading.handles.attributes q)
   order_left = leaves_order old.loading.handles l.handles is.handles l.handle at.slot r.size (growth_flags (local_options r.flags)) l.answer grown.before at.bytes (record { found = l.named; there = grown.was }) grown.had (plain_flags (local_options r.flags))
       (omega (arith, r.longer_size.more)) (rounded_few r.size r.longer_size.most) (omega (arith, r.longer_size.more, r.longer_size.most)) l.answered l.reallocated
 
@@ -194,14 +189,14 @@ module _ (old new : World) (command : LocalCommand) (is : AreLocalHeaps old) (r 
       never : ◌≡◌ {A = Option (List ℕ)} (Some l.bytes) None → ⊥
       never e = cc
 
-  order_left_there : OnlyLeave new.loading.handles.heap old.loading.handles.heap.order new.loading.handles.heap.order
+  order_left_there : C.OnlyLeave new.loading.handles.heap old.loading.handles.heap.order new.loading.handles.heap.order
   order_left_there = record {
     gone = order_left.0.gone;
     without_bytes = λ q t. still_without q (order_left.0.without_bytes q t);
     order_is = ap (λ (h : Handles). h.heap.order) r.rest.handles ∙ order_left.0.order_is;
   }
 
-  pub leaves_longer : LeavesLonger old new
+  pub leaves_longer : C.LeavesLonger old new
   leaves_longer = record {
     loading = r.rest.loading;
     slots = ap (λ (h : Handles). h.slots) r.rest.handles ∙ (slots_law old.loading.handles l.handles (ReAllocs l.handle r.size (growth_flags (local_options r.flags))) (Word l.answer) is.handles l.reallocated).0;
@@ -209,10 +204,10 @@ module _ (old new : World) (command : LocalCommand) (is : AreLocalHeaps old) (r 
     order = order_left_there;
     moved = ap (λ (h : Handles). h.moved) r.rest.handles;
     objects = left_by_growth;
-    pinned = λ slot pinned. subst (λ (m : FinMap nat_cmp ℕ). IfSome (finmap.get old.loading.handles.heap.places slot) (λ a. finmap.get m slot ≡ Some a)) (sym (ap (λ (h : Handles). h.heap.places) r.rest.handles))
+    pinned = λ slot pinned. subst (λ (m : C.FinMap C.nat_cmp ℕ). C.IfSome (finmap.get old.loading.handles.heap.places slot) (λ a. finmap.get m slot ≡ Some a)) (sym (ap (λ (h : Handles). h.heap.places) r.rest.handles))
         (pinned_law old.loading.handles l.handles (ReAllocs l.handle r.size (growth_flags (local_options r.flags))) (Word l.answer) slot is.handles l.reallocated pinned (λ may. absurd (false≢true (sym (held_flags (local_options r.flags) l.handle r.size) ∙ may))));
     heaps = heap_left;
   }
 
-pub growth_law : GrowthLaw
+pub growth_law : C.GrowthLaw
 growth_law old new command is r = leaves_longer old new command is r

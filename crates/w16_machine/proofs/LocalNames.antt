@@ -1,7 +1,8 @@
 -- One name, one object; and one object begins at a near pointer.
-use Rattle.w16_machine.proofs.Common.{◌≡◌, ℕ, ◌+◌, ◌*◌, ◌<◌, ◌≤◌, inl, inr, Bool, true, false, cond, ◌==◌, List, [], ◌∷◌, length, find, Option, Some, None, option_map, unwrap_or, is_some, IfSome, refl, sym, ap, ◌∙◌, subst, arith, eqb-true}
-use Rattle.w16_machine.proofs.Common.{eq-eqb, nat_cmp, FinMap, entries_sorted, get-entries, false≢true, cases_Bool, cases_eq, Block, Misses, block_end, Heap, Object, IsHeap, blocks, object_at, is_fixed, hold_of_object, Member, Each-at}
-use Rattle.w16_machine.proofs.Common.{Each-from_All, IsBlockOf, block_member, member_block, found_member, member_found, keys_rise, bytes_in, two_placed, same_id, LOCAL_GRAIN, name_of, name_at, is_name, id_named, id_at, NamesLaw, NamedLaw}
+use Rattle.w16_machine.proofs
+use proofs.Common as C
+use proofs.Common.{◌≡◌, ℕ, ◌+◌, ◌*◌, ◌<◌, ◌≤◌, inl, inr, Bool, true, false, cond, ◌==◌, List, [], ◌∷◌, find, Option, Some, None, option_map, is_some, refl, sym, ap, ◌∙◌, subst, arith, eqb-true, false≢true, Block, Heap, Object, blocks, object_at, is_fixed, Member, IsBlockOf, block_member}
+use proofs.Common.{bytes_in, name_of, is_name, id_named, id_at}
 use Rattle.std.specs.FinMap as finmap
 
 -- The first of a list that passes a test.
@@ -16,7 +17,7 @@ module _ {X : Type 0} (test : X → Bool) where
   -- the only one is the first
   only : (xs : List X) (x : X) → Member x xs → test x ≡ true → ((y : X) → Member y xs → test y ≡ true → y ≡ x) → find test xs ≡ Some x
   only [] x m t one = absurd m
-  only (y ∷ xs) x m t one = elim (cases_Bool (test y)) [
+  only (y ∷ xs) x m t one = elim (C.cases_Bool (test y)) [
     | inl here ↦ ap (λ b. cond b (Some y) (find test xs)) here ∙ ap Some (one y (inl refl) here)
     | inr out ↦ ap (λ b. cond b (Some y) (find test xs)) out ∙ only xs x (later m out) t (λ z n u. one z (inr n) u)
   ]
@@ -26,12 +27,12 @@ module _ {X : Type 0} (test : X → Bool) where
       later (inr n) out = n
 
 -- The same of a map's entries.
-module _ {X : Type 0} (m : FinMap nat_cmp X) (test : ℕ × X → Bool) where
+module _ {X : Type 0} (m : C.FinMap C.nat_cmp X) (test : ℕ × X → Bool) where
   abbrev key_found : Option ℕ
   key_found = option_map (λ (e : ℕ × X). e.0) (find test (finmap.entries m))
 
   entry_is : (e : ℕ × X) → Member e (finmap.entries m) → finmap.get m e.0 ≡ Some e.1
-  entry_is e n = get-entries m e.0 ∙ member_found (finmap.entries m) e.0 e.1 (keys_rise (finmap.entries m) (entries_sorted m)) n
+  entry_is e n = C.get-entries m e.0 ∙ C.member_found (finmap.entries m) e.0 e.1 (C.keys_rise (finmap.entries m) (C.entries_sorted m)) n
 
   key_is : (id : ℕ) → key_found ≡ Some id → (x : X) × (finmap.get m id ≡ Some x) × (test (id, x) ≡ true)
   key_is id e = turn (find test (finmap.entries m)) refl e
@@ -44,7 +45,7 @@ module _ {X : Type 0} (m : FinMap nat_cmp X) (test : ℕ × X → Bool) where
           subst (λ k. (x : X) × (finmap.get m k ≡ Some x) × (test (k, x) ≡ true)) same (d.1, entry_is d r.0, r.1)
 
   is_key : (id : ℕ) (x : X) → finmap.get m id ≡ Some x → test (id, x) ≡ true → ((q : ℕ) (y : X) → finmap.get m q ≡ Some y → test (q, y) ≡ true → q ≡ id) → key_found ≡ Some id
-  is_key id x there t one = ap (option_map (λ (e : ℕ × X). e.0)) (only test (finmap.entries m) (id, x) (found_member (finmap.entries m) id x (sym (get-entries m id) ∙ there)) t same)
+  is_key id x there t one = ap (option_map (λ (e : ℕ × X). e.0)) (only test (finmap.entries m) (id, x) (C.found_member (finmap.entries m) id x (sym (C.get-entries m id) ∙ there)) t same)
     where
       same : (e : ℕ × X) → Member e (finmap.entries m) → test e ≡ true → e ≡ (id, x)
       same e n u =
@@ -53,7 +54,7 @@ module _ {X : Type 0} (m : FinMap nat_cmp X) (test : ℕ × X → Bool) where
           λ i. (key i, value i)
 
 -- Places.
-module _ (heap : Heap) (is : IsHeap heap) where
+module _ (heap : Heap) (is : C.IsHeap heap) where
   -- an object that has a place has a block there
   pub block_placed : (id p : ℕ) → finmap.get heap.places id ≡ Some p → (x : Block) × IsBlockOf heap x × (x.id ≡ id) × (x.at ≡ p)
   block_placed id p e = turn (object_at heap id) refl (sym (is.at_bytes id) ∙ ap is_some e)
@@ -61,8 +62,8 @@ module _ (heap : Heap) (is : IsHeap heap) where
       by_bytes : (o : Object) → object_at heap id ≡ Some o → (b : Option (List ℕ)) → o.bytes ≡ b → is_some b ≡ true → (x : Block) × IsBlockOf heap x × (x.id ≡ id) × (x.at ≡ p)
       by_bytes o there None has t = absurd (false≢true t)
       by_bytes o there (Some bytes) has t = (
-        record { id = id; at = p; size = length bytes; hold = hold_of_object o },
-        record { object = o; bytes = bytes; is_there = there; has_bytes = has; place = sym (ap (λ q. unwrap_or q 0) e); size = refl; hold = refl },
+        record { id = id; at = p; size = C.length bytes; hold = C.hold_of_object o },
+        record { object = o; bytes = bytes; is_there = there; has_bytes = has; place = sym (ap (λ q. C.unwrap_or q 0) e); size = refl; hold = refl },
         refl,
         refl,
       )
@@ -77,19 +78,19 @@ module _ (heap : Heap) (is : IsHeap heap) where
     where
       turn : (p : Option ℕ) → finmap.get heap.places x.id ≡ p → is_some p ≡ true → finmap.get heap.places x.id ≡ Some x.at
       turn None e t = absurd (false≢true t)
-      turn (Some q) e t = e ∙ ap Some (sym (b.place ∙ ap (λ p. unwrap_or p 0) e))
+      turn (Some q) e t = e ∙ ap Some (sym (b.place ∙ ap (λ p. C.unwrap_or p 0) e))
 
   sized : (x : Block) → IsBlockOf heap x → 0 < x.size
-  sized x b = (Each-at (λ x. (heap.lo ≤ x.at) × (0 < x.size) × (block_end x ≤ heap.hi)) (blocks heap) (Each-from_All _ (blocks heap) is.placed.inside) x (block_member heap x b)).1
+  sized x b = (C.Each-at (λ x. (heap.lo ≤ x.at) × (0 < x.size) × (C.block_end x ≤ heap.hi)) (blocks heap) (C.Each-from_All _ (blocks heap) is.placed.inside) x (block_member heap x b)).1
 
   -- no two begin at one place
   one_block : (x y : Block) → IsBlockOf heap x → IsBlockOf heap y → x.at ≡ y.at → x.id ≡ y.id
-  one_block x y b c e = elim (cases_eq x.id y.id) [
+  one_block x y b c e = elim (C.cases_eq x.id y.id) [
     | inl same ↦ same
-    | inr d ↦ absurd (never x y e (sized x b) (sized y c) (two_placed heap is x y b c (λ f. d (ap (λ (z : Block). z.id) f))))
+    | inr d ↦ absurd (never x y e (sized x b) (sized y c) (C.two_placed heap is x y b c (λ f. d (ap (λ (z : Block). z.id) f))))
   ]
     where
-      never : (x y : Block) → x.at ≡ y.at → 0 < x.size → 0 < y.size → Misses x.at x.size y.at (block_end y) → ⊥
+      never : (x y : Block) → x.at ≡ y.at → 0 < x.size → 0 < y.size → C.Misses x.at x.size y.at (C.block_end y) → ⊥
       never x y e s t (inl f) = omega (arith, e, s, f)
       never x y e s t (inr f) = omega (arith, e, t, f)
 
@@ -108,24 +109,24 @@ module _ (heap : Heap) (is : IsHeap heap) where
       turn (Some x) f e =
           let r : Member x (blocks heap) × ((x.at == p) ≡ true) = found (λ (x : Block). x.at == p) (blocks heap) x f in
           let same : x.id ≡ id = cc in
-          ap (finmap.get heap.places) (sym same) ∙ placed_block x (member_block heap x r.0) ∙ ap Some (eqb-true x.at p r.1)
+          ap (finmap.get heap.places) (sym same) ∙ placed_block x (C.member_block heap x r.0) ∙ ap Some (eqb-true x.at p r.1)
 
   place_at : (p id : ℕ) → finmap.get heap.places id ≡ Some p → id_at heap p ≡ Some id
   place_at p id e =
       let x : (x : Block) × IsBlockOf heap x × (x.id ≡ id) × (x.at ≡ p) = block_placed id p e in
-      ap (option_map (λ (x : Block). x.id)) (only (λ (x : Block). x.at == p) (blocks heap) x.0 (block_member heap x.0 x.1) (eq-eqb x.0.at p x.3) (λ y m t. same x.0 y x.1 (member_block heap y m) (eqb-true y.at p t ∙ sym x.3)))
+      ap (option_map (λ (x : Block). x.id)) (only (λ (x : Block). x.at == p) (blocks heap) x.0 (block_member heap x.0 x.1) (C.eq-eqb x.0.at p x.3) (λ y m t. same x.0 y x.1 (C.member_block heap y m) (eqb-true y.at p t ∙ sym x.3)))
       ∙ ap Some x.2
     where
       same : (x y : Block) → IsBlockOf heap x → IsBlockOf heap y → y.at ≡ x.at → y ≡ x
-      same x y b c e = same_id heap y x c b (one_block y x c b e)
+      same x y b c e = C.same_id heap y x c b (one_block y x c b e)
 
   -- Names.
-  module _ (grain : heap.grain ≡ LOCAL_GRAIN) where
+  module _ (grain : heap.grain ≡ C.LOCAL_GRAIN) where
     -- places are multiples of 4
     by_four : (id p : ℕ) → finmap.get heap.places id ≡ Some p → (m : ℕ) × (p ≡ 4 * m)
     by_four id p e =
         let x : (x : Block) × IsBlockOf heap x × (x.id ≡ id) × (x.at ≡ p) = block_placed id p e in
-        let g : ((m : ℕ) × (x.0.at ≡ heap.grain * m)) × ((m : ℕ) × (x.0.size ≡ heap.grain * m)) = Each-at (λ x. ((m : ℕ) × (x.at ≡ heap.grain * m)) × ((m : ℕ) × (x.size ≡ heap.grain * m))) (blocks heap) (Each-from_All _ (blocks heap) is.grained) x.0 (block_member heap x.0 x.1) in
+        let g : ((m : ℕ) × (x.0.at ≡ heap.grain * m)) × ((m : ℕ) × (x.0.size ≡ heap.grain * m)) = C.Each-at (λ x. ((m : ℕ) × (x.at ≡ heap.grain * m)) × ((m : ℕ) × (x.size ≡ heap.grain * m))) (blocks heap) (C.Each-from_All _ (blocks heap) is.grained) x.0 (block_member heap x.0 x.1) in
         (g.0.0, sym x.3 ∙ g.0.1 ∙ ap (λ k. k * g.0.0) grain)
 
     -- two that have one name are one
@@ -152,14 +153,14 @@ module _ (heap : Heap) (is : IsHeap heap) where
     is_name-true name (Some n) t = ap Some (eqb-true n name t)
 
     true-is_name : (name : ℕ) (p : Option ℕ) → p ≡ Some name → is_name name p ≡ true
-    true-is_name name p e = ap (is_name name) e ∙ eq-eqb name name refl
+    true-is_name name p e = ap (is_name name) e ∙ C.eq-eqb name name refl
 
-    has_name : (name id : ℕ) → id_named heap name ≡ Some id → name_at heap id ≡ Some name
+    has_name : (name id : ℕ) → id_named heap name ≡ Some id → C.name_at heap id ≡ Some name
     has_name name id e =
         let r : (o : Object) × (object_at heap id ≡ Some o) × (is_name name (name_of heap id o) ≡ true) = key_is heap.objects (λ e. is_name name (name_of heap e.0 e.1)) id e in
         ap (λ (p : Option Object). elim p [ None ↦ None | Some o ↦ name_of heap id o ]) r.1 ∙ is_name-true name (name_of heap id r.0) r.2
 
-    name_has : (name id : ℕ) → name_at heap id ≡ Some name → id_named heap name ≡ Some id
+    name_has : (name id : ℕ) → C.name_at heap id ≡ Some name → id_named heap name ≡ Some id
     name_has name id e = turn (object_at heap id) refl e
       where
         turn : (p : Option Object) → object_at heap id ≡ p → ◌≡◌ {A = Option ℕ} (elim p [ None ↦ None | Some o ↦ name_of heap id o ]) (Some name) → id_named heap name ≡ Some id
@@ -167,16 +168,16 @@ module _ (heap : Heap) (is : IsHeap heap) where
         turn (Some o) there e = is_key heap.objects (λ e. is_name name (name_of heap e.0 e.1)) id o there (true-is_name name (name_of heap id o) e)
             (λ q w at t. one_named q id name w o (is_name-true name (name_of heap q w) t) e)
 
-pub names_law : NamesLaw
+pub names_law : C.NamesLaw
 names_law heap name id is grain = ((has_name heap is grain name id, name_has heap is grain name id), (at_place heap is name id, place_at heap is name id))
 
-pub named_law : NamedLaw
+pub named_law : C.NamedLaw
 named_law heap id is named = turn (object_at heap id) refl (named id)
   where
     by_kind : (o : Object) → object_at heap id ≡ Some o → (f : Bool) → is_fixed o.kind ≡ f → is_some (cond f (finmap.get heap.places id) (Some (4 * id + 2))) ≡ true
-    by_kind o there true f = is.at_bytes id ∙ ap (λ p. is_some (bytes_in p)) there ∙ subst (λ p. IfSome p (λ o. is_fixed o.kind ≡ true → is_some o.bytes ≡ true)) there (named id) f
+    by_kind o there true f = is.at_bytes id ∙ ap (λ p. is_some (bytes_in p)) there ∙ subst (λ p. C.IfSome p (λ o. is_fixed o.kind ≡ true → is_some o.bytes ≡ true)) there (named id) f
     by_kind o there false f = refl
 
-    turn : (p : Option Object) → object_at heap id ≡ p → IfSome p (λ o. is_fixed o.kind ≡ true → is_some o.bytes ≡ true) → is_some (elim p as (λ _. Option ℕ) [ None ↦ None | Some o ↦ name_of heap id o ]) ≡ is_some p
+    turn : (p : Option Object) → object_at heap id ≡ p → C.IfSome p (λ o. is_fixed o.kind ≡ true → is_some o.bytes ≡ true) → is_some (elim p as (λ _. Option ℕ) [ None ↦ None | Some o ↦ name_of heap id o ]) ≡ is_some p
     turn None there h = refl
     turn (Some o) there h = by_kind o there (is_fixed o.kind) refl

@@ -1,16 +1,10 @@
 -- A heap isn't both lengthened and kept short.
 use Rattle.w16_machine.proofs.Common.{◌≡◌, ◌≢◌, ℕ, ◌<◌, ◌≤◌, ◌==◌, inl, inr, Bool, true, false, nat_lt, MatchBool, MatchOption, IsSomeAnd, Option, Some, None, sym, subst, arith, ne_eqb, Object, Handles, object_at, has_flag, Lengthens, OneGrowthLaw, growth_flags}
-use Rattle.w16_model.specs.declared.TheConstants.{LARGEST_SIZE, GMEM_MODIFY}
-use Rattle.w16_model.specs.declared.Kind.{Kind}
-use Rattle.w16_model.specs.declared.Kind.TheVariants.{Fixed, Moveable, Discardable}
-use Rattle.w16_model.specs.Calls.{rounded_size}
-use Rattle.w16_model.specs.Handles.{handle_of, slot_of_handle, slots_for}
-use Rattle.w16_model.specs.Owned.{owns}
-use Rattle.w16_model.specs.Heap.{Heap}
-use Rattle.w16_model.specs.Request.{Reallocates}
-use Rattle.w16_model.specs.Resizes.{Anew, AnswersHandle, Empties, GetsRun, GlobalReAllocs, IsNull, LacksRun, ReAllocsOwn, Resizes, ResizesObject, kind_modified, modified, realloc_options}
-use Rattle.w16_model.proofs.Growth.{one_outcome_law}
 use Rattle.w16_machine.proofs.LocalGrown.{plain_flags}
+use Rattle.w16_model.specs.declared.Kind.TheVariants.{Fixed, Moveable, Discardable}
+use Rattle.w16_model.specs.Resizes.{Anew, AnswersHandle, Empties, GetsRun, GlobalReAllocs, IsNull, LacksRun, ReAllocsOwn, Resizes, ResizesObject, kind_modified, modified, realloc_options}
+use Rattle.w16_model.specs.{declared.TheConstants.LARGEST_SIZE, declared.TheConstants.GMEM_MODIFY, declared.Kind.Kind, Calls.rounded_size, Handles.handle_of, Handles.slot_of_handle, Handles.slots_for, Owned.owns, Heap.Heap, Request.Reallocates}
+use Rattle.w16_model.proofs.Growth.{one_outcome_law}
 
 some_handle : (kind : Kind) (slot : ℕ) → 0 ≢ handle_of kind slot
 some_handle Fixed slot e = omega (arith, e)

@@ -1,54 +1,52 @@
 -- What a local call leaves of the objects that it doesn't name.
-use Rattle.w16_machine.proofs.Common.{◌≡◌, ◌≢◌, ℕ, ◌+◌, ◌-◌, inl, inr, Bool, true, false, cond, not, ◌&&◌, ◌||◌, ◌==◌, nat_lt, IfOk, IfSome, IsSomeAnd, take, Option, Some, None, Result, Ok, Err, is_some, refl, sym, ap, ◌∙◌, subst, false≢true}
-use Rattle.w16_machine.proofs.Common.{cases_Bool, Kind, Fixed, Moveable, Discardable, Refusal, RoomOptions, eligible, is_member, Heap, Object, IsHeap, blocks, object_at, is_fixed, is_discardable, is_pinned_object, with_object, with_ordered}
-use Rattle.w16_machine.proofs.Common.{with_newest, removed, absent, touched, without, after_lock, after_unlock, after_free, after_discard, after_modify, Allocates, MakesRoom, IsNew, Settles, Asked, compaction_prefix, discarded, discards_needed}
-use Rattle.w16_machine.proofs.Common.{stays_for, KeepsOthers, KeepsAddresses, StandsStill, MovesLittle, get-update_other, inserted_other, taken_other, touched_rest, rest_order, rest_law, others_law, address_law, moves_law, World, LocalHeap}
-use Rattle.w16_machine.proofs.Common.{AreLocalHeaps, heap_of, current_heap, name_at, rounded_up, LocalCommand, ResizesObject, local_kind, local_options, moveable_or_discardable, IsLocalKept, OthersLaw, PinnedLaw, asks_for_room, may_move_named}
-use Rattle.w16_machine.proofs.Common.{named_by, ending}
-use Rattle.std.specs.FinMap as finmap
-use Rattle.w16_model.specs.declared.Refusal.TheVariants as refusals
+use Rattle.w16_machine.proofs
+use proofs.Common as C
+use proofs.Common.{◌≡◌, ◌≢◌, ℕ, ◌+◌, ◌-◌, inl, inr, Bool, true, false, cond, not, ◌&&◌, ◌||◌, ◌==◌, nat_lt, IfOk, IsSomeAnd, take, Option, Some, None, Result, Ok, Err, is_some, refl, sym, ap, ◌∙◌, subst, false≢true, Kind, Fixed, Discardable, Refusal, Heap, Object, IsHeap, object_at}
+use proofs.Common.{is_fixed, is_discardable, with_ordered, with_newest, removed, absent, after_discard, IsNew, Asked, compaction_prefix, discarded, taken_other, World, heap_of, rounded_up, local_kind, local_options, IsLocalKept, asks_for_room, may_move_named, ending}
+use proofs.LocalFacts.{current_there, local_here, heap_here}
+use proofs.LocalNames.{names_law}
+use proofs.LocalCurrent.{current_becomes, grown_becomes}
+use proofs.LocalOutcomes.{IsAltered, IsGivenUp, IsMade, IsNamedIn, IsRoomed, IsStepped}
 use Rattle.w16_model.specs.Reallocation.{KeepsRest}
 use Rattle.w16_model.proofs.Reallocations.{asked as request_of}
-use Rattle.w16_machine.proofs.LocalFacts.{current_there, local_here, heap_here}
-use Rattle.w16_machine.proofs.LocalNames.{names_law}
-use Rattle.w16_machine.proofs.LocalCurrent.{current_becomes, grown_becomes}
-use Rattle.w16_machine.proofs.LocalOutcomes.{IsAltered, IsGivenUp, IsMade, IsNamedIn, IsRoomed, IsStepped}
+use Rattle.std.specs.FinMap as finmap
+use Rattle.w16_model.specs.declared.Refusal.TheVariants as refusals
 
-pub stands_same : (old new : Heap) (q : ℕ) → finmap.get new.places q ≡ finmap.get old.places q → StandsStill old new q
+pub stands_same : (old new : Heap) (q : ℕ) → finmap.get new.places q ≡ finmap.get old.places q → C.StandsStill old new q
 stands_same old new q e = turn (finmap.get old.places q) e
   where
-    turn : (p : Option ℕ) → finmap.get new.places q ≡ p → IfSome p (λ at. finmap.get new.places q ≡ Some at)
+    turn : (p : Option ℕ) → finmap.get new.places q ≡ p → C.IfSome p (λ at. finmap.get new.places q ≡ Some at)
     turn None e = tt
     turn (Some at) e = e
 
 -- An object is changed where it stands.
-module _ (old : Heap) (id : ℕ) (P : Heap → Type 0) (itself : P old) (put : (new : Heap) (p : Object) → new.objects ≡ finmap.insert old.objects id p → new.places ≡ old.places → without id new.order ≡ without id old.order → P new) where
+module _ (old : Heap) (id : ℕ) (P : Heap → Type 0) (itself : P old) (put : (new : Heap) (p : Object) → new.objects ≡ finmap.insert old.objects id p → new.places ≡ old.places → C.without id new.order ≡ C.without id old.order → P new) where
   if_ok : (b : Bool) (r s : Result Heap Refusal) → IfOk r P → IfOk s P → IfOk (cond b r s) P
   if_ok true r s f g = f
   if_ok false r s f g = g
 
-  lock_is : IfOk (after_lock old id) P
+  lock_is : IfOk (C.after_lock old id) P
   lock_is = turn (object_at old id)
     where
       turn : (p : Option Object) → IfOk (elim p as (λ _. Result Heap Refusal) [
         | None ↦ Err refusals.Absent
-        | Some o ↦ cond (not (is_some o.bytes)) (Err refusals.Absent) (cond (is_fixed o.kind) (Err refusals.Fixed) (cond (o.locks == 255) (Err refusals.LockFull) (Ok (with_ordered old id (record o { locks = o.locks + 1 }) (touched id)))))
+        | Some o ↦ cond (not (is_some o.bytes)) (Err refusals.Absent) (cond (is_fixed o.kind) (Err refusals.Fixed) (cond (o.locks == 255) (Err refusals.LockFull) (Ok (with_ordered old id (record o { locks = o.locks + 1 }) (C.touched id)))))
       ]) P
       turn None = tt
       turn (Some o) =
-          let locked : Heap = with_ordered old id (record o { locks = o.locks + 1 }) (touched id) in
+          let locked : Heap = with_ordered old id (record o { locks = o.locks + 1 }) (C.touched id) in
           if_ok (not (is_some o.bytes)) (Err refusals.Absent) (cond (is_fixed o.kind) (Err refusals.Fixed) (cond (o.locks == 255) (Err refusals.LockFull) (Ok locked))) tt
           (if_ok (is_fixed o.kind) (Err refusals.Fixed) (cond (o.locks == 255) (Err refusals.LockFull) (Ok locked)) tt
-          (if_ok (o.locks == 255) (Err refusals.LockFull) (Ok locked) tt (put locked (record o { locks = o.locks + 1 }) refl refl (touched_rest id old.order))))
+          (if_ok (o.locks == 255) (Err refusals.LockFull) (Ok locked) tt (put locked (record o { locks = o.locks + 1 }) refl refl (C.touched_rest id old.order))))
 
-  unlock_is : IfOk (after_unlock old id) P
+  unlock_is : IfOk (C.after_unlock old id) P
   unlock_is = turn (object_at old id)
     where
-      turn : (p : Option Object) → IfOk (elim p as (λ _. Result Heap Refusal) [ None ↦ Ok old | Some o ↦ cond (is_fixed o.kind) (Err refusals.Fixed) (Ok (with_object old id (record o { locks = o.locks - 1 }))) ]) P
+      turn : (p : Option Object) → IfOk (elim p as (λ _. Result Heap Refusal) [ None ↦ Ok old | Some o ↦ cond (is_fixed o.kind) (Err refusals.Fixed) (Ok (C.with_object old id (record o { locks = o.locks - 1 }))) ]) P
       turn None = itself
-      turn (Some o) = let less : Heap = with_object old id (record o { locks = o.locks - 1 }) in if_ok (is_fixed o.kind) (Err refusals.Fixed) (Ok less) tt (put less (record o { locks = o.locks - 1 }) refl refl refl)
+      turn (Some o) = let less : Heap = C.with_object old id (record o { locks = o.locks - 1 }) in if_ok (is_fixed o.kind) (Err refusals.Fixed) (Ok less) tt (put less (record o { locks = o.locks - 1 }) refl refl refl)
 
-  modify_is : (kind : Kind) → IfOk (after_modify old id kind) P
+  modify_is : (kind : Kind) → IfOk (C.after_modify old id kind) P
   modify_is kind = turn (object_at old id)
     where
       turn : (p : Option Object) → IfOk (elim p as (λ _. Result Heap Refusal) [
@@ -59,12 +57,12 @@ module _ (old : Heap) (id : ℕ) (P : Heap → Type 0) (itself : P old) (put : (
       turn None = tt
       turn (Some o) =
           let changed : Heap = with_ordered old id (record o { kind = kind }) (λ order. cond (is_discardable o.kind && is_discardable kind) order (with_newest id (record o { kind = kind }) order)) in
-          if_ok (is_fixed o.kind || is_fixed kind) (Err refusals.Fixed) (Ok changed) tt (put changed (record o { kind = kind }) refl refl (rest_order id old.order (is_discardable o.kind) (is_discardable kind) (is_some o.bytes)))
+          if_ok (is_fixed o.kind || is_fixed kind) (Err refusals.Fixed) (Ok changed) tt (put changed (record o { kind = kind }) refl refl (C.rest_order id old.order (is_discardable o.kind) (is_discardable kind) (is_some o.bytes)))
 
   pub altered_is : (new : Heap) → IsAltered old id new → P new
   altered_is new (inl e) = subst (λ r. IfOk r P) e lock_is
   altered_is new (inr (inl e)) = subst (λ r. IfOk r P) e unlock_is
-  altered_is new (inr (inr (flags, e))) = subst (λ r. IfOk r P) e (modify_is (moveable_or_discardable flags))
+  altered_is new (inr (inr (flags, e))) = subst (λ r. IfOk r P) e (modify_is (C.moveable_or_discardable flags))
 
 module _ (asks : Bool) (old : Heap) (q : ℕ) (o : Object) (there : object_at old q ≡ Some o) where
   abbrev Kept : Heap → Type 0
@@ -83,15 +81,15 @@ module _ (asks : Bool) (old : Heap) (q : ℕ) (o : Object) (there : object_at ol
 
   module _ (id : ℕ) (other : q ≢ id) where
     put_kept : (new : Heap) (p : Object) → new.objects ≡ finmap.insert old.objects id p → new.places ≡ old.places → Kept new
-    put_kept new p put places = same_kept new (ap (λ m. finmap.get m q) put ∙ inserted_other old.objects id p q other) (ap (λ m. finmap.get m q) places)
+    put_kept new p put places = same_kept new (ap (λ m. finmap.get m q) put ∙ C.inserted_other old.objects id p q other) (ap (λ m. finmap.get m q) places)
 
     removed_kept : Kept (removed old id)
     removed_kept = same_kept (removed old id) (taken_other old.objects id q other) (taken_other old.places id q other)
 
     absent_kept : Kept (absent old id)
-    absent_kept = same_kept (absent old id) (get-update_other old.objects id (λ (o : Object). record o { bytes = None }) q other) (taken_other old.places id q other)
+    absent_kept = same_kept (absent old id) (C.get-update_other old.objects id (λ (o : Object). record o { bytes = None }) q other) (taken_other old.places id q other)
 
-    free_kept : IfOk (after_free old id) Kept
+    free_kept : IfOk (C.after_free old id) Kept
     free_kept = turn (object_at old id)
       where
         turn : (p : Option Object) → IfOk (elim p as (λ _. Result Heap Refusal) [ None ↦ Ok old | Some o ↦ cond (nat_lt 0 o.locks) (Err refusals.Locked) (Ok (removed old id)) ]) Kept
@@ -110,18 +108,18 @@ module _ (asks : Bool) (old : Heap) (q : ℕ) (o : Object) (there : object_at ol
             if_taken (nat_lt 0 o.locks) (Err refusals.Locked) (cond (is_discardable o.kind) (Ok (absent old id)) (Err refusals.NotDiscardable)) tt
             (if_taken (is_discardable o.kind) (Ok (absent old id)) (Err refusals.NotDiscardable) absent_kept tt)
 
-    given_up_kept : (command : LocalCommand) (new : Heap) → IsGivenUp old command id new → Kept new
+    given_up_kept : (command : C.LocalCommand) (new : Heap) → IsGivenUp old command id new → Kept new
     given_up_kept command new (inl e) = subst (λ r. IfOk r Kept) e.1 free_kept
     given_up_kept command new (inr e) = subst (λ r. IfOk r Kept) e discard_kept
 
   -- A step that makes room.
-  room_kept : asks ≡ true → (new : Heap) (h : Option ℕ) (k : ℕ) (may_move : Bool) → h ≢ Some q → KeepsOthers old h k new → KeepsAddresses old h may_move new → Kept new
+  room_kept : asks ≡ true → (new : Heap) (h : Option ℕ) (k : ℕ) (may_move : Bool) → h ≢ Some q → C.KeepsOthers old h k new → C.KeepsAddresses old h may_move new → Kept new
   room_kept asked new h k may_move other keeps stands = record {
-    object = elim (cases_Bool (is_member q (take k (eligible (blocks old) old.order h)))) [
+    object = elim (C.cases_Bool (C.is_member q (take k (C.eligible (C.blocks old) old.order h)))) [
       | inl t ↦ inr (gone (keeps.discarded q t))
       | inr t ↦ inl (keeps.kept q other (λ e. false≢true (sym t ∙ e)) ∙ there)
     ];
-    place = λ pinned. stands.pinned q other (subst (λ p. IsSomeAnd p (λ o. is_pinned_object o ≡ true)) (sym there) pinned);
+    place = λ pinned. stands.pinned q other (subst (λ p. IsSomeAnd p (λ o. C.is_pinned_object o ≡ true)) (sym there) pinned);
     still = λ e. absurd (false≢true (sym e ∙ asked));
   }
     where
@@ -138,31 +136,31 @@ module _ (asks : Bool) (old : Heap) (q : ℕ) (o : Object) (there : object_at ol
     none_some : ◌≡◌ {A = Option ℕ} None (Some q) → ⊥
     none_some e = cc
 
-    allocated_kept : (id n : ℕ) (kind : Kind) (options : RoomOptions) (new : Heap) → q ≢ id → Allocates old id n kind 0 options true new → Kept new
+    allocated_kept : (id n : ℕ) (kind : Kind) (options : C.RoomOptions) (new : Heap) → q ≢ id → C.Allocates old id n kind 0 options true new → Kept new
     allocated_kept id n kind options new other a =
-        let what : Asked = record { options = options; prefix = discards_needed old n (Some id) options; becomes = IsNew options.zero n kind 0; order = with_newest id } in
-        let r : (k : ℕ) × (what.prefix ≡ Some k) × ((p : Object) × what.becomes p × Settles old (stays_for id what.options) (with_ordered (discarded old k (Some id)) id p (what.order p)) new) = request_of old id what new a.request in
-        room_kept asked new (Some id) r.0 options.compact (not_some id other) ((others_law old new is r.0).0 id options r.2.0 (with_newest id r.2.0) r.2.2) ((address_law old new is r.0).0 id options r.2.0 (with_newest id r.2.0) r.2.2)
+        let what : Asked = record { options = options; prefix = C.discards_needed old n (Some id) options; becomes = IsNew options.zero n kind 0; order = with_newest id } in
+        let r : (k : ℕ) × (what.prefix ≡ Some k) × ((p : Object) × what.becomes p × C.Settles old (C.stays_for id what.options) (with_ordered (discarded old k (Some id)) id p (what.order p)) new) = request_of old id what new a.request in
+        room_kept asked new (Some id) r.0 options.compact (not_some id other) ((C.others_law old new is r.0).0 id options r.2.0 (with_newest id r.2.0) r.2.2) ((C.address_law old new is r.0).0 id options r.2.0 (with_newest id r.2.0) r.2.2)
 
-    compacted_kept : (size answer : ℕ) (new : Heap) → MakesRoom old size answer new → Kept new
+    compacted_kept : (size answer : ℕ) (new : Heap) → C.MakesRoom old size answer new → Kept new
     compacted_kept size answer new m =
-        room_kept asked new None (compaction_prefix old size) true none_some ((others_law old new is (compaction_prefix old size)).1 m.settled) ((address_law old new is (compaction_prefix old size)).1 m.settled)
+        room_kept asked new None (compaction_prefix old size) true none_some ((C.others_law old new is (compaction_prefix old size)).1 m.settled) ((C.address_law old new is (compaction_prefix old size)).1 m.settled)
 
-    resized_kept : (id size flags answer : ℕ) (new : Heap) → q ≢ id → ResizesObject old id size flags answer new → Kept new
-    resized_kept id size flags answer new other r = turn (object_at old id) (rest_law old new id (rounded_up size) (local_options flags) is r.resized) (moves_law old new id (rounded_up size) (local_options flags) is r.resized)
+    resized_kept : (id size flags answer : ℕ) (new : Heap) → q ≢ id → C.ResizesObject old id size flags answer new → Kept new
+    resized_kept id size flags answer new other r = turn (object_at old id) (C.rest_law old new id (rounded_up size) (local_options flags) is r.resized) (C.moves_law old new id (rounded_up size) (local_options flags) is r.resized)
       where
-        turn : (p : Option Object) → IsSomeAnd p (λ o. KeepsRest old id (rounded_up size) o (local_options flags) new) → IsSomeAnd p (λ o. MovesLittle old id (rounded_up size) o (local_options flags) new) → Kept new
+        turn : (p : Option Object) → IsSomeAnd p (λ o. KeepsRest old id (rounded_up size) o (local_options flags) new) → IsSomeAnd p (λ o. C.MovesLittle old id (rounded_up size) o (local_options flags) new) → Kept new
         turn None h g = absurd h
         turn (Some p) h g = room_kept asked new (Some id) h.count (local_options flags).compact (not_some id other) h.others g.others
 
 -- In a local heap.
-module _ (old : World) (is : AreLocalHeaps old) (at : LocalHeap) (c : current_heap old ≡ Some at) (command : LocalCommand) (q : ℕ) (o : Object) (there : object_at (heap_of at) q ≡ Some o) where
+module _ (old : World) (is : C.AreLocalHeaps old) (at : C.LocalHeap) (c : C.current_heap old ≡ Some at) (command : C.LocalCommand) (q : ℕ) (o : Object) (there : object_at (heap_of at) q ≡ Some o) where
   heap : IsHeap (heap_of at)
   heap = heap_here old is at (current_there old at c)
 
   -- the object that is named is another
-  other : ((name : ℕ) → named_by command ≡ Some name → name_at (heap_of at) q ≢ Some name) → (id : ℕ) → IsNamedIn (heap_of at) command id → q ≢ id
-  other unnamed id named e = unnamed named.name named.asked (ap (name_at (heap_of at)) e ∙ (names_law (heap_of at) named.name id heap (local_here old is at (current_there old at c)).0.grain).0.0 named.has)
+  other : ((name : ℕ) → C.named_by command ≡ Some name → C.name_at (heap_of at) q ≢ Some name) → (id : ℕ) → IsNamedIn (heap_of at) command id → q ≢ id
+  other unnamed id named e = unnamed named.name named.asked (ap (C.name_at (heap_of at)) e ∙ (names_law (heap_of at) named.name id heap (local_here old is at (current_there old at c)).0.grain).0.0 named.has)
 
   -- a free entry is another's
   in_use : (id : ℕ) → object_at (heap_of at) id ≡ None → q ≢ id
@@ -199,7 +197,7 @@ module _ (old : World) (is : AreLocalHeaps old) (at : LocalHeap) (c : current_he
   pub up_kept : (id : ℕ) → q ≢ id → (next : Heap) → IsGivenUp (heap_of at) command id next → Spared next
   up_kept id d next up = given_up_kept (asks_for_room command) (heap_of at) q o there id d command next up
 
-pub local_others_law : OthersLaw
+pub local_others_law : C.OthersLaw
 local_others_law old new command reply at after q o is step c e there unnamed =
     current_becomes old at c command reply new (λ next. IsLocalKept (asks_for_room command) (heap_of at) next q o) (itself_kept (asks_for_room command) (heap_of at) q o there) (stepped_kept old is at c command q o there others) roomed
     (grown_becomes old is at c command new (λ next. IsLocalKept (asks_for_room command) (heap_of at) next q o) (longer_kept old is at c command q o there (λ id named may. others id named))) after e step
@@ -214,7 +212,7 @@ local_others_law old new command reply at after q o is step c e there unnamed =
 -- A fixed or locked object.
 
 -- no such one is discarded
-discard_loose : (heap : Heap) (id : ℕ) (o : Object) (next : Heap) → object_at heap id ≡ Some o → after_discard heap id ≡ Ok next → is_pinned_object o ≡ false
+discard_loose : (heap : Heap) (id : ℕ) (o : Object) (next : Heap) → object_at heap id ≡ Some o → after_discard heap id ≡ Ok next → C.is_pinned_object o ≡ false
 discard_loose heap id o next there e = turn (nat_lt 0 o.locks) o.kind (sym (ap outcome there) ∙ e)
   where
     outcome : Option Object → Result Heap Refusal
@@ -226,16 +224,16 @@ discard_loose heap id o next there e = turn (nat_lt 0 o.locks) o.kind (sym (ap o
     turn : (b : Bool) (kind : Kind) → ◌≡◌ {A = Result Heap Refusal} (cond b (Err refusals.Locked) (cond (is_discardable kind) (Ok (absent heap id)) (Err refusals.NotDiscardable))) (Ok next) → (is_fixed kind || b) ≡ false
     turn true kind e = cc
     turn false Fixed e = cc
-    turn false Moveable e = cc
+    turn false C.Moveable e = cc
     turn false Discardable e = refl
 
-pub local_pinned_law : PinnedLaw
+pub local_pinned_law : C.PinnedLaw
 local_pinned_law old new command reply at after q o is step c e there pinned unmoved =
     current_becomes old at c command reply new Stands (stands_same (heap_of at) (heap_of at) q refl) stepped roomed
     (grown_becomes old is at c command new Stands (λ answer next end asks is_heap made. kept_stands next (longer_kept old is at c command q o there others answer next end asks is_heap made))) after e step
   where
     Stands : Heap → Type 0
-    Stands next = StandsStill (heap_of at) next q
+    Stands next = C.StandsStill (heap_of at) next q
 
     kept_stands : (next : Heap) → IsLocalKept (asks_for_room command) (heap_of at) next q o → Stands next
     kept_stands next k = k.place pinned

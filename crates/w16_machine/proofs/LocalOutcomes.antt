@@ -1,23 +1,23 @@
 -- What a local call does, in five ways: nothing; a heap begins; an object of the current heap is changed where it stands; room is made there; or it
 -- grows, and then room is made.
-use Rattle.w16_machine.proofs.Common.{◌≡◌, ℕ, ◌⊎◌, inl, inr, Bool, true, false, ◌==◌, ◌&&◌, ◌||◌, not, MatchBool, MatchOption, Option, Some, None, Result, Ok, Err, refl, sym, ap, ◌∙◌, subst, arith, ne_eqb, false≢true, Refusal, Heap, MakesRoom, most_room}
-use Rattle.w16_machine.proofs.Common.{heap_in, Enters, after_lock, after_unlock, after_free, after_discard, after_modify, has_flag, LMEM_MOVEABLE, LMEM_MODIFY, LMEM_NOCOMPACT, World, LocalHeap, LocalObject, Beginning, Becomes, Acts, Stays, IsLowestFree}
-use Rattle.w16_machine.proofs.Common.{heap_of, current_heap, object_named, id_named, beginning, new_table, with_table, LocalCommand, Answers, Leaves, GivesUp, EntersObject, AllocatesObject, ResizesObject, MakesObject, Grows, OnceLonger, longer}
-use Rattle.w16_machine.proofs.Common.{with_longer, is_absent_asked, local_kind, local_options, rounded_up, AllocatesIn, CompactsIn, LocalInits, OnNamed, ModifiesObject, DiscardsObject, SizesObject, moveable_or_discardable, lock_refused, locks_left}
-use Rattle.w16_machine.proofs.Common.{near_pointer, LocalInit, LocalAlloc, LocalReAlloc, LocalDiscard, LocalFree, LocalLock, LocalUnlock, LocalSize, LocalFlags, LocalHandle, LocalCompact, DS, asks_for_room, may_grow, may_move_named, named_by, flags_in}
-use Rattle.w16_machine.proofs.LocalFacts.{named_there}
+use Rattle.w16_machine.proofs
+use proofs.Common as C
+use proofs.Common.{◌≡◌, ℕ, ◌⊎◌, inl, inr, Bool, true, false, ◌==◌, ◌&&◌, ◌||◌, not, MatchBool, MatchOption, Option, Some, None, Ok, Err, refl, sym, ap, ◌∙◌, subst, arith, false≢true, Refusal, Heap, MakesRoom, after_lock, after_unlock, after_free, after_discard, has_flag, LMEM_MOVEABLE}
+use proofs.Common.{LMEM_MODIFY, LMEM_NOCOMPACT, World, LocalHeap, LocalObject, Becomes, Acts, Stays, heap_of, current_heap, beginning, LocalCommand, Leaves, GivesUp, AllocatesObject, ResizesObject, Grows, longer, is_absent_asked, DiscardsObject, SizesObject, near_pointer, LocalInit}
+use proofs.Common.{LocalAlloc, LocalReAlloc, LocalDiscard, LocalFree, LocalLock, LocalUnlock, LocalCompact, DS, asks_for_room, may_grow, may_move_named, flags_in}
+use proofs.LocalFacts.{named_there}
 
 -- an object is changed where it stands
 abbrev pub IsAltered : Heap → ℕ → Heap → Type 0
 IsAltered heap id next =
     (after_lock heap id ≡ Ok next) ⊎ (after_unlock heap id ≡ Ok next)
-    ⊎ ((flags : ℕ) × (after_modify heap id (moveable_or_discardable flags) ≡ Ok next))
+    ⊎ ((flags : ℕ) × (C.after_modify heap id (C.moveable_or_discardable flags) ≡ Ok next))
 
 -- the object that a call names
 pub record IsNamedIn (heap : Heap) (command : LocalCommand) (id : ℕ) : Type 0 where
   pub name : ℕ
-  pub asked : named_by command ≡ Some name
-  pub has : id_named heap name ≡ Some id
+  pub asked : C.named_by command ≡ Some name
+  pub has : C.id_named heap name ≡ Some id
 
 -- an object gives its bytes up: it is freed, by a call that may do so, or it is discarded
 abbrev pub IsGivenUp : Heap → LocalCommand → ℕ → Heap → Type 0
@@ -27,7 +27,7 @@ IsGivenUp heap command id next = ((may_move_named command ≡ true) × (after_fr
 -- first.
 abbrev pub IsMade : Heap → Heap → LocalCommand → ℕ → Heap → Type 0
 IsMade first heap command answer next =
-    ((flags size id : ℕ) × IsLowestFree first id × AllocatesObject heap flags size id answer next)
+    ((flags size id : ℕ) × C.IsLowestFree first id × AllocatesObject heap flags size id answer next)
     ⊎ ((size : ℕ) × MakesRoom heap size answer next)
     ⊎ ((size flags id : ℕ) × IsNamedIn first command id × (may_move_named command ≡ true) × ResizesObject heap id size flags answer next)
 
@@ -40,15 +40,15 @@ pub record IsInit (old : World) (command : LocalCommand) (answer : ℕ) (new : W
   pub selector : ℕ
   pub start : ℕ
   pub end : ℕ
-  pub begun : Beginning
+  pub begun : C.Beginning
   pub asked : command ≡ LocalInit selector start end
   pub may : beginning old selector start end ≡ Some begun
   pub answered : answer ≡ 1
-  pub rest : new ≡ with_table old begun.slot (new_table begun.range)
+  pub rest : new ≡ C.with_table old begun.slot (C.new_table begun.range)
 
 -- an object without bytes is made
 abbrev pub IsEntered : Heap → Heap → Type 0
-IsEntered heap next = (flags size id : ℕ) × (is_absent_asked flags size ≡ true) × Enters heap id (local_kind flags) next
+IsEntered heap next = (flags size id : ℕ) × (is_absent_asked flags size ≡ true) × C.Enters heap id (C.local_kind flags) next
 
 -- a call asks for no room
 abbrev pub IsStepped : Heap → LocalCommand → Heap → Type 0
@@ -61,7 +61,7 @@ pub record IsGrown (old : World) (command : LocalCommand) (answer : ℕ) (new : 
   pub n : ℕ
   pub flags : ℕ
   pub given : flags_in command ≡ Some flags
-  pub grows : Grows old at id n (local_options flags) (λ next longer. Acts next longer (IsMade (heap_of at) (heap_of longer) command answer) new)
+  pub grows : Grows old at id n (C.local_options flags) (λ next longer. Acts next longer (IsMade (heap_of at) (heap_of longer) command answer) new)
 
 first : (a b : Bool) → (a && b) ≡ true → a ≡ true
 first true b e = refl
@@ -92,7 +92,7 @@ acts_as old at P Q new f a = record {
   long = a.long;
   outside = a.outside;
   are_bytes = a.are_bytes;
-  acted = f (heap_in a.table a.bytes) a.acted;
+  acted = f (C.heap_in a.table a.bytes) a.acted;
   rest = a.rest;
 }
 
@@ -110,21 +110,21 @@ module _ (old : World) (command : LocalCommand) (answer : ℕ) (new : World) whe
       turn None e s = stayed 0 s
       turn (Some at) e s = f at e s
 
-  on_named : (name otherwise : ℕ) (so : LocalObject → Type 0) → named_by command ≡ Some name → ((o : LocalObject) → current_heap old ≡ Some o.heap → IsNamedIn (heap_of o.heap) command o.id → so o → Out) → OnNamed old name otherwise answer new so → Out
-  on_named name otherwise so asked f = turn (object_named old name) refl
+  on_named : (name otherwise : ℕ) (so : LocalObject → Type 0) → C.named_by command ≡ Some name → ((o : LocalObject) → current_heap old ≡ Some o.heap → IsNamedIn (heap_of o.heap) command o.id → so o → Out) → C.OnNamed old name otherwise answer new so → Out
+  on_named name otherwise so asked f = turn (C.object_named old name) refl
     where
-      turn : (p : Option LocalObject) → object_named old name ≡ p → MatchOption p (Stays old otherwise answer new) so → Out
+      turn : (p : Option LocalObject) → C.object_named old name ≡ p → MatchOption p (Stays old otherwise answer new) so → Out
       turn None e s = stayed otherwise s
       turn (Some o) e s =
-          let t : (current_heap old ≡ Some o.heap) × (id_named (heap_of o.heap) name ≡ Some o.id) = named_there old name o e in
+          let t : (current_heap old ≡ Some o.heap) × (C.id_named (heap_of o.heap) name ≡ Some o.id) = named_there old name o e in
           f o t.0 (record { name = name; asked = asked; has = t.1 }) s
 
-  leaves : (o : LocalObject) → current_heap old ≡ Some o.heap → IsNamedIn (heap_of o.heap) command o.id → (r : Result Heap Refusal) → ((next : Heap) → r ≡ Ok next → IsAltered (heap_of o.heap) o.id next)
+  leaves : (o : LocalObject) → current_heap old ≡ Some o.heap → IsNamedIn (heap_of o.heap) command o.id → (r : C.Result Heap Refusal) → ((next : Heap) → r ≡ Ok next → IsAltered (heap_of o.heap) o.id next)
       → (taken : Heap → ℕ) (refused : Refusal → ℕ) → Leaves old o.heap r taken refused answer new → Out
   leaves o c named (Ok next) f taken refused l = inr (inr (o.heap, c, inl (next, inl (o.id, named, f next refl), l.1)))
   leaves o c named (Err refusal) f taken refused l = stayed (refused refusal) l
 
-  gives_up : (o : LocalObject) → current_heap old ≡ Some o.heap → IsNamedIn (heap_of o.heap) command o.id → (r : Result Heap Refusal) → ((next : Heap) → r ≡ Ok next → IsGivenUp (heap_of o.heap) command o.id next)
+  gives_up : (o : LocalObject) → current_heap old ≡ Some o.heap → IsNamedIn (heap_of o.heap) command o.id → (r : C.Result Heap Refusal) → ((next : Heap) → r ≡ Ok next → IsGivenUp (heap_of o.heap) command o.id next)
       → (taken refused : ℕ) → GivesUp old o.heap r taken refused answer new → Out
   gives_up o c named (Ok heap) f taken refused l = inr (inr (
     o.heap,
@@ -134,17 +134,17 @@ module _ (old : World) (command : LocalCommand) (answer : ℕ) (new : World) whe
   ))
   gives_up o c named (Err refusal) f taken refused l = stayed refused l
 
-  inits : (selector start end : ℕ) → command ≡ LocalInit selector start end → LocalInits old selector start end answer new → Out
+  inits : (selector start end : ℕ) → command ≡ LocalInit selector start end → C.LocalInits old selector start end answer new → Out
   inits selector start end asked = turn (beginning old selector start end) refl
     where
-      turn : (p : Option Beginning) → beginning old selector start end ≡ p → MatchOption p (Stays old 0 answer new) (λ b. (answer ≡ 1) × (new ≡ with_table old b.slot (new_table b.range))) → Out
+      turn : (p : Option C.Beginning) → beginning old selector start end ≡ p → MatchOption p (Stays old 0 answer new) (λ b. (answer ≡ 1) × (new ≡ C.with_table old b.slot (C.new_table b.range))) → Out
       turn None e s = stayed 0 s
       turn (Some b) e s = inr (inl (record { selector = selector; start = start; end = end; begun = b; asked = asked; may = e; answered = s.0; rest = s.1 }))
 
   -- what is so of the longer heap, where one grew
   grown : (at : LocalHeap) → current_heap old ≡ Some at → (id n flags : ℕ) (so : World → LocalHeap → Type 0) → flags_in command ≡ Some flags → (not (has_flag flags LMEM_NOCOMPACT) ≡ true → may_grow command ≡ true)
       → ((next : World) (longer : LocalHeap) → so next longer → Acts next longer (IsMade (heap_of at) (heap_of longer) command answer) new)
-      → OnceLonger old at id n (local_options flags) so (Stays old 0 answer new) → Out
+      → C.OnceLonger old at id n (C.local_options flags) so (Stays old 0 answer new) → Out
   grown at c id n flags so given may made (inl short) = stayed 0 short.1
   grown at c id n flags so given may made (inr g) = inr (inr (
     at,
@@ -155,38 +155,38 @@ module _ (old : World) (command : LocalCommand) (answer : ℕ) (new : World) whe
       n = n;
       flags = flags;
       given = given;
-      grows = record { size = g.size; growth = g.growth; lengthens = g.lengthens; grown = made (with_longer old g.lengthens.handles (longer at g.size g.lengthens.bytes)) (longer at g.size g.lengthens.bytes) g.grown };
+      grows = record { size = g.size; growth = g.growth; lengthens = g.lengthens; grown = made (C.with_longer old g.lengthens.handles (longer at g.size g.lengthens.bytes)) (longer at g.size g.lengthens.bytes) g.grown };
     })),
   ))
 
   allocates : (flags size : ℕ) → flags_in command ≡ Some flags → (is_absent_asked flags size ≡ false → asks_for_room command ≡ true) → (is_absent_asked flags size ≡ false → not (has_flag flags LMEM_NOCOMPACT) ≡ true → may_grow command ≡ true)
-      → (at : LocalHeap) → current_heap old ≡ Some at → AllocatesIn old flags size answer new at → Out
+      → (at : LocalHeap) → current_heap old ≡ Some at → C.AllocatesIn old flags size answer new at → Out
   allocates flags size given asks may at c (inl refused) = stayed 0 refused.1
   allocates flags size given asks may at c (inr (id, free, inl makes)) = turn (is_absent_asked flags size) refl makes
     where
-      turn : (b : Bool) → is_absent_asked flags size ≡ b → MatchBool b ((next : Heap) × EntersObject (heap_of at) flags id answer next × Becomes old at next new) (Acts old at (AllocatesObject (heap_of at) flags size id answer) new) → Out
+      turn : (b : Bool) → is_absent_asked flags size ≡ b → MatchBool b ((next : Heap) × C.EntersObject (heap_of at) flags id answer next × Becomes old at next new) (Acts old at (AllocatesObject (heap_of at) flags size id answer) new) → Out
       turn true t e = inr (inr (at, c, inl (e.0, inr (flags, size, id, t, e.1.entered), e.2)))
       turn false t a = inr (inr (at, c, inr (inl (acts_as old at (AllocatesObject (heap_of at) flags size id answer) (IsRoomed (heap_of at) command answer) new (λ heap m. inl (asks t, inl (flags, size, id, free, m))) a))))
   allocates flags size given asks may at c (inr (id, free, inr (lacks, once))) =
-      grown at c id (rounded_up size) flags (λ next longer. MakesObject next longer flags size id answer new) given (may some)
+      grown at c id (C.rounded_up size) flags (λ next longer. C.MakesObject next longer flags size id answer new) given (may some)
       (λ next longer made. acts_as next longer (AllocatesObject (heap_of longer) flags size id answer) (IsMade (heap_of at) (heap_of longer) command answer) new (λ heap m. inl (flags, size, id, free, m))
-      (subst (λ b. MatchBool b ((heap : Heap) × EntersObject (heap_of longer) flags id answer heap × Becomes next longer heap new) (Acts next longer (AllocatesObject (heap_of longer) flags size id answer) new)) some made)) once
+      (subst (λ b. MatchBool b ((heap : Heap) × C.EntersObject (heap_of longer) flags id answer heap × Becomes next longer heap new) (Acts next longer (AllocatesObject (heap_of longer) flags size id answer) new)) some made)) once
     where
       some : is_absent_asked flags size ≡ false
-      some = ap (λ b. b && has_flag flags LMEM_MOVEABLE) (ne_eqb size 0 (λ e. absurd (omega (arith, e, lacks.0))))
+      some = ap (λ b. b && has_flag flags LMEM_MOVEABLE) (C.ne_eqb size 0 (λ e. absurd (omega (arith, e, lacks.0))))
 
-  compacts : (size : ℕ) → ((size == 0) ≡ false → asks_for_room command ≡ true) → (at : LocalHeap) → current_heap old ≡ Some at → CompactsIn old size answer new at → Out
+  compacts : (size : ℕ) → ((size == 0) ≡ false → asks_for_room command ≡ true) → (at : LocalHeap) → current_heap old ≡ Some at → C.CompactsIn old size answer new at → Out
   compacts size asks at c = turn (size == 0) refl
     where
-      turn : (b : Bool) → (size == 0) ≡ b → MatchBool b (Stays old (most_room (heap_of at)) answer new) (Acts old at (MakesRoom (heap_of at) size answer) new) → Out
-      turn true t s = stayed (most_room (heap_of at)) s
+      turn : (b : Bool) → (size == 0) ≡ b → MatchBool b (Stays old (C.most_room (heap_of at)) answer new) (Acts old at (MakesRoom (heap_of at) size answer) new) → Out
+      turn true t s = stayed (C.most_room (heap_of at)) s
       turn false t a = inr (inr (at, c, inr (inl (acts_as old at (MakesRoom (heap_of at) size answer) (IsRoomed (heap_of at) command answer) new (λ heap m. inl (asks t, inr (inl (size, m)))) a))))
 
   reallocates : (name size flags : ℕ) → (has_flag flags LMEM_MODIFY ≡ false → (size == 0) ≡ false →
       (asks_for_room command ≡ true) × (may_move_named command ≡ true) ×
       (not (has_flag flags LMEM_NOCOMPACT) ≡ true → may_grow command ≡ true) × (flags_in command ≡ Some flags)) →
       (o : LocalObject) → current_heap old ≡ Some o.heap → IsNamedIn (heap_of o.heap) command o.id
-      → MatchBool (has_flag flags LMEM_MODIFY) (ModifiesObject old name flags answer new o) (MatchBool (size == 0) (DiscardsObject old name flags answer new o) (SizesObject old size flags answer new o)) → Out
+      → MatchBool (has_flag flags LMEM_MODIFY) (C.ModifiesObject old name flags answer new o) (MatchBool (size == 0) (DiscardsObject old name flags answer new o) (SizesObject old size flags answer new o)) → Out
   reallocates name size flags asks o c named = modify (has_flag flags LMEM_MODIFY) refl
     where
       discards : (b : Bool) → MatchBool b (GivesUp old o.heap (after_discard (heap_of o.heap) o.id) name 0 answer new) (Stays old 0 answer new) → Out
@@ -196,20 +196,20 @@ module _ (old : World) (command : LocalCommand) (answer : ℕ) (new : World) whe
       sizes : (asks_for_room command ≡ true) × (may_move_named command ≡ true) × (not (has_flag flags LMEM_NOCOMPACT) ≡ true → may_grow command ≡ true) × (flags_in command ≡ Some flags) → SizesObject old size flags answer new o → Out
       sizes may (inl a) = inr (inr (o.heap, c, inr (inl (acts_as old o.heap (ResizesObject (heap_of o.heap) o.id size flags answer) (IsRoomed (heap_of o.heap) command answer) new (λ heap r. inl (may.0, inr (inr (size, flags, o.id, named, may.1, r)))) a))))
       sizes may (inr (lacks, once)) =
-          grown o.heap c o.id (rounded_up size) flags (λ next longer. Acts next longer (ResizesObject (heap_of longer) o.id size flags answer) new) may.3 may.2
+          grown o.heap c o.id (C.rounded_up size) flags (λ next longer. Acts next longer (ResizesObject (heap_of longer) o.id size flags answer) new) may.3 may.2
           (λ next longer a. acts_as next longer (ResizesObject (heap_of longer) o.id size flags answer) (IsMade (heap_of o.heap) (heap_of longer) command answer) new (λ heap r. inr (inr (size, flags, o.id, named, may.1, r))) a) once
 
       by_size : has_flag flags LMEM_MODIFY ≡ false → (b : Bool) → (size == 0) ≡ b → MatchBool b (DiscardsObject old name flags answer new o) (SizesObject old size flags answer new o) → Out
       by_size keeps true e d = discards (has_flag flags LMEM_MOVEABLE) d
       by_size keeps false e s = sizes (asks keeps e) s
 
-      modify : (b : Bool) → has_flag flags LMEM_MODIFY ≡ b → MatchBool b (ModifiesObject old name flags answer new o) (MatchBool (size == 0) (DiscardsObject old name flags answer new o) (SizesObject old size flags answer new o)) → Out
-      modify true e l = leaves o c named (after_modify (heap_of o.heap) o.id (moveable_or_discardable flags)) (λ next e. inr (inr (flags, e))) (λ _. name) (λ _. name) l
+      modify : (b : Bool) → has_flag flags LMEM_MODIFY ≡ b → MatchBool b (C.ModifiesObject old name flags answer new o) (MatchBool (size == 0) (DiscardsObject old name flags answer new o) (SizesObject old size flags answer new o)) → Out
+      modify true e l = leaves o c named (C.after_modify (heap_of o.heap) o.id (C.moveable_or_discardable flags)) (λ next e. inr (inr (flags, e))) (λ _. name) (λ _. name) l
       modify false e s = by_size e (size == 0) refl s
 
-pub outcome : (old : World) (command : LocalCommand) (answer : ℕ) (new : World) → Answers old command answer new → Outcome old command answer new
+pub outcome : (old : World) (command : LocalCommand) (answer : ℕ) (new : World) → C.Answers old command answer new → Outcome old command answer new
 outcome old (LocalInit selector start end) answer new step = inits old (LocalInit selector start end) answer new selector start end refl step
-outcome old (LocalAlloc flags size) answer new step = on_chosen old (LocalAlloc flags size) answer new (AllocatesIn old flags size answer new) (allocates old (LocalAlloc flags size) answer new flags size refl (λ some. ap not some) (λ some may i. not (some i) && may i)) step
+outcome old (LocalAlloc flags size) answer new step = on_chosen old (LocalAlloc flags size) answer new (C.AllocatesIn old flags size answer new) (allocates old (LocalAlloc flags size) answer new flags size refl (λ some. ap not some) (λ some may i. not (some i) && may i)) step
 outcome old (LocalReAlloc name size flags) answer new step =
     on_named old (LocalReAlloc name size flags) answer new name 0 _ refl
     (λ o c named s. reallocates old (LocalReAlloc name size flags) answer new name size flags
@@ -220,13 +220,13 @@ outcome old (LocalFree name) answer new step =
     on_named old (LocalFree name) answer new name name (λ o. GivesUp old o.heap (after_free (heap_of o.heap) o.id) 0 name answer new) refl
     (λ o c named l. gives_up old (LocalFree name) answer new o c named (after_free (heap_of o.heap) o.id) (λ next e. inl (refl, e)) 0 name l) step
 outcome old (LocalLock name) answer new step =
-    on_named old (LocalLock name) answer new name 0 (λ o. Leaves old o.heap (after_lock (heap_of o.heap) o.id) (λ _. near_pointer (heap_of o.heap) o.id) (lock_refused (near_pointer (heap_of o.heap) o.id)) answer new) refl
-    (λ o c named l. leaves old (LocalLock name) answer new o c named (after_lock (heap_of o.heap) o.id) (λ next e. inl e) (λ _. near_pointer (heap_of o.heap) o.id) (lock_refused (near_pointer (heap_of o.heap) o.id)) l) step
+    on_named old (LocalLock name) answer new name 0 (λ o. Leaves old o.heap (after_lock (heap_of o.heap) o.id) (λ _. near_pointer (heap_of o.heap) o.id) (C.lock_refused (near_pointer (heap_of o.heap) o.id)) answer new) refl
+    (λ o c named l. leaves old (LocalLock name) answer new o c named (after_lock (heap_of o.heap) o.id) (λ next e. inl e) (λ _. near_pointer (heap_of o.heap) o.id) (C.lock_refused (near_pointer (heap_of o.heap) o.id)) l) step
 outcome old (LocalUnlock name) answer new step =
-    on_named old (LocalUnlock name) answer new name 0 (λ o. Leaves old o.heap (after_unlock (heap_of o.heap) o.id) (locks_left o.id) (λ _. 0) answer new) refl
-    (λ o c named l. leaves old (LocalUnlock name) answer new o c named (after_unlock (heap_of o.heap) o.id) (λ next e. inr (inl e)) (locks_left o.id) (λ _. 0) l) step
-outcome old (LocalSize name) answer new step = inl step.1
-outcome old (LocalFlags name) answer new step = inl step.1
-outcome old (LocalHandle pointer) answer new step = inl step.1
-outcome old (LocalCompact size) answer new step = on_chosen old (LocalCompact size) answer new (CompactsIn old size answer new) (compacts old (LocalCompact size) answer new size (λ some. ap not some)) step
+    on_named old (LocalUnlock name) answer new name 0 (λ o. Leaves old o.heap (after_unlock (heap_of o.heap) o.id) (C.locks_left o.id) (λ _. 0) answer new) refl
+    (λ o c named l. leaves old (LocalUnlock name) answer new o c named (after_unlock (heap_of o.heap) o.id) (λ next e. inr (inl e)) (C.locks_left o.id) (λ _. 0) l) step
+outcome old (C.LocalSize name) answer new step = inl step.1
+outcome old (C.LocalFlags name) answer new step = inl step.1
+outcome old (C.LocalHandle pointer) answer new step = inl step.1
+outcome old (LocalCompact size) answer new step = on_chosen old (LocalCompact size) answer new (C.CompactsIn old size answer new) (compacts old (LocalCompact size) answer new size (λ some. ap not some)) step
 outcome old (DS selector) answer new step = absurd step

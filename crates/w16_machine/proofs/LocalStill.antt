@@ -1,31 +1,30 @@
 -- What local calls leave still.
-use Rattle.w16_machine.proofs.Common.{◌≡◌, ℕ, inl, inr, Bool, true, false, cond, nat_lt, ◌==◌, MatchBool, MatchOption, IfOk, Option, Some, None, Result, Ok, Err, refl, sym, ap, ◌∙◌, subst, false≢true}
-use Rattle.w16_machine.proofs.Common.{cases_eq, Refusal, Heap, Object, object_at, removed, after_free, MakesRoom, most_room, discard_absent, taken_here, taken_other, Word, Done, World, LocalHeap, Acts}
-use Rattle.w16_machine.proofs.Common.{Stays, heap_of, current_heap, LocalCommand, Answers, CompactsIn, LocalSize, LocalFlags, LocalHandle, LocalCompact, DS, PlacesLaw, QueriesLaw, asks_for_room, only_tells}
+use Rattle.w16_machine.proofs
+use proofs.Common as C
+use proofs.Common.{◌≡◌, ℕ, inl, inr, Bool, true, false, cond, ◌==◌, IfOk, Option, Some, None, Ok, Err, refl, sym, ap, ◌∙◌, subst, false≢true, Heap, removed, Word, Done, World, Acts, Stays, heap_of, DS}
+use proofs.LocalOutcomes.{IsRoomed, IsStepped, grow_asks}
+use proofs.{LocalCurrent.current_becomes, LocalOthers.altered_is}
 use Rattle.std.specs.FinMap as finmap
 use Rattle.w16_model.specs.declared.Refusal.TheVariants as refusals
-use Rattle.w16_machine.proofs.LocalCurrent.{current_becomes}
-use Rattle.w16_machine.proofs.LocalOthers.{altered_is}
-use Rattle.w16_machine.proofs.LocalOutcomes.{IsRoomed, IsStepped, grow_asks}
 
 -- Calls that only tell.
 
-told : (old new : World) (command : LocalCommand) (answer : ℕ) → only_tells command ≡ true → Answers old command answer new → new ≡ old
-told old new (LocalSize name) answer tells step = step.1
-told old new (LocalFlags name) answer tells step = step.1
-told old new (LocalHandle pointer) answer tells step = step.1
-told old new (LocalCompact size) answer tells step = in_heap (current_heap old) step
+told : (old new : World) (command : C.LocalCommand) (answer : ℕ) → C.only_tells command ≡ true → C.Answers old command answer new → new ≡ old
+told old new (C.LocalSize name) answer tells step = step.1
+told old new (C.LocalFlags name) answer tells step = step.1
+told old new (C.LocalHandle pointer) answer tells step = step.1
+told old new (C.LocalCompact size) answer tells step = in_heap (C.current_heap old) step
   where
-    for_none : (at : LocalHeap) (b : Bool) → b ≡ true → MatchBool b (Stays old (most_room (heap_of at)) answer new) (Acts old at (MakesRoom (heap_of at) size answer) new) → new ≡ old
+    for_none : (at : C.LocalHeap) (b : Bool) → b ≡ true → C.MatchBool b (Stays old (C.most_room (heap_of at)) answer new) (Acts old at (C.MakesRoom (heap_of at) size answer) new) → new ≡ old
     for_none at true e s = s.1
     for_none at false e s = absurd (false≢true e)
 
-    in_heap : (p : Option LocalHeap) → MatchOption p (Stays old 0 answer new) (CompactsIn old size answer new) → new ≡ old
+    in_heap : (p : Option C.LocalHeap) → C.MatchOption p (Stays old 0 answer new) (C.CompactsIn old size answer new) → new ≡ old
     in_heap None s = s.1
     in_heap (Some at) s = for_none at (size == 0) tells s
 told old new other answer tells step = absurd (false≢true tells)
 
-pub queries_law : QueriesLaw
+pub queries_law : C.QueriesLaw
 queries_law old new (DS selector) Done tells step = absurd (false≢true tells)
 queries_law old new command (Word answer) tells step = told old new command answer tells step
 queries_law old new command reply tells step = absurd step
@@ -41,26 +40,26 @@ module _ (heap : Heap) (q pointer : ℕ) where
 
   -- one place fewer
   fewer_places : (next : Heap) (id : ℕ) → next.places ≡ finmap.remove heap.places id → Stood next
-  fewer_places next id e at = elim (cases_eq q id) [
-    | inl f ↦ absurd (never (sym (taken_here heap.places id q f) ∙ ap (λ m. finmap.get m q) (sym e) ∙ at))
-    | inr d ↦ sym (taken_other heap.places id q d) ∙ ap (λ m. finmap.get m q) (sym e) ∙ at
+  fewer_places next id e at = elim (C.cases_eq q id) [
+    | inl f ↦ absurd (never (sym (C.taken_here heap.places id q f) ∙ ap (λ m. finmap.get m q) (sym e) ∙ at))
+    | inr d ↦ sym (C.taken_other heap.places id q d) ∙ ap (λ m. finmap.get m q) (sym e) ∙ at
   ]
     where
       never : ◌≡◌ {A = Option ℕ} None (Some pointer) → ⊥
       never f = cc
 
-  freed : (id : ℕ) → IfOk (after_free heap id) Stood
-  freed id = turn (object_at heap id)
+  freed : (id : ℕ) → IfOk (C.after_free heap id) Stood
+  freed id = turn (C.object_at heap id)
     where
       unless : (b : Bool) → IfOk (cond b (Err refusals.Locked) (Ok (removed heap id))) Stood
       unless true = tt
       unless false = fewer_places (removed heap id) id refl
 
-      turn : (p : Option Object) → IfOk (elim p as (λ _. Result Heap Refusal) [ None ↦ Ok heap | Some o ↦ cond (nat_lt 0 o.locks) (Err refusals.Locked) (Ok (removed heap id)) ]) Stood
+      turn : (p : Option C.Object) → IfOk (elim p as (λ _. C.Result Heap C.Refusal) [ None ↦ Ok heap | Some o ↦ cond (C.nat_lt 0 o.locks) (Err refusals.Locked) (Ok (removed heap id)) ]) Stood
       turn None = same_places heap refl
-      turn (Some o) = unless (nat_lt 0 o.locks)
+      turn (Some o) = unless (C.nat_lt 0 o.locks)
 
-  module _ (command : LocalCommand) (none : asks_for_room command ≡ false) where
+  module _ (command : C.LocalCommand) (none : C.asks_for_room command ≡ false) where
     stepped : (next : Heap) → IsStepped heap command next → Stood next
     stepped next (inl (id, named, altered)) = altered_is heap id Stood (same_places heap refl) (λ new p put places order. same_places new places) next altered
     stepped next (inr (flags, size, id, t, enters)) = same_places next (ap (λ (h : Heap). h.places) enters.entered)
@@ -68,9 +67,9 @@ module _ (heap : Heap) (q pointer : ℕ) where
     roomed : (answer : ℕ) (next : Heap) → IsRoomed heap command answer next → Stood next
     roomed answer next (inl (asks, made)) = absurd (false≢true (sym none ∙ asks))
     roomed answer next (inr (id, named, inl up)) = subst (λ r. IfOk r Stood) up.1 (freed id)
-    roomed answer next (inr (id, named, inr done)) = fewer_places next id (ap (λ (h : Heap). h.places) (discard_absent heap next id done))
+    roomed answer next (inr (id, named, inr done)) = fewer_places next id (ap (λ (h : Heap). h.places) (C.discard_absent heap next id done))
 
-pub places_law : PlacesLaw
+pub places_law : C.PlacesLaw
 places_law old new command reply at after q pointer step c e none =
     let heap : Heap = heap_of at in
     current_becomes old at c command reply new (Stood heap q pointer) (same_places heap q pointer heap refl) (stepped heap q pointer command none) (roomed heap q pointer command none) (λ answer after e g. absurd (false≢true (sym none ∙ grow_asks command g.may))) after e step

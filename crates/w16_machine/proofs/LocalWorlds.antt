@@ -1,14 +1,13 @@
 -- Each step of each family keeps what holds of local heaps.
-use Rattle.w16_machine.proofs.Common.{◌≡◌, ◌≢◌, ℕ, ◌<◌, inl, inr, IsSomeAnd, List, length, All, Some, option_map, refl, sym, ap, subst, arith, cases_eq, Heap, Object, object_at, after_write, AreHandles, Table}
-use Rattle.w16_machine.proofs.Common.{heap_in, other_handles, same_updated, written_sized, bytes_in, inserted_here, inserted_other, written_heap, put_part, World, Reply, Word, Done, LocalHeap, AreLocalHeaps}
-use Rattle.w16_machine.proofs.Common.{IsLocalIn, AreNamed, Becomes, Acts, segment_bytes, heap_of, new_table, with_table, with_local, LocalCommand, LocalStep, DS, Lengthens, longer, with_longer, local_options}
+use Rattle.w16_machine.proofs
+use proofs.Common.{◌≡◌, ◌≢◌, ℕ, ◌<◌, inl, inr, IsSomeAnd, List, length, All, Some, option_map, refl, sym, ap, subst, arith, cases_eq, Heap, Object, object_at, after_write, AreHandles, Table, heap_in, other_handles, same_updated, written_sized, bytes_in, inserted_here, inserted_other}
+use proofs.Common.{written_heap, put_part, World, Reply, Word, Done, LocalHeap, AreLocalHeaps, IsLocalIn, AreNamed, Becomes, Acts, segment_bytes, heap_of, new_table, with_table, with_local, LocalCommand, LocalStep, DS, Lengthens, longer, with_longer, local_options}
+use proofs.LocalFacts.{IsThere, current_there, local_here, heap_here, object_of, segment_after, segment_other}
+use proofs.LocalBegins.{begin_law, new_local}
+use proofs.LocalNamed.{made_named, roomed_named, stepped_named}
+use proofs.LocalOutcomes.{Outcome, IsMade, IsRoomed, outcome}
+use proofs.{LocalGrown.grown_there, LocalGrown.grown_world, LocalLeft.IsLocalAt}
 use Rattle.std.specs.FinMap as finmap
-use Rattle.w16_machine.proofs.LocalFacts.{IsThere, current_there, local_here, heap_here, object_of, segment_after, segment_other}
-use Rattle.w16_machine.proofs.LocalBegins.{begin_law, new_local}
-use Rattle.w16_machine.proofs.LocalGrown.{grown_there, grown_world}
-use Rattle.w16_machine.proofs.LocalLeft.{IsLocalAt}
-use Rattle.w16_machine.proofs.LocalNamed.{made_named, roomed_named, stepped_named}
-use Rattle.w16_machine.proofs.LocalOutcomes.{Outcome, IsMade, IsRoomed, outcome}
 
 -- A world with another table of a local heap, over the same bytes or others of its segment.
 module _ (old : World) (is : AreLocalHeaps old) where

@@ -1,15 +1,11 @@
 -- Steps that read no file: calls on handles, which leave the rest of the world, and far accesses that fetch nothing.
-use Rattle.w16_machine.proofs.Common.{false≢true, inl, inr, ◌≡◌, ℕ, false, refl, sym, ap, ◌∙◌, subst, arith, HandleCommand, FarAnswer, FarCommand, Read, Write, Fill, Handles, selector_in}
-use Rattle.w16_machine.proofs.Common.{ResizesStep, FamilyStep, LoadingCommand, OfHandles, OfResizes, OfFar, OfModules, OfResources, Accesses, needs_fetch}
-use Rattle.w16_machine.proofs.Common.{gives, reply_of_far, Format, LoadingWorld, with_handles, Reply, HandleReplies, ResizeReplies, FarReplies, Done, ResizeCommand, OnHandles}
+use Rattle.w16_machine.proofs.Common as C
+use Rattle.w16_machine.proofs.Common.{false≢true, inl, inr, ◌≡◌, ℕ, false, refl, sym, ap, ◌∙◌, subst, arith, FarAnswer, FarCommand, Read, Write, Fill, Handles, LoadingCommand, OfFar, gives, reply_of_far, Format, LoadingWorld, with_handles, Reply, Done}
 use Rattle.w16_loading.proofs.Cases.{by_bool}
-use Rattle.w16_model.specs.Far as far
 use Rattle.w16_loading.specs.Families.{HandleStep, FarStep, Loading, access_of, far_reads_file}
+use Rattle.w16_loading.specs.{Fetch.Fetching, Fill.Fills, Answers.FetchesFrom, Answers.LoadsFrom, Answers.StepOver, Answers.told, Replies.Reply.Bytes, Replies.Reply.Fault}
 use Rattle.w16_model.specs.Effects.{pointer_in}
-use Rattle.w16_loading.specs.Fetch.{Fetching}
-use Rattle.w16_loading.specs.Fill.{Fills}
-use Rattle.w16_loading.specs.Answers.{FetchesFrom, LoadsFrom, StepOver, told}
-use Rattle.w16_loading.specs.Replies.Reply.{Bytes, Fault}
+use Rattle.w16_model.specs.Far as far
 
 -- the fetches and loads of a step over a store
 abbrev pub fetching : Type 0 → Format → LoadingWorld → LoadingWorld → Fetching
@@ -21,35 +17,35 @@ loading honest format old new = LoadsFrom Fills (told honest format old.files ol
 handles_of : (old new : LoadingWorld) (next : Handles) → new ≡ record old { handles = next } → next ≡ new.handles
 handles_of old new next e = sym (ap (λ (w : LoadingWorld). w.handles) e)
 
-pub call_replies : (honest : Type 0) (format : Format) (old new : LoadingWorld) (command : HandleCommand) (reply : Reply) → StepOver honest format old (OfHandles command) reply new → HandleReplies old.handles command reply new.handles
+pub call_replies : (honest : Type 0) (format : Format) (old new : LoadingWorld) (command : C.HandleCommand) (reply : Reply) → StepOver honest format old (C.OfHandles command) reply new → C.HandleReplies old.handles command reply new.handles
 call_replies honest format old new command reply s =
     let step : HandleStep old command reply (record new { failures = old.failures }) = s.step in
-    subst (HandleReplies old.handles command reply) (handles_of old (record new { failures = old.failures }) step.0 step.2) step.1
+    subst (C.HandleReplies old.handles command reply) (handles_of old (record new { failures = old.failures }) step.0 step.2) step.1
 
-pub resize_replies : (honest : Type 0) (format : Format) (old new : LoadingWorld) (command : ResizeCommand) (reply : Reply) → StepOver honest format old (OfResizes command) reply new → ResizeReplies old.handles command reply new.handles
+pub resize_replies : (honest : Type 0) (format : Format) (old new : LoadingWorld) (command : C.ResizeCommand) (reply : Reply) → StepOver honest format old (C.OfResizes command) reply new → C.ResizeReplies old.handles command reply new.handles
 resize_replies honest format old new command reply s =
-    let step : ResizesStep old command reply (record new { failures = old.failures }) = s.step in
-    subst (ResizeReplies old.handles command reply) (handles_of old (record new { failures = old.failures }) step.0 step.2) step.1
+    let step : C.ResizesStep old command reply (record new { failures = old.failures }) = s.step in
+    subst (C.ResizeReplies old.handles command reply) (handles_of old (record new { failures = old.failures }) step.0 step.2) step.1
 
 -- A far access that fetches nothing is made once.
-module _ (fetches : Fetching) (access : LoadingWorld → FarAnswer × LoadingWorld) (old new : LoadingWorld) (selector : ℕ) (reply : Reply) (none : needs_fetch (access old).0 old selector ≡ false) where
-  pub once : Accesses fetches access old selector reply new → new ≡ (access old).1
-  once a = elim (by_bool (needs_fetch (access old).0 old selector) a) [ inl (e, f) ↦ absurd (false≢true (sym none ∙ e)) | inr (e, g) ↦ g.1 ]
+module _ (fetches : Fetching) (access : LoadingWorld → FarAnswer × LoadingWorld) (old new : LoadingWorld) (selector : ℕ) (reply : Reply) (none : C.needs_fetch (access old).0 old selector ≡ false) where
+  pub once : C.Accesses fetches access old selector reply new → new ≡ (access old).1
+  once a = elim (by_bool (C.needs_fetch (access old).0 old selector) a) [ inl (e, f) ↦ absurd (false≢true (sym none ∙ e)) | inr (e, g) ↦ g.1 ]
 
-  pub accessed : gives (access old) reply new → Accesses fetches access old selector reply new
+  pub accessed : gives (access old) reply new → C.Accesses fetches access old selector reply new
   accessed g = rw none g
 
 -- what a reply prints
-replied : (h next : Handles) (command : FarCommand) (reply : Reply) → FarReplies h command reply next → (answer : FarAnswer) × (reply ≡ reply_of_far answer) × far.FarStep h command answer next
+replied : (h next : Handles) (command : FarCommand) (reply : Reply) → C.FarReplies h command reply next → (answer : FarAnswer) × (reply ≡ reply_of_far answer) × far.FarStep h command answer next
 replied h next command (Bytes bytes) s = (FarAnswer.Bytes bytes, refl, s)
 replied h next command Done s = (FarAnswer.Done, refl, s)
 replied h next command (Fault fault) s = (FarAnswer.Fault fault, refl, s)
 replied h next command reply s = absurd s
 
-far_step : (fetches : Fetching) (old : LoadingWorld) (next : Handles) (command : FarCommand) (reply : Reply) → far_reads_file old command ≡ false → FarReplies old.handles command reply next → FarStep fetches old command reply (with_handles old next)
+far_step : (fetches : Fetching) (old : LoadingWorld) (next : Handles) (command : FarCommand) (reply : Reply) → far_reads_file old command ≡ false → C.FarReplies old.handles command reply next → FarStep fetches old command reply (with_handles old next)
 far_step fetches old next command reply none s =
     let r : (answer : FarAnswer) × (reply ≡ reply_of_far answer) × far.FarStep old.handles command answer next = replied old.handles next command reply s in
-    accessed fetches (access_of command) old (with_handles old next) (selector_in (pointer_in command)) reply none (by command r.0 r.1 r.2)
+    accessed fetches (access_of command) old (with_handles old next) (C.selector_in (pointer_in command)) reply none (by command r.0 r.1 r.2)
   where
     by : (command : FarCommand) (answer : FarAnswer) → reply ≡ reply_of_far answer → far.FarStep old.handles command answer next → gives (access_of command old) reply (with_handles old next)
     by (Read pointer count) answer e s = (e ∙ ap reply_of_far s.0, ap (with_handles old) s.1)
@@ -61,12 +57,12 @@ abbrev pub FetchesNothing : LoadingWorld → LoadingCommand → Type 0
 FetchesNothing old (OfFar command) = far_reads_file old command ≡ false
 FetchesNothing old command = Unit {0}
 
-pub handles_step : (honest : Type 0) (format : Format) (old : LoadingWorld) (next : Handles) (command : LoadingCommand) (reply : Reply) → FetchesNothing old command → OnHandles old.handles command reply next → StepOver honest format old command reply (with_handles old next)
+pub handles_step : (honest : Type 0) (format : Format) (old : LoadingWorld) (next : Handles) (command : LoadingCommand) (reply : Reply) → FetchesNothing old command → C.OnHandles old.handles command reply next → StepOver honest format old command reply (with_handles old next)
 handles_step honest format old next command reply none s = record { counted = omega arith; files = refl; step = turn command none s }
   where
-    turn : (command : LoadingCommand) → FetchesNothing old command → OnHandles old.handles command reply next → FamilyStep (fetching honest format old old) (loading honest format old old) old command reply (with_handles old next)
-    turn (OfHandles command) none s = (next, s, refl)
-    turn (OfResizes command) none s = (next, s, refl)
+    turn : (command : LoadingCommand) → FetchesNothing old command → C.OnHandles old.handles command reply next → C.FamilyStep (fetching honest format old old) (loading honest format old old) old command reply (with_handles old next)
+    turn (C.OfHandles command) none s = (next, s, refl)
+    turn (C.OfResizes command) none s = (next, s, refl)
     turn (OfFar command) none s = far_step (fetching honest format old old) old next command reply none s
-    turn (OfModules command) none s = absurd s
-    turn (OfResources command) none s = absurd s
+    turn (C.OfModules command) none s = absurd s
+    turn (C.OfResources command) none s = absurd s

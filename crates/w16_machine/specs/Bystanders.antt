@@ -1,19 +1,12 @@
 -- What steps, and so runs, leave of objects that they aren't about, and of DS.
+use Rattle.w16_machine.specs
 use Rattle.std.specs.Prelude.{◌≡◌, ℕ, ◌⊎◌, Bool, true, false, is_some, List, All, Some, None, option_map, IsSomeAnd}
-use Rattle.w16_model.specs.declared.Kind.TheVariants.{Discardable}
-use Rattle.w16_model.specs.CallLaws.{IsKeptOrDiscarded}
-use Rattle.w16_model.specs.Heap.{Object, object_at, is_pinned_object}
-use Rattle.w16_model.specs.Law.{StandsStill}
-use Rattle.w16_loading.specs.Bystanders.{IsStepAbout, IsReleased, step_may_move_own}
-use Rattle.w16_loading.specs.File.{Format}
-use Rattle.w16_loading.specs.Replies.{Reply}
-use Rattle.w16_machine.specs.World.{World}
-use Rattle.w16_machine.specs.Law.{IsWorld}
-use Rattle.w16_machine.specs.Local.{LocalHeap, heap_of, local_in, current_heap}
-use Rattle.w16_machine.specs.LocalCalls.LocalCommand.{DS}
-use Rattle.w16_machine.specs.LocalLaw.{IsLeftByGrowth, IsNamedBy, IsObjectKept, asks_for_room, but_bytes, may_grow, may_move_named}
-use Rattle.w16_machine.specs.Machine.{Command, EachStep, IsCommand, Event, Step, Run}
-use Rattle.w16_machine.specs.Machine.Command.{OfLoading, OfLocals}
+use Rattle.w16_model.specs.{declared.Kind.TheVariants.Discardable, CallLaws.IsKeptOrDiscarded, Heap.Object, Heap.object_at, Heap.is_pinned_object, Law.StandsStill}
+use Rattle.w16_loading.specs.{Bystanders.IsStepAbout, Bystanders.IsReleased, Bystanders.step_may_move_own, File.Format, Replies.Reply}
+use specs.LocalLaw.{IsLeftByGrowth, IsNamedBy, IsObjectKept, asks_for_room, but_bytes, may_grow, may_move_named}
+use specs.Machine.{Command, EachStep, IsCommand, Event, Step, Run}
+use specs.Machine.Command.{OfLoading, OfLocals}
+use specs.{World.World, Law.IsWorld, Local.LocalHeap, Local.heap_of, Local.local_in, Local.current_heap, LocalCalls.LocalCommand.DS}
 
 -- Objects of the global heap.
 

@@ -1,23 +1,16 @@
 -- What whole runs promise of discards, read at each step: a call for room discards as few objects as it can, of the global heap or of a local
 -- one, and is refused for room only where none could be made.
+use Rattle.w16_machine.specs
 use Rattle.std.specs.Prelude.{◌≡◌, ℕ, ◌<◌, List, false, Some}
-use Rattle.w16_model.specs.Calls.{has_flag}
-use Rattle.w16_model.specs.Calls.HandleCommand.{GlobalAlloc, GlobalCompact}
+use Rattle.w16_model.specs.{Calls.has_flag, Calls.HandleCommand.GlobalAlloc, Calls.HandleCommand.GlobalCompact, Fewest.CompactsFewest}
+use Rattle.w16_loading.specs.{Families.LoadingCommand, Families.LoadingCommand.OfHandles, Families.LoadingCommand.OfResizes, Fewest.RequestsFewest, Replies.Reply.Word, Replies.Reply.Dword, Resizes.ResizeCommand.GlobalReAlloc}
+use specs.Local.{LocalHeap, LocalObject, heap_of, current_heap, object_named}
+use specs.LocalCalls.LocalCommand.{LocalAlloc, LocalReAlloc, LocalCompact}
+use specs.LocalFewest.{Left, AllocFewest, ReallocFewest}
+use specs.Machine.Command.{OfLoading, OfLocals}
+use specs.{declared.local.TheConstants.LMEM_MODIFY, World.World, Machine.EachStep, Machine.Event}
 use Rattle.w16_model.specs.Fewest as global
-use Rattle.w16_model.specs.Fewest.{CompactsFewest}
 use Rattle.w16_model.specs.Resizes as resizes
-use Rattle.w16_loading.specs.Families.{LoadingCommand}
-use Rattle.w16_loading.specs.Families.LoadingCommand.{OfHandles, OfResizes}
-use Rattle.w16_loading.specs.Fewest.{RequestsFewest}
-use Rattle.w16_loading.specs.Replies.Reply.{Word, Dword}
-use Rattle.w16_loading.specs.Resizes.ResizeCommand.{GlobalReAlloc}
-use Rattle.w16_machine.specs.declared.local.TheConstants.{LMEM_MODIFY}
-use Rattle.w16_machine.specs.World.{World}
-use Rattle.w16_machine.specs.Local.{LocalHeap, LocalObject, heap_of, current_heap, object_named}
-use Rattle.w16_machine.specs.LocalCalls.LocalCommand.{LocalAlloc, LocalReAlloc, LocalCompact}
-use Rattle.w16_machine.specs.LocalFewest.{Left, AllocFewest, ReallocFewest}
-use Rattle.w16_machine.specs.Machine.{EachStep, Event}
-use Rattle.w16_machine.specs.Machine.Command.{OfLoading, OfLocals}
 
 -- The calls on the global heap.
 abbrev pub GlobalAllocFewest : World → Event → Type 0

@@ -1,16 +1,12 @@
 -- What holds of every world, and the laws of steps and runs of the whole machine. Each law is the contract of a function of the module `laws`.
+use Rattle.w16_machine.specs
 use Rattle.std.specs.Prelude.{◌≡◌, ◌≢◌, ℕ, ◌+◌, ◌≤◌, ◌⊎◌, false, List, length, All, Some, IfSome}
+use Rattle.w16_model.specs.{declared.TheConstants.MOST_SLOTS, Heap.Heap, Heap.bytes_at, Owned.is_code}
+use Rattle.w16_loading.specs.{File.Format, Law.IsLoadingWorld, Law.IsOfFiles, Replies.Reply}
+use specs.Local.{AreLocalHeaps, LocalHeap, heap_of, local_in}
+use specs.Machine.{Command, IsCommand, Step, Event, Run}
+use specs.{World.World, World.empty_world, Fewest.AreFewest}
 use Rattle.std.specs.FinMap as finmap
-use Rattle.w16_model.specs.declared.TheConstants.{MOST_SLOTS}
-use Rattle.w16_model.specs.Heap.{Heap, bytes_at}
-use Rattle.w16_model.specs.Owned.{is_code}
-use Rattle.w16_loading.specs.File.{Format}
-use Rattle.w16_loading.specs.Law.{IsLoadingWorld, IsOfFiles}
-use Rattle.w16_loading.specs.Replies.{Reply}
-use Rattle.w16_machine.specs.World.{World, empty_world}
-use Rattle.w16_machine.specs.Local.{AreLocalHeaps, LocalHeap, heap_of, local_in}
-use Rattle.w16_machine.specs.Machine.{Command, IsCommand, Step, Event, Run}
-use Rattle.w16_machine.specs.Fewest.{AreFewest}
 
 -- What holds of every world, whatever the store is.
 pub record IsWorld (w : World) : Type 0 where

@@ -1,18 +1,12 @@
 -- Local heaps: each in a segment, which is one object of the global heap. A local heap is kept as a table over its segment's bytes, and it is the
 -- heap that the table stands for in them. So a far write into the segment, and a move of it, are no steps of the local heap.
 use Rattle.std.specs.Prelude.{◌≡◌, ℕ, ◌+◌, ◌-◌, ◌*◌, ◌/◌, ◌<◌, ◌≤◌, Bool, true, false, ◌&&◌, ◌==◌, if◌then◌else◌, nat_le, nat_lt, min, List, [], length, replicate, find, All, Option, Some, None, option_map, is_some, IfSome, IsSomeAnd}
-use Rattle.std.specs.Ordering.{nat_cmp}
-use Rattle.std.specs.FinMap as finmap
-use Rattle.std.specs.FinMap.{FinMap}
-use Rattle.w16_model.specs.declared.Span.{Span}
-use Rattle.w16_model.specs.Heap.{Heap, Object, blocks, object_at, bytes_at, is_fixed}
-use Rattle.w16_model.specs.Far.{after_write}
-use Rattle.w16_model.specs.Owned.{is_code}
-use Rattle.w16_model.specs.Handles.{AreHandles, slot_of_selector}
-use Rattle.w16_model.specs.Table.{Table, IsSound, IsSameOutside, heap_in}
+use Rattle.std.specs.{Ordering.nat_cmp, FinMap.FinMap}
+use Rattle.w16_model.specs.{declared.Span.Span, Heap.Heap, Heap.Object, Heap.blocks, Heap.object_at, Heap.bytes_at, Heap.is_fixed, Far.after_write, Owned.is_code, Handles.AreHandles, Handles.slot_of_selector, Table.Table, Table.IsSound, Table.IsSameOutside, Table.heap_in}
 use Rattle.w16_machine.specs.declared.local.TheConstants.{LOCAL_GRAIN, LOCAL_ENTRIES, LAST_LOCAL_END}
-use Rattle.w16_loading.specs.Modules.{with_handles}
 use Rattle.w16_machine.specs.World.{World}
+use Rattle.w16_loading.specs.Modules.{with_handles}
+use Rattle.std.specs.FinMap as finmap
 
 -- the bytes of a slot's object, if it has any
 abbrev pub segment_bytes : World → ℕ → Option (List ℕ)

@@ -1,22 +1,17 @@
 -- The Local calls: what each answers, and the world that it leaves. All but LocalInit act in the local heap that DS names; where there is
 -- none they answer 0, LocalFree its argument, and change nothing.
+use Rattle.w16_machine.specs
 use Rattle.std.specs.Prelude.{◌≡◌, ℕ, ◌+◌, ◌<◌, ◌⊎◌, Bool, true, false, not, ◌&&◌, ◌==◌, if◌then◌else◌, nat_lt, MatchBool, MatchOption, length, Option, Some, None, Result, Ok, Err, option_map, unwrap_or, is_some}
-use Rattle.std.specs.FinMap as finmap
-use Rattle.w16_model.specs.declared.Kind.{Kind}
 use Rattle.w16_model.specs.declared.Kind.TheVariants.{Fixed, Moveable, Discardable}
-use Rattle.w16_model.specs.declared.Refusal.{Refusal}
-use Rattle.w16_model.specs.declared.Refusal.TheVariants as refusals
-use Rattle.w16_model.specs.declared.RoomOptions.{RoomOptions}
-use Rattle.w16_model.specs.Heap.{Heap, Object, object_at, bytes_at, is_discardable}
 use Rattle.w16_model.specs.Request.{Allocates, Reallocates, MakesRoom, most_room, discards_needed}
 use Rattle.w16_model.specs.OneObject.{Enters, after_lock, after_unlock, after_free, after_discard, after_modify}
-use Rattle.w16_model.specs.Calls.{has_flag, locks_at}
-use Rattle.w16_machine.specs.declared.local.TheConstants.{LMEM_MOVEABLE, LMEM_NOCOMPACT, LMEM_NODISCARD, LMEM_ZEROINIT, LMEM_MODIFY, LMEM_DISCARDABLE, LMEM_DISCARDED}
-use Rattle.w16_loading.specs.Replies.{Reply}
-use Rattle.w16_loading.specs.Replies.Reply.{Word, Done}
-use Rattle.w16_machine.specs.World.{World}
-use Rattle.w16_machine.specs.Local.{LocalHeap, LocalObject, Stays, Becomes, Acts, IsFreeEntry, IsLowestFree, heap_of, current_heap, object_named, name_at, id_at, rounded_up, beginning, new_table, with_table}
-use Rattle.w16_machine.specs.LocalGrowth.{OnceLonger}
+use Rattle.w16_model.specs.{declared.Kind.Kind, declared.Refusal.Refusal, declared.RoomOptions.RoomOptions, Heap.Heap, Heap.Object, Heap.object_at, Heap.bytes_at, Heap.is_discardable, Calls.has_flag, Calls.locks_at}
+use specs.declared.local.TheConstants.{LMEM_MOVEABLE, LMEM_NOCOMPACT, LMEM_NODISCARD, LMEM_ZEROINIT, LMEM_MODIFY, LMEM_DISCARDABLE, LMEM_DISCARDED}
+use specs.Local.{LocalHeap, LocalObject, Stays, Becomes, Acts, IsFreeEntry, IsLowestFree, heap_of, current_heap, object_named, name_at, id_at, rounded_up, beginning, new_table, with_table}
+use specs.{World.World, LocalGrowth.OnceLonger}
+use Rattle.w16_loading.specs.{Replies.Reply, Replies.Reply.Word, Replies.Reply.Done}
+use Rattle.std.specs.FinMap as finmap
+use Rattle.w16_model.specs.declared.Refusal.TheVariants as refusals
 
 -- a call on local heaps, with its arguments as numbers
 pub data LocalCommand : Type 0 where

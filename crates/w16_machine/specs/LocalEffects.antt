@@ -1,18 +1,14 @@
 -- What a local call does to the object that it names, and what it answers, where nothing refuses it; and what is refused.
+use Rattle.w16_machine.specs
 use Rattle.std.specs.Prelude.{◌≡◌, ℕ, ◌+◌, ◌-◌, ◌<◌, ◌⊎◌, Bool, true, false, not, ◌&&◌, ◌||◌, ◌==◌, if◌then◌else◌, nat_lt, Option, Some, None, is_some}
+use Rattle.w16_model.specs.{Heap.Object, Heap.object_at, Heap.is_fixed, Heap.is_discardable, Calls.has_flag, CallLaws.IsNewestOf}
+use Rattle.w16_loading.specs.{Replies.Reply, Replies.Reply.Word}
+use specs.declared.local.TheConstants.{LMEM_MOVEABLE, LMEM_MODIFY}
+use specs.Local.{LocalObject, AreLocalHeaps, heap_of, object_named}
+use specs.LocalCalls.{LocalCommand, LocalStep, moveable_or_discardable}
+use specs.LocalCalls.LocalCommand.{LocalReAlloc, LocalDiscard, LocalFree, LocalLock, LocalUnlock}
+use specs.{World.World, LocalLaw.named_by, LocalFewest.Left}
 use Rattle.std.specs.FinMap as finmap
-use Rattle.w16_model.specs.Heap.{Object, object_at, is_fixed, is_discardable}
-use Rattle.w16_model.specs.Calls.{has_flag}
-use Rattle.w16_model.specs.CallLaws.{IsNewestOf}
-use Rattle.w16_loading.specs.Replies.{Reply}
-use Rattle.w16_loading.specs.Replies.Reply.{Word}
-use Rattle.w16_machine.specs.declared.local.TheConstants.{LMEM_MOVEABLE, LMEM_MODIFY}
-use Rattle.w16_machine.specs.World.{World}
-use Rattle.w16_machine.specs.Local.{LocalObject, AreLocalHeaps, heap_of, object_named}
-use Rattle.w16_machine.specs.LocalCalls.{LocalCommand, LocalStep, moveable_or_discardable}
-use Rattle.w16_machine.specs.LocalCalls.LocalCommand.{LocalReAlloc, LocalDiscard, LocalFree, LocalLock, LocalUnlock}
-use Rattle.w16_machine.specs.LocalLaw.{named_by}
-use Rattle.w16_machine.specs.LocalFewest.{Left}
 
 -- a name names this object of the current heap
 pub record IsLocalNamed (w : World) (name : ℕ) (n : LocalObject) (o : Object) : Type 0 where

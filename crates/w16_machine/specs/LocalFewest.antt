@@ -1,20 +1,13 @@
 -- Local calls for room discard as few objects of their heap as they can, in the words of the arrangements of its blocks.
+use Rattle.w16_machine.specs
 use Rattle.std.specs.Prelude.{◌≡◌, ◌≢◌, ℕ, ◌<◌, ◌⊎◌, true, false, length, Some, None, IsSomeAnd}
-use Rattle.w16_model.specs.declared.RoomOptions.{RoomOptions}
-use Rattle.w16_model.specs.Heap.{Heap, object_at, size_of}
-use Rattle.w16_model.specs.Calls.{has_flag}
-use Rattle.w16_model.specs.Fewest.{AllocatesFewest, CompactsFewest, LacksRoom}
-use Rattle.w16_model.specs.Ends.{ending}
-use Rattle.w16_model.specs.Handles.{Handles, slot_of_handle}
 use Rattle.w16_model.specs.Reallocation.{LacksPlace, ReallocatesFewest}
+use Rattle.w16_model.specs.{declared.RoomOptions.RoomOptions, Heap.Heap, Heap.object_at, Heap.size_of, Calls.has_flag, Fewest.AllocatesFewest, Fewest.CompactsFewest, Fewest.LacksRoom, Ends.ending, Handles.Handles, Handles.slot_of_handle, Resizes.GlobalReAllocs}
+use specs.Local.{LocalHeap, LocalObject, AreLocalHeaps, heap_of, local_in, current_heap, object_named, name_at, rounded_up}
+use specs.LocalGrowth.{IsLongerSize, Lengthens, growth_flags, longer, with_longer}
+use specs.LocalCalls.{LocalAllocs, LocalReallocs, LocalCompacts, IsEmptyFixed, HasNoEntry, local_options}
+use specs.{declared.local.TheConstants.LMEM_MODIFY, World.World, LocalLaw.KeepsRest}
 use Rattle.w16_model.specs.Resizes as resizes
-use Rattle.w16_model.specs.Resizes.{GlobalReAllocs}
-use Rattle.w16_machine.specs.declared.local.TheConstants.{LMEM_MODIFY}
-use Rattle.w16_machine.specs.World.{World}
-use Rattle.w16_machine.specs.Local.{LocalHeap, LocalObject, AreLocalHeaps, heap_of, local_in, current_heap, object_named, name_at, rounded_up}
-use Rattle.w16_machine.specs.LocalGrowth.{IsLongerSize, Lengthens, growth_flags, longer, with_longer}
-use Rattle.w16_machine.specs.LocalLaw.{KeepsRest}
-use Rattle.w16_machine.specs.LocalCalls.{LocalAllocs, LocalReallocs, LocalCompacts, IsEmptyFixed, HasNoEntry, local_options}
 
 -- what is so of the heap that a call leaves in a segment
 abbrev pub Left : World → LocalHeap → (Heap → Type 0) → Type 0

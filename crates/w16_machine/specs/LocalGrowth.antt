@@ -1,17 +1,10 @@
 -- Local heaps that grow: a request that finds no room in a heap whose range ends where its segment does is answered once the segment has more
 -- bytes, and the heap ends later with it.
 use Rattle.std.specs.Prelude.{◌≡◌, ◌≢◌, ℕ, ◌<◌, ◌≤◌, ◌⊎◌, true, if◌then◌else◌, List, length, Some}
-use Rattle.std.specs.FinMap as finmap
-use Rattle.w16_model.specs.declared.RoomOptions.{RoomOptions}
-use Rattle.w16_model.specs.declared.TheConstants.{GRAIN, GMEM_NODISCARD}
-use Rattle.w16_model.specs.Heap.{IsMultiple, bytes_at}
-use Rattle.w16_model.specs.Ends.{ending, is_answered}
-use Rattle.w16_model.specs.Handles.{Handles, slot_of_handle}
-use Rattle.w16_model.specs.Resizes.{GlobalReAllocs}
-use Rattle.w16_machine.specs.declared.local.TheConstants.{LAST_LOCAL_END}
+use Rattle.w16_model.specs.{declared.RoomOptions.RoomOptions, declared.TheConstants.GRAIN, declared.TheConstants.GMEM_NODISCARD, Heap.IsMultiple, Heap.bytes_at, Ends.ending, Ends.is_answered, Handles.Handles, Handles.slot_of_handle, Resizes.GlobalReAllocs}
+use Rattle.w16_machine.specs.{declared.local.TheConstants.LAST_LOCAL_END, World.World, Local.LocalHeap, Local.heap_of, Local.left_in}
 use Rattle.w16_loading.specs.Modules.{with_handles}
-use Rattle.w16_machine.specs.World.{World}
-use Rattle.w16_machine.specs.Local.{LocalHeap, heap_of, left_in}
+use Rattle.std.specs.FinMap as finmap
 
 -- a size that the segment of a heap may get: whole grains of the global heap, more bytes than it has, and no more than near pointers reach
 pub record IsLongerSize (at : LocalHeap) (size : ℕ) : Type 0 where

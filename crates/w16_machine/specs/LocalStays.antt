@@ -1,24 +1,11 @@
 -- Which steps may take a local heap away: those that may take bytes of a global object.
 use Rattle.std.specs.Prelude.{◌≡◌, ℕ, Bool, true, false, length, Option, option_map}
-use Rattle.w16_model.specs.Heap.{bytes_at}
-use Rattle.w16_model.specs.Handles.{Handles}
-use Rattle.w16_model.specs.Calls.{HandleCommand}
-use Rattle.w16_model.specs.CallLaws.{may_change}
-use Rattle.w16_model.specs.Outcomes.Call.{Calls}
-use Rattle.w16_loading.specs.Answers.{StepOver}
-use Rattle.w16_loading.specs.File.{Format}
-use Rattle.w16_loading.specs.Families.{LoadingCommand, ModuleCommand, ResourceCommand, far_reads_file}
+use Rattle.w16_model.specs.{Heap.bytes_at, Handles.Handles, Calls.HandleCommand, CallLaws.may_change, Outcomes.Call.Calls}
 use Rattle.w16_loading.specs.Families.LoadingCommand.{OfHandles, OfResizes, OfFar, OfModules, OfResources}
 use Rattle.w16_loading.specs.Families.ModuleCommand.{LoadModule, LoadLibrary, FreeLibrary, FreeModule}
 use Rattle.w16_loading.specs.Families.ResourceCommand.{LoadResource, LockResource, FreeResource}
-use Rattle.w16_loading.specs.Modules.{LoadingWorld}
-use Rattle.w16_loading.specs.Replies.{Reply}
-use Rattle.w16_machine.specs.World.{World}
-use Rattle.w16_machine.specs.Local.{AreLocalHeaps}
-use Rattle.w16_machine.specs.LocalCalls.{LocalCommand, LocalStep}
-use Rattle.w16_machine.specs.LocalLaw.{may_grow}
-use Rattle.w16_machine.specs.Machine.{Step}
-use Rattle.w16_machine.specs.Machine.Command.{OfLoading}
+use Rattle.w16_loading.specs.{Answers.StepOver, File.Format, Families.LoadingCommand, Families.ModuleCommand, Families.ResourceCommand, Families.far_reads_file, Modules.LoadingWorld, Replies.Reply}
+use Rattle.w16_machine.specs.{World.World, Local.AreLocalHeaps, LocalCalls.LocalCommand, LocalCalls.LocalStep, LocalLaw.may_grow, Machine.Step, Machine.Command.OfLoading}
 
 -- GlobalAlloc and GlobalCompact may discard objects, and GlobalFree takes one away.
 abbrev pub call_may_take : HandleCommand → Bool

@@ -1,15 +1,9 @@
 -- The machine: its commands, what a step of each leaves of the world, and runs.
 use Rattle.std.specs.Prelude.{◌≡◌, ◌≤◌, List, [], ◌∷◌}
 use Rattle.w16_model.specs.Handles.{Handles}
-use Rattle.w16_loading.specs.File.{Format}
-use Rattle.w16_loading.specs.Modules.{LoadingWorld}
-use Rattle.w16_loading.specs.Families.{LoadingCommand, IsLoadingCommand}
 use Rattle.w16_loading.specs.Families.LoadingCommand.{OfHandles, OfResizes, OfFar}
-use Rattle.w16_loading.specs.Answers.{StepOver}
-use Rattle.w16_loading.specs.Replies.{Reply, HandleReplies, ResizeReplies, FarReplies}
-use Rattle.w16_machine.specs.World.{World}
-use Rattle.w16_machine.specs.Local.{left_in}
-use Rattle.w16_machine.specs.LocalCalls.{LocalCommand, LocalStep}
+use Rattle.w16_loading.specs.{File.Format, Modules.LoadingWorld, Families.LoadingCommand, Families.IsLoadingCommand, Answers.StepOver, Replies.Reply, Replies.HandleReplies, Replies.ResizeReplies, Replies.FarReplies}
+use Rattle.w16_machine.specs.{World.World, Local.left_in, LocalCalls.LocalCommand, LocalCalls.LocalStep}
 
 -- a command of loading, which has the calls on handles and the far accesses too, or one on local heaps
 pub data Command : Type 0 where

@@ -1,14 +1,8 @@
 -- The world of the whole machine.
-use Rattle.std.specs.Prelude.{ℕ, List}
-use Rattle.std.specs.Ordering.{nat_cmp}
+use Rattle.std.specs.{Prelude.ℕ, Prelude.List, Ordering.nat_cmp, FinMap.FinMap}
+use Rattle.w16_model.specs.{declared.Item.Item, Handles.handle_of, Table.Table, Walk.IsWalk}
+use Rattle.w16_loading.specs.{Modules.LoadingWorld, Law.empty_loading_world}
 use Rattle.std.specs.FinMap as finmap
-use Rattle.std.specs.FinMap.{FinMap}
-use Rattle.w16_model.specs.declared.Item.{Item}
-use Rattle.w16_model.specs.Handles.{handle_of}
-use Rattle.w16_model.specs.Table.{Table}
-use Rattle.w16_model.specs.Walk.{IsWalk}
-use Rattle.w16_loading.specs.Modules.{LoadingWorld}
-use Rattle.w16_loading.specs.Law.{empty_loading_world}
 
 -- What loading has of it (handles, modules, loads of resources, the store's files and its count of failures), each local heap's table by its
 -- segment's slot, and DS, the selector that names the segment in whose heap the Local calls act.

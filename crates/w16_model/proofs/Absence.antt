@@ -1,13 +1,12 @@
 -- A discard leaves a heap.
-use Rattle.w16_model.proofs.Common.{◌≡◌, ◌≢◌, ℕ, ◌≤◌, inl, inr, Bool, true, false, cond, not, ◌&&◌, ◌==◌, nat_lt, IfOk, IfSome, Option, Some, None, Result, Ok, Err, option_map, is_some, refl, sym, ap, ◌∙◌, subst}
-use Rattle.w16_model.proofs.Common.{arith, ltb-false, cases_eq, Block, Refusal, is_member, Heap, Object, IsHeap, IsCounted, object_at, is_in_order, is_discardable, absent, update, without, after_discard, DiscardHeapLaw}
+use Rattle.w16_model.proofs
+use proofs.Common.{◌≡◌, ◌≢◌, ℕ, ◌≤◌, inl, inr, Bool, true, false, cond, not, ◌&&◌, ◌==◌, nat_lt, IfOk, IfSome, Option, Some, None, Result, Ok, Err, option_map, is_some, refl, sym, ap, ◌∙◌, subst, arith, ltb-false, cases_eq, Block, Refusal, is_member, Heap, Object, IsHeap, IsCounted}
+use proofs.Common.{object_at, is_in_order, is_discardable, absent, update, without, after_discard, DiscardHeapLaw}
+use proofs.Heaps.{IsBlockOf, block_of_absent, get-update_same, get-update_other}
+use proofs.KeptHeaps.{Stands, same_placed, same_grained, taken_here, taken_other, bytes_in, AreBytes}
+use proofs.{Gaps.pairs_filter, Gaps.AllPairs-from_EachPair, Gaps.EachPair-from_AllPairs, KindChanges.other_of, Orders.member_gone}
 use Rattle.std.specs.FinMap as finmap
 use Rattle.w16_model.specs.declared.Refusal.TheVariants as refusals
-use Rattle.w16_model.proofs.Gaps.{pairs_filter, AllPairs-from_EachPair, EachPair-from_AllPairs}
-use Rattle.w16_model.proofs.Heaps.{IsBlockOf, block_of_absent, get-update_same, get-update_other}
-use Rattle.w16_model.proofs.KeptHeaps.{Stands, same_placed, same_grained, taken_here, taken_other, bytes_in, AreBytes}
-use Rattle.w16_model.proofs.KindChanges.{other_of}
-use Rattle.w16_model.proofs.Orders.{member_gone}
 
 -- An object that is there and isn't locked becomes absent.
 module _ (old : Heap) (is : IsHeap old) (id : ℕ) (o : Object) (there : object_at old id ≡ Some o) (unlocked : o.locks ≡ 0) where

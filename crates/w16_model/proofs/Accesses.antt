@@ -1,7 +1,8 @@
 -- What a far access without a fault reaches.
-use Rattle.w16_model.proofs.Common.{◌≡◌, ℕ, ◌+◌, ◌*◌, ◌≤◌, Bool, true, false, cond, ◌||◌, if◌then◌else◌, nat_lt, List, length, Option, Some, None, unwrap_or, refl, ap, ◌∙◌, arith, ltb-true}
-use Rattle.w16_model.proofs.Common.{ltb-false, FarFault, BadSelector, NotPresent, Limit, REACH, Object, object_at, bytes_at, Handles, Part, part_of_selector, far_fault, far_slot, far_at, is_past}
-use Rattle.w16_model.proofs.KeptHeaps.{bytes_in}
+use Rattle.w16_model.proofs
+use proofs.Common as C
+use proofs.Common.{◌≡◌, ℕ, ◌+◌, ◌*◌, ◌≤◌, Bool, true, false, cond, ◌||◌, if◌then◌else◌, nat_lt, List, length, Option, Some, None, refl, ap, ◌∙◌, arith, FarFault, Limit, REACH, Object, object_at, bytes_at, Handles, Part, far_fault}
+use proofs.KeptHeaps.{bytes_in}
 
 -- a slot's object has so many bytes or more
 pub record Reached (handles : Handles) (slot end : ℕ) : Type 0 where
@@ -18,10 +19,10 @@ IsNone fault = fault ≡ None
 
 -- the fault of an access up to an end in the bytes that a selector reaches, and in those there are
 abbrev limit_fault : Part → ℕ → List ℕ → Option FarFault
-limit_fault p end bytes = if is_past (length bytes) p end then Some Limit else None
+limit_fault p end bytes = if C.is_past (length bytes) p end then Some Limit else None
 
 abbrev bytes_fault : Part → ℕ → Option (List ℕ) → Option FarFault
-bytes_fault p end b = elim b [ None ↦ Some NotPresent | Some bytes ↦ limit_fault p end bytes ]
+bytes_fault p end b = elim b [ None ↦ Some C.NotPresent | Some bytes ↦ limit_fault p end bytes ]
 
 abbrev nowhere : Part
 nowhere = record { slot = 0; number = 0 }
@@ -30,13 +31,13 @@ nowhere = record { slot = 0; number = 0 }
 abbrev Both : Handles → ℕ → ℕ → Part → Type 0
 Both handles offset n p = Reached handles p.slot (REACH * p.number + offset + n) × (offset + n ≤ REACH)
 
-both_reached : (handles : Handles) (selector offset n : ℕ) → far_fault handles selector offset n ≡ None → Reached handles (far_slot handles selector) (far_at handles selector offset + n) × (offset + n ≤ REACH)
-both_reached handles selector offset n = turn (part_of_selector handles selector)
+both_reached : (handles : Handles) (selector offset n : ℕ) → far_fault handles selector offset n ≡ None → Reached handles (C.far_slot handles selector) (C.far_at handles selector offset + n) × (offset + n ≤ REACH)
+both_reached handles selector offset n = turn (C.part_of_selector handles selector)
   where
     inside : (p : Part) (bytes : List ℕ) (a b : Bool) → nat_lt REACH (offset + n) ≡ a → nat_lt (length bytes) (REACH * p.number + (offset + n)) ≡ b → IsNone (if a || b then Some Limit else None) → (REACH * p.number + offset + n ≤ length bytes) × (offset + n ≤ REACH)
     inside p bytes true b s t e = cc
     inside p bytes false true s t e = cc
-    inside p bytes false false s t e = (omega (arith, ltb-false (length bytes) (REACH * p.number + (offset + n)) t), ltb-false REACH (offset + n) s)
+    inside p bytes false false s t e = (omega (arith, C.ltb-false (length bytes) (REACH * p.number + (offset + n)) t), C.ltb-false REACH (offset + n) s)
 
     of_bytes : (p : Part) (o : Object) → object_at handles.heap p.slot ≡ Some o → (b : Option (List ℕ)) → o.bytes ≡ b → IsNone (bytes_fault p (offset + n) b) → Both handles offset n p
     of_bytes p o there None has e = cc
@@ -48,21 +49,21 @@ both_reached handles selector offset n = turn (part_of_selector handles selector
     of_object p None there e = cc
     of_object p (Some o) there e = of_bytes p o there o.bytes refl e
 
-    turn : (r : Option Part) → IsNone (elim r [ None ↦ Some BadSelector | Some p ↦ bytes_fault p (offset + n) (bytes_at handles.heap p.slot) ]) → Both handles offset n (unwrap_or r nowhere)
+    turn : (r : Option Part) → IsNone (elim r [ None ↦ Some C.BadSelector | Some p ↦ bytes_fault p (offset + n) (bytes_at handles.heap p.slot) ]) → Both handles offset n (C.unwrap_or r nowhere)
     turn None e = cc
     turn (Some p) e = of_object p (object_at handles.heap p.slot) refl e
 
-pub reached : (handles : Handles) (selector offset n : ℕ) → far_fault handles selector offset n ≡ None → Reached handles (far_slot handles selector) (far_at handles selector offset + n)
+pub reached : (handles : Handles) (selector offset n : ℕ) → far_fault handles selector offset n ≡ None → Reached handles (C.far_slot handles selector) (C.far_at handles selector offset + n)
 reached handles selector offset n free = (both_reached handles selector offset n free).0
 
 pub near : (handles : Handles) (selector offset n : ℕ) → far_fault handles selector offset n ≡ None → offset + n ≤ REACH
 near handles selector offset n free = (both_reached handles selector offset n free).1
 
 -- and one to bytes that the selector reaches is without a fault
-pub reached_fault : (handles : Handles) (selector offset n : ℕ) (p : Part) (bytes : List ℕ) → part_of_selector handles selector ≡ Some p → bytes_at handles.heap p.slot ≡ Some bytes → offset + n ≤ REACH → REACH * p.number + (offset + n) ≤ length bytes
+pub reached_fault : (handles : Handles) (selector offset n : ℕ) (p : Part) (bytes : List ℕ) → C.part_of_selector handles selector ≡ Some p → bytes_at handles.heap p.slot ≡ Some bytes → offset + n ≤ REACH → REACH * p.number + (offset + n) ≤ length bytes
     → far_fault handles selector offset n ≡ None
 reached_fault handles selector offset n p bytes found has near fits =
-    ap (λ (s : Option Part). elim s as (λ _. Option FarFault) [ None ↦ Some BadSelector | Some p ↦ bytes_fault p (offset + n) (bytes_at handles.heap p.slot) ]) found
+    ap (λ (s : Option Part). elim s as (λ _. Option FarFault) [ None ↦ Some C.BadSelector | Some p ↦ bytes_fault p (offset + n) (bytes_at handles.heap p.slot) ]) found
     ∙ ap (bytes_fault p (offset + n)) has
     ∙ ap (λ b. cond {A = Option FarFault} b (Some Limit) None) (ap (λ b. b || nat_lt (length bytes) (REACH * p.number + (offset + n))) (short REACH (offset + n) near) ∙ short (length bytes) (REACH * p.number + (offset + n)) fits)
   where
@@ -71,4 +72,4 @@ reached_fault handles selector offset n p bytes found has near fits =
       where
         turn : (t : Bool) → nat_lt a b ≡ t → nat_lt a b ≡ false
         turn false t = t
-        turn true t = absurd (omega (arith, le, ltb-true a b t))
+        turn true t = absurd (omega (arith, le, C.ltb-true a b t))

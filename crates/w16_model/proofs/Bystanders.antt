@@ -1,20 +1,17 @@
 -- What each call leaves of the objects that it isn't about, and of the order of use, by its outcome.
-use Rattle.w16_model.proofs.Common.{◌≡◌, ◌≢◌, ℕ, ◌+◌, ◌-◌, ◌==◌, ◌⊎◌, inl, inr, Bool, true, false, not, ◌&&◌, ◌||◌, nat_lt, IsTrue, IfSome, IsSomeAnd, take, Option, Some, None, is_some, refl, sym, ap, ◌∙◌, subst, eqb-true, and_parts, false≢true, cases_Bool}
-use Rattle.w16_model.proofs.Common.{cases_eq, Kind, Fixed, Moveable, Discardable, GMEM_MOVEABLE, eligible, is_member, Heap, Object, blocks, object_at, is_fixed, is_discardable, is_pinned_object, with_newest, Handles, AreHandles, slots_for, slot_of_handle}
-use Rattle.w16_model.proofs.Common.{Answer, has_flag, rounded_size, kind_asked, alloc_options, KeepsOthers, StandsStill, KeepsRest, realloc_options, Call, Outcome, Resized, attributes_asked, IsSame, IsUnmoved, IsLocked, IsUnlocked, IsFreed, IsNewest}
-use Rattle.w16_model.proofs.Common.{IsOldest, IsEntered, IsAllocated, IsCompacted, IsModified, IsDiscarded, IsResized, handle_in, IsAbout, IsKeptOrDiscarded, BystandersLaw, AttributesLaw, may_change, may_move_own, PinnedStayLaw, may_move_others, StillLaw}
+use Rattle.w16_model.proofs
+use proofs.Common as C
+use proofs.Common.{◌≡◌, ◌≢◌, ℕ, ◌+◌, ◌-◌, ◌==◌, ◌⊎◌, inl, inr, Bool, true, false, not, ◌&&◌, ◌||◌, nat_lt, IfSome, IsSomeAnd, take, Option, Some, None, is_some, refl, sym, ap, ◌∙◌, subst, false≢true, Kind, Fixed, GMEM_MOVEABLE, Heap, Object, object_at, is_fixed, is_pinned_object}
+use proofs.Common.{with_newest, Handles, slots_for, has_flag, rounded_size, alloc_options, StandsStill, Call, Outcome, IsSame, IsUnmoved, IsLocked, IsUnlocked, IsFreed, IsNewest, IsOldest, IsEntered, IsAllocated, IsCompacted, IsModified, IsDiscarded, IsResized, handle_in, IsAbout}
+use proofs.Common.{may_change, may_move_own, may_move_others}
+use proofs.KeptHeaps.{inserted_other, taken_other, bytes_in}
+use proofs.CallLaws.{rest_of, moves_of, object_beside, place_own, place_beside, attributes_beside}
+use proofs.{Heaps.get-update_other, Others.others_law, Outcomes.address_law, Runs.some_slots, Runs.unused, CallOutcomes.outcome}
 use Rattle.std.specs.FinMap as finmap
-use Rattle.w16_model.proofs.Heaps.{get-update_other}
-use Rattle.w16_model.proofs.KeptHeaps.{inserted_other, taken_other, bytes_in}
-use Rattle.w16_model.proofs.Others.{others_law}
-use Rattle.w16_model.proofs.Outcomes.{address_law}
-use Rattle.w16_model.proofs.Runs.{some_slots, unused}
-use Rattle.w16_model.proofs.CallOutcomes.{outcome}
-use Rattle.w16_model.proofs.CallLaws.{rest_of, moves_of, object_beside, place_own, place_beside, attributes_beside}
 
 -- what is discarded, and what is kept
-pub kept_or_discarded : (old new : Heap) (h : Option ℕ) (k q : ℕ) → KeepsOthers old h k new → h ≢ Some q → IsKeptOrDiscarded old new q
-kept_or_discarded old new h k q keeps other = elim (cases_Bool (is_member q (take k (eligible (blocks old) old.order h)))) [
+pub kept_or_discarded : (old new : Heap) (h : Option ℕ) (k q : ℕ) → C.KeepsOthers old h k new → h ≢ Some q → C.IsKeptOrDiscarded old new q
+kept_or_discarded old new h k q keeps other = elim (C.cases_Bool (C.is_member q (take k (C.eligible (C.blocks old) old.order h)))) [
   | inl t ↦ inr (keeps.discarded q t)
   | inr f ↦ inl (keeps.kept q other (λ t. false≢true (sym f ∙ t)))
 ]
@@ -40,20 +37,20 @@ apart slot q d e = let same : slot ≡ q = cc in d (sym same)
 none_apart : (q : ℕ) → ◌≡◌ {A = Option ℕ} None (Some q) → ⊥
 none_apart q e = cc
 
-module _ (old new : Handles) (is : AreHandles old) (call : Call) (answer : Answer) (q : ℕ) where
+module _ (old new : Handles) (is : C.AreHandles old) (call : Call) (answer : C.Answer) (q : ℕ) where
   -- a call names its object
-  about : (handle slot : ℕ) → handle_in call ≡ Some handle → slot_of_handle old handle ≡ Some slot → q ≡ slot → IsAbout old call q
-  about handle slot names found e = subst (λ p. IsSomeAnd p (λ h. slot_of_handle old h ≡ Some q)) (sym names) (found ∙ ap Some (sym e))
+  about : (handle slot : ℕ) → handle_in call ≡ Some handle → C.slot_of_handle old handle ≡ Some slot → q ≡ slot → IsAbout old call q
+  about handle slot names found e = subst (λ p. IsSomeAnd p (λ h. C.slot_of_handle old h ≡ Some q)) (sym names) (found ∙ ap Some (sym e))
 
   -- an object that is there isn't at a free slot
   not_free : (slot : ℕ) → object_at old.heap slot ≡ None → is_some (object_at old.heap q) ≡ true → q ≢ slot
   not_free slot free there e = false≢true (sym (ap is_some (ap (object_at old.heap) e ∙ free)) ∙ there)
 
   abbrev Kept : Type 0
-  Kept = IsKeptOrDiscarded old.heap new.heap q
+  Kept = C.IsKeptOrDiscarded old.heap new.heap q
 
   abbrev IsKeptObject : Option Object → Option Object → Type 0
-  IsKeptObject before after = (after ≡ before) ⊎ IsSomeAnd before (λ o. (o.kind ≡ Discardable) × (o.locks ≡ 0) × (is_some o.bytes ≡ true) × (after ≡ Some (record o { bytes = None })))
+  IsKeptObject before after = (after ≡ before) ⊎ IsSomeAnd before (λ o. (o.kind ≡ C.Discardable) × (o.locks ≡ 0) × (is_some o.bytes ≡ true) × (after ≡ Some (record o { bytes = None })))
 
   pub bystander : Outcome old call answer new → (may_change call ≡ true → is_some (object_at old.heap q) ≡ true) → (IsAbout old call q → ⊥) → Kept
   bystander (IsSame s e) there out = inl (ap (λ (h : Handles). object_at h.heap q) e)
@@ -64,7 +61,7 @@ module _ (old new : Handles) (is : AreHandles old) (call : Call) (answer : Answe
   bystander (IsNewest n) there out = inl (ap (λ (h : Handles). object_at h.heap q) n.rest)
   bystander (IsOldest n) there out = inl (ap (λ (h : Handles). object_at h.heap q) n.rest)
   bystander (IsEntered e) there out = inl (ap (λ (h : Heap). object_at h q) e.entered.entered ∙ inserted_other
-      old.heap.objects e.slot (record { kind = kind_asked e.flags; locks = 0; bytes = None }) q
+      old.heap.objects e.slot (record { kind = C.kind_asked e.flags; locks = 0; bytes = None }) q
       (not_free e.slot (unused old is e.slot (slots_for (rounded_size e.size)) (some_slots (rounded_size e.size)) e.free)
       (there (ap may_change e.asked))))
   bystander (IsAllocated a) there out = kept_or_discarded old.heap new.heap (Some a.slot) a.count q
@@ -76,7 +73,7 @@ module _ (old new : Handles) (is : AreHandles old) (call : Call) (answer : Answe
   bystander (IsModified m) there out = inl (m.changes.others q (λ e. out (about m.handle m.slot (ap handle_in m.asked) m.named.found e)))
   bystander (IsDiscarded d) there out = inl (ap (λ (h : Handles). object_at h.heap q) d.rest ∙ get-update_other old.heap.objects d.slot (λ (o : Object). record o { bytes = None }) q (λ e. out (about d.handle d.slot (ap handle_in d.asked) d.named.found e)))
   bystander (IsResized r) there out =
-      let k : KeepsRest old.heap r.slot (rounded_size r.size) r.object (realloc_options r.flags) r.heap = rest_of old new is call answer r in
+      let k : C.KeepsRest old.heap r.slot (rounded_size r.size) r.object (C.realloc_options r.flags) r.heap = rest_of old new is call answer r in
       let d : q ≢ r.slot = λ e. out (about r.handle r.slot (ap handle_in r.asked) r.named.found e) in
       subst (λ p. IsKeptObject (object_at old.heap q) p) (sym (object_beside old new is call answer r q (there (ap may_change r.asked)) d)) (kept_or_discarded old.heap r.heap (Some r.slot) k.count q k.others (apart r.slot q d))
 
@@ -90,9 +87,9 @@ module _ (old new : Handles) (is : AreHandles old) (call : Call) (answer : Answe
   attributes_kept (IsNewest n) there out = ap (λ (h : Handles). finmap.get h.attributes q) n.rest
   attributes_kept (IsOldest n) there out = ap (λ (h : Handles). finmap.get h.attributes q) n.rest
   attributes_kept (IsEntered e) there out = ap (λ (h : Handles). finmap.get h.attributes q) e.rest
-      ∙ inserted_other old.attributes e.slot (attributes_asked e.flags e.size) q (not_free e.slot (unused old is e.slot (slots_for (rounded_size e.size)) (some_slots (rounded_size e.size)) e.free) there)
+      ∙ inserted_other old.attributes e.slot (C.attributes_asked e.flags e.size) q (not_free e.slot (unused old is e.slot (slots_for (rounded_size e.size)) (some_slots (rounded_size e.size)) e.free) there)
   attributes_kept (IsAllocated a) there out = ap (λ (h : Handles). finmap.get h.attributes q) a.rest
-      ∙ inserted_other old.attributes a.slot (attributes_asked a.flags a.size) q (not_free a.slot (unused old is a.slot (slots_for (rounded_size a.size)) (some_slots (rounded_size a.size)) a.free) there)
+      ∙ inserted_other old.attributes a.slot (C.attributes_asked a.flags a.size) q (not_free a.slot (unused old is a.slot (slots_for (rounded_size a.size)) (some_slots (rounded_size a.size)) a.free) there)
   attributes_kept (IsCompacted c) there out = ap (λ (h : Handles). finmap.get h.attributes q) c.rest
   attributes_kept (IsModified m) there out = ap (λ (h : Handles). finmap.get h.attributes q) m.rest
   attributes_kept (IsDiscarded d) there out = ap (λ (h : Handles). finmap.get h.attributes q) d.rest
@@ -105,7 +102,7 @@ module _ (old new : Handles) (is : AreHandles old) (call : Call) (answer : Answe
   same_place e = stands old.heap new.heap q e
 
   -- where it stands in the heap in which an object gets another size, there it stands
-  still_beside : (r : Resized old call answer new) → is_some (object_at old.heap q) ≡ true → q ≢ r.slot → StandsStill old.heap r.heap q → Still new
+  still_beside : (r : C.Resized old call answer new) → is_some (object_at old.heap q) ≡ true → q ≢ r.slot → StandsStill old.heap r.heap q → Still new
   still_beside r there d still = subst (λ p. IfSome (finmap.get old.heap.places q) (λ at. p ≡ Some at)) (sym (place_beside old new is call answer r q there d)) still
 
   -- where the object is pinned
@@ -120,13 +117,13 @@ module _ (old new : Handles) (is : AreHandles old) (call : Call) (answer : Answe
     pinned_is : (slot : ℕ) (o : Object) → q ≡ slot → object_at old.heap slot ≡ Some o → is_pinned_object o ≡ true
     pinned_is slot o e there = subst (λ p. IsSomeAnd p (λ o. is_pinned_object o ≡ true)) (ap (object_at old.heap) e ∙ there) pinned
 
-    loose : (o : Object) → o.locks ≡ 0 → is_discardable o.kind ≡ true → is_pinned_object o ≡ true → ⊥
+    loose : (o : Object) → o.locks ≡ 0 → C.is_discardable o.kind ≡ true → is_pinned_object o ≡ true → ⊥
     loose o unlocked discardable t = false≢true (sym ((λ i. kind_loose o.kind discardable i || nat_lt 0 (unlocked i))) ∙ t)
       where
-        kind_loose : (kind : Kind) → is_discardable kind ≡ true → is_fixed kind ≡ false
+        kind_loose : (kind : Kind) → C.is_discardable kind ≡ true → is_fixed kind ≡ false
         kind_loose Fixed t = absurd (false≢true t)
-        kind_loose Moveable t = refl
-        kind_loose Discardable t = refl
+        kind_loose C.Moveable t = refl
+        kind_loose C.Discardable t = refl
 
     pinned_still : Outcome old call answer new → (may_move_own call ≡ true → IsAbout old call q → ⊥) → Still new
     pinned_still (IsSame s e) out = same_place (ap (λ (h : Handles). finmap.get h.heap.places q) e)
@@ -144,8 +141,8 @@ module _ (old new : Handles) (is : AreHandles old) (call : Call) (answer : Answe
     pinned_still (IsCompacted c) out = ((address_law old.heap new.heap is.heap c.count).1 c.settled).pinned q (none_apart q) pinned
     pinned_still (IsModified m) out = same_place (ap (λ places. finmap.get places q) m.changes.places)
     pinned_still (IsDiscarded d) out = same_place (ap (λ (h : Handles). finmap.get h.heap.places q) d.rest ∙ taken_other old.heap.places d.slot q (λ e. loose d.object d.unlocked d.discardable (pinned_is d.slot d.object e d.named.there)))
-    pinned_still (IsResized r) out = elim (cases_eq q r.slot) [
-      | inl e ↦ elim (cases_Bool (has_flag r.flags GMEM_MOVEABLE)) [
+    pinned_still (IsResized r) out = elim (C.cases_eq q r.slot) [
+      | inl e ↦ elim (C.cases_Bool (has_flag r.flags GMEM_MOVEABLE)) [
         | inl t ↦ absurd (out (ap may_move_own r.asked ∙ (λ i. t i && (not (r.sized.0 i) && not (r.sized.1 i)))) (about r.handle r.slot (ap handle_in r.asked) r.named.found e))
         | inr f ↦ own e f (finmap.get old.heap.places q) refl
       ]
@@ -154,11 +151,11 @@ module _ (old new : Handles) (is : AreHandles old) (call : Call) (answer : Answe
       where
         -- it may not leave its slot
         held : (k : Kind) (locks : ℕ) (may : Bool) → may ≡ false → (is_fixed k || nat_lt 0 locks) ≡ true → ((locks == 0) && (not (is_fixed k) || may)) ≡ true → ⊥
-        held k locks may f t u = by_parts (is_fixed k) t (and_parts (locks == 0) (not (is_fixed k) || may) u)
+        held k locks may f t u = by_parts (is_fixed k) t (C.and_parts (locks == 0) (not (is_fixed k) || may) u)
           where
-            by_parts : (fixed : Bool) → (fixed || nat_lt 0 locks) ≡ true → IsTrue (locks == 0) × IsTrue (not fixed || may) → ⊥
+            by_parts : (fixed : Bool) → (fixed || nat_lt 0 locks) ≡ true → C.IsTrue (locks == 0) × C.IsTrue (not fixed || may) → ⊥
             by_parts true t p = false≢true (sym f ∙ p.1)
-            by_parts false t p = false≢true (ap (nat_lt 0) (sym (eqb-true locks 0 p.0)) ∙ t)
+            by_parts false t p = false≢true (ap (nat_lt 0) (sym (C.eqb-true locks 0 p.0)) ∙ t)
 
         homes : q ≡ r.slot → has_flag r.flags GMEM_MOVEABLE ≡ false → r.first ≡ r.slot
         homes e f = elim r.gets [
@@ -194,14 +191,14 @@ module _ (old new : Handles) (is : AreHandles old) (call : Call) (answer : Answe
       let d : q ≢ r.slot = λ e. out (about r.handle r.slot (ap handle_in r.asked) r.named.found e) in
       still_beside r there d ((moves_of old new is call answer r).others.unmoved (sym (ap may_move_others r.asked) ∙ m) q (apart r.slot q d))
 
-pub bystanders_law : BystandersLaw
+pub bystanders_law : C.BystandersLaw
 bystanders_law old new call answer q is step there out = bystander old new is call answer q (outcome old new call answer is step) (λ m. there) out
 
-pub attributes_law : AttributesLaw
+pub attributes_law : C.AttributesLaw
 attributes_law old new call answer q is step there out = attributes_kept old new is call answer q (outcome old new call answer is step) there out
 
-pub pinned_law : PinnedStayLaw
+pub pinned_law : C.PinnedStayLaw
 pinned_law old new call answer q is step pinned out = pinned_still old new is call answer q pinned (outcome old new call answer is step) out
 
-pub still_law : StillLaw
+pub still_law : C.StillLaw
 still_law old new call answer q is step m there out = still old new is call answer q (outcome old new call answer is step) m there out

@@ -1,25 +1,18 @@
 -- The laws of each call on handles, by its outcome.
-use Rattle.w16_model.proofs.Common.{◌≡◌, ◌≢◌, ℕ, ◌+◌, ◌-◌, ◌/◌, ◌<◌, ◌==◌, ◌⊎◌, inl, inr, Bool, true, false, cond, not, IsTrue, IsSomeAnd, List, [], ◌∷◌, length, map, take, filter, sum_by, Option, Some, None, option_map, is_some, unwrap_or, refl, sym, ap, ◌∙◌, subst}
-use Rattle.w16_model.proofs.Common.{arith, eq-eqb, ne_eqb, entries_sorted, false≢true, cases_eq, sum_by-cons, Block, Kind, Fixed, Moveable, Discardable, eligible, is_member, Heap, Object, IsHeap, blocks, object_at, bytes_at, without, hold_of_object, moved_bytes}
-use Rattle.w16_model.proofs.Common.{is_elsewhere, Handles, AreHandles, slot_of_handle, handle_of, Answer, rounded_size, kind_asked, Word, Dword, KeepsRest, MovesLittle, realloc_options, Call, CallStep, ReAllocs, Calls, Outcome, Resized, counts_moved, IsSame, IsUnmoved}
-use Rattle.w16_model.proofs.Common.{IsLocked, IsUnlocked, IsFreed, IsNewest, IsOldest, IsEntered, IsAllocated, IsCompacted, IsModified, IsDiscarded, IsResized, KeepsContents, may_change, ContentsLaw, SlotsLaw, IsMoved, size_at, IsSumOfMoved, MovedLaw, next_slot}
-use Rattle.w16_model.proofs.Common.{slot_after}
-use Rattle.std.specs.FinMap as finmap
+use Rattle.w16_model.proofs
+use proofs.Common as C
+use proofs.Gaps as M
+use proofs.Housed as K
+use proofs.Common.{◌≡◌, ◌≢◌, ℕ, ◌+◌, ◌-◌, ◌/◌, ◌<◌, ◌==◌, ◌⊎◌, inl, inr, Bool, true, false, cond, not, IsSomeAnd, List, [], ◌∷◌, length, map, take, Option, Some, None, option_map, is_some, unwrap_or, refl, sym, ap, ◌∙◌, subst, arith, eq-eqb, ne_eqb, false≢true, cases_eq, Block, Kind}
+use proofs.Common.{Fixed, Moveable, Discardable, eligible, is_member, Heap, Object, blocks, object_at, bytes_at, without, moved_bytes, is_elsewhere, Handles, AreHandles, slot_of_handle, handle_of, Answer, rounded_size, Word, Dword, realloc_options, Call, ReAllocs, Calls, Outcome, Resized}
+use proofs.Common.{counts_moved, IsSame, IsUnmoved, IsLocked, IsUnlocked, IsFreed, IsNewest, IsOldest, IsEntered, IsAllocated, IsCompacted, IsModified, IsDiscarded, IsResized, KeepsContents, may_change, IsMoved, size_at, IsSumOfMoved, next_slot, slot_after}
+use proofs.Heaps.{IsBlockOf, block_member, member_block, blocks_rise, keys_rise}
+use proofs.KeptHeaps.{bytes_in, inserted_other, taken_other}
+use proofs.CallOutcomes.{outcome, none_moved, reallocates}
+use proofs.{Gaps.Member, Starts.member_map, Discards.is_member-true, Discards.true-is_member, KeptHandles.put_bytes, Housed.given, Housed.keeps, KeptRest.absents_rest, Naming.names_law, Naming.slot_in_handle, Reallocations.moves_law, Fewest.some_handle, ResizedHandles.found_some}
 use Rattle.std.specs.List.{AllByRecursion as Each}
-use Rattle.w16_model.proofs.Gaps.{Member, EachPair, AllPairs-from_EachPair, member_filter, filter_member, pairs_filter}
-use Rattle.w16_model.proofs.Starts.{member_map}
-use Rattle.w16_model.proofs.Discards.{is_member-true, true-is_member}
-use Rattle.w16_model.proofs.Heaps.{IsBlockOf, block_member, member_block, blocks_rise, keys_rise}
 use Rattle.w16_model.specs.Reallocation.{IsResized as IsObjectResized}
-use Rattle.w16_model.proofs.KeptHeaps.{bytes_in, inserted_other, taken_other}
-use Rattle.w16_model.proofs.KeptHandles.{put_bytes}
-use Rattle.w16_model.proofs.Housed.{given, keeps, run_is, was_free, housed, housed_first, housed_old, housed_other, housed_range, place_first, place_other, order_there}
-use Rattle.w16_model.proofs.KeptRest.{absents_rest}
-use Rattle.w16_model.proofs.Naming.{names_law, slot_in_handle}
-use Rattle.w16_model.proofs.Reallocations.{moves_law}
-use Rattle.w16_model.proofs.Fewest.{some_handle}
-use Rattle.w16_model.proofs.ResizedHandles.{found_some}
-use Rattle.w16_model.proofs.CallOutcomes.{outcome, none_moved, reallocates}
+use Rattle.std.specs.FinMap as finmap
 
 -- What is kept.
 module _ (old new : Handles) (call : Call) (answer : Answer) where
@@ -40,45 +33,45 @@ module _ (old new : Handles) (call : Call) (answer : Answer) where
 
 -- What an answered reallocation leaves, first of the heap in which its object has its old slot still.
 module _ (old new : Handles) (is : AreHandles old) (call : Call) (answer : Answer) (r : Resized old call answer new) where
-  pub rest_of : KeepsRest old.heap r.slot (rounded_size r.size) r.object (realloc_options r.flags) r.heap
+  pub rest_of : C.KeepsRest old.heap r.slot (rounded_size r.size) r.object (realloc_options r.flags) r.heap
   rest_of = keeps old is r.slot (rounded_size r.size) (realloc_options r.flags) r.object r.named.there r.first r.gets r.heap r.resized
 
-  pub moves_of : MovesLittle old.heap r.slot (rounded_size r.size) r.object (realloc_options r.flags) r.heap
-  moves_of = subst (λ p. IsSomeAnd p (λ o. MovesLittle old.heap r.slot (rounded_size r.size) o (realloc_options r.flags) r.heap)) r.named.there (moves_law old.heap r.heap r.slot (rounded_size r.size) (realloc_options r.flags) is.heap r.resized)
+  pub moves_of : C.MovesLittle old.heap r.slot (rounded_size r.size) r.object (realloc_options r.flags) r.heap
+  moves_of = subst (λ p. IsSomeAnd p (λ o. C.MovesLittle old.heap r.slot (rounded_size r.size) o (realloc_options r.flags) r.heap)) r.named.there (moves_law old.heap r.heap r.slot (rounded_size r.size) (realloc_options r.flags) is.heap r.resized)
 
   abbrev house : Heap
-  house = housed old is r.slot (rounded_size r.size) (realloc_options r.flags) r.object r.named.there r.first r.gets r.heap r.resized
+  house = K.housed old is r.slot (rounded_size r.size) (realloc_options r.flags) r.object r.named.there r.first r.gets r.heap r.resized
 
   pub heap_is : new.heap ≡ house
   heap_is = ap (λ (h : Handles). h.heap) r.rest
 
   -- The object is at its first slot then, with its address.
   pub object_first : object_at new.heap r.first ≡ object_at r.heap r.slot
-  object_first = ap (λ (h : Heap). object_at h r.first) heap_is ∙ housed_first old is r.slot (rounded_size r.size) (realloc_options r.flags) r.object r.named.there r.first r.gets r.heap r.resized
+  object_first = ap (λ (h : Heap). object_at h r.first) heap_is ∙ K.housed_first old is r.slot (rounded_size r.size) (realloc_options r.flags) r.object r.named.there r.first r.gets r.heap r.resized
 
   pub place_own : finmap.get new.heap.places r.first ≡ finmap.get r.heap.places r.slot
-  place_own = ap (λ (h : Heap). finmap.get h.places r.first) heap_is ∙ place_first old is r.slot (rounded_size r.size) (realloc_options r.flags) r.object r.named.there r.first r.gets r.heap r.resized
+  place_own = ap (λ (h : Heap). finmap.get h.places r.first) heap_is ∙ K.place_first old is r.slot (rounded_size r.size) (realloc_options r.flags) r.object r.named.there r.first r.gets r.heap r.resized
 
   pub object_left : r.slot ≢ r.first → object_at new.heap r.slot ≡ None
-  object_left d = ap (λ (h : Heap). object_at h r.slot) heap_is ∙ housed_old old is r.slot (rounded_size r.size) (realloc_options r.flags) r.object r.named.there r.first r.gets r.heap r.resized d
+  object_left d = ap (λ (h : Heap). object_at h r.slot) heap_is ∙ K.housed_old old is r.slot (rounded_size r.size) (realloc_options r.flags) r.object r.named.there r.first r.gets r.heap r.resized d
 
   -- Every other object keeps its slot, which isn't the new one.
   module _ (q : ℕ) (there : is_some (object_at old.heap q) ≡ true) (other : q ≢ r.slot) where
     pub bystands : q ≢ r.first
     bystands e = elim (cases_eq r.slot r.first) [
       | inl here ↦ other (e ∙ sym here)
-      | inr d ↦ false≢true (sym (ap is_some (ap (object_at old.heap) e ∙ was_free old is r.slot (rounded_size r.size) (realloc_options r.flags) r.object r.named.there r.first r.gets r.heap r.resized d)) ∙ there)
+      | inr d ↦ false≢true (sym (ap is_some (ap (object_at old.heap) e ∙ K.was_free old is r.slot (rounded_size r.size) (realloc_options r.flags) r.object r.named.there r.first r.gets r.heap r.resized d)) ∙ there)
     ]
 
     pub object_beside : object_at new.heap q ≡ object_at r.heap q
-    object_beside = ap (λ (h : Heap). object_at h q) heap_is ∙ housed_other old is r.slot (rounded_size r.size) (realloc_options r.flags) r.object r.named.there r.first r.gets r.heap r.resized q bystands other
+    object_beside = ap (λ (h : Heap). object_at h q) heap_is ∙ K.housed_other old is r.slot (rounded_size r.size) (realloc_options r.flags) r.object r.named.there r.first r.gets r.heap r.resized q bystands other
 
     pub place_beside : finmap.get new.heap.places q ≡ finmap.get r.heap.places q
-    place_beside = ap (λ (h : Heap). finmap.get h.places q) heap_is ∙ place_other old is r.slot (rounded_size r.size) (realloc_options r.flags) r.object r.named.there r.first r.gets r.heap r.resized q bystands other
+    place_beside = ap (λ (h : Heap). finmap.get h.places q) heap_is ∙ K.place_other old is r.slot (rounded_size r.size) (realloc_options r.flags) r.object r.named.there r.first r.gets r.heap r.resized q bystands other
 
     pub attributes_beside : finmap.get new.attributes q ≡ finmap.get old.attributes q
     attributes_beside = ap (λ (h : Handles). finmap.get h.attributes q) r.rest
-        ∙ ap (λ m. finmap.get m q) (run_is old is r.slot (rounded_size r.size) (realloc_options r.flags) r.object r.named.there r.first r.gets r.heap r.resized)
+        ∙ ap (λ m. finmap.get m q) (K.run_is old is r.slot (rounded_size r.size) (realloc_options r.flags) r.object r.named.there r.first r.gets r.heap r.resized)
         ∙ inserted_other (finmap.remove old.attributes r.slot) r.first (given old is r.slot (rounded_size r.size) (realloc_options r.flags) r.object r.named.there r.first r.gets r.heap r.resized) q bystands
         ∙ taken_other old.attributes r.slot q other
 
@@ -94,7 +87,7 @@ module _ (old new : Handles) (is : AreHandles old) (call : Call) (answer : Answe
 
   -- the others stand in the order as they did
   pub order_is : without r.first new.heap.order ≡ without r.slot r.heap.order
-  order_is = ap (λ (h : Heap). without r.first h.order) heap_is ∙ order_there old is r.slot (rounded_size r.size) (realloc_options r.flags) r.object r.named.there r.first r.gets r.heap r.resized
+  order_is = ap (λ (h : Heap). without r.first h.order) heap_is ∙ K.order_there old is r.slot (rounded_size r.size) (realloc_options r.flags) r.object r.named.there r.first r.gets r.heap r.resized
 
   -- The handle that is answered is that of the object.
   pub next_is : slot_of_handle new (handle_of r.object.kind r.first) ≡ Some r.first
@@ -117,7 +110,7 @@ module _ (old new : Handles) (is : AreHandles old) (call : Call) (answer : Answe
   next_other q d = next_by q ∙ ap (λ b. chosen b q) (ne_eqb r.slot q (λ e. d (sym e)))
 
 -- Each object keeps its slot through a call, but for one that a reallocation gives another size.
-pub followed : (old new : Handles) (call : Call) (answer : Answer) → AreHandles old → CallStep old call answer new → ((q : ℕ) → next_slot old call answer new q ≡ q) ⊎ Resized old call answer new
+pub followed : (old new : Handles) (call : Call) (answer : Answer) → AreHandles old → C.CallStep old call answer new → ((q : ℕ) → next_slot old call answer new q ≡ q) ⊎ Resized old call answer new
 followed old new (Calls command) answer is step = inl (λ q. refl)
 followed old new (ReAllocs handle size flags) (Word answer) is step = elim (reallocates old (ReAllocs handle size flags) (Word answer) new is handle size flags answer refl refl step).1 [
   | inl none ↦ inl (λ q. stays q (λ s found old_found. absurd (found_some new answer s found none)))
@@ -184,27 +177,27 @@ module _ (old new : Handles) (is : AreHandles old) (call : Call) (answer : Answe
   slots (IsDiscarded d) = subst Kept (sym d.rest) (refl, refl, refl)
   slots (IsResized r) =
       let k = rest_of old new is call answer r in
-      let same = housed_range old is r.slot (rounded_size r.size) (realloc_options r.flags) r.object r.named.there r.first r.gets r.heap r.resized in
+      let same = K.housed_range old is r.slot (rounded_size r.size) (realloc_options r.flags) r.object r.named.there r.first r.gets r.heap r.resized in
       (ap (λ (h : Handles). h.slots) r.rest, ap (λ (h : Heap). h.lo) (heap_is old new is call answer r) ∙ same.0 ∙ k.low, ap (λ (h : Heap). h.hi) (heap_is old new is call answer r) ∙ same.1 ∙ k.high)
 
-pub contents_law : ContentsLaw
+pub contents_law : C.ContentsLaw
 contents_law old new call answer is m step = contents old new call answer (outcome old new call answer is step) m
 
-pub slots_law : SlotsLaw
+pub slots_law : C.SlotsLaw
 slots_law old new call answer is step = slots old new is call answer (outcome old new call answer is step)
 
 -- The bytes moved to a heap, from which each object of old goes on to its next slot.
-module _ (old mid new : Heap) (is : IsHeap old) (next : ℕ → ℕ) (goes : (q : ℕ) → is_some (finmap.get old.places q) ≡ true → finmap.get new.places (next q) ≡ finmap.get mid.places q) where
+module _ (old mid new : Heap) (is : C.IsHeap old) (next : ℕ → ℕ) (goes : (q : ℕ) → is_some (finmap.get old.places q) ≡ true → finmap.get new.places (next q) ≡ finmap.get mid.places q) where
   abbrev moves : Block → Bool
   moves x = is_elsewhere x.at (finmap.get mid.places x.id)
 
   abbrev moving : List Block
-  moving = filter moves (blocks old)
+  moving = C.filter moves (blocks old)
 
   abbrev id_of : Block → ℕ
   id_of x = x.id
 
-  ids_differ : (xs : List Block) → EachPair (λ x y. x.id < y.id) xs → EachPair (λ a b. a ≡ b → ⊥) (map id_of xs)
+  ids_differ : (xs : List Block) → M.EachPair (λ x y. x.id < y.id) xs → M.EachPair (λ a b. a ≡ b → ⊥) (map id_of xs)
   ids_differ [] h = tt
   ids_differ (x ∷ xs) h = (above xs h.0, ids_differ xs h.1)
     where
@@ -217,13 +210,13 @@ module _ (old mid new : Heap) (is : IsHeap old) (next : ℕ → ℕ) (goes : (q 
   member_back (x ∷ xs) q (inl e) = (x, inl refl, sym e)
   member_back (x ∷ xs) q (inr m) = let r : (x : Block) × Member x xs × (x.id ≡ q) = member_back xs q m in (r.0, inr r.1, r.2)
 
-  sum_is : (xs : List Block) → ((x : Block) → Member x xs → x.size ≡ size_at old x.id) → sum_by (λ (x : Block). x.size) xs ≡ sum_by (size_at old) (map id_of xs)
+  sum_is : (xs : List Block) → ((x : Block) → Member x xs → x.size ≡ size_at old x.id) → C.sum_by (λ (x : Block). x.size) xs ≡ C.sum_by (size_at old) (map id_of xs)
   sum_is [] h = refl
-  sum_is (x ∷ xs) h = sum_by-cons (λ (x : Block). x.size) x xs ∙ (λ i. h x (inl refl) i + sum_is xs (λ y m. h y (inr m)) i) ∙ sym (sum_by-cons (size_at old) x.id (map id_of xs))
+  sum_is (x ∷ xs) h = C.sum_by-cons (λ (x : Block). x.size) x xs ∙ (λ i. h x (inl refl) i + sum_is xs (λ y m. h y (inr m)) i) ∙ sym (C.sum_by-cons (size_at old) x.id (map id_of xs))
 
   size_is : (x : Block) → Member x moving → x.size ≡ size_at old x.id
   size_is x m =
-      let b : IsBlockOf old x = member_block old x (member_filter moves (blocks old) x m).0 in
+      let b : IsBlockOf old x = member_block old x (M.member_filter moves (blocks old) x m).0 in
       b.size ∙ sym (ap (λ p. unwrap_or (option_map length (bytes_in p)) 0) b.is_there ∙ ap (λ p. unwrap_or (option_map length p) 0) b.has_bytes)
 
   -- an address that has changed
@@ -235,7 +228,7 @@ module _ (old mid new : Heap) (is : IsHeap old) (next : ℕ → ℕ) (goes : (q 
   into : (q : ℕ) → is_member q (map id_of moving) ≡ true → IsMoved old new next q
   into q t =
       let r : (x : Block) × Member x moving × (x.id ≡ q) = member_back moving q (is_member-true q (map id_of moving) t) in
-      let f : Member r.0 (blocks old) × IsTrue (moves r.0) = member_filter moves (blocks old) r.0 r.1 in
+      let f : Member r.0 (blocks old) × C.IsTrue (moves r.0) = M.member_filter moves (blocks old) r.0 r.1 in
       let b : IsBlockOf old r.0 = member_block old r.0 f.0 in
       elsewhere r.0 q r.2 (finmap.get old.places q) (finmap.get mid.places q) refl refl (b.place ∙ ap (λ k. unwrap_or (finmap.get old.places k) 0) r.2)
       (is.at_bytes q ∙ ap (λ k. is_some (bytes_in (object_at old k))) (sym r.2) ∙ ap (λ p. is_some (bytes_in p)) b.is_there ∙ ap is_some b.has_bytes)
@@ -246,9 +239,9 @@ module _ (old mid new : Heap) (is : IsHeap old) (next : ℕ → ℕ) (goes : (q 
     where
       listed : (o : Object) (bytes : List ℕ) → object_at old q ≡ Some o → o.bytes ≡ Some bytes → is_member q (map id_of moving) ≡ true
       listed o bytes there has =
-          let x : Block = record { id = q; at = m.0; size = length bytes; hold = hold_of_object o } in
+          let x : Block = record { id = q; at = m.0; size = length bytes; hold = C.hold_of_object o } in
           let b : IsBlockOf old x = record { object = o; bytes = bytes; is_there = there; has_bytes = has; place = sym (ap (λ p. unwrap_or p 0) m.2); size = refl; hold = refl } in
-          true-is_member q (map id_of moving) (member_map id_of moving x (filter_member moves (blocks old) x (block_member old x b) (ap (is_elsewhere m.0) (sym (goes q (ap is_some m.2)) ∙ m.3) ∙ ap not (ne_eqb m.1 m.0 (λ e. m.4 (sym e))))))
+          true-is_member q (map id_of moving) (member_map id_of moving x (M.filter_member moves (blocks old) x (block_member old x b) (ap (is_elsewhere m.0) (sym (goes q (ap is_some m.2)) ∙ m.3) ∙ ap not (ne_eqb m.1 m.0 (λ e. m.4 (sym e))))))
 
       by_bytes : (o : Object) → object_at old q ≡ Some o → (b : Option (List ℕ)) → o.bytes ≡ b → is_some b ≡ true → is_member q (map id_of moving) ≡ true
       by_bytes o there None has t = absurd (false≢true t)
@@ -261,8 +254,8 @@ module _ (old mid new : Heap) (is : IsHeap old) (next : ℕ → ℕ) (goes : (q 
   moved_sum : IsSumOfMoved old new next (moved_bytes old mid)
   moved_sum = record {
     ids = map id_of moving;
-    once = AllPairs-from_EachPair (λ a b. a ≡ b → ⊥) (map id_of moving) (ids_differ moving (pairs_filter (λ (x y : Block). x.id < y.id) moves (blocks old)
-        (blocks_rise old.places (finmap.entries old.objects) (keys_rise (finmap.entries old.objects) (entries_sorted old.objects)))));
+    once = M.AllPairs-from_EachPair (λ a b. a ≡ b → ⊥) (map id_of moving) (ids_differ moving (M.pairs_filter (λ (x y : Block). x.id < y.id) moves (blocks old)
+        (blocks_rise old.places (finmap.entries old.objects) (keys_rise (finmap.entries old.objects) (C.entries_sorted old.objects)))));
     each = λ q. (into q, back q);
     sum = sum_is moving size_is;
   }
@@ -321,8 +314,8 @@ module _ (old new : Handles) (is : AreHandles old) (call : Call) (answer : Answe
   refused (IsFreed f) c z = absurd (false≢true (sym (ap counts_moved f.asked) ∙ c))
   refused (IsNewest n) c z = absurd (false≢true (sym (ap counts_moved n.asked) ∙ c))
   refused (IsOldest n) c z = absurd (false≢true (sym (ap counts_moved n.asked) ∙ c))
-  refused (IsEntered e) c z = absurd (new_handle (kind_asked e.flags) e.slot e.answered z)
-  refused (IsAllocated a) c z = absurd (new_handle (kind_asked a.flags) a.slot a.answered z)
+  refused (IsEntered e) c z = absurd (new_handle (C.kind_asked e.flags) e.slot e.answered z)
+  refused (IsAllocated a) c z = absurd (new_handle (C.kind_asked a.flags) a.slot a.answered z)
   refused (IsCompacted c) t z = let both : ◌≡◌ {A = Answer} (Dword c.longest) (Word 0) = sym c.answered ∙ z in cc
   refused (IsModified m) c z = absurd (never m.handle m.slot m.named.found m.answered z)
   refused (IsDiscarded d) c z = absurd (never d.handle d.slot d.named.found d.answered z)
@@ -343,7 +336,7 @@ module _ (old new : Handles) (is : AreHandles old) (call : Call) (answer : Answe
   other (IsDiscarded d) c = absurd (false≢true (sym c ∙ ap counts_moved d.asked))
   other (IsResized r) c = absurd (false≢true (sym c ∙ ap counts_moved r.asked))
 
-pub moved_law : MovedLaw
+pub moved_law : C.MovedLaw
 moved_law old new call answer is step =
     let o : Outcome old call answer new = outcome old new call answer is step in
     record { counted = λ c. by_slot o c (followed old new call answer is step); refused = refused old new is call answer o; other = other old new is call answer o }

@@ -1,9 +1,10 @@
 -- A walk that is asked from address to address: what it has told, and what is left.
-use Rattle.w16_model.proofs.Common.{◌≡◌, ℕ, zero, suc, ◌+◌, ◌<◌, ◌≤◌, inl, inr, List, [], ◌∷◌, ◌++◌, Option, Some, None, length, slice_get, refl, sym, ap, ◌∙◌, append-nil, append_assoc, arith, subst, Kind, Item, Heap, IsItem, IsWalk, IsFirstItem}
+use Rattle.w16_model.proofs
+use proofs.Common.{◌≡◌, ℕ, zero, suc, ◌+◌, ◌<◌, ◌≤◌, inl, inr, List, [], ◌∷◌, ◌++◌, Option, Some, None, length, slice_get, refl, sym, ap, ◌∙◌, append-nil, append_assoc, arith, subst, Kind, Item, Heap, IsItem, IsWalk, IsFirstItem}
+use proofs.Gaps.{EachPair, Member, Each-at, Each-map, Each-from_All, EachPair-from_AllPairs}
+use proofs.Walks.{member_contained}
 use Rattle.std.proofs.Common.{length-append}
 use Rattle.std.specs.List.{AllByRecursion as Each}
-use Rattle.w16_model.proofs.Gaps.{EachPair, Member, Each-at, Each-map, Each-from_All, EachPair-from_AllPairs}
-use Rattle.w16_model.proofs.Walks.{member_contained}
 
 -- Lists.
 

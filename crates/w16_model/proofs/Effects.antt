@@ -1,29 +1,23 @@
 -- What calls do, and when accesses are answered.
-use Rattle.w16_model.proofs.Common.{◌≡◌, ℕ, ◌+◌, ◌*◌, ◌-◌, ◌<◌, ◌≤◌, ◌==◌, ◌||◌, Bool, true, false, cond, not, nat_lt, MatchBool, MatchOption, IfSome, List, length, Option, Some, None, Result, Ok, Err, option_map, unwrap_or, is_some, refl, sym, ap}
-use Rattle.w16_model.proofs.Common.{◌∙◌, subst, arith, ne_eqb, Refusal, FarFault, ReadOnly, REACH, Kind, Moveable, Discardable, GMEM_MODIFY, GMEM_DISCARDABLE, Heap, Object, object_at, bytes_at, is_fixed, is_discardable, part, repeated, with_object}
-use Rattle.w16_model.proofs.Common.{with_ordered, touched, removed, absent, after_lock, after_unlock, after_free, after_discard, after_modify, after_touch, Handles, Part, part_of_selector, selector_of, selector_in, offset_in, far_pointer, owns}
-use Rattle.w16_model.proofs.Common.{refuses_write, Answer, global_lock, global_unlock, global_free, free_own, locks_at, has_flag, Word, Dword, IsNull, AnswersHandle, AnswersDiscard, Empties, Resizes, ReAllocsOwn, GlobalReAllocs, modified, kind_modified}
-use Rattle.w16_model.proofs.Common.{IsNamed, ChangesKind, FarAnswer, far_fault, far_slot, far_at, far_bytes, far_read, data_write, far_write, after_write, Read, Write, Fill, Bytes, Done, Fault, LockLaw, UnlockLaw, FreeLaw, ModifyLaw, DiscardLaw}
-use Rattle.w16_model.proofs.Common.{AnsweredLaw}
+use Rattle.w16_model.proofs
+use proofs.Common as C
+use proofs.Common.{◌≡◌, ℕ, ◌+◌, ◌*◌, ◌-◌, ◌<◌, ◌≤◌, ◌==◌, ◌||◌, Bool, true, false, cond, not, nat_lt, MatchBool, List, length, Option, Some, None, Result, Ok, Err, refl, sym, ap, ◌∙◌, subst, arith, Refusal, REACH, Kind, Heap, Object, object_at, is_fixed, part, with_object, with_ordered}
+use proofs.Common.{removed, after_discard, after_modify, Handles, Part, selector_of, selector_in, offset_in, far_pointer, owns, Answer, has_flag, Word, Dword, IsNull, AnswersHandle, AnswersDiscard, Empties, Resizes, modified, kind_modified, ChangesKind, FarAnswer, far_slot, far_at}
+use proofs.Common.{far_bytes, Read, Write, Fill, Bytes, Done, Fault}
+use proofs.{Heaps.get-update_same, KeptHeaps.inserted_here, KeptHeaps.taken_here, KindChanges.kind_law, Absence.answer as discard_answer, Absence.discard_is, Parts.length-repeated, Accesses.reached_fault}
 use Rattle.std.specs.FinMap as finmap
 use Rattle.w16_model.specs.declared.Refusal.TheVariants as refusals
-use Rattle.w16_model.proofs.Heaps.{get-update_same}
-use Rattle.w16_model.proofs.KeptHeaps.{inserted_here, taken_here}
-use Rattle.w16_model.proofs.KindChanges.{kind_law}
-use Rattle.w16_model.proofs.Absence.{answer as discard_answer, discard_is}
-use Rattle.w16_model.proofs.Parts.{length-repeated}
-use Rattle.w16_model.proofs.Accesses.{reached_fault}
 
-module _ (old : Handles) (handle slot : ℕ) (o : Object) (n : IsNamed old handle slot o) where
+module _ (old : Handles) (handle slot : ℕ) (o : Object) (n : C.IsNamed old handle slot o) where
   -- GlobalLock
   abbrev lock_of : Option Object → Result Heap Refusal
   lock_of p = elim p as (λ _. Result Heap Refusal) [
     | None ↦ Err refusals.Absent
-    | Some o ↦ cond (not (is_some o.bytes)) (Err refusals.Absent) (cond (is_fixed o.kind) (Err refusals.Fixed) (cond (o.locks == 255) (Err refusals.LockFull) (Ok (with_ordered old.heap slot (record o { locks = o.locks + 1 }) (touched slot)))))
+    | Some o ↦ cond (not (C.is_some o.bytes)) (Err refusals.Absent) (cond (is_fixed o.kind) (Err refusals.Fixed) (cond (o.locks == 255) (Err refusals.LockFull) (Ok (with_ordered old.heap slot (record o { locks = o.locks + 1 }) (C.touched slot)))))
   ]
 
   abbrev locked_heap : Heap
-  locked_heap = with_ordered old.heap slot (record o { locks = o.locks + 1 }) (touched slot)
+  locked_heap = with_ordered old.heap slot (record o { locks = o.locks + 1 }) (C.touched slot)
 
   abbrev lock_outcome : ℕ → Result Heap Refusal → Answer × Handles
   lock_outcome slot r = elim r [
@@ -32,69 +26,69 @@ module _ (old : Handles) (handle slot : ℕ) (o : Object) (n : IsNamed old handl
     | Err _ ↦ (Dword 0, old)
   ]
 
-  locked : is_some o.bytes ≡ true → is_fixed o.kind ≡ false → o.locks < 255 → global_lock old handle ≡ (Dword (far_pointer (selector_of slot) 0), record old { heap = locked_heap })
+  locked : C.is_some o.bytes ≡ true → is_fixed o.kind ≡ false → o.locks < 255 → C.global_lock old handle ≡ (Dword (far_pointer (selector_of slot) 0), record old { heap = locked_heap })
   locked has loose few =
       let done : Result Heap Refusal = Ok locked_heap in
-      ap (λ (s : Option ℕ). elim s as (λ _. Answer × Handles) [ None ↦ (Dword 0, old) | Some slot ↦ lock_outcome slot (after_lock old.heap slot) ]) n.found
+      ap (λ (s : Option ℕ). elim s as (λ _. Answer × Handles) [ None ↦ (Dword 0, old) | Some slot ↦ lock_outcome slot (C.after_lock old.heap slot) ]) n.found
       ∙ ap (lock_outcome slot) (ap lock_of n.there
       ∙ ap (λ b. cond {A = Result Heap Refusal} (not b) (Err refusals.Absent) (cond (is_fixed o.kind) (Err refusals.Fixed) (cond (o.locks == 255) (Err refusals.LockFull) done))) has
       ∙ ap (λ b. cond {A = Result Heap Refusal} b (Err refusals.Fixed) (cond (o.locks == 255) (Err refusals.LockFull) done)) loose
-      ∙ ap (λ b. cond {A = Result Heap Refusal} b (Err refusals.LockFull) done) (ne_eqb o.locks 255 (λ e. omega (arith, e, few))))
+      ∙ ap (λ b. cond {A = Result Heap Refusal} b (Err refusals.LockFull) done) (C.ne_eqb o.locks 255 (λ e. omega (arith, e, few))))
 
   -- GlobalUnlock
   abbrev less : Object
   less = record o { locks = o.locks - 1 }
 
   abbrev unlock_outcome : ℕ → Result Heap Refusal → Answer × Handles
-  unlock_outcome slot r = elim r [ Ok heap ↦ (Word (cond (nat_lt 0 (locks_at heap slot)) 1 0), record old { heap = heap }) | Err _ ↦ (Word 0, old) ]
+  unlock_outcome slot r = elim r [ Ok heap ↦ (Word (cond (nat_lt 0 (C.locks_at heap slot)) 1 0), record old { heap = heap }) | Err _ ↦ (Word 0, old) ]
 
-  unlocked : is_fixed o.kind ≡ false → global_unlock old handle ≡ (Word (cond (nat_lt 0 (o.locks - 1)) 1 0), record old { heap = with_object old.heap slot less })
+  unlocked : is_fixed o.kind ≡ false → C.global_unlock old handle ≡ (Word (cond (nat_lt 0 (o.locks - 1)) 1 0), record old { heap = with_object old.heap slot less })
   unlocked loose =
-      ap (λ (s : Option ℕ). elim s as (λ _. Answer × Handles) [ None ↦ (Word 0, old) | Some slot ↦ unlock_outcome slot (after_unlock old.heap slot) ]) n.found
+      ap (λ (s : Option ℕ). elim s as (λ _. Answer × Handles) [ None ↦ (Word 0, old) | Some slot ↦ unlock_outcome slot (C.after_unlock old.heap slot) ]) n.found
       ∙ ap (λ (p : Option Object). unlock_outcome slot (elim p as (λ _. Result Heap Refusal) [ None ↦ Ok old.heap | Some o ↦ cond (is_fixed o.kind) (Err refusals.Fixed) (Ok (with_object old.heap slot (record o { locks = o.locks - 1 }))) ])) n.there
       ∙ ap (λ b. unlock_outcome slot (cond {A = Result Heap Refusal} b (Err refusals.Fixed) (Ok (with_object old.heap slot less)))) loose
-      ∙ ap (λ (p : Option Object). (Word (cond (nat_lt 0 (unwrap_or (option_map (λ (o : Object). o.locks) p) 0)) 1 0), record old { heap = with_object old.heap slot less })) (inserted_here old.heap.objects slot less slot refl)
+      ∙ ap (λ (p : Option Object). (Word (cond (nat_lt 0 (C.unwrap_or (C.option_map (λ (o : Object). o.locks) p) 0)) 1 0), record old { heap = with_object old.heap slot less })) (inserted_here old.heap.objects slot less slot refl)
 
   -- GlobalFree
   abbrev free_outcome : ℕ → Result Heap Refusal → Answer × Handles
   free_outcome slot r = elim r [ Ok heap ↦ (Word 0, record old { heap = heap; attributes = finmap.remove old.attributes slot }) | Err _ ↦ (Word handle, old) ]
 
-  freed : owns old handle ≡ false → o.locks ≡ 0 → global_free old handle ≡ (Word 0, record old { heap = removed old.heap slot; attributes = finmap.remove old.attributes slot })
+  freed : owns old handle ≡ false → o.locks ≡ 0 → C.global_free old handle ≡ (Word 0, record old { heap = removed old.heap slot; attributes = finmap.remove old.attributes slot })
   freed own free =
-      ap (λ b. cond {A = Answer × Handles} b (Word handle, old) (free_own old handle)) own
-      ∙ ap (λ (s : Option ℕ). elim s as (λ _. Answer × Handles) [ None ↦ (Word handle, old) | Some slot ↦ free_outcome slot (after_free old.heap slot) ]) n.found
+      ap (λ b. cond {A = Answer × Handles} b (Word handle, old) (C.free_own old handle)) own
+      ∙ ap (λ (s : Option ℕ). elim s as (λ _. Answer × Handles) [ None ↦ (Word handle, old) | Some slot ↦ free_outcome slot (C.after_free old.heap slot) ]) n.found
       ∙ ap (λ (p : Option Object). free_outcome slot (elim p as (λ _. Result Heap Refusal) [ None ↦ Ok old.heap | Some o ↦ cond (nat_lt 0 o.locks) (Err refusals.Locked) (Ok (removed old.heap slot)) ])) n.there
       ∙ ap (λ k. free_outcome slot (cond {A = Result Heap Refusal} (nat_lt 0 k) (Err refusals.Locked) (Ok (removed old.heap slot)))) free
 
   -- GlobalReAlloc
-  module _ (new : Handles) (size flags answer : ℕ) (own : owns old handle ≡ false) (step : GlobalReAllocs old handle size flags answer new) where
-    reallocs : MatchBool (has_flag flags GMEM_MODIFY) (AnswersHandle old handle (modified old.heap slot (kind_modified flags)) answer new) (MatchBool (size == 0) (Empties old handle slot flags answer new) (Resizes old slot flags size answer new))
-    reallocs = subst (λ (s : Option ℕ). MatchOption s (IsNull old answer new) (λ slot. MatchBool (has_flag flags GMEM_MODIFY)
+  module _ (new : Handles) (size flags answer : ℕ) (own : owns old handle ≡ false) (step : C.GlobalReAllocs old handle size flags answer new) where
+    reallocs : MatchBool (has_flag flags C.GMEM_MODIFY) (AnswersHandle old handle (modified old.heap slot (kind_modified flags)) answer new) (MatchBool (size == 0) (Empties old handle slot flags answer new) (Resizes old slot flags size answer new))
+    reallocs = subst (λ (s : Option ℕ). C.MatchOption s (IsNull old answer new) (λ slot. MatchBool (has_flag flags C.GMEM_MODIFY)
         (AnswersHandle old handle (modified old.heap slot (kind_modified flags)) answer new) (MatchBool (size == 0) (Empties old handle slot flags answer new) (Resizes old slot flags size answer new)))) n.found
-        (subst (λ b. MatchBool b (IsNull old answer new) (ReAllocsOwn old handle size flags answer new)) own step)
+        (subst (λ b. MatchBool b (IsNull old answer new) (C.ReAllocsOwn old handle size flags answer new)) own step)
 
-pub lock_law : LockLaw
+pub lock_law : C.LockLaw
 lock_law old new handle slot o answer n has loose few step =
-    let e : global_lock old handle ≡ (Dword (far_pointer (selector_of slot) 0), record old { heap = locked_heap old handle slot o n }) = locked old handle slot o n has loose few in (
+    let e : C.global_lock old handle ≡ (Dword (far_pointer (selector_of slot) 0), record old { heap = locked_heap old handle slot o n }) = locked old handle slot o n has loose few in (
       ap (λ (h : Handles). object_at h.heap slot) (step.1 ∙ ap (λ (p : Answer × Handles). p.1) e) ∙ inserted_here old.heap.objects slot (record o { locks = o.locks + 1 }) slot refl,
       step.0 ∙ ap (λ (p : Answer × Handles). p.0) e,
     )
 
-pub unlock_law : UnlockLaw
+pub unlock_law : C.UnlockLaw
 unlock_law old new handle slot o answer n loose step =
-    let e : global_unlock old handle ≡ (Word (cond (nat_lt 0 (o.locks - 1)) 1 0), record old { heap = with_object old.heap slot (record o { locks = o.locks - 1 }) }) = unlocked old handle slot o n loose in (
+    let e : C.global_unlock old handle ≡ (Word (cond (nat_lt 0 (o.locks - 1)) 1 0), record old { heap = with_object old.heap slot (record o { locks = o.locks - 1 }) }) = unlocked old handle slot o n loose in (
       ap (λ (h : Handles). object_at h.heap slot) (step.1 ∙ ap (λ (p : Answer × Handles). p.1) e) ∙ inserted_here old.heap.objects slot (record o { locks = o.locks - 1 }) slot refl,
       step.0 ∙ ap (λ (p : Answer × Handles). p.0) e,
     )
 
-pub free_law : FreeLaw
+pub free_law : C.FreeLaw
 free_law old new handle slot o answer n own free step =
-    let e : global_free old handle ≡ (Word 0, record old { heap = removed old.heap slot; attributes = finmap.remove old.attributes slot }) = freed old handle slot o n own free in (
+    let e : C.global_free old handle ≡ (Word 0, record old { heap = removed old.heap slot; attributes = finmap.remove old.attributes slot }) = freed old handle slot o n own free in (
       ap (λ (h : Handles). object_at h.heap slot) (step.1 ∙ ap (λ (p : Answer × Handles). p.1) e) ∙ taken_here old.heap.objects slot slot refl,
       step.0 ∙ ap (λ (p : Answer × Handles). p.0) e,
     )
 
-pub modify_law : ModifyLaw
+pub modify_law : C.ModifyLaw
 modify_law old new handle slot size flags o answer is n own modify loose step =
     let again : AnswersHandle old handle (modified old.heap slot (kind_modified flags)) answer new = subst
     (λ b. MatchBool b (AnswersHandle old handle (modified old.heap slot (kind_modified flags)) answer new)
@@ -103,53 +97,53 @@ modify_law old new handle slot size flags o answer is n own modify loose step =
     (reallocs old handle slot o n new size flags answer own step) in
     let law : ((is_fixed o.kind || is_fixed (kind_modified flags)) ≡ true → after_modify old.heap slot (kind_modified flags) ≡ Err refusals.Fixed)
     × ((is_fixed o.kind || is_fixed (kind_modified flags)) ≡ false → (heap : Heap) × (after_modify old.heap slot (kind_modified flags) ≡ Ok heap) × ChangesKind old.heap slot o (kind_modified flags) heap) =
-    subst (λ p. IfSome p (λ o. ((is_fixed o.kind || is_fixed (kind_modified flags)) ≡ true → after_modify old.heap slot (kind_modified flags) ≡ Err refusals.Fixed)
+    subst (λ p. C.IfSome p (λ o. ((is_fixed o.kind || is_fixed (kind_modified flags)) ≡ true → after_modify old.heap slot (kind_modified flags) ≡ Err refusals.Fixed)
     × ((is_fixed o.kind || is_fixed (kind_modified flags)) ≡ false → (heap : Heap) × (after_modify old.heap slot (kind_modified flags) ≡ Ok heap) × ChangesKind old.heap slot o (kind_modified flags) heap))) n.there (kind_law old.heap slot (kind_modified flags) is.heap) in
     let c : (heap : Heap) × (after_modify old.heap slot (kind_modified flags) ≡ Ok heap) × ChangesKind old.heap slot o (kind_modified flags) heap = law.1 (ap (λ b. b || is_fixed (kind_modified flags)) loose ∙ never_fixed flags) in (
       ap (λ (h : Handles). object_at h.heap slot) again.1 ∙ ap (λ (r : Result Heap Refusal). object_at (elim r as (λ _. Heap) [ Ok new ↦ new | Err _ ↦ old.heap ]) slot) c.1 ∙ c.2.object,
       again.0,
     )
   where
-    by_flag : (b : Bool) → is_fixed (cond {A = Kind} b Discardable Moveable) ≡ false
+    by_flag : (b : Bool) → is_fixed (cond {A = Kind} b C.Discardable C.Moveable) ≡ false
     by_flag true = refl
     by_flag false = refl
 
     never_fixed : (flags : ℕ) → is_fixed (kind_modified flags) ≡ false
-    never_fixed flags = by_flag (has_flag flags GMEM_DISCARDABLE)
+    never_fixed flags = by_flag (has_flag flags C.GMEM_DISCARDABLE)
 
-pub discard_law : DiscardLaw
+pub discard_law : C.DiscardLaw
 discard_law old new handle slot flags o answer n own keeps moveable may free step =
     let empties : Empties old handle slot flags answer new = subst (λ b. MatchBool b (AnswersHandle old handle (modified old.heap slot (kind_modified flags)) answer new) (Empties old handle slot flags answer new)) keeps
     (reallocs old handle slot o n new 0 flags answer own step) in
     let asked : AnswersDiscard old handle answer new (after_discard old.heap slot) = subst (λ b. MatchBool b (AnswersDiscard old handle answer new (after_discard old.heap slot)) (IsNull old answer new)) moveable empties in
-    let done : after_discard old.heap slot ≡ Ok (absent old.heap slot) = discard_is old.heap slot (Some o) n.there ∙ ap (λ k. discard_answer old.heap slot (nat_lt 0 k) (is_discardable o.kind)) free ∙ ap (discard_answer old.heap slot false) may in
-    let again : AnswersHandle old handle (absent old.heap slot) answer new = subst (AnswersDiscard old handle answer new) done asked in (
-      ap (λ (h : Handles). object_at h.heap slot) again.1 ∙ get-update_same old.heap.objects slot (λ (o : Object). record o { bytes = None }) ∙ ap (option_map (λ (o : Object). let p : Object = record o { bytes = None } in p)) n.there,
+    let done : after_discard old.heap slot ≡ Ok (C.absent old.heap slot) = discard_is old.heap slot (Some o) n.there ∙ ap (λ k. discard_answer old.heap slot (nat_lt 0 k) (C.is_discardable o.kind)) free ∙ ap (discard_answer old.heap slot false) may in
+    let again : AnswersHandle old handle (C.absent old.heap slot) answer new = subst (AnswersDiscard old handle answer new) done asked in (
+      ap (λ (h : Handles). object_at h.heap slot) again.1 ∙ get-update_same old.heap.objects slot (λ (o : Object). record o { bytes = None }) ∙ ap (C.option_map (λ (o : Object). let p : Object = record o { bytes = None } in p)) n.there,
       again.0,
     )
 
 -- Far accesses.
-module _ (old : Handles) (selector offset n : ℕ) (p : Part) (bytes : List ℕ) (found : part_of_selector old selector ≡ Some p) (has : bytes_at old.heap p.slot ≡ Some bytes) (near : offset + n ≤ REACH) (fits : REACH * p.number + (offset + n) ≤ length bytes) where
-  no_fault : far_fault old selector offset n ≡ None
+module _ (old : Handles) (selector offset n : ℕ) (p : Part) (bytes : List ℕ) (found : C.part_of_selector old selector ≡ Some p) (has : C.bytes_at old.heap p.slot ≡ Some bytes) (near : offset + n ≤ REACH) (fits : REACH * p.number + (offset + n) ≤ length bytes) where
+  no_fault : C.far_fault old selector offset n ≡ None
   no_fault = reached_fault old selector offset n p bytes found has near fits
 
-  read_answered : (far_read old selector offset n).0 ≡ Bytes (part (far_bytes old selector) (far_at old selector offset) n)
-  read_answered = ap (λ (f : Option FarFault). (elim f as (λ _. FarAnswer × Handles) [
+  read_answered : (C.far_read old selector offset n).0 ≡ Bytes (part (far_bytes old selector) (far_at old selector offset) n)
+  read_answered = ap (λ (f : Option C.FarFault). (elim f as (λ _. FarAnswer × Handles) [
     | Some fault ↦ (Fault fault, old)
-    | None ↦ (Bytes (part (far_bytes old selector) (far_at old selector offset) n), record old { heap = after_touch old.heap (far_slot old selector) })
+    | None ↦ (Bytes (part (far_bytes old selector) (far_at old selector offset) n), record old { heap = C.after_touch old.heap (far_slot old selector) })
   ]).0) no_fault
 
-  write_answered : (slice : List ℕ) → length slice ≡ n → refuses_write old selector ≡ false → (far_write old selector offset slice).0 ≡ Done
-  write_answered slice long may = ap (λ b. (cond {A = FarAnswer × Handles} b (Fault ReadOnly, old) (data_write old selector offset slice)).0) may
-      ∙ ap (λ (f : Option FarFault). (elim f as (λ _. FarAnswer × Handles) [
+  write_answered : (slice : List ℕ) → length slice ≡ n → C.refuses_write old selector ≡ false → (C.far_write old selector offset slice).0 ≡ Done
+  write_answered slice long may = ap (λ b. (cond {A = FarAnswer × Handles} b (Fault C.ReadOnly, old) (C.data_write old selector offset slice)).0) may
+      ∙ ap (λ (f : Option C.FarFault). (elim f as (λ _. FarAnswer × Handles) [
         | Some fault ↦ (Fault fault, old)
-        | None ↦ (Done, record old { heap = after_touch (after_write old.heap (far_slot old selector) (far_at old selector offset) slice) (far_slot old selector) })
-      ]).0) (ap (far_fault old selector offset) long ∙ no_fault)
+        | None ↦ (Done, record old { heap = C.after_touch (C.after_write old.heap (far_slot old selector) (far_at old selector offset) slice) (far_slot old selector) })
+      ]).0) (ap (C.far_fault old selector offset) long ∙ no_fault)
 
-pub answered_law : AnsweredLaw
+pub answered_law : C.AnsweredLaw
 answered_law old new (Read pointer count) answer p bytes found has near fits may step fault e =
     let both : ◌≡◌ {A = FarAnswer} (Fault fault) (Bytes (part (far_bytes old (selector_in pointer)) (far_at old (selector_in pointer) (offset_in pointer)) count)) = sym e ∙ step.0 ∙ read_answered old (selector_in pointer) (offset_in pointer) count p bytes found has near fits in cc
 answered_law old new (Write pointer slice) answer p bytes found has near fits may step fault e =
     let both : ◌≡◌ {A = FarAnswer} (Fault fault) Done = sym e ∙ step.0 ∙ write_answered old (selector_in pointer) (offset_in pointer) (length slice) p bytes found has near fits slice refl (may refl) in cc
 answered_law old new (Fill pointer count byte) answer p bytes found has near fits may step fault e =
-    let both : ◌≡◌ {A = FarAnswer} (Fault fault) Done = sym e ∙ step.0 ∙ write_answered old (selector_in pointer) (offset_in pointer) count p bytes found has near fits (repeated count byte) (length-repeated count byte) (may refl) in cc
+    let both : ◌≡◌ {A = FarAnswer} (Fault fault) Done = sym e ∙ step.0 ∙ write_answered old (selector_in pointer) (offset_in pointer) count p bytes found has near fits (C.repeated count byte) (length-repeated count byte) (may refl) in cc

@@ -1,9 +1,7 @@
 -- The handles in which nothing is allocated.
 use Rattle.w16_model.proofs.Common.{◌≡◌, ℕ, ◌<◌, IfSome, All, Option, Some, None, is_some, refl, sym, ap, ◌∙◌, subst, arith, nat_cmp, get-empty, Block, GRAIN, Object, IsHeap, IsCounted, IsMultiple, empty_heap, blocks, is_in_order, false≢true, Attributes, IsRun, IsSized, slots_at, EmptyLaw}
+use Rattle.w16_model.proofs.{Gaps.Each-from, Gaps.All-from_Each, Heaps.IsBlockOf, Heaps.member_block, Places.placed_from}
 use Rattle.std.specs.FinMap as finmap
-use Rattle.w16_model.proofs.Gaps.{Each-from, All-from_Each}
-use Rattle.w16_model.proofs.Heaps.{IsBlockOf, member_block}
-use Rattle.w16_model.proofs.Places.{placed_from}
 
 no_block : (lo hi grain : ℕ) (x : Block) → IsBlockOf (empty_heap lo hi grain) x → ⊥
 no_block lo hi grain x b = let none : ◌≡◌ {A = Option Object} None (Some b.object) = sym (get-empty nat_cmp x.id) ∙ b.is_there in cc

@@ -1,31 +1,31 @@
 -- What a far access does: to its object's bytes, to all others, and to the order of use.
-use Rattle.w16_model.proofs.Common.{◌≡◌, ◌≢◌, ℕ, ◌+◌, ◌*◌, ◌≤◌, Bool, true, false, cond, IsSomeAnd, List, [], length, Option, Some, None, option_map, unwrap_or, refl, sym, ap, ◌∙◌, subst, arith, FarFault, BadSelector, ReadOnly, NotPresent, Limit}
-use Rattle.w16_model.proofs.Common.{REACH, part, put_part, repeated, is_member, Heap, Object, object_at, bytes_at, is_in_order, newest, touched, after_touch, Handles, AreHandles, Gives, Part, part_of_selector, selector_in, offset_in, refuses_write}
-use Rattle.w16_model.proofs.Common.{FarAnswer, is_past, far_fault, far_part, far_slot, far_at, far_bytes, far_read, data_write, far_write, after_write, Read, Write, Fill, Bytes, Done, Fault, IsWritten, Reaches, FarEffect, FarEffectLaw, ReadBackLaw}
-use Rattle.w16_model.proofs.Accesses.{Reached, reached, near, reached_fault}
-use Rattle.w16_model.proofs.Heaps.{get-update_same, get-update_other}
-use Rattle.w16_model.proofs.KeptHeaps.{bytes_in}
-use Rattle.w16_model.proofs.Parts.{length-put_part, take-put_part, part-put_part, drop-put_part}
+use Rattle.w16_model.proofs
+use proofs.Common as C
+use proofs.Common.{◌≡◌, ◌≢◌, ℕ, ◌+◌, ◌*◌, ◌≤◌, Bool, true, false, cond, IsSomeAnd, List, [], length, Option, Some, None, option_map, unwrap_or, refl, sym, ap, ◌∙◌, subst, arith, FarFault, ReadOnly, Limit, REACH, part, put_part, Heap, Object, object_at, newest, touched, after_touch}
+use proofs.Common.{Handles, Gives, Part, part_of_selector, selector_in, offset_in, FarAnswer, far_fault, far_part, far_bytes, far_read, far_write, after_write, Read, Write, Fill, Bytes, Done, Fault, IsWritten, Reaches, FarEffect}
+use proofs.Accesses.{Reached, reached, near, reached_fault}
+use proofs.Parts.{length-put_part, take-put_part, part-put_part, drop-put_part}
+use proofs.{Heaps.get-update_same, Heaps.get-update_other, KeptHeaps.bytes_in}
 
 -- an access without a fault has a selector
 selector_found : (handles : Handles) (selector offset n : ℕ) → far_fault handles selector offset n ≡ None → part_of_selector handles selector ≡ Some (far_part handles selector)
 selector_found handles selector offset n = turn (part_of_selector handles selector)
   where
     turn : (s : Option Part) → (elim s as (λ _. Option FarFault) [
-      | None ↦ Some BadSelector
-      | Some p ↦ elim (bytes_at handles.heap p.slot) [ None ↦ Some NotPresent | Some bytes ↦ cond (is_past (length bytes) p (offset + n)) (Some Limit) None ]
+      | None ↦ Some C.BadSelector
+      | Some p ↦ elim (C.bytes_at handles.heap p.slot) [ None ↦ Some C.NotPresent | Some bytes ↦ cond (C.is_past (length bytes) p (offset + n)) (Some Limit) None ]
     ]) ≡ None → s ≡ Some (unwrap_or s (record { slot = 0; number = 0 }))
     turn None e = cc
     turn (Some p) e = refl
 
-module _ (old : Handles) (is : AreHandles old) (selector offset : ℕ) where
+module _ (old : Handles) (is : C.AreHandles old) (selector offset : ℕ) where
   abbrev slot : ℕ
-  slot = far_slot old selector
+  slot = C.far_slot old selector
 
   abbrev begin : ℕ
   begin = REACH * (far_part old selector).number
 
-  member : (b : Bool) → is_in_order (object_at old.heap slot) ≡ b → is_member slot old.heap.order ≡ b
+  member : (b : Bool) → C.is_in_order (object_at old.heap slot) ≡ b → C.is_member slot old.heap.order ≡ b
   member b t = is.heap.in_order slot ∙ t
 
   -- its object has other bytes, and was used
@@ -62,7 +62,7 @@ module _ (old : Handles) (is : AreHandles old) (selector offset : ℕ) where
 
   write : (slice : List ℕ) (P : FarAnswer → Handles → Type 0) → ((fault : FarFault) → P (Fault fault) old) → ((new : Handles) → Reaches old selector (offset + length slice) (λ from before after. IsWritten before (from + offset) slice after) new → P Done new)
       → P (far_write old selector offset slice).0 (far_write old selector offset slice).1
-  write slice P fails done = by_code (refuses_write old selector)
+  write slice P fails done = by_code (C.refuses_write old selector)
     where
       turn : (f : Option FarFault) → far_fault old selector offset (length slice) ≡ f
           → P (elim f as (λ _. FarAnswer × Handles) [ Some fault ↦ (Fault fault, old) | None ↦ (Done, record old { heap = after_touch (after_write old.heap slot (begin + offset) slice) slot }) ]).0
@@ -85,7 +85,7 @@ module _ (old : Handles) (is : AreHandles old) (selector offset : ℕ) where
           ))
           (λ q d. get-update_other old.heap.objects slot (λ (o : Object). record o { bytes = option_map (λ bytes. put_part bytes (begin + offset) slice) o.bytes }) q d))
 
-      by_code : (b : Bool) → P (cond {A = FarAnswer × Handles} b (Fault ReadOnly, old) (data_write old selector offset slice)).0 (cond {A = FarAnswer × Handles} b (Fault ReadOnly, old) (data_write old selector offset slice)).1
+      by_code : (b : Bool) → P (cond {A = FarAnswer × Handles} b (Fault ReadOnly, old) (C.data_write old selector offset slice)).0 (cond {A = FarAnswer × Handles} b (Fault ReadOnly, old) (C.data_write old selector offset slice)).1
       by_code true = fails ReadOnly
       by_code false = turn (far_fault old selector offset (length slice)) refl
 
@@ -93,13 +93,13 @@ module _ (old : Handles) (is : AreHandles old) (selector offset : ℕ) where
 given : (P : FarAnswer → Handles → Type 0) (outcome : FarAnswer × Handles) (answer : FarAnswer) (new : Handles) → Gives outcome answer new → P outcome.0 outcome.1 → P answer new
 given P outcome answer new g h = subst (λ a. P a new) (sym g.0) (subst (P outcome.0) (sym g.1) h)
 
-pub far_effect_law : FarEffectLaw
+pub far_effect_law : C.FarEffectLaw
 far_effect_law old new (Read pointer count) answer is step = given (FarEffect old (Read pointer count)) (far_read old (selector_in pointer) (offset_in pointer) count) answer new step
     (read old is (selector_in pointer) (offset_in pointer) count (FarEffect old (Read pointer count)) (λ fault. refl) (λ bytes new r. r))
 far_effect_law old new (Write pointer slice) answer is step = given (FarEffect old (Write pointer slice)) (far_write old (selector_in pointer) (offset_in pointer) slice) answer new step
     (write old is (selector_in pointer) (offset_in pointer) slice (FarEffect old (Write pointer slice)) (λ fault. refl) (λ new r. r))
-far_effect_law old new (Fill pointer count byte) answer is step = given (FarEffect old (Fill pointer count byte)) (far_write old (selector_in pointer) (offset_in pointer) (repeated count byte)) answer new step
-    (write old is (selector_in pointer) (offset_in pointer) (repeated count byte) (FarEffect old (Fill pointer count byte)) (λ fault. refl) (λ new r. r))
+far_effect_law old new (Fill pointer count byte) answer is step = given (FarEffect old (Fill pointer count byte)) (far_write old (selector_in pointer) (offset_in pointer) (C.repeated count byte)) answer new step
+    (write old is (selector_in pointer) (offset_in pointer) (C.repeated count byte) (FarEffect old (Fill pointer count byte)) (λ fault. refl) (λ new r. r))
 
 -- What was written is read back.
 module _ (mid : Handles) (selector offset : ℕ) (slice : List ℕ) (p : Part) (object : Object) (after : List ℕ) (found : part_of_selector mid selector ≡ Some p) (there : object_at mid.heap p.slot ≡ Some object) (has : object.bytes ≡ Some after)
@@ -107,15 +107,15 @@ module _ (mid : Handles) (selector offset : ℕ) (slice : List ℕ) (p : Part) (
   reads : (far_read mid selector offset (length slice)).0 ≡ Bytes (part after (REACH * p.number + offset) (length slice))
   reads = ap (λ (f : Option FarFault). (elim f as (λ _. FarAnswer × Handles) [
     | Some fault ↦ (Fault fault, mid)
-    | None ↦ (Bytes (part (far_bytes mid selector) (far_at mid selector offset) (length slice)), record mid { heap = after_touch mid.heap (far_slot mid selector) })
+    | None ↦ (Bytes (part (far_bytes mid selector) (C.far_at mid selector offset) (length slice)), record mid { heap = after_touch mid.heap (C.far_slot mid selector) })
   ]).0) (reached_fault mid selector offset (length slice) p after found (ap bytes_in there ∙ has) near fits)
-      ∙ ap (λ (s : Option Part). let p : Part = unwrap_or s (record { slot = 0; number = 0 }) in Bytes (part (unwrap_or (bytes_at mid.heap p.slot) []) (REACH * p.number + offset) (length slice))) found
+      ∙ ap (λ (s : Option Part). let p : Part = unwrap_or s (record { slot = 0; number = 0 }) in Bytes (part (unwrap_or (C.bytes_at mid.heap p.slot) []) (REACH * p.number + offset) (length slice))) found
       ∙ ap (λ (b : Option (List ℕ)). Bytes (part (unwrap_or b []) (REACH * p.number + offset) (length slice))) (ap bytes_in there ∙ has)
 
 abbrev WrittenTo : Handles → Handles → ℕ → List ℕ → Type 0
 WrittenTo old mid pointer slice = Reaches old (selector_in pointer) (offset_in pointer + length slice) (λ begin before after. IsWritten before (begin + offset_in pointer) slice after) mid
 
-pub read_back_law : ReadBackLaw
+pub read_back_law : C.ReadBackLaw
 read_back_law old mid new pointer slice answer is written step =
     let r : WrittenTo old mid pointer slice = far_effect_law old mid (Write pointer slice) Done is written in step.0 ∙ by_object r (object_at old.heap r.slot) r.object
   where

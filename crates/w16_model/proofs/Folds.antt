@@ -1,14 +1,14 @@
 -- What the plain program's loops compute.
+use Rattle.w16_model.proofs
+use proofs.Common as C
 use Rattle.std.specs.List.{AllByRecursion as Each}
-use Rattle.w16_model.proofs.Common.{◌≡◌, ◌↔◌, ℕ, ◌+◌, ◌<◌, ◌≤◌, min, Bool, true, false, cond, ◌&&◌, nat_le, nat_lt, IsTrue, List, [], ◌∷◌, length, drop, get_or, add-one, drop-cons, drop_of_length-le, map, filter, sum_by, All}
-use Rattle.w16_model.proofs.Common.{AllPairs, refl, sym, ap, ◌∙◌, subst, arith, le-leb, lt-ltb, and_from, cond-true, cond-false, nat_tests, Block, Pinned, Misses, block_end, first_from, is_loose, begins_in, loose_bytes, ArePlaced}
-use Rattle.w16_model.proofs.Gaps.{Each-map, Each-from_All, All-from_Each, EachPair-from_AllPairs, AllPairs-from_EachPair, pack}
-use Rattle.w16_model.proofs.Longest.{sum_filter}
-use Rattle.w16_model.proofs.Least.{placed_filter}
+use proofs.Common.{◌≡◌, ◌↔◌, ℕ, ◌+◌, ◌<◌, ◌≤◌, min, Bool, true, false, cond, ◌&&◌, nat_le, IsTrue, List, [], ◌∷◌, length, drop, get_or, map, filter, All, AllPairs, refl, sym, ap, ◌∙◌, subst, arith, and_from, Block, block_end, first_from, is_loose, begins_in, loose_bytes, ArePlaced}
+use proofs.Gaps.{Each-map, Each-from_All, All-from_Each, EachPair-from_AllPairs, AllPairs-from_EachPair, pack}
+use proofs.{Longest.sum_filter, Least.placed_filter}
 
 -- what a read past the end of a list of blocks gives
 abbrev pub no_block : Block
-no_block = record { id = 0; at = 0; size = 0; hold = Pinned }
+no_block = record { id = 0; at = 0; size = 0; hold = C.Pinned }
 
 -- the heap's end stands for one block more
 first_from-min : (test : Block → Bool) (hi e a : ℕ) (xs : List Block) → first_from test (min hi e) xs a ≡ min e (first_from test hi xs a)
@@ -26,16 +26,16 @@ module _ (xs : List Block) (i : ℕ) (d : Block) (h : i < length xs) where
   here = get_or xs i d
 
   cut_here : drop i xs ≡ here ∷ drop (i + 1) xs
-  cut_here = rw (add-one, drop-cons xs i d)
+  cut_here = rw (C.add-one, C.drop-cons xs i d)
 
   pub first_from-taken : (test : Block → Bool) (e e' a total : ℕ) → first_from test e (drop i xs) a ≡ total → IsTrue (test here) → a ≤ here.at → e' ≡ min e here.at → first_from test e' (drop (i + 1) xs) a ≡ total
   first_from-taken test e e' a total k t l m =
       ap (λ v. first_from test v (drop (i + 1) xs) a) m ∙ first_from-min test e here.at a (drop (i + 1) xs)
-      ∙ sym (cond-true (test here && nat_le a here.at) _ _ (and_from _ _ t (le-leb a here.at l))) ∙ sym (ap (λ ys. first_from test e ys a) cut_here) ∙ k
+      ∙ sym (C.cond-true (test here && nat_le a here.at) _ _ (and_from _ _ t (C.le-leb a here.at l))) ∙ sym (ap (λ ys. first_from test e ys a) cut_here) ∙ k
 
   pub first_from-passed : (test : Block → Bool) (e e' a total : ℕ) → first_from test e (drop i xs) a ≡ total → (test here && nat_le a here.at) ≡ false → e' ≡ e → first_from test e' (drop (i + 1) xs) a ≡ total
   first_from-passed test e e' a total k f m =
-      ap (λ v. first_from test v (drop (i + 1) xs) a) m ∙ sym (cond-false (test here && nat_le a here.at) _ _ f) ∙ sym (ap (λ ys. first_from test e ys a) cut_here) ∙ k
+      ap (λ v. first_from test v (drop (i + 1) xs) a) m ∙ sym (C.cond-false (test here && nat_le a here.at) _ _ f) ∙ sym (ap (λ ys. first_from test e ys a) cut_here) ∙ k
 
   pub loose_bytes-here : (a b : ℕ) → loose_bytes (drop i xs) a b ≡ cond (is_loose here && begins_in a b here) here.size 0 + loose_bytes (drop (i + 1) xs) a b
   loose_bytes-here a b = ap (λ ys. loose_bytes ys a b) cut_here ∙ sum_filter (λ y. is_loose y && begins_in a b y) here (drop (i + 1) xs)
@@ -44,8 +44,8 @@ module _ (xs : List Block) (i : ℕ) (d : Block) (h : i < length xs) where
 pub loose_bytes-end : (lo hi a b : ℕ) (xs : List Block) → ArePlaced lo hi xs → loose_bytes xs a (min b hi) ≡ loose_bytes xs a b
 loose_bytes-end lo hi a b xs placed = go xs (Each-map (λ x. (lo ≤ x.at) × (0 < x.size) × (block_end x ≤ hi)) (λ x. x.at < hi) (λ x f. omega (arith, f.1, f.2)) xs (Each-from_All _ xs placed.inside))
   where
-    same : (t : Bool) (p n : ℕ) → p < hi → cond (t && (nat_le a p && nat_lt p (min b hi))) n 0 ≡ cond (t && (nat_le a p && nat_lt p b)) n 0
-    same t p n h = grind (arith, nat_tests)
+    same : (t : Bool) (p n : ℕ) → p < hi → cond (t && (nat_le a p && C.nat_lt p (min b hi))) n 0 ≡ cond (t && (nat_le a p && C.nat_lt p b)) n 0
+    same t p n h = grind (arith, C.nat_tests)
 
     go : (xs : List Block) → Each (λ x. x.at < hi) xs → loose_bytes xs a (min b hi) ≡ loose_bytes xs a b
     go [] each = refl
@@ -73,26 +73,26 @@ pub pairs_fail : {X : Type 0} (R : X → X → Type 0) (x : X) (xs rest all : Li
 pairs_fail R x xs rest all e h k pairs = h (AllPairs-head R x xs (subst (AllPairs R) e (k.1 pairs)))
 
 -- some of the blocks are together no longer than the heap
-pub sizes_fit : (lo hi : ℕ) (p : Block → Bool) (xs : List Block) → ArePlaced lo hi xs → sum_by (λ x. x.size) (filter p xs) ≤ hi
+pub sizes_fit : (lo hi : ℕ) (p : Block → Bool) (xs : List Block) → ArePlaced lo hi xs → C.sum_by (λ x. x.size) (filter p xs) ≤ hi
 sizes_fit lo hi p xs placed =
     let some : ArePlaced lo hi (filter p xs) = placed_filter lo hi p xs placed in
-    let packed : 0 + sum_by (λ x. x.size) (filter p xs) ≤ hi = pack (λ x. x.size) (filter p xs) (λ x. x.at) 0 hi (omega arith)
+    let packed : 0 + C.sum_by (λ x. x.size) (filter p xs) ≤ hi = pack (λ x. x.size) (filter p xs) (λ x. x.at) 0 hi (omega arith)
     (Each-map (λ x. (lo ≤ x.at) × (0 < x.size) × (block_end x ≤ hi)) (λ x. (0 ≤ x.at) × (x.at + x.size ≤ hi)) (λ x f. (omega arith, f.2)) (filter p xs) (Each-from_All _ (filter p xs) some.inside))
-    (EachPair-from_AllPairs (λ x y. Misses x.at x.size y.at (block_end y)) (filter p xs) some.apart) in
+    (EachPair-from_AllPairs (λ x y. C.Misses x.at x.size y.at (block_end y)) (filter p xs) some.apart) in
     omega (arith, packed)
 
 -- one block more beside those before it
 pub loose_bytes-fit : (lo hi a b bytes i : ℕ) (d : Block) (xs : List Block) → ArePlaced lo hi xs → i < length xs → bytes + loose_bytes (drop i xs) a b ≡ loose_bytes xs a b
     → IsTrue (is_loose (get_or xs i d)) → a ≤ (get_or xs i d).at → (get_or xs i d).at < b → bytes + (get_or xs i d).size ≤ hi
 loose_bytes-fit lo hi a b bytes i d xs placed h k t l m =
-    let counted : IsTrue (is_loose (get_or xs i d) && begins_in a b (get_or xs i d)) = and_from _ _ t (and_from _ _ (le-leb a _ l) (lt-ltb _ b m)) in
-    let one : loose_bytes (drop i xs) a b ≡ (get_or xs i d).size + loose_bytes (drop (i + 1) xs) a b = loose_bytes-here xs i d h a b ∙ ap (λ v. v + loose_bytes (drop (i + 1) xs) a b) (cond-true _ _ _ counted) in
+    let counted : IsTrue (is_loose (get_or xs i d) && begins_in a b (get_or xs i d)) = and_from _ _ t (and_from _ _ (C.le-leb a _ l) (C.lt-ltb _ b m)) in
+    let one : loose_bytes (drop i xs) a b ≡ (get_or xs i d).size + loose_bytes (drop (i + 1) xs) a b = loose_bytes-here xs i d h a b ∙ ap (λ v. v + loose_bytes (drop (i + 1) xs) a b) (C.cond-true _ _ _ counted) in
     let whole : loose_bytes xs a b ≤ hi = sizes_fit lo hi (λ y. is_loose y && begins_in a b y) xs placed in
     omega (arith, k, one, whole)
 
 pub loose_bytes-all : (lo hi a b end bytes i : ℕ) (xs : List Block) → ArePlaced lo hi xs → length xs ≤ i → end ≡ min b hi → bytes + loose_bytes (drop i xs) a end ≡ loose_bytes xs a end → bytes ≡ loose_bytes xs a b
 loose_bytes-all lo hi a b end bytes i xs placed h e k =
-    let none : loose_bytes (drop i xs) a end ≡ 0 = ap (λ ys. loose_bytes ys a end) (drop_of_length-le xs h) in
+    let none : loose_bytes (drop i xs) a end ≡ 0 = ap (λ ys. loose_bytes ys a end) (C.drop_of_length-le xs h) in
     let same : loose_bytes xs a end ≡ loose_bytes xs a b = ap (loose_bytes xs a) e ∙ loose_bytes-end lo hi a b xs placed in
     omega (arith, k, none, same)
 

@@ -1,7 +1,7 @@
 -- Laws of gaps and room.
+use Rattle.w16_model.proofs.Common as C
 use Rattle.std.specs.List.{AllByRecursion as Each}
-use Rattle.w16_model.proofs.Common.{◌≡◌, ℕ, zero, suc, ◌+◌, ◌-◌, ◌<◌, ◌≤◌, ◌⊎◌, inl, inr, max, min, Bool, true, false, cond, ◌&&◌, nat_le, IsTrue, List, [], ◌∷◌, map, filter, sum_by, All, AllPairs, refl, sym}
-use Rattle.w16_model.proofs.Common.{ap, ◌∙◌, subst, arith, le-leb, leb-true, false≢true, cases_lt, All-head, All-tail, All-nil, All-cons, sum_by-cons, Block, Misses, block_end, first_from, starts, largest}
+use Rattle.w16_model.proofs.Common.{◌≡◌, ℕ, zero, suc, ◌+◌, ◌-◌, ◌<◌, ◌≤◌, ◌⊎◌, inl, inr, max, min, Bool, true, false, cond, ◌&&◌, nat_le, IsTrue, List, [], ◌∷◌, map, filter, sum_by, All, refl, sym, ap, ◌∙◌, subst, arith, false≢true, Block, Misses, block_end, first_from, largest}
 
 -- a fact of each two elements, by recursion
 abbrev pub EachPair : {X : Type 0} → (X → X → Type 0) → List X → Type 0
@@ -47,7 +47,7 @@ pack {X} size (x ∷ xs) pos a b h inside apart =
     let rest : a + sum_by size xs ≤ b - size x = pack size xs moved a (b - size x) (omega (arith, inside.0))
     (Each-both _ _ _ (λ y inside_y apart_y. shift_in (pos x) (size x) a b (pos y) (size y) inside.0.0 inside.0.1 inside_y.0 inside_y.1 apart_y) xs inside.1 apart.0)
     (pairs_moved X size xs pos (pos x) (size x) apart.0 apart.1) in
-    omega (arith, sum_by-cons size x xs, rest, inside.0)
+    omega (arith, C.sum_by-cons size x xs, rest, inside.0)
 
 -- the same beside one more interval
 pub pack_around : {X : Type 0} (size : X → ℕ) (xs : List X) (pos : X → ℕ) (a b p q : ℕ) → a ≤ p → p ≤ q → q ≤ b
@@ -103,12 +103,12 @@ module _ (test : Block → Bool) where
   first_from-below hi (x ∷ xs) a m h =
       let turn : (IsTrue (test x) → IsTrue (nat_le a x.at) → m ≤ x.at) × (m ≤ first_from test hi xs a) = below_turn (test x) (nat_le a x.at) x.at (first_from test hi xs a) m h in
       let rest : (m ≤ hi) × Each (λ x. IsTrue (test x) → a ≤ x.at → m ≤ x.at) xs = first_from-below hi xs a m turn.1 in
-      (rest.0, (λ t l. turn.0 t (le-leb a x.at l), rest.1))
+      (rest.0, (λ t l. turn.0 t (C.le-leb a x.at l), rest.1))
 
   pub first_from-greatest : (hi : ℕ) (xs : List Block) (a m : ℕ) → m ≤ hi → Each (λ x. IsTrue (test x) → a ≤ x.at → m ≤ x.at) xs → m ≤ first_from test hi xs a
   first_from-greatest hi [] a m h each = h
   first_from-greatest hi (x ∷ xs) a m h each =
-      greatest_turn (test x) (nat_le a x.at) x.at (first_from test hi xs a) m (λ t l. each.0 t (leb-true a x.at l)) (first_from-greatest hi xs a m h each.1)
+      greatest_turn (test x) (nat_le a x.at) x.at (first_from test hi xs a) m (λ t l. each.0 t (C.leb-true a x.at l)) (first_from-greatest hi xs a m h each.1)
 
   -- the last place at or before p where a block that passes the test ends, or lo
   abbrev pub last_to : ℕ → List Block → ℕ → ℕ
@@ -120,22 +120,22 @@ module _ (test : Block → Bool) where
   last_to-above lo (x ∷ xs) p m h =
       let turn : (IsTrue (test x) → IsTrue (nat_le (block_end x) p) → block_end x ≤ m) × (last_to lo xs p ≤ m) = above_turn (test x) (nat_le (block_end x) p) (block_end x) (last_to lo xs p) m h in
       let rest : (lo ≤ m) × Each (λ x. IsTrue (test x) → block_end x ≤ p → block_end x ≤ m) xs = last_to-above lo xs p m turn.1 in
-      (rest.0, (λ t l. turn.0 t (le-leb (block_end x) p l), rest.1))
+      (rest.0, (λ t l. turn.0 t (C.le-leb (block_end x) p l), rest.1))
 
   pub last_to-least : (lo : ℕ) (xs : List Block) (p m : ℕ) → lo ≤ m → Each (λ x. IsTrue (test x) → block_end x ≤ p → block_end x ≤ m) xs → last_to lo xs p ≤ m
   last_to-least lo [] p m h each = h
   last_to-least lo (x ∷ xs) p m h each =
-      least_turn (test x) (nat_le (block_end x) p) (block_end x) (last_to lo xs p) m (λ t l. each.0 t (leb-true (block_end x) p l)) (last_to-least lo xs p m h each.1)
+      least_turn (test x) (nat_le (block_end x) p) (block_end x) (last_to lo xs p) m (λ t l. each.0 t (C.leb-true (block_end x) p l)) (last_to-least lo xs p m h each.1)
 
   -- it is where a gap may begin
-  pub last_to-start : (f : ℕ → ℕ) (lo : ℕ) (xs : List Block) (p : ℕ) → f (last_to lo xs p) ≤ largest (map f (starts test lo xs))
+  pub last_to-start : (f : ℕ → ℕ) (lo : ℕ) (xs : List Block) (p : ℕ) → f (last_to lo xs p) ≤ largest (map f (C.starts test lo xs))
   last_to-start f lo [] p = omega arith
   last_to-start f lo (x ∷ xs) p = start_turn f lo (test x) (nat_le (block_end x) p) x (filter test xs) (last_to lo xs p) (last_to-start f lo xs p)
 
 -- a list's largest value is that of one of its members
 pub largest_reached : (f : ℕ → ℕ) (P : ℕ → Type 0) (ns : List ℕ) → Each P ns → 0 < largest (map f ns) → (n : ℕ) × P n × (f n ≡ largest (map f ns))
 largest_reached f P [] each h = absurd (omega arith)
-largest_reached f P (n ∷ ns) each h = elim (cases_lt (f n) (largest (map f ns))) [
+largest_reached f P (n ∷ ns) each h = elim (C.cases_lt (f n) (largest (map f ns))) [
   | inl l ↦ let rest : (m : ℕ) × P m × (f m ≡ largest (map f ns)) = largest_reached f P ns each.1 (omega arith) in (rest.0, rest.1, omega (arith, rest.2))
   | inr l ↦ (n, each.0, omega arith)
 ]
@@ -167,20 +167,20 @@ each_two {X} R turns (x ∷ xs) h = (
 -- between std's words and these
 pub Each-from_All : {X : Type 0} (P : X → Type 0) (xs : List X) → All P xs → Each P xs
 Each-from_All P [] h = tt
-Each-from_All P (x ∷ xs) h = (All-head P x xs h, Each-from_All P xs (All-tail P x xs h))
+Each-from_All P (x ∷ xs) h = (C.All-head P x xs h, Each-from_All P xs (C.All-tail P x xs h))
 
 pub All-from_Each : {X : Type 0} (P : X → Type 0) (xs : List X) → Each P xs → All P xs
-All-from_Each P [] h = All-nil P
-All-from_Each P (x ∷ xs) h = All-cons P x xs h.0 (All-from_Each P xs h.1)
+All-from_Each P [] h = C.All-nil P
+All-from_Each P (x ∷ xs) h = C.All-cons P x xs h.0 (All-from_Each P xs h.1)
 
-pub EachPair-from_AllPairs : {X : Type 0} (R : X → X → Type 0) (xs : List X) → AllPairs R xs → EachPair R xs
+pub EachPair-from_AllPairs : {X : Type 0} (R : X → X → Type 0) (xs : List X) → C.AllPairs R xs → EachPair R xs
 EachPair-from_AllPairs R [] h = tt
 EachPair-from_AllPairs R (x ∷ xs) h = (
   Each-from_All (R x) xs (λ k d l. h 0 (suc k) d (omega arith) (omega arith)),
   EachPair-from_AllPairs R xs (λ i j d l m. h (suc i) (suc j) d (omega arith) (omega arith)),
 )
 
-pub AllPairs-from_EachPair : {X : Type 0} (R : X → X → Type 0) (xs : List X) → EachPair R xs → AllPairs R xs
+pub AllPairs-from_EachPair : {X : Type 0} (R : X → X → Type 0) (xs : List X) → EachPair R xs → C.AllPairs R xs
 AllPairs-from_EachPair R [] h i j d l m = absurd (omega arith)
 AllPairs-from_EachPair R (x ∷ xs) h zero zero d l m = absurd (omega arith)
 AllPairs-from_EachPair R (x ∷ xs) h zero (suc j) d l m = All-from_Each (R x) xs h.0 j d (omega arith)

@@ -1,30 +1,29 @@
 -- The blocks of a heap, by its objects.
-use Rattle.std.specs.List.{AllByRecursion as Each}
-use Rattle.w16_model.proofs.Common.{◌≡◌, ◌≢◌, ℕ, ◌<◌, inl, inr, Bool, true, false, cond, ◌&&◌, ◌==◌, nat_lt, T, List, [], ◌∷◌, length, Option, Some, None, option_map, unwrap_or, refl, sym, ap, ◌∙◌, subst}
-use Rattle.w16_model.proofs.Common.{arith, Less, Equal, Greater, is_eq, is_lt, ltb-true, eqb-true, eq_by_cmp, eq_by_cmp_equiv, nat_cmp_total, filter_map, cons_option, FinMap, entries_sorted, get-entries}
-use Rattle.w16_model.proofs.Common.{get-insert, get-remove, is_sorted, below_all, false≢true, cases_Bool, cases_eq, Block, Heap, Object, blocks, block_of, object_at, hold_of_object, IsPermutation, absent}
-use Rattle.w16_model.proofs.Common.{update}
+use Rattle.w16_model.proofs
+use proofs.Common as C
+use Rattle.std.specs.{List.AllByRecursion as Each, FinMap.Entries.find}
+use proofs.Common.{◌≡◌, ◌≢◌, ℕ, ◌<◌, inl, inr, Bool, true, false, cond, ◌&&◌, ◌==◌, T, List, [], ◌∷◌, length, Option, Some, None, option_map, unwrap_or, refl, sym, ap, ◌∙◌, subst, arith, Less, Equal, is_eq, is_lt, eq_by_cmp, nat_cmp_total, filter_map, cons_option, FinMap, is_sorted}
+use proofs.Common.{below_all, false≢true, Block, Heap, Object, blocks, block_of, hold_of_object, absent}
+use proofs.Gaps.{EachPair, Member, Each-at, Each-from, EachPair-map}
+use proofs.Members.{AllDiffer, permutation_from}
 use Rattle.std.proofs.Common.{nat_cmp}
 use Rattle.std.specs.FinMap as finmap
-use Rattle.std.specs.FinMap.Entries.{find}
-use Rattle.w16_model.proofs.Gaps.{EachPair, Member, Each-at, Each-from, EachPair-map}
-use Rattle.w16_model.proofs.Members.{AllDiffer, permutation_from}
 
 pub tied : (q k : ℕ) → eq_by_cmp nat_cmp q k ≡ true → q ≡ k
-tied q k = turn (nat_lt q k) (q == k) (eqb-true q k)
+tied q k = turn (C.nat_lt q k) (q == k) (C.eqb-true q k)
   where
-    turn : (l e : Bool) → (e ≡ true → q ≡ k) → is_eq (cond l Less (cond e Equal Greater)) ≡ true → q ≡ k
+    turn : (l e : Bool) → (e ≡ true → q ≡ k) → is_eq (cond l Less (cond e Equal C.Greater)) ≡ true → q ≡ k
     turn true e f h = absurd (false≢true h)
     turn false true f h = f refl
     turn false false f h = absurd (false≢true h)
 
 pub tied_itself : (q : ℕ) → eq_by_cmp nat_cmp q q ≡ true
-tied_itself q = (eq_by_cmp_equiv nat_cmp_total).refl q
+tied_itself q = (C.eq_by_cmp_equiv nat_cmp_total).refl q
 
 smaller : (k q : ℕ) → T (is_lt (nat_cmp k q)) → k < q
-smaller k q = turn (nat_lt k q) (k == q) (ltb-true k q)
+smaller k q = turn (C.nat_lt k q) (k == q) (C.ltb-true k q)
   where
-    turn : (l e : Bool) → (l ≡ true → k < q) → T (is_lt (cond l Less (cond e Equal Greater))) → k < q
+    turn : (l e : Bool) → (l ≡ true → k < q) → T (is_lt (cond l Less (cond e Equal C.Greater))) → k < q
     turn true e f h = f refl
     turn false true f h = absurd h
     turn false false f h = absurd h
@@ -56,7 +55,7 @@ module _ {X : Type 0} where
   member_found (x ∷ es) q v h (inl e) = ap (λ b. cond b (Some x.1) (find nat_cmp q es)) (ap (λ k. eq_by_cmp nat_cmp q k) (sym (ap (λ (p : ℕ × X). p.0) e)) ∙ tied_itself q) ∙ ap (λ (p : ℕ × X). Some p.1) (sym e)
   member_found (x ∷ es) q v h (inr m) =
       let above : x.0 < q = Each-at (λ (e : ℕ × X). x.0 < e.0) es h.0 (q, v) m in
-      elim (cases_Bool (eq_by_cmp nat_cmp q x.0)) [
+      elim (C.cases_Bool (eq_by_cmp nat_cmp q x.0)) [
         | inl t ↦ absurd (omega (arith, tied q x.0 t, above))
         | inr t ↦ ap (λ b. cond b (Some x.1) (find nat_cmp q es)) t ∙ member_found es q v h.1 m
       ]
@@ -65,7 +64,7 @@ module _ {X : Type 0} where
 pub record IsBlockOf (heap : Heap) (x : Block) : Type 0 where
   pub object : Object
   pub bytes : List ℕ
-  pub is_there : object_at heap x.id ≡ Some object
+  pub is_there : C.object_at heap x.id ≡ Some object
   pub has_bytes : object.bytes ≡ Some bytes
   pub place : x.at ≡ unwrap_or (finmap.get heap.places x.id) 0
   pub size : x.size ≡ length bytes
@@ -98,7 +97,7 @@ block_from places id o bytes = record { id = id; at = unwrap_or (finmap.get plac
 pub block_member : (heap : Heap) (x : Block) → IsBlockOf heap x → Member x (blocks heap)
 block_member heap x is =
     mapped_member (block_of heap.places) (finmap.entries heap.objects) x (x.id, is.object)
-    (found_member (finmap.entries heap.objects) x.id is.object (sym (get-entries heap.objects x.id) ∙ is.is_there))
+    (found_member (finmap.entries heap.objects) x.id is.object (sym (C.get-entries heap.objects x.id) ∙ is.is_there))
     (ap (option_map (λ (bytes : List ℕ). record { id = x.id; at = unwrap_or (finmap.get heap.places x.id) 0; size = length bytes; hold = hold_of_object is.object })) is.has_bytes
     ∙ ap Some (λ i. record { id = x.id; at = sym is.place i; size = sym is.size i; hold = sym is.hold i }))
 
@@ -121,7 +120,7 @@ member_block heap x m =
         subst (IsBlockOf heap) same (record {
           object = o;
           bytes = bytes;
-          is_there = get-entries heap.objects id ∙ member_found (finmap.entries heap.objects) id o (keys_rise (finmap.entries heap.objects) (entries_sorted heap.objects)) n;
+          is_there = C.get-entries heap.objects id ∙ member_found (finmap.entries heap.objects) id o (keys_rise (finmap.entries heap.objects) (C.entries_sorted heap.objects)) n;
           has_bytes = e;
           place = refl;
           size = refl;
@@ -150,34 +149,34 @@ blocks_rise places (e ∷ es) h =
 
 pub blocks_differ : (heap : Heap) → AllDiffer (blocks heap)
 blocks_differ heap = EachPair-map (λ x y. x.id < y.id) (λ x y. x ≢ y) (λ x y l e. let same : x.id ≡ y.id = ap (λ (z : Block). z.id) e in omega (arith, l, same)) (blocks heap)
-    (blocks_rise heap.places (finmap.entries heap.objects) (keys_rise (finmap.entries heap.objects) (entries_sorted heap.objects)))
+    (blocks_rise heap.places (finmap.entries heap.objects) (keys_rise (finmap.entries heap.objects) (C.entries_sorted heap.objects)))
 
 -- Any list of blocks that says what the heap says is the heap's, in another order.
-pub blocks_permutation : (heap : Heap) (xs : List Block) → AllDiffer xs → ((x : Block) → Member x xs → IsBlockOf heap x) → ((x : Block) → IsBlockOf heap x → Member x xs) → IsPermutation xs (blocks heap)
+pub blocks_permutation : (heap : Heap) (xs : List Block) → AllDiffer xs → ((x : Block) → Member x xs → IsBlockOf heap x) → ((x : Block) → IsBlockOf heap x → Member x xs) → C.IsPermutation xs (blocks heap)
 blocks_permutation heap xs differ into back = permutation_from xs (blocks heap) differ (blocks_differ heap) (λ x m. block_member heap x (into x m)) (λ x m. back x (member_block heap x m))
 
 pub untied : (q k : ℕ) → q ≢ k → eq_by_cmp nat_cmp q k ≡ false
-untied q k h = elim (cases_Bool (eq_by_cmp nat_cmp q k)) [ inl t ↦ absurd (h (tied q k t)) | inr t ↦ t ]
+untied q k h = elim (C.cases_Bool (eq_by_cmp nat_cmp q k)) [ inl t ↦ absurd (h (tied q k t)) | inr t ↦ t ]
 
-pub get-update_same : (m : FinMap nat_cmp Object) (id : ℕ) (f : Object → Object) → finmap.get (update m id f) id ≡ option_map f (finmap.get m id)
+pub get-update_same : (m : FinMap nat_cmp Object) (id : ℕ) (f : Object → Object) → finmap.get (C.update m id f) id ≡ option_map f (finmap.get m id)
 get-update_same m id f = elim (finmap.get m id) as (λ o. finmap.get m id ≡ o → finmap.get (elim o [ Some o ↦ finmap.insert m id (f o) | None ↦ m ]) id ≡ option_map f o) [
-  | Some o ↦ λ _. get-insert nat_cmp_total m id (f o) id ∙ ap (λ b. cond b (Some (f o)) (finmap.get m id)) (tied_itself id)
+  | Some o ↦ λ _. C.get-insert nat_cmp_total m id (f o) id ∙ ap (λ b. cond b (Some (f o)) (finmap.get m id)) (tied_itself id)
   | None ↦ λ e. e
 ] refl
 
-pub get-update_other : (m : FinMap nat_cmp Object) (id : ℕ) (f : Object → Object) (q : ℕ) → q ≢ id → finmap.get (update m id f) q ≡ finmap.get m q
+pub get-update_other : (m : FinMap nat_cmp Object) (id : ℕ) (f : Object → Object) (q : ℕ) → q ≢ id → finmap.get (C.update m id f) q ≡ finmap.get m q
 get-update_other m id f q h = elim (finmap.get m id) as (λ o. finmap.get (elim o [ Some o ↦ finmap.insert m id (f o) | None ↦ m ]) q ≡ finmap.get m q) [
-  | Some o ↦ get-insert nat_cmp_total m id (f o) q ∙ ap (λ b. cond b (Some (f o)) (finmap.get m q)) (untied q id h)
+  | Some o ↦ C.get-insert nat_cmp_total m id (f o) q ∙ ap (λ b. cond b (Some (f o)) (finmap.get m q)) (untied q id h)
   | None ↦ refl
 ]
 
 get-remove_other : (m : FinMap nat_cmp ℕ) (id q : ℕ) → q ≢ id → finmap.get (finmap.remove m id) q ≡ finmap.get m q
-get-remove_other m id q h = get-remove nat_cmp_total m id q ∙ ap (λ b. cond b None (finmap.get m q)) (untied q id h)
+get-remove_other m id q h = C.get-remove nat_cmp_total m id q ∙ ap (λ b. cond b None (finmap.get m q)) (untied q id h)
 
 -- A heap with an object absent has the other blocks.
 pub block_of_absent : (heap : Heap) (id : ℕ) (x : Block) → IsBlockOf (absent heap id) x → IsBlockOf heap x × (x.id ≢ id)
-block_of_absent heap id x is = elim (cases_eq x.id id) [
-  | inl e ↦ absurd (gone (finmap.get heap.objects id) (sym (get-update_same heap.objects id (λ o. record o { bytes = None })) ∙ ap (λ q. object_at (absent heap id) q) (sym e) ∙ is.is_there))
+block_of_absent heap id x is = elim (C.cases_eq x.id id) [
+  | inl e ↦ absurd (gone (finmap.get heap.objects id) (sym (get-update_same heap.objects id (λ o. record o { bytes = None })) ∙ ap (λ q. C.object_at (absent heap id) q) (sym e) ∙ is.is_there))
   | inr other ↦ (
     record {
       object = is.object;

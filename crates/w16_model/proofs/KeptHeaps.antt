@@ -1,14 +1,15 @@
 -- Changes of a heap that leave it one: each object stays where it stands, or goes.
-use Rattle.w16_model.proofs.Common.{◌≡◌, ◌≢◌, ℕ, ◌+◌, ◌-◌, ◌*◌, ◌<◌, ◌≤◌, inl, inr, Bool, true, false, cond, not, if◌then◌else◌, ◌&&◌, ◌==◌, IfSome, List, [], ◌∷◌, ◌++◌, length, All, AllPairs, Option, Some, None, option_map, is_some, unwrap_or, refl, sym, ap, ◌∙◌}
-use Rattle.w16_model.proofs.Common.{subst, arith, eq-eqb, ne_eqb, nat_cmp_total, nat_cmp, eq_by_cmp, FinMap, get-insert, get-remove, false≢true, cases_eq, eqb-false, Block, Kind, Fixed, Moveable, Discardable, Refusal, Misses, block_end, ArePlaced, is_member, Heap}
-use Rattle.w16_model.proofs.Common.{Object, IsHeap, IsCounted, IsMultiple, blocks, object_at, hold_of_object, is_in_order, is_fixed, is_discardable, with_object, with_ordered, without, newest, oldest, touched, removed, after_touch, refused_order, put_part, after_write}
+use Rattle.w16_model.proofs
+use proofs.Common as C
+use proofs.Gaps as M
+use proofs.Orders as K
+use proofs.Common.{◌≡◌, ◌≢◌, ℕ, ◌+◌, ◌-◌, ◌*◌, ◌<◌, ◌≤◌, inl, inr, Bool, true, false, cond, not, if◌then◌else◌, ◌&&◌, ◌==◌, IfSome, List, [], ◌∷◌, ◌++◌, length, All, AllPairs, Option, Some, None, option_map, is_some, refl, sym, ap, ◌∙◌, subst, arith, nat_cmp_total, nat_cmp, FinMap}
+use proofs.Common.{false≢true, cases_eq, Block, Kind, Fixed, Moveable, Discardable, block_end, is_member, Heap, Object, IsHeap, IsCounted, blocks, object_at, is_in_order, is_fixed, is_discardable, with_object, without, touched, put_part}
+use proofs.Heaps.{IsBlockOf, block_member, member_block, tied_itself, untied}
+use proofs.Places.{placed_from, two_placed, same_id}
+use proofs.{Parts.length-put_part, Parts.All-put_part, Orders.member_back}
 use Rattle.std.specs.FinMap as finmap
 use Rattle.w16_model.specs.declared.Refusal.TheVariants as refusals
-use Rattle.w16_model.proofs.Parts.{length-put_part, All-put_part}
-use Rattle.w16_model.proofs.Gaps.{Each-at, Each-from, Each-from_All, All-from_Each, EachPair-from_AllPairs, AllPairs-from_EachPair, pairs_filter}
-use Rattle.w16_model.proofs.Heaps.{IsBlockOf, block_member, member_block, tied_itself, untied}
-use Rattle.w16_model.proofs.Orders.{member_without, member_newest, member_oldest, member_back, newest_differ, oldest_differ}
-use Rattle.w16_model.proofs.Places.{placed_from, two_placed, same_id}
 
 -- a block of the heap with x's id, address and size
 abbrev pub Stands : Heap → Block → Type 0
@@ -28,10 +29,10 @@ module _ (old : Heap) (is : IsHeap old) (objects : FinMap nat_cmp Object) (place
   IsGrained x = ((n : ℕ) × (x.at ≡ old.grain * n)) × ((n : ℕ) × (x.size ≡ old.grain * n))
 
   -- its blocks are placed
-  pub same_placed : ((x : Block) → IsBlockOf changed x → Stands old x) → ArePlaced old.lo old.hi (blocks changed)
+  pub same_placed : ((x : Block) → IsBlockOf changed x → Stands old x) → C.ArePlaced old.lo old.hi (blocks changed)
   same_placed stands = placed_from changed
       (λ x b. let w : Stands old x = stands x b in
-      lies w.0 x w.3 w.4 (Each-at Lies (blocks old) (Each-from_All _ (blocks old) is.placed.inside) w.0 (block_member old w.0 w.1)))
+      lies w.0 x w.3 w.4 (M.Each-at Lies (blocks old) (M.Each-from_All _ (blocks old) is.placed.inside) w.0 (block_member old w.0 w.1)))
       (λ x y b c d.
       let w : Stands old x = stands x b in
       let v : Stands old y = stands y c in
@@ -40,33 +41,33 @@ module _ (old : Heap) (is : IsHeap old) (objects : FinMap nat_cmp Object) (place
       lies : (w x : Block) → w.at ≡ x.at → w.size ≡ x.size → Lies w → Lies x
       lies w x at size h = (omega arith, omega arith, omega arith)
 
-      misses : (w x v y : Block) → w.at ≡ x.at → w.size ≡ x.size → v.at ≡ y.at → v.size ≡ y.size → Misses w.at w.size v.at (block_end v) → Misses x.at x.size y.at (block_end y)
+      misses : (w x v y : Block) → w.at ≡ x.at → w.size ≡ x.size → v.at ≡ y.at → v.size ≡ y.size → C.Misses w.at w.size v.at (block_end v) → C.Misses x.at x.size y.at (block_end y)
       misses w x v y a b c d h = grind arith
 
   -- and have whole grains
-  pub same_grained : ((x : Block) → IsBlockOf changed x → Stands old x) → All (λ x. IsMultiple old.grain x.at × IsMultiple old.grain x.size) (blocks changed)
-  same_grained stands = All-from_Each _ (blocks changed) (Each-from IsGrained (blocks changed) (λ x m.
+  pub same_grained : ((x : Block) → IsBlockOf changed x → Stands old x) → All (λ x. C.IsMultiple old.grain x.at × C.IsMultiple old.grain x.size) (blocks changed)
+  same_grained stands = M.All-from_Each _ (blocks changed) (M.Each-from IsGrained (blocks changed) (λ x m.
       let w : Stands old x = stands x (member_block changed x m) in
-      let g : IsGrained w.0 = Each-at IsGrained (blocks old) (Each-from_All _ (blocks old) is.grained) w.0 (block_member old w.0 w.1) in
+      let g : IsGrained w.0 = M.Each-at IsGrained (blocks old) (M.Each-from_All _ (blocks old) is.grained) w.0 (block_member old w.0 w.1) in
       ((g.0.0, sym w.3 ∙ g.0.1), (g.1.0, sym w.4 ∙ g.1.1))))
 
 -- A map once a key is put in, or taken out.
 module _ {X : Type 0} (m : FinMap nat_cmp X) (id : ℕ) where
   -- the key put in has its new value
   pub inserted_here : (x : X) (q : ℕ) → q ≡ id → finmap.get (finmap.insert m id x) q ≡ Some x
-  inserted_here x q e = get-insert nat_cmp_total m id x q ∙ ap (λ b. cond b (Some x) (finmap.get m q)) (ap (λ k. eq_by_cmp nat_cmp k id) e ∙ tied_itself id)
+  inserted_here x q e = C.get-insert nat_cmp_total m id x q ∙ ap (λ b. cond b (Some x) (finmap.get m q)) (ap (λ k. C.eq_by_cmp nat_cmp k id) e ∙ tied_itself id)
 
   -- and another has its own
   pub inserted_other : (x : X) (q : ℕ) → q ≢ id → finmap.get (finmap.insert m id x) q ≡ finmap.get m q
-  inserted_other x q d = get-insert nat_cmp_total m id x q ∙ ap (λ b. cond b (Some x) (finmap.get m q)) (untied q id d)
+  inserted_other x q d = C.get-insert nat_cmp_total m id x q ∙ ap (λ b. cond b (Some x) (finmap.get m q)) (untied q id d)
 
   -- the key taken out has none
   pub taken_here : (q : ℕ) → q ≡ id → finmap.get (finmap.remove m id) q ≡ None
-  taken_here q e = get-remove nat_cmp_total m id q ∙ ap (λ b. cond b None (finmap.get m q)) (ap (λ k. eq_by_cmp nat_cmp k id) e ∙ tied_itself id)
+  taken_here q e = C.get-remove nat_cmp_total m id q ∙ ap (λ b. cond b None (finmap.get m q)) (ap (λ k. C.eq_by_cmp nat_cmp k id) e ∙ tied_itself id)
 
   -- and another has its own
   pub taken_other : (q : ℕ) → q ≢ id → finmap.get (finmap.remove m id) q ≡ finmap.get m q
-  taken_other q d = get-remove nat_cmp_total m id q ∙ ap (λ b. cond b None (finmap.get m q)) (untied q id d)
+  taken_other q d = C.get-remove nat_cmp_total m id q ∙ ap (λ b. cond b None (finmap.get m q)) (untied q id d)
 
 -- the bytes of an object, if it is there and has any
 abbrev pub bytes_in : Option Object → Option (List ℕ)
@@ -118,7 +119,7 @@ module _ (old : Heap) (is : IsHeap old) (id : ℕ) (before o : Object) (there : 
       from : x.id ≡ id → (bytes : Option (List ℕ)) → before.bytes ≡ bytes → option_map length bytes ≡ Some (length b.bytes) → Stands old x
       from e None has long = cc
       from e (Some bytes) has long = (
-        record { id = x.id; at = x.at; size = length bytes; hold = hold_of_object before },
+        record { id = x.id; at = x.at; size = length bytes; hold = C.hold_of_object before },
         record { object = before; bytes = bytes; is_there = ap (object_at old) e ∙ there; has_bytes = has; place = b.place; size = refl; hold = refl },
         refl,
         refl,
@@ -224,7 +225,7 @@ pub member_touched : (id : ℕ) (order : List ℕ) (q : ℕ) → is_member q (to
 member_touched id order q = turn (is_member id order) refl
   where
     turn : (t : Bool) → is_member id order ≡ t → is_member q (cond {A = List ℕ} t (without id order ++ id ∷ []) order) ≡ is_member q order
-    turn true t = member_newest q id order ∙ member_back id order q t
+    turn true t = K.member_newest q id order ∙ member_back id order q t
     turn false t = refl
 
 -- and none stands twice
@@ -232,32 +233,32 @@ once_touched : (id : ℕ) (order : List ℕ) → AllPairs (λ a b. a ≡ b → �
 once_touched id order h = turn (is_member id order)
   where
     turn : (t : Bool) → AllPairs (λ a b. a ≡ b → ⊥) (cond {A = List ℕ} t (without id order ++ id ∷ []) order)
-    turn true = newest_differ id order h
+    turn true = K.newest_differ id order h
     turn false = h
 
 -- the heap once an object was used is one
-pub touched_heap : (old : Heap) → IsHeap old → (id : ℕ) → IsHeap (after_touch old id)
+pub touched_heap : (old : Heap) → IsHeap old → (id : ℕ) → IsHeap (C.after_touch old id)
 touched_heap old is id = reordered old is (touched id old.order) (member_touched id old.order) (once_touched id old.order is.no_repeats)
 
 -- a discardable object with bytes at the newest end of the order, and at the oldest
-pub newest_heap : (old : Heap) → IsHeap old → (id : ℕ) → is_member id old.order ≡ true → IsHeap (record old { order = newest id old.order })
+pub newest_heap : (old : Heap) → IsHeap old → (id : ℕ) → is_member id old.order ≡ true → IsHeap (record old { order = C.newest id old.order })
 newest_heap old is id there =
-    reordered old is (newest id old.order) (λ q. member_newest q id old.order ∙ member_back id old.order q there) (newest_differ id old.order is.no_repeats)
+    reordered old is (C.newest id old.order) (λ q. K.member_newest q id old.order ∙ member_back id old.order q there) (K.newest_differ id old.order is.no_repeats)
 
-pub oldest_heap : (old : Heap) → IsHeap old → (id : ℕ) → is_member id old.order ≡ true → IsHeap (record old { order = oldest id old.order })
+pub oldest_heap : (old : Heap) → IsHeap old → (id : ℕ) → is_member id old.order ≡ true → IsHeap (record old { order = C.oldest id old.order })
 oldest_heap old is id there =
-    reordered old is (oldest id old.order) (λ q. member_oldest q id old.order ∙ member_back id old.order q there) (oldest_differ id old.order is.no_repeats)
+    reordered old is (C.oldest id old.order) (λ q. K.member_oldest q id old.order ∙ member_back id old.order q there) (K.oldest_differ id old.order is.no_repeats)
 
 -- an object that may be put there is in the order
-pub ordered : (old : Heap) → IsHeap old → (id : ℕ) → refused_order old id ≡ None → is_member id old.order ≡ true
+pub ordered : (old : Heap) → IsHeap old → (id : ℕ) → C.refused_order old id ≡ None → is_member id old.order ≡ true
 ordered old is id allowed = is.in_order id ∙ turn (object_at old id) allowed
   where
-    choice : (b d : Bool) → ◌≡◌ {A = Option Refusal} (cond (not b) (Some refusals.Absent) (cond d None (Some refusals.NotDiscardable))) None → (d && b) ≡ true
+    choice : (b d : Bool) → ◌≡◌ {A = Option C.Refusal} (cond (not b) (Some refusals.Absent) (cond d None (Some refusals.NotDiscardable))) None → (d && b) ≡ true
     choice true true h = refl
     choice true false h = cc
     choice false d h = cc
 
-    turn : (p : Option Object) → ◌≡◌ {A = Option Refusal} (elim p [
+    turn : (p : Option Object) → ◌≡◌ {A = Option C.Refusal} (elim p [
       | None ↦ Some refusals.Absent
       | Some o ↦ if not (is_some o.bytes) then Some refusals.Absent else (if is_discardable o.kind then None else Some refusals.NotDiscardable)
     ]) None → is_in_order p ≡ true
@@ -267,7 +268,7 @@ ordered old is id allowed = is.in_order id ∙ turn (object_at old id) allowed
 -- An object goes.
 module _ (old : Heap) (is : IsHeap old) (id : ℕ) where
   -- each block that is left stands where it stood
-  left_stands : (x : Block) → IsBlockOf (removed old id) x → Stands old x
+  left_stands : (x : Block) → IsBlockOf (C.removed old id) x → Stands old x
   left_stands x b = elim (cases_eq x.id id) [
     | inl e ↦ absurd (none (sym (taken_here old.objects id x.id e) ∙ b.is_there))
     | inr d ↦ (
@@ -277,7 +278,7 @@ module _ (old : Heap) (is : IsHeap old) (id : ℕ) where
         bytes = b.bytes;
         is_there = sym (taken_other old.objects id x.id d) ∙ b.is_there;
         has_bytes = b.has_bytes;
-        place = b.place ∙ ap (λ p. unwrap_or p 0) (taken_other old.places id x.id d);
+        place = b.place ∙ ap (λ p. C.unwrap_or p 0) (taken_other old.places id x.id d);
         size = b.size;
         hold = b.hold;
       },
@@ -291,7 +292,7 @@ module _ (old : Heap) (is : IsHeap old) (id : ℕ) where
       none e = cc
 
   -- the heap without it is one
-  pub removed_heap : IsHeap (removed old id)
+  pub removed_heap : IsHeap (C.removed old id)
   removed_heap = record {
     placed = same_placed old is (finmap.remove old.objects id) (finmap.remove old.places id) (without id old.order) left_stands;
     grained = same_grained old is (finmap.remove old.objects id) (finmap.remove old.places id) (without id old.order) left_stands;
@@ -305,10 +306,10 @@ module _ (old : Heap) (is : IsHeap old) (id : ℕ) where
       | inr d ↦ subst (λ p. AreBytes (bytes_in p)) (sym (taken_other old.objects id q d)) (is.are_bytes q)
     ];
     in_order = λ q. elim (cases_eq q id) [
-      | inl e ↦ member_without q id old.order ∙ ap (λ b. is_member q old.order && not b) (eq-eqb q id e) ∙ out (is_member q old.order) ∙ ap is_in_order (sym (taken_here old.objects id q e))
-      | inr d ↦ member_without q id old.order ∙ ap (λ b. is_member q old.order && not b) (ne_eqb q id d) ∙ still (is_member q old.order) ∙ is.in_order q ∙ ap is_in_order (sym (taken_other old.objects id q d))
+      | inl e ↦ K.member_without q id old.order ∙ ap (λ b. is_member q old.order && not b) (C.eq-eqb q id e) ∙ out (is_member q old.order) ∙ ap is_in_order (sym (taken_here old.objects id q e))
+      | inr d ↦ K.member_without q id old.order ∙ ap (λ b. is_member q old.order && not b) (C.ne_eqb q id d) ∙ still (is_member q old.order) ∙ is.in_order q ∙ ap is_in_order (sym (taken_other old.objects id q d))
     ];
-    no_repeats = AllPairs-from_EachPair (λ a b. a ≡ b → ⊥) (without id old.order) (pairs_filter (λ a b. a ≡ b → ⊥) (λ q. not (q == id)) old.order (EachPair-from_AllPairs (λ a b. a ≡ b → ⊥) old.order is.no_repeats));
+    no_repeats = M.AllPairs-from_EachPair (λ a b. a ≡ b → ⊥) (without id old.order) (M.pairs_filter (λ a b. a ≡ b → ⊥) (λ q. not (q == id)) old.order (M.EachPair-from_AllPairs (λ a b. a ≡ b → ⊥) old.order is.no_repeats));
     counted = λ q. elim (cases_eq q id) [
       | inl e ↦ subst (λ p. IfSome p IsCounted) (sym (taken_here old.objects id q e)) tt
       | inr d ↦ subst (λ p. IfSome p IsCounted) (sym (taken_other old.objects id q d)) (is.counted q)
@@ -338,9 +339,9 @@ module _ (old : Heap) (is : IsHeap old) (id : ℕ) (o : Object) (there : object_
   counted_heap n le loose without = other_heap old is id o (record o { locks = n }) there refl refl are_bytes_there (le, λ f. absurd (false≢true (sym loose ∙ f)), without)
 
   -- with one lock more, and used
-  pub locked_heap : not (is_some o.bytes) ≡ false → is_fixed o.kind ≡ false → (o.locks == 255) ≡ false → IsHeap (with_ordered old id (record o { locks = o.locks + 1 }) (touched id))
+  pub locked_heap : not (is_some o.bytes) ≡ false → is_fixed o.kind ≡ false → (o.locks == 255) ≡ false → IsHeap (C.with_ordered old id (record o { locks = o.locks + 1 }) (touched id))
   locked_heap has loose some = touched_heap (with_object old id (record o { locks = o.locks + 1 }))
-      (counted_heap (o.locks + 1) (omega (arith, counted.0, eqb-false o.locks 255 some)) loose (λ none. absurd (false≢true (sym has ∙ ap (λ b. not (is_some b)) none)))) id
+      (counted_heap (o.locks + 1) (omega (arith, counted.0, C.eqb-false o.locks 255 some)) loose (λ none. absurd (false≢true (sym has ∙ ap (λ b. not (is_some b)) none)))) id
 
   -- with one lock less
   pub unlocked_heap : is_fixed o.kind ≡ false → IsHeap (with_object old id (record o { locks = o.locks - 1 }))
@@ -361,7 +362,7 @@ module _ (old : Heap) (is : IsHeap old) (id : ℕ) (o : Object) (there : object_
     written = record o { bytes = option_map (λ bytes. put_part bytes at slice) o.bytes }
 
     -- the heap with them is one
-    pub written_heap : IsHeap (after_write old id at slice)
+    pub written_heap : IsHeap (C.after_write old id at slice)
     written_heap = subst (λ objects. IsHeap (record old { objects = objects }))
         (λ i. elim (sym there i) [ Some p ↦ finmap.insert old.objects id (record p { bytes = option_map (λ bytes. put_part bytes at slice) p.bytes }) | None ↦ old.objects ])
         (other_heap old is id o written there refl

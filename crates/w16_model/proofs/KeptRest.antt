@@ -1,17 +1,12 @@
 -- What an answered reallocation leaves of the object, of the others and of the order of use.
-use Rattle.w16_model.proofs.Common.{◌≡◌, ℕ, ◌-◌, ◌<◌, ◌≤◌, inl, inr, Bool, true, false, cond, not, ◌&&◌, ◌||◌, ◌==◌, IsSomeAnd, List, [], ◌∷◌, ◌++◌, length, take, filter, fold, Option, Some, None, option_map, is_some, unwrap_or, refl, sym, ap, ◌∙◌, subst, arith}
-use Rattle.w16_model.proofs.Common.{eq-eqb, ne_eqb, replicate, false≢true, cases_eq, length-append, length-take-le, take_all, take_at, drop_at, RoomOptions, repeated, eligible, is_member, growth_for, Heap, Object, IsHeap, blocks, object_at, size_of, is_in_order}
-use Rattle.w16_model.proofs.Common.{is_discardable, absent, without, with_object, with_ordered, with_newest, Asked, AreNew, IsNew, IsGrown, Settles, discarded, stays_for, discards_needed, snapshot_of, KeepsOthers, AreResized, without_all, is_revived, KeepsRest}
-use Rattle.w16_model.proofs.Common.{RestLaw}
+use Rattle.w16_model.proofs
+use proofs.Common as C
+use proofs.Common.{◌≡◌, ℕ, ◌-◌, ◌<◌, ◌≤◌, inl, inr, Bool, true, false, cond, not, ◌&&◌, ◌||◌, ◌==◌, IsSomeAnd, List, [], ◌∷◌, ◌++◌, length, take, filter, fold, Some, None, is_some, unwrap_or, refl, sym, ap, ◌∙◌, subst, arith, false≢true, length-take-le, take_all, repeated, is_member, Heap}
+use proofs.Common.{Object, object_at, is_discardable, absent, without, with_ordered, with_newest, Asked, AreNew, IsNew, Settles, discarded, stays_for, AreResized, without_all, KeepsRest}
+use proofs.Reallocations.{asked, by_case, none_discarded}
+use proofs.{Gaps.Member, Gaps.member_filter, Discards.true-is_member, KeptHeaps.inserted_here, KindChanges.without_none, Others.others_law, Growth.IsCase}
 use Rattle.std.proofs.Math.ListN.{drop_of_length-le}
 use Rattle.w16_model.specs.Reallocation.{IsResized}
-use Rattle.w16_model.proofs.Gaps.{Member, member_filter}
-use Rattle.w16_model.proofs.Discards.{true-is_member}
-use Rattle.w16_model.proofs.KeptHeaps.{inserted_here}
-use Rattle.w16_model.proofs.KindChanges.{without_none}
-use Rattle.w16_model.proofs.Others.{others_law}
-use Rattle.w16_model.proofs.Growth.{IsCase}
-use Rattle.w16_model.proofs.Reallocations.{asked, by_case, none_discarded}
 
 -- The order of use without some.
 
@@ -22,9 +17,9 @@ all_stay (q ∷ order) = ap (λ (l : List ℕ). q ∷ l) (all_stay order)
 
 -- equality either way round
 turned : (q id : ℕ) → (q == id) ≡ (id == q)
-turned q id = elim (cases_eq q id) [
-  | inl e ↦ eq-eqb q id e ∙ sym (eq-eqb id q (sym e))
-  | inr d ↦ ne_eqb q id d ∙ sym (ne_eqb id q (λ e. d (sym e)))
+turned q id = elim (C.cases_eq q id) [
+  | inl e ↦ C.eq-eqb q id e ∙ sym (C.eq-eqb id q (sym e))
+  | inr d ↦ C.ne_eqb q id d ∙ sym (C.ne_eqb id q (λ e. d (sym e)))
 ]
 
 -- one and then others, or all at once
@@ -57,14 +52,14 @@ no_more (q ∷ l) = ap (λ (m : List ℕ). q ∷ m) (no_more l)
 
 grown_bytes : (zero : Bool) (n : ℕ) (before more : List ℕ) → length before < n → AreNew zero (n - length before) more → AreResized zero n before (before ++ more)
 grown_bytes zero n before more long new = record {
-  long = length-append before more ∙ omega (arith, new.0, long);
-  same = take_at before more (length before) refl ∙ sym (take_all n before (omega arith));
-  zeros = λ t. drop_at before more (length before) refl ∙ new.2 t;
+  long = C.length-append before more ∙ omega (arith, new.0, long);
+  same = C.take_at before more (length before) refl ∙ sym (take_all n before (omega arith));
+  zeros = λ t. C.drop_at before more (length before) refl ∙ new.2 t;
 }
 
 none_repeated : (m : ℕ) → m ≡ 0 → [] ≡ repeated m 0
 unfolding repeated
-none_repeated m e = ap (λ k. replicate k 0) (sym e)
+none_repeated m e = ap (λ k. C.replicate k 0) (sym e)
 
 cut_bytes : (zero : Bool) (n : ℕ) (before : List ℕ) → n ≤ length before → AreResized zero n before (take n before)
 cut_bytes zero n before short = record {
@@ -80,13 +75,13 @@ new_bytes zero n bytes new = record { long = new.0; same = sym (take_all n [] (o
     less_none n = omega arith
 
 -- The rest, where it is answered.
-module _ (old : Heap) (is : IsHeap old) (id n : ℕ) (o : Object) (there : object_at old id ≡ Some o) (options : RoomOptions) (new : Heap) where
+module _ (old : Heap) (is : C.IsHeap old) (id n : ℕ) (o : Object) (there : object_at old id ≡ Some o) (options : C.RoomOptions) (new : Heap) where
   -- what comes at the end of the order
   abbrev tail : List ℕ
-  tail = cond {A = List ℕ} (is_revived o) (id ∷ []) []
+  tail = cond {A = List ℕ} (C.is_revived o) (id ∷ []) []
 
   abbrev gone : ℕ → List ℕ
-  gone k = take k (eligible (blocks old) old.order (Some id))
+  gone k = take k (C.eligible (C.blocks old) old.order (Some id))
 
   -- an object that has bytes comes nowhere
   no_tail : (bytes : List ℕ) → o.bytes ≡ Some bytes → tail ≡ []
@@ -106,23 +101,23 @@ module _ (old : Heap) (is : IsHeap old) (id n : ℕ) (o : Object) (there : objec
   }
 
   -- in place
-  from_object : (p : Object) → new ≡ with_object old id p → IsResized options.zero n o p → tail ≡ [] → KeepsRest old id n o options new
+  from_object : (p : Object) → new ≡ C.with_object old id p → IsResized options.zero n o p → tail ≡ [] → KeepsRest old id n o options new
   from_object p left resized none = record {
     low = ap (λ (h : Heap). h.lo) left;
     high = ap (λ (h : Heap). h.hi) left;
     grain = ap (λ (h : Heap). h.grain) left;
     object = subst (λ r. IsSomeAnd r (IsResized options.zero n o)) (sym (ap (λ (h : Heap). object_at h id) left ∙ inserted_here old.objects id p id refl)) resized;
     count = 0;
-    others = subst (KeepsOthers old (Some id) 0) (sym left) (none_discarded old id p);
+    others = subst (C.KeepsOthers old (Some id) 0) (sym left) (none_discarded old id p);
     order = ap (λ (h : Heap). h.order) left ∙ sym (all_stay old.order) ∙ sym (no_more (filter (λ q. true) old.order)) ∙ ap (λ l. filter (λ q. true) old.order ++ l) (sym none);
   }
 
   -- a grown object
-  grown_is : (bytes : List ℕ) → o.bytes ≡ Some bytes → length bytes < n → (p : Object) → IsGrown options.zero n o p → IsResized options.zero n o p
+  grown_is : (bytes : List ℕ) → o.bytes ≡ Some bytes → length bytes < n → (p : Object) → C.IsGrown options.zero n o p → IsResized options.zero n o p
   grown_is bytes has long p g =
       let more : List ℕ = g.grown.0 in
-      let size : size_of o ≡ length bytes = ap (λ b. unwrap_or (option_map length b) 0) has in
-      let now : p.bytes ≡ Some (bytes ++ more) = g.grown.2 ∙ ap (option_map (λ bytes. bytes ++ more)) has in
+      let size : C.size_of o ≡ length bytes = ap (λ b. unwrap_or (C.option_map length b) 0) has in
+      let now : p.bytes ≡ Some (bytes ++ more) = g.grown.2 ∙ ap (C.option_map (λ bytes. bytes ++ more)) has in
       record {
         kind = g.same_kind;
         locks = g.same_locks;
@@ -134,7 +129,7 @@ module _ (old : Heap) (is : IsHeap old) (id n : ℕ) (o : Object) (there : objec
   revived_is : o.bytes ≡ None → (p : Object) → IsNew options.zero n o.kind o.locks p → IsResized options.zero n o p
   revived_is none p made = record { kind = made.same_kind; locks = made.same_locks; bytes = turn p.bytes made.new_bytes }
     where
-      turn : (b : Option (List ℕ)) → IsSomeAnd b (AreNew options.zero n) → IsSomeAnd b (AreResized options.zero n (unwrap_or o.bytes []))
+      turn : (b : C.Option (List ℕ)) → IsSomeAnd b (AreNew options.zero n) → IsSomeAnd b (AreResized options.zero n (unwrap_or o.bytes []))
       turn None h = h
       turn (Some bytes) h = subst (λ r. AreResized options.zero n (unwrap_or r []) bytes) (sym none) (new_bytes options.zero n bytes h)
 
@@ -147,13 +142,13 @@ module _ (old : Heap) (is : IsHeap old) (id n : ℕ) (o : Object) (there : objec
       ∙ ap (λ b. left ++ cond {A = List ℕ} (not (is_some b) && is_discardable o.kind) (id ∷ []) []) (sym none)
     where
       not_there : Member id old.order → ⊥
-      not_there m = false≢true (sym (is.in_order id ∙ ap is_in_order there ∙ ap (λ b. is_discardable o.kind && is_some b) none ∙ never (is_discardable o.kind)) ∙ true-is_member id old.order m)
+      not_there m = false≢true (sym (is.in_order id ∙ ap C.is_in_order there ∙ ap (λ b. is_discardable o.kind && is_some b) none ∙ never (is_discardable o.kind)) ∙ true-is_member id old.order m)
         where
           never : (b : Bool) → (b && false) ≡ false
           never true = refl
           never false = refl
 
-      with_bytes : (b : Option (List ℕ)) → IsSomeAnd b (AreNew options.zero n) → is_some b ≡ true
+      with_bytes : (b : C.Option (List ℕ)) → IsSomeAnd b (AreNew options.zero n) → is_some b ≡ true
       with_bytes None h = absurd h
       with_bytes (Some bytes) h = refl
 
@@ -170,7 +165,7 @@ module _ (old : Heap) (is : IsHeap old) (id n : ℕ) (o : Object) (there : objec
 
   keeps_rest : IsCase old id n o options true new → KeepsRest old id n o options new
   keeps_rest (inl revives) =
-      let what : Asked = record { options = options; prefix = discards_needed old n (Some id) options; becomes = IsNew options.zero n o.kind o.locks; order = with_newest id } in
+      let what : Asked = record { options = options; prefix = C.discards_needed old n (Some id) options; becomes = IsNew options.zero n o.kind o.locks; order = with_newest id } in
       let r : (k : ℕ) × (what.prefix ≡ Some k) × ((p : Object) × what.becomes p × Settles old (stays_for id what.options) (with_ordered (discarded old k (Some id)) id p (what.order p)) new) = asked old id what new revives.allocated.request in
       from_request r.0 r.2.0 (with_newest id r.2.0) r.2.2 (revived_is revives.none r.2.0 r.2.1) (revived_order revives.none r.0 r.2.0 r.2.1)
   keeps_rest (inr (inl cuts)) =
@@ -182,10 +177,10 @@ module _ (old : Heap) (is : IsHeap old) (id n : ℕ) (o : Object) (there : objec
     | inr short ↦ absurd (false≢true (sym short.1))
   ]
   keeps_rest (inr (inr (inr asks))) =
-      let what : Asked = record { options = options; prefix = growth_for (snapshot_of old) n id options; becomes = IsGrown options.zero n o; order = λ _ order. order } in
+      let what : Asked = record { options = options; prefix = C.growth_for (C.snapshot_of old) n id options; becomes = C.IsGrown options.zero n o; order = λ _ order. order } in
       let r : (k : ℕ) × (what.prefix ≡ Some k) × ((p : Object) × what.becomes p × Settles old (stays_for id what.options) (with_ordered (discarded old k (Some id)) id p (what.order p)) new) = asked old id what new asks.request in
       from_request r.0 r.2.0 (λ order. order) r.2.2 (grown_is asks.bytes asks.has asks.long r.2.0 r.2.1)
       (sym (no_more (without_all (gone r.0) old.order)) ∙ ap (λ l. without_all (gone r.0) old.order ++ l) (sym (no_tail asks.bytes asks.has)))
 
-pub rest_law : RestLaw
+pub rest_law : C.RestLaw
 rest_law old new id n options is step = by_case old new id n options true (λ o. KeepsRest old id n o options new) (λ o there c. keeps_rest old is id n o there options new c) step

@@ -1,18 +1,19 @@
 -- A change of kind: what it leaves, and that it leaves a heap.
-use Rattle.w16_model.proofs.Common.{[], ◌≡◌, ◌≢◌, ℕ, inl, inr, Bool, true, false, cond, not, ◌&&◌, ◌||◌, ◌==◌, IfOk, IfSome, List, ◌∷◌, ◌++◌, AllPairs, Option, Some, None, Result, Ok, Err}
-use Rattle.w16_model.proofs.Common.{is_some, refl, sym, ap, ◌∙◌, subst, eq-eqb, ne_eqb, false≢true, cases_eq, filter-append, Kind, Fixed, Moveable, Discardable, Refusal, is_member, Heap, Object}
-use Rattle.w16_model.proofs.Common.{IsHeap, IsCounted, object_at, is_in_order, is_fixed, is_discardable, without, newest, with_newest, with_ordered, after_modify, ChangesKind, KindLaw, KindHeapLaw}
+use Rattle.w16_model.proofs
+use proofs.Common as C
+use proofs.Gaps as M
+use proofs.Common.{[], ◌≡◌, ◌≢◌, ℕ, inl, inr, Bool, true, false, cond, not, ◌&&◌, ◌||◌, ◌==◌, IfOk, List, ◌∷◌, ◌++◌, AllPairs, Option, Some, None, Result, Ok, Err, is_some, refl, sym, ap, ◌∙◌, subst, ne_eqb, false≢true, Kind, Fixed, Discardable, Refusal, is_member, Heap, Object, IsHeap}
+use proofs.Common.{object_at, is_in_order, is_fixed, is_discardable, without, newest, after_modify}
+use proofs.Orders.{member_gone, member_without, without_absent, member_newest, newest_differ}
+use proofs.KeptHeaps.{inserted_here, inserted_other, bytes_in, AreBytes}
+use proofs.Replaced.{replaced_heap, lies_there}
 use Rattle.std.specs.FinMap as finmap
 use Rattle.w16_model.specs.declared.Refusal.TheVariants as refusals
-use Rattle.w16_model.proofs.Gaps.{Member, pairs_filter, AllPairs-from_EachPair, EachPair-from_AllPairs}
-use Rattle.w16_model.proofs.Orders.{member_gone, member_without, without_absent, member_newest, newest_differ}
-use Rattle.w16_model.proofs.KeptHeaps.{inserted_here, inserted_other, bytes_in, AreBytes}
-use Rattle.w16_model.proofs.Replaced.{replaced_heap, lies_there}
 
 -- The order of use without an id.
 
 -- it is the same where the id isn't in it
-pub without_none : (id : ℕ) (ids : List ℕ) → (Member id ids → ⊥) → without id ids ≡ ids
+pub without_none : (id : ℕ) (ids : List ℕ) → (M.Member id ids → ⊥) → without id ids ≡ ids
 without_none id [] out = refl
 without_none id (q ∷ ids) out =
     (λ i. cond {A = List ℕ} (not (ne_eqb q id (λ e. out (inl (sym e))) i)) (q ∷ without id ids) (without id ids)) ∙ ap (λ (l : List ℕ). q ∷ l) (without_none id ids (λ m. out (inr m)))
@@ -43,7 +44,7 @@ module _ (id : ℕ) (order : List ℕ) where
   pub rest_order : (was now has : Bool) → without id (ordered was now has) ≡ without id order
   rest_order true true has = refl
   rest_order true false has = twice_out id order
-  rest_order false true true = filter-append (λ q. not (q == id)) (without id order) (id ∷ []) ∙ (λ i. twice_out id order i ++ cond {A = List ℕ} (not (eq-eqb id id refl i)) (id ∷ []) []) ∙ no_more (without id order)
+  rest_order false true true = C.filter-append (λ q. not (q == id)) (without id order) (id ∷ []) ∙ (λ i. twice_out id order i ++ cond {A = List ℕ} (not (C.eq-eqb id id refl i)) (id ∷ []) []) ∙ no_more (without id order)
     where
       no_more : (l : List ℕ) → l ++ [] ≡ l
       no_more [] = refl
@@ -59,7 +60,7 @@ module _ (id : ℕ) (order : List ℕ) where
   member_here : (was now has : Bool) → is_member id order ≡ (was && has) → is_member id (ordered was now has) ≡ (now && has)
   member_here true true has t = t
   member_here true false has t = member_gone id order
-  member_here false true true t = member_newest id id order ∙ ap (λ b. (is_member id order && not (id == id)) || b) (eq-eqb id id refl) ∙ some (is_member id order && not (id == id))
+  member_here false true true t = member_newest id id order ∙ ap (λ b. (is_member id order && not (id == id)) || b) (C.eq-eqb id id refl) ∙ some (is_member id order && not (id == id))
     where
       some : (b : Bool) → (b || true) ≡ true
       some true = refl
@@ -86,7 +87,7 @@ module _ (id : ℕ) (order : List ℕ) where
       turn : (b c : Bool) → AllPairs (λ a b. a ≡ b → ⊥) (cond {A = List ℕ} b order (cond {A = List ℕ} c (newest id order) (without id order)))
       turn true c = h
       turn false true = newest_differ id order h
-      turn false false = AllPairs-from_EachPair (λ a b. a ≡ b → ⊥) (without id order) (pairs_filter (λ a b. a ≡ b → ⊥) (λ q. not (q == id)) order (EachPair-from_AllPairs (λ a b. a ≡ b → ⊥) order h))
+      turn false false = M.AllPairs-from_EachPair (λ a b. a ≡ b → ⊥) (without id order) (M.pairs_filter (λ a b. a ≡ b → ⊥) (λ q. not (q == id)) order (M.EachPair-from_AllPairs (λ a b. a ≡ b → ⊥) order h))
 
 -- An object that is there gets another kind, neither of them fixed.
 module _ (old : Heap) (is : IsHeap old) (id : ℕ) (kind : Kind) (o : Object) (there : object_at old id ≡ Some o) where
@@ -105,15 +106,15 @@ module _ (old : Heap) (is : IsHeap old) (id : ℕ) (kind : Kind) (o : Object) (t
   was_listed : is_member id old.order ≡ (is_discardable o.kind && is_some o.bytes)
   was_listed = is.in_order id ∙ ap is_in_order there
 
-  counted : IsCounted o
-  counted = subst (λ p. IfSome p IsCounted) there (is.counted id)
+  counted : C.IsCounted o
+  counted = subst (λ p. C.IfSome p C.IsCounted) there (is.counted id)
 
   changed_heap : is_fixed kind ≡ false → IsHeap new
   changed_heap loose = replaced_heap old is id o other there new_order refl
       (λ bytes has. lies_there old is id o there bytes has)
       (subst (λ p. AreBytes (bytes_in p)) there (is.are_bytes id))
       (counted.0, (λ f. absurd (false≢true (sym loose ∙ f))), counted.2)
-      (λ q. elim (cases_eq q id) [
+      (λ q. elim (C.cases_eq q id) [
         | inl e ↦ ap (λ k. is_member k new_order) e ∙ member_here id old.order (is_discardable o.kind) (is_discardable kind) (is_some o.bytes) was_listed ∙ sym (ap is_in_order (inserted_here old.objects id other q e))
         | inr d ↦ member_other id old.order q d (is_discardable o.kind) (is_discardable kind) (is_some o.bytes) ∙ is.in_order q ∙ ap is_in_order (sym (inserted_other old.objects id other q d))
       ])
@@ -123,9 +124,9 @@ module _ (old : Heap) (is : IsHeap old) (id : ℕ) (kind : Kind) (o : Object) (t
   one_kind : (a b : Kind) → is_discardable a ≡ true → is_discardable b ≡ true → b ≡ a
   one_kind Discardable Discardable s t = refl
   one_kind Fixed b s t = absurd (false≢true s)
-  one_kind Moveable b s t = absurd (false≢true s)
+  one_kind C.Moveable b s t = absurd (false≢true s)
   one_kind Discardable Fixed s t = absurd (false≢true t)
-  one_kind Discardable Moveable s t = absurd (false≢true t)
+  one_kind Discardable C.Moveable s t = absurd (false≢true t)
 
   first_of : (a b : Bool) → (a && b) ≡ true → a ≡ true
   first_of true b t = refl
@@ -135,7 +136,7 @@ module _ (old : Heap) (is : IsHeap old) (id : ℕ) (kind : Kind) (o : Object) (t
   differs true now has s e d t = absurd (d (one_kind o.kind kind s (e ∙ first_of now has t)))
   differs false now has s e d t = refl
 
-  pub changes_kind : ChangesKind old id o kind new
+  pub changes_kind : C.ChangesKind old id o kind new
   changes_kind = record {
     object = here;
     others = λ q d. inserted_other old.objects id other q d;
@@ -156,7 +157,7 @@ module _ (old : Heap) (is : IsHeap old) (id : ℕ) (kind : Kind) (o : Object) (t
   step_is = ap (λ (p : Option Object). elim p [
     | None ↦ Err refusals.Absent
     | Some o ↦ cond {A = Result Heap Refusal} (is_fixed o.kind || is_fixed kind) (Err refusals.Fixed)
-        (Ok (with_ordered old id (record o { kind = kind }) (λ order. cond {A = List ℕ} (is_discardable o.kind && is_discardable kind) order (with_newest id (record o { kind = kind }) order))))
+        (Ok (C.with_ordered old id (record o { kind = kind }) (λ order. cond {A = List ℕ} (is_discardable o.kind && is_discardable kind) order (C.with_newest id (record o { kind = kind }) order))))
   ]) there
 
 second_of : (a b : Bool) → (a || b) ≡ false → b ≡ false
@@ -168,22 +169,22 @@ pub modify_none : (old : Heap) (id : ℕ) (kind : Kind) → object_at old id ≡
 modify_none old id kind there = ap (λ (p : Option Object). elim p [
   | None ↦ Err refusals.Absent
   | Some o ↦ cond {A = Result Heap Refusal} (is_fixed o.kind || is_fixed kind) (Err refusals.Fixed)
-      (Ok (with_ordered old id (record o { kind = kind }) (λ order. cond {A = List ℕ} (is_discardable o.kind && is_discardable kind) order (with_newest id (record o { kind = kind }) order))))
+      (Ok (C.with_ordered old id (record o { kind = kind }) (λ order. cond {A = List ℕ} (is_discardable o.kind && is_discardable kind) order (C.with_newest id (record o { kind = kind }) order))))
 ]) there
 
-pub kind_law : KindLaw
+pub kind_law : C.KindLaw
 kind_law old id kind is = turn (object_at old id) refl
   where
-    turn : (p : Option Object) → object_at old id ≡ p → IfSome p (λ o.
+    turn : (p : Option Object) → object_at old id ≡ p → C.IfSome p (λ o.
         ((is_fixed o.kind || is_fixed kind) ≡ true → after_modify old id kind ≡ Err refusals.Fixed)
-        × ((is_fixed o.kind || is_fixed kind) ≡ false → (new : Heap) × (after_modify old id kind ≡ Ok new) × ChangesKind old id o kind new))
+        × ((is_fixed o.kind || is_fixed kind) ≡ false → (new : Heap) × (after_modify old id kind ≡ Ok new) × C.ChangesKind old id o kind new))
     turn None there = tt
     turn (Some o) there = (
       (λ t. step_is old is id kind o there ∙ ap (stepped old is id kind o there) t),
       (λ f. (new old is id kind o there, step_is old is id kind o there ∙ ap (stepped old is id kind o there) f, changes_kind old is id kind o there)),
     )
 
-pub kind_heap_law : KindHeapLaw
+pub kind_heap_law : C.KindHeapLaw
 kind_heap_law old id kind is = turn (object_at old id) refl
   where
     if_ok : (o : Object) (there : object_at old id ≡ Some o) (b : Bool) → (is_fixed o.kind || is_fixed kind) ≡ b → IfOk (stepped old is id kind o there b) IsHeap

@@ -1,8 +1,9 @@
 -- Blocks that are laid out by address.
+use Rattle.w16_model.proofs
 use Rattle.std.specs.List.{AllByRecursion as Each}
-use Rattle.w16_model.proofs.Common.{◌≡◌, ℕ, ◌<◌, ◌≤◌, inl, min, Bool, true, false, cond, if◌then◌else◌, nat_le, nat_lt, List, [], ◌∷◌, map, filter, refl, sym, ◌∙◌, subst, arith}
-use Rattle.w16_model.proofs.Common.{le-leb, cond-true, cond-false, lt-leb, Span, Block, block_end, is_any, first_from, spans_from, holes, Misses, ArePlaced, IsLaid, RisingLaw}
-use Rattle.w16_model.proofs.Gaps.{Each-map, EachPair, All-from_Each, AllPairs-from_EachPair}
+use proofs.Common.{◌≡◌, ℕ, ◌<◌, ◌≤◌, inl, min, Bool, true, false, cond, if◌then◌else◌, nat_le, nat_lt, List, [], ◌∷◌, map, filter, refl, sym, ◌∙◌, subst, arith, le-leb, cond-true, cond-false, lt-leb, Span, Block, block_end, is_any, first_from, spans_from, holes, Misses, ArePlaced, IsLaid}
+use proofs.Common.{RisingLaw}
+use proofs.Gaps.{Each-map, EachPair, All-from_Each, AllPairs-from_EachPair}
 
 -- all blocks of a laid list begin at or after its low end, and the low end is at most the high one
 pub laid_le : (lo hi : ℕ) (xs : List Block) → IsLaid lo hi xs → lo ≤ hi

@@ -1,13 +1,12 @@
 -- Room with an object counted as loose and left out.
-use Rattle.w16_model.proofs.Common.{◌≡◌, ℕ, ◌+◌, ◌-◌, ◌≤◌, Bool, true, false, cond, not, ◌&&◌, ◌||◌, IsTrue, List, [], ◌∷◌, take, filter, Option, refl, sym, ap, ◌∙◌, subst, inl, inr, false≢true, cases_Bool}
-use Rattle.w16_model.proofs.Common.{and_parts, and_from, not-true, not_from_false, or_parts, or_from, Block, Loose, is_pinned, is_loose, begins_in, Misses, IsClear, IsGap, IsArrangement, IsFreeStretch}
-use Rattle.w16_model.proofs.Common.{IsLongestStretch, eligible, is_member, is_about, blocks_without, room_for, snapshot, counted_loose, loosened, is_counted, IsArrangementWithout, IsFreeWithout, IsLongestWithout}
-use Rattle.w16_model.proofs.Common.{LeftOutLaw}
-use Rattle.w16_model.proofs.Gaps.{Member, EachPair, Each-at, Each-from, Each-from_All, All-from_Each, Each-of_map, EachPair-from_AllPairs, AllPairs-from_EachPair, EachPair-filter, EachPair-map, member_filter, filter_member}
-use Rattle.w16_model.proofs.Starts.{member_map}
-use Rattle.w16_model.proofs.Discards.{is_member-true, eligible_loose, from_take}
-use Rattle.w16_model.proofs.Least.{placed_filter}
-use Rattle.w16_model.proofs.Longest.{room_is_longest}
+use Rattle.w16_model.proofs
+use proofs.Common as C
+use proofs.Gaps as M
+use proofs.Common.{◌≡◌, ℕ, ◌+◌, ◌-◌, ◌≤◌, Bool, true, false, cond, not, ◌&&◌, ◌||◌, IsTrue, List, [], ◌∷◌, take, filter, refl, sym, ap, ◌∙◌, subst, inl, inr, false≢true, and_parts, and_from, Block, Loose, is_pinned, is_loose, begins_in, Misses, IsClear, IsGap, IsArrangement, IsFreeStretch}
+use proofs.Common.{is_member, is_about, counted_loose, loosened, is_counted}
+use proofs.Gaps.{Member, EachPair, Each-at, Each-from, Each-from_All, All-from_Each, member_filter, filter_member}
+use proofs.Discards.{is_member-true, eligible_loose, from_take}
+use proofs.{Starts.member_map, Least.placed_filter, Longest.room_is_longest}
 
 -- what each two that pass have, said of the whole list
 pairs_of_filter : {X : Type 0} (R : X → X → Type 0) (p : X → Bool) (xs : List X) → EachPair R (filter p xs) → EachPair (λ x y. IsTrue (p x) → IsTrue (p y) → R x y) xs
@@ -19,7 +18,7 @@ pairs_of_filter {X} R p (x ∷ xs) h =
     ] refl h
 
 -- The blocks without some that are loose, and without h's.
-module _ (lo hi : ℕ) (xs : List Block) (ids : List ℕ) (h : Option ℕ) (loose : (x : Block) → Member x xs → is_member x.id ids ≡ true → is_pinned x ≡ false) where
+module _ (lo hi : ℕ) (xs : List Block) (ids : List ℕ) (h : C.Option ℕ) (loose : (x : Block) → Member x xs → is_member x.id ids ≡ true → is_pinned x ≡ false) where
   abbrev stays : Block → Bool
   stays x = not (is_member x.id ids || is_about h x.id)
 
@@ -28,7 +27,7 @@ module _ (lo hi : ℕ) (xs : List Block) (ids : List ℕ) (h : Option ℕ) (loos
 
   -- a block that stays is none of them
   out : (x : Block) → IsTrue (stays x) → (is_member x.id ids ≡ false) × (is_about h x.id ≡ false)
-  out x t = or_parts (is_member x.id ids) (is_about h x.id) (not-true (is_member x.id ids || is_about h x.id) t)
+  out x t = C.or_parts (is_member x.id ids) (is_about h x.id) (C.not-true (is_member x.id ids || is_about h x.id) t)
 
   -- An interval is clear of pinned blocks in the one list where it is in the other.
   clear_left : (a b : ℕ) → IsClear is_pinned lo hi (loosened h xs) a b → IsClear is_pinned lo hi left a b
@@ -46,7 +45,7 @@ module _ (lo hi : ℕ) (xs : List Block) (ids : List ℕ) (h : Option ℕ) (loos
   left_clear a b c = record {
     above = c.above;
     below = c.below;
-    misses = All-from_Each _ (loosened h xs) (Each-of_map (λ y. IsTrue (is_pinned y) → Misses y.at y.size a b) (counted_loose h) xs
+    misses = All-from_Each _ (loosened h xs) (M.Each-of_map (λ y. IsTrue (is_pinned y) → Misses y.at y.size a b) (counted_loose h) xs
         (Each-from (λ x. IsTrue (is_pinned (counted_loose h x)) → Misses x.at x.size a b) xs (λ x m. turn x m (is_about h x.id) refl)));
   }
     where
@@ -54,7 +53,7 @@ module _ (lo hi : ℕ) (xs : List Block) (ids : List ℕ) (h : Option ℕ) (loos
           → IsTrue (is_pinned (record x { hold = cond v Loose x.hold })) → Misses x.at x.size a b
       turn x m true e t = absurd (false≢true t)
       turn x m false e t = Each-at (λ y. IsTrue (is_pinned y) → Misses y.at y.size a b) left (Each-from_All _ left c.misses) x
-          (filter_member stays xs x m (not_from_false (is_member x.id ids || is_about h x.id) (or_from (is_member x.id ids) (is_about h x.id) (elim (cases_Bool (is_member x.id ids)) [
+          (filter_member stays xs x m (C.not_from_false (is_member x.id ids || is_about h x.id) (C.or_from (is_member x.id ids) (is_about h x.id) (elim (C.cases_Bool (is_member x.id ids)) [
             | inl s ↦ absurd (false≢true (sym (loose x m s) ∙ t))
             | inr s ↦ s
           ]) e))) t
@@ -67,35 +66,35 @@ module _ (lo hi : ℕ) (xs : List Block) (ids : List ℕ) (h : Option ℕ) (loos
   left_gap a b gap = record { some = gap.some; clear = left_clear a b gap.clear; maximal = λ c d l m clear. gap.maximal c d l m (clear_left c d clear) }
 
   -- the arrangements
-  arranged_left : (place : Block → ℕ) → IsArrangementWithout lo hi xs ids h place → IsArrangement lo hi left place
+  arranged_left : (place : Block → ℕ) → C.IsArrangementWithout lo hi xs ids h place → IsArrangement lo hi left place
   arranged_left place w = record {
     kept = λ a b gap. All-from_Each _ left (Each-from (λ x. IsTrue (is_loose x && begins_in a b x) → (a ≤ place x) × (place x + x.size ≤ b)) left (λ x m t.
         let kept : Member x xs × IsTrue (stays x) = member_filter stays xs x m in
         let parts : IsTrue (is_loose x) × IsTrue (begins_in a b x) = and_parts (is_loose x) (begins_in a b x) t in
         Each-at (λ x. IsTrue (is_counted ids h x) → IsTrue (begins_in a b x) → (a ≤ place x) × (place x + x.size ≤ b)) xs (Each-from_All _ xs (w.kept a b (left_gap a b gap))) x kept.0 (and_from (is_loose x) (stays x) parts.0 kept.1) parts.1));
-    apart = AllPairs-from_EachPair _ left (EachPair-filter (λ x y. IsTrue (is_loose x) → IsTrue (is_loose y) → Misses (place x) x.size (place y) (place y + y.size)) stays xs
-        (EachPair-map (λ x y. IsTrue (is_counted ids h x) → IsTrue (is_counted ids h y) → Misses (place x) x.size (place y) (place y + y.size))
+    apart = M.AllPairs-from_EachPair _ left (M.EachPair-filter (λ x y. IsTrue (is_loose x) → IsTrue (is_loose y) → Misses (place x) x.size (place y) (place y + y.size)) stays xs
+        (M.EachPair-map (λ x y. IsTrue (is_counted ids h x) → IsTrue (is_counted ids h y) → Misses (place x) x.size (place y) (place y + y.size))
         (λ x y. IsTrue (stays x) → IsTrue (stays y) → IsTrue (is_loose x) → IsTrue (is_loose y) → Misses (place x) x.size (place y) (place y + y.size))
-        (λ x y f s t l m. f (and_from (is_loose x) (stays x) l s) (and_from (is_loose y) (stays y) m t)) xs (EachPair-from_AllPairs _ xs w.apart)));
+        (λ x y f s t l m. f (and_from (is_loose x) (stays x) l s) (and_from (is_loose y) (stays y) m t)) xs (M.EachPair-from_AllPairs _ xs w.apart)));
   }
 
-  left_arranged : (place : Block → ℕ) → IsArrangement lo hi left place → IsArrangementWithout lo hi xs ids h place
+  left_arranged : (place : Block → ℕ) → IsArrangement lo hi left place → C.IsArrangementWithout lo hi xs ids h place
   left_arranged place w = record {
     kept = λ a b gap. All-from_Each _ xs (Each-from (λ x. IsTrue (is_counted ids h x) → IsTrue (begins_in a b x) → (a ≤ place x) × (place x + x.size ≤ b)) xs (λ x m t begins.
         let parts : IsTrue (is_loose x) × IsTrue (stays x) = and_parts (is_loose x) (stays x) t in
         Each-at (λ x. IsTrue (is_loose x && begins_in a b x) → (a ≤ place x) × (place x + x.size ≤ b)) left (Each-from_All _ left (w.kept a b (gap_left a b gap))) x (filter_member stays xs x m parts.1) (and_from (is_loose x) (begins_in a b x) parts.0 begins)));
-    apart = AllPairs-from_EachPair _ xs
-        (EachPair-map (λ x y. IsTrue (stays x) → IsTrue (stays y) → IsTrue (is_loose x) → IsTrue (is_loose y) → Misses (place x) x.size (place y) (place y + y.size))
+    apart = M.AllPairs-from_EachPair _ xs
+        (M.EachPair-map (λ x y. IsTrue (stays x) → IsTrue (stays y) → IsTrue (is_loose x) → IsTrue (is_loose y) → Misses (place x) x.size (place y) (place y + y.size))
         (λ x y. IsTrue (is_counted ids h x) → IsTrue (is_counted ids h y) → Misses (place x) x.size (place y) (place y + y.size))
         (λ x y f s t.
         let of_x : IsTrue (is_loose x) × IsTrue (stays x) = and_parts (is_loose x) (stays x) s in
         let of_y : IsTrue (is_loose y) × IsTrue (stays y) = and_parts (is_loose y) (stays y) t in
         f of_x.1 of_y.1 of_x.0 of_y.0) xs
-        (pairs_of_filter (λ x y. IsTrue (is_loose x) → IsTrue (is_loose y) → Misses (place x) x.size (place y) (place y + y.size)) stays xs (EachPair-from_AllPairs _ left w.apart)));
+        (pairs_of_filter (λ x y. IsTrue (is_loose x) → IsTrue (is_loose y) → Misses (place x) x.size (place y) (place y + y.size)) stays xs (M.EachPair-from_AllPairs _ left w.apart)));
   }
 
   -- and their free stretches
-  free_left : (place : Block → ℕ) (a b : ℕ) → IsFreeWithout lo hi xs ids h place a b → IsFreeStretch lo hi left place a b
+  free_left : (place : Block → ℕ) (a b : ℕ) → C.IsFreeWithout lo hi xs ids h place a b → IsFreeStretch lo hi left place a b
   free_left place a b w = record {
     clear = clear_left a b w.clear;
     misses = All-from_Each _ left (Each-from (λ x. IsTrue (is_loose x) → Misses (place x) x.size a b) left (λ x m t.
@@ -103,7 +102,7 @@ module _ (lo hi : ℕ) (xs : List Block) (ids : List ℕ) (h : Option ℕ) (loos
         Each-at (λ x. IsTrue (is_counted ids h x) → Misses (place x) x.size a b) xs (Each-from_All _ xs w.misses) x kept.0 (and_from (is_loose x) (stays x) t kept.1)));
   }
 
-  left_free : (place : Block → ℕ) (a b : ℕ) → IsFreeStretch lo hi left place a b → IsFreeWithout lo hi xs ids h place a b
+  left_free : (place : Block → ℕ) (a b : ℕ) → IsFreeStretch lo hi left place a b → C.IsFreeWithout lo hi xs ids h place a b
   left_free place a b w = record {
     clear = left_clear a b w.clear;
     misses = All-from_Each _ xs (Each-from (λ x. IsTrue (is_counted ids h x) → Misses (place x) x.size a b) xs (λ x m t.
@@ -112,17 +111,17 @@ module _ (lo hi : ℕ) (xs : List Block) (ids : List ℕ) (h : Option ℕ) (loos
   }
 
   -- so the longest of them
-  longest_without : (n : ℕ) → IsLongestStretch lo hi left n → IsLongestWithout lo hi xs ids h n
+  longest_without : (n : ℕ) → C.IsLongestStretch lo hi left n → C.IsLongestWithout lo hi xs ids h n
   longest_without n l = record {
     none_longer = λ place a b arranged free. l.none_longer place a b (arranged_left place arranged) (free_left place a b free);
     one_as_long = λ some. let best : (place : Block → ℕ) × (a : ℕ) × (b : ℕ) × IsArrangement lo hi left place × IsFreeStretch lo hi left place a b × (b - a ≡ n) = l.one_as_long some in
         (best.0, best.1, best.2, left_arranged best.0 best.3, left_free best.0 best.1 best.2 best.4, best.5);
   }
 
-pub left_out_law : LeftOutLaw
+pub left_out_law : C.LeftOutLaw
 left_out_law lo hi xs order k h placed =
-    let ids : List ℕ = take k (eligible xs order h) in
+    let ids : List ℕ = take k (C.eligible xs order h) in
     longest_without lo hi xs ids h
-    (λ x m t. elim (cases_Bool (is_pinned x)) [ inl p ↦ absurd (eligible_loose xs order h x m (from_take k (eligible xs order h) x.id (is_member-true x.id ids t)) p) | inr p ↦ p ])
-    (room_for (snapshot lo hi xs order) k h)
-    (room_is_longest lo hi (blocks_without xs ids h) (placed_filter lo hi (λ x. not (is_member x.id ids || is_about h x.id)) xs placed))
+    (λ x m t. elim (C.cases_Bool (is_pinned x)) [ inl p ↦ absurd (eligible_loose xs order h x m (from_take k (C.eligible xs order h) x.id (is_member-true x.id ids t)) p) | inr p ↦ p ])
+    (C.room_for (C.snapshot lo hi xs order) k h)
+    (room_is_longest lo hi (C.blocks_without xs ids h) (placed_filter lo hi (λ x. not (is_member x.id ids || is_about h x.id)) xs placed))

@@ -1,15 +1,13 @@
 -- Each heap has a walk: its objects with bytes and its holes, put in order.
+use Rattle.w16_model.proofs
+use proofs.Common as C
+use proofs.Gaps as M
 use Rattle.std.specs.List.{AllByRecursion as Each}
+use proofs.Common.{◌≡◌, ℕ, ◌+◌, ◌-◌, ◌<◌, inl, inr, true, List, [], ◌∷◌, ◌++◌, map, length, Option, Some, None, option_map, is_some, refl, sym, ap, ◌∙◌, subst, arith, false≢true, Block, Span, Kind, Item, Owner, is_any, holes, IsHole, Heap, Object, blocks, object_at, IsItem}
+use proofs.Starts.{member_map, contains_member, sized, gap_list_law}
+use proofs.Heaps.{IsBlockOf, block_member, member_block}
+use proofs.{Gaps.Member, Maximal.missed, Maximal.gap_same, Places.two_placed, Places.same_id, KeptHeaps.bytes_in, Walks.member_contained, Walks.one_walk}
 use Rattle.std.specs.FinMap as finmap
-use Rattle.w16_model.proofs.Common.{◌≡◌, ℕ, ◌+◌, ◌-◌, ◌<◌, inl, inr, true, List, [], ◌∷◌, ◌++◌, map, length, IsSomeAnd, MatchOption, Option, Some, None, option_map, is_some, unwrap_or, refl, sym, ap, ◌∙◌, subst, arith, false≢true}
-use Rattle.w16_model.proofs.Common.{cases_lt, cases_eq, Block, Span, Kind, Item, Owner, Misses, block_end, is_any, holes, IsHole, Heap, Object, IsHeap, blocks, object_at, hold_of_object, HasBytes, IsItem, IsWalk, AreAllOf, WalkLaw}
-use Rattle.w16_model.proofs.Gaps.{EachPair, Member, Each-from, Each-map, Each-of_map, Each-from_All, All-from_Each, AllPairs-from_EachPair}
-use Rattle.w16_model.proofs.Maximal.{missed, gap_same}
-use Rattle.w16_model.proofs.Starts.{member_map, contains_member, sized, gap_list_law}
-use Rattle.w16_model.proofs.Heaps.{IsBlockOf, block_member, member_block}
-use Rattle.w16_model.proofs.Places.{two_placed, same_id}
-use Rattle.w16_model.proofs.KeptHeaps.{bytes_in}
-use Rattle.w16_model.proofs.Walks.{member_contained, one_walk}
 
 -- Any list, by rising places.
 
@@ -17,23 +15,23 @@ use Rattle.w16_model.proofs.Walks.{member_contained, one_walk}
 record Sorted {X : Type 0} (at : X → ℕ) (P : X → Type 0) (xs : List X) : Type 0 where
   items : List X
   good : Each P items
-  rising : EachPair (λ s t. at s < at t) items
+  rising : M.EachPair (λ s t. at s < at t) items
   has : (x : X) → Member x xs → Member x items
   above : (b : ℕ) → Each (λ x. b < at x) xs → Each (λ x. b < at x) items
 
 -- where good things at one place are the same
 module _ {X : Type 0} (at : X → ℕ) (P : X → Type 0) (alike : (x y : X) → P x → P y → at x ≡ at y → x ≡ y) where
-  insert_into : (x : X) (ys : List X) → P x → Each P ys → EachPair (λ s t. at s < at t) ys → Sorted at P (x ∷ ys)
+  insert_into : (x : X) (ys : List X) → P x → Each P ys → M.EachPair (λ s t. at s < at t) ys → Sorted at P (x ∷ ys)
   insert_into x [] p q r = record { items = x ∷ []; good = (p, tt); rising = (tt, tt); has = λ z m. m; above = λ b h. h }
-  insert_into x (y ∷ ys) p q r = elim (cases_lt (at x) (at y)) [
+  insert_into x (y ∷ ys) p q r = elim (C.cases_lt (at x) (at y)) [
     | inl l ↦ record {
       items = x ∷ y ∷ ys;
       good = (p, q);
-      rising = ((l, Each-map (λ z. at y < at z) (λ z. at x < at z) (λ z k. omega (arith, l, k)) ys r.0), r);
+      rising = ((l, M.Each-map (λ z. at y < at z) (λ z. at x < at z) (λ z k. omega (arith, l, k)) ys r.0), r);
       has = λ z m. m;
       above = λ b h. h;
     }
-    | inr l ↦ elim (cases_eq (at x) (at y)) [
+    | inr l ↦ elim (C.cases_eq (at x) (at y)) [
       | inl e ↦ record { items = y ∷ ys; good = q; rising = r; has = λ z m. elim m [ inl is ↦ inl (is ∙ alike x y p q.0 e) | inr n ↦ n ]; above = λ b h. h.1 }
       | inr d ↦
           let s : Sorted at P (x ∷ ys) = insert_into x ys p q.1 r.1 in
@@ -83,7 +81,7 @@ record Owns (name : Kind → ℕ → ℕ) (heap : Heap) (at size : ℕ) (owner :
   kind : owner.kind ≡ is.object.kind
   locks : owner.locks ≡ is.object.locks
 
-module _ (name : Kind → ℕ → ℕ) (heap : Heap) (is : IsHeap heap) where
+module _ (name : Kind → ℕ → ℕ) (heap : Heap) (is : C.IsHeap heap) where
   abbrev owner_of : ℕ → Object → Owner
   owner_of id o = record { name = name o.kind id; kind = o.kind; locks = o.locks }
 
@@ -96,7 +94,7 @@ module _ (name : Kind → ℕ → ℕ) (heap : Heap) (is : IsHeap heap) where
   abbrev parts : List Item
   parts = map block_item (blocks heap) ++ map hole_item (holes heap.lo heap.hi (blocks heap))
 
-  abbrev all_holes : AreAllOf is_any heap.lo heap.hi (blocks heap) (holes heap.lo heap.hi (blocks heap))
+  abbrev all_holes : C.AreAllOf is_any heap.lo heap.hi (blocks heap) (holes heap.lo heap.hi (blocks heap))
   all_holes = (gap_list_law heap.lo heap.hi (blocks heap) is.placed).1
 
   -- an object with bytes has an address
@@ -108,18 +106,18 @@ module _ (name : Kind → ℕ → ℕ) (heap : Heap) (is : IsHeap heap) where
 
       from : (p : Option ℕ) → finmap.get heap.places x.id ≡ p → finmap.get heap.places x.id ≡ Some x.at
       from None e = absurd (false≢true (sym (ap is_some e) ∙ some))
-      from (Some at) e = e ∙ ap Some (sym (b.place ∙ ap (λ p. unwrap_or p 0) e))
+      from (Some at) e = e ∙ ap Some (sym (b.place ∙ ap (λ p. C.unwrap_or p 0) e))
 
   -- so it is an item
   block_is_item : (x : Block) → IsBlockOf heap x → IsItem name heap (block_item x)
   block_is_item x b =
-      subst (λ p. MatchOption (option_map (owner_of x.id) p) (IsHole heap.lo heap.hi (blocks heap) x.at (x.at + x.size)) (λ owner. (id : ℕ) × (owner.name ≡ name owner.kind id) × HasBytes heap id x.at x.size owner))
+      subst (λ p. C.MatchOption (option_map (owner_of x.id) p) (IsHole heap.lo heap.hi (blocks heap) x.at (x.at + x.size)) (λ owner. (id : ℕ) × (owner.name ≡ name owner.kind id) × C.HasBytes heap id x.at x.size owner))
       (sym b.is_there) (
         x.id,
         refl,
         record {
           place = placed_at x b;
-          object = subst (λ p. IsSomeAnd p (λ o. (option_map length o.bytes ≡ Some x.size) × (b.object.kind ≡ o.kind) × (b.object.locks ≡ o.locks))) (sym b.is_there)
+          object = subst (λ p. C.IsSomeAnd p (λ o. (option_map length o.bytes ≡ Some x.size) × (b.object.kind ≡ o.kind) × (b.object.locks ≡ o.locks))) (sym b.is_there)
               (ap (option_map length) b.has_bytes ∙ ap Some (sym b.size), refl, refl);
         },
       )
@@ -133,25 +131,25 @@ module _ (name : Kind → ℕ → ℕ) (heap : Heap) (is : IsHeap heap) where
   parts_are_items : Each (IsItem name heap) parts
   parts_are_items =
       each_append (IsItem name heap) (map block_item (blocks heap)) (map hole_item (holes heap.lo heap.hi (blocks heap)))
-      (Each-of_map (IsItem name heap) block_item (blocks heap) (Each-from (λ x. IsItem name heap (block_item x)) (blocks heap) (λ x m. block_is_item x (member_block heap x m))))
-      (Each-of_map (IsItem name heap) hole_item (holes heap.lo heap.hi (blocks heap))
-      (Each-map (λ (s : Span). IsHole heap.lo heap.hi (blocks heap) s.from s.to) (λ s. IsItem name heap (hole_item s)) hole_is_item (holes heap.lo heap.hi (blocks heap))
-      (Each-from_All (λ (s : Span). IsHole heap.lo heap.hi (blocks heap) s.from s.to) (holes heap.lo heap.hi (blocks heap)) all_holes.only)))
+      (M.Each-of_map (IsItem name heap) block_item (blocks heap) (M.Each-from (λ x. IsItem name heap (block_item x)) (blocks heap) (λ x m. block_is_item x (member_block heap x m))))
+      (M.Each-of_map (IsItem name heap) hole_item (holes heap.lo heap.hi (blocks heap))
+      (M.Each-map (λ (s : Span). IsHole heap.lo heap.hi (blocks heap) s.from s.to) (λ s. IsItem name heap (hole_item s)) hole_is_item (holes heap.lo heap.hi (blocks heap))
+      (M.Each-from_All (λ (s : Span). IsHole heap.lo heap.hi (blocks heap) s.from s.to) (holes heap.lo heap.hi (blocks heap)) all_holes.only)))
 
   -- an item of an object is one of a block
-  owns : (at size : ℕ) (owner : Owner) → (id : ℕ) × (owner.name ≡ name owner.kind id) × HasBytes heap id at size owner → Owns name heap at size owner
+  owns : (at size : ℕ) (owner : Owner) → (id : ℕ) × (owner.name ≡ name owner.kind id) × C.HasBytes heap id at size owner → Owns name heap at size owner
   owns at size owner (id, named, has) = from (object_at heap id) refl has.object
     where
       bytes_from : (o : Object) → object_at heap id ≡ Some o → (b : Option (List ℕ)) → o.bytes ≡ b → option_map length b ≡ Some size → owner.kind ≡ o.kind → owner.locks ≡ o.locks → Owns name heap at size owner
       bytes_from o there None e l kind locks = cc
       bytes_from o there (Some bytes) e l kind locks = record {
-        block = record { id = id; at = at; size = size; hold = hold_of_object o };
+        block = record { id = id; at = at; size = size; hold = C.hold_of_object o };
         is = record {
           object = o;
           bytes = bytes;
           is_there = there;
           has_bytes = e;
-          place = sym (ap (λ p. unwrap_or p 0) has.place);
+          place = sym (ap (λ p. C.unwrap_or p 0) has.place);
           size = (let same : length bytes ≡ size = cc in sym same);
           hold = refl;
         };
@@ -162,7 +160,7 @@ module _ (name : Kind → ℕ → ℕ) (heap : Heap) (is : IsHeap heap) where
         locks = locks;
       }
 
-      from : (p : Option Object) → object_at heap id ≡ p → IsSomeAnd p (λ o. (option_map length o.bytes ≡ Some size) × (owner.kind ≡ o.kind) × (owner.locks ≡ o.locks)) → Owns name heap at size owner
+      from : (p : Option Object) → object_at heap id ≡ p → C.IsSomeAnd p (λ o. (option_map length o.bytes ≡ Some size) × (owner.kind ≡ o.kind) × (owner.locks ≡ o.locks)) → Owns name heap at size owner
       from None e h = absurd h
       from (Some o) e h = bytes_from o e o.bytes refl h.0 h.1 h.2
 
@@ -188,12 +186,12 @@ module _ (name : Kind → ℕ → ℕ) (heap : Heap) (is : IsHeap heap) where
 
   -- two blocks at one place are one
   block_there : (x y : Block) → IsBlockOf heap x → IsBlockOf heap y → x.at ≡ y.at → x ≡ y
-  block_there x y b c e = elim (cases_eq x.id y.id) [
+  block_there x y b c e = elim (C.cases_eq x.id y.id) [
     | inl same ↦ same_id heap x y b c same
     | inr d ↦ absurd (apart (sized heap.lo heap.hi (blocks heap) is.placed x (block_member heap x b)) (sized heap.lo heap.hi (blocks heap) is.placed y (block_member heap y c)) (two_placed heap is x y b c (λ f. d (ap (λ (z : Block). z.id) f))))
   ]
     where
-      apart : 0 < x.size → 0 < y.size → Misses x.at x.size y.at (block_end y) → ⊥
+      apart : 0 < x.size → 0 < y.size → C.Misses x.at x.size y.at (C.block_end y) → ⊥
       apart s t m = elim m [ inl l ↦ omega (arith, s, e, l) | inr l ↦ omega (arith, t, e, l) ]
 
   -- no hole begins where a block does
@@ -202,7 +200,7 @@ module _ (name : Kind → ℕ → ℕ) (heap : Heap) (is : IsHeap heap) where
       apart (sized heap.lo heap.hi (blocks heap) is.placed x (block_member heap x b)) h.some
       (missed is_any heap.lo heap.hi (blocks heap) (sized heap.lo heap.hi (blocks heap) is.placed) a (a + size) h.clear x (block_member heap x b) refl)
     where
-      apart : 0 < x.size → a < a + size → Misses x.at x.size a (a + size) → ⊥
+      apart : 0 < x.size → a < a + size → C.Misses x.at x.size a (a + size) → ⊥
       apart s t m = elim m [ inl l ↦ omega (arith, s, e, l) | inr l ↦ omega (arith, t, e, l) ]
 
   -- two items at one place are one
@@ -226,18 +224,18 @@ module _ (name : Kind → ℕ → ℕ) (heap : Heap) (is : IsHeap heap) where
       λ i. record { at = e i; size = both.0 i; owner = both.1 i }
 
   -- the walk
-  pub walk_there : (items : List Item) × IsWalk name heap items
+  pub walk_there : (items : List Item) × C.IsWalk name heap items
   walk_there =
       let s : Sorted (λ (x : Item). x.at) (IsItem name heap) parts = sorted (λ (x : Item). x.at) (IsItem name heap) same_item parts parts_are_items in (
         s.items,
         record {
-          only = All-from_Each (IsItem name heap) s.items s.good;
+          only = M.All-from_Each (IsItem name heap) s.items s.good;
           each = λ x h. contains_member s.items x (s.has x (is_listed x.at x.size x.owner h));
-          rising = AllPairs-from_EachPair (λ s t. s.at < t.at) s.items s.rising;
+          rising = M.AllPairs-from_EachPair (λ s t. s.at < t.at) s.items s.rising;
         },
       )
 
-pub walk_law : WalkLaw
+pub walk_law : C.WalkLaw
 walk_law name heap is =
-    let walk : (items : List Item) × IsWalk name heap items = walk_there name heap is in
+    let walk : (items : List Item) × C.IsWalk name heap items = walk_there name heap is in
     record { items = walk.0; is_walk = walk.1; only = λ others w. one_walk name heap others walk.0 w walk.1 }

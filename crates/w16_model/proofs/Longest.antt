@@ -1,15 +1,17 @@
 -- Room is the length of the longest free stretch of any arrangement.
+use Rattle.w16_model.proofs
+use proofs.Common as C
+use proofs.Gaps as M
 use Rattle.std.specs.List.{AllByRecursion as Each}
-use Rattle.w16_model.proofs.Common.{◌≡◌, ℕ, ◌+◌, ◌-◌, ◌<◌, ◌≤◌, ◌⊎◌, inl, inr, max, min, Bool, true, false, cond, not, ◌&&◌, nat_le, nat_lt, IsTrue, List, [], ◌∷◌, filter, sum_by, refl, sym}
-use Rattle.w16_model.proofs.Common.{ap, subst, arith, leb-true, le-leb, ltb-true, lt-ltb, cases_lt, and_parts, and_from, cond-true, false≢true, nat_tests, sum_by-cons, Block, Misses, block_end}
-use Rattle.w16_model.proofs.Common.{is_pinned, is_loose, begins_in, loose_bytes, room_from, room, first_from, starts, ArePlaced, IsClear, IsGap, IsArrangement, IsFreeStretch, RoomLaw, LargestLaw}
-use Rattle.w16_model.proofs.Gaps.{EachPair, Each-map, EachPair-map, Each-filter, EachPair-filter, EachPair-member, Member, Each-from, Each-from_All, All-from_Each, EachPair-from_AllPairs, AllPairs-from_EachPair, last_to, last_to-start, first_from-below, largest_reached, pack, pack_around}
-use Rattle.w16_model.proofs.Starts.{inside, sized, two, MayBegin, begins, gap_begins}
-use Rattle.w16_model.proofs.Maximal.{clear_from, missed, gap_around, gap_same}
+use proofs.Common.{◌≡◌, ℕ, ◌+◌, ◌-◌, ◌<◌, ◌≤◌, ◌⊎◌, inl, inr, max, min, Bool, true, false, cond, not, ◌&&◌, nat_le, nat_lt, IsTrue, List, [], ◌∷◌, filter, sum_by, refl, sym, ap, subst, arith, cases_lt, and_parts, false≢true, Block, Misses, block_end, is_pinned, is_loose, begins_in}
+use proofs.Common.{loose_bytes, room_from, room, first_from, ArePlaced, IsGap, IsFreeStretch}
+use proofs.Gaps.{Each-filter, Member, Each-from, EachPair-from_AllPairs, last_to, pack}
+use proofs.Starts.{inside, sized, two, MayBegin, begins, gap_begins}
+use proofs.Maximal.{clear_from, missed, gap_around, gap_same}
 
 module _ (lo hi : ℕ) (xs : List Block) (placed : ArePlaced lo hi xs) where
   -- no arrangement has a longer free stretch
-  pub none_longer : (place : Block → ℕ) (a b : ℕ) → IsArrangement lo hi xs place → IsFreeStretch lo hi xs place a b → b - a ≤ room lo hi xs
+  pub none_longer : (place : Block → ℕ) (a b : ℕ) → C.IsArrangement lo hi xs place → IsFreeStretch lo hi xs place a b → b - a ≤ room lo hi xs
   none_longer place a b arranged free = elim (cases_lt a b) [
     | inr h ↦ omega arith
     | inl l ↦
@@ -18,27 +20,27 @@ module _ (lo hi : ℕ) (xs : List Block) (placed : ArePlaced lo hi xs) where
         let gap : IsGap lo hi xs s e × (s ≤ a) × (b ≤ e) = gap_around is_pinned lo hi xs (sized lo hi xs placed) a b l free.clear in
         let in_gap : Block → Bool = λ x. is_loose x && begins_in s e x in
         let loose_of : (x : Block) → IsTrue (in_gap x) → IsTrue (is_loose x) = λ x t. (and_parts (is_loose x) (begins_in s e x) t).0 in
-        let pairs : EachPair (λ x y. IsTrue (is_loose x) → IsTrue (is_loose y) → Misses (place x) x.size (place y) (place y + y.size)) xs = EachPair-from_AllPairs _ xs arranged.apart in
-        let free_each : Each (λ x. IsTrue (is_loose x) → Misses (place x) x.size a b) xs = Each-from_All _ xs free.misses in
-        let kept : Each (λ x. IsTrue (in_gap x) → (s ≤ place x) × (place x + x.size ≤ e)) xs = Each-from_All _ xs (arranged.kept s e gap.0) in
-        let fits : s + sum_by (λ x. x.size) (filter in_gap xs) + (b - a) ≤ e = pack_around (λ x. x.size) (filter in_gap xs) place s e a b gap.1 (omega arith) gap.2
+        let pairs : M.EachPair (λ x y. IsTrue (is_loose x) → IsTrue (is_loose y) → Misses (place x) x.size (place y) (place y + y.size)) xs = EachPair-from_AllPairs _ xs arranged.apart in
+        let free_each : Each (λ x. IsTrue (is_loose x) → Misses (place x) x.size a b) xs = M.Each-from_All _ xs free.misses in
+        let kept : Each (λ x. IsTrue (in_gap x) → (s ≤ place x) × (place x + x.size ≤ e)) xs = M.Each-from_All _ xs (arranged.kept s e gap.0) in
+        let fits : s + sum_by (λ x. x.size) (filter in_gap xs) + (b - a) ≤ e = M.pack_around (λ x. x.size) (filter in_gap xs) place s e a b gap.1 (omega arith) gap.2
         (Each-filter _ in_gap xs kept)
-        (EachPair-filter _ in_gap xs (EachPair-map _ _ (λ x y f t u. f (loose_of x t) (loose_of y u)) xs pairs))
-        (Each-filter _ in_gap xs (Each-map _ _ (λ x f t. f (loose_of x t)) xs free_each)) in
-        let reached : e - s - sum_by (λ x. x.size) (filter in_gap xs) ≤ room lo hi xs = last_to-start is_pinned (room_from hi xs) lo xs a in
+        (M.EachPair-filter _ in_gap xs (M.EachPair-map _ _ (λ x y f t u. f (loose_of x t) (loose_of y u)) xs pairs))
+        (Each-filter _ in_gap xs (M.Each-map _ _ (λ x f t. f (loose_of x t)) xs free_each)) in
+        let reached : e - s - sum_by (λ x. x.size) (filter in_gap xs) ≤ room lo hi xs = M.last_to-start is_pinned (room_from hi xs) lo xs a in
         omega (arith, fits, reached)
   ]
 
 -- The sums of the loose blocks' (sized lo hi xs placed) over parts of the heap.
 
 begins_split : (a m b p n : ℕ) (t : Bool) → a ≤ m → m ≤ b → cond (t && (nat_le a p && nat_lt p b)) n 0 ≡ cond (t && (nat_le a p && nat_lt p m)) n 0 + cond (t && (nat_le m p && nat_lt p b)) n 0
-begins_split a m b p n t h k = grind (arith, nat_tests)
+begins_split a m b p n t h k = grind (arith, C.nat_tests)
 
 pub sum_filter : (p : Block → Bool) (x : Block) (xs : List Block) → sum_by (λ x. x.size) (filter p (x ∷ xs)) ≡ cond (p x) x.size 0 + sum_by (λ x. x.size) (filter p xs)
 sum_filter p x xs = turn (p x)
   where
     turn : (b : Bool) → sum_by (λ x. x.size) (cond {A = List Block} b (x ∷ filter p xs) (filter p xs)) ≡ cond b x.size 0 + sum_by (λ x. x.size) (filter p xs)
-    turn true = sum_by-cons (λ x. x.size) x (filter p xs)
+    turn true = C.sum_by-cons (λ x. x.size) x (filter p xs)
     turn false = omega arith
 
 pub loose_bytes-split : (xs : List Block) (a m b : ℕ) → a ≤ m → m ≤ b → loose_bytes xs a b ≡ loose_bytes xs a m + loose_bytes xs m b
@@ -50,7 +52,7 @@ loose_bytes-split (x ∷ xs) a m b h k =
 pub size-le-sum : (p : Block → Bool) (xs : List Block) (x : Block) → Member x xs → IsTrue (p x) → x.size ≤ sum_by (λ x. x.size) (filter p xs)
 size-le-sum p [] x m t = absurd m
 size-le-sum p (y ∷ ys) x (inl e) t =
-    subst (λ (z : Block). IsTrue (p z) → z.size ≤ sum_by (λ x. x.size) (filter p (y ∷ ys))) (sym e) (λ u. omega (arith, sum_filter p y ys, cond-true (p y) y.size 0 u)) t
+    subst (λ (z : Block). IsTrue (p z) → z.size ≤ sum_by (λ x. x.size) (filter p (y ∷ ys))) (sym e) (λ u. omega (arith, sum_filter p y ys, C.cond-true (p y) y.size 0 u)) t
 size-le-sum p (y ∷ ys) x (inr m) t = omega (arith, sum_filter p y ys, size-le-sum p ys x m t)
 
 unpinned : (b : Bool) → b ≡ true → not b ≡ true → ⊥
@@ -60,14 +62,14 @@ unpinned false h k = false≢true h
 range_of : (a b : ℕ) (y : Block) → IsTrue (is_loose y && begins_in a b y) → (a ≤ y.at) × (y.at < b)
 range_of a b y t =
     let r : IsTrue (nat_le a y.at && nat_lt y.at b) = (and_parts (is_loose y) (begins_in a b y) t).1 in
-    (leb-true a y.at (and_parts (nat_le a y.at) (nat_lt y.at b) r).0, ltb-true y.at b (and_parts (nat_le a y.at) (nat_lt y.at b) r).1)
+    (C.leb-true a y.at (and_parts (nat_le a y.at) (nat_lt y.at b) r).0, C.ltb-true y.at b (and_parts (nat_le a y.at) (nat_lt y.at b) r).1)
 
 module _ (lo hi : ℕ) (xs : List Block) (placed : ArePlaced lo hi xs) where
   -- every loose block slid down: its gap's begin, and the loose blocks of the gap below it
   abbrev pub slid : Block → ℕ
   slid x = last_to is_pinned lo xs x.at + loose_bytes xs (last_to is_pinned lo xs x.at) x.at
 
-  clear_at : (x : Block) → Member x xs → IsTrue (is_loose x) → IsClear is_pinned lo hi xs x.at (block_end x)
+  clear_at : (x : Block) → Member x xs → IsTrue (is_loose x) → C.IsClear is_pinned lo hi xs x.at (block_end x)
   clear_at x m t = clear_from is_pinned lo hi xs (sized lo hi xs placed) x.at (block_end x) (inside lo hi xs placed x m).0 (inside lo hi xs placed x m).2
       (λ y n u. elim (two lo hi xs placed y x n m) [
         | inl e ↦ absurd (unpinned (is_pinned x) (subst (λ (z : Block). IsTrue (is_pinned z)) e u) t)
@@ -88,7 +90,7 @@ module _ (lo hi : ℕ) (xs : List Block) (placed : ArePlaced lo hi xs) where
         | inl e ↦ absurd (let p : y.at ≡ x.at = ap (λ (z : Block). z.at) e in omega (arith, (range_of a x.at y t).1))
         | inr f ↦ let q : 0 < x.size = sized lo hi xs placed x m in ((range_of a x.at y t).0, omega (arith, (range_of a x.at y t).1, f))
       ])))
-      (EachPair-filter _ below xs (EachPair-map _ (λ y z. IsTrue (below y) → IsTrue (below z) → Misses y.at y.size z.at (z.at + z.size)) (λ y z f t u. f) xs (EachPair-from_AllPairs (λ y z. Misses y.at y.size z.at (block_end z)) xs placed.apart)))
+      (M.EachPair-filter _ below xs (M.EachPair-map _ (λ y z. IsTrue (below y) → IsTrue (below z) → Misses y.at y.size z.at (z.at + z.size)) (λ y z f t u. f) xs (EachPair-from_AllPairs (λ y z. Misses y.at y.size z.at (block_end z)) xs placed.apart)))
 
   -- one that is slid down ends at or below where it ended, and where those of its gap up to any later place end
   slid_low : (x : Block) → Member x xs → IsTrue (is_loose x) → slid x + x.size ≤ block_end x
@@ -98,7 +100,7 @@ module _ (lo hi : ℕ) (xs : List Block) (placed : ArePlaced lo hi xs) where
   slid_within a c x m t h k =
       let split : loose_bytes xs a c ≡ loose_bytes xs a x.at + loose_bytes xs x.at c = loose_bytes-split xs a x.at c h (omega arith) in
       let one : x.size ≤ loose_bytes xs x.at c = size-le-sum (λ y. is_loose y && begins_in x.at c y) xs x m
-      (and_from _ _ t (and_from _ _ (le-leb x.at x.at (omega arith)) (lt-ltb x.at c k))) in
+      (C.and_from _ _ t (C.and_from _ _ (C.le-leb x.at x.at (omega arith)) (C.lt-ltb x.at c k))) in
       omega (arith, split, one)
 
   -- a block whose gap another gap does not share ends before it or begins after it
@@ -142,11 +144,11 @@ module _ (lo hi : ℕ) (xs : List Block) (placed : ArePlaced lo hi xs) where
         | inr (inr k) ↦ absurd (omega (arith, k, range.1, own.1))
       ]
 
-  pub slid_arranged : IsArrangement lo hi xs slid
+  pub slid_arranged : C.IsArrangement lo hi xs slid
   slid_arranged = record {
-    kept = λ a b gap. All-from_Each (λ x. IsTrue (is_loose x && begins_in a b x) → (a ≤ slid x) × (slid x + x.size ≤ b)) xs (Each-from (λ x. IsTrue (is_loose x && begins_in a b x) → (a ≤ slid x) × (slid x + x.size ≤ b)) xs (kept_in a b gap));
-    apart = AllPairs-from_EachPair (λ x y. IsTrue (is_loose x) → IsTrue (is_loose y) → Misses (slid x) x.size (slid y) (slid y + y.size)) xs
-        (EachPair-member (λ x y. Misses x.at x.size y.at (block_end y)) (λ x y. IsTrue (is_loose x) → IsTrue (is_loose y) → Misses (slid x) x.size (slid y) (slid y + y.size)) xs
+    kept = λ a b gap. M.All-from_Each (λ x. IsTrue (is_loose x && begins_in a b x) → (a ≤ slid x) × (slid x + x.size ≤ b)) xs (Each-from (λ x. IsTrue (is_loose x && begins_in a b x) → (a ≤ slid x) × (slid x + x.size ≤ b)) xs (kept_in a b gap));
+    apart = M.AllPairs-from_EachPair (λ x y. IsTrue (is_loose x) → IsTrue (is_loose y) → Misses (slid x) x.size (slid y) (slid y + y.size)) xs
+        (M.EachPair-member (λ x y. Misses x.at x.size y.at (block_end y)) (λ x y. IsTrue (is_loose x) → IsTrue (is_loose y) → Misses (slid x) x.size (slid y) (slid y + y.size)) xs
         (λ x y m n f t u. elim f [ inl h ↦ inl (slid_apart x y m n t u h) | inr h ↦ inr (slid_apart y x n m u t h) ])
         (EachPair-from_AllPairs _ xs placed.apart));
   }
@@ -154,13 +156,13 @@ module _ (lo hi : ℕ) (xs : List Block) (placed : ArePlaced lo hi xs) where
   -- the best gap, with its loose blocks slid down
   pub one_as_long : 0 < room lo hi xs → (a : ℕ) × (b : ℕ) × IsFreeStretch lo hi xs slid a b × (b - a ≡ room lo hi xs)
   one_as_long some =
-      let best : (n : ℕ) × MayBegin lo hi xs placed is_pinned n × (room_from hi xs n ≡ room lo hi xs) = largest_reached (room_from hi xs) (MayBegin lo hi xs placed is_pinned) (starts is_pinned lo xs) (begins lo hi xs placed is_pinned) some in
+      let best : (n : ℕ) × MayBegin lo hi xs placed is_pinned n × (room_from hi xs n ≡ room lo hi xs) = M.largest_reached (room_from hi xs) (MayBegin lo hi xs placed is_pinned) (C.starts is_pinned lo xs) (begins lo hi xs placed is_pinned) some in
       at_best best.0 best.1 best.2
     where
       at_best : (n : ℕ) → MayBegin lo hi xs placed is_pinned n → room_from hi xs n ≡ room lo hi xs → (a : ℕ) × (b : ℕ) × IsFreeStretch lo hi xs slid a b × (b - a ≡ room lo hi xs)
       at_best n may is =
           let e : ℕ = first_from is_pinned hi xs n in
-          let to_e : (e ≤ hi) × Each (λ x. IsTrue (is_pinned x) → n ≤ x.at → e ≤ x.at) xs = first_from-below is_pinned hi xs n e (omega arith) in
+          let to_e : (e ≤ hi) × Each (λ x. IsTrue (is_pinned x) → n ≤ x.at → e ≤ x.at) xs = M.first_from-below is_pinned hi xs n e (omega arith) in
           let long : e - n - loose_bytes xs n e ≡ room lo hi xs = is in
           let gap : IsGap lo hi xs n e = gap_begins lo hi xs placed is_pinned n may (omega (arith, long, some)) in
           let u : ℕ = n + loose_bytes xs n e in (
@@ -168,7 +170,7 @@ module _ (lo hi : ℕ) (xs : List Block) (placed : ArePlaced lo hi xs) where
             e,
             record {
               clear = clear_from is_pinned lo hi xs (sized lo hi xs placed) u e (omega (arith, may.0)) to_e.0 (λ x m t. elim (missed is_pinned lo hi xs (sized lo hi xs placed) n e gap.clear x m t) [ inl k ↦ inl (omega (arith, k)) | inr k ↦ inr k ]);
-              misses = All-from_Each (λ x. IsTrue (is_loose x) → Misses (slid x) x.size u e) xs (Each-from (λ x. IsTrue (is_loose x) → Misses (slid x) x.size u e) xs (λ x m t.
+              misses = M.All-from_Each (λ x. IsTrue (is_loose x) → Misses (slid x) x.size u e) xs (Each-from (λ x. IsTrue (is_loose x) → Misses (slid x) x.size u e) xs (λ x m t.
                   let low : slid x + x.size ≤ block_end x = slid_low x m t in
                   elim (apart_from n e gap x m t) [
                     | inl one ↦ inl (subst (λ v. v + loose_bytes xs v x.at + x.size ≤ u) one.0 (slid_within n e x m t one.2 one.3))
@@ -179,7 +181,7 @@ module _ (lo hi : ℕ) (xs : List Block) (placed : ArePlaced lo hi xs) where
             omega (arith, long, some),
           )
 
-pub room_is_longest : RoomLaw
+pub room_is_longest : C.RoomLaw
 room_is_longest lo hi xs placed = record {
   none_longer = none_longer lo hi xs placed;
   one_as_long = λ some. let best : (a : ℕ) × (b : ℕ) × IsFreeStretch lo hi xs (slid lo hi xs placed) a b × (b - a ≡ room lo hi xs) = one_as_long lo hi xs placed some in
@@ -189,7 +191,7 @@ room_is_longest lo hi xs placed = record {
 -- The computed room is the one over all maximal intervals.
 module _ (lo hi : ℕ) (xs : List Block) (placed : ArePlaced lo hi xs) where
   pub each_gap : (a b : ℕ) → IsGap lo hi xs a b → b - a - loose_bytes xs a b ≤ room lo hi xs
-  each_gap a b gap = by_gap (last_to is_pinned lo xs a) (gap_around is_pinned lo hi xs (sized lo hi xs placed) a b gap.some gap.clear) (last_to-start is_pinned (room_from hi xs) lo xs a)
+  each_gap a b gap = by_gap (last_to is_pinned lo xs a) (gap_around is_pinned lo hi xs (sized lo hi xs placed) a b gap.some gap.clear) (M.last_to-start is_pinned (room_from hi xs) lo xs a)
     where
       by_gap : (s : ℕ) → IsGap lo hi xs s (first_from is_pinned hi xs s) × (s ≤ a) × (b ≤ first_from is_pinned hi xs s) → room_from hi xs s ≤ room lo hi xs → b - a - loose_bytes xs a b ≤ room lo hi xs
       by_gap s around reached =
@@ -200,11 +202,11 @@ module _ (lo hi : ℕ) (xs : List Block) (placed : ArePlaced lo hi xs) where
 
   pub some_gap : 0 < room lo hi xs → (a : ℕ) × (b : ℕ) × IsGap lo hi xs a b × (b - a - loose_bytes xs a b ≡ room lo hi xs)
   some_gap some =
-      let best : (n : ℕ) × MayBegin lo hi xs placed is_pinned n × (room_from hi xs n ≡ room lo hi xs) = largest_reached (room_from hi xs) (MayBegin lo hi xs placed is_pinned) (starts is_pinned lo xs) (begins lo hi xs placed is_pinned) some in
+      let best : (n : ℕ) × MayBegin lo hi xs placed is_pinned n × (room_from hi xs n ≡ room lo hi xs) = M.largest_reached (room_from hi xs) (MayBegin lo hi xs placed is_pinned) (C.starts is_pinned lo xs) (begins lo hi xs placed is_pinned) some in
       at_best best.0 best.1 best.2
     where
       at_best : (n : ℕ) → MayBegin lo hi xs placed is_pinned n → room_from hi xs n ≡ room lo hi xs → (a : ℕ) × (b : ℕ) × IsGap lo hi xs a b × (b - a - loose_bytes xs a b ≡ room lo hi xs)
       at_best n may is = (n, first_from is_pinned hi xs n, gap_begins lo hi xs placed is_pinned n may (let long : first_from is_pinned hi xs n - n - loose_bytes xs n (first_from is_pinned hi xs n) ≡ room lo hi xs = is in omega (arith, long, some)), is)
 
-pub room_is_largest : LargestLaw
+pub room_is_largest : C.LargestLaw
 room_is_largest lo hi xs placed = record { each_gap = each_gap lo hi xs placed; some_gap = some_gap lo hi xs placed }

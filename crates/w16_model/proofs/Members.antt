@@ -1,9 +1,11 @@
 -- Lists with the same members, and what depends on the members alone.
+use Rattle.w16_model.proofs
+use proofs.Common as C
+use proofs.Gaps as M
 use Rattle.std.specs.List.{AllByRecursion as Each}
-use Rattle.w16_model.proofs.Common.{◌≡◌, ◌≢◌, ℕ, ◌-◌, ◌≤◌, ◌⊎◌, inl, inr, Bool, true, false, cond, ◌&&◌, IsTrue, List, [], ◌∷◌, ◌++◌, map, filter, sum_by, refl, sym, ap, ◌∙◌, subst, arith, IsPermutation, false≢true, IsPermutation-refl, IsPermutation-cons}
-use Rattle.w16_model.proofs.Common.{IsPermutation-middle, IsPermutation-trans, IsPermutation-sym, sum_by-IsPermutation, All-permutation, Block, is_pinned, is_loose, block_end, begins_in, first_from, loose_bytes, largest, room_from, room, starts, sum_by-cons}
-use Rattle.w16_model.proofs.Gaps.{EachPair, Member, Each-at, Each-from, Each-map, Each-of_map, Each-filter, Each-from_All, All-from_Each, first_from-below, first_from-greatest}
-use Rattle.w16_model.proofs.Longest.{sum_filter}
+use proofs.Common.{◌≡◌, ◌≢◌, ℕ, ◌-◌, ◌≤◌, ◌⊎◌, inl, inr, Bool, true, false, cond, ◌&&◌, IsTrue, List, [], ◌∷◌, ◌++◌, map, filter, sum_by, refl, sym, ap, ◌∙◌, subst, arith, IsPermutation, false≢true, IsPermutation-sym, Block, is_pinned, block_end, first_from, largest, room_from, room}
+use proofs.Common.{starts}
+use proofs.{Gaps.Member, Gaps.Each-at, Longest.sum_filter}
 
 module _ {X : Type 0} where
   -- a list around one of its members
@@ -30,7 +32,7 @@ module _ {X : Type 0} where
   member_right x (y ∷ ys) zs m = inr (member_right x ys zs m)
 
   abbrev pub AllDiffer : List X → Type 0
-  AllDiffer = EachPair (λ x y. x ≢ y)
+  AllDiffer = M.EachPair (λ x y. x ≢ y)
 
   -- taking one out of the middle keeps the others apart
   differ_middle : (front : List X) (x : X) (back : List X) → AllDiffer (front ++ x ∷ back) → AllDiffer (front ++ back) × ((y : X) → Member y (front ++ back) → x ≢ y)
@@ -39,7 +41,7 @@ module _ {X : Type 0} where
       let rest : AllDiffer (front ++ back) × ((y : X) → Member y (front ++ back) → x ≢ y) = differ_middle front x back h.1 in
       let z_apart : (y : X) → Member y (front ++ x ∷ back) → z ≢ y = Each-at (λ y. z ≢ y) (front ++ x ∷ back) h.0 in (
         (
-          Each-from (λ y. z ≢ y) (front ++ back) (λ y m. z_apart y (elim (member_append y front back m) [ inl n ↦ member_left y front (x ∷ back) n | inr n ↦ member_right y front (x ∷ back) (inr n) ])),
+          M.Each-from (λ y. z ≢ y) (front ++ back) (λ y m. z_apart y (elim (member_append y front back m) [ inl n ↦ member_left y front (x ∷ back) n | inr n ↦ member_right y front (x ∷ back) (inr n) ])),
           rest.0,
         ),
         λ y m. elim m [
@@ -50,7 +52,7 @@ module _ {X : Type 0} where
 
   -- two lists without repeats that have the same members are one in another order
   pub permutation_from : (xs ys : List X) → AllDiffer xs → AllDiffer ys → ((x : X) → Member x xs → Member x ys) → ((x : X) → Member x ys → Member x xs) → IsPermutation xs ys
-  permutation_from [] [] dx dy f g = IsPermutation-refl []
+  permutation_from [] [] dx dy f g = C.IsPermutation-refl []
   permutation_from [] (y ∷ ys) dx dy f g = absurd (g y (inl refl))
   permutation_from (x ∷ xs) ys dx dy f g =
       let at : Around x ys = around x ys (f x (inl refl)) in
@@ -66,25 +68,25 @@ module _ {X : Type 0} where
         | inr n ↦ n
       ]) in
       subst (λ zs. IsPermutation (x ∷ xs) zs) (sym at.2)
-      (IsPermutation-trans (x ∷ xs) (x ∷ (at.0 ++ at.1)) (at.0 ++ x ∷ at.1) (IsPermutation-cons x xs (at.0 ++ at.1) rest)
-      (IsPermutation-sym (at.0 ++ x ∷ at.1) (x ∷ (at.0 ++ at.1)) (IsPermutation-middle at.0 x at.1)))
+      (C.IsPermutation-trans (x ∷ xs) (x ∷ (at.0 ++ at.1)) (at.0 ++ x ∷ at.1) (C.IsPermutation-cons x xs (at.0 ++ at.1) rest)
+      (IsPermutation-sym (at.0 ++ x ∷ at.1) (x ∷ (at.0 ++ at.1)) (C.IsPermutation-middle at.0 x at.1)))
 
 -- what holds of each member of a list holds of each in another order
 each_permutation : {X : Type 0} (P : X → Type 0) (xs ys : List X) → IsPermutation xs ys → Each P xs → Each P ys
-each_permutation P xs ys perm h = Each-from_All P ys (All-permutation P xs ys perm (All-from_Each P xs h))
+each_permutation P xs ys perm h = M.Each-from_All P ys (C.All-permutation P xs ys perm (M.All-from_Each P xs h))
 
 bytes_by : (p : Block → Bool) (xs : List Block) → sum_by (λ x. x.size) (filter p xs) ≡ sum_by (λ x. cond (p x) x.size 0) xs
 bytes_by p [] = refl
-bytes_by p (x ∷ xs) = omega (arith, sum_filter p x xs, bytes_by p xs, sum_by-cons (λ (y : Block). cond (p y) y.size 0) x xs)
+bytes_by p (x ∷ xs) = omega (arith, sum_filter p x xs, bytes_by p xs, C.sum_by-cons (λ (y : Block). cond (p y) y.size 0) x xs)
 
 bytes_permutation : (p : Block → Bool) (xs ys : List Block) → IsPermutation xs ys → sum_by (λ x. x.size) (filter p xs) ≡ sum_by (λ x. x.size) (filter p ys)
-bytes_permutation p xs ys perm = bytes_by p xs ∙ sym (sum_by-IsPermutation (λ (x : Block). cond (p x) x.size 0) xs ys perm) ∙ sym (bytes_by p ys)
+bytes_permutation p xs ys perm = bytes_by p xs ∙ sym (C.sum_by-IsPermutation (λ (x : Block). cond (p x) x.size 0) xs ys perm) ∙ sym (bytes_by p ys)
 
 module _ (hi : ℕ) (xs ys : List Block) (perm : IsPermutation xs ys) where
   first_le : (a : ℕ) → first_from is_pinned hi xs a ≤ first_from is_pinned hi ys a
   first_le a =
-      let all : (first_from is_pinned hi xs a ≤ hi) × Each (λ x. IsTrue (is_pinned x) → a ≤ x.at → first_from is_pinned hi xs a ≤ x.at) xs = first_from-below is_pinned hi xs a (first_from is_pinned hi xs a) (omega arith) in
-      first_from-greatest is_pinned hi ys a (first_from is_pinned hi xs a) all.0 (each_permutation (λ x. IsTrue (is_pinned x) → a ≤ x.at → first_from is_pinned hi xs a ≤ x.at) xs ys perm all.1)
+      let all : (first_from is_pinned hi xs a ≤ hi) × Each (λ x. IsTrue (is_pinned x) → a ≤ x.at → first_from is_pinned hi xs a ≤ x.at) xs = M.first_from-below is_pinned hi xs a (first_from is_pinned hi xs a) (omega arith) in
+      M.first_from-greatest is_pinned hi ys a (first_from is_pinned hi xs a) all.0 (each_permutation (λ x. IsTrue (is_pinned x) → a ≤ x.at → first_from is_pinned hi xs a ≤ x.at) xs ys perm all.1)
 
 largest_at_most : (f : ℕ → ℕ) (ns : List ℕ) (m : ℕ) → Each (λ n. f n ≤ m) ns → largest (map f ns) ≤ m
 largest_at_most f [] m h = omega arith
@@ -108,13 +110,13 @@ pub room-permutation_le : (lo hi : ℕ) (xs ys : List Block) → IsPermutation x
 room-permutation_le lo hi xs ys perm =
     let same : (a : ℕ) → first_from is_pinned hi ys a ≡ first_from is_pinned hi xs a = λ a. omega (arith, first_le hi xs ys perm a, first_le hi ys xs (IsPermutation-sym xs ys perm) a) in
     let from : (a : ℕ) → room_from hi ys a ≡ room_from hi xs a = λ a.
-    ap (λ e. e - a - loose_bytes ys a e) (same a) ∙ ap (λ n. first_from is_pinned hi xs a - a - n) (sym (bytes_permutation (λ x. is_loose x && begins_in a (first_from is_pinned hi xs a) x) xs ys perm)) in
+    ap (λ e. e - a - C.loose_bytes ys a e) (same a) ∙ ap (λ n. first_from is_pinned hi xs a - a - n) (sym (bytes_permutation (λ x. C.is_loose x && C.begins_in a (first_from is_pinned hi xs a) x) xs ys perm)) in
     let all : Each (λ n. room_from hi xs n ≤ room lo hi xs) (starts is_pinned lo xs) = at_most_largest (room_from hi xs) (starts is_pinned lo xs) (room lo hi xs) (omega arith) in
     largest_at_most (room_from hi ys) (starts is_pinned lo ys) (room lo hi xs) (
       omega (arith, from lo, all.0),
-      Each-of_map (λ n. room_from hi ys n ≤ room lo hi xs) block_end (filter is_pinned ys) (Each-filter (λ x. room_from hi ys (block_end x) ≤ room lo hi xs) is_pinned ys
+      M.Each-of_map (λ n. room_from hi ys n ≤ room lo hi xs) block_end (filter is_pinned ys) (M.Each-filter (λ x. room_from hi ys (block_end x) ≤ room lo hi xs) is_pinned ys
           (each_permutation (λ x. IsTrue (is_pinned x) → room_from hi ys (block_end x) ≤ room lo hi xs) xs ys perm
-          (Each-map _ _ (λ x f t. subst (λ v. v ≤ room lo hi xs) (sym (from (block_end x))) (f t)) xs (ends_to (λ n. room_from hi xs n ≤ room lo hi xs) xs all.1)))),
+          (M.Each-map _ _ (λ x f t. subst (λ v. v ≤ room lo hi xs) (sym (from (block_end x))) (f t)) xs (ends_to (λ n. room_from hi xs n ≤ room lo hi xs) xs all.1)))),
     )
 
 pub room-permutation : (lo hi : ℕ) (xs ys : List Block) → IsPermutation xs ys → room lo hi ys ≡ room lo hi xs

@@ -1,19 +1,14 @@
 -- What an object keeps at another handle.
-use Rattle.w16_model.proofs.Common.{◌≡◌, ◌≢◌, ℕ, ◌/◌, inl, inr, Bool, true, false, cond, if◌then◌else◌, not, ◌&&◌, ◌==◌, List, [], ◌∷◌, ◌++◌, map, Option, Some, None, is_some, option_map, unwrap_or, refl, sym, ap, ◌∙◌, subst, arith}
-use Rattle.w16_model.proofs.Common.{ne_eqb, false≢true, cases_eq, and_parts, Heap, Object, Kind, object_at, bytes_at, is_member, is_discardable, is_in_order, is_revived, without_all, Handles, AreHandles, slots_for, slot_of_handle, handle_of}
-use Rattle.w16_model.proofs.Common.{rounded_size, realloc_options, Call, Resized, Calls, ReAllocs, Word, CanExtend, GetsRun, rehoused, rekeyed, with_run, KeepsRest}
+use Rattle.w16_model.proofs
+use proofs.Common as C
+use proofs.Common.{◌≡◌, ◌≢◌, ℕ, ◌/◌, inl, inr, Bool, true, false, cond, if◌then◌else◌, not, ◌&&◌, ◌==◌, List, [], ◌∷◌, ◌++◌, map, Option, Some, None, is_some, refl, sym, ap, ◌∙◌, subst, arith, false≢true, and_parts, Heap, Object, Kind, object_at, bytes_at, is_revived, without_all, Handles}
+use proofs.Common.{slots_for, rounded_size, Call, Calls, ReAllocs, Word, CanExtend, GetsRun, rehoused, with_run}
+use proofs.ResizedHandles.{answered, moves}
+use proofs.{CallLaws.rest_of, CallOrders.gone_bare, CallOrders.gone_for, KeptHeaps.inserted_here, KeptRest.no_more, Naming.slot_in_handle}
+use Rattle.w16_model.specs.{declared.Attributes.Attributes, Calls.is_shared, Resizes.ExtendedLaw, Resizes.PlaceLaw, Resizes.SharedLaw}
 use Rattle.std.specs.FinMap as finmap
-use Rattle.w16_model.specs.declared.Attributes.{Attributes}
-use Rattle.w16_model.specs.Calls.{is_shared}
-use Rattle.w16_model.specs.Resizes.{ExtendedLaw, PlaceLaw, SharedLaw}
-use Rattle.w16_model.proofs.CallLaws.{rest_of}
-use Rattle.w16_model.proofs.CallOrders.{gone_bare, gone_for}
-use Rattle.w16_model.proofs.KeptHeaps.{inserted_here}
-use Rattle.w16_model.proofs.KeptRest.{no_more}
-use Rattle.w16_model.proofs.Naming.{slot_in_handle}
-use Rattle.w16_model.proofs.ResizedHandles.{answered, moves}
 
-module _ (old new : Handles) (handle size flags answer slot : ℕ) (is : AreHandles old) (found : slot_of_handle old handle ≡ Some slot) (r : Resized old (ReAllocs handle size flags) (Word answer) new) where
+module _ (old new : Handles) (handle size flags answer slot : ℕ) (is : C.AreHandles old) (found : C.slot_of_handle old handle ≡ Some slot) (r : C.Resized old (ReAllocs handle size flags) (Word answer) new) where
   named : r.handle ≡ handle
   named = let e = r.asked in cc
 
@@ -21,10 +16,10 @@ module _ (old new : Handles) (handle size flags answer slot : ℕ) (is : AreHand
   size_is = let e = r.asked in cc
 
   slot_is : r.slot ≡ slot
-  slot_is = let same : ◌≡◌ {A = Option ℕ} (Some r.slot) (Some slot) = sym r.named.found ∙ ap (slot_of_handle old) named ∙ found in cc
+  slot_is = let same : ◌≡◌ {A = Option ℕ} (Some r.slot) (Some slot) = sym r.named.found ∙ ap (C.slot_of_handle old) named ∙ found in cc
 
   first_is : answer / 8 ≡ r.first
-  first_is = let e : answer ≡ handle_of r.object.kind r.first = (let f = r.answered in cc) in ap (λ n. n / 8) e ∙ slot_in_handle r.object.kind r.first
+  first_is = let e : answer ≡ C.handle_of r.object.kind r.first = (let f = r.answered in cc) in ap (λ n. n / 8) e ∙ slot_in_handle r.object.kind r.first
 
   leaves : answer ≢ handle → r.slot ≢ r.first
   leaves d = moves old new is (ReAllocs handle size flags) (Word answer) r answer handle refl named d
@@ -41,7 +36,7 @@ module _ (old new : Handles) (handle size flags answer slot : ℕ) (is : AreHand
   shared = ap (is_shared new) first_is ∙ ap (λ (h : Handles). is_shared h r.first) r.rest ∙ turn (finmap.get old.attributes r.slot) (is.attributed r.slot ∙ ap is_some r.named.there) ∙ ap (is_shared old) slot_is
     where
       bit : Option Attributes → Bool
-      bit p = unwrap_or (option_map (λ (a : Attributes). a.shared) p) false
+      bit p = C.unwrap_or (C.option_map (λ (a : Attributes). a.shared) p) false
 
       turn : (p : Option Attributes) → is_some p ≡ true
           → bit (finmap.get (elim p [ Some a ↦ finmap.insert (finmap.remove old.attributes r.slot) r.first (record a { slots = slots_for (rounded_size r.size) }) | None ↦ old.attributes ]) r.first) ≡ bit p
@@ -53,22 +48,22 @@ module _ (old new : Handles) (handle size flags answer slot : ℕ) (is : AreHand
   gone = gone_for old new is (ReAllocs handle size flags) (Word answer) r
 
   -- the order after, where the object was in it
-  placed : r.slot ≢ r.first → is_member slot old.heap.order ≡ true → new.heap.order ≡ map (λ q. if q == slot then answer / 8 else q) (without_all gone old.heap.order)
+  placed : r.slot ≢ r.first → C.is_member slot old.heap.order ≡ true → new.heap.order ≡ map (λ q. if q == slot then answer / 8 else q) (without_all gone old.heap.order)
   placed d listed =
       ap (λ (h : Handles). h.heap.order) r.rest
-      ∙ (λ i. (cond {A = Heap} (ne_eqb r.slot r.first d i) r.heap (record r.heap {
-        objects = rekeyed r.heap.objects r.slot r.first;
-        places = rekeyed r.heap.places r.slot r.first;
+      ∙ (λ i. (cond {A = Heap} (C.ne_eqb r.slot r.first d i) r.heap (record r.heap {
+        objects = C.rekeyed r.heap.objects r.slot r.first;
+        places = C.rekeyed r.heap.places r.slot r.first;
         order = map (λ q. if q == r.slot then r.first else q) r.heap.order;
       })).order)
       ∙ ap (map (λ q. if q == r.slot then r.first else q)) order_kept
       ∙ (λ i. map (λ q. if q == slot_is i then sym first_is i else q) (without_all gone old.heap.order))
     where
-      kept : KeepsRest old.heap r.slot (rounded_size r.size) r.object (realloc_options r.flags) r.heap
+      kept : C.KeepsRest old.heap r.slot (rounded_size r.size) r.object (C.realloc_options r.flags) r.heap
       kept = rest_of old new is (ReAllocs handle size flags) (Word answer) r
 
-      has : (is_discardable r.object.kind && is_some r.object.bytes) ≡ true
-      has = sym (is.heap.in_order r.slot ∙ ap is_in_order r.named.there) ∙ ap (λ s. is_member s old.heap.order) slot_is ∙ listed
+      has : (C.is_discardable r.object.kind && is_some r.object.bytes) ≡ true
+      has = sym (is.heap.in_order r.slot ∙ ap C.is_in_order r.named.there) ∙ ap (λ s. C.is_member s old.heap.order) slot_is ∙ listed
 
       not_revived : (b e : Bool) → (b && e) ≡ true → (not e && b) ≡ false
       not_revived true true t = refl
@@ -77,13 +72,13 @@ module _ (old new : Handles) (handle size flags answer slot : ℕ) (is : AreHand
 
       order_kept : r.heap.order ≡ without_all gone old.heap.order
       order_kept = kept.order
-          ∙ ap (λ b. without_all gone old.heap.order ++ cond {A = List ℕ} b (r.slot ∷ []) []) (not_revived (is_discardable r.object.kind) (is_some r.object.bytes) has)
+          ∙ ap (λ b. without_all gone old.heap.order ++ cond {A = List ℕ} b (r.slot ∷ []) []) (not_revived (C.is_discardable r.object.kind) (is_some r.object.bytes) has)
           ∙ no_more (without_all gone old.heap.order)
 
 pub extended_law : ExtendedLaw
 extended_law old new handle size flags answer slot is step found can some = elim (answered old new handle size flags answer is step some) [
   | inl e ↦ e
-  | inr r ↦ elim (cases_eq answer handle) [
+  | inr r ↦ elim (C.cases_eq answer handle) [
     | inl e ↦ e
     | inr d ↦ absurd (leaves old new handle size flags answer slot is found r d (extended old new handle size flags answer slot is found r can))
   ]

@@ -1,6 +1,6 @@
 -- The order of use with an object taken out and put at its end.
+use Rattle.w16_model.proofs.Gaps as M
 use Rattle.w16_model.proofs.Common.{◌≡◌, ℕ, Bool, true, false, cond, not, ◌&&◌, ◌||◌, ◌==◌, List, [], ◌∷◌, ◌++◌, refl, sym, ap, ◌∙◌, AllPairs, inl, inr, eqb-true, eq-eqb, ne_eqb, false≢true, cases_eq, not-true, or_parts, all_pairs_push, is_member, without}
-use Rattle.w16_model.proofs.Gaps.{Each-from, All-from_Each, EachPair-from_AllPairs, AllPairs-from_EachPair, member_filter, pairs_filter}
 
 member_end : (q id : ℕ) (ids : List ℕ) → is_member q (ids ++ id ∷ []) ≡ (is_member q ids || (id == q))
 member_end q id [] = or_none (id == q)
@@ -57,9 +57,9 @@ member_newest q id ids = member_end q id (without id ids) ∙ ap (λ b. b || (id
 pub newest_differ : (id : ℕ) (ids : List ℕ) → AllPairs (λ a b. a ≡ b → ⊥) ids → AllPairs (λ a b. a ≡ b → ⊥) (without id ids ++ id ∷ [])
 newest_differ id ids h =
     all_pairs_push (λ a b. a ≡ b → ⊥) (without id ids) id
-    (AllPairs-from_EachPair (λ a b. a ≡ b → ⊥) (without id ids) (pairs_filter (λ a b. a ≡ b → ⊥) (λ q. not (q == id)) ids (EachPair-from_AllPairs (λ a b. a ≡ b → ⊥) ids h)))
-    (All-from_Each (λ q. q ≡ id → ⊥) (without id ids) (Each-from (λ q. q ≡ id → ⊥) (without id ids) (λ q m e.
-    false≢true (sym (not-true (q == id) (member_filter (λ q. not (q == id)) ids q m).1) ∙ eq-eqb q id e))))
+    (M.AllPairs-from_EachPair (λ a b. a ≡ b → ⊥) (without id ids) (M.pairs_filter (λ a b. a ≡ b → ⊥) (λ q. not (q == id)) ids (M.EachPair-from_AllPairs (λ a b. a ≡ b → ⊥) ids h)))
+    (M.All-from_Each (λ q. q ≡ id → ⊥) (without id ids) (M.Each-from (λ q. q ≡ id → ⊥) (without id ids) (λ q m e.
+    false≢true (sym (not-true (q == id) (M.member_filter (λ q. not (q == id)) ids q m).1) ∙ eq-eqb q id e))))
 
 -- at the begin of the order, and only there
 pub member_oldest : (q id : ℕ) (ids : List ℕ) → is_member q (id ∷ without id ids) ≡ ((is_member q ids && not (q == id)) || (id == q))
@@ -74,9 +74,9 @@ member_oldest q id ids = ap (λ b. (id == q) || b) (member_without q id ids) ∙
 -- taken out and put at the begin, none stands twice
 pub oldest_differ : (id : ℕ) (ids : List ℕ) → AllPairs (λ a b. a ≡ b → ⊥) ids → AllPairs (λ a b. a ≡ b → ⊥) (id ∷ without id ids)
 oldest_differ id ids h =
-    AllPairs-from_EachPair (λ a b. a ≡ b → ⊥) (id ∷ without id ids) (
-      Each-from (λ q. id ≡ q → ⊥) (without id ids) (λ q m e. false≢true (sym (not-true (q == id) (member_filter (λ q. not (q == id)) ids q m).1) ∙ eq-eqb q id (sym e))),
-      pairs_filter (λ a b. a ≡ b → ⊥) (λ q. not (q == id)) ids (EachPair-from_AllPairs (λ a b. a ≡ b → ⊥) ids h),
+    M.AllPairs-from_EachPair (λ a b. a ≡ b → ⊥) (id ∷ without id ids) (
+      M.Each-from (λ q. id ≡ q → ⊥) (without id ids) (λ q m e. false≢true (sym (not-true (q == id) (M.member_filter (λ q. not (q == id)) ids q m).1) ∙ eq-eqb q id (sym e))),
+      M.pairs_filter (λ a b. a ≡ b → ⊥) (λ q. not (q == id)) ids (M.EachPair-from_AllPairs (λ a b. a ≡ b → ⊥) ids h),
     )
 
 -- a member that is taken out and put back leaves the members as they were

@@ -1,23 +1,21 @@
 -- What a request leaves where it stands, and that it isn't both refused and answered.
-use Rattle.w16_model.proofs.Common.{◌≡◌, ◌≢◌, ℕ, ◌<◌, inl, inr, Bool, true, false, cond, not, ◌&&◌, ◌||◌, ◌==◌, MatchBool, IsTrue, IfSome, IsSomeAnd, List, length, Option, Some, None, is_some, unwrap_or, refl, sym, ap, ◌∙◌}
-use Rattle.w16_model.proofs.Common.{subst, arith, ne_eqb, false≢true, Block, RoomOptions, Pinned, Loose, GMEM_MOVEABLE, is_pinned, holds_still, Heap, Object, IsHeap, blocks, object_at, hold_of_object, is_pinned_object, with_newest}
-use Rattle.w16_model.proofs.Common.{Settles, stays_for, Allocates, IsNew, Request, discards_needed, Enters, Handles, AreHandles, slots_for, has_flag, alloc_options, kind_asked, rounded_size, AddressLaw, StandsStill, OutcomeLaw}
+use Rattle.w16_model.proofs
+use proofs.Common as C
+use proofs.Common.{◌≡◌, ◌≢◌, ℕ, ◌<◌, inl, inr, Bool, true, false, cond, not, ◌&&◌, ◌||◌, ◌==◌, IsSomeAnd, List, Option, Some, None, is_some, refl, sym, ap, ◌∙◌, subst, arith, false≢true, Block, Loose, GMEM_MOVEABLE, is_pinned, Heap, Object, object_at, hold_of_object, stays_for, IsNew}
+use proofs.Common.{discards_needed, has_flag, alloc_options, kind_asked, rounded_size}
+use proofs.{Gaps.Each-at, Gaps.Each-from_All, Heaps.IsBlockOf, Heaps.block_member, Runs.unused, Runs.some_slots, Prefixes.none_about}
 use Rattle.std.specs.FinMap as finmap
-use Rattle.w16_model.proofs.Gaps.{Each-at, Each-from_All}
-use Rattle.w16_model.proofs.Heaps.{IsBlockOf, block_member}
-use Rattle.w16_model.proofs.Runs.{unused, some_slots}
-use Rattle.w16_model.proofs.Prefixes.{none_about}
 
-module _ (old : Heap) (is : IsHeap old) (stays : Block → Bool) (heap new : Heap) (settles : Settles old stays heap new) where
+module _ (old : Heap) (is : C.IsHeap old) (stays : Block → Bool) (heap new : Heap) (settles : C.Settles old stays heap new) where
   -- an object whose block stays keeps its address
-  still : (q : ℕ) → ((x : Block) → x.id ≡ q → IsSomeAnd (object_at old q) (λ o. x.hold ≡ hold_of_object o) → stays x ≡ true) → StandsStill old new q
+  still : (q : ℕ) → ((x : Block) → x.id ≡ q → IsSomeAnd (object_at old q) (λ o. x.hold ≡ hold_of_object o) → stays x ≡ true) → C.StandsStill old new q
   still q keeps = place (finmap.get old.places q) refl
     where
       kept : (o : Object) (bytes : List ℕ) (at : ℕ) → object_at old q ≡ Some o → o.bytes ≡ Some bytes → finmap.get old.places q ≡ Some at → finmap.get new.places q ≡ Some at
       kept o bytes at there has stood =
-          let x : Block = record { id = q; at = at; size = length bytes; hold = hold_of_object o } in
-          let block : IsBlockOf old x = record { object = o; bytes = bytes; is_there = there; has_bytes = has; place = ap (λ p. unwrap_or p 0) (sym stood); size = refl; hold = refl } in
-          Each-at (λ y. IsTrue (stays y) → finmap.get new.places y.id ≡ Some y.at) (blocks old) (Each-from_All _ (blocks old) settles.kept) x (block_member old x block)
+          let x : Block = record { id = q; at = at; size = C.length bytes; hold = hold_of_object o } in
+          let block : IsBlockOf old x = record { object = o; bytes = bytes; is_there = there; has_bytes = has; place = ap (λ p. C.unwrap_or p 0) (sym stood); size = refl; hold = refl } in
+          Each-at (λ y. C.IsTrue (stays y) → finmap.get new.places y.id ≡ Some y.at) (C.blocks old) (Each-from_All _ (C.blocks old) settles.kept) x (block_member old x block)
           (keeps x refl (subst (λ p. IsSomeAnd p (λ o. x.hold ≡ hold_of_object o)) (sym there) refl))
 
       object : (at : ℕ) → finmap.get old.places q ≡ Some at → (p : Option Object) → object_at old q ≡ p → finmap.get new.places q ≡ Some at
@@ -28,18 +26,18 @@ module _ (old : Heap) (is : IsHeap old) (stays : Block → Bool) (heap new : Hea
           bytes None has = absurd (false≢true (sym (ap (λ (p : Option Object). is_some (elim p [ Some o ↦ o.bytes | None ↦ None ])) there ∙ ap is_some has) ∙ sym (is.at_bytes q) ∙ ap is_some stood))
           bytes (Some list) has = kept o list at there has stood
 
-      place : (p : Option ℕ) → finmap.get old.places q ≡ p → IfSome p (λ at. finmap.get new.places q ≡ Some at)
+      place : (p : Option ℕ) → finmap.get old.places q ≡ p → C.IfSome p (λ at. finmap.get new.places q ≡ Some at)
       place None stood = tt
       place (Some at) stood = object at stood (object_at old q) refl
 
 -- the block of a pinned object is pinned
-pinned_block : (x : Block) (p : Option Object) → IsSomeAnd p (λ o. is_pinned_object o ≡ true) → IsSomeAnd p (λ o. x.hold ≡ hold_of_object o) → is_pinned x ≡ true
+pinned_block : (x : Block) (p : Option Object) → IsSomeAnd p (λ o. C.is_pinned_object o ≡ true) → IsSomeAnd p (λ o. x.hold ≡ hold_of_object o) → is_pinned x ≡ true
 pinned_block x None pinned held = absurd pinned
-pinned_block x (Some o) pinned held = ap holds_still (held ∙ ap (λ b. cond b Pinned Loose) pinned)
+pinned_block x (Some o) pinned held = ap C.holds_still (held ∙ ap (λ b. cond b C.Pinned Loose) pinned)
 
 -- what stays for h, if it isn't h's own block
-pub stays_other : (h : ℕ) (options : RoomOptions) (x : Block) → x.id ≢ h → (is_pinned x || not options.compact) ≡ true → stays_for h options x ≡ true
-stays_other h options x other t = ap (λ b. not b && (is_pinned x || not options.compact)) (ne_eqb x.id h other) ∙ t
+pub stays_other : (h : ℕ) (options : C.RoomOptions) (x : Block) → x.id ≢ h → (is_pinned x || not options.compact) ≡ true → stays_for h options x ≡ true
+stays_other h options x other t = ap (λ b. not b && (is_pinned x || not options.compact)) (C.ne_eqb x.id h other) ∙ t
 
 or_left : (a b : Bool) → a ≡ true → (a || b) ≡ true
 or_left true b t = refl
@@ -50,7 +48,7 @@ or_right true b t = refl
 or_right false true t = absurd (false≢true (sym t))
 or_right false false t = refl
 
-pub address_law : AddressLaw
+pub address_law : C.AddressLaw
 address_law old new is k = (
   (λ h options o order step. record {
     pinned = λ q other pinned. still old is (stays_for h options) _ new step q
@@ -64,25 +62,25 @@ address_law old new is k = (
 )
 
 -- what an answered allocation has made
-abbrev Made : Handles → ℕ → ℕ → ℕ → Heap → Bool → Type 0
-Made old flags size slot new absent = MatchBool absent (Enters old.heap slot (kind_asked flags) new) (Allocates old.heap slot (rounded_size size) (kind_asked flags) 0 (alloc_options flags) true new)
+abbrev Made : C.Handles → ℕ → ℕ → ℕ → Heap → Bool → Type 0
+Made old flags size slot new absent = C.MatchBool absent (C.Enters old.heap slot (kind_asked flags) new) (C.Allocates old.heap slot (rounded_size size) (kind_asked flags) 0 (alloc_options flags) true new)
 
 -- An allocation that was answered is none of those that are refused.
-module _ (old : Handles) (is : AreHandles old) (flags size : ℕ) where
+module _ (old : C.Handles) (is : C.AreHandles old) (flags size : ℕ) where
   -- it had a prefix
-  has_prefix : (slot : ℕ) (options : RoomOptions) (p : Option ℕ) (becomes : Object → Type 0) (order : Object → List ℕ → List ℕ) (new : Heap) → Request old.heap slot (record { options = options; prefix = p; becomes = becomes; order = order }) true new → p ≡ None → ⊥
+  has_prefix : (slot : ℕ) (options : C.RoomOptions) (p : Option ℕ) (becomes : Object → Type 0) (order : Object → List ℕ → List ℕ) (new : Heap) → C.Request old.heap slot (record { options = options; prefix = p; becomes = becomes; order = order }) true new → p ≡ None → ⊥
   has_prefix slot options None becomes order new r none = false≢true (sym r.0)
   has_prefix slot options (Some k) becomes order new r none = cc
 
-  not_refused : (slot : ℕ) (new : Heap) → object_at old.heap slot ≡ None → Allocates old.heap slot (rounded_size size) (kind_asked flags) 0 (alloc_options flags) true new → discards_needed old.heap (rounded_size size) None (alloc_options flags) ≡ None → ⊥
-  not_refused slot new unused allocated none = has_prefix slot (alloc_options flags) (discards_needed old.heap (rounded_size size) (Some slot) (alloc_options flags)) (IsNew (alloc_options flags).zero (rounded_size size) (kind_asked flags) 0) (with_newest slot) new allocated.request
+  not_refused : (slot : ℕ) (new : Heap) → object_at old.heap slot ≡ None → C.Allocates old.heap slot (rounded_size size) (kind_asked flags) 0 (alloc_options flags) true new → discards_needed old.heap (rounded_size size) None (alloc_options flags) ≡ None → ⊥
+  not_refused slot new unused allocated none = has_prefix slot (alloc_options flags) (discards_needed old.heap (rounded_size size) (Some slot) (alloc_options flags)) (IsNew (alloc_options flags).zero (rounded_size size) (kind_asked flags) 0) (C.with_newest slot) new allocated.request
       (none_about old.heap is.heap slot unused (rounded_size size) (alloc_options flags) ∙ none)
 
   -- a fixed object of no bytes isn't allocated
   nothing_rounded : size ≡ 0 → rounded_size size ≡ 0
   nothing_rounded none = ap rounded_size none
 
-pub outcome_law : OutcomeLaw
+pub outcome_law : C.OutcomeLaw
 outcome_law old new flags size handle is answers refused = elim refused [
   | inl fixed ↦ made_fixed fixed
   | inr others ↦ elim others [
@@ -106,8 +104,8 @@ outcome_law old new flags size handle is answers refused = elim refused [
         turn false e m = omega (arith, m.some, nothing_rounded old is flags size h.0)
 
     made_room : (0 < size) × (discards_needed old.heap (rounded_size size) None (alloc_options flags) ≡ None) → ⊥
-    made_room h = turn ((size == 0) && has_flag flags GMEM_MOVEABLE) (ap (λ b. b && has_flag flags GMEM_MOVEABLE) (ne_eqb size 0 (λ e. absurd (omega (arith, e, h.0))))) answers.made
+    made_room h = turn ((size == 0) && has_flag flags GMEM_MOVEABLE) (ap (λ b. b && has_flag flags GMEM_MOVEABLE) (C.ne_eqb size 0 (λ e. absurd (omega (arith, e, h.0))))) answers.made
       where
         turn : (b : Bool) → b ≡ false → Made old flags size answers.slot new.heap b → ⊥
         turn true e m = false≢true (sym e)
-        turn false e m = not_refused old is flags size answers.slot new.heap (unused old is answers.slot (slots_for (rounded_size size)) (some_slots (rounded_size size)) answers.free) m h.1
+        turn false e m = not_refused old is flags size answers.slot new.heap (unused old is answers.slot (C.slots_for (rounded_size size)) (some_slots (rounded_size size)) answers.free) m h.1

@@ -1,13 +1,10 @@
 -- What may be discarded, and how many discards a request needs, by the blocks and the order of use.
-use Rattle.w16_model.proofs.Common.{find, range_with_len, ◌≡◌, ◌≢◌, ℕ, zero, suc, ◌+◌, ◌<◌, ◌≤◌, inl, inr, Bool, true, false, cond, not, ◌&&◌, ◌||◌, ◌==◌, nat_le, List, [], ◌∷◌, length, get_or, set, swap, take, filter, Option, Some, None, refl, sym, ap, ◌∙◌}
-use Rattle.w16_model.proofs.Common.{subst, arith, add-one, IsPermutation, ne_eqb, false≢true, lt-leb, list_any-IsPermutation, IsPermutation-refl, IsPermutation-cons, IsPermutation-swap, IsPermutation-trans, IsPermutation-keeps, Block, RoomOptions, is_pinned}
-use Rattle.w16_model.proofs.Common.{room, longest_hole, Heap, IsHeap, Object, blocks, object_at, is_in_order, eligible, blocks_without, room_for, needed, prefix_for, none_discarded_if, is_member, is_about, is_pinned_id, snapshot, discards_needed, snapshot_of}
+use Rattle.w16_model.proofs
+use proofs.Common as C
+use proofs.Common.{find, range_with_len, ◌≡◌, ◌≢◌, ℕ, zero, suc, ◌+◌, ◌<◌, ◌≤◌, inl, inr, Bool, true, false, cond, not, ◌&&◌, ◌||◌, ◌==◌, nat_le, List, [], ◌∷◌, length, get_or, set, swap, take, filter, Option, Some, None, refl, sym, ap, ◌∙◌, subst, arith, IsPermutation, false≢true}
+use proofs.Common.{IsPermutation-refl, Block, room, longest_hole, Heap, blocks, eligible, room_for, needed, prefix_for, none_discarded_if, is_member, is_about, is_pinned_id, snapshot, snapshot_of}
+use proofs.{Gaps.Member, Heaps.IsBlockOf, Heaps.member_block, Discards.true-is_member, Least.needed-Some, Members.room-permutation}
 use Rattle.std.proofs.lemmas.Bool.{le-leb}
-use Rattle.w16_model.proofs.Gaps.{Member}
-use Rattle.w16_model.proofs.Heaps.{IsBlockOf, member_block}
-use Rattle.w16_model.proofs.Discards.{true-is_member}
-use Rattle.w16_model.proofs.Least.{needed-Some}
-use Rattle.w16_model.proofs.Members.{room-permutation}
 
 -- Filtered lists.
 module _ {X : Type 0} where
@@ -40,7 +37,7 @@ module _ {X : Type 0} where
     kept_under x xs ys h = turn (p x)
       where
         turn : (b : Bool) → IsPermutation (cond {A = List X} b (x ∷ filter p xs) (filter p xs)) (cond {A = List X} b (x ∷ filter p ys) (filter p ys))
-        turn true = IsPermutation-cons x (filter p xs) (filter p ys) h
+        turn true = C.IsPermutation-cons x (filter p xs) (filter p ys) h
         turn false = h
 
     -- with two heads in each other's place
@@ -49,14 +46,14 @@ module _ {X : Type 0} where
       where
         turn : (b c : Bool) → IsPermutation (cond {A = List X} b (x ∷ cond {A = List X} c (y ∷ filter p xs) (filter p xs)) (cond {A = List X} c (y ∷ filter p xs) (filter p xs)))
             (cond {A = List X} c (y ∷ cond {A = List X} b (x ∷ filter p xs) (filter p xs)) (cond {A = List X} b (x ∷ filter p xs) (filter p xs)))
-        turn true true = IsPermutation-swap (x ∷ y ∷ filter p xs) (y ∷ x ∷ filter p xs) 0 1 (omega arith) (omega arith) refl
+        turn true true = C.IsPermutation-swap (x ∷ y ∷ filter p xs) (y ∷ x ∷ filter p xs) 0 1 (omega arith) (omega arith) refl
         turn true false = IsPermutation-refl (x ∷ filter p xs)
         turn false true = IsPermutation-refl (y ∷ filter p xs)
         turn false false = IsPermutation-refl (filter p xs)
 
     -- by one order after another
     kept_chain : (xs ys zs : List X) → Kept xs ys → Kept ys zs → Kept xs zs
-    kept_chain xs ys zs h k = IsPermutation-trans (filter p xs) (filter p ys) (filter p zs) h k
+    kept_chain xs ys zs h k = C.IsPermutation-trans (filter p xs) (filter p ys) (filter p zs) h k
 
     -- with the head and another in each other's place
     to_head : (l : List X) (j : ℕ) (x d : X) → j < length l → Kept (x ∷ l) (get_or l j d ∷ set l j x)
@@ -81,12 +78,12 @@ module _ {X : Type 0} where
 
     -- in any order
     pub filter_permutation : (xs ys : List X) → IsPermutation xs ys → IsPermutation (filter p xs) (filter p ys)
-    filter_permutation xs = IsPermutation-keeps xs (λ l. Kept xs l) (IsPermutation-refl (filter p xs)) (λ l i j h k rest. kept_chain xs l (swap l i j) rest (swapped l i j h k))
+    filter_permutation xs = C.IsPermutation-keeps xs (λ l. Kept xs l) (IsPermutation-refl (filter p xs)) (λ l i j h k rest. kept_chain xs l (swap l i j) rest (swapped l i j h k))
 
 -- what may be discarded depends on the members of the blocks alone
 pub eligible_by_members : (xs ys : List Block) → IsPermutation xs ys → (order : List ℕ) (h : Option ℕ) → eligible xs order h ≡ eligible ys order h
 eligible_by_members xs ys perm order h =
-    let same : (id : ℕ) → is_pinned_id xs id ≡ is_pinned_id ys id = λ id. list_any-IsPermutation (λ (x : Block). x.id == id && is_pinned x) xs ys perm in
+    let same : (id : ℕ) → is_pinned_id xs id ≡ is_pinned_id ys id = λ id. C.list_any-IsPermutation (λ (x : Block). x.id == id && C.is_pinned x) xs ys perm in
     λ i. filter (λ id. not (same id i) && not (is_about h id)) order
 
 -- and so does the room
@@ -114,11 +111,11 @@ module _ (lo hi : ℕ) (xs : List Block) (order : List ℕ) (n : ℕ) (h : Optio
   pub needed_now : n ≤ room_for (snapshot lo hi xs order) 0 h → needed (snapshot lo hi xs order) n h ≡ Some 0
   needed_now fits =
       let serves : ℕ → Bool = λ k. nat_le n (room_for (snapshot lo hi xs order) k h) in
-      ap (λ m. find serves (range_with_len 0 m)) (add-one (length (eligible xs order h)))
+      ap (λ m. find serves (range_with_len 0 m)) (C.add-one (length (eligible xs order h)))
       ∙ ap (λ b. cond b (Some 0) (find serves (range_with_len (0 + 1) (length (eligible xs order h))))) (le-leb n (room_for (snapshot lo hi xs order) 0 h) fits)
 
   -- The number of discards of a request, by its options.
-  module _ (options : RoomOptions) where
+  module _ (options : C.RoomOptions) where
     -- where nothing may move
     pub without_compact : options.compact ≡ false → prefix_for (snapshot lo hi xs order) n h options ≡ none_discarded_if (nat_le n (longest_hole lo hi xs))
     without_compact still = ap (λ b. cond (not b) (none_discarded_if (nat_le n (longest_hole lo hi xs))) (cond (not options.discard) (none_discarded_if (nat_le n (room_for (snapshot lo hi xs order) 0 h))) (needed (snapshot lo hi xs order) n h))) still
@@ -133,7 +130,7 @@ module _ (lo hi : ℕ) (xs : List Block) (order : List ℕ) (n : ℕ) (h : Optio
 
     -- where nothing may move or be discarded, and no hole is
     pub prefix_no_hole : options.compact ≡ false → longest_hole lo hi xs < n → prefix_for (snapshot lo hi xs order) n h options ≡ None
-    prefix_no_hole still short = without_compact still ∙ ap none_discarded_if (lt-leb n (longest_hole lo hi xs) short)
+    prefix_no_hole still short = without_compact still ∙ ap none_discarded_if (C.lt-leb n (longest_hole lo hi xs) short)
 
     -- where others may slide, and there is room now
     pub prefix_now : options.compact ≡ true → n ≤ room_for (snapshot lo hi xs order) 0 h → prefix_for (snapshot lo hi xs order) n h options ≡ Some 0
@@ -146,43 +143,43 @@ module _ (lo hi : ℕ) (xs : List Block) (order : List ℕ) (n : ℕ) (h : Optio
     -- where others may slide but none may be discarded, and there is no room
     pub prefix_kept : options.compact ≡ true → options.discard ≡ false → room_for (snapshot lo hi xs order) 0 h < n → prefix_for (snapshot lo hi xs order) n h options ≡ None
     prefix_kept moves keeps short =
-        with_compact moves ∙ ap (λ b. cond (not b) (none_discarded_if (nat_le n (room_for (snapshot lo hi xs order) 0 h))) (needed (snapshot lo hi xs order) n h)) keeps ∙ ap none_discarded_if (lt-leb n (room_for (snapshot lo hi xs order) 0 h) short)
+        with_compact moves ∙ ap (λ b. cond (not b) (none_discarded_if (nat_le n (room_for (snapshot lo hi xs order) 0 h))) (needed (snapshot lo hi xs order) n h)) keeps ∙ ap none_discarded_if (C.lt-leb n (room_for (snapshot lo hi xs order) 0 h) short)
 
     -- where others may slide and be discarded
     pub prefix_needed : options.compact ≡ true → options.discard ≡ true → prefix_for (snapshot lo hi xs order) n h options ≡ needed (snapshot lo hi xs order) n h
     prefix_needed moves discards = with_compact moves ∙ ap (λ b. cond (not b) (none_discarded_if (nat_le n (room_for (snapshot lo hi xs order) 0 h))) (needed (snapshot lo hi xs order) n h)) discards
 
 -- A request about an object that isn't there needs what one about none needs.
-module _ (old : Heap) (is : IsHeap old) (id : ℕ) (unused : object_at old id ≡ None) where
+module _ (old : Heap) (is : C.IsHeap old) (id : ℕ) (unused : C.object_at old id ≡ None) where
   -- no block has the id
   no_block : (x : Block) → Member x (blocks old) → x.id ≢ id
   no_block x m e =
       let b : IsBlockOf old x = member_block old x m in
-      let both : ◌≡◌ {A = Option Object} None (Some b.object) = sym unused ∙ ap (object_at old) (sym e) ∙ b.is_there in
+      let both : ◌≡◌ {A = Option C.Object} None (Some b.object) = sym unused ∙ ap (C.object_at old) (sym e) ∙ b.is_there in
       cc
 
   -- nor does a member of the order
   not_listed : (q : ℕ) → Member q old.order → q ≢ id
-  not_listed q m e = false≢true (ap is_in_order (sym unused) ∙ sym (is.in_order id) ∙ true-is_member id old.order (subst (λ k. Member k old.order) e m))
+  not_listed q m e = false≢true (ap C.is_in_order (sym unused) ∙ sym (is.in_order id) ∙ true-is_member id old.order (subst (λ k. Member k old.order) e m))
 
   -- the same may be discarded
   eligible_about : eligible (blocks old) old.order (Some id) ≡ eligible (blocks old) old.order None
   eligible_about = filter_same (λ q. not (is_pinned_id (blocks old) q) && not (is_about (Some id) q)) (λ q. not (is_pinned_id (blocks old) q) && not (is_about None q)) old.order
-      (λ q m. ap (λ b. not (is_pinned_id (blocks old) q) && not b) (ne_eqb q id (not_listed q m)))
+      (λ q m. ap (λ b. not (is_pinned_id (blocks old) q) && not b) (C.ne_eqb q id (not_listed q m)))
 
   -- with as much room
   room_about : (k : ℕ) → room_for (snapshot_of old) k (Some id) ≡ room_for (snapshot_of old) k None
   room_about k =
-      ap (λ (ids : List ℕ). room old.lo old.hi (blocks_without (blocks old) (take k ids) (Some id))) eligible_about
+      ap (λ (ids : List ℕ). room old.lo old.hi (C.blocks_without (blocks old) (take k ids) (Some id))) eligible_about
       ∙ ap (λ (xs : List Block). room old.lo old.hi xs) (filter_same (λ x. not (is_member x.id (take k (eligible (blocks old) old.order None)) || is_about (Some id) x.id)) (λ x. not (is_member x.id (take k (eligible (blocks old) old.order None)) || is_about None x.id)) (blocks old)
-      (λ x m. ap (λ b. not (is_member x.id (take k (eligible (blocks old) old.order None)) || b)) (ne_eqb x.id id (no_block x m))))
+      (λ x m. ap (λ b. not (is_member x.id (take k (eligible (blocks old) old.order None)) || b)) (C.ne_eqb x.id id (no_block x m))))
 
   -- by as many discards
   pub needed_about : (n : ℕ) → needed (snapshot_of old) n (Some id) ≡ needed (snapshot_of old) n None
   needed_about n = needed_same old.lo old.hi (blocks old) (blocks old) old.order old.order n (Some id) None (ap (length {A = ℕ}) eligible_about) room_about
 
   -- so the answers are the same
-  pub none_about : (n : ℕ) (options : RoomOptions) → discards_needed old n (Some id) options ≡ discards_needed old n None options
+  pub none_about : (n : ℕ) (options : C.RoomOptions) → C.discards_needed old n (Some id) options ≡ C.discards_needed old n None options
   none_about n options = λ i.
       cond (not options.compact) (none_discarded_if (nat_le n (longest_hole old.lo old.hi (blocks old))))
       (cond (not options.discard) (none_discarded_if (nat_le n (room_about 0 i))) (needed_about n i))

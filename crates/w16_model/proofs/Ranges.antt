@@ -1,29 +1,29 @@
 -- A heap where memory changes outside its range alone.
-use Rattle.w16_model.proofs.Common.{◌≡◌, ℕ, ◌+◌, ◌-◌, ◌<◌, ◌≤◌, List, [], ◌∷◌, take, drop, slice_range, Option, Some, None, option_map, refl, sym, ap, ◌∙◌, arith, drop-take, take-take, drop-drop, Block, Entry, block_end, Table, IsTable, heap_in, object_in, by_id, block_with, RangeLaw}
+use Rattle.w16_model.proofs
+use proofs.Common as C
+use proofs.Common.{◌≡◌, ℕ, ◌+◌, ◌-◌, ◌<◌, ◌≤◌, List, [], ◌∷◌, take, drop, slice_range, Some, None, refl, sym, ap, ◌∙◌, arith, Block, Entry, Table, heap_in, object_in, by_id}
+use proofs.{Gaps.Member, Gaps.Each-at, Laid.laid_each, Tables.member_with}
 use Rattle.std.specs.FinMap as finmap
-use Rattle.w16_model.proofs.Gaps.{Member, Each-at}
-use Rattle.w16_model.proofs.Laid.{laid_each}
-use Rattle.w16_model.proofs.Tables.{member_with}
 
 -- n bytes at p, below and above a place
 part_below : (a m : List ℕ) (lo p n : ℕ) → take lo a ≡ take lo m → p + n ≤ lo → take n (drop p a) ≡ take n (drop p m)
 part_below a m lo p n same le =
-    sym (drop-take p n a) ∙ ap (drop p) (sym (take-take (p + n) lo a le) ∙ ap (take (p + n)) same ∙ take-take (p + n) lo m le) ∙ drop-take p n m
+    sym (C.drop-take p n a) ∙ ap (drop p) (sym (C.take-take (p + n) lo a le) ∙ ap (take (p + n)) same ∙ C.take-take (p + n) lo m le) ∙ C.drop-take p n m
 
 part_above : (a m : List ℕ) (hi p n : ℕ) → drop hi a ≡ drop hi m → hi ≤ p → take n (drop p a) ≡ take n (drop p m)
 part_above a m hi p n same le =
     let e : hi + (p - hi) ≡ p = omega arith in
-    ap (take n) (ap (λ q. drop q a) (sym e) ∙ sym (drop-drop (p - hi) hi a) ∙ ap (drop (p - hi)) same ∙ drop-drop (p - hi) hi m ∙ ap (λ q. drop q m) e)
+    ap (take n) (ap (λ q. drop q a) (sym e) ∙ sym (C.drop-drop (p - hi) hi a) ∙ ap (drop (p - hi)) same ∙ C.drop-drop (p - hi) hi m ∙ ap (λ q. drop q m) e)
 
-module _ (t : Table) (is : IsTable t) (memory after : List ℕ) (same : (x : Block) → Member x t.blocks → slice_range after x.at (x.at + x.size) ≡ slice_range memory x.at (x.at + x.size)) where
-  same_bytes : (id : ℕ) (b : Option Block) → block_with t.blocks id ≡ b → option_map (λ (x : Block). slice_range after x.at (x.at + x.size)) b ≡ option_map (λ (x : Block). slice_range memory x.at (x.at + x.size)) b
+module _ (t : Table) (is : C.IsTable t) (memory after : List ℕ) (same : (x : Block) → Member x t.blocks → slice_range after x.at (x.at + x.size) ≡ slice_range memory x.at (x.at + x.size)) where
+  same_bytes : (id : ℕ) (b : C.Option Block) → C.block_with t.blocks id ≡ b → C.option_map (λ (x : Block). slice_range after x.at (x.at + x.size)) b ≡ C.option_map (λ (x : Block). slice_range memory x.at (x.at + x.size)) b
   same_bytes id None e = refl
   same_bytes id (Some x) e = ap Some (same x (member_with t.blocks id x e).0)
 
   same_object : (id : ℕ) (e : Entry) → object_in t.blocks after id e ≡ object_in t.blocks memory id e
-  same_object id e = λ i. record { kind = e.kind; locks = e.locks; bytes = same_bytes id (block_with t.blocks id) refl i }
+  same_object id e = λ i. record { kind = e.kind; locks = e.locks; bytes = same_bytes id (C.block_with t.blocks id) refl i }
 
-  same_objects : (id : ℕ) (es : List (Option Entry)) → by_id (object_in t.blocks after) id es ≡ by_id (object_in t.blocks memory) id es
+  same_objects : (id : ℕ) (es : List (C.Option Entry)) → by_id (object_in t.blocks after) id es ≡ by_id (object_in t.blocks memory) id es
   same_objects id [] = refl
   same_objects id (None ∷ es) = same_objects (id + 1) es
   same_objects id (Some e ∷ es) = λ i. (id, same_object id e i) ∷ same_objects (id + 1) es i
@@ -31,11 +31,11 @@ module _ (t : Table) (is : IsTable t) (memory after : List ℕ) (same : (x : Blo
   same_heap : heap_in t after ≡ heap_in t memory
   same_heap = λ i. record (heap_in t memory) { objects = finmap.from_entries (same_objects 0 t.entries i) }
 
-pub range_law : RangeLaw
+pub range_law : C.RangeLaw
 range_law t lo hi memory after is outside = (
   (λ below. same_heap t is memory after (λ x m. part_below after memory lo x.at (x.at + x.size - x.at) outside.below (omega (arith, bounds x m, below)))),
   (λ above. same_heap t is memory after (λ x m. part_above after memory hi x.at (x.at + x.size - x.at) outside.above (omega (arith, bounds x m, above)))),
 )
   where
-    bounds : (x : Block) → Member x t.blocks → (t.lo ≤ x.at) × (0 < x.size) × (block_end x ≤ t.hi)
-    bounds = Each-at (λ x. (t.lo ≤ x.at) × (0 < x.size) × (block_end x ≤ t.hi)) t.blocks (laid_each t.lo t.hi t.blocks is.laid)
+    bounds : (x : Block) → Member x t.blocks → (t.lo ≤ x.at) × (0 < x.size) × (C.block_end x ≤ t.hi)
+    bounds = Each-at (λ x. (t.lo ≤ x.at) × (0 < x.size) × (C.block_end x ≤ t.hi)) t.blocks (laid_each t.lo t.hi t.blocks is.laid)

@@ -1,24 +1,25 @@
 -- The laws of reallocation, case by case.
-use Rattle.w16_model.proofs.Common.{◌≡◌, ◌≢◌, ℕ, ◌+◌, ◌<◌, ◌≤◌, ◌⊎◌, inl, inr, Bool, true, false, cond, not, ◌&&◌, ◌||◌, nat_le, MatchOption, IsTrue, IsSomeAnd, IfSome, List, ◌++◌, length, take, All, Option, Some, None, option_map, is_some, unwrap_or, refl}
-use Rattle.w16_model.proofs.Common.{sym, ap, ◌∙◌, subst, arith, nat_cmp, FinMap, false≢true, length-append, length-take-le, All-take, All-append, Block, RoomOptions, Misses, is_any, is_pinned, block_end, longest_hole, IsClear, fits_in_place, growth_for}
-use Rattle.w16_model.proofs.Common.{none_discarded_if, Heap, Object, IsHeap, IsCounted, IsMultiple, blocks, object_at, size_of, is_fixed, is_pinned_object, with_object, with_ordered, with_newest, Asked, Request, AreNew, IsNew, IsGrown, Settles, Reallocates}
-use Rattle.w16_model.proofs.Common.{ReallocatesObject, discarded, stays_for, discards_needed, snapshot_of, KeepsOthers, StandsStill, AllocatesFewest, LacksRoom, HasNoStretch, IsFreeBehind, is_held, ReallocatesFewest, MovesLittle, HeapLaw, FewestLaw, MovesLaw}
+use Rattle.w16_model.proofs
+use proofs.Common as C
+use proofs.Common.{◌≡◌, ◌≢◌, ℕ, ◌+◌, ◌<◌, ◌≤◌, ◌⊎◌, inl, inr, Bool, true, false, cond, not, ◌&&◌, ◌||◌, nat_le, IsTrue, IsSomeAnd, List, ◌++◌, length, take, All, Option, Some, None, option_map, is_some, unwrap_or, refl, sym, ap, ◌∙◌, subst, arith, false≢true, Block, RoomOptions, Misses}
+use proofs.Common.{is_any, longest_hole, IsClear, fits_in_place, growth_for, none_discarded_if, Heap, Object, IsHeap, blocks, object_at, size_of, is_pinned_object, with_ordered, with_newest, Asked, Request, IsNew, IsGrown, Settles, discarded, stays_for, discards_needed, snapshot_of}
+use proofs.Common.{KeepsOthers, IsFreeBehind, is_held, ReallocatesFewest, MovesLittle}
+use proofs.Gaps.{Each-at, Each-from, Each-from_All, All-from_Each}
+use proofs.Heaps.{IsBlockOf, block_member, member_block}
+use proofs.KeptHeaps.{inserted_here, inserted_other, bytes_in, AreBytes}
+use proofs.Others.{others_law}
+use proofs.Outcomes.{address_law, stays_other, or_right}
+use proofs.Fewest.{allocation_law, lacking, fewer_lack, none_goes}
+use proofs.Replaced.{MayLie, resized_heap, lies_there}
+use proofs.Growth.{Revives, Asks, IsCase, case_of, stands, size_is, fits_free, free_fits}
 use Rattle.std.specs.FinMap as finmap
-use Rattle.w16_model.proofs.Gaps.{Each-at, Each-from, Each-from_All, All-from_Each}
-use Rattle.w16_model.proofs.Heaps.{IsBlockOf, block_member, member_block}
-use Rattle.w16_model.proofs.KeptHeaps.{inserted_here, inserted_other, bytes_in, AreBytes}
-use Rattle.w16_model.proofs.Others.{others_law}
-use Rattle.w16_model.proofs.Outcomes.{address_law, stays_other, or_right}
-use Rattle.w16_model.proofs.Fewest.{allocation_law, lacking, fewer_lack, none_goes}
-use Rattle.w16_model.proofs.Replaced.{MayLie, resized_heap, lies_there}
-use Rattle.w16_model.proofs.Growth.{Revives, Asks, IsCase, case_of, stands, size_is, fits_free, free_fits}
 
 -- an answered request has discarded so many, and what it made stands
 pub asked : (old : Heap) (h : ℕ) (what : Asked) (new : Heap) → Request old h what true new
     → (k : ℕ) × (what.prefix ≡ Some k) × ((o : Object) × what.becomes o × Settles old (stays_for h what.options) (with_ordered (discarded old k (Some h)) h o (what.order o)) new)
 asked old h what new r = turn what.prefix refl r
   where
-    turn : (p : Option ℕ) → what.prefix ≡ p → MatchOption p ((true ≡ false) × (new ≡ old)) (λ k. (true ≡ true) × ((o : Object) × what.becomes o × Settles old (stays_for h what.options) (with_ordered (discarded old k (Some h)) h o (what.order o)) new))
+    turn : (p : Option ℕ) → what.prefix ≡ p → C.MatchOption p ((true ≡ false) × (new ≡ old)) (λ k. (true ≡ true) × ((o : Object) × what.becomes o × Settles old (stays_for h what.options) (with_ordered (discarded old k (Some h)) h o (what.order o)) new))
         → (k : ℕ) × (what.prefix ≡ Some k) × ((o : Object) × what.becomes o × Settles old (stays_for h what.options) (with_ordered (discarded old k (Some h)) h o (what.order o)) new)
     turn None e g = absurd (false≢true (sym g.0))
     turn (Some k) e g = (k, e, g.1)
@@ -27,7 +28,7 @@ asked old h what new r = turn what.prefix refl r
 pub not_asked : (old : Heap) (h : ℕ) (what : Asked) (new : Heap) → Request old h what false new → (what.prefix ≡ None) × (new ≡ old)
 not_asked old h what new r = turn what.prefix refl r
   where
-    turn : (p : Option ℕ) → what.prefix ≡ p → MatchOption p ((false ≡ false) × (new ≡ old)) (λ k. (false ≡ true) × ((o : Object) × what.becomes o × Settles old (stays_for h what.options) (with_ordered (discarded old k (Some h)) h o (what.order o)) new)) → (what.prefix ≡ None) × (new ≡ old)
+    turn : (p : Option ℕ) → what.prefix ≡ p → C.MatchOption p ((false ≡ false) × (new ≡ old)) (λ k. (false ≡ true) × ((o : Object) × what.becomes o × Settles old (stays_for h what.options) (with_ordered (discarded old k (Some h)) h o (what.order o)) new)) → (what.prefix ≡ None) × (new ≡ old)
     turn None e g = (e, g.1)
     turn (Some k) e g = absurd (false≢true g.0)
 
@@ -37,21 +38,21 @@ settled_heap old is h true new what r = (asked old h what new r).2.2.sound
 settled_heap old is h false new what r = subst IsHeap (sym (not_asked old h what new r).1) is
 
 -- The heap that is left.
-module _ (old : Heap) (is : IsHeap old) (id n : ℕ) (some : 0 < n) (rounded : IsMultiple old.grain n) (o : Object) (there : object_at old id ≡ Some o) (options : RoomOptions) where
-  counted : IsCounted o
-  counted = subst (λ p. IfSome p IsCounted) there (is.counted id)
+module _ (old : Heap) (is : IsHeap old) (id n : ℕ) (some : 0 < n) (rounded : C.IsMultiple old.grain n) (o : Object) (there : object_at old id ≡ Some o) (options : RoomOptions) where
+  counted : C.IsCounted o
+  counted = subst (λ p. C.IfSome p C.IsCounted) there (is.counted id)
 
   are_bytes : AreBytes o.bytes
   are_bytes = subst (λ p. AreBytes (bytes_in p)) there (is.are_bytes id)
 
   -- the object at n bytes, where these may lie
   sized_heap : (bytes new_bytes : List ℕ) → o.bytes ≡ Some bytes → (p : Object) → p.bytes ≡ Some new_bytes → p.kind ≡ o.kind → p.locks ≡ o.locks → All (λ b. b < 256) new_bytes
-      → MayLie old id (unwrap_or (finmap.get old.places id) 0) (length new_bytes) → IsHeap (with_object old id p)
+      → MayLie old id (unwrap_or (finmap.get old.places id) 0) (length new_bytes) → IsHeap (C.with_object old id p)
   sized_heap bytes new_bytes has p has_new kind locks all lies =
       resized_heap old is id o p there old.order (ap is_some has_new ∙ sym (ap is_some has))
       (λ b e. let same : new_bytes ≡ b = (let some_b : ◌≡◌ {A = Option (List ℕ)} (Some new_bytes) (Some b) = sym has_new ∙ e in cc) in subst (λ (l : List ℕ). MayLie old id (unwrap_or (finmap.get old.places id) 0) (length l)) same lies)
       (subst AreBytes (sym has_new) all)
-      (omega (arith, locks, counted.0), (λ f. locks ∙ counted.1 (subst (λ k. IsTrue (is_fixed k)) kind f)), (λ none. let both : ◌≡◌ {A = Option (List ℕ)} (Some new_bytes) None = sym has_new ∙ none in cc))
+      (omega (arith, locks, counted.0), (λ f. locks ∙ counted.1 (subst (λ k. IsTrue (C.is_fixed k)) kind f)), (λ none. let both : ◌≡◌ {A = Option (List ℕ)} (Some new_bytes) None = sym has_new ∙ none in cc))
       refl kind
 
   -- where an object's bytes lie fewer may
@@ -83,7 +84,7 @@ module _ (old : Heap) (is : IsHeap old) (id n : ℕ) (some : 0 < n) (rounded : I
       }
     where
       inside : (y : Block) → IsBlockOf old y → 0 < y.size
-      inside y b = (Each-at (λ x. (old.lo ≤ x.at) × (0 < x.size) × (block_end x ≤ old.hi)) (blocks old) (Each-from_All _ (blocks old) is.placed.inside) y (block_member old y b)).1
+      inside y b = (Each-at (λ x. (old.lo ≤ x.at) × (0 < x.size) × (C.block_end x ≤ old.hi)) (blocks old) (Each-from_All _ (blocks old) is.placed.inside) y (block_member old y b)).1
 
       beside : (y size at long n : ℕ) → Misses at long y (y + size) → Misses y size (at + long) (at + n) → 0 < size → Misses at n y (y + size)
       beside y size at long n f g s = grind arith
@@ -92,27 +93,27 @@ module _ (old : Heap) (is : IsHeap old) (id n : ℕ) (some : 0 < n) (rounded : I
   case_heap : (answered : Bool) (new : Heap) → IsCase old id n o options answered new → IsHeap new
   case_heap answered new (inl revives) = settled_heap old is id answered new (record { options = options; prefix = discards_needed old n (Some id) options; becomes = IsNew options.zero n o.kind o.locks; order = with_newest id }) revives.allocated.request
   case_heap answered new (inr (inl cuts)) =
-      let all : All (λ b. b < 256) (take n cuts.bytes) = All-take (λ b. b < 256) n cuts.bytes (subst AreBytes cuts.has are_bytes) in
+      let all : All (λ b. b < 256) (take n cuts.bytes) = C.All-take (λ b. b < 256) n cuts.bytes (subst AreBytes cuts.has are_bytes) in
       subst IsHeap (sym cuts.left) (sized_heap cuts.bytes (take n cuts.bytes) cuts.has (record o { bytes = Some (take n cuts.bytes) }) refl refl refl all
-      (subst (λ m. MayLie old id (unwrap_or (finmap.get old.places id) 0) m) (sym (length-take-le n cuts.bytes cuts.short)) (fewer_lie cuts.bytes cuts.has cuts.short)))
+      (subst (λ m. MayLie old id (unwrap_or (finmap.get old.places id) 0) m) (sym (C.length-take-le n cuts.bytes cuts.short)) (fewer_lie cuts.bytes cuts.has cuts.short)))
   case_heap answered new (inr (inr (inl extends))) = elim extends.outcome [
     | inl fits ↦
         let g : IsGrown options.zero n o fits.2.0 = fits.2.1 in
         let bytes : List ℕ = extends.bytes ++ g.grown.0 in
         let has_new : fits.2.0.bytes ≡ Some bytes = g.grown.2 ∙ ap (option_map (λ bytes. bytes ++ g.grown.0)) extends.has in
-        let long : length bytes ≡ n = length-append extends.bytes g.grown.0 ∙ omega (arith, g.grown.1.0, size_is old is id o there extends.bytes extends.has, extends.long) in
+        let long : length bytes ≡ n = C.length-append extends.bytes g.grown.0 ∙ omega (arith, g.grown.1.0, size_is old is id o there extends.bytes extends.has, extends.long) in
         subst IsHeap (sym fits.2.2) (sized_heap extends.bytes bytes extends.has fits.2.0 has_new g.same_kind g.same_locks
-        (All-append (λ b. b < 256) extends.bytes g.grown.0 (subst AreBytes extends.has are_bytes) g.grown.1.1)
+        (C.All-append (λ b. b < 256) extends.bytes g.grown.0 (subst AreBytes extends.has are_bytes) g.grown.1.1)
         (subst (λ m. MayLie old id (unwrap_or (finmap.get old.places id) 0) m) (sym long) (more_lie extends.bytes extends.has extends.long fits.0)))
     | inr short ↦ subst IsHeap (sym short.2) is
   ]
   case_heap answered new (inr (inr (inr asks))) = settled_heap old is id answered new (record { options = options; prefix = growth_for (snapshot_of old) n id options; becomes = IsGrown options.zero n o; order = λ _ order. order }) asks.request
 
 -- a law by its cases, at the object that is there
-pub by_case : (old new : Heap) (id n : ℕ) (options : RoomOptions) (answered : Bool) (P : Object → Type 0) → ((o : Object) → object_at old id ≡ Some o → IsCase old id n o options answered new → P o) → Reallocates old id n options answered new → IsSomeAnd (object_at old id) P
+pub by_case : (old new : Heap) (id n : ℕ) (options : RoomOptions) (answered : Bool) (P : Object → Type 0) → ((o : Object) → object_at old id ≡ Some o → IsCase old id n o options answered new → P o) → C.Reallocates old id n options answered new → IsSomeAnd (object_at old id) P
 by_case old new id n options answered P f step = turn (object_at old id) refl step.object
   where
-    turn : (p : Option Object) → object_at old id ≡ p → IsSomeAnd p (λ o. ReallocatesObject old id o n options answered new) → IsSomeAnd p P
+    turn : (p : Option Object) → object_at old id ≡ p → IsSomeAnd p (λ o. C.ReallocatesObject old id o n options answered new) → IsSomeAnd p P
     turn None there r = absurd r
     turn (Some o) there r = f o there (case_of old id n o options answered new r)
 
@@ -120,18 +121,18 @@ some_anyway : (p : Option Object) (P : Type 0) → IsSomeAnd p (λ _. P) → P
 some_anyway None P h = absurd h
 some_anyway (Some o) P h = h
 
-pub heap_law : HeapLaw
+pub heap_law : C.HeapLaw
 heap_law old new id n options answered is step = some_anyway (object_at old id) (IsHeap new) (by_case old new id n options answered (λ _. IsHeap new) (λ o there c. case_heap old is id n step.some step.rounded o there options answered new c) step)
 
 -- What stands still.
 
 -- everything, where the addresses are the same
-all_still : (old new : Heap) → new.places ≡ old.places → (q : ℕ) → StandsStill old new q
+all_still : (old new : Heap) → new.places ≡ old.places → (q : ℕ) → C.StandsStill old new q
 all_still old new same q = turn (finmap.get old.places q) refl
   where
-    turn : (p : Option ℕ) → finmap.get old.places q ≡ p → IfSome p (λ at. finmap.get new.places q ≡ Some at)
+    turn : (p : Option ℕ) → finmap.get old.places q ≡ p → C.IfSome p (λ at. finmap.get new.places q ≡ Some at)
     turn None e = tt
-    turn (Some at) e = ap (λ (m : FinMap nat_cmp ℕ). finmap.get m q) same ∙ e
+    turn (Some at) e = ap (λ (m : C.FinMap C.nat_cmp ℕ). finmap.get m q) same ∙ e
 
 module _ (old : Heap) (is : IsHeap old) (id n : ℕ) (o : Object) (there : object_at old id ≡ Some o) (options : RoomOptions) (new : Heap) where
   -- with all addresses kept little is moved
@@ -139,7 +140,7 @@ module _ (old : Heap) (is : IsHeap old) (id n : ℕ) (o : Object) (there : objec
   nothing_moved bytes has same = record {
     others = record { pinned = λ q _ _. all_still old new same q; unmoved = λ _ q _. all_still old new same q };
     still = λ _ q. all_still old new same q;
-    hole = λ _. at_place (finmap.get old.places id) (finmap.get new.places id) (ap (λ (m : FinMap nat_cmp ℕ). finmap.get m id) same) (stands old is id o there bytes has);
+    hole = λ _. at_place (finmap.get old.places id) (finmap.get new.places id) (ap (λ (m : C.FinMap C.nat_cmp ℕ). finmap.get m id) same) (stands old is id o there bytes has);
   }
     where
       at_place : (p r : Option ℕ) → r ≡ p → p ≡ Some (unwrap_or (finmap.get old.places id) 0) → IsSomeAnd r (λ at. (p ≡ Some at) ⊎ IsClear is_any old.lo old.hi (blocks old) at (at + n))
@@ -167,7 +168,7 @@ module _ (old : Heap) (is : IsHeap old) (id n : ℕ) (o : Object) (there : objec
           let kept : finmap.get new.places x.id ≡ Some x.at = Each-at
           (λ y. IsTrue (stays_for id options y) → finmap.get new.places y.id ≡ Some y.at) (blocks old)
           (Each-from_All _ (blocks old) settles.kept) x (block_member old x b)
-          (stays_other id options x (other x b) (or_right (is_pinned x) options.compact still)) in
+          (stays_other id options x (other x b) (or_right (C.is_pinned x) options.compact still)) in
           record {
             object = b.object;
             bytes = b.bytes;
@@ -181,7 +182,7 @@ module _ (old : Heap) (is : IsHeap old) (id n : ℕ) (o : Object) (there : objec
       apart_from : (at n long y size : ℕ) → long ≡ n → Misses at long y (y + size) → Misses y size at (at + n)
       apart_from at n long y size e f = grind arith
 
-      turn : (b : Option (List ℕ)) → p.bytes ≡ b → IsSomeAnd b (AreNew options.zero n) → IsSomeAnd (finmap.get new.places id) (λ at. (finmap.get old.places id ≡ Some at) ⊎ IsClear is_any old.lo old.hi (blocks old) at (at + n))
+      turn : (b : Option (List ℕ)) → p.bytes ≡ b → IsSomeAnd b (C.AreNew options.zero n) → IsSomeAnd (finmap.get new.places id) (λ at. (finmap.get old.places id ≡ Some at) ⊎ IsClear is_any old.lo old.hi (blocks old) at (at + n))
       turn None has news = absurd news
       turn (Some bytes) has news =
           let at : ℕ = unwrap_or (finmap.get new.places id) 0 in
@@ -228,13 +229,13 @@ module _ (old : Heap) (is : IsHeap old) (id n : ℕ) (o : Object) (there : objec
       not_still asks (inl le) = omega (arith, le, asks.long, size_is old is id o there asks.bytes asks.has)
       not_still asks (inr t) = false≢true (sym asks.held ∙ sym (ap (λ b. is_some b && (is_pinned_object o && not options.may_move)) asks.has) ∙ t)
 
-pub moves_law : MovesLaw
+pub moves_law : C.MovesLaw
 moves_law old new id n options is step = by_case old new id n options true (λ o. MovesLittle old id n o options new) (λ o there c. moves_little old is id n o there options new c) step
 
 -- Fewest discards.
 
 -- nothing is discarded where one object alone has another in its place
-pub none_discarded : (old : Heap) (id : ℕ) (p : Object) → KeepsOthers old (Some id) 0 (with_object old id p)
+pub none_discarded : (old : Heap) (id : ℕ) (p : Object) → KeepsOthers old (Some id) 0 (C.with_object old id p)
 none_discarded old id p = record {
   kept = λ q other _. inserted_other old.objects id p q (λ e. other (ap Some (sym e)));
   discarded = λ q t. absurd (false≢true t);
@@ -267,7 +268,7 @@ module _ (old : Heap) (is : IsHeap old) (id n : ℕ) (o : Object) (there : objec
   by_way compact = cond {A = Option ℕ} compact (discards_needed old n (Some id) options) (none_discarded_if (fits_in_place (snapshot_of old) n id || nat_le n (longest_hole old.lo old.hi (blocks old))))
 
   -- no fewer serve
-  fewer : (compact : Bool) → options.compact ≡ compact → (k : ℕ) → by_way compact ≡ Some k → (j : ℕ) → j < k → HasNoStretch old j (Some id) n
+  fewer : (compact : Bool) → options.compact ≡ compact → (k : ℕ) → by_way compact ≡ Some k → (j : ℕ) → j < k → C.HasNoStretch old j (Some id) n
   fewer true c k e j less = fewer_lack old is n (Some id) options.compact options.discard k e j less
   fewer false c k e j less = let none : k ≡ 0 = zero_if (fits_in_place (snapshot_of old) n id || nat_le n (longest_hole old.lo old.hi (blocks old))) k e in absurd (omega (arith, none, less))
 
@@ -277,7 +278,7 @@ module _ (old : Heap) (is : IsHeap old) (id n : ℕ) (o : Object) (there : objec
   none_may false c k e may = zero_if (fits_in_place (snapshot_of old) n id || nat_le n (longest_hole old.lo old.hi (blocks old))) k e
 
   -- without a number there is no room, and with nothing moved none behind the object
-  no_place : (bytes : List ℕ) → o.bytes ≡ Some bytes → length bytes < n → (compact : Bool) → options.compact ≡ compact → by_way compact ≡ None → LacksRoom old (Some id) n options × (options.compact ≡ false → IsFreeBehind old id o n → ⊥)
+  no_place : (bytes : List ℕ) → o.bytes ≡ Some bytes → length bytes < n → (compact : Bool) → options.compact ≡ compact → by_way compact ≡ None → C.LacksRoom old (Some id) n options × (options.compact ≡ false → IsFreeBehind old id o n → ⊥)
   no_place bytes has long true c e = (lacking old is n (Some id) options options.compact options.discard refl refl e, λ f. absurd (false≢true (sym f ∙ c)))
   no_place bytes has long false c e =
       let none : (fits_in_place (snapshot_of old) n id ≡ false) × (none_discarded_if (nat_le n (longest_hole old.lo old.hi (blocks old))) ≡ None) = neither (fits_in_place (snapshot_of old) n id) (nat_le n (longest_hole old.lo old.hi (blocks old))) e in
@@ -286,7 +287,7 @@ module _ (old : Heap) (is : IsHeap old) (id n : ℕ) (o : Object) (there : objec
   -- a revival
   revived : Revives old id n o options answered new → ReallocatesFewest old id n o options answered new
   revived revives =
-      let a : AllocatesFewest old id n options answered new = allocation_law old new id n o.kind o.locks options answered is revives.allocated in
+      let a : C.AllocatesFewest old id n options answered new = allocation_law old new id n o.kind o.locks options answered is revives.allocated in
       record {
         fewest = a.fewest;
         without = λ said why. a.without said (may why);
@@ -333,7 +334,7 @@ module _ (old : Heap) (is : IsHeap old) (id n : ℕ) (o : Object) (there : objec
   asked_fewest false unsaid asks =
       let what : Asked = record { options = options; prefix = growth_for (snapshot_of old) n id options; becomes = IsGrown options.zero n o; order = λ _ order. order } in
       let r : (what.prefix ≡ None) × (new ≡ old) = not_asked old id what new asks.request in
-      let lacks : LacksRoom old (Some id) n options × (options.compact ≡ false → IsFreeBehind old id o n → ⊥) = no_place asks.bytes asks.has asks.long options.compact refl r.0 in
+      let lacks : C.LacksRoom old (Some id) n options × (options.compact ≡ false → IsFreeBehind old id o n → ⊥) = no_place asks.bytes asks.has asks.long options.compact refl r.0 in
       record {
         fewest = λ said. absurd (false≢true said);
         without = λ said _. absurd (false≢true said);
@@ -360,5 +361,5 @@ module _ (old : Heap) (is : IsHeap old) (id n : ℕ) (o : Object) (there : objec
       of_answer : (b : Bool) → answered ≡ b → Asks old id n o options answered new → ReallocatesFewest old id n o options answered new
       of_answer b e asks = subst (λ a. ReallocatesFewest old id n o options a new) (sym e) (asked_fewest b e (subst (λ a. Asks old id n o options a new) e asks))
 
-pub fewest_law : FewestLaw
+pub fewest_law : C.FewestLaw
 fewest_law old new id n options answered is step = by_case old new id n options answered (λ o. ReallocatesFewest old id n o options answered new) (λ o there c. reallocates_fewest old is id n o there options answered new c) step

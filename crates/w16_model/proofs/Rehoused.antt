@@ -1,13 +1,14 @@
 -- An object under another slot: the heap is one still.
+use Rattle.w16_model.proofs
+use proofs.Gaps as M
 use Rattle.std.specs.List.{AllByRecursion as Each}
-use Rattle.w16_model.proofs.Common.{◌≡◌, ◌≢◌, ℕ, ◌*◌, ◌<◌, ◌≤◌, inl, inr, false, cond, not, ◌||◌, ◌==◌, if◌then◌else◌, IfSome, List, [], ◌∷◌, map, All, Option, Some, None, is_some, unwrap_or, refl, sym, ap}
-use Rattle.w16_model.proofs.Common.{◌∙◌, subst, eq-eqb, ne_eqb, nat_cmp, FinMap, false≢true, cases_eq, Block, block_end, is_member, Heap, IsHeap, IsCounted, blocks, object_at, is_in_order, without, rekeyed}
+use proofs.Common.{◌≡◌, ◌≢◌, ℕ, ◌*◌, ◌<◌, ◌≤◌, inl, inr, false, cond, not, ◌||◌, ◌==◌, if◌then◌else◌, IfSome, List, [], ◌∷◌, map, All, Option, Some, None, is_some, unwrap_or, refl, sym, ap, ◌∙◌, subst, eq-eqb, ne_eqb, nat_cmp, FinMap, false≢true, cases_eq, Block, block_end, is_member}
+use proofs.Common.{Heap, IsHeap, IsCounted, blocks, object_at, is_in_order, without, rekeyed}
+use proofs.Heaps.{IsBlockOf, block_member, member_block}
+use proofs.Discards.{true-is_member}
+use proofs.KeptHeaps.{bytes_in, inserted_here, inserted_other, taken_here, taken_other}
+use proofs.Places.{placed_from, two_placed, same_id}
 use Rattle.std.specs.FinMap as finmap
-use Rattle.w16_model.proofs.Gaps.{EachPair, Each-at, Each-from, Each-from_All, All-from_Each, EachPair-from_AllPairs, AllPairs-from_EachPair}
-use Rattle.w16_model.proofs.Heaps.{IsBlockOf, block_member, member_block}
-use Rattle.w16_model.proofs.Discards.{true-is_member}
-use Rattle.w16_model.proofs.KeptHeaps.{bytes_in, inserted_here, inserted_other, taken_here, taken_other}
-use Rattle.w16_model.proofs.Places.{placed_from, two_placed, same_id}
 
 module _ (from to : ℕ) (another : from ≢ to) where
   -- the slots with these two changed for each other, and the new slot in place of the old one
@@ -105,7 +106,7 @@ module _ (from to : ℕ) (another : from ≢ to) where
   each_moved q out [] h d = tt
   each_moved q out (r ∷ ids) h d = (one_moved q r out h.0 d.0, each_moved q out ids h.1 d.1)
 
-  pairs_moved : (ids : List ℕ) → Each (λ q. q ≢ to) ids → EachPair (λ a b. a ≡ b → ⊥) ids → EachPair (λ a b. a ≡ b → ⊥) (map moved ids)
+  pairs_moved : (ids : List ℕ) → Each (λ q. q ≢ to) ids → M.EachPair (λ a b. a ≡ b → ⊥) ids → M.EachPair (λ a b. a ≡ b → ⊥) (map moved ids)
   pairs_moved [] h d = tt
   pairs_moved (q ∷ ids) h d = (each_moved q h.0 ids h.1 d.0, pairs_moved ids h.1 d.1)
 
@@ -119,7 +120,7 @@ module _ (from to : ℕ) (another : from ≢ to) where
         turn (Some at) e t = absurd (false≢true (sym t))
 
     out_of_order : Each (λ q. q ≢ to) old.order
-    out_of_order = Each-from (λ q. q ≢ to) old.order (λ q m e. false≢true (sym (is.in_order to ∙ ap is_in_order free) ∙ ap (λ k. is_member k old.order) (sym e) ∙ true-is_member q old.order m))
+    out_of_order = M.Each-from (λ q. q ≢ to) old.order (λ q m e. false≢true (sym (is.in_order to ∙ ap is_in_order free) ∙ ap (λ k. is_member k old.order) (sym e) ∙ true-is_member q old.order m))
 
     abbrev pub new : Heap
     new = record old { objects = rekeyed old.objects from to; places = rekeyed old.places from to; order = map moved old.order }
@@ -151,15 +152,15 @@ module _ (from to : ℕ) (another : from ≢ to) where
     pub rehoused_heap : IsHeap new
     rehoused_heap = record {
       placed = placed_from new
-          (λ x b. Each-at (λ y. (old.lo ≤ y.at) × (0 < y.size) × (block_end y ≤ old.hi)) (blocks old) (Each-from_All _ (blocks old) is.placed.inside) (record x { id = swap x.id }) (block_member old (record x { id = swap x.id }) (was_block x b)))
+          (λ x b. M.Each-at (λ y. (old.lo ≤ y.at) × (0 < y.size) × (block_end y ≤ old.hi)) (blocks old) (M.Each-from_All _ (blocks old) is.placed.inside) (record x { id = swap x.id }) (block_member old (record x { id = swap x.id }) (was_block x b)))
           (λ x y b c d. two_placed old is (record x { id = swap x.id }) (record y { id = swap y.id }) (was_block x b) (was_block y c)
           (λ e. d (same_id new x y b c (one_id x y (ap (λ (z : Block). z.id) e)))));
-      grained = All-from_Each _ (blocks new) (Each-from (λ x. ((n : ℕ) × (x.at ≡ old.grain * n)) × ((n : ℕ) × (x.size ≡ old.grain * n))) (blocks new) (λ x m.
-          Each-at (λ y. ((n : ℕ) × (y.at ≡ old.grain * n)) × ((n : ℕ) × (y.size ≡ old.grain * n))) (blocks old) (Each-from_All _ (blocks old) is.grained) (record x { id = swap x.id }) (block_member old (record x { id = swap x.id }) (was_block x (member_block new x m)))));
+      grained = M.All-from_Each _ (blocks new) (M.Each-from (λ x. ((n : ℕ) × (x.at ≡ old.grain * n)) × ((n : ℕ) × (x.size ≡ old.grain * n))) (blocks new) (λ x m.
+          M.Each-at (λ y. ((n : ℕ) × (y.at ≡ old.grain * n)) × ((n : ℕ) × (y.size ≡ old.grain * n))) (blocks old) (M.Each-from_All _ (blocks old) is.grained) (record x { id = swap x.id }) (block_member old (record x { id = swap x.id }) (was_block x (member_block new x m)))));
       low_grained = is.low_grained;
       at_bytes = λ q. ap is_some (place_there q) ∙ is.at_bytes (swap q) ∙ ap (λ p. is_some (bytes_in p)) (sym (object_there q));
       are_bytes = λ q. subst (λ p. IfSome (bytes_in p) (All (λ b. b < 256))) (sym (object_there q)) (is.are_bytes (swap q));
       in_order = λ q. member_moved old.order out_of_order q ∙ is.in_order (swap q) ∙ ap is_in_order (sym (object_there q));
-      no_repeats = AllPairs-from_EachPair (λ a b. a ≡ b → ⊥) (map moved old.order) (pairs_moved old.order out_of_order (EachPair-from_AllPairs (λ a b. a ≡ b → ⊥) old.order is.no_repeats));
+      no_repeats = M.AllPairs-from_EachPair (λ a b. a ≡ b → ⊥) (map moved old.order) (pairs_moved old.order out_of_order (M.EachPair-from_AllPairs (λ a b. a ≡ b → ⊥) old.order is.no_repeats));
       counted = λ q. subst (λ p. IfSome p IsCounted) (sym (object_there q)) (is.counted (swap q));
     }

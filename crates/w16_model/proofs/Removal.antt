@@ -1,8 +1,8 @@
 -- What more room there is where fewer loose blocks are counted.
+use Rattle.w16_model.proofs
 use Rattle.std.specs.List.{AllByRecursion as Each}
-use Rattle.w16_model.proofs.Common.{◌≡◌, ℕ, ◌-◌, ◌≤◌, min, Bool, true, false, cond, ◌&&◌, nat_le, IsTrue, List, [], ◌∷◌, map, filter, refl, sym, ap, ◌∙◌, subst, arith}
-use Rattle.w16_model.proofs.Common.{inl, inr, false≢true, cases_Bool, Block, is_pinned, is_loose, block_end, begins_in, first_from, loose_bytes, largest, room_from, room}
-use Rattle.w16_model.proofs.Longest.{sum_filter}
+use proofs.Common.{◌≡◌, ℕ, ◌-◌, ◌≤◌, min, Bool, true, false, cond, ◌&&◌, nat_le, IsTrue, List, [], ◌∷◌, map, filter, refl, sym, ap, ◌∙◌, subst, arith, inl, inr, false≢true, cases_Bool, Block, is_pinned, is_loose, block_end, begins_in, first_from, loose_bytes, largest, room_from, room}
+use proofs.Longest.{sum_filter}
 
 -- q keeps no block that p leaves out, and leaves out loose ones alone
 abbrev pub Fewer : (Block → Bool) → (Block → Bool) → Block → Type 0

@@ -1,11 +1,12 @@
 -- An object with another in its place, at the same address: the heap that this makes.
-use Rattle.w16_model.proofs.Common.{◌≡◌, ◌≢◌, ℕ, ◌+◌, ◌<◌, ◌≤◌, inl, inr, ⊎_elim, IfSome, List, length, AllPairs, Option, Some, is_some, unwrap_or, ◌&&◌, refl, sym, ap, ◌∙◌, subst}
-use Rattle.w16_model.proofs.Common.{cases_eq, Block, Misses, block_end, is_member, Heap, Object, IsHeap, IsCounted, IsMultiple, blocks, object_at, hold_of_object, is_in_order, is_discardable}
+use Rattle.w16_model.proofs
+use proofs.Common.{◌≡◌, ◌≢◌, ℕ, ◌+◌, ◌<◌, ◌≤◌, inl, inr, ⊎_elim, IfSome, List, length, AllPairs, Option, Some, is_some, unwrap_or, ◌&&◌, refl, sym, ap, ◌∙◌, subst, cases_eq, Block, Misses, block_end, is_member, Heap, Object, IsHeap, IsCounted, IsMultiple, blocks, object_at, hold_of_object}
+use proofs.Common.{is_in_order, is_discardable}
+use proofs.Gaps.{Member, Each-at, Each-from, Each-from_All, All-from_Each}
+use proofs.Heaps.{IsBlockOf, block_member, member_block}
+use proofs.Places.{placed_from, two_placed}
+use proofs.KeptHeaps.{inserted_here, inserted_other, bytes_in, AreBytes}
 use Rattle.std.specs.FinMap as finmap
-use Rattle.w16_model.proofs.Gaps.{Member, Each-at, Each-from, Each-from_All, All-from_Each}
-use Rattle.w16_model.proofs.Heaps.{IsBlockOf, block_member, member_block}
-use Rattle.w16_model.proofs.Places.{placed_from, two_placed}
-use Rattle.w16_model.proofs.KeptHeaps.{inserted_here, inserted_other, bytes_in, AreBytes}
 
 -- so many bytes at an address of a heap's may be an object's: they lie inside, in whole grains, apart from the blocks of the others
 pub record MayLie (heap : Heap) (id at n : ℕ) : Type 0 where

@@ -1,24 +1,19 @@
 -- Each call keeps what holds of handles; GlobalReAlloc leaves the heap where it is NULL, and discards as few as it can.
-use Rattle.w16_model.proofs.Common.{◌≡◌, ◌≢◌, ℕ, ◌/◌, ◌<◌, ◌≤◌, ◌⊎◌, inl, inr, Bool, true, false, ◌||◌, ◌==◌, nat_lt, MatchBool, MatchOption, IfOk, IfSome, IsSomeAnd, List, Option, Some, None, Result, Ok, Err, is_some, option_map, unwrap_or}
-use Rattle.w16_model.proofs.Common.{refl, sym, ap, ◌∙◌, subst, arith, ne_eqb, ltb-true, false≢true, cases_Bool, cases_eq, Kind, Fixed, Moveable, Discardable, Refusal, LARGEST_SIZE, REACH, GMEM_MODIFY, Heap, Object, IsHeap, object_at}
-use Rattle.w16_model.proofs.Common.{bytes_at, size_of, is_fixed, absent, newest, oldest, with_newest, AreNew, Reallocates, moved_bytes, stays_for, HandleLaw, Call, Outcome, Resized, attributes_asked, Calls, ReAllocs, IsSame, IsUnmoved}
-use Rattle.w16_model.proofs.Common.{IsLocked, IsUnlocked, IsFreed, IsNewest, IsOldest, IsEntered, IsAllocated, IsCompacted, IsModified, IsDiscarded, IsResized, after_modify, after_discard, Handles, AreHandles, IsSized, slots_at, slots_for}
-use Rattle.w16_model.proofs.Common.{slot_of_handle, handle_of, HandleCommand, Answer, GlobalCompacts, has_flag, rounded_size, kind_asked, alloc_options, Word, Dword, GlobalCompact, is_owned, ChangesKind, LacksPlace, ReallocatesFewest}
-use Rattle.w16_model.proofs.Common.{realloc_options, kind_modified, modified, IsNull, AnswersHandle, Empties, LacksRun, rehoused, Anew, ResizesObject, Resizes, ReAllocsOwn, GlobalReAllocs, ResizeLaw, NullLaw, ResizeFewestLaw, OneSlotLaw}
-use Rattle.w16_model.proofs.Common.{OldHandleLaw}
-use Rattle.w16_model.specs.Owned.{owned_at}
-use Rattle.w16_model.specs.declared.Owned.{Owned}
+use Rattle.w16_model.proofs
+use proofs.Common as C
+use proofs.KeptHandles as M
+use proofs.Common.{◌≡◌, ◌≢◌, ℕ, ◌/◌, ◌<◌, ◌≤◌, ◌⊎◌, inl, inr, Bool, true, false, ◌||◌, ◌==◌, MatchBool, IfOk, IsSomeAnd, List, Option, Some, None, Result, Ok, Err, is_some, refl, sym, ap, ◌∙◌, subst, arith, false≢true, cases_eq, Kind, Fixed, Moveable, Discardable, Refusal, LARGEST_SIZE}
+use proofs.Common.{REACH, GMEM_MODIFY, Heap, Object, IsHeap, object_at, is_fixed, absent, moved_bytes, Call, Resized, Calls, ReAllocs, after_modify, Handles, AreHandles, IsSized, slots_at, slots_for, slot_of_handle, handle_of, Answer, has_flag, rounded_size, Word, Dword, ChangesKind}
+use proofs.Common.{ReallocatesFewest, realloc_options, kind_modified, modified, IsNull, AnswersHandle, Empties, Anew, Resizes}
+use proofs.Housed.{stays, housed_old, anew_handles}
+use proofs.KeptHandles.{moved_handles, other_handles}
+use proofs.KeptHeaps.{bytes_in, newest_heap, oldest_heap, ordered}
+use proofs.CallOutcomes.{outcome, reallocates}
+use proofs.KindChanges.{kind_law, kind_heap_law, modify_none}
+use proofs.Absence.{absent_heap, discard_heap_law, discard_absent}
+use proofs.{Fewest.some_handle, Naming.names_law, Naming.slot_in_handle, Runs.some_slots, Reallocations.fewest_law}
+use Rattle.w16_model.specs.{Owned.owned_at, declared.Owned.Owned}
 use Rattle.w16_model.specs.declared.Refusal.TheVariants as refusals
-use Rattle.w16_model.proofs.Fewest.{some_handle}
-use Rattle.w16_model.proofs.Naming.{names_law, slot_in_handle}
-use Rattle.w16_model.proofs.Runs.{some_slots}
-use Rattle.w16_model.proofs.Housed.{stays, housed_old, anew_handles}
-use Rattle.w16_model.proofs.KeptHandles.{sized_is, absent_sized, moved_handles, other_handles, same_updated, with_new_object, with_absent_object, without_object, settled_handles, locked_kept, unlocked_kept, ordered_kept}
-use Rattle.w16_model.proofs.KeptHeaps.{bytes_in, newest_heap, oldest_heap, ordered}
-use Rattle.w16_model.proofs.CallOutcomes.{outcome, reallocates}
-use Rattle.w16_model.proofs.KindChanges.{kind_law, kind_heap_law, modify_none}
-use Rattle.w16_model.proofs.Absence.{absent_heap, discard_heap_law, discard_absent}
-use Rattle.w16_model.proofs.Reallocations.{fewest_law}
 
 -- The handles that are left.
 module _ (old : Handles) (is : AreHandles old) where
@@ -44,65 +39,65 @@ module _ (old : Handles) (is : AreHandles old) where
           let sound : IsHeap c.0 = subst (λ (r : Result Heap Refusal). IfOk r IsHeap) c.1 (kind_heap_law old.heap slot kind is.heap) in
           subst (λ (h : Heap). AreHandles (record old { heap = h })) (sym (ap (λ (r : Result Heap Refusal). elim r [ Ok new ↦ new | Err _ ↦ old.heap ]) c.1)) (kind_handles slot kind o c.0 there sound c.2)
 
-      turn : (p : Option Object) → object_at old.heap slot ≡ p → IfSome p (λ o.
+      turn : (p : Option Object) → object_at old.heap slot ≡ p → C.IfSome p (λ o.
           ((is_fixed o.kind || is_fixed kind) ≡ true → after_modify old.heap slot kind ≡ Err refusals.Fixed)
           × ((is_fixed o.kind || is_fixed kind) ≡ false → (new : Heap) × (after_modify old.heap slot kind ≡ Ok new) × ChangesKind old.heap slot o kind new)) → AreHandles (record old { heap = modified old.heap slot kind })
       turn None there law = refused refusals.Absent (modify_none old.heap slot kind there)
-      turn (Some o) there law = elim (cases_Bool (is_fixed o.kind || is_fixed kind)) [ inl t ↦ refused refusals.Fixed (law.0 t) | inr f ↦ changed o there (law.1 f) ]
+      turn (Some o) there law = elim (C.cases_Bool (is_fixed o.kind || is_fixed kind)) [ inl t ↦ refused refusals.Fixed (law.0 t) | inr f ↦ changed o there (law.1 f) ]
 
   -- a discard
   absent_handles : (slot : ℕ) (o : Object) → object_at old.heap slot ≡ Some o → o.locks ≡ 0 → AreHandles (record old { heap = absent old.heap slot })
   absent_handles slot o there unlocked = other_handles old is (absent old.heap slot) (absent_heap old.heap is.heap slot o there unlocked) refl refl
-      (λ q. same_updated old.heap.objects slot (λ (o : Object). record o { bytes = None }) q) (λ q. absent_sized old.heap slot q (slots_at old.attributes q) (is.sized q))
+      (λ q. M.same_updated old.heap.objects slot (λ (o : Object). record o { bytes = None }) q) (λ q. M.absent_sized old.heap slot q (slots_at old.attributes q) (is.sized q))
 
-  pub discarded_handles : (slot : ℕ) (heap : Heap) → after_discard old.heap slot ≡ Ok heap → AreHandles (record old { heap = heap })
+  pub discarded_handles : (slot : ℕ) (heap : Heap) → C.after_discard old.heap slot ≡ Ok heap → AreHandles (record old { heap = heap })
   discarded_handles slot heap done =
       let same : heap ≡ absent old.heap slot = discard_absent old.heap heap slot done in
       let sound : IsHeap heap = subst (λ (r : Result Heap Refusal). IfOk r IsHeap) done (discard_heap_law old.heap slot is.heap) in
       other_handles old is heap sound (ap (λ (h : Heap). h.lo) same) (ap (λ (h : Heap). h.grain) same)
-      (λ q. ap (λ (h : Heap). is_some (object_at h q)) same ∙ same_updated old.heap.objects slot (λ (o : Object). record o { bytes = None }) q)
-      (λ q. sized_is refl (ap (λ (h : Heap). bytes_at h q) same) (absent_sized old.heap slot q (slots_at old.attributes q) (is.sized q)))
+      (λ q. ap (λ (h : Heap). is_some (object_at h q)) same ∙ M.same_updated old.heap.objects slot (λ (o : Object). record o { bytes = None }) q)
+      (λ q. M.sized_is refl (ap (λ (h : Heap). C.bytes_at h q) same) (M.absent_sized old.heap slot q (slots_at old.attributes q) (is.sized q)))
 
 -- a new object has as many slots as it needs
-new_sized : (zeroed : Bool) (n : ℕ) (b : Option (List ℕ)) → IsSomeAnd b (AreNew zeroed n) → IsSized (slots_for n) b
+new_sized : (zeroed : Bool) (n : ℕ) (b : Option (List ℕ)) → IsSomeAnd b (C.AreNew zeroed n) → IsSized (slots_for n) b
 new_sized zeroed n None h = tt
 new_sized zeroed n (Some bytes) h = ap slots_for (sym h.0)
 
 -- what is not owned has no size of its own
-none_owned : (p : Option Owned) (n : ℕ) → is_some p ≡ false → IfSome p (λ (owned : Owned). owned.size ≡ n)
+none_owned : (p : Option Owned) (n : ℕ) → is_some p ≡ false → C.IfSome p (λ (owned : Owned). owned.size ≡ n)
 none_owned None n e = tt
 none_owned (Some owned) n e = absurd (false≢true (sym e))
 
 -- Each call keeps what holds of handles.
-pub kept_by : (old new : Handles) (call : Call) (answer : Answer) → AreHandles old → Outcome old call answer new → AreHandles new
-kept_by old new call answer is (IsSame s e) = subst AreHandles (sym e) is
-kept_by old new call answer is (IsUnmoved s e) = subst AreHandles (sym e) (moved_handles old is 0)
-kept_by old new call answer is (IsLocked l) = subst AreHandles (sym l.rest) (locked_kept old is l.slot _ (l.object, l.named.there, l.has, l.loose, l.some, refl))
-kept_by old new call answer is (IsUnlocked u) = subst AreHandles (sym u.rest) (unlocked_kept old is u.slot _ (inr (u.object, u.named.there, u.loose, refl)))
-kept_by old new call answer is (IsFreed f) = subst AreHandles (sym f.rest) (without_object old is f.slot)
-kept_by old new call answer is (IsNewest n) = subst AreHandles (sym n.rest) (ordered_kept old is (newest n.slot old.heap.order) (newest_heap old.heap is.heap n.slot (ordered old.heap is.heap n.slot n.may)))
-kept_by old new call answer is (IsOldest n) = subst AreHandles (sym n.rest) (ordered_kept old is (oldest n.slot old.heap.order) (oldest_heap old.heap is.heap n.slot (ordered old.heap is.heap n.slot n.may)))
-kept_by old new call answer is (IsEntered e) = subst AreHandles (sym e.rest) (moved_handles _ (with_absent_object old is (attributes_asked e.flags e.size) e.slot (kind_asked e.flags) new.heap (some_slots (rounded_size e.size)) tt e.free e.entered) (moved_bytes old.heap new.heap))
-kept_by old new call answer is (IsAllocated a) = subst AreHandles (sym a.rest)
-    (moved_handles _ (with_new_object old is (attributes_asked a.flags a.size) a.slot a.count a.object
-    (with_newest a.slot a.object) (stays_for a.slot (alloc_options a.flags)) new.heap
-    (some_slots (rounded_size a.size)) tt a.free (new_sized (alloc_options a.flags).zero (rounded_size a.size)
+pub kept_by : (old new : Handles) (call : Call) (answer : Answer) → AreHandles old → C.Outcome old call answer new → AreHandles new
+kept_by old new call answer is (C.IsSame s e) = subst AreHandles (sym e) is
+kept_by old new call answer is (C.IsUnmoved s e) = subst AreHandles (sym e) (moved_handles old is 0)
+kept_by old new call answer is (C.IsLocked l) = subst AreHandles (sym l.rest) (M.locked_kept old is l.slot _ (l.object, l.named.there, l.has, l.loose, l.some, refl))
+kept_by old new call answer is (C.IsUnlocked u) = subst AreHandles (sym u.rest) (M.unlocked_kept old is u.slot _ (inr (u.object, u.named.there, u.loose, refl)))
+kept_by old new call answer is (C.IsFreed f) = subst AreHandles (sym f.rest) (M.without_object old is f.slot)
+kept_by old new call answer is (C.IsNewest n) = subst AreHandles (sym n.rest) (M.ordered_kept old is (C.newest n.slot old.heap.order) (newest_heap old.heap is.heap n.slot (ordered old.heap is.heap n.slot n.may)))
+kept_by old new call answer is (C.IsOldest n) = subst AreHandles (sym n.rest) (M.ordered_kept old is (C.oldest n.slot old.heap.order) (oldest_heap old.heap is.heap n.slot (ordered old.heap is.heap n.slot n.may)))
+kept_by old new call answer is (C.IsEntered e) = subst AreHandles (sym e.rest) (moved_handles _ (M.with_absent_object old is (C.attributes_asked e.flags e.size) e.slot (C.kind_asked e.flags) new.heap (some_slots (rounded_size e.size)) tt e.free e.entered) (moved_bytes old.heap new.heap))
+kept_by old new call answer is (C.IsAllocated a) = subst AreHandles (sym a.rest)
+    (moved_handles _ (M.with_new_object old is (C.attributes_asked a.flags a.size) a.slot a.count a.object
+    (C.with_newest a.slot a.object) (C.stays_for a.slot (C.alloc_options a.flags)) new.heap
+    (some_slots (rounded_size a.size)) tt a.free (new_sized (C.alloc_options a.flags).zero (rounded_size a.size)
     a.object.bytes a.is_new.new_bytes) a.settled) (moved_bytes old.heap new.heap))
-kept_by old new call answer is (IsCompacted c) = subst AreHandles (sym c.rest) (moved_handles _ (settled_handles old is c.count new.heap c.settled) (moved_bytes old.heap new.heap))
-kept_by old new call answer is (IsModified m) = subst AreHandles (sym m.rest) (moved_handles _
+kept_by old new call answer is (C.IsCompacted c) = subst AreHandles (sym c.rest) (moved_handles _ (M.settled_handles old is c.count new.heap c.settled) (moved_bytes old.heap new.heap))
+kept_by old new call answer is (C.IsModified m) = subst AreHandles (sym m.rest) (moved_handles _
     (kind_handles old is m.slot (kind_modified m.flags) m.object new.heap m.named.there (subst (λ (r : Result Heap Refusal). IfOk r IsHeap) m.modified (kind_heap_law old.heap m.slot (kind_modified m.flags) is.heap)) m.changes) (moved_bytes old.heap new.heap))
-kept_by old new call answer is (IsDiscarded d) = subst AreHandles (sym d.rest) (moved_handles _ (absent_handles old is d.slot d.object d.named.there d.unlocked) (moved_bytes old.heap (absent old.heap d.slot)))
-kept_by old new call answer is (IsResized r) = subst AreHandles (sym r.rest) (moved_handles _ (anew_handles old is r.slot (rounded_size r.size) (realloc_options r.flags) r.object r.named.there r.first r.gets r.heap r.resized
-    (none_owned (owned_at old r.slot) _ (sym (ap (λ p. unwrap_or (option_map (is_owned old) p) false) r.named.found) ∙ r.own))) (moved_bytes old.heap r.heap))
+kept_by old new call answer is (C.IsDiscarded d) = subst AreHandles (sym d.rest) (moved_handles _ (absent_handles old is d.slot d.object d.named.there d.unlocked) (moved_bytes old.heap (absent old.heap d.slot)))
+kept_by old new call answer is (C.IsResized r) = subst AreHandles (sym r.rest) (moved_handles _ (anew_handles old is r.slot (rounded_size r.size) (realloc_options r.flags) r.object r.named.there r.first r.gets r.heap r.resized
+    (none_owned (owned_at old r.slot) _ (sym (ap (λ p. C.unwrap_or (C.option_map (C.is_owned old) p) false) r.named.found) ∙ r.own))) (moved_bytes old.heap r.heap))
 
-pub handle_law : HandleLaw
+pub handle_law : C.HandleLaw
 handle_law old new command answer is step = kept_by old new (Calls command) answer is (outcome old new (Calls command) answer is step)
 
-pub resize_law : ResizeLaw
+pub resize_law : C.ResizeLaw
 resize_law old new handle size flags answer is step = kept_by old new (ReAllocs handle size flags) (Word answer) is (outcome old new (ReAllocs handle size flags) (Word answer) is step)
 
-pub compacted_handles : (old : Handles) → AreHandles old → (size answer : ℕ) (new : Handles) → GlobalCompacts old size answer new → AreHandles new
-compacted_handles old is size answer new step = handle_law old new (GlobalCompact size) (Dword answer) is step
+pub compacted_handles : (old : Handles) → AreHandles old → (size answer : ℕ) (new : Handles) → C.GlobalCompacts old size answer new → AreHandles new
+compacted_handles old is size answer new step = handle_law old new (C.GlobalCompact size) (Dword answer) is step
 
 pub found_some : (old : Handles) (handle slot : ℕ) → slot_of_handle old handle ≡ Some slot → handle ≢ 0
 found_some old handle slot found none = turn (object_at old.heap slot) ((names_law old handle slot).0.0 found)
@@ -115,42 +110,42 @@ found_some old handle slot found none = turn (object_at old.heap slot) ((names_l
 null_heap : (old new : Handles) (answer : ℕ) → IsNull old answer new → new.heap ≡ old.heap
 null_heap old new answer null = ap (λ (h : Handles). h.heap) null.1
 
-pub null_law : NullLaw
+pub null_law : C.NullLaw
 null_law old new handle size flags is step = turn (outcome old new (ReAllocs handle size flags) (Word 0) is step)
   where
-    other : (command : HandleCommand) → ReAllocs handle size flags ≡ Calls command → ⊥
+    other : (command : C.HandleCommand) → ReAllocs handle size flags ≡ Calls command → ⊥
     other command e = cc
 
     -- an answered one gives a handle
     never : (named slot : ℕ) → slot_of_handle old named ≡ Some slot → ◌≡◌ {A = Answer} (Word 0) (Word named) → new.heap ≡ old.heap
     never named slot found says = let none : 0 ≡ named = cc in absurd (found_some old named slot found (sym none))
 
-    turn : Outcome old (ReAllocs handle size flags) (Word 0) new → new.heap ≡ old.heap
-    turn (IsSame s e) = ap (λ (h : Handles). h.heap) e
-    turn (IsUnmoved s e) = ap (λ (h : Handles). h.heap) e
-    turn (IsModified m) = never m.handle m.slot m.named.found m.answered
-    turn (IsDiscarded d) = never d.handle d.slot d.named.found d.answered
-    turn (IsResized r) = let none : 0 ≡ handle_of r.object.kind r.first = (let e = r.answered in cc) in absurd (some_handle r.object.kind r.first (sym none))
-    turn (IsLocked l) = absurd (other _ l.asked)
-    turn (IsUnlocked u) = absurd (other _ u.asked)
-    turn (IsFreed f) = absurd (other _ f.asked)
-    turn (IsNewest n) = absurd (other _ n.asked)
-    turn (IsOldest n) = absurd (other _ n.asked)
-    turn (IsEntered e) = absurd (other _ e.asked)
-    turn (IsAllocated a) = absurd (other _ a.asked)
-    turn (IsCompacted c) = absurd (other _ c.asked)
+    turn : C.Outcome old (ReAllocs handle size flags) (Word 0) new → new.heap ≡ old.heap
+    turn (C.IsSame s e) = ap (λ (h : Handles). h.heap) e
+    turn (C.IsUnmoved s e) = ap (λ (h : Handles). h.heap) e
+    turn (C.IsModified m) = never m.handle m.slot m.named.found m.answered
+    turn (C.IsDiscarded d) = never d.handle d.slot d.named.found d.answered
+    turn (C.IsResized r) = let none : 0 ≡ handle_of r.object.kind r.first = (let e = r.answered in cc) in absurd (some_handle r.object.kind r.first (sym none))
+    turn (C.IsLocked l) = absurd (other _ l.asked)
+    turn (C.IsUnlocked u) = absurd (other _ u.asked)
+    turn (C.IsFreed f) = absurd (other _ f.asked)
+    turn (C.IsNewest n) = absurd (other _ n.asked)
+    turn (C.IsOldest n) = absurd (other _ n.asked)
+    turn (C.IsEntered e) = absurd (other _ e.asked)
+    turn (C.IsAllocated a) = absurd (other _ a.asked)
+    turn (C.IsCompacted c) = absurd (other _ c.asked)
 
 -- Fewest discards.
 module _ (old new : Handles) (is : AreHandles old) (handle size flags answer slot : ℕ) where
   abbrev Fewest : Object → Type 0
-  Fewest o = (answer ≢ 0 → (first : ℕ) × (heap : Heap) × (answer ≡ handle_of o.kind first) × (new.heap ≡ rehoused heap slot first) × ReallocatesFewest old.heap slot (rounded_size size) o (realloc_options flags) true heap)
-      × (answer ≡ 0 → (LacksRun old slot o (realloc_options flags) (slots_for (rounded_size size))
-      ⊎ ((size_of o < rounded_size size) × LacksPlace old.heap slot (rounded_size size) o (realloc_options flags))) × (new.heap ≡ old.heap))
+  Fewest o = (answer ≢ 0 → (first : ℕ) × (heap : Heap) × (answer ≡ handle_of o.kind first) × (new.heap ≡ C.rehoused heap slot first) × ReallocatesFewest old.heap slot (rounded_size size) o (realloc_options flags) true heap)
+      × (answer ≡ 0 → (C.LacksRun old slot o (realloc_options flags) (slots_for (rounded_size size))
+      ⊎ ((C.size_of o < rounded_size size) × C.LacksPlace old.heap slot (rounded_size size) o (realloc_options flags))) × (new.heap ≡ old.heap))
 
   abbrev Few : Type 0
   Few = IsSomeAnd (object_at old.heap slot) Fewest
 
-  answered_fewest : (o : Object) → object_at old.heap slot ≡ Some o → (first : ℕ) (answered : Bool) (heap : Heap) → Reallocates old.heap slot (rounded_size size) (realloc_options flags) answered heap
+  answered_fewest : (o : Object) → object_at old.heap slot ≡ Some o → (first : ℕ) (answered : Bool) (heap : Heap) → C.Reallocates old.heap slot (rounded_size size) (realloc_options flags) answered heap
       → MatchBool answered (Anew old slot o.kind first (slots_for (rounded_size size)) heap answer new) (IsNull old answer new) → Fewest o
   answered_fewest o there first true heap r anew = (
     (λ _. (first, heap, anew.0, ap (λ (h : Handles). h.heap) anew.1, subst (λ p. IsSomeAnd p (λ o. ReallocatesFewest old.heap slot (rounded_size size) o (realloc_options flags) true heap)) there (fewest_law old.heap heap slot (rounded_size size) (realloc_options flags) true is.heap r))),
@@ -164,22 +159,22 @@ module _ (old new : Handles) (is : AreHandles old) (handle size flags answer slo
         (λ _. (inr ((f.refused refl).0, (f.refused refl).1), null_heap old new answer null)),
       )
 
-  object_fewest : (p : Option Object) → object_at old.heap slot ≡ p → IsSomeAnd p (ResizesObject old slot flags size answer new) → IsSomeAnd p Fewest
+  object_fewest : (p : Option Object) → object_at old.heap slot ≡ p → IsSomeAnd p (C.ResizesObject old slot flags size answer new) → IsSomeAnd p Fewest
   object_fewest None there g = absurd g
   object_fewest (Some o) there (inl g) = ((λ some. absurd (some g.1.0)), (λ _. (inl g.0, null_heap old new answer g.1)))
   object_fewest (Some o) there (inr g) = answered_fewest o there g.0 g.2 g.3 g.4 g.5
 
-pub resize_fewest_law : ResizeFewestLaw
+pub resize_fewest_law : C.ResizeFewestLaw
 resize_fewest_law old new handle size flags answer is step slot found free same some small = turn (slot_of_handle old handle) found
-    (subst (λ b. MatchBool b (IsNull old answer new) (ReAllocsOwn old handle size flags answer new)) (ap (λ p. unwrap_or (option_map (is_owned old) p) false) found ∙ free) step)
+    (subst (λ b. MatchBool b (IsNull old answer new) (C.ReAllocsOwn old handle size flags answer new)) (ap (λ p. C.unwrap_or (C.option_map (C.is_owned old) p) false) found ∙ free) step)
   where
-    resizes : (long : Bool) → nat_lt LARGEST_SIZE size ≡ long → MatchBool long (IsNull old answer new) (IsSomeAnd (object_at old.heap slot) (ResizesObject old slot flags size answer new)) → Few old new is handle size flags answer slot
-    resizes true long g = let over : LARGEST_SIZE < size = ltb-true LARGEST_SIZE size long in absurd (omega (arith, over, small))
+    resizes : (long : Bool) → C.nat_lt LARGEST_SIZE size ≡ long → MatchBool long (IsNull old answer new) (IsSomeAnd (object_at old.heap slot) (C.ResizesObject old slot flags size answer new)) → Few old new is handle size flags answer slot
+    resizes true long g = let over : LARGEST_SIZE < size = C.ltb-true LARGEST_SIZE size long in absurd (omega (arith, over, small))
     resizes false long g = object_fewest old new is handle size flags answer slot (object_at old.heap slot) refl g
 
     sized : (none : Bool) → (size == 0) ≡ none → MatchBool none (Empties old handle slot flags answer new) (Resizes old slot flags size answer new) → Few old new is handle size flags answer slot
-    sized true none g = absurd (false≢true (sym (ne_eqb size 0 (λ e. absurd (omega (arith, e, some)))) ∙ none))
-    sized false none g = resizes (nat_lt LARGEST_SIZE size) refl g
+    sized true none g = absurd (false≢true (sym (C.ne_eqb size 0 (λ e. absurd (omega (arith, e, some)))) ∙ none))
+    sized false none g = resizes (C.nat_lt LARGEST_SIZE size) refl g
 
     modifies : (m : Bool) → has_flag flags GMEM_MODIFY ≡ m → MatchBool m
         (AnswersHandle old handle (modified old.heap slot (kind_modified flags)) answer new)
@@ -188,13 +183,13 @@ resize_fewest_law old new handle size flags answer is step slot found free same 
     modifies true m g = absurd (false≢true (sym same ∙ m))
     modifies false m g = sized (size == 0) refl g
 
-    turn : (p : Option ℕ) → p ≡ Some slot → MatchOption p (IsNull old answer new)
+    turn : (p : Option ℕ) → p ≡ Some slot → C.MatchOption p (IsNull old answer new)
         (λ slot. MatchBool (has_flag flags GMEM_MODIFY) (AnswersHandle old handle
         (modified old.heap slot (kind_modified flags)) answer new)
         (MatchBool (size == 0) (Empties old handle slot flags answer new) (Resizes old slot flags size answer new))) →
         Few old new is handle size flags answer slot
     turn p e g = modifies (has_flag flags GMEM_MODIFY) refl
-        (subst (λ (p : Option ℕ). MatchOption p (IsNull old answer new)
+        (subst (λ (p : Option ℕ). C.MatchOption p (IsNull old answer new)
         (λ slot. MatchBool (has_flag flags GMEM_MODIFY) (AnswersHandle old handle
         (modified old.heap slot (kind_modified flags)) answer new)
         (MatchBool (size == 0) (Empties old handle slot flags answer new) (Resizes old slot flags size answer new)))) e g)
@@ -213,13 +208,13 @@ module _ (old new : Handles) (is : AreHandles old) (call : Call) (reply : Answer
   gone d = ap (λ (h : Handles). object_at h.heap r.slot) r.rest ∙ housed_old old is r.slot (rounded_size r.size) (realloc_options r.flags) r.object r.named.there r.first r.gets r.heap r.resized d
 
 -- a reallocation that answers is of its handle, or gives another size
-pub answered : (old new : Handles) (handle size flags answer : ℕ) → AreHandles old → GlobalReAllocs old handle size flags answer new → answer ≢ 0 → (answer ≡ handle) ⊎ Resized old (ReAllocs handle size flags) (Word answer) new
+pub answered : (old new : Handles) (handle size flags answer : ℕ) → AreHandles old → C.GlobalReAllocs old handle size flags answer new → answer ≢ 0 → (answer ≡ handle) ⊎ Resized old (ReAllocs handle size flags) (Word answer) new
 answered old new handle size flags answer is step some = elim (reallocates old (ReAllocs handle size flags) (Word answer) new is handle size flags answer refl refl step).1 [
   | inl none ↦ absurd (some none)
   | inr told ↦ told
 ]
 
-pub one_slot_law : OneSlotLaw
+pub one_slot_law : C.OneSlotLaw
 one_slot_law old new handle size flags answer is step few some = elim (answered old new handle size flags answer is step some) [
   | inl e ↦ e
   | inr r ↦ stays_named r
@@ -235,7 +230,7 @@ one_slot_law old new handle size flags answer is step few some = elim (answered 
           (sym (stays old is r.slot r.object r.named.there (rounded_size r.size) (realloc_options r.flags) r.first (subst (λ n. rounded_size n ≤ REACH) (sym size_is) few) r.gets)))
     ]
 
-pub old_handle_law : OldHandleLaw
+pub old_handle_law : C.OldHandleLaw
 old_handle_law old new handle size flags answer is step some d = elim (answered old new handle size flags answer is step some) [
   | inl e ↦ absurd (d e)
   | inr r ↦ is_bad r (slot_of_handle new handle) refl

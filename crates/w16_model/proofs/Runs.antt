@@ -1,14 +1,13 @@
 -- Runs of slots: whose a slot is, and what changes of attributes leave of runs.
-use Rattle.w16_model.proofs.Common.{◌≡◌, ◌≢◌, ℕ, ◌+◌, ◌-◌, ◌*◌, ◌/◌, ◌<◌, ◌≤◌, inl, inr, min, Bool, true, false, cond, if◌then◌else◌, ◌&&◌, ◌==◌, nat_le, nat_lt, IsTrue, IfSome, List, [], ◌∷◌, length, find, Option, Some, None, option_map, unwrap_or, is_some}
-use Rattle.w16_model.proofs.Common.{refl, sym, ap, ◌∙◌, subst, arith, eqb-true, leb-true, ltb-true, le-leb, lt-ltb, FinMap, nat_cmp, entries_sorted, get-entries, false≢true, cases_Bool, cases_eq, and_parts, Block, Attributes, FIRST_SLOT, REACH, Heap, Object}
-use Rattle.w16_model.proofs.Common.{IsHeap, blocks, bytes_at, object_at, hold_of_object, block_end, Handles, AreHandles, AreRuns, IsOwnedRun, IsRun, Part, IsSlot, IsFreeSlot, IsFreeRun, slots_at, has_slot, owner_of, slots_for, selector_of, reached, OwnerLaw}
-use Rattle.w16_model.proofs.Common.{ReachLaw}
+use Rattle.w16_model.proofs
+use proofs.Common as C
+use proofs.Common.{◌≡◌, ◌≢◌, ℕ, ◌+◌, ◌-◌, ◌*◌, ◌/◌, ◌<◌, ◌≤◌, inl, inr, min, Bool, true, false, cond, if◌then◌else◌, ◌&&◌, ◌==◌, nat_le, nat_lt, IsTrue, IfSome, List, [], ◌∷◌, length, find, Option, Some, None, option_map, unwrap_or, is_some, refl, sym, ap, ◌∙◌, subst, arith, ltb-true}
+use proofs.Common.{lt-ltb, FinMap, nat_cmp, false≢true, cases_Bool, cases_eq, Block, Attributes, FIRST_SLOT, REACH, Heap, bytes_at, object_at, Handles, AreRuns, IsRun, Part, IsFreeSlot, slots_at, has_slot, owner_of, slots_for, selector_of}
+use proofs.Gaps.{Member, Each-at, Each-from_All}
+use proofs.Heaps.{IsBlockOf, block_member, found_member, member_found, keys_rise}
+use proofs.KeptHeaps.{bytes_in, inserted_here, inserted_other, taken_here, taken_other}
+use Rattle.w16_model.specs.{Owned.owned_in, Owned.owned_at, declared.Owned.Owned}
 use Rattle.std.specs.FinMap as finmap
-use Rattle.w16_model.specs.Owned.{owned_in, owned_at}
-use Rattle.w16_model.specs.declared.Owned.{Owned}
-use Rattle.w16_model.proofs.Gaps.{Member, Each-at, Each-from_All}
-use Rattle.w16_model.proofs.Heaps.{IsBlockOf, block_member, found_member, member_found, keys_rise}
-use Rattle.w16_model.proofs.KeptHeaps.{bytes_in, inserted_here, inserted_other, taken_here, taken_other}
 
 -- The first of a list that passes a test.
 module _ {X : Type 0} (test : X → Bool) where
@@ -49,11 +48,11 @@ module _ (m : FinMap nat_cmp Attributes) where
   slots_none first e = ap (λ p. unwrap_or (option_map (λ (a : Attributes). a.slots) p) 0) e
 
   entry_is : (e : ℕ × Attributes) → Member e (finmap.entries m) → finmap.get m e.0 ≡ Some e.1
-  entry_is e n = get-entries m e.0 ∙ member_found (finmap.entries m) e.0 e.1 (keys_rise (finmap.entries m) (entries_sorted m)) n
+  entry_is e n = C.get-entries m e.0 ∙ member_found (finmap.entries m) e.0 e.1 (keys_rise (finmap.entries m) (C.entries_sorted m)) n
 
   passes : (slot first : ℕ) (a : Attributes) → finmap.get m first ≡ Some a → IsIn m slot first → has_slot slot (first, a) ≡ true
   passes slot first a there lies =
-      ap (λ b. b && nat_lt slot (first + a.slots)) (le-leb first slot lies.0)
+      ap (λ b. b && nat_lt slot (first + a.slots)) (C.le-leb first slot lies.0)
       ∙ lt-ltb slot (first + a.slots) (subst (λ n. slot < first + n) (slots_of first a there) lies.1)
 
   -- the owner's run has the slot
@@ -64,9 +63,9 @@ module _ (m : FinMap nat_cmp Attributes) where
       turn None f e = cc
       turn (Some d) f e =
           let r : Member d (finmap.entries m) × (has_slot slot d ≡ true) = found (has_slot slot) (finmap.entries m) d f in
-          let parts : IsTrue (nat_le d.0 slot) × IsTrue (nat_lt slot (d.0 + d.1.slots)) = and_parts (nat_le d.0 slot) (nat_lt slot (d.0 + d.1.slots)) r.1 in
+          let parts : IsTrue (nat_le d.0 slot) × IsTrue (nat_lt slot (d.0 + d.1.slots)) = C.and_parts (nat_le d.0 slot) (nat_lt slot (d.0 + d.1.slots)) r.1 in
           let same : d.0 ≡ first = cc in
-          subst (IsIn m slot) same (leb-true d.0 slot parts.0, subst (λ n. slot < d.0 + n) (sym (slots_of d.0 d.1 (entry_is d r.0))) (ltb-true slot (d.0 + d.1.slots) parts.1))
+          subst (IsIn m slot) same (C.leb-true d.0 slot parts.0, subst (λ n. slot < d.0 + n) (sym (slots_of d.0 d.1 (entry_is d r.0))) (ltb-true slot (d.0 + d.1.slots) parts.1))
 
   -- where a slot has no owner, it is in no run
   pub no_owner : (slot : ℕ) → owner_of m slot ≡ None → (first : ℕ) → IsIn m slot first → ⊥
@@ -79,13 +78,13 @@ module _ (m : FinMap nat_cmp Attributes) where
       turn : (p : Option Attributes) → finmap.get m first ≡ p → ⊥
       turn None there = let zero_slots : slots_at m first ≡ 0 = slots_none first there in omega (arith, lies.0, lies.1, zero_slots)
       turn (Some a) there = none_passes (has_slot slot) (finmap.entries m) (nothing (find (has_slot slot) (finmap.entries m)) none) (first, a)
-          (found_member (finmap.entries m) first a (sym (get-entries m first) ∙ there)) (passes slot first a there lies)
+          (found_member (finmap.entries m) first a (sym (C.get-entries m first) ∙ there)) (passes slot first a there lies)
 
   -- and where it is in none, it has none
   pub none_owns : (slot : ℕ) → ((first : ℕ) → IsIn m slot first → ⊥) → owner_of m slot ≡ None
   none_owns slot out = ap (option_map (λ (e : ℕ × Attributes). e.0)) (passes_none (has_slot slot) (finmap.entries m) (λ d n t.
-      let parts : IsTrue (nat_le d.0 slot) × IsTrue (nat_lt slot (d.0 + d.1.slots)) = and_parts (nat_le d.0 slot) (nat_lt slot (d.0 + d.1.slots)) t in
-      out d.0 (leb-true d.0 slot parts.0, subst (λ n. slot < d.0 + n) (sym (slots_of d.0 d.1 (entry_is d n))) (ltb-true slot (d.0 + d.1.slots) parts.1))))
+      let parts : IsTrue (nat_le d.0 slot) × IsTrue (nat_lt slot (d.0 + d.1.slots)) = C.and_parts (nat_le d.0 slot) (nat_lt slot (d.0 + d.1.slots)) t in
+      out d.0 (C.leb-true d.0 slot parts.0, subst (λ n. slot < d.0 + n) (sym (slots_of d.0 d.1 (entry_is d n))) (ltb-true slot (d.0 + d.1.slots) parts.1))))
 
   has_run : (first slot : ℕ) → IsIn m slot first → is_some (finmap.get m first) ≡ true
   has_run first slot lies = turn (finmap.get m first) refl
@@ -121,7 +120,7 @@ module _ (m : FinMap nat_cmp Attributes) where
       turn None e = absurd (no_owner slot e first lies)
       turn (Some q) e = e ∙ ap Some (one_owner slots are slot q first (owner_is slot q e) lies)
 
-pub owner_law : OwnerLaw
+pub owner_law : C.OwnerLaw
 owner_law handles slot first is = (owner_is handles.attributes slot first, is_owner handles.attributes handles.slots is.runs slot first)
 
 -- What changes.
@@ -194,7 +193,7 @@ module _ (slots : ℕ) (m : FinMap nat_cmp Attributes) (are : AreRuns slots m) w
   }
 
   -- a run more, of slots that have no owner
-  module _ (first : ℕ) (a : Attributes) (some : 0 < a.slots) (owned : IsOwnedRun a) (free : (k : ℕ) → k < a.slots → (FIRST_SLOT ≤ first + k) × (first + k < FIRST_SLOT + slots) × (owner_of m (first + k) ≡ None)) where
+  module _ (first : ℕ) (a : Attributes) (some : 0 < a.slots) (owned : C.IsOwnedRun a) (free : (k : ℕ) → k < a.slots → (FIRST_SLOT ≤ first + k) × (first + k < FIRST_SLOT + slots) × (owner_of m (first + k) ≡ None)) where
     begins : FIRST_SLOT ≤ first
     begins = let at : FIRST_SLOT ≤ first + 0 = (free 0 some).0 in omega (arith, at)
 
@@ -237,15 +236,15 @@ pub some_slots : (n : ℕ) → 0 < slots_for n
 some_slots n = omega arith
 
 -- a free slot is a run of one
-pub run_of_one : (old : Handles) (slot : ℕ) → IsFreeSlot old slot → IsFreeRun old slot 1
+pub run_of_one : (old : Handles) (slot : ℕ) → IsFreeSlot old slot → C.IsFreeRun old slot 1
 run_of_one old slot free k below = let at : slot ≡ slot + k = omega (arith, below) in subst (IsFreeSlot old) at free
 
-module _ (old : Handles) (is : AreHandles old) where
+module _ (old : Handles) (is : C.AreHandles old) where
   -- an object has a slot
-  pub numbered : (slot : ℕ) → is_some (object_at old.heap slot) ≡ true → IsSlot old slot
+  pub numbered : (slot : ℕ) → is_some (object_at old.heap slot) ≡ true → C.IsSlot old slot
   numbered slot there = turn (finmap.get old.attributes slot) (is.attributed slot ∙ there) (is.runs.each slot)
     where
-      turn : (p : Option Attributes) → is_some p ≡ true → IfSome p (IsRun old.slots slot) → IsSlot old slot
+      turn : (p : Option Attributes) → is_some p ≡ true → IfSome p (IsRun old.slots slot) → C.IsSlot old slot
       turn None t h = absurd (false≢true t)
       turn (Some a) t h = (h.1, omega (arith, h.0, h.2))
 
@@ -261,34 +260,34 @@ module _ (old : Handles) (is : AreHandles old) where
   pub unused_slot : (slot : ℕ) → IsFreeSlot old slot → object_at old.heap slot ≡ None
   unused_slot slot free = turn (object_at old.heap slot) refl
     where
-      turn : (p : Option Object) → object_at old.heap slot ≡ p → object_at old.heap slot ≡ None
+      turn : (p : Option C.Object) → object_at old.heap slot ≡ p → object_at old.heap slot ≡ None
       turn None e = e
       turn (Some o) e = absurd (false≢true (sym (ap is_some (unowned old.slots old.attributes is.runs slot free.1)) ∙ is.attributed slot ∙ ap is_some e))
 
   -- nor has the first of a free run
-  pub unused : (slot count : ℕ) → 0 < count → IsFreeRun old slot count → object_at old.heap slot ≡ None
+  pub unused : (slot count : ℕ) → 0 < count → C.IsFreeRun old slot count → object_at old.heap slot ≡ None
   unused slot count some free = unused_slot slot (let at : slot + 0 ≡ slot = omega arith in subst (IsFreeSlot old) at (free 0 some))
 
 -- What a selector reaches.
 
 -- an object with bytes has at least one
-pub some_bytes : (heap : Heap) → IsHeap heap → (id : ℕ) (bytes : List ℕ) → bytes_at heap id ≡ Some bytes → 0 < length bytes
+pub some_bytes : (heap : Heap) → C.IsHeap heap → (id : ℕ) (bytes : List ℕ) → bytes_at heap id ≡ Some bytes → 0 < length bytes
 some_bytes heap is id bytes e = turn (object_at heap id) refl e
   where
-    turn : (p : Option Object) → object_at heap id ≡ p → bytes_in p ≡ Some bytes → 0 < length bytes
+    turn : (p : Option C.Object) → object_at heap id ≡ p → bytes_in p ≡ Some bytes → 0 < length bytes
     turn None there h = cc
     turn (Some o) there h =
-        let x : Block = record { id = id; at = unwrap_or (finmap.get heap.places id) 0; size = length bytes; hold = hold_of_object o } in
+        let x : Block = record { id = id; at = unwrap_or (finmap.get heap.places id) 0; size = length bytes; hold = C.hold_of_object o } in
         let b : IsBlockOf heap x = record { object = o; bytes = bytes; is_there = there; has_bytes = h; place = refl; size = refl; hold = refl } in
-        (Each-at (λ y. (heap.lo ≤ y.at) × (0 < y.size) × (block_end y ≤ heap.hi)) (blocks heap) (Each-from_All _ (blocks heap) is.placed.inside) x (block_member heap x b)).1
+        (Each-at (λ y. (heap.lo ≤ y.at) × (0 < y.size) × (C.block_end y ≤ heap.hi)) (C.blocks heap) (Each-from_All _ (C.blocks heap) is.placed.inside) x (block_member heap x b)).1
 
 number_below : (number slots size : ℕ) → number < slots → slots ≡ slots_for size → 0 < size → (0 < min REACH (size - REACH * number)) × (REACH * number + min REACH (size - REACH * number) ≤ size)
 number_below number slots size below many some = grind arith
 
-module _ (handles : Handles) (is : AreHandles handles) (selector : ℕ) where
+module _ (handles : Handles) (is : C.AreHandles handles) (selector : ℕ) where
   abbrev Reaches : Part → Type 0
   Reaches p = (selector ≡ selector_of (p.slot + p.number)) × (p.number < slots_at handles.attributes p.slot)
-      × IfSome (bytes_at handles.heap p.slot) (λ bytes. (0 < reached (length bytes) p) × (REACH * p.number + reached (length bytes) p ≤ length bytes))
+      × IfSome (bytes_at handles.heap p.slot) (λ bytes. (0 < C.reached (length bytes) p) × (REACH * p.number + C.reached (length bytes) p ≤ length bytes))
 
   abbrev part_of : Option ℕ → Option Part
   part_of p = option_map (λ slot. record { slot = slot; number = selector / 8 - slot }) p
@@ -309,7 +308,7 @@ module _ (handles : Handles) (is : AreHandles handles) (selector : ℕ) where
 
   reaches : (b : Bool) → (selector == selector_of (selector / 8)) ≡ b → IfSome (if b then part_of (owner_of handles.attributes (selector / 8)) else None) Reaches
   reaches false t = tt
-  reaches true t = of_owner (eqb-true selector (selector_of (selector / 8)) t) (owner_of handles.attributes (selector / 8)) refl
+  reaches true t = of_owner (C.eqb-true selector (selector_of (selector / 8)) t) (owner_of handles.attributes (selector / 8)) refl
 
-pub reach_law : ReachLaw
+pub reach_law : C.ReachLaw
 reach_law handles selector is = reaches handles is selector (selector == selector_of (selector / 8)) refl

@@ -1,12 +1,9 @@
 -- What the selectors of an object say, by their number.
-use Rattle.w16_model.proofs.Common.{◌≡◌, ℕ, ◌+◌, ◌-◌, ◌*◌, ◌/◌, ◌<◌, ◌≤◌, ◌==◌, cond, min, List, length, Option, Some, None, option_map, unwrap_or, refl, sym, ap, ◌∙◌, arith, eq-eqb}
-use Rattle.w16_model.proofs.Common.{REACH, Object, object_at, Handles, AreHandles, slots_at, owner_of, handle_of, selector_of, bytes_at, Dword}
-use Rattle.std.specs.FinMap as finmap
+use Rattle.w16_model.proofs.Common.{◌≡◌, ℕ, ◌+◌, ◌-◌, ◌*◌, ◌/◌, ◌<◌, ◌≤◌, ◌==◌, cond, min, List, length, Option, Some, None, option_map, unwrap_or, refl, sym, ap, ◌∙◌, arith, eq-eqb, REACH, Object, object_at, Handles, AreHandles, slots_at, owner_of, handle_of, selector_of, bytes_at, Dword}
+use Rattle.w16_model.proofs.{KeptHeaps.bytes_in, Runs.is_owner}
 use Rattle.w16_model.specs.Handles.{Gives, Part, dword_of, part_of_selector, reached}
-use Rattle.w16_model.specs.Calls.{global_handle, selector_base, selector_limit}
-use Rattle.w16_model.specs.Law.{SelectorsLaw}
-use Rattle.w16_model.proofs.KeptHeaps.{bytes_in}
-use Rattle.w16_model.proofs.Runs.{is_owner}
+use Rattle.w16_model.specs.{Calls.global_handle, Calls.selector_base, Calls.selector_limit, Law.SelectorsLaw}
+use Rattle.std.specs.FinMap as finmap
 
 module _ (old : Handles) (is : AreHandles old) (slot k : ℕ) (below : k < slots_at old.attributes slot) where
   -- its number is back in it

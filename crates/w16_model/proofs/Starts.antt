@@ -1,9 +1,12 @@
 -- The places where a maximal interval may begin, and those where one does.
+use Rattle.w16_model.proofs
+use proofs.Common as C
+use proofs.Gaps as M
 use Rattle.std.specs.List.{AllByRecursion as Each}
-use Rattle.w16_model.proofs.Common.{◌≡◌, ℕ, ◌+◌, ◌-◌, ◌<◌, ◌≤◌, ◌↔◌, ◌⊎◌, inl, inr, ⊎_elim, Bool, true, false, cond, ◌&&◌, nat_le, nat_lt, IsTrue, List, [], ◌∷◌, map, filter, max, refl, sym, ap, ◌∙◌, subst, arith, ltb-true, lt-ltb, Contains}
-use Rattle.w16_model.proofs.Common.{cases_lt, suc, Block, Span, Misses, block_end, first_from, starts, spans_from, longest_hole, hole_after, is_any, is_pinned, ArePlaced, IsGapOf, IsHole, AreAllOf, GapListLaw, HoleIsLongest, HoleAfterLaw}
-use Rattle.w16_model.proofs.Gaps.{Each-of_map, Each-filter, Each-map, Each-at, Each-from, Each-from_All, All-from_Each, EachPair-from_AllPairs, Member, each_two, filter_member, last_to, last_to-above, last_to-start, first_from-below, largest_reached}
-use Rattle.w16_model.proofs.Maximal.{gap_around, gap_from}
+use proofs.Common.{◌≡◌, ℕ, ◌+◌, ◌-◌, ◌<◌, ◌≤◌, ◌↔◌, ◌⊎◌, inl, inr, ⊎_elim, Bool, true, false, cond, ◌&&◌, nat_lt, IsTrue, List, [], ◌∷◌, map, filter, max, refl, sym, ap, ◌∙◌, subst, arith, Contains, suc, Block, Span, block_end, first_from, starts, spans_from, longest_hole, hole_after}
+use proofs.Common.{is_any, IsGapOf, IsHole}
+use proofs.Gaps.{Each-at, Member, last_to}
+use proofs.Maximal.{gap_around, gap_from}
 
 pub member_map : {X Y : Type 0} (f : X → Y) (xs : List X) (x : X) → Member x xs → Member (f x) (map f xs)
 member_map f [] x m = absurd m
@@ -17,7 +20,7 @@ contains_member (y ∷ ys) x (inr m) = let at : Contains ys x = contains_member 
 
 module _ (test : Block → Bool) where
   last_turn : (lo : ℕ) (x : Block) (ys : List Block) (t u : Bool) (w : ℕ) → Member w (lo ∷ map block_end ys) → Member (cond (t && u) (max (block_end x) w) w) (lo ∷ map block_end (cond {A = List Block} t (x ∷ ys) ys))
-  last_turn lo x ys true true w m = elim (cases_lt (block_end x) w) [
+  last_turn lo x ys true true w m = elim (C.cases_lt (block_end x) w) [
     | inl l ↦ let same : max (block_end x) w ≡ w = omega arith in subst (λ v. Member v (lo ∷ block_end x ∷ map block_end ys)) (sym same) (elim m [ inl e ↦ inl e | inr n ↦ inr (inr n) ])
     | inr l ↦ let same : max (block_end x) w ≡ block_end x = omega arith in inr (inl same)
   ]
@@ -27,17 +30,17 @@ module _ (test : Block → Bool) where
   -- the last place where a block ends is one where an interval may begin
   last_member : (lo : ℕ) (xs : List Block) (p : ℕ) → Member (last_to test lo xs p) (starts test lo xs)
   last_member lo [] p = inl refl
-  last_member lo (x ∷ xs) p = last_turn lo x (filter test xs) (test x) (nat_le (block_end x) p) (last_to test lo xs p) (last_member lo xs p)
+  last_member lo (x ∷ xs) p = last_turn lo x (filter test xs) (test x) (C.nat_le (block_end x) p) (last_to test lo xs p) (last_member lo xs p)
 
-module _ (lo hi : ℕ) (xs : List Block) (placed : ArePlaced lo hi xs) where
+module _ (lo hi : ℕ) (xs : List Block) (placed : C.ArePlaced lo hi xs) where
   pub inside : (x : Block) → Member x xs → (lo ≤ x.at) × (0 < x.size) × (block_end x ≤ hi)
-  inside = Each-at _ xs (Each-from_All _ xs placed.inside)
+  inside = Each-at _ xs (M.Each-from_All _ xs placed.inside)
 
   pub sized : (x : Block) → Member x xs → 0 < x.size
   sized x m = (inside x m).1
 
-  pub two : (x y : Block) → Member x xs → Member y xs → (x ≡ y) ⊎ Misses x.at x.size y.at (block_end y)
-  two x y m n = Each-at _ xs (Each-at _ xs (each_two (λ x y. Misses x.at x.size y.at (block_end y)) (λ x y. ⊎_elim inr inl) xs (EachPair-from_AllPairs _ xs placed.apart)) y n) x m
+  pub two : (x y : Block) → Member x xs → Member y xs → (x ≡ y) ⊎ C.Misses x.at x.size y.at (block_end y)
+  two x y m n = Each-at _ xs (Each-at _ xs (M.each_two (λ x y. C.Misses x.at x.size y.at (block_end y)) (λ x y. ⊎_elim inr inl) xs (M.EachPair-from_AllPairs _ xs placed.apart)) y n) x m
 
   module _ (test : Block → Bool) where
     -- a place at or behind which each block begins or ends
@@ -47,7 +50,7 @@ module _ (lo hi : ℕ) (xs : List Block) (placed : ArePlaced lo hi xs) where
     pub end_begins : (y : Block) → Member y xs → IsTrue (test y) → MayBegin (block_end y)
     end_begins y n u = (
       (let i : (lo ≤ y.at) × (0 < y.size) × (block_end y ≤ hi) = inside y n in omega arith),
-      Each-at _ xs (last_to-above test lo xs (block_end y) (last_to test lo xs (block_end y)) (omega arith)).1 y n u (omega arith),
+      Each-at _ xs (M.last_to-above test lo xs (block_end y) (last_to test lo xs (block_end y)) (omega arith)).1 y n u (omega arith),
       λ x m t. elim (two x y m n) [
         | inl e ↦ inl (subst (λ (z : Block). block_end z ≤ block_end y) (sym e) (omega arith))
         | inr (inl f) ↦ inl (omega (arith, f))
@@ -57,14 +60,14 @@ module _ (lo hi : ℕ) (xs : List Block) (placed : ArePlaced lo hi xs) where
 
     pub begins : Each MayBegin (starts test lo xs)
     begins = (
-      (omega arith, (last_to-above test lo xs lo (last_to test lo xs lo) (omega arith)).0, λ x m t. inr (inside x m).0),
-      Each-of_map MayBegin block_end (filter test xs) (Each-filter (λ y. MayBegin (block_end y)) test xs (Each-from (λ y. IsTrue (test y) → MayBegin (block_end y)) xs end_begins)),
+      (omega arith, (M.last_to-above test lo xs lo (last_to test lo xs lo) (omega arith)).0, λ x m t. inr (inside x m).0),
+      M.Each-of_map MayBegin block_end (filter test xs) (M.Each-filter (λ y. MayBegin (block_end y)) test xs (M.Each-from (λ y. IsTrue (test y) → MayBegin (block_end y)) xs end_begins)),
     )
 
     -- where bytes follow before the next block, one begins
     pub gap_begins : (a : ℕ) → MayBegin a → a < first_from test hi xs a → IsGapOf test lo hi xs a (first_from test hi xs a)
     gap_begins a may some =
-        let to_e : (first_from test hi xs a ≤ hi) × Each (λ x. IsTrue (test x) → a ≤ x.at → first_from test hi xs a ≤ x.at) xs = first_from-below test hi xs a (first_from test hi xs a) (omega arith) in
+        let to_e : (first_from test hi xs a ≤ hi) × Each (λ x. IsTrue (test x) → a ≤ x.at → first_from test hi xs a ≤ x.at) xs = M.first_from-below test hi xs a (first_from test hi xs a) (omega arith) in
         gap_from test lo hi xs sized a some may.1 (λ x m t. elim (may.2 x m t) [ inl k ↦ inl k | inr k ↦ inr (omega (arith, Each-at _ xs to_e.1 x m t k, some)) ]) may.0
 
     -- a maximal interval begins where one may begin, and ends at the next block
@@ -78,28 +81,28 @@ module _ (lo hi : ℕ) (xs : List Block) (placed : ArePlaced lo hi xs) where
     abbrev span_at : ℕ → Span
     span_at a = record { from = a; to = first_from test hi xs a }
 
-    pub spans_are : AreAllOf test lo hi xs (spans_from test hi xs (starts test lo xs))
+    pub spans_are : C.AreAllOf test lo hi xs (spans_from test hi xs (starts test lo xs))
     spans_are = record {
       each = λ a b gap.
           let is : (last_to test lo xs a ≡ a) × (first_from test hi xs a ≡ b) = gap_is a b gap in
           let start : Member a (starts test lo xs) = subst (λ v. Member v (starts test lo xs)) is.0 (last_member test lo xs a) in
           let listed : Member (span_at a) (filter (λ (s : Span). nat_lt s.from s.to) (map span_at (starts test lo xs))) =
-          filter_member (λ (s : Span). nat_lt s.from s.to) (map span_at (starts test lo xs)) (span_at a) (member_map span_at (starts test lo xs) a start) (lt-ltb a (first_from test hi xs a) (omega (arith, gap.some, is.1))) in
+          M.filter_member (λ (s : Span). nat_lt s.from s.to) (map span_at (starts test lo xs)) (span_at a) (member_map span_at (starts test lo xs) a start) (C.lt-ltb a (first_from test hi xs a) (omega (arith, gap.some, is.1))) in
           subst (λ v. Contains (spans_from test hi xs (starts test lo xs)) (record { from = a; to = v })) is.1 (contains_member (spans_from test hi xs (starts test lo xs)) (span_at a) listed);
-      only = All-from_Each (λ (s : Span). IsGapOf test lo hi xs s.from s.to) (spans_from test hi xs (starts test lo xs))
-          (Each-filter (λ (s : Span). IsGapOf test lo hi xs s.from s.to) (λ (s : Span). nat_lt s.from s.to) (map span_at (starts test lo xs))
-          (Each-of_map (λ (s : Span). IsTrue (nat_lt s.from s.to) → IsGapOf test lo hi xs s.from s.to) span_at (starts test lo xs)
-          (Each-map MayBegin (λ a. IsTrue (nat_lt a (first_from test hi xs a)) → IsGapOf test lo hi xs a (first_from test hi xs a)) (λ a may t. gap_begins a may (ltb-true a (first_from test hi xs a) t)) (starts test lo xs) begins)));
+      only = M.All-from_Each (λ (s : Span). IsGapOf test lo hi xs s.from s.to) (spans_from test hi xs (starts test lo xs))
+          (M.Each-filter (λ (s : Span). IsGapOf test lo hi xs s.from s.to) (λ (s : Span). nat_lt s.from s.to) (map span_at (starts test lo xs))
+          (M.Each-of_map (λ (s : Span). IsTrue (nat_lt s.from s.to) → IsGapOf test lo hi xs s.from s.to) span_at (starts test lo xs)
+          (M.Each-map MayBegin (λ a. IsTrue (nat_lt a (first_from test hi xs a)) → IsGapOf test lo hi xs a (first_from test hi xs a)) (λ a may t. gap_begins a may (C.ltb-true a (first_from test hi xs a) t)) (starts test lo xs) begins)));
     }
 
-  pub hole_is_longest : HoleIsLongest lo hi xs
+  pub hole_is_longest : C.HoleIsLongest lo hi xs
   hole_is_longest = record {
     none_longer = λ a b hole.
         let is : (last_to is_any lo xs a ≡ a) × (first_from is_any hi xs a ≡ b) = gap_is is_any a b hole in
-        let reached : first_from is_any hi xs (last_to is_any lo xs a) - last_to is_any lo xs a ≤ longest_hole lo hi xs = last_to-start is_any (λ s. first_from is_any hi xs s - s) lo xs a in
+        let reached : first_from is_any hi xs (last_to is_any lo xs a) - last_to is_any lo xs a ≤ longest_hole lo hi xs = M.last_to-start is_any (λ s. first_from is_any hi xs s - s) lo xs a in
         subst (λ v. v - a ≤ longest_hole lo hi xs) is.1 (subst (λ v. first_from is_any hi xs v - v ≤ longest_hole lo hi xs) is.0 reached);
     one_as_long = λ some.
-        let best : (n : ℕ) × MayBegin is_any n × (first_from is_any hi xs n - n ≡ longest_hole lo hi xs) = largest_reached (λ s. first_from is_any hi xs s - s) (MayBegin is_any) (starts is_any lo xs) (begins is_any) some in
+        let best : (n : ℕ) × MayBegin is_any n × (first_from is_any hi xs n - n ≡ longest_hole lo hi xs) = M.largest_reached (λ s. first_from is_any hi xs s - s) (MayBegin is_any) (starts is_any lo xs) (begins is_any) some in
         (best.0, first_from is_any hi xs best.0, gap_begins is_any best.0 best.1 (omega (arith, best.2, some)), best.2);
   }
 
@@ -111,9 +114,9 @@ module _ (lo hi : ℕ) (xs : List Block) (placed : ArePlaced lo hi xs) where
         subst (λ v. IsHole lo hi xs (block_end x) v) to (gap_begins is_any (block_end x) (end_begins is_any x m refl) (omega (arith, e, some)))),
   )
 
-pub gap_list_law : GapListLaw
-gap_list_law lo hi xs placed = (spans_are lo hi xs placed is_pinned, spans_are lo hi xs placed is_any)
+pub gap_list_law : C.GapListLaw
+gap_list_law lo hi xs placed = (spans_are lo hi xs placed C.is_pinned, spans_are lo hi xs placed is_any)
 
-pub hole_after_law : HoleAfterLaw
-hole_after_law lo hi xs placed = All-from_Each (λ x. (n : ℕ) → 0 < n → IsHole lo hi xs (block_end x) (block_end x + n) ↔ (hole_after hi xs (block_end x) ≡ n)) xs
-    (Each-from (λ x. (n : ℕ) → 0 < n → IsHole lo hi xs (block_end x) (block_end x + n) ↔ (hole_after hi xs (block_end x) ≡ n)) xs (hole_after_is lo hi xs placed))
+pub hole_after_law : C.HoleAfterLaw
+hole_after_law lo hi xs placed = M.All-from_Each (λ x. (n : ℕ) → 0 < n → IsHole lo hi xs (block_end x) (block_end x + n) ↔ (hole_after hi xs (block_end x) ≡ n)) xs
+    (M.Each-from (λ x. (n : ℕ) → 0 < n → IsHole lo hi xs (block_end x) (block_end x + n) ↔ (hole_after hi xs (block_end x) ≡ n)) xs (hole_after_is lo hi xs placed))

@@ -1,24 +1,17 @@
 -- The laws of each step on handles: what it keeps, what it counts, how it orders, what happens to objects that it isn't about. None says what
 -- the definitions of the calls say: each counts, lists and compares once more.
+use Rattle.w16_model.specs
 use Rattle.std.specs.Prelude.{◌==◌, ◌&&◌, ◌≡◌, ◌≢◌, ℕ, ◌+◌, ◌*◌, ◌<◌, ◌≤◌, ◌⊎◌, ◌↔◌, Bool, true, false, not, if◌then◌else◌, List, [], ◌∷◌, ◌++◌, length, take, drop, sum_by, AllPairs, Option, Some, None, IsSomeAnd, is_some, option_map, unwrap_or}
+use specs.declared.TheConstants.{REACH, GMEM_MOVEABLE, GMEM_NOCOMPACT, GMEM_MODIFY}
+use specs.Heap.{Heap, Object, object_at, bytes_at, is_in_order, is_pinned_object}
+use specs.Handles.{Handles, AreHandles, slot_of_handle, part_of_selector, selector_in, offset_in}
+use specs.Calls.HandleCommand.{GlobalAlloc, GlobalFree, GlobalLock, GlobalUnlock, GlobalCompact, GlobalLRUNewest, GlobalLRUOldest}
+use specs.Far.FarCommand.{Read, Write, Fill}
+use specs.Far.FarAnswer.{Bytes, Done, Fault}
+use specs.Outcomes.{Call, CallStep, counts_moved}
+use specs.Outcomes.Call.{Calls, ReAllocs}
+use specs.{declared.Kind.TheVariants.Discardable, Bytes.part, Bytes.repeated, Discards.is_member, Changes.without, Law.StandsStill, Reallocation.without_all, Calls.Answer, Calls.HandleStep, Calls.AnswersAlloc, Calls.has_flag, Calls.Answer.Word, Far.FarCommand, Far.FarAnswer, Far.FarStep}
 use Rattle.std.specs.FinMap as finmap
-use Rattle.w16_model.specs.declared.Kind.TheVariants.{Discardable}
-use Rattle.w16_model.specs.declared.TheConstants.{REACH, GMEM_MOVEABLE, GMEM_NOCOMPACT, GMEM_MODIFY}
-use Rattle.w16_model.specs.Bytes.{part, repeated}
-use Rattle.w16_model.specs.Discards.{is_member}
-use Rattle.w16_model.specs.Heap.{Heap, Object, object_at, bytes_at, is_in_order, is_pinned_object}
-use Rattle.w16_model.specs.Changes.{without}
-use Rattle.w16_model.specs.Handles.{Handles, AreHandles, slot_of_handle, part_of_selector, selector_in, offset_in}
-use Rattle.w16_model.specs.Law.{StandsStill}
-use Rattle.w16_model.specs.Reallocation.{without_all}
-use Rattle.w16_model.specs.Calls.{Answer, HandleStep, AnswersAlloc, has_flag}
-use Rattle.w16_model.specs.Calls.Answer.{Word}
-use Rattle.w16_model.specs.Calls.HandleCommand.{GlobalAlloc, GlobalFree, GlobalLock, GlobalUnlock, GlobalCompact, GlobalLRUNewest, GlobalLRUOldest}
-use Rattle.w16_model.specs.Far.{FarCommand, FarAnswer, FarStep}
-use Rattle.w16_model.specs.Far.FarCommand.{Read, Write, Fill}
-use Rattle.w16_model.specs.Far.FarAnswer.{Bytes, Done, Fault}
-use Rattle.w16_model.specs.Outcomes.{Call, CallStep, counts_moved}
-use Rattle.w16_model.specs.Outcomes.Call.{Calls, ReAllocs}
 
 -- Which object a call is about.
 

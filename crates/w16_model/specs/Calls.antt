@@ -1,20 +1,15 @@
 -- The calls on handles: what each answers, and the handles that it leaves.
+use Rattle.w16_model.specs
 use Rattle.std.specs.Prelude.{◌≡◌, ℕ, ◌+◌, ◌-◌, ◌*◌, ◌/◌, ◌<◌, ◌≤◌, ◌⊎◌, Bool, true, false, not, ◌==◌, ◌&&◌, if◌then◌else◌, MatchBool, nat_lt, bit_and, List, length, unwrap_or, is_some, Some, None, Result, Ok, Err, option_map}
+use specs.declared.Kind.TheVariants.{Fixed, Moveable, Discardable}
+use specs.declared.TheConstants.{GRAIN, REACH, LARGEST_SIZE, GMEM_MOVEABLE, GMEM_NOCOMPACT, GMEM_NODISCARD, GMEM_ZEROINIT, GMEM_DISCARDABLE, GMEM_DDESHARE, GMEM_DISCARDED}
+use specs.Heap.{Heap, Object, object_at, bytes_at, is_discardable}
+use specs.Request.{Allocates, Compacts, discards_needed, moved_bytes}
+use specs.OneObject.{Enters, after_lock, after_unlock, after_free, after_newest, after_oldest}
+use specs.Handles.{Handles, Gives, IsFreeRun, HasNoRun, slots_for, reached, slot_of_handle, part_of_selector, handle_of, selector_of, far_pointer, dword_of}
+use specs.{declared.Kind.Kind, declared.RoomOptions.RoomOptions, declared.Refusal.Refusal, declared.Attributes.Attributes, declared.Item.Item, Walk.IsWalk, Owned.owns}
 use Rattle.std.specs.FinMap as finmap
-use Rattle.w16_model.specs.declared.Kind.{Kind}
-use Rattle.w16_model.specs.declared.Kind.TheVariants.{Fixed, Moveable, Discardable}
-use Rattle.w16_model.specs.declared.RoomOptions.{RoomOptions}
-use Rattle.w16_model.specs.declared.Refusal.{Refusal}
 use Rattle.w16_model.specs.declared.Refusal.TheVariants as refusals
-use Rattle.w16_model.specs.declared.TheConstants.{GRAIN, REACH, LARGEST_SIZE, GMEM_MOVEABLE, GMEM_NOCOMPACT, GMEM_NODISCARD, GMEM_ZEROINIT, GMEM_DISCARDABLE, GMEM_DDESHARE, GMEM_DISCARDED}
-use Rattle.w16_model.specs.Heap.{Heap, Object, object_at, bytes_at, is_discardable}
-use Rattle.w16_model.specs.Request.{Allocates, Compacts, discards_needed, moved_bytes}
-use Rattle.w16_model.specs.OneObject.{Enters, after_lock, after_unlock, after_free, after_newest, after_oldest}
-use Rattle.w16_model.specs.declared.Attributes.{Attributes}
-use Rattle.w16_model.specs.declared.Item.{Item}
-use Rattle.w16_model.specs.Walk.{IsWalk}
-use Rattle.w16_model.specs.Owned.{owns}
-use Rattle.w16_model.specs.Handles.{Handles, Gives, IsFreeRun, HasNoRun, slots_for, reached, slot_of_handle, part_of_selector, handle_of, selector_of, far_pointer, dword_of}
 
 -- a call that names objects by handles or selectors, with its arguments as numbers
 pub data HandleCommand : Type 0 where

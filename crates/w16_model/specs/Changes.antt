@@ -1,10 +1,8 @@
 -- A heap with one thing changed.
 use Rattle.std.specs.Prelude.{ℕ, not, ◌==◌, if◌then◌else◌, List, [], ◌∷◌, ◌++◌, filter, Some, None}
-use Rattle.std.specs.Ordering.{nat_cmp}
+use Rattle.std.specs.{Ordering.nat_cmp, FinMap.FinMap}
+use Rattle.w16_model.specs.{Heap.Heap, Heap.Object, Heap.is_in_order, Discards.is_member}
 use Rattle.std.specs.FinMap as finmap
-use Rattle.std.specs.FinMap.{FinMap}
-use Rattle.w16_model.specs.Heap.{Heap, Object, is_in_order}
-use Rattle.w16_model.specs.Discards.{is_member}
 
 -- The order of use without an object, and with it at the newest or the oldest end.
 abbrev pub without : ℕ → List ℕ → List ℕ

@@ -1,15 +1,10 @@
 -- By what a proof tells handles apart, so that they can be the value of a model.
 use Rattle.std.specs.Prelude.{◌≡◌, ℕ, zero, suc, Bool, List, Option, refl}
 use Rattle.std.specs.Coded.{Coded, code_by, coded×, coded_ℕ, coded_bool, coded_list, coded_option}
-use Rattle.std.specs.Ordering.{nat_cmp}
-use Rattle.std.specs.FinMap as finmap
-use Rattle.std.specs.FinMap.{FinMap}
-use Rattle.w16_model.specs.declared.Kind.{Kind}
+use Rattle.std.specs.{Ordering.nat_cmp, FinMap.FinMap}
 use Rattle.w16_model.specs.declared.Kind.TheVariants.{Fixed, Moveable, Discardable}
-use Rattle.w16_model.specs.Heap.{Heap, Object}
-use Rattle.w16_model.specs.declared.Attributes.{Attributes}
-use Rattle.w16_model.specs.declared.Owned.{Owned}
-use Rattle.w16_model.specs.Handles.{Handles}
+use Rattle.w16_model.specs.{declared.Kind.Kind, Heap.Heap, Heap.Object, declared.Attributes.Attributes, declared.Owned.Owned, Handles.Handles}
+use Rattle.std.specs.FinMap as finmap
 
 abbrev pub number_of_kind : Kind → ℕ
 number_of_kind Fixed = 0

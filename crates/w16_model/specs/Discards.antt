@@ -1,9 +1,7 @@
 -- How many discards make room: over the blocks of a heap and its order of use. A request is about an object h, or about none.
 use Rattle.std.specs.Prelude.{ℕ, ◌+◌, Bool, true, false, not, ◌&&◌, ◌||◌, ◌==◌, if◌then◌else◌, nat_le, List, length, take, filter, find, Option, Some, None}
 use Rattle.std.specs.List.{list_any, range_with_len}
-use Rattle.w16_model.specs.declared.Block.{Block}
-use Rattle.w16_model.specs.declared.RoomOptions.{RoomOptions}
-use Rattle.w16_model.specs.Gap.{is_pinned, room, longest_hole, hole_after, block_end}
+use Rattle.w16_model.specs.{declared.Block.Block, declared.RoomOptions.RoomOptions, Gap.is_pinned, Gap.room, Gap.longest_hole, Gap.hole_after, Gap.block_end}
 
 abbrev pub is_member : ℕ → List ℕ → Bool
 is_member id ids = list_any (λ q. q == id) ids

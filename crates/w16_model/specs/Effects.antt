@@ -1,19 +1,15 @@
 -- What a call does to the object that its handle names, and what it answers, where nothing refuses it; and when a far access is answered.
+use Rattle.w16_model.specs
 use Rattle.std.specs.Prelude.{◌≡◌, ◌≢◌, ℕ, ◌+◌, ◌*◌, ◌-◌, ◌<◌, ◌≤◌, Bool, true, false, if◌then◌else◌, nat_lt, List, length, Some, None, is_some, IsSomeAnd}
-use Rattle.w16_model.specs.declared.TheConstants.{REACH, GMEM_MOVEABLE, GMEM_MODIFY}
-use Rattle.w16_model.specs.declared.FarFault.{FarFault}
-use Rattle.w16_model.specs.Heap.{Object, object_at, bytes_at, is_fixed, is_discardable}
-use Rattle.w16_model.specs.Handles.{Handles, AreHandles, Part, slot_of_handle, part_of_selector, selector_of, selector_in, offset_in, far_pointer}
-use Rattle.w16_model.specs.Owned.{owns, refuses_write}
-use Rattle.w16_model.specs.Reallocation.{IsResized}
-use Rattle.w16_model.specs.Calls.{Answer, HandleStep, has_flag, rounded_size}
-use Rattle.w16_model.specs.Calls.Answer.{Word, Dword}
-use Rattle.w16_model.specs.Calls.HandleCommand.{GlobalFree, GlobalLock, GlobalUnlock}
-use Rattle.w16_model.specs.Resizes.{GlobalReAllocs, kind_modified, realloc_options}
-use Rattle.w16_model.specs.Outcomes.{IsNamed}
-use Rattle.w16_model.specs.Far.{FarCommand, FarAnswer, FarStep}
-use Rattle.w16_model.specs.Far.FarCommand.{Read, Write, Fill}
-use Rattle.w16_model.specs.Far.FarAnswer.{Fault}
+use specs.declared.TheConstants.{REACH, GMEM_MOVEABLE, GMEM_MODIFY}
+use specs.Heap.{Object, object_at, bytes_at, is_fixed, is_discardable}
+use specs.Handles.{Handles, AreHandles, Part, slot_of_handle, part_of_selector, selector_of, selector_in, offset_in, far_pointer}
+use specs.Calls.{Answer, HandleStep, has_flag, rounded_size}
+use specs.Calls.Answer.{Word, Dword}
+use specs.Calls.HandleCommand.{GlobalFree, GlobalLock, GlobalUnlock}
+use specs.Resizes.{GlobalReAllocs, kind_modified, realloc_options}
+use specs.Far.FarCommand.{Read, Write, Fill}
+use specs.{declared.FarFault.FarFault, Owned.owns, Owned.refuses_write, Reallocation.IsResized, Outcomes.IsNamed, Far.FarCommand, Far.FarAnswer, Far.FarStep, Far.FarAnswer.Fault}
 
 -- a lock of an object that has bytes and isn't fixed is counted, while fewer than 255 are
 abbrev pub LockLaw : Type 0

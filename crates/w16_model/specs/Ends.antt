@@ -1,10 +1,6 @@
 -- Heaps whose range ends later: from which end on a request is answered. What stands in the heap stays.
 use Rattle.std.specs.Prelude.{◌≡◌, ℕ, ◌<◌, ◌≤◌, Bool, true, false, not, ◌&&◌, ◌||◌, if◌then◌else◌, nat_le, length, Some, None, is_some}
-use Rattle.w16_model.specs.declared.Kind.{Kind}
-use Rattle.w16_model.specs.declared.RoomOptions.{RoomOptions}
-use Rattle.w16_model.specs.Discards.{fits_in_place, growth_for}
-use Rattle.w16_model.specs.Heap.{Heap, Object, object_at, is_pinned_object}
-use Rattle.w16_model.specs.Request.{Allocates, Reallocates, discards_needed, snapshot_of}
+use Rattle.w16_model.specs.{declared.Kind.Kind, declared.RoomOptions.RoomOptions, Discards.fits_in_place, Discards.growth_for, Heap.Heap, Heap.Object, Heap.object_at, Heap.is_pinned_object, Request.Allocates, Request.Reallocates, Request.discards_needed, Request.snapshot_of}
 
 -- the heap with another end
 abbrev pub ending : Heap → ℕ → Heap

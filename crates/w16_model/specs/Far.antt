@@ -1,14 +1,9 @@
 -- Far accesses: bytes at selector:offset.
+use Rattle.w16_model.specs
 use Rattle.std.specs.Prelude.{ℕ, ◌+◌, ◌*◌, ◌<◌, Bool, ◌||◌, if◌then◌else◌, nat_lt, All, List, [], length, unwrap_or, Option, Some, None, option_map}
-use Rattle.w16_model.specs.declared.FarFault.{FarFault}
-use Rattle.w16_model.specs.declared.FarFault.TheVariants.{BadSelector, ReadOnly, NotPresent, Limit}
-use Rattle.w16_model.specs.Bytes.{part, put_part, repeated}
-use Rattle.w16_model.specs.Heap.{Heap, bytes_at}
-use Rattle.w16_model.specs.Changes.{update}
-use Rattle.w16_model.specs.OneObject.{after_touch}
-use Rattle.w16_model.specs.Owned.{refuses_write}
-use Rattle.w16_model.specs.declared.TheConstants.{REACH}
-use Rattle.w16_model.specs.Handles.{Handles, Part, Gives, part_of_selector, selector_in, offset_in}
+use specs.declared.FarFault.TheVariants.{BadSelector, ReadOnly, NotPresent, Limit}
+use specs.Handles.{Handles, Part, Gives, part_of_selector, selector_in, offset_in}
+use specs.{declared.FarFault.FarFault, Bytes.part, Bytes.put_part, Bytes.repeated, Heap.Heap, Heap.bytes_at, Changes.update, OneObject.after_touch, Owned.refuses_write, declared.TheConstants.REACH}
 
 -- an access to bytes that a far pointer points to
 pub data FarCommand : Type 0 where

@@ -1,15 +1,10 @@
 -- Fewest discards, which no allocator promises: what it means is told by arrangements alone, every way in which the loose blocks may slide.
+use Rattle.w16_model.specs
 use Rattle.std.specs.Prelude.{◌≡◌, ◌≢◌, ℕ, ◌-◌, ◌<◌, ◌≤◌, ◌⊎◌, Bool, true, false, ◌==◌, MatchBool, take, Option, Some, None}
-use Rattle.w16_model.specs.declared.Kind.{Kind}
-use Rattle.w16_model.specs.declared.RoomOptions.{RoomOptions}
-use Rattle.w16_model.specs.Gap.{IsHole}
-use Rattle.w16_model.specs.Arrangement.{IsLongestStretch}
-use Rattle.w16_model.specs.Discards.{eligible, blocks_without}
-use Rattle.w16_model.specs.Heap.{Heap, IsHeap, blocks}
-use Rattle.w16_model.specs.Request.{Allocates, Compacts, eligible_count}
-use Rattle.w16_model.specs.Handles.{Handles, AreHandles, handle_of}
-use Rattle.w16_model.specs.Calls.{GlobalAllocs, GlobalCompacts, IsEmptyFixed, IsTooLong, HasNoSlots, kind_asked, alloc_options, rounded_size}
-use Rattle.w16_model.specs.Law.{NoStretch, KeepsOthers}
+use specs.Request.{Allocates, Compacts, eligible_count}
+use specs.Handles.{Handles, AreHandles, handle_of}
+use specs.Calls.{GlobalAllocs, GlobalCompacts, IsEmptyFixed, IsTooLong, HasNoSlots, kind_asked, alloc_options, rounded_size}
+use specs.{declared.Kind.Kind, declared.RoomOptions.RoomOptions, Gap.IsHole, Arrangement.IsLongestStretch, Discards.eligible, Discards.blocks_without, Heap.Heap, Heap.IsHeap, Heap.blocks, Law.NoStretch, Law.KeepsOthers}
 
 -- whichever way the others slide once the first j that may be are discarded, no n bytes in a row are free; h isn't counted
 abbrev pub HasNoStretch : Heap → ℕ → Option ℕ → ℕ → Type 0

@@ -1,9 +1,6 @@
 -- Gaps, holes and room, over the blocks of a heap in any order. A block is an object that has bytes, by where it stands.
 use Rattle.std.specs.Prelude.{◌≡◌, ℕ, ◌+◌, ◌-◌, ◌<◌, ◌≤◌, ◌⊎◌, max, min, Bool, true, false, not, ◌&&◌, if◌then◌else◌, nat_le, nat_lt, IsTrue, List, [], ◌∷◌, map, filter, sum_by, All, AllPairs}
-use Rattle.w16_model.specs.declared.Block.{Block}
-use Rattle.w16_model.specs.declared.Span.{Span}
-use Rattle.w16_model.specs.declared.Hold.{Hold}
-use Rattle.w16_model.specs.declared.Hold.TheVariants.{Pinned, Loose}
+use Rattle.w16_model.specs.{declared.Block.Block, declared.Span.Span, declared.Hold.Hold, declared.Hold.TheVariants.Pinned, declared.Hold.TheVariants.Loose}
 
 -- Pinned: the block of a fixed or a locked object, which keeps its address (GlobalAlloc, GMEM_FIXED; GlobalLock). Any other block is loose.
 abbrev pub holds_still : Hold → Bool

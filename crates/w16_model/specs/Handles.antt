@@ -1,15 +1,12 @@
 -- Handles: a global heap whose objects are named by handles and reached by selectors.
+use Rattle.w16_model.specs
 use Rattle.std.specs.Prelude.{◌≡◌, ℕ, ◌+◌, ◌-◌, ◌*◌, ◌/◌, ◌%◌, ◌<◌, ◌≤◌, ◌&&◌, ◌==◌, if◌then◌else◌, nat_le, nat_lt, max, min, Bool, true, List, length, is_some, IfSome, option_map, unwrap_or, Option, Some, None}
-use Rattle.std.specs.List.{find}
-use Rattle.std.specs.Ordering.{nat_cmp}
+use Rattle.std.specs.{List.find, Ordering.nat_cmp, FinMap.FinMap}
+use specs.declared.Kind.TheVariants.{Fixed, Moveable, Discardable}
+use specs.declared.TheConstants.{FIRST_SLOT, MOST_SLOTS, GRAIN, REACH}
+use specs.Heap.{Heap, IsHeap, empty_heap, object_at, bytes_at}
+use specs.{declared.Kind.Kind, declared.Attributes.Attributes, declared.Owned.Owned}
 use Rattle.std.specs.FinMap as finmap
-use Rattle.std.specs.FinMap.{FinMap}
-use Rattle.w16_model.specs.declared.Kind.{Kind}
-use Rattle.w16_model.specs.declared.Kind.TheVariants.{Fixed, Moveable, Discardable}
-use Rattle.w16_model.specs.declared.Attributes.{Attributes}
-use Rattle.w16_model.specs.declared.Owned.{Owned}
-use Rattle.w16_model.specs.declared.TheConstants.{FIRST_SLOT, MOST_SLOTS, GRAIN, REACH}
-use Rattle.w16_model.specs.Heap.{Heap, IsHeap, empty_heap, object_at, bytes_at}
 
 -- An object's id in the heap is its slot, of which there are so many, numbered from the first one on. It has so many slots in a row as its
 -- attributes say: its run, which begins at that slot.

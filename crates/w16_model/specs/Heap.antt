@@ -1,17 +1,12 @@
 -- A heap: objects by id, their addresses apart from what they contain, and the order of use. One text serves the global heap, of grain 32,
 -- and a local heap inside a segment, of grain 4.
+use Rattle.w16_model.specs
 use Rattle.std.specs.Prelude.{◌≡◌, ℕ, ◌*◌, ◌<◌, ◌≤◌, Bool, true, false, ◌&&◌, ◌||◌, if◌then◌else◌, nat_lt, IsTrue, IfSome, List, [], length, All, AllPairs, Option, Some, None, option_map, unwrap_or, is_some}
-use Rattle.std.specs.List.{filter_map}
-use Rattle.std.specs.Ordering.{nat_cmp}
+use Rattle.std.specs.{List.filter_map, Ordering.nat_cmp, FinMap.FinMap}
+use specs.declared.Hold.TheVariants.{Pinned, Loose}
+use specs.declared.Kind.TheVariants.{Fixed, Moveable, Discardable}
+use specs.{declared.Block.Block, declared.Hold.Hold, declared.Kind.Kind, Gap.ArePlaced, Discards.is_member}
 use Rattle.std.specs.FinMap as finmap
-use Rattle.std.specs.FinMap.{FinMap}
-use Rattle.w16_model.specs.declared.Block.{Block}
-use Rattle.w16_model.specs.declared.Hold.{Hold}
-use Rattle.w16_model.specs.declared.Hold.TheVariants.{Pinned, Loose}
-use Rattle.w16_model.specs.declared.Kind.{Kind}
-use Rattle.w16_model.specs.declared.Kind.TheVariants.{Fixed, Moveable, Discardable}
-use Rattle.w16_model.specs.Gap.{ArePlaced}
-use Rattle.w16_model.specs.Discards.{is_member}
 
 -- an object: its kind, its lock count, and its bytes, or none where it is absent (the manual: discarded)
 pub record Object : Type 0 where

@@ -1,27 +1,19 @@
 -- The laws that show the definitions to be the right ones. Each is the contract of a function of the module `laws`.
+use Rattle.w16_model.specs
 use Rattle.std.specs.Prelude.{◌≡◌, ◌≢◌, ℕ, ◌+◌, ◌-◌, ◌*◌, ◌<◌, ◌≤◌, ◌↔◌, min, Bool, true, false, IfSome, IsSomeAnd, List, take, map, length, All, AllPairs, Contains, Option, Some, None, is_some}
-use Rattle.w16_model.specs.declared.Block.{Block}
-use Rattle.w16_model.specs.declared.Span.{Span}
-use Rattle.w16_model.specs.declared.Kind.{Kind}
-use Rattle.w16_model.specs.declared.Item.{Item}
-use Rattle.w16_model.specs.declared.RoomOptions.{RoomOptions}
-use Rattle.w16_model.specs.declared.Hold.TheVariants.{Pinned}
-use Rattle.w16_model.specs.declared.Kind.TheVariants.{Discardable}
-use Rattle.w16_model.specs.declared.TheConstants.{FIRST_SLOT, MOST_SLOTS, GRAIN, REACH, LARGEST_SIZE, GMEM_MOVEABLE, GMEM_NOCOMPACT, GMEM_NODISCARD, GMEM_ZEROINIT, GMEM_MODIFY, GMEM_DISCARDABLE, GMEM_DDESHARE, GMEM_DISCARDED}
-use Rattle.w16_model.specs.Gap.{is_pinned, is_any, room, longest_hole, hole_after, gaps, holes, loose_bytes, block_end, IsGap, IsHole, IsGapOf, ArePlaced, IsLaid}
-use Rattle.w16_model.specs.Arrangement.{IsArrangement, IsFreeStretch, IsLongestStretch}
-use Rattle.w16_model.specs.Discards.{eligible, is_member, blocks_without, needed, room_for, snapshot}
+use specs.declared.Kind.TheVariants.{Discardable}
+use specs.declared.TheConstants.{FIRST_SLOT, MOST_SLOTS, GRAIN, REACH, LARGEST_SIZE, GMEM_MOVEABLE, GMEM_NOCOMPACT, GMEM_NODISCARD, GMEM_ZEROINIT, GMEM_MODIFY, GMEM_DISCARDABLE, GMEM_DDESHARE, GMEM_DISCARDED}
+use specs.Gap.{is_pinned, is_any, room, longest_hole, hole_after, gaps, holes, loose_bytes, block_end, IsGap, IsHole, IsGapOf, ArePlaced, IsLaid}
+use specs.Arrangement.{IsArrangement, IsFreeStretch, IsLongestStretch}
+use specs.Discards.{eligible, is_member, blocks_without, needed, room_for, snapshot}
+use specs.Heap.{Heap, Object, IsHeap, blocks, object_at, bytes_at, is_pinned_object}
+use specs.Request.{Settles, discarded, stays_for, snapshot_of}
+use specs.Table.{Table, IsTable, IsSound, heap_in, IsSameOutside}
+use specs.Handles.{Handles, AreHandles, dword_of, empty_handles, slots_at, owner_of, reached, slot_of_handle, part_of_selector, slot_of_selector, handle_of, selector_of}
+use specs.Calls.{HandleCommand, Answer, HandleStep, IsRefusedAlloc, AnswersAlloc}
+use specs.Calls.HandleCommand.{GetSelectorBase, GetSelectorLimit, GlobalHandle}
+use specs.{declared.Block.Block, declared.Span.Span, declared.Kind.Kind, declared.Item.Item, declared.RoomOptions.RoomOptions, declared.Hold.TheVariants.Pinned, Changes.with_ordered, Walk.IsWalk, Calls.Answer.Dword, Far.FarCommand, Far.FarAnswer, Far.IsFarCommand, Far.FarStep}
 use Rattle.std.specs.FinMap as finmap
-use Rattle.w16_model.specs.Heap.{Heap, Object, IsHeap, blocks, object_at, bytes_at, is_pinned_object}
-use Rattle.w16_model.specs.Changes.{with_ordered}
-use Rattle.w16_model.specs.Request.{Settles, discarded, stays_for, snapshot_of}
-use Rattle.w16_model.specs.Table.{Table, IsTable, IsSound, heap_in, IsSameOutside}
-use Rattle.w16_model.specs.Walk.{IsWalk}
-use Rattle.w16_model.specs.Handles.{Handles, AreHandles, dword_of, empty_handles, slots_at, owner_of, reached, slot_of_handle, part_of_selector, slot_of_selector, handle_of, selector_of}
-use Rattle.w16_model.specs.Calls.{HandleCommand, Answer, HandleStep, IsRefusedAlloc, AnswersAlloc}
-use Rattle.w16_model.specs.Calls.HandleCommand.{GetSelectorBase, GetSelectorLimit, GlobalHandle}
-use Rattle.w16_model.specs.Calls.Answer.{Dword}
-use Rattle.w16_model.specs.Far.{FarCommand, FarAnswer, IsFarCommand, FarStep}
 
 -- The figures.
 

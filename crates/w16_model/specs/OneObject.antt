@@ -1,11 +1,9 @@
 -- The steps of a heap that ask for no room: what each leaves is determined. None changes an address or another object. A refused step leaves
 -- the same heap.
 use Rattle.std.specs.Prelude.{◌≡◌, ℕ, ◌+◌, ◌-◌, not, ◌&&◌, ◌||◌, ◌==◌, if◌then◌else◌, nat_lt, is_some, Option, Some, None, Result, Ok, Err}
-use Rattle.w16_model.specs.declared.Kind.{Kind}
-use Rattle.w16_model.specs.declared.Refusal.{Refusal}
-use Rattle.w16_model.specs.declared.Refusal.TheVariants as refusals
-use Rattle.w16_model.specs.Heap.{Heap, object_at, is_fixed, is_discardable}
 use Rattle.w16_model.specs.Changes.{with_object, with_ordered, with_newest, newest, oldest, touched, absent, removed}
+use Rattle.w16_model.specs.{declared.Kind.Kind, declared.Refusal.Refusal, Heap.Heap, Heap.object_at, Heap.is_fixed, Heap.is_discardable}
+use Rattle.w16_model.specs.declared.Refusal.TheVariants as refusals
 
 -- a new object without bytes takes an id that has none (GlobalAlloc of size 0; a segment before it is loaded)
 pub record Enters (old : Heap) (id : ℕ) (kind : Kind) (new : Heap) : Type 0 where

@@ -1,21 +1,19 @@
 -- What a call on handles leaves: one of thirteen outcomes, whichever the call is. Each says all that changes of the heap, the attributes, the
 -- slots and the number of bytes moved. A law about every call then goes by outcomes.
+use Rattle.w16_model.specs
 use Rattle.std.specs.Prelude.{◌≡◌, ℕ, ◌+◌, ◌-◌, ◌≤◌, ◌==◌, Bool, true, false, is_some, List, Some, None, Ok}
+use specs.declared.TheConstants.{LARGEST_SIZE, GMEM_MODIFY, GMEM_DDESHARE}
+use specs.Heap.{Heap, Object, object_at, is_fixed, is_discardable}
+use specs.Changes.{with_object, with_ordered, with_newest, newest, oldest, touched, absent}
+use specs.Request.{IsNew, Settles, Reallocates, discarded, stays_for, moved_bytes}
+use specs.OneObject.{Enters, refused_order, after_modify}
+use specs.Handles.{Handles, AreHandles, IsFreeRun, slots_for, slot_of_handle, handle_of}
+use specs.Calls.{HandleCommand, Answer, HandleStep, has_flag, kind_asked, alloc_options, rounded_size}
+use specs.Calls.Answer.{Word, Dword}
+use specs.Calls.HandleCommand.{GlobalAlloc, GlobalFree, GlobalLock, GlobalUnlock, GlobalCompact, GlobalLRUNewest, GlobalLRUOldest}
+use specs.Resizes.{GlobalReAllocs, GetsRun, rehoused, with_run, realloc_options, kind_modified}
+use specs.{declared.Attributes.Attributes, Gap.is_pinned, Owned.owns, Owned.without_slot, Reallocation.ChangesKind}
 use Rattle.std.specs.FinMap as finmap
-use Rattle.w16_model.specs.declared.Attributes.{Attributes}
-use Rattle.w16_model.specs.declared.TheConstants.{LARGEST_SIZE, GMEM_MODIFY, GMEM_DDESHARE}
-use Rattle.w16_model.specs.Gap.{is_pinned}
-use Rattle.w16_model.specs.Heap.{Heap, Object, object_at, is_fixed, is_discardable}
-use Rattle.w16_model.specs.Changes.{with_object, with_ordered, with_newest, newest, oldest, touched, absent}
-use Rattle.w16_model.specs.Request.{IsNew, Settles, Reallocates, discarded, stays_for, moved_bytes}
-use Rattle.w16_model.specs.OneObject.{Enters, refused_order, after_modify}
-use Rattle.w16_model.specs.Handles.{Handles, AreHandles, IsFreeRun, slots_for, slot_of_handle, handle_of}
-use Rattle.w16_model.specs.Owned.{owns, without_slot}
-use Rattle.w16_model.specs.Reallocation.{ChangesKind}
-use Rattle.w16_model.specs.Calls.{HandleCommand, Answer, HandleStep, has_flag, kind_asked, alloc_options, rounded_size}
-use Rattle.w16_model.specs.Calls.Answer.{Word, Dword}
-use Rattle.w16_model.specs.Calls.HandleCommand.{GlobalAlloc, GlobalFree, GlobalLock, GlobalUnlock, GlobalCompact, GlobalLRUNewest, GlobalLRUOldest}
-use Rattle.w16_model.specs.Resizes.{GlobalReAllocs, GetsRun, rehoused, with_run, realloc_options, kind_modified}
 
 -- A call on handles: GlobalReAlloc, of which GlobalDiscard is a case, or any other.
 pub data Call : Type 0 where

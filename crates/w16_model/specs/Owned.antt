@@ -1,15 +1,8 @@
 -- Objects that modules own: what handles tell of them, and the steps of a module loader on them.
 use Rattle.std.specs.Prelude.{◌≡◌, ℕ, Bool, true, false, is_some, unwrap_or, Option, Some, None, option_map, IsSomeAnd}
-use Rattle.std.specs.FinMap as finmap
-use Rattle.w16_model.specs.declared.Attributes.{Attributes}
-use Rattle.w16_model.specs.declared.Kind.{Kind}
-use Rattle.w16_model.specs.declared.Owned.{Owned}
-use Rattle.w16_model.specs.declared.RoomOptions.{RoomOptions}
-use Rattle.w16_model.specs.Changes.{removed}
-use Rattle.w16_model.specs.Heap.{object_at}
-use Rattle.w16_model.specs.Request.{Allocates}
-use Rattle.w16_model.specs.OneObject.{Enters}
 use Rattle.w16_model.specs.Handles.{Handles, Part, IsFreeSlot, handle_of, slot_of_handle, part_of_selector}
+use Rattle.w16_model.specs.{declared.Attributes.Attributes, declared.Kind.Kind, declared.Owned.Owned, declared.RoomOptions.RoomOptions, Changes.removed, Heap.object_at, Request.Allocates, OneObject.Enters}
+use Rattle.std.specs.FinMap as finmap
 
 abbrev pub owned_in : Option Attributes → Option Owned
 owned_in None = None

@@ -1,21 +1,14 @@
 -- Reallocation, told by what it leaves: of the object, of the others, of where they stand, and when it is refused. Nothing here says how
 -- room is made.
+use Rattle.w16_model.specs
 use Rattle.std.specs.Prelude.{◌≡◌, ◌≢◌, ℕ, ◌+◌, ◌-◌, ◌<◌, ◌≤◌, ◌⊎◌, Bool, true, false, not, ◌&&◌, ◌||◌, if◌then◌else◌, IsTrue, IfOk, IfSome, IsSomeAnd, List, [], ◌∷◌, ◌++◌, length, take, drop, filter, map, All, AllPairs, Option, Some, Ok, Err, is_some, unwrap_or}
+use specs.declared.Hold.TheVariants.{Loose}
+use specs.Gap.{is_pinned, is_loose, is_any, begins_in, Misses, ArePlaced, IsClear, IsGap}
+use specs.Discards.{eligible, is_member, is_about, room_for, snapshot}
+use specs.Heap.{Heap, Object, IsHeap, blocks, object_at, size_of, is_fixed, is_discardable, is_in_order, is_pinned_object}
+use specs.{declared.Block.Block, declared.Kind.Kind, declared.RoomOptions.RoomOptions, Bytes.repeated, Changes.without, Request.Reallocates, OneObject.after_modify, OneObject.after_discard, Law.KeepsOthers, Law.KeepsAddresses, Law.StandsStill, Fewest.DiscardsFewest, Fewest.LacksRoom}
 use Rattle.std.specs.FinMap as finmap
-use Rattle.w16_model.specs.declared.Block.{Block}
-use Rattle.w16_model.specs.declared.Hold.TheVariants.{Loose}
-use Rattle.w16_model.specs.declared.Kind.{Kind}
 use Rattle.w16_model.specs.declared.Refusal.TheVariants as refusals
-use Rattle.w16_model.specs.declared.RoomOptions.{RoomOptions}
-use Rattle.w16_model.specs.Gap.{is_pinned, is_loose, is_any, begins_in, Misses, ArePlaced, IsClear, IsGap}
-use Rattle.w16_model.specs.Discards.{eligible, is_member, is_about, room_for, snapshot}
-use Rattle.w16_model.specs.Bytes.{repeated}
-use Rattle.w16_model.specs.Heap.{Heap, Object, IsHeap, blocks, object_at, size_of, is_fixed, is_discardable, is_in_order, is_pinned_object}
-use Rattle.w16_model.specs.Changes.{without}
-use Rattle.w16_model.specs.Request.{Reallocates}
-use Rattle.w16_model.specs.OneObject.{after_modify, after_discard}
-use Rattle.w16_model.specs.Law.{KeepsOthers, KeepsAddresses, StandsStill}
-use Rattle.w16_model.specs.Fewest.{DiscardsFewest, LacksRoom}
 
 -- The object, and the rest.
 

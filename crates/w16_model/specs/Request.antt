@@ -1,14 +1,11 @@
 -- The steps of a heap that ask for room. They may choose addresses, and what new bytes are where they needn't be zero.
+use Rattle.w16_model.specs
 use Rattle.std.specs.Prelude.{◌≡◌, ℕ, ◌+◌, ◌-◌, ◌<◌, ◌⊎◌, Bool, true, false, not, ◌&&◌, ◌||◌, ◌==◌, nat_le, IsTrue, List, ◌++◌, length, take, filter, fold, sum_by, All, Option, Some, None, MatchOption, MatchBool, IsSomeAnd, option_map, unwrap_or}
+use specs.Discards.{Snapshot, snapshot, eligible, room_for, needed, prefix_for, fits_in_place, growth_for}
+use specs.Heap.{Heap, Object, IsHeap, IsMultiple, blocks, object_at, bytes_at, size_of, is_pinned_object}
+use specs.Changes.{with_newest, with_object, with_ordered, absent}
+use specs.{declared.Block.Block, declared.Kind.Kind, declared.RoomOptions.RoomOptions, Gap.is_pinned, Gap.is_any, Gap.longest_hole, Gap.IsClear, Bytes.repeated}
 use Rattle.std.specs.FinMap as finmap
-use Rattle.w16_model.specs.declared.Block.{Block}
-use Rattle.w16_model.specs.declared.Kind.{Kind}
-use Rattle.w16_model.specs.declared.RoomOptions.{RoomOptions}
-use Rattle.w16_model.specs.Gap.{is_pinned, is_any, longest_hole, IsClear}
-use Rattle.w16_model.specs.Discards.{Snapshot, snapshot, eligible, room_for, needed, prefix_for, fits_in_place, growth_for}
-use Rattle.w16_model.specs.Bytes.{repeated}
-use Rattle.w16_model.specs.Heap.{Heap, Object, IsHeap, IsMultiple, blocks, object_at, bytes_at, size_of, is_pinned_object}
-use Rattle.w16_model.specs.Changes.{with_newest, with_object, with_ordered, absent}
 
 abbrev pub snapshot_of : Heap → Snapshot
 snapshot_of heap = snapshot heap.lo heap.hi (blocks heap) heap.order

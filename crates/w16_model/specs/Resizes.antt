@@ -1,22 +1,15 @@
 -- GlobalReAlloc and GlobalDiscard on handles: the cases in their order, and what each answers and leaves.
+use Rattle.w16_model.specs
 use Rattle.std.specs.Prelude.{◌≡◌, ◌≢◌, ℕ, ◌+◌, ◌-◌, ◌/◌, ◌<◌, ◌≤◌, ◌⊎◌, Bool, true, false, not, ◌&&◌, ◌||◌, ◌==◌, if◌then◌else◌, nat_lt, map, MatchBool, MatchOption, IsSomeAnd, List, Some, None, Result, Ok, Err}
-use Rattle.std.specs.Ordering.{nat_cmp}
+use Rattle.std.specs.{Ordering.nat_cmp, FinMap.FinMap}
+use specs.declared.Kind.TheVariants.{Moveable, Discardable}
+use specs.declared.TheConstants.{REACH, LARGEST_SIZE, GMEM_MOVEABLE, GMEM_MODIFY, GMEM_DISCARDABLE}
+use specs.Heap.{Heap, Object, object_at, bytes_at, size_of, is_fixed}
+use specs.Handles.{Handles, AreHandles, IsFreeRun, HasNoRun, slots_at, slots_for, handle_of, slot_of_handle}
+use specs.Reallocation.{LacksPlace, ReallocatesFewest, without_all}
+use specs.Calls.{has_flag, is_shared, rounded_size, alloc_options}
+use specs.{declared.Attributes.Attributes, declared.Kind.Kind, declared.Refusal.Refusal, declared.RoomOptions.RoomOptions, Request.Reallocates, Request.moved_bytes, OneObject.after_modify, OneObject.after_discard, Owned.owns, Owned.is_owned, Discards.is_member}
 use Rattle.std.specs.FinMap as finmap
-use Rattle.std.specs.FinMap.{FinMap}
-use Rattle.w16_model.specs.declared.Attributes.{Attributes}
-use Rattle.w16_model.specs.declared.Kind.{Kind}
-use Rattle.w16_model.specs.declared.Kind.TheVariants.{Moveable, Discardable}
-use Rattle.w16_model.specs.declared.Refusal.{Refusal}
-use Rattle.w16_model.specs.declared.RoomOptions.{RoomOptions}
-use Rattle.w16_model.specs.declared.TheConstants.{REACH, LARGEST_SIZE, GMEM_MOVEABLE, GMEM_MODIFY, GMEM_DISCARDABLE}
-use Rattle.w16_model.specs.Heap.{Heap, Object, object_at, bytes_at, size_of, is_fixed}
-use Rattle.w16_model.specs.Request.{Reallocates, moved_bytes}
-use Rattle.w16_model.specs.OneObject.{after_modify, after_discard}
-use Rattle.w16_model.specs.Handles.{Handles, AreHandles, IsFreeRun, HasNoRun, slots_at, slots_for, handle_of, slot_of_handle}
-use Rattle.w16_model.specs.Owned.{owns, is_owned}
-use Rattle.w16_model.specs.Discards.{is_member}
-use Rattle.w16_model.specs.Reallocation.{LacksPlace, ReallocatesFewest, without_all}
-use Rattle.w16_model.specs.Calls.{has_flag, is_shared, rounded_size, alloc_options}
 
 -- as an allocation's flags; with GMEM_MOVEABLE the object itself may be moved too, fixed or locked
 abbrev pub realloc_options : ℕ → RoomOptions

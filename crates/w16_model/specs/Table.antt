@@ -1,13 +1,7 @@
 -- What one heap's code keeps, and the heap that it stands for in a memory.
 use Rattle.std.specs.Prelude.{◌≡◌, ℕ, ◌+◌, ◌≤◌, ◌==◌, ◌&&◌, ◌||◌, if◌then◌else◌, nat_lt, Bool, false, IsTrue, IfSome, is_some, slice_index_or, List, [], ◌∷◌, map, find, take, drop, slice_range, All, AllPairs, Option, Some, None, option_map, IsSomeAnd}
+use Rattle.w16_model.specs.{declared.Block.Block, declared.Entry.Entry, declared.Hold.Hold, declared.Hold.TheVariants.Pinned, declared.Hold.TheVariants.Loose, Discards.is_member, Gap.IsLaid, Heap.Heap, Heap.Object, Heap.is_fixed, Heap.is_discardable, Heap.IsMultiple}
 use Rattle.std.specs.FinMap as finmap
-use Rattle.w16_model.specs.declared.Block.{Block}
-use Rattle.w16_model.specs.declared.Entry.{Entry}
-use Rattle.w16_model.specs.declared.Hold.{Hold}
-use Rattle.w16_model.specs.declared.Hold.TheVariants.{Pinned, Loose}
-use Rattle.w16_model.specs.Discards.{is_member}
-use Rattle.w16_model.specs.Gap.{IsLaid}
-use Rattle.w16_model.specs.Heap.{Heap, Object, is_fixed, is_discardable, IsMultiple}
 
 -- the entries by id, none where no object is, the blocks by address, and the order of use
 pub record Table : Type 0 where

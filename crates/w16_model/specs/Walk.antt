@@ -1,11 +1,7 @@
 -- A walk of a heap: its objects with bytes and its holes, by address (profile).
 use Rattle.std.specs.Prelude.{◌≡◌, ℕ, ◌+◌, ◌<◌, ◌≤◌, ◌⊎◌, List, length, All, AllPairs, Contains, Option, Some, MatchOption, IsSomeAnd, option_map, slice_get}
+use Rattle.w16_model.specs.{declared.Kind.Kind, declared.Item.Item, declared.Owner.Owner, Gap.IsHole, Heap.Heap, Heap.blocks, Heap.object_at}
 use Rattle.std.specs.FinMap as finmap
-use Rattle.w16_model.specs.declared.Kind.{Kind}
-use Rattle.w16_model.specs.declared.Item.{Item}
-use Rattle.w16_model.specs.declared.Owner.{Owner}
-use Rattle.w16_model.specs.Gap.{IsHole}
-use Rattle.w16_model.specs.Heap.{Heap, blocks, object_at}
 
 -- the object of an id has just these bytes, and is what the owner says
 pub record HasBytes (heap : Heap) (id at size : ℕ) (owner : Owner) : Type 0 where

@@ -1,8 +1,8 @@
 -- Reading blocks of resources until there is none, as a loop does.
-use Rattle.w16_ne.proofs.Common.{◌≡◌, ℕ, zero, suc, ◌-◌, ◌+◌, ◌*◌, ◌≤◌, ◌<◌, true, ltb, eqb, List, Option, Some, None, [], ◌∷◌, ◌++◌, length, take, drop, Ok, Err, refl, sym, ap, ◌∙◌, arith, nat_tests, append-nil, NeFault, Block, Reading, length_at, word_of, block_at, blocks_from, blocks_at}
+use Rattle.w16_ne.proofs
+use proofs.Common.{◌≡◌, ℕ, zero, suc, ◌-◌, ◌+◌, ◌*◌, ◌≤◌, ◌<◌, true, ltb, eqb, List, Option, Some, None, [], ◌∷◌, ◌++◌, length, take, drop, Ok, Err, refl, sym, ap, ◌∙◌, arith, nat_tests, append-nil, NeFault, Block, Reading, length_at, word_of, block_at, blocks_from, blocks_at}
+use proofs.{Each.with_front, Each.regroup, Until.reads_ok, Until.goes_past}
 use Rattle.w16_ne.specs.declared.fault.NeFault.TheVariants as faults
-use Rattle.w16_ne.proofs.Each.{with_front, regroup}
-use Rattle.w16_ne.proofs.Until.{reads_ok, goes_past}
 
 abbrev pub end_of : Block → ℕ
 end_of b = b.at + 12 * b.count

@@ -1,11 +1,11 @@
 -- Entries are read exactly where they are.
-use Rattle.w16_ne.proofs.Common.{◌≡◌, ℕ, zero, suc, ◌+◌, ◌*◌, ◌≤◌, ◌<◌, ◌⊎◌, inl, inr, Bool, true, false, ◌||◌, cond, List, [], ◌∷◌, ◌++◌, length, length-append, Option, Some, None, Ok, Err, refl, sym, ap, subst, ◌∙◌, arith, flat_map, ◌==◌}
-use Rattle.w16_ne.proofs.Common.{slice_index, nat_lt, nat_le, nat_tests, InSegment, Constant, Reading, ◌>>=◌, each, entry_size, bundle_end, is_astray, sound_entry, bundle_in, bundles_from, entries_in, IsInside, AreEntries, AreBundles, IsEntryTable}
+use Rattle.w16_ne.proofs
+use proofs.Common.{◌≡◌, ℕ, zero, suc, ◌+◌, ◌*◌, ◌≤◌, ◌<◌, ◌⊎◌, inl, inr, Bool, true, false, ◌||◌, cond, List, [], ◌∷◌, ◌++◌, length, length-append, Option, Some, None, Ok, Err, refl, sym, ap, subst, ◌∙◌, arith, flat_map, ◌==◌, slice_index, nat_lt, nat_le, nat_tests, InSegment, Constant}
+use proofs.Common.{Reading, ◌>>=◌, each, entry_size, bundle_end, is_astray, sound_entry, bundle_in, bundles_from, entries_in, IsInside, AreEntries, AreBundles, IsEntryTable}
+use proofs.Bounds.{ends_by_place, ends_by_byte, goes_further, is_sound}
+use proofs.SegmentsFormat.{bind_ok, passed}
+use Rattle.w16_ne.specs.{declared.entry_table.Entry.Entry, Entries.entry_in}
 use Rattle.w16_ne.specs.declared.fault.NeFault.TheVariants as faults
-use Rattle.w16_ne.specs.declared.entry_table.Entry.{Entry}
-use Rattle.w16_ne.specs.Entries.{entry_in}
-use Rattle.w16_ne.proofs.Bounds.{ends_by_place, ends_by_byte, goes_further, is_sound}
-use Rattle.w16_ne.proofs.SegmentsFormat.{bind_ok, passed}
 
 is_inside : (segments : ℕ) (e : Option Entry) → is_astray segments e ≡ false → IsInside segments e
 is_inside segments None h = tt

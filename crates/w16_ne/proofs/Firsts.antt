@@ -1,13 +1,11 @@
 -- The first resource of a type and an id.
-use Rattle.std.specs.Prelude.{position}
-use Rattle.std.specs.Option.{option_or}
-use Rattle.std.specs.List.{position_from}
-use Rattle.std.proofs.lemmas.Iterator.Adapters.{position_from-zero}
-use Rattle.std.proofs.lemmas.Bool.{and_right}
-use Rattle.w16_ne.proofs.Common.{◌≡◌, ◌<◌, ◌≤◌, ◌-◌, ℕ, suc, ◌+◌, ◌&&◌, Bool, true, false, cond, List, [], ◌∷◌, ◌++◌, length, map, take, drop, get_or, Option, Some, None, option_map}
-use Rattle.w16_ne.proofs.Common.{refl, sym, ap, ◌∙◌, arith, add-one, length-drop, drop-cons, drop-drop, Row, Group, Label, entry_in, label_in, grouped, total, listed_resources}
+use Rattle.w16_ne.proofs
+use Rattle.std.specs.{Prelude.position, Option.option_or, List.position_from}
+use Rattle.std.proofs.{lemmas.Iterator.Adapters.position_from-zero, lemmas.Bool.and_right}
+use proofs.Common.{◌≡◌, ◌<◌, ◌≤◌, ◌-◌, ℕ, suc, ◌+◌, ◌&&◌, Bool, true, false, cond, List, [], ◌∷◌, ◌++◌, length, map, take, drop, get_or, Option, Some, None, option_map, refl, sym, ap, ◌∙◌, arith, add-one, length-drop, drop-cons, drop-drop, Row, Group, Label, entry_in, label_in, grouped}
+use proofs.Common.{total, listed_resources}
+use proofs.Places.{cut, total_is}
 use Rattle.w16_ne.specs.Resources.{Entry, is_label}
-use Rattle.w16_ne.proofs.Places.{cut, total_is}
 
 module _ {X : Type 0} (p : X → Bool) where
   later : (xs : List X) (i n : ℕ) → position_from p (n + i) xs ≡ option_map (λ j. n + j) (position_from p i xs)

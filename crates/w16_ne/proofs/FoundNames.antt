@@ -1,16 +1,15 @@
 -- Ordinals of names, and how one is found.
-use Rattle.w16_ne.proofs.Common.{◌≡◌, ℕ, ◌<◌, ◌≤◌, ◌++◌, Bool, true, false, cond, List, [], ◌∷◌, length, map, Option, Some, None, refl, sym, ap, ◌∙◌, arith, option_map, unwrap_or, is_some}
-use Rattle.w16_ne.proofs.Common.{AllByRecursion, find, to_ascii_uppercase, bytes_eq, str_to_ascii_uppercase, nat_tests, same_from_decides, length-map, bytes_eq-Decides, is_named, is_named-Decides, Entry, upper, IsUpper, Finds, ordinal_in}
-use Rattle.std.specs.Map.{lookup}
-use Rattle.std.specs.Option.{option_or}
-use Rattle.std.specs.Prelude.{Vec}
+use Rattle.w16_ne.proofs
+use proofs.Common as C
+use proofs.Common.{◌≡◌, ℕ, ◌<◌, ◌≤◌, ◌++◌, Bool, true, false, cond, List, [], ◌∷◌, length, map, Option, Some, None, refl, sym, ap, ◌∙◌, arith, option_map, is_some, find, to_ascii_uppercase, bytes_eq, str_to_ascii_uppercase, is_named, is_named-Decides, Entry, upper, Finds, ordinal_in}
+use Rattle.std.specs.{Map.lookup, Option.option_or, Prelude.Vec}
 use Rattle.indexmap.proofs.CallerLemmas.{insert_entry-new}
 use Rattle.indexmap.specs.IndexMap.{IndexMap, get_by, insert_entry}
 
 -- Upper-casing.
 
 upper_by : (c : ℕ) → to_ascii_uppercase (to_ascii_uppercase c) ≡ to_ascii_uppercase c
-upper_by c = grind (arith, nat_tests)
+upper_by c = grind (arith, C.nat_tests)
 
 pub upper_twice : (cs : List ℕ) → str_to_ascii_uppercase (str_to_ascii_uppercase cs) ≡ str_to_ascii_uppercase cs
 upper_twice [] = refl
@@ -20,7 +19,7 @@ upper_twice (c ∷ cs) = cc (upper_by c, upper_twice cs)
 same_named : (e : Entry) (name : List ℕ) → is_named (upper e).0 name ≡ is_named e.0 name
 same_named e name =
     let twice = upper_twice e.0 in
-    same_from_decides (is_named (upper e).0 name) (is_named e.0 name) (is_named-Decides (upper e).0 name)
+    C.same_from_decides (is_named (upper e).0 name) (is_named e.0 name) (is_named-Decides (upper e).0 name)
     (λ t. twice ∙ (is_named-Decides e.0 name).0 t, λ h. (is_named-Decides e.0 name).1 (sym twice ∙ h))
 
 told_first : (b : Bool) (e : Entry) (o : Option Entry) → option_map (λ (x : Entry). x.1) (cond b (Some e) o) ≡ cond b (Some e.1) (option_map (λ (x : Entry). x.1) o)
@@ -37,14 +36,14 @@ told_alike p q (e ∷ es) h =
     ∙ ap (λ (o : Option ℕ). cond (q e) (Some e.1) o) (told_alike p q es h) ∙ sym (told_first (q e) e (find q es))
 
 pub same_ordinal : (names : List Entry) (name : List ℕ) → ordinal_in (map upper names) name ≡ ordinal_in names name
-same_ordinal names name = ap (λ (o : Option ℕ). unwrap_or o 0) (told_alike (λ e. is_named e.0 name) (λ e. is_named e.0 name) names (λ e. same_named e name))
+same_ordinal names name = ap (λ (o : Option ℕ). C.unwrap_or o 0) (told_alike (λ e. is_named e.0 name) (λ e. is_named e.0 name) names (λ e. same_named e name))
 
 -- A look-up by an upper-cased text.
 
-named_upper : (e : Entry) (name : List ℕ) → IsUpper e → bytes_eq (str_to_ascii_uppercase name) e.0 ≡ is_named e.0 name
+named_upper : (e : Entry) (name : List ℕ) → C.IsUpper e → bytes_eq (str_to_ascii_uppercase name) e.0 ≡ is_named e.0 name
 named_upper e name up =
     let u = str_to_ascii_uppercase name in
-    same_from_decides (bytes_eq u e.0) (is_named e.0 name) (bytes_eq-Decides u e.0)
+    C.same_from_decides (bytes_eq u e.0) (is_named e.0 name) (C.bytes_eq-Decides u e.0)
     (λ t. sym ((is_named-Decides e.0 name).0 t) ∙ up, λ h. (is_named-Decides e.0 name).1 (up ∙ sym h))
 
 more_by : (b : Bool) (n : ℕ) {o : Option ℕ} (p q : Option ℕ) → o ≡ option_or p q → cond b (Some n) o ≡ option_or (cond b (Some n) p) q
@@ -60,7 +59,7 @@ lookup_more : {K : Type 0} (p : K → Bool) (es : List (K × ℕ)) (e : K × ℕ
 lookup_more p [] e = refl
 lookup_more p (x ∷ xs) e = more_by (p x.0) x.1 _ _ (lookup_more p xs e)
 
-module _ {Z S : Type 0} (m : IndexMap (Vec ℕ Z) ℕ S) (names : List Entry) (finds : Finds m names) (e : Entry) (up : IsUpper e) where
+module _ {Z S : Type 0} (m : IndexMap (Vec ℕ Z) ℕ S) (names : List Entry) (finds : Finds m names) (e : Entry) (up : C.IsUpper e) where
   -- a name whose text isn't there is put last
   pub finds_new : is_some (get_by (λ text. bytes_eq e.0 text.items) m) ≡ false → (n : IndexMap (Vec ℕ Z) ℕ S) (k : Vec ℕ Z) → k.items ≡ e.0
       → n.entries ≡ insert_entry (λ x y. bytes_eq x.items y.items) m.entries k e.1 → Finds n (names ++ e ∷ [])
@@ -100,14 +99,14 @@ module _ {Z S : Type 0} (m : IndexMap (Vec ℕ Z) ℕ S) (names : List Entry) (f
 longer_by : (b : Bool) (e : Entry) (name : List ℕ) (o : Option Entry) → is_named e.0 name ≡ b → length e.0 < length name → o ≡ None → cond b (Some e) o ≡ None
 longer_by true e name o h less none =
     let same = ap length ((is_named-Decides e.0 name).0 h) in
-    let one = length-map e.0 to_ascii_uppercase in
-    let two = length-map name to_ascii_uppercase in
+    let one = C.length-map e.0 to_ascii_uppercase in
+    let two = C.length-map name to_ascii_uppercase in
     absurd (omega (arith, same, one, two, less))
 longer_by false e name o h less none = none
 
-find_longer : (es : List Entry) (name : List ℕ) → 255 < length name → AllByRecursion (λ (e : Entry). length e.0 ≤ 255) es → find (λ (e : Entry). is_named e.0 name) es ≡ None
+find_longer : (es : List Entry) (name : List ℕ) → 255 < length name → C.AllByRecursion (λ (e : Entry). length e.0 ≤ 255) es → find (λ (e : Entry). is_named e.0 name) es ≡ None
 find_longer [] name long short = refl
 find_longer (e ∷ es) name long short = longer_by (is_named e.0 name) e name _ refl (omega (arith, short.0, long)) (find_longer es name long short.1)
 
-pub none_longer : (names : List Entry) (name : List ℕ) → 255 < length name → AllByRecursion (λ (e : Entry). length e.0 ≤ 255) names → ordinal_in names name ≡ 0
-none_longer names name long all = ap (λ (o : Option Entry). unwrap_or (option_map (λ (e : Entry). e.1) o) 0) (find_longer names name long all)
+pub none_longer : (names : List Entry) (name : List ℕ) → 255 < length name → C.AllByRecursion (λ (e : Entry). length e.0 ≤ 255) names → ordinal_in names name ≡ 0
+none_longer names name long all = ap (λ (o : Option Entry). C.unwrap_or (option_map (λ (e : Entry). e.1) o) 0) (find_longer names name long all)

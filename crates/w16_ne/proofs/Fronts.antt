@@ -1,13 +1,13 @@
 -- A front of a file is read as the file is, or ends too early.
-use Rattle.w16_ne.proofs.Common.{◌≡◌, ℕ, zero, suc, ◌-◌, ◌+◌, ◌*◌, ◌^◌, ◌≤◌, ◌⊎◌, inl, inr, Bool, true, false, cond, ltb, List, [], ◌∷◌, ◌++◌, length, length-append, length-drop, take, drop, Option, Some, None, Ok, Err, refl}
-use Rattle.w16_ne.proofs.Common.{ap, ◌∙◌, arith, slice_index, ◌==◌, nat_lt, not, bit_and, take-append-le, drop-append-le, nat_tests, NeFault, Block, Reading, ◌>>=◌, bytes_or, reaches, word_of, each, place_at, header_at, fields_of}
-use Rattle.w16_ne.proofs.Common.{segment_count, segment_table, shift_of, resident_names, reference_count, reference_table, imported_names, entry_table, entry_length, nonresident_length, nonresident_names, resource_table}
-use Rattle.w16_ne.proofs.Common.{records_at, data_at, segment_at, entries_at, segments_at, size, name_at, names_from, names_at, resident_at, nonresident_at, text_at, texts_at, references_at, table_at, Typed, block_at, blocks_from}
-use Rattle.w16_ne.proofs.Common.{blocks_at, label_at, resource_at, resources_of, typed_at, all_typed, is_placed, are_placed, are_all_placed, resource_count, typed_in, resources_at, tables_behind, tables_at, IsOfEnd, FrontLaw}
+use Rattle.w16_ne.proofs
+use proofs.Common as C
+use proofs.Common.{◌≡◌, ℕ, zero, suc, ◌-◌, ◌+◌, ◌*◌, ◌^◌, ◌≤◌, ◌⊎◌, inl, inr, Bool, true, false, cond, ltb, List, [], ◌∷◌, ◌++◌, length, take, drop, Option, Some, None, Ok, Err, refl, ap, ◌∙◌, arith, slice_index, ◌==◌, nat_lt, not, NeFault, Block, Reading, ◌>>=◌, bytes_or, reaches}
+use proofs.Common.{word_of, each, place_at, header_at, segment_count, reference_count, records_at, data_at, segment_at, segments_at, size, name_at, names_from, resident_at, nonresident_at, text_at, references_at, table_at, Typed, block_at, blocks_from, label_at, resource_at, typed_at}
+use proofs.Common.{resources_at, tables_at, IsOfEnd}
+use proofs.SegmentsFormat.{bind_ok}
 use Rattle.w16_ne.specs.declared.fault.NeFault.TheVariants as faults
 use Rattle.w16_ne.specs.Names as names
 use Rattle.w16_ne.specs.Resources as resources
-use Rattle.w16_ne.proofs.SegmentsFormat.{bind_ok}
 
 abbrev Ends : {A : Type 0} → Reading A → Type 0
 Ends read = (e : NeFault) × (read ≡ Err e) × IsOfEnd e
@@ -50,9 +50,9 @@ module _ (file more : List ℕ) where
   bytes_cases : (short : NeFault) (at n : ℕ) → IsOfEnd short → (b : Bool) → ltb (length file) (at + n) ≡ b → IsFront (cond b (Err short) (Ok (take n (drop at file)))) (bytes_or short whole at n)
   bytes_cases short at n is true q = λ x h. inr (short, refl, is)
   bytes_cases short at n is false q =
-      let inside : at + n ≤ length file = grind (arith, nat_tests, q) in
-      let longer : ltb (length (file ++ more)) (at + n) ≡ false = let l = length-append file more in grind (arith, nat_tests) in
-      let cut : take n (drop at (file ++ more)) ≡ take n (drop at file) = ap (λ xs. take n xs) (drop-append-le at file more (omega arith)) ∙ take-append-le n (drop at file) more (omega (arith, length-drop at file)) in
+      let inside : at + n ≤ length file = grind (arith, C.nat_tests, q) in
+      let longer : ltb (length (file ++ more)) (at + n) ≡ false = let l = C.length-append file more in grind (arith, C.nat_tests) in
+      let cut : take n (drop at (file ++ more)) ≡ take n (drop at file) = ap (λ xs. take n xs) (C.drop-append-le at file more (omega arith)) ∙ C.take-append-le n (drop at file) more (omega (arith, C.length-drop at file)) in
       rw (longer, cut) (same (Ok (take n (drop at file))))
 
   bytes : (short : NeFault) (at n : ℕ) → IsOfEnd short → IsFront (bytes_or short front at n) (bytes_or short whole at n)
@@ -75,7 +75,7 @@ module _ (file more : List ℕ) where
 
   records_front : (flags end : ℕ) → IsFront (records_at front flags end) (records_at whole flags end)
   unfolding records_at
-  records_front flags end = choose (bit_and flags 0x100 == 0) _ _ _ _ (same _) (bind _ _ _ _ (bytes faults.Truncated end 2 tt) (λ count. bind _ _ _ _ (reach (end + 2 + 8 * word_of count 0)) (λ _. same _)))
+  records_front flags end = choose (C.bit_and flags 0x100 == 0) _ _ _ _ (same _) (bind _ _ _ _ (bytes faults.Truncated end 2 tt) (λ count. bind _ _ _ _ (reach (end + 2 + 8 * word_of count 0)) (λ _. same _)))
 
   data_front : (place len flags least : ℕ) → IsFront (data_at front place len flags least) (data_at whole place len flags least)
   unfolding data_at
@@ -83,11 +83,11 @@ module _ (file more : List ℕ) where
 
   segment_front : (shift : ℕ) (table : List ℕ) (at : ℕ) → IsFront (segment_at front shift table at) (segment_at whole shift table at)
   unfolding segment_at
-  segment_front shift table at = choose (not (bit_and (word_of table (at + 4)) 8 == 0)) _ _ _ _ (same _) (choose (word_of table at == 0) _ _ _ _ (same _) (data_front _ _ _ _))
+  segment_front shift table at = choose (not (C.bit_and (word_of table (at + 4)) 8 == 0)) _ _ _ _ (same _) (choose (word_of table at == 0) _ _ _ _ (same _) (data_front _ _ _ _))
 
   segments_front : (ne : ℕ) (header : List ℕ) → IsFront (segments_at front ne header) (segments_at whole ne header)
-  unfolding segments_at entries_at
-  segments_front ne header = choose (segment_count header == 0) _ _ _ _ (same _) (bind _ _ _ _ (bytes faults.Truncated (ne + segment_table header) (8 * segment_count header) tt) (λ table. each_front _ _ (λ i. segment_front (shift_of header) table (8 * i)) (segment_count header) 0))
+  unfolding segments_at C.entries_at
+  segments_front ne header = choose (segment_count header == 0) _ _ _ _ (same _) (bind _ _ _ _ (bytes faults.Truncated (ne + C.segment_table header) (8 * segment_count header) tt) (λ table. each_front _ _ (λ i. segment_front (C.shift_of header) table (8 * i)) (segment_count header) 0))
 
   name_front : (at : ℕ) → IsFront (name_at front at) (name_at whole at)
   unfolding name_at
@@ -104,26 +104,26 @@ module _ (file more : List ℕ) where
   names_fronts (suc n) (suc m) at = bind _ _ _ _ (name_front at) (more_names n m at (names_fronts n m))
 
   resident_front : (ne : ℕ) (header : List ℕ) → IsFront (resident_at front ne header) (resident_at whole ne header)
-  unfolding resident_at names_at
-  resident_front ne header = bind _ _ _ _ (names_fronts (length file) (length (file ++ more)) (ne + resident_names header)) (λ names. same _)
+  unfolding resident_at C.names_at
+  resident_front ne header = bind _ _ _ _ (names_fronts (length file) (length (file ++ more)) (ne + C.resident_names header)) (λ names. same _)
 
   text_front : (short : NeFault) (at : ℕ) → IsOfEnd short → IsFront (text_at short front at) (text_at short whole at)
   unfolding text_at
   text_front short at is = bind _ _ _ _ (bytes short at 1 is) (λ len. bytes short (at + 1) (slice_index len 0) is)
 
   references_front : (ne : ℕ) (header : List ℕ) → IsFront (references_at front ne header) (references_at whole ne header)
-  unfolding references_at texts_at
+  unfolding references_at C.texts_at
   references_front ne header =
-      choose (reference_count header == 0) _ _ _ _ (same _) (bind _ _ _ _ (bytes faults.Truncated (ne + reference_table header) (2 * reference_count header) tt)
-      (λ table. bind _ _ _ _ (each_front _ _ (λ i. text_front faults.Truncated (ne + imported_names header + word_of table (2 * i)) tt) (reference_count header) 0) (λ texts. same _)))
+      choose (reference_count header == 0) _ _ _ _ (same _) (bind _ _ _ _ (bytes faults.Truncated (ne + C.reference_table header) (2 * reference_count header) tt)
+      (λ table. bind _ _ _ _ (each_front _ _ (λ i. text_front faults.Truncated (ne + C.imported_names header + word_of table (2 * i)) tt) (reference_count header) 0) (λ texts. same _)))
 
   entries_front : (ne : ℕ) (header : List ℕ) → IsFront (table_at front ne header) (table_at whole ne header)
   unfolding table_at
-  entries_front ne header = choose (entry_length header == 0) _ _ _ _ (same _) (bind _ _ _ _ (bytes faults.Truncated (ne + entry_table header) (entry_length header) tt) (λ table. same _))
+  entries_front ne header = choose (C.entry_length header == 0) _ _ _ _ (same _) (bind _ _ _ _ (bytes faults.Truncated (ne + C.entry_table header) (C.entry_length header) tt) (λ table. same _))
 
   nonresident_front : (header : List ℕ) → IsFront (nonresident_at front header) (nonresident_at whole header)
   unfolding nonresident_at
-  nonresident_front header = choose (nonresident_length header == 0) _ _ _ _ (same _) (bind _ _ _ _ (bytes faults.Truncated (nonresident_names header) (nonresident_length header) tt) (λ table. same _))
+  nonresident_front header = choose (C.nonresident_length header == 0) _ _ _ _ (same _) (bind _ _ _ _ (bytes faults.Truncated (C.nonresident_names header) (C.nonresident_length header) tt) (λ table. same _))
 
   block_front : (at : ℕ) → IsFront (block_at front at) (block_at whole at)
   unfolding block_at
@@ -150,36 +150,36 @@ module _ (file more : List ℕ) where
   resource_front table shift at = bind _ _ _ _ (bytes faults.Truncated at 12 tt) (λ entry. bind _ _ _ _ (label_front table (word_of entry 6)) (λ id. same _))
 
   typed_front : (table shift : ℕ) (block : Block) → IsFront (typed_at front table shift block) (typed_at whole table shift block)
-  unfolding typed_at resources_of
+  unfolding typed_at C.resources_of
   typed_front table shift block =
       bind _ _ _ _ (label_front table block.kind) (λ kind. bind _ _ _ _ (each_front _ _ (λ i. resource_front table shift (block.at + 12 * i)) block.count 0) (λ found. same _))
 
-  all_typed_front : (table shift : ℕ) (blocks : List Block) → IsFront (all_typed front table shift blocks) (all_typed whole table shift blocks)
+  all_typed_front : (table shift : ℕ) (blocks : List Block) → IsFront (C.all_typed front table shift blocks) (C.all_typed whole table shift blocks)
   all_typed_front table shift [] = same (Ok [])
   all_typed_front table shift (b ∷ bs) = bind _ _ _ _ (typed_front table shift b) (λ first. bind _ _ _ _ (all_typed_front table shift bs) (λ others. same (Ok (first ∷ others))))
 
-  placed_front : (unit : ℕ) (rs : List resources.Entry) → IsFront (are_placed front unit rs) (are_placed whole unit rs)
+  placed_front : (unit : ℕ) (rs : List resources.Entry) → IsFront (C.are_placed front unit rs) (C.are_placed whole unit rs)
   placed_front unit [] = same (Ok tt)
-  placed_front unit (r ∷ rs) = bind (is_placed front unit r) (is_placed whole unit r) _ _ (choose (r.len == 0) _ _ _ _ (same _) (reach (r.place + r.len - unit + 1))) (λ _. placed_front unit rs)
+  placed_front unit (r ∷ rs) = bind (C.is_placed front unit r) (C.is_placed whole unit r) _ _ (choose (r.len == 0) _ _ _ _ (same _) (reach (r.place + r.len - unit + 1))) (λ _. placed_front unit rs)
 
-  all_placed_front : (unit : ℕ) (ts : List Typed) → IsFront (are_all_placed front unit ts) (are_all_placed whole unit ts)
+  all_placed_front : (unit : ℕ) (ts : List Typed) → IsFront (C.are_all_placed front unit ts) (C.are_all_placed whole unit ts)
   all_placed_front unit [] = same (Ok tt)
   all_placed_front unit (t ∷ ts) = bind _ _ _ _ (placed_front unit t.1) (λ _. all_placed_front unit ts)
 
   resources_front : (ne : ℕ) (header : List ℕ) → IsFront (resources_at front ne header) (resources_at whole ne header)
-  unfolding resources_at blocks_at typed_in
+  unfolding resources_at C.blocks_at C.typed_in
   resources_front ne header =
-      let at = ne + resource_table header in
-      choose (resource_table header == resident_names header) _ _ _ _ (same _) (bind _ _ _ _ (bytes faults.Truncated at 2 tt) (λ shift. bind _ _ _ _ (blocks_fronts (length file) (length (file ++ more)) (at + 2)) (λ blocks.
+      let at = ne + C.resource_table header in
+      choose (C.resource_table header == C.resident_names header) _ _ _ _ (same _) (bind _ _ _ _ (bytes faults.Truncated at 2 tt) (λ shift. bind _ _ _ _ (blocks_fronts (length file) (length (file ++ more)) (at + 2)) (λ blocks.
       choose (nat_lt 15 (word_of shift 0)) _ _ _ _ (same _) (bind _ _ _ _ (all_typed_front at (word_of shift 0) blocks) (λ types.
-      choose (nat_lt 65535 (resource_count types)) _ _ _ _ (same _) (bind _ _ _ _ (all_placed_front (2 ^ word_of shift 0) types) (λ _. same _)))))))
+      choose (nat_lt 65535 (C.resource_count types)) _ _ _ _ (same _) (bind _ _ _ _ (all_placed_front (2 ^ word_of shift 0) types) (λ _. same _)))))))
 
   tables_front : IsFront (tables_at front) (tables_at whole)
-  unfolding tables_at tables_behind
+  unfolding tables_at C.tables_behind
   tables_front =
-      bind _ _ _ _ place_front (λ ne. bind _ _ _ _ (header_front ne) (λ header. bind _ _ _ _ (same (fields_of header)) (λ _.
+      bind _ _ _ _ place_front (λ ne. bind _ _ _ _ (header_front ne) (λ header. bind _ _ _ _ (same (C.fields_of header)) (λ _.
       bind _ _ _ _ (segments_front ne header) (λ segments. bind _ _ _ _ (resident_front ne header) (λ resident. bind _ _ _ _ (references_front ne header) (λ references.
       bind _ _ _ _ (entries_front ne header) (λ entries. bind _ _ _ _ (nonresident_front header) (λ nonresident. bind _ _ _ _ (resources_front ne header) (λ resources. same _)))))))))
 
-pub front_law : FrontLaw
+pub front_law : C.FrontLaw
 front_law file more = tables_front file more

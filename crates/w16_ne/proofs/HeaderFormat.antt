@@ -1,10 +1,9 @@
 -- A header is read exactly where it is.
-use Rattle.w16_ne.proofs.Common.{◌≡◌, ℕ, ◌+◌, ◌≤◌, ◌<◌, ◌⊎◌, inl, inr, Bool, true, false, not, ◌&&◌, ◌||◌, ltb, eqb, List, length, take, drop, Some, Ok, refl, sym, subst, ◌∙◌, arith}
-use Rattle.w16_ne.proofs.Common.{bit_and, nat_tests, word_of, dword_of, place_at, header_at, fields_of, flags_of, segment_count, shift_of, target_of, IsOldHeader, IsHeader, IsAccepted}
+use Rattle.w16_ne.proofs
+use proofs.Common.{◌≡◌, ℕ, ◌+◌, ◌≤◌, ◌<◌, ◌⊎◌, inl, inr, Bool, true, false, not, ◌&&◌, ◌||◌, ltb, eqb, List, length, take, drop, Some, Ok, refl, sym, subst, ◌∙◌, arith, bit_and, nat_tests, word_of, dword_of, place_at, header_at, fields_of, flags_of, segment_count, shift_of, target_of}
+use proofs.Common.{IsOldHeader, IsHeader, IsAccepted}
+use proofs.{Until.reads_ok, NamesFormat.cut_word, SegmentsFormat.passed}
 use Rattle.w16_ne.specs.declared.fault.NeFault.TheVariants as faults
-use Rattle.w16_ne.proofs.Until.{reads_ok}
-use Rattle.w16_ne.proofs.NamesFormat.{cut_word}
-use Rattle.w16_ne.proofs.SegmentsFormat.{passed}
 
 cut_dword : (file : List ℕ) (at n k : ℕ) → k + 3 < n → dword_of (take n (drop at file)) k ≡ dword_of file (at + k)
 cut_dword file at n k lt =

@@ -1,36 +1,36 @@
 -- Names of a table that has a length are read exactly where they are.
-use Rattle.w16_ne.proofs.Common.{◌≡◌, ℕ, zero, suc, ◌+◌, ◌≤◌, ◌<◌, ◌⊎◌, inl, inr, Bool, true, false, cond, List, [], ◌∷◌, length, length-drop, take, drop, Ok, Err, refl}
-use Rattle.w16_ne.proofs.Common.{sym, subst, arith, slice_index, nat_lt, nat_le, length-take, nat_tests, Reading, ◌>>=◌, Entry, size, names_in, table_names, IsName, AreListed}
+use Rattle.w16_ne.proofs
+use proofs.Common as C
+use proofs.Common.{◌≡◌, ℕ, zero, suc, ◌+◌, ◌≤◌, ◌<◌, ◌⊎◌, inl, inr, Bool, true, false, cond, List, [], ◌∷◌, length, take, drop, Ok, Err, refl, sym, subst, arith, ◌>>=◌, Entry, size, names_in, table_names, AreListed}
+use proofs.Bounds.{ends_by_place, ends_by_byte, goes_further, is_inside}
+use proofs.SegmentsFormat.{bind_ok, passed}
+use proofs.{Listed.is_end, Listed.here, EntriesFormat.ended}
 use Rattle.w16_ne.specs.declared.fault.NeFault.TheVariants as faults
-use Rattle.w16_ne.proofs.Bounds.{ends_by_place, ends_by_byte, goes_further, is_inside}
-use Rattle.w16_ne.proofs.Listed.{is_end, here}
-use Rattle.w16_ne.proofs.EntriesFormat.{ended}
-use Rattle.w16_ne.proofs.SegmentsFormat.{bind_ok, passed}
 
 module _ (table : List ℕ) where
   abbrev count : ℕ → ℕ
-  count at = slice_index table at
+  count at = C.slice_index table at
 
   long : (at : ℕ) → at + 3 + count at ≤ length table → length (take (count at) (drop (at + 1) table)) ≡ count at
-  long at le = omega (arith, length-take (count at) (drop (at + 1) table), length-drop (at + 1) table, le)
+  long at le = omega (arith, C.length-take (count at) (drop (at + 1) table), C.length-drop (at + 1) table, le)
 
-  here_is : (at : ℕ) → at + 3 + count at ≤ length table → 0 < count at → IsName table at (here table at)
+  here_is : (at : ℕ) → at + 3 + count at ≤ length table → 0 < count at → C.IsName table at (here table at)
   here_is at le some =
       let full = long at le in
       record { inside = omega (arith, full, le); some = rw full some; len = sym full; text = rw full refl; ordinal = rw full refl }
 
-  over : (at : ℕ) (es : List Entry) → (length table ≤ at) ⊎ (count at ≡ 0) → ◌≡◌ {A = Reading (List Entry)} (Ok []) (Ok es) → AreListed table at es
+  over : (at : ℕ) (es : List Entry) → (length table ≤ at) ⊎ (count at ≡ 0) → ◌≡◌ {A = C.Reading (List Entry)} (Ok []) (Ok es) → AreListed table at es
   over at es end h = let same : ◌≡◌ {A = List Entry} [] es = cc in subst (λ xs. AreListed table at xs) same end
 
   turn : (n at : ℕ) (es : List Entry) → ((others : List Entry) → names_in table n (at + 3 + count at) ≡ Ok others → AreListed table (at + 3 + count at) others)
-      → (b : Bool) → is_end table at ≡ b → cond b (Ok []) (cond (nat_lt (length table) (at + 3 + count at)) (Err faults.BadTable) (names_in table n (at + 3 + count at) >>= λ others. Ok (here table at ∷ others))) ≡ Ok es → AreListed table at es
-  turn n at es more true q h = over at es (ended table 0 at (nat_le (length table) at) refl q) h
+      → (b : Bool) → is_end table at ≡ b → cond b (Ok []) (cond (C.nat_lt (length table) (at + 3 + count at)) (Err faults.BadTable) (names_in table n (at + 3 + count at) >>= λ others. Ok (here table at ∷ others))) ≡ Ok es → AreListed table at es
+  turn n at es more true q h = over at es (ended table 0 at (C.nat_le (length table) at) refl q) h
   turn n at es more false q h =
-      let sound = passed (nat_lt (length table) (at + 3 + count at)) faults.BadTable (names_in table n (at + 3 + count at) >>= λ others. Ok (here table at ∷ others)) es h in
+      let sound = passed (C.nat_lt (length table) (at + 3 + count at)) faults.BadTable (names_in table n (at + 3 + count at) >>= λ others. Ok (here table at ∷ others)) es h in
       let one = bind_ok (names_in table n (at + 3 + count at)) (λ others. Ok (here table at ∷ others)) es sound.1 in
       let same : here table at ∷ one.0 ≡ es = cc (one.1.1) in
-      let inside : at + 3 + count at ≤ length table = grind (arith, nat_tests, sound.0) in
-      let some : 0 < count at = grind (arith, nat_tests, q) in
+      let inside : at + 3 + count at ≤ length table = grind (arith, C.nat_tests, sound.0) in
+      let some : 0 < count at = grind (arith, C.nat_tests, q) in
       let next : at + 3 + count at ≡ at + size (here table at) = omega (arith, long at inside) in
       subst (λ xs. AreListed table at xs) same (here_is at inside some, subst (λ p. AreListed table p one.0) next (more one.0 one.1.0))
 

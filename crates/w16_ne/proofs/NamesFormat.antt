@@ -1,8 +1,9 @@
 -- Names are read exactly where they are.
-use Rattle.w16_ne.proofs.Common.{◌≡◌, ℕ, zero, suc, ◌+◌, ◌≤◌, ◌<◌, Bool, true, false, cond, ltb, eqb, List, [], ◌∷◌, length, take, drop, get_or, length-drop, Option, Some, None, Ok, Err, refl, sym, ap, subst}
-use Rattle.w16_ne.proofs.Common.{◌∙◌, arith, slice_index, length-take, take-take, get_or-drop, get_or-take, nat_tests, Reading, ◌>>=◌, word_of, Entry, size, name_at, names_from, names_at, IsName, AreNames}
+use Rattle.w16_ne.proofs
+use proofs.Common.{◌≡◌, ℕ, zero, suc, ◌+◌, ◌≤◌, ◌<◌, Bool, true, false, cond, ltb, eqb, List, [], ◌∷◌, length, take, drop, get_or, length-drop, Option, Some, None, Ok, Err, refl, sym, ap, subst, ◌∙◌, arith, slice_index, length-take, take-take, get_or-drop, get_or-take, nat_tests, Reading}
+use proofs.Common.{◌>>=◌, word_of, Entry, size, name_at, names_from, names_at, IsName, AreNames}
+use proofs.Until.{reads_ok, goes_past}
 use Rattle.w16_ne.specs.declared.fault.NeFault.TheVariants as faults
-use Rattle.w16_ne.proofs.Until.{reads_ok, goes_past}
 
 -- a byte and a word of what is cut from a file are the file's
 pub cut_byte : (file : List ℕ) (at n k : ℕ) → k < n → slice_index (take n (drop at file)) k ≡ slice_index file (at + k)

@@ -1,13 +1,14 @@
 -- A piece of a file has the same bytes and entries.
-use Rattle.w16_ne.proofs.Common.{◌≡◌, ℕ, ◌+◌, ◌-◌, ◌<◌, ◌≤◌, min, Bool, true, false, cond, ltb, eqb, List, length, take, drop, length-drop, Option, Some, None, Result, Ok, Err, refl, sym, ap, subst, ◌∙◌, arith, slice_index}
-use Rattle.w16_ne.proofs.Common.{nat_tests, length-take, take-take, take_min, drop-take, drop-drop, NeFault, Reading, ◌>>=◌, Gives, Refuses, Tells, Refused, IsFailure, bytes_or, front_at, length_at, word_of, name_at, piece_at}
+use Rattle.w16_ne.proofs
+use proofs.Common as C
+use proofs.Common.{◌≡◌, ℕ, ◌+◌, ◌-◌, ◌<◌, ◌≤◌, min, Bool, true, false, cond, ltb, eqb, List, length, take, drop, Option, Some, None, Ok, Err, refl, sym, ap, subst, ◌∙◌, arith, slice_index, NeFault, Reading, ◌>>=◌, Gives, Refuses, Tells, IsFailure, bytes_or, word_of, name_at}
+use proofs.NamesFormat.{byte_here}
 use Rattle.w16_store.specs.declared.store.StoreFault.TheVariants as stores
 use Rattle.w16_ne.specs.declared.fault.NeFault.TheVariants as faults
-use Rattle.w16_ne.proofs.NamesFormat.{byte_here}
 
 -- Faults.
 
-pub refused_is : {A : Type 0} (file : Option (List ℕ)) (before after : ℕ) (e : NeFault) (read : Reading A) → Refused e read → Refuses file before after e read
+pub refused_is : {A : Type 0} (file : Option (List ℕ)) (before after : ℕ) (e : NeFault) (read : Reading A) → C.Refused e read → Refuses file before after e read
 refused_is file before after faults.OutOfMemory read h = tt
 refused_is file before after (faults.Store e) read h = absurd h
 refused_is file before after faults.NotMz read h = h
@@ -17,7 +18,7 @@ refused_is file before after faults.Unsupported read h = h
 refused_is file before after faults.Truncated read h = h
 refused_is file before after faults.BadTable read h = h
 
-pub given : {X Y : Type 0} (view : X → Y) (file : Option (List ℕ)) (before after : ℕ) (r : Result X NeFault) (read : Reading Y) → Tells view r read → Gives view file before after r read
+pub given : {X Y : Type 0} (view : X → Y) (file : Option (List ℕ)) (before after : ℕ) (r : C.Result X NeFault) (read : Reading Y) → Tells view r read → Gives view file before after r read
 given view file before after (Ok x) read h = h
 given view file before after (Err e) read h = refused_is file before after e read h
 
@@ -57,17 +58,17 @@ only_failure file before after faults.BadTable x some h = cc
 abbrev front : ℕ → List ℕ → ℕ → List ℕ
 front most file at = take most (drop at file)
 
-pub front_is : (most : ℕ) (file : Option (List ℕ)) (len at count : ℕ) → length_at file ≡ Ok len → at < len → count ≡ min (len - at) most → bytes_or faults.Truncated file at count ≡ front_at most file at
+pub front_is : (most : ℕ) (file : Option (List ℕ)) (len at count : ℕ) → C.length_at file ≡ Ok len → at < len → count ≡ min (len - at) most → bytes_or faults.Truncated file at count ≡ C.front_at most file at
 front_is most None len at count h lt e = cc
 front_is most (Some file) len at count h lt e =
     let whole : length file ≡ len = cc in
     let less : count ≤ len - at = grind arith in
-    let inside : ltb (length file) (at + count) ≡ false = grind (arith, nat_tests) in
-    let long : length (drop at file) ≡ len - at = length-drop at file ∙ ap (λ n. n - at) whole in
+    let inside : ltb (length file) (at + count) ≡ false = grind (arith, C.nat_tests) in
+    let long : length (drop at file) ≡ len - at = C.length-drop at file ∙ ap (λ n. n - at) whole in
     let count_is : count ≡ min most (length (drop at file)) = grind arith in
-    rw (inside, count_is) (ap (λ xs. Ok xs) (take_min most (drop at file)))
+    rw (inside, count_is) (ap (λ xs. Ok xs) (C.take_min most (drop at file)))
 
-pub not_read : (most : ℕ) (file : Option (List ℕ)) (len at count before after : ℕ) (e : NeFault) → length_at file ≡ Ok len → at < len → count ≡ min (len - at) most
+pub not_read : (most : ℕ) (file : Option (List ℕ)) (len at count before after : ℕ) (e : NeFault) → C.length_at file ≡ Ok len → at < len → count ≡ min (len - at) most
     → Refuses file before after e (bytes_or faults.Truncated file at count) → IsFailure before after e
 not_read most None len at count before after e h lt is refused = cc
 not_read most (Some file) len at count before after e h lt is refused =
@@ -78,14 +79,14 @@ module _ (most : ℕ) (file : List ℕ) (pat : ℕ) where
   cut_same i n le =
       let m = most - i in
       let whole : most ≡ i + m = omega arith in
-      let one : drop i (front most file pat) ≡ take m (drop i (drop pat file)) = ap (λ k. drop i (take k (drop pat file))) whole ∙ drop-take i m (drop pat file) in
-      ap (λ xs. take n xs) one ∙ take-take n m (drop i (drop pat file)) (omega arith) ∙ ap (λ xs. take n xs) (drop-drop i pat file)
+      let one : drop i (front most file pat) ≡ take m (drop i (drop pat file)) = ap (λ k. drop i (take k (drop pat file))) whole ∙ C.drop-take i m (drop pat file) in
+      ap (λ xs. take n xs) one ∙ C.take-take n m (drop i (drop pat file)) (omega arith) ∙ ap (λ xs. take n xs) (C.drop-drop i pat file)
 
   short_same : (i n : ℕ) → 0 < i + n → i + n ≤ most → ltb (length (front most file pat)) (i + n) ≡ ltb (length file) (pat + i + n)
   short_same i n some le =
-      let long = length-take most (drop pat file) in
-      let rest = length-drop pat file in
-      grind (arith, nat_tests, long, rest)
+      let long = C.length-take most (drop pat file) in
+      let rest = C.length-drop pat file in
+      grind (arith, C.nat_tests, long, rest)
 
   pub bytes_same : (short : NeFault) (i n : ℕ) → 0 < i + n → i + n ≤ most → bytes_or short (Some (front most file pat)) i n ≡ bytes_or short (Some file) (pat + i) n
   bytes_same short i n some le = rw (short_same i n some le, cut_same i n le) refl
@@ -119,13 +120,13 @@ name_same file pat i at place le small =
     ∙ ap (λ (r : Reading (List ℕ)). r >>= λ len. cond (eqb (slice_index len 0) 0) (Ok None) (bytes_or faults.Truncated (Some file) (at + 1) (slice_index len 0 + 2) >>= λ rest. Ok (Some (take (slice_index len 0) rest, word_of rest (slice_index len 0)))))
     (bytes_same 1024 file pat faults.Truncated i 1 (omega arith) (omega (arith, le)) ∙ ap (λ a. bytes_or faults.Truncated (Some file) a 1) place)
 
-pub name_in_piece : (file : Option (List ℕ)) (bytes : List ℕ) (pat i at : ℕ) → piece_at file pat ≡ Ok bytes → pat + i ≡ at → i + 258 ≤ 1024 → slice_index bytes i < 256 → name_at (Some bytes) i ≡ name_at file at
+pub name_in_piece : (file : Option (List ℕ)) (bytes : List ℕ) (pat i at : ℕ) → C.piece_at file pat ≡ Ok bytes → pat + i ≡ at → i + 258 ≤ 1024 → slice_index bytes i < 256 → name_at (Some bytes) i ≡ name_at file at
 name_in_piece None bytes pat i at is place le small = cc
 name_in_piece (Some file) bytes pat i at is place le small =
     let same : front 1024 file pat ≡ bytes = cc in
     ap (λ (b : List ℕ). name_at (Some b) i) (sym same) ∙ name_same file pat i at place le (subst (λ b. slice_index b i < 256) (sym same) small)
 
-pub bytes_in_piece : (file : Option (List ℕ)) (bytes : List ℕ) (pat i at n : ℕ) → piece_at file pat ≡ Ok bytes → pat + i ≡ at → 0 < i + n → i + n ≤ 1024
+pub bytes_in_piece : (file : Option (List ℕ)) (bytes : List ℕ) (pat i at n : ℕ) → C.piece_at file pat ≡ Ok bytes → pat + i ≡ at → 0 < i + n → i + n ≤ 1024
     → bytes_or faults.Truncated (Some bytes) i n ≡ bytes_or faults.Truncated file at n
 bytes_in_piece None bytes pat i at n is place some le = cc
 bytes_in_piece (Some file) bytes pat i at n is place some le =

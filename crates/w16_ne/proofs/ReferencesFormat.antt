@@ -1,34 +1,36 @@
 -- References are read exactly where they are.
-use Rattle.w16_ne.proofs.Common.{◌≡◌, ℕ, zero, suc, ◌+◌, ◌*◌, ◌≤◌, ◌<◌, Bool, true, false, ◌||◌, cond, ltb, eqb, List, [], ◌∷◌, length, length-drop, take, drop, Some, Ok, Err, refl, sym, ap, subst, ◌∙◌, arith, ◌==◌, slice_index, list_any}
-use Rattle.w16_ne.proofs.Common.{length-take, nat_tests, NeFault, Reading, ◌>>=◌, bytes_or, word_of, each, reference_count, reference_table, imported_names, text_at, texts_at, references_at, IsText, AreReferences, IsReferenceTable}
+use Rattle.w16_ne.proofs
+use proofs.Common as C
+use proofs.Common.{◌≡◌, ℕ, zero, suc, ◌+◌, ◌*◌, ◌≤◌, ◌<◌, Bool, true, false, ◌||◌, cond, ltb, eqb, List, [], ◌∷◌, length, take, drop, Some, Ok, Err, refl, sym, ap, subst, ◌∙◌, arith, ◌==◌, nat_tests, Reading, ◌>>=◌, word_of, each, text_at, texts_at, references_at, IsText, AreReferences}
+use proofs.Common.{IsReferenceTable}
+use proofs.Until.{reads_ok}
+use proofs.NamesFormat.{byte_here, cut_word}
+use proofs.SegmentsFormat.{bind_ok, passed}
 use Rattle.w16_ne.specs.declared.fault.NeFault.TheVariants as faults
-use Rattle.w16_ne.proofs.Until.{reads_ok}
-use Rattle.w16_ne.proofs.NamesFormat.{byte_here, cut_word}
-use Rattle.w16_ne.proofs.SegmentsFormat.{bind_ok, passed}
 
 -- a length byte and its text
-module _ (short : NeFault) (file : List ℕ) (at : ℕ) (text : List ℕ) where
+module _ (short : C.NeFault) (file : List ℕ) (at : ℕ) (text : List ℕ) where
   pub text_is : text_at short (Some file) at ≡ Ok text → IsText file at text
   unfolding text_at
   text_is h =
       let first = reads_ok (ltb (length file) (at + 1)) short (take 1 (drop at file)) _ text h in
-      let count = slice_index (take 1 (drop at file)) 0 in
+      let count = C.slice_index (take 1 (drop at file)) 0 in
       let second = passed (ltb (length file) (at + 1 + count)) short _ text first.1 in
       let bytes : take count (drop (at + 1) file) ≡ text = cc (second.1) in
       let inside : at + 1 + count ≤ length file = grind (arith, nat_tests, second.0) in
-      let long : length text ≡ count = omega (arith, ap length bytes, length-take count (drop (at + 1) file), length-drop (at + 1) file, inside) in
+      let long : length text ≡ count = omega (arith, ap length bytes, C.length-take count (drop (at + 1) file), C.length-drop (at + 1) file, inside) in
       record { inside = omega (arith, long, inside); len = sym (byte_here file at) ∙ sym long; bytes = rw long bytes }
 
   pub text_read : IsText file at text → text_at short (Some file) at ≡ Ok text
   unfolding text_at
   text_read is =
       let first : ltb (length file) (at + 1) ≡ false = grind (arith, nat_tests, is.inside) in
-      let count : slice_index (take 1 (drop at file)) 0 ≡ length text = byte_here file at ∙ is.len in
+      let count : C.slice_index (take 1 (drop at file)) 0 ≡ length text = byte_here file at ∙ is.len in
       let second : ltb (length file) (at + 1 + length text) ≡ false = grind (arith, nat_tests, is.inside) in
       rw (first, count, second, is.bytes) refl
 
 abbrev has_empty : List (List ℕ) → Bool
-has_empty texts = list_any (λ text. length text == 0) texts
+has_empty texts = C.list_any (λ text. length text == 0) texts
 
 both : (a b : Bool) → (a || b) ≡ false → (a ≡ false) × (b ≡ false)
 both true b h = cc
@@ -74,16 +76,16 @@ no_items (t ∷ ts) h = cc
 
 module _ (file header : List ℕ) (ne : ℕ) (ts : List (List ℕ)) where
   abbrev at : ℕ
-  at = ne + reference_table header
+  at = ne + C.reference_table header
 
   abbrev names : ℕ
-  names = ne + imported_names header
+  names = ne + C.imported_names header
 
   abbrev count : ℕ
-  count = reference_count header
+  count = C.reference_count header
 
   abbrev read : Bool → Reading (List (List ℕ))
-  read b = cond b (Ok []) (bytes_or faults.Truncated (Some file) at (2 * count) >>= λ table. texts_at (Some file) names table count >>= λ texts. cond (has_empty texts) (Err faults.BadTable) (Ok texts))
+  read b = cond b (Ok []) (C.bytes_or faults.Truncated (Some file) at (2 * count) >>= λ table. texts_at (Some file) names table count >>= λ texts. cond (has_empty texts) (Err faults.BadTable) (Ok texts))
 
   table_is : (b : Bool) → eqb count 0 ≡ b → read b ≡ Ok ts → IsReferenceTable file names at count ts
   unfolding texts_at

@@ -1,16 +1,14 @@
 -- Resources are read exactly where they are.
-use Rattle.w16_ne.proofs.Common.{◌≡◌, ◌≢◌, ℕ, zero, suc, ◌+◌, ◌-◌, ◌*◌, ◌^◌, ◌≤◌, ◌<◌, ◌⊎◌, inl, inr, Bool, true, false, cond, ltb, eqb, List, [], ◌∷◌, length, take, drop, Option, Some, None, Ok, Err, slice_get, map, ◌++◌, refl, sym, ap, subst}
-use Rattle.w16_ne.proofs.Common.{◌∙◌, arith, nat_tests, listed_resources, Block, Reading, ◌>>=◌, bytes_or, reaches, word_of, each, resource_table, resident_names, text_at, Label, Number, Text, Typed, block_at, blocks_from, blocks_at, label_at}
-use Rattle.w16_ne.proofs.Common.{resource_at, resources_of, typed_at, all_typed, is_placed, are_placed, are_all_placed, resource_count, filled, typed_in, resources_at, IsLabel, IsResource, AreResources, IsBlock, AreBlocks, IsResourceTable}
-use Rattle.w16_ne.proofs.Common.{HasResources}
+use Rattle.w16_ne.proofs
+use proofs.Common as C
+use proofs.Common.{◌≡◌, ◌≢◌, ℕ, zero, suc, ◌+◌, ◌-◌, ◌*◌, ◌^◌, ◌≤◌, ◌<◌, ◌⊎◌, inl, inr, Bool, true, false, cond, ltb, eqb, List, [], ◌∷◌, length, take, drop, Some, None, Ok, Err, slice_get, map, ◌++◌, refl, sym, ap, subst, ◌∙◌, arith, nat_tests, listed_resources, Block, Reading, ◌>>=◌}
+use proofs.Common.{reaches, word_of, each, resource_table, resident_names, Label, Number, Text, Typed, block_at, blocks_from, blocks_at, label_at, resource_at, typed_at, is_placed, are_placed, filled, typed_in, resources_at, IsLabel, IsResource, AreResources, AreBlocks, HasResources}
+use proofs.NamesFormat.{cut_word, ends_here, goes_on_past}
+use proofs.SegmentsFormat.{bind_ok, passed, reached, reaches_there, word_here}
+use proofs.ReferencesFormat.{text_is, text_read}
+use proofs.{Filled.stays, Until.reads_ok, Until.goes_past}
+use Rattle.w16_ne.specs.{Resources.Entry, Modules.resource_at as resource_in}
 use Rattle.w16_ne.specs.declared.fault.NeFault.TheVariants as faults
-use Rattle.w16_ne.specs.Resources.{Entry}
-use Rattle.w16_ne.specs.Modules.{resource_at as resource_in}
-use Rattle.w16_ne.proofs.Filled.{stays}
-use Rattle.w16_ne.proofs.Until.{reads_ok, goes_past}
-use Rattle.w16_ne.proofs.NamesFormat.{cut_word, ends_here, goes_on_past}
-use Rattle.w16_ne.proofs.SegmentsFormat.{bind_ok, passed, reached, reaches_there, word_here}
-use Rattle.w16_ne.proofs.ReferencesFormat.{text_is, text_read}
 
 -- a resource's bytes, as far as they have to be there
 module _ (file : List ℕ) (unit : ℕ) (r : Entry) where
@@ -27,9 +25,9 @@ module _ (file : List ℕ) (unit : ℕ) (r : Entry) where
       by false = reaches_there file (r.place + r.len - unit + 1) (omega arith)
 
 module _ (file : List ℕ) (table : ℕ) where
-  label_cases : (word : ℕ) (label : Label) (b : Bool) → ltb word 0x8000 ≡ b → cond b (text_at faults.BadTable (Some file) (table + word) >>= λ text. Ok (Text text)) (Ok (Number (word - 0x8000))) ≡ Ok label → IsLabel file table word label
+  label_cases : (word : ℕ) (label : Label) (b : Bool) → ltb word 0x8000 ≡ b → cond b (C.text_at faults.BadTable (Some file) (table + word) >>= λ text. Ok (Text text)) (Ok (Number (word - 0x8000))) ≡ Ok label → IsLabel file table word label
   label_cases word label true q h =
-      let one = bind_ok (text_at faults.BadTable (Some file) (table + word)) (λ text. Ok (Text text)) label h in
+      let one = bind_ok (C.text_at faults.BadTable (Some file) (table + word)) (λ text. Ok (Text text)) label h in
       let same : Text one.0 ≡ label = cc (one.1.1) in
       subst (λ l. IsLabel file table word l) same (grind (arith, nat_tests, q), text_is faults.BadTable file (table + word) one.0 one.1.0)
   label_cases word label false q h =
@@ -174,14 +172,14 @@ module _ (file : List ℕ) (at : ℕ) where
 -- the blocks of a table, and their types with resources
 module _ (file : List ℕ) (table shift : ℕ) where
   abbrev types_of : List Block → Reading (List Typed)
-  types_of blocks = all_typed (Some file) table shift blocks
+  types_of blocks = C.all_typed (Some file) table shift blocks
 
   abbrev all_placed : List Typed → Reading (Unit {0})
-  all_placed types = are_all_placed (Some file) (2 ^ shift) types
+  all_placed types = C.are_all_placed (Some file) (2 ^ shift) types
 
   typed_is : (at : ℕ) (t : Typed) → word_of file at ≢ 0 → at + 8 + 12 * word_of file (at + 2) ≤ length file → typed_at (Some file) table shift (head_of file at (word_of file at) (word_of file (at + 2))) ≡ Ok t
-      → are_placed (Some file) (2 ^ shift) t.1 ≡ Ok tt → IsBlock file table shift at t
-  unfolding typed_at resources_of
+      → are_placed (Some file) (2 ^ shift) t.1 ≡ Ok tt → C.IsBlock file table shift at t
+  unfolding typed_at C.resources_of
   typed_is at t some inside h placed =
       let count = word_of file (at + 2) in
       let kind = bind_ok (label_at (Some file) table (word_of file at)) (λ k. each (item file table shift (at + 8)) count 0 >>= λ rs. Ok (k, rs)) t h in
@@ -198,8 +196,8 @@ module _ (file : List ℕ) (table shift : ℕ) where
         are = subst (λ p. AreResources file table shift p t.1) here all.1;
       }
 
-  typed_read : (at : ℕ) (t : Typed) → IsBlock file table shift at t → (typed_at (Some file) table shift (head_of file at (word_of file at) (length t.1)) ≡ Ok t) × (are_placed (Some file) (2 ^ shift) t.1 ≡ Ok tt)
-  unfolding typed_at resources_of
+  typed_read : (at : ℕ) (t : Typed) → C.IsBlock file table shift at t → (typed_at (Some file) table shift (head_of file at (word_of file at) (length t.1)) ≡ Ok t) × (are_placed (Some file) (2 ^ shift) t.1 ≡ Ok tt)
+  unfolding typed_at C.resources_of
   typed_read at t is =
       let here : at + 8 + 12 * 0 ≡ at + 8 = omega arith in
       let all = items_read file table shift (at + 8) t.1 0 (subst (λ p. AreResources file table shift p t.1) (sym here) is.are) in
@@ -224,7 +222,7 @@ module _ (file : List ℕ) (table shift : ℕ) where
       let others = rest (b.at + 12 * b.count) one.0 second.0 one.1.0 second.1.0 there.1.1 in
       subst (λ ts. AreBlocks file table shift at ts) all (here, subst (λ p. AreBlocks file table shift p second.0) next others)
 
-  found_are : (n at : ℕ) (read : Reading (Option Block)) (blocks : List Block) (types : List Typed) → block_at (Some file) at ≡ read
+  found_are : (n at : ℕ) (read : Reading (C.Option Block)) (blocks : List Block) (types : List Typed) → block_at (Some file) at ≡ read
       → ((a : ℕ) (bs : List Block) (ts : List Typed) → blocks_from (Some file) n a ≡ Ok bs → types_of bs ≡ Ok ts → all_placed ts ≡ Ok tt → AreBlocks file table shift a ts)
       → (read >>= λ found. elim found [ None ↦ Ok [] | Some b ↦ more n b >>= λ others. Ok (b ∷ others) ]) ≡ Ok blocks → types_of blocks ≡ Ok types → all_placed types ≡ Ok tt → AreBlocks file table shift at types
   found_are n at (Err e) blocks types read rest h typed placed = cc
@@ -264,18 +262,18 @@ module _ (file : List ℕ) (table shift : ℕ) where
 -- a table, at an offset
 module _ (file : List ℕ) (at : ℕ) (types : List Typed) where
   abbrev read_table : Reading (List Typed)
-  read_table = bytes_or faults.Truncated (Some file) at 2 >>= λ shift. blocks_at (Some file) (at + 2) >>= λ blocks. typed_in (Some file) at (word_of shift 0) blocks
+  read_table = C.bytes_or faults.Truncated (Some file) at 2 >>= λ shift. blocks_at (Some file) (at + 2) >>= λ blocks. typed_in (Some file) at (word_of shift 0) blocks
 
-  table_is : read_table ≡ Ok types → IsResourceTable file at types
+  table_is : read_table ≡ Ok types → C.IsResourceTable file at types
   unfolding blocks_at typed_in
   table_is h =
       let first = reads_ok (ltb (length file) (at + 2)) faults.Truncated (take 2 (drop at file)) _ types h in
       let shift = word_of (take 2 (drop at file)) 0 in
       let blocks = bind_ok (blocks_from (Some file) (length file) (at + 2)) _ types first.1 in
       let fits = passed (ltb 15 shift) faults.BadTable _ types blocks.1.1 in
-      let typed = bind_ok (all_typed (Some file) at shift blocks.0) _ types fits.1 in
-      let few = passed (ltb 65535 (resource_count typed.0)) faults.Unsupported _ types typed.1.1 in
-      let placed = bind_ok (are_all_placed (Some file) (2 ^ shift) typed.0) (λ _. Ok (filled typed.0)) types few.1 in
+      let typed = bind_ok (C.all_typed (Some file) at shift blocks.0) _ types fits.1 in
+      let few = passed (ltb 65535 (C.resource_count typed.0)) faults.Unsupported _ types typed.1.1 in
+      let placed = bind_ok (C.are_all_placed (Some file) (2 ^ shift) typed.0) (λ _. Ok (filled typed.0)) types few.1 in
       let same : filled typed.0 ≡ types = cc (placed.1.1) in
       let all = blocks_are file at shift (length file) (at + 2) blocks.0 typed.0 blocks.1.0 typed.1.0 placed.1.0 in
       let said = word_here file at in
@@ -287,7 +285,7 @@ module _ (file : List ℕ) (at : ℕ) (types : List Typed) where
         filled = sym same;
       }
 
-  table_read : IsResourceTable file at types → read_table ≡ Ok types
+  table_read : C.IsResourceTable file at types → read_table ≡ Ok types
   unfolding blocks_at typed_in
   table_read is =
       let shift = word_of file at in
@@ -297,7 +295,7 @@ module _ (file : List ℕ) (at : ℕ) (types : List Typed) where
       let blocks = blocks_read file at shift all (length file) (at + 2) (omega arith) is.are in
       let typed = types_read file at shift all (at + 2) is.are in
       let fits : ltb 15 shift ≡ false = grind (arith, nat_tests, is.shift) in
-      let few : ltb 65535 (resource_count all) ≡ false = grind (arith, nat_tests, is.few) in
+      let few : ltb 65535 (C.resource_count all) ≡ false = grind (arith, nat_tests, is.few) in
       rw (first, word_here file at, blocks, fits, typed.0, few, typed.1, ← is.filled) refl
 
 module _ (file header : List ℕ) (ne : ℕ) (types : List Typed) where

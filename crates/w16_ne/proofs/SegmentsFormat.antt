@@ -1,9 +1,9 @@
 -- Segments are read exactly where they are.
-use Rattle.w16_ne.proofs.Common.{◌≡◌, ◌≢◌, ℕ, zero, suc, ◌+◌, ◌*◌, ◌^◌, ◌≤◌, ◌<◌, inl, inr, max, Bool, true, false, not, cond, ltb, eqb, List, [], ◌∷◌, length, take, drop, Some, Ok, Err, refl, sym, ap, subst, ◌∙◌, arith, bit_and, nat_tests, NeFault, Segment}
-use Rattle.w16_ne.proofs.Common.{Reading, ◌>>=◌, bytes_or, reaches, word_of, each, segment_count, segment_table, shift_of, or_64k, rounded, records_at, data_at, segment_at, entries_at, segments_at, AreRecords, IsData, IsSegment, AreSegments, IsSegmentTable}
+use Rattle.w16_ne.proofs
+use proofs.Common.{◌≡◌, ◌≢◌, ℕ, zero, suc, ◌+◌, ◌*◌, ◌^◌, ◌≤◌, ◌<◌, inl, inr, max, Bool, true, false, not, cond, ltb, eqb, List, [], ◌∷◌, length, take, drop, Some, Ok, Err, refl, sym, ap, subst, ◌∙◌, arith, bit_and, nat_tests, NeFault, Segment, Reading, ◌>>=◌, bytes_or, reaches, word_of}
+use proofs.Common.{each, segment_count, segment_table, shift_of, or_64k, rounded, records_at, data_at, segment_at, entries_at, segments_at, AreRecords, IsData, IsSegment, AreSegments, IsSegmentTable}
+use proofs.{Until.reads_ok, NamesFormat.cut_word}
 use Rattle.w16_ne.specs.declared.fault.NeFault.TheVariants as faults
-use Rattle.w16_ne.proofs.Until.{reads_ok}
-use Rattle.w16_ne.proofs.NamesFormat.{cut_word}
 
 -- what a reading of several steps says of its first
 pub bind_ok : {A B : Type 0} (read : Reading A) (f : A → Reading B) (y : B) → (read >>= f) ≡ Ok y → (x : A) × ((read ≡ Ok x) × (f x ≡ Ok y))

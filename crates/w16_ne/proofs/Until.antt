@@ -1,12 +1,13 @@
 -- Reading names until there is none, as a loop does.
-use Rattle.w16_ne.proofs.Common.{◌≡◌, ℕ, zero, suc, ◌-◌, ◌+◌, ◌≤◌, ◌<◌, List, Option, Some, None, [], ◌∷◌, ◌++◌, Result, Ok, Err, refl, sym, ap, ◌∙◌, arith, append-nil, length-take, NeFault, Found, Reading, ◌>>=◌}
-use Rattle.w16_ne.proofs.Common.{Gives, Refuses, Refused, length_at, word_of, Entry, found_in, size, name_at, names_at, names_from, nat_tests, ltb, eqb, Bool, true, false, cond, length, length-drop, take, drop, get_or}
+use Rattle.w16_ne.proofs
+use proofs.Common as C
+use proofs.Common.{◌≡◌, ℕ, zero, suc, ◌-◌, ◌+◌, ◌≤◌, ◌<◌, List, Option, Some, None, [], ◌∷◌, ◌++◌, Result, Ok, Err, refl, sym, ap, ◌∙◌, arith, NeFault, Found, Reading, ◌>>=◌, Gives, length_at, Entry, size, name_at, names_from, ltb, eqb, Bool, true, false, cond, length, take, drop}
+use proofs.Each.{with_front, regroup}
 use Rattle.w16_store.specs.declared.store.StoreFault.TheVariants as stores
 use Rattle.w16_ne.specs.declared.fault.NeFault.TheVariants as faults
-use Rattle.w16_ne.proofs.Each.{with_front, regroup}
 
 -- what failed is told further: a fault of the file as it was, one of the store over a longer time
-pub fails_on : {A B : Type 0} (file : Option (List ℕ)) (old before after : ℕ) (e : NeFault) (read : Result A NeFault) (total : Result B NeFault) → old ≤ before → Refuses file before after e read → (read ≡ Err e → total ≡ Err e) → Refuses file old after e total
+pub fails_on : {A B : Type 0} (file : Option (List ℕ)) (old before after : ℕ) (e : NeFault) (read : Result A NeFault) (total : Result B NeFault) → old ≤ before → C.Refuses file before after e read → (read ≡ Err e → total ≡ Err e) → C.Refuses file old after e total
 fails_on file old before after faults.OutOfMemory read total le h on = tt
 fails_on file old before after (faults.Store stores.Device) read total le h on = omega arith
 fails_on file old before after (faults.Store stores.Missing) read total le h on = h
@@ -23,7 +24,7 @@ gives_on view file old before after (Ok x) read total le same h = sym same ∙ h
 gives_on view file old before after (Err e) read total le same h = fails_on file old before after e read total le h (λ q. sym same ∙ q)
 
 -- the same of a function over bytes that were read
-pub told_on : {A B : Type 0} (e : NeFault) (read : Reading A) (total : Reading B) → Refused e read → (read ≡ Err e → total ≡ Err e) → Refused e total
+pub told_on : {A B : Type 0} (e : NeFault) (read : Reading A) (total : Reading B) → C.Refused e read → (read ≡ Err e → total ≡ Err e) → C.Refused e total
 told_on faults.OutOfMemory read total h on = tt
 told_on (faults.Store e) read total h on = absurd h
 told_on faults.NotMz read total h on = on h
@@ -51,7 +52,7 @@ pub is_done : (file : Option (List ℕ)) (front : List Entry) (count i at : ℕ)
     → with_front front (names_from file (count - i) at) ≡ total → total ≡ Ok front
 is_done file front count i at total lt h so_far =
     let k : count - i ≡ suc (count - (i + 1)) = omega arith in
-    let one : with_front front (names_from file (count - i) at) ≡ Ok front = rw (k, h) (ap (λ ys. Ok ys) (append-nil front)) in
+    let one : with_front front (names_from file (count - i) at) ≡ Ok front = rw (k, h) (ap (λ ys. Ok ys) (C.append-nil front)) in
     sym so_far ∙ one
 
 -- a fault ends the reading, now or later
@@ -72,19 +73,19 @@ unfolding name_at
 past_the_end None len at h le = cc
 past_the_end (Some file) len at h le =
     let e : length file ≡ len = cc in
-    let short : ltb (length file) (at + 1) ≡ true = grind (arith, nat_tests) in
+    let short : ltb (length file) (at + 1) ≡ true = grind (arith, C.nat_tests) in
     rw short refl
 
 pub none_behind : (file : Option (List ℕ)) (len at : ℕ) → length_at file ≡ Ok len → len ≤ at → names_from file len at ≡ Err faults.Truncated
 none_behind file zero at h le = refl
 none_behind file (suc n) at h le = rw (past_the_end file (suc n) at h le) refl
 
-pub names_are : (file : Option (List ℕ)) (len at : ℕ) → length_at file ≡ Ok len → names_at file at ≡ names_from file len at
-unfolding names_at
+pub names_are : (file : Option (List ℕ)) (len at : ℕ) → length_at file ≡ Ok len → C.names_at file at ≡ names_from file len at
+unfolding C.names_at
 names_are file len at h = rw h refl
 
-pub found_long : (bytes : List ℕ) (f : Found) → f.start + f.len ≤ length bytes → size (found_in bytes f) ≡ f.len + 3
-found_long bytes f le = omega (arith, le, length-take f.len (drop f.start bytes), length-drop f.start bytes)
+pub found_long : (bytes : List ℕ) (f : Found) → f.start + f.len ≤ length bytes → size (C.found_in bytes f) ≡ f.len + 3
+found_long bytes f le = omega (arith, le, C.length-take f.len (drop f.start bytes), C.length-drop f.start bytes)
 
 pub reads_ok : {A B : Type 0} (b : Bool) (fault : NeFault) (x : A) (f : A → Reading B) (y : B) → (cond b (Err fault) (Ok x) >>= f) ≡ Ok y → (b ≡ false) × (f x ≡ Ok y)
 reads_ok true fault x f y h = cc
@@ -99,11 +100,11 @@ unfolding name_at
 entry_ends None len at e h r = cc
 entry_ends (Some file) len at e h r =
     let first = reads_ok (ltb (length file) (at + 1)) faults.Truncated (take 1 (drop at file)) _ (Some e) r in
-    let count = get_or (take 1 (drop at file)) 0 0 in
+    let count = C.get_or (take 1 (drop at file)) 0 0 in
     let text = goes_past (eqb count 0) _ e first.1 in
     let rest = reads_ok (ltb (length file) (at + 1 + (count + 2))) faults.Truncated (take (count + 2) (drop (at + 1) file)) _ (Some e) text in
     let whole : length file ≡ len = cc in
-    let inside : at + 1 + (count + 2) ≤ length file = grind (arith, nat_tests, rest.0) in
-    let is : (take count (take (count + 2) (drop (at + 1) file)), word_of (take (count + 2) (drop (at + 1) file)) count) ≡ e = cc (rest.1) in
+    let inside : at + 1 + (count + 2) ≤ length file = grind (arith, C.nat_tests, rest.0) in
+    let is : (take count (take (count + 2) (drop (at + 1) file)), C.word_of (take (count + 2) (drop (at + 1) file)) count) ≡ e = cc (rest.1) in
     let long = ap (λ (x : Entry). length x.0) is in
-    omega (arith, long, inside, whole, length-take count (take (count + 2) (drop (at + 1) file)))
+    omega (arith, long, inside, whole, C.length-take count (take (count + 2) (drop (at + 1) file)))

@@ -1,9 +1,9 @@
 -- Texts that words lead to are those of the file.
-use Rattle.w16_ne.proofs.Common.{◌≡◌, ℕ, ◌+◌, ◌<◌, ◌≤◌, Bool, true, false, cond, ltb, List, All, length, take, drop, Option, Some, None, Result, Ok, Err, refl, sym, ap, subst}
-use Rattle.w16_ne.proofs.Common.{◌∙◌, arith, slice_index, nat_tests, get_or_past, NeFault, Reading, ◌>>=◌, Refused, IsOfFile, bytes_or, text_at, HasText, text_in, texts_behind}
+use Rattle.w16_ne.proofs
+use proofs.Common.{◌≡◌, ℕ, ◌+◌, ◌<◌, ◌≤◌, Bool, true, false, cond, ltb, List, All, length, take, drop, Option, Some, None, Result, Ok, Err, refl, sym, ap, subst, ◌∙◌, arith, slice_index, nat_tests, get_or_past, NeFault, Reading, ◌>>=◌, Refused, IsOfFile, bytes_or, text_at, HasText}
+use proofs.Common.{text_in, texts_behind}
+use proofs.{NamesFormat.byte_here, Pieces.bytes_same, Pieces.bind_same}
 use Rattle.w16_ne.specs.declared.fault.NeFault.TheVariants as faults
-use Rattle.w16_ne.proofs.NamesFormat.{byte_here}
-use Rattle.w16_ne.proofs.Pieces.{bytes_same, bind_same}
 
 abbrev front : ℕ → List ℕ → ℕ → List ℕ
 front most file at = take most (drop at file)

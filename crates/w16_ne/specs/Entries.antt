@@ -1,10 +1,11 @@
 -- The entry table: bundles of a count byte and an indicator byte (volume 4).
+use Rattle.w16_ne.specs
 use Rattle.std.specs.Prelude.{ℕ, zero, suc, ◌+◌, ◌*◌, List, [], ◌++◌, length, Option, Some, None, Ok, Err, ◌==◌, nat_lt, nat_le, ◌||◌, Bool, false, if◌then◌else◌, slice_index}
-use Rattle.w16_ne.specs.declared.fault.NeFault.TheVariants.{Truncated, BadTable}
-use Rattle.w16_ne.specs.declared.entry_table.Entry.{Entry}
-use Rattle.w16_ne.specs.declared.entry_table.Entry.TheVariants.{InSegment, Constant}
-use Rattle.w16_ne.specs.Reading.{Reading, ◌>>=◌, bytes_or, word_of, each}
-use Rattle.w16_ne.specs.Header.{entry_table, entry_length, segment_count}
+use specs.declared.fault.NeFault.TheVariants.{Truncated, BadTable}
+use specs.declared.entry_table.Entry.{Entry}
+use specs.declared.entry_table.Entry.TheVariants.{InSegment, Constant}
+use specs.Reading.{Reading, ◌>>=◌, bytes_or, word_of, each}
+use specs.Header.{entry_table, entry_length, segment_count}
 
 -- An entry takes 6 bytes in a bundle of indicator FF (flags, CD, 3F, segment, offset), none in one of 0, which skips ordinals, and 3 in any
 -- other: flags, and an offset in the segment of the indicator's number, or in FE a constant.

@@ -1,9 +1,8 @@
 -- Where the entries of ordinals lie (volume 4).
 use Rattle.std.specs.Prelude.{◌≡◌, ◌<◌, ◌≤◌, ℕ, ◌+◌, ◌*◌, ◌⊎◌, List, [], ◌∷◌, length, Option, Some, None, slice_index}
 use Rattle.std.specs.List.{flat_map}
-use Rattle.w16_ne.specs.declared.entry_table.Entry.{Entry}
 use Rattle.w16_ne.specs.declared.entry_table.Entry.TheVariants.{InSegment, Constant}
-use Rattle.w16_ne.specs.Entries.{entry_size, entry_in}
+use Rattle.w16_ne.specs.{declared.entry_table.Entry.Entry, Entries.entry_size, Entries.entry_in}
 
 -- an entry's segment is one of so many, from 1; an ordinal may have no entry, and a constant has no segment
 abbrev pub IsInside : ℕ → Option Entry → Type 0

@@ -1,19 +1,9 @@
 -- What the definitions of the format come to.
 use Rattle.std.specs.Prelude.{◌≡◌, ◌↔◌, ◌⊎◌, ℕ, ◌+◌, ◌++◌, List, map, Option, Some, Ok, Err}
+use Rattle.w16_ne.specs.{declared.fault.NeFault.NeFault, declared.segment_table.Segment.Segment, Header.segment_table, Header.segment_count, Header.shift_of, Segments.segments_at, Names.Entry, Names.upper, Names.ordinal_in, Names.names_at, Modules.Tables, Modules.tables_at, Parts.parts_at}
+use Rattle.w16_ne.specs.{Parts.without_part, Entries.entries_in, NamesFormat.AreNames, SegmentsFormat.IsSegmentTable, EntriesFormat.IsEntryTable, ModuleFormat.IsModule}
 use Rattle.w16_ne.specs.declared.entry_table.Entry as entries
-use Rattle.w16_ne.specs.declared.fault.NeFault.{NeFault}
 use Rattle.w16_ne.specs.declared.fault.NeFault.TheVariants as faults
-use Rattle.w16_ne.specs.declared.segment_table.Segment.{Segment}
-use Rattle.w16_ne.specs.Header.{segment_table, segment_count, shift_of}
-use Rattle.w16_ne.specs.Segments.{segments_at}
-use Rattle.w16_ne.specs.Names.{Entry, upper, ordinal_in, names_at}
-use Rattle.w16_ne.specs.Modules.{Tables, tables_at}
-use Rattle.w16_ne.specs.Parts.{parts_at, without_part}
-use Rattle.w16_ne.specs.Entries.{entries_in}
-use Rattle.w16_ne.specs.NamesFormat.{AreNames}
-use Rattle.w16_ne.specs.SegmentsFormat.{IsSegmentTable}
-use Rattle.w16_ne.specs.EntriesFormat.{IsEntryTable}
-use Rattle.w16_ne.specs.ModuleFormat.{IsModule}
 
 -- a name that is found among upper-cased ones has the ordinal that the tables give it: the first equal name's
 abbrev pub NamesLaw : Type 0

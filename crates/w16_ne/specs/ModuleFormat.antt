@@ -1,14 +1,11 @@
 -- A module's file as a whole, in which nothing is read: where each table lies that the module has.
+use Rattle.w16_ne.specs
 use Rattle.std.specs.Prelude.{◌≡◌, ◌<◌, ◌≤◌, ℕ, ◌+◌, ◌++◌, List, drop, length, map, take}
-use Rattle.w16_ne.specs.Header.{shift_of, entry_table, entry_length, segment_count, segment_table, resident_names, reference_count, reference_table, imported_names, nonresident_length, nonresident_names}
-use Rattle.w16_ne.specs.Names.{Entry, upper, first_text}
-use Rattle.w16_ne.specs.Modules.{Tables}
-use Rattle.w16_ne.specs.HeaderFormat.{IsOldHeader, IsHeader, IsAccepted}
-use Rattle.w16_ne.specs.NamesFormat.{AreNames, AreListed}
-use Rattle.w16_ne.specs.SegmentsFormat.{IsSegmentTable}
-use Rattle.w16_ne.specs.ReferencesFormat.{IsReferenceTable}
-use Rattle.w16_ne.specs.EntriesFormat.{IsEntryTable}
-use Rattle.w16_ne.specs.ResourcesFormat.{HasResources}
+use specs.Header.{shift_of, entry_table, entry_length, segment_count, segment_table, resident_names, reference_count, reference_table, imported_names, nonresident_length, nonresident_names}
+use specs.Names.{Entry, upper, first_text}
+use specs.HeaderFormat.{IsOldHeader, IsHeader, IsAccepted}
+use specs.NamesFormat.{AreNames, AreListed}
+use specs.{Modules.Tables, SegmentsFormat.IsSegmentTable, ReferencesFormat.IsReferenceTable, EntriesFormat.IsEntryTable, ResourcesFormat.HasResources}
 
 -- so many bytes of a file at an offset, and that they are there; none are nowhere
 abbrev pub part : List ℕ → ℕ → ℕ → List ℕ

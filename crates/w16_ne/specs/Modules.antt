@@ -1,17 +1,13 @@
 -- A module file as a whole: its tables, or its first fault.
+use Rattle.w16_ne.specs
 use Rattle.std.specs.Prelude.{ℕ, zero, suc, ◌+◌, ◌++◌, List, drop, length, Option, None, Ok, map, slice_get, slice_index_or}
 use Rattle.std.specs.List.{flat_map}
-use Rattle.w16_ne.specs.declared.entry_table.Entry.{Entry}
-use Rattle.w16_ne.specs.declared.segment_table.Segment.{Segment}
-use Rattle.w16_ne.specs.Reading.{Reading, ◌>>=◌}
-use Rattle.w16_ne.specs.Header.{place_at, header_at, fields_of, imported_names}
-use Rattle.w16_ne.specs.Segments.{segments_at}
+use specs.declared.segment_table.Segment.{Segment}
+use specs.Header.{place_at, header_at, fields_of, imported_names}
+use specs.Resources.{Label, Typed, resources_at}
+use specs.{declared.entry_table.Entry.Entry, Reading.Reading, Reading.◌>>=◌, Segments.segments_at, Names.upper, Names.first_text, Names.resident_at, Names.nonresident_at, References.references_at, Entries.table_at}
 use Rattle.w16_ne.specs.Names as names
-use Rattle.w16_ne.specs.Names.{upper, first_text, resident_at, nonresident_at}
-use Rattle.w16_ne.specs.References.{references_at}
-use Rattle.w16_ne.specs.Entries.{table_at}
 use Rattle.w16_ne.specs.Resources as resources
-use Rattle.w16_ne.specs.Resources.{Label, Typed, resources_at}
 
 -- what a module's file says
 pub record Tables : Type 0 where

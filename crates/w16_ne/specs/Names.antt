@@ -1,16 +1,12 @@
 -- Tables of names: an entry is a length byte, the text and an ordinal word; a length of 0 ends the table (volume 4).
+use Rattle.w16_ne.specs
 use Rattle.std.specs.Prelude.{◌≡◌, ℕ, zero, suc, ◌+◌, List, [], ◌∷◌, length, take, drop, Vec, Option, Some, None, Ok, Err, ◌==◌, nat_lt, nat_le, ◌||◌, if◌then◌else◌, slice_index, option_map, unwrap_or}
-use Rattle.std.specs.List.{find}
-use Rattle.std.specs.Str.{bytes_eq, str_to_ascii_uppercase}
+use Rattle.std.specs.{List.find, Str.bytes_eq, Str.str_to_ascii_uppercase}
 use Rattle.indexmap.specs.IndexMap.{IndexMap, get_by}
 use Rattle.w16_store.specs.Names.{is_named}
-use Rattle.w16_ne.specs.declared.name_piece.TheConstants.{PIECE}
-use Rattle.w16_ne.specs.declared.fault.NeFault.TheVariants.{Truncated, BadTable}
-use Rattle.w16_ne.specs.declared.name_piece.Found.{Found}
-use Rattle.w16_ne.specs.declared.name_piece.Piece.{Piece}
-use Rattle.w16_ne.specs.declared.names.Place.{Place}
-use Rattle.w16_ne.specs.Reading.{Reading, ◌>>=◌, bytes_or, front_at, length_at, word_of}
-use Rattle.w16_ne.specs.Header.{resident_names, nonresident_names, nonresident_length}
+use specs.declared.fault.NeFault.TheVariants.{Truncated, BadTable}
+use specs.Reading.{Reading, ◌>>=◌, bytes_or, front_at, length_at, word_of}
+use specs.{declared.name_piece.TheConstants.PIECE, declared.name_piece.Found.Found, declared.name_piece.Piece.Piece, declared.names.Place.Place, Header.resident_names, Header.nonresident_names, Header.nonresident_length}
 
 -- a text and its ordinal
 abbrev pub Entry : Type 0

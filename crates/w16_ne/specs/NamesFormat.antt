@@ -1,7 +1,6 @@
 -- Where names lie (volume 4).
 use Rattle.std.specs.Prelude.{◌≡◌, ◌<◌, ◌≤◌, ℕ, ◌+◌, ◌⊎◌, List, [], ◌∷◌, length, take, drop, slice_index}
-use Rattle.w16_ne.specs.Reading.{word_of}
-use Rattle.w16_ne.specs.Names.{Entry, size}
+use Rattle.w16_ne.specs.{Reading.word_of, Names.Entry, Names.size}
 
 -- a name at an offset: its length byte, which isn't 0, its text and its ordinal
 pub record IsName (file : List ℕ) (at : ℕ) (e : Entry) : Type 0 where

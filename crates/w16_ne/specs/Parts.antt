@@ -1,17 +1,9 @@
 -- The tables of a module file, or its first fault with the part of the file that it is in.
+use Rattle.w16_ne.specs
 use Rattle.std.specs.Prelude.{◌≡◌, ℕ, List, Option, Result, Ok, Err}
-use Rattle.w16_ne.specs.declared.fault.NeFault.{NeFault}
-use Rattle.w16_ne.specs.declared.part.FilePart.{FilePart}
-use Rattle.w16_ne.specs.declared.part.FilePart.TheVariants.{OldHeader, Header, SegmentTable, ResidentNames, References, EntryTable, NonresidentNames, ResourceTable}
-use Rattle.w16_ne.specs.declared.part.PartFault.{PartFault}
-use Rattle.w16_ne.specs.Reading.{Reading, IsOfFile}
-use Rattle.w16_ne.specs.Header.{place_at, header_at, fields_of}
-use Rattle.w16_ne.specs.Segments.{segments_at}
-use Rattle.w16_ne.specs.Names.{resident_at, nonresident_at}
-use Rattle.w16_ne.specs.References.{references_at}
-use Rattle.w16_ne.specs.Entries.{table_at}
-use Rattle.w16_ne.specs.Resources.{resources_at}
-use Rattle.w16_ne.specs.Modules.{Tables, tables_of}
+use specs.declared.part.FilePart.TheVariants.{OldHeader, Header, SegmentTable, ResidentNames, References, EntryTable, NonresidentNames, ResourceTable}
+use specs.{declared.fault.NeFault.NeFault, declared.part.FilePart.FilePart, declared.part.PartFault.PartFault, Reading.Reading, Reading.IsOfFile, Header.place_at, Header.header_at, Header.fields_of, Segments.segments_at, Names.resident_at, Names.nonresident_at, References.references_at}
+use specs.{Entries.table_at, Resources.resources_at, Modules.Tables, Modules.tables_of}
 
 -- a part is read, and then the next; where it can't be, the fault is this part's
 abbrev pub reads : {Y Z : Type 0} → FilePart → Reading Y → (Y → Result Z PartFault) → Result Z PartFault

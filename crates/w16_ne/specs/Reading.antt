@@ -1,9 +1,8 @@
 -- Parts of a file, and the first fault that is met where one isn't there. A file is none where the store has no such file.
 use Rattle.std.specs.Prelude.{◌≡◌, ℕ, zero, suc, ◌+◌, ◌*◌, ◌<◌, Bool, false, List, [], ◌∷◌, length, take, drop, Option, Some, None, Result, Ok, Err, nat_lt, if◌then◌else◌, slice_index}
-use Rattle.w16_store.specs.declared.store.StoreFault.{StoreFault}
-use Rattle.w16_store.specs.declared.store.StoreFault.TheVariants as stores
-use Rattle.w16_store.specs.Later.{is_device}
+use Rattle.w16_store.specs.{declared.store.StoreFault.StoreFault, Later.is_device}
 use Rattle.w16_ne.specs.declared.fault.NeFault.{NeFault}
+use Rattle.w16_store.specs.declared.store.StoreFault.TheVariants as stores
 use Rattle.w16_ne.specs.declared.fault.NeFault.TheVariants as faults
 
 -- a fault of the store's device

@@ -1,10 +1,11 @@
 -- Module references: words, each the offset of a length byte and a text from the start of the imported names (volume 4).
+use Rattle.w16_ne.specs
 use Rattle.std.specs.Prelude.{ℕ, ◌+◌, ◌*◌, List, [], length, Option, Ok, Err, ◌==◌, if◌then◌else◌, slice_index}
 use Rattle.std.specs.List.{list_any}
-use Rattle.w16_ne.specs.declared.fault.NeFault.{NeFault}
-use Rattle.w16_ne.specs.declared.fault.NeFault.TheVariants.{Truncated, BadTable}
-use Rattle.w16_ne.specs.Reading.{Reading, ◌>>=◌, bytes_or, word_of, each}
-use Rattle.w16_ne.specs.Header.{reference_count, reference_table, imported_names}
+use specs.declared.fault.NeFault.{NeFault}
+use specs.declared.fault.NeFault.TheVariants.{Truncated, BadTable}
+use specs.Reading.{Reading, ◌>>=◌, bytes_or, word_of, each}
+use specs.Header.{reference_count, reference_table, imported_names}
 
 -- a length byte and so many bytes of text
 unfoldable pub text_at : NeFault → Option (List ℕ) → ℕ → Reading (List ℕ)

@@ -1,16 +1,13 @@
 -- The resource table: a shift word; blocks of a type, each a type word, a count word and a reserved double word, then 12 bytes for each resource:
 -- offset, length, flags, id and two reserved words; a type of 0 ends it (volume 4).
+use Rattle.w16_ne.specs
 use Rattle.std.specs.Prelude.{ℕ, zero, suc, ◌+◌, ◌-◌, ◌*◌, ◌^◌, Bool, false, List, [], ◌∷◌, length, Option, Some, None, Ok, Err, ◌==◌, nat_lt, if◌then◌else◌}
-use Rattle.w16_ne.specs.declared.fault.NeFault.TheVariants.{Truncated, BadTable, Unsupported}
 use Rattle.std.specs.List.{sum_by, filter}
+use specs.declared.fault.NeFault.TheVariants.{Truncated, BadTable, Unsupported}
+use specs.Reading.{Reading, ◌>>=◌, bytes_or, length_at, reaches, word_of, each}
+use specs.{declared.resource_places.Resource.Resource, declared.resource_places.ResourceName.ResourceName, declared.resource_blocks.Block.Block, References.text_at, Header.resource_table, Header.resident_names}
 use Rattle.w16_store.specs.Names.{is_named}
-use Rattle.w16_ne.specs.declared.resource_places.Resource.{Resource}
-use Rattle.w16_ne.specs.declared.resource_places.ResourceName.{ResourceName}
 use Rattle.w16_ne.specs.declared.resource_places.ResourceName.TheVariants as names
-use Rattle.w16_ne.specs.declared.resource_blocks.Block.{Block}
-use Rattle.w16_ne.specs.Reading.{Reading, ◌>>=◌, bytes_or, length_at, reaches, word_of, each}
-use Rattle.w16_ne.specs.References.{text_at}
-use Rattle.w16_ne.specs.Header.{resource_table, resident_names}
 
 -- a type or an id: a number, or a text
 pub data Label : Type 0 where

@@ -1,9 +1,7 @@
 -- Where resources lie, their types and their ids (volume 4).
 use Rattle.std.specs.Prelude.{◌≡◌, ◌≢◌, ◌<◌, ◌≤◌, ℕ, ◌+◌, ◌*◌, ◌^◌, ◌⊎◌, List, [], ◌∷◌, length}
-use Rattle.w16_ne.specs.Reading.{word_of}
-use Rattle.w16_ne.specs.Header.{resource_table, resident_names}
 use Rattle.w16_ne.specs.Resources.{Label, Number, Text, Entry, Typed, resource_count, filled}
-use Rattle.w16_ne.specs.ReferencesFormat.{IsText}
+use Rattle.w16_ne.specs.{Reading.word_of, Header.resource_table, Header.resident_names, ReferencesFormat.IsText}
 
 -- what a type word or an id word says: with bit 15 a number, and without it the offset of a text from the table's start
 abbrev pub IsLabel : List ℕ → ℕ → ℕ → Label → Type 0

@@ -1,11 +1,8 @@
 -- Resources as a module keeps them: words, and texts that words lead to.
 use Rattle.std.specs.Prelude.{◌≡◌, ◌<◌, ℕ, ◌-◌, ◌*◌, ◌^◌, ◌++◌, List, [], ◌∷◌, length, map, take, drop, All, nat_lt, if◌then◌else◌}
 use Rattle.std.specs.List.{sum_by}
-use Rattle.w16_ne.specs.declared.resource_rows.Row.{Row}
-use Rattle.w16_ne.specs.declared.resource_rows.Group.{Group}
-use Rattle.w16_ne.specs.declared.resource_rows.Rows.{Rows}
-use Rattle.w16_ne.specs.Texts.{HasText, text_in}
 use Rattle.w16_ne.specs.Resources.{Label, Number, Text, Entry, Typed}
+use Rattle.w16_ne.specs.{declared.resource_rows.Row.Row, declared.resource_rows.Group.Group, declared.resource_rows.Rows.Rows, Texts.HasText, Texts.text_in}
 
 -- what a type word or an id word says, and that its text is there
 abbrev pub label_in : List ℕ → ℕ → Label

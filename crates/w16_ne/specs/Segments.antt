@@ -1,10 +1,11 @@
 -- The segment table: for each segment a sector, the length in the file, flags, and the minimum allocation (volume 4).
+use Rattle.w16_ne.specs
 use Rattle.std.specs.Prelude.{◌≡◌, ◌≤◌, ℕ, ◌%◌, ◌+◌, ◌*◌, ◌/◌, ◌^◌, max, List, [], Option, Ok, Err, ◌==◌, not, if◌then◌else◌, bit_and}
-use Rattle.w16_ne.specs.declared.fault.NeFault.TheVariants.{Unsupported, Truncated}
-use Rattle.w16_ne.specs.declared.segment_table.Segment.{Segment}
-use Rattle.w16_ne.specs.declared.segment_table.TheConstants.{LARGEST_SEGMENT, SEGMENT_UNIT}
-use Rattle.w16_ne.specs.Reading.{Reading, ◌>>=◌, bytes_or, reaches, word_of, each}
-use Rattle.w16_ne.specs.Header.{shift_of, segment_count, segment_table}
+use specs.declared.fault.NeFault.TheVariants.{Unsupported, Truncated}
+use specs.declared.segment_table.Segment.{Segment}
+use specs.declared.segment_table.TheConstants.{LARGEST_SEGMENT, SEGMENT_UNIT}
+use specs.Reading.{Reading, ◌>>=◌, bytes_or, reaches, word_of, each}
+use specs.Header.{shift_of, segment_count, segment_table}
 
 -- a length or a minimum of 0 stands for 65,536
 abbrev pub or_64k : ℕ → ℕ

@@ -1,8 +1,6 @@
 -- Where segments lie, their data and their relocation records (volume 4).
 use Rattle.std.specs.Prelude.{◌≡◌, ◌≢◌, ◌<◌, ◌≤◌, ℕ, ◌+◌, ◌*◌, ◌^◌, ◌⊎◌, max, List, [], ◌∷◌, length, bit_and}
-use Rattle.w16_ne.specs.declared.segment_table.Segment.{Segment}
-use Rattle.w16_ne.specs.Reading.{word_of}
-use Rattle.w16_ne.specs.Segments.{or_64k, rounded}
+use Rattle.w16_ne.specs.{declared.segment_table.Segment.Segment, Reading.word_of, Segments.or_64k, Segments.rounded}
 
 -- how many relocation records stand at an end of data: none without flag 0100, or as many as the word there says, and all are there
 abbrev pub AreRecords : List ℕ → ℕ → ℕ → ℕ → Type 0

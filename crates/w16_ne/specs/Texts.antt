@@ -1,7 +1,6 @@
 -- Texts that words lead to: each a length byte and so many bytes, at a word's offset from one place of the file.
 use Rattle.std.specs.Prelude.{ℕ, ◌+◌, ◌≤◌, List, length, take, drop, Option, slice_index}
-use Rattle.w16_ne.specs.declared.text_window.TheConstants.{TEXTS}
-use Rattle.w16_ne.specs.Reading.{Reading, front_at}
+use Rattle.w16_ne.specs.{declared.text_window.TheConstants.TEXTS, Reading.Reading, Reading.front_at}
 
 -- as far as texts go that words lead to
 abbrev pub texts_behind : Option (List ℕ) → ℕ → Reading (List ℕ)

@@ -1,6 +1,5 @@
 use Rattle.std.proofs.Common.{◌≡◌, ℕ, suc, ◌+◌, ◌<◌, ◌≤◌, ◌/◌, ◌%◌, ◌==◌, ◌||◌, Bool, true, false, cond, nat_lt, List, [], ◌∷◌, ◌++◌, length, get_or, codes, refl, sym, subst, arith}
-use Rattle.std.proofs.lemmas.Bool.Decides.{nat_tests}
-use Rattle.std.proofs.lemmas.Fmt.{hex_byte}
+use Rattle.std.proofs.{lemmas.Bool.Decides.nat_tests, lemmas.Fmt.hex_byte}
 use Rattle.std.specs.Fmt.{digit_glyph}
 use Rattle.w16_picture.specs.Escape.{IsPlain, IsText, nothing, plain, entity, byte_shown, byte_text, escaped, hex}
 

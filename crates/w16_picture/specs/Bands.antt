@@ -1,11 +1,7 @@
 -- Bands: which rectangles of two strips show the same object.
 use Rattle.std.specs.Prelude.{◌≡◌, ℕ, ◌==◌, ◌&&◌, Bool, false, Option, List, Contains, find, option_map, nat_eq, is_some, is_none, IsSome}
-use Rattle.std.specs.HashMap.{HashMap, get}
-use Rattle.std.specs.Option.{option_and_then, option_map_or}
-use Rattle.std.specs.declared.hash.FoldHasher.{FoldHasher}
-use Rattle.std.specs.declared.hash.BuildHasherDefault.{BuildHasherDefault}
-use Rattle.w16_picture.specs.declared.bands.Band.{Band}
-use Rattle.w16_picture.specs.declared.layout.Rect.{Rect}
+use Rattle.std.specs.{HashMap.HashMap, HashMap.get, Option.option_and_then, Option.option_map_or, declared.hash.FoldHasher.FoldHasher, declared.hash.BuildHasherDefault.BuildHasherDefault}
+use Rattle.w16_picture.specs.{declared.bands.Band.Band, declared.layout.Rect.Rect}
 
 -- the handle of a rectangle's object, if it shows one
 abbrev pub handle_in : Rect → Option ℕ

@@ -1,11 +1,8 @@
 -- Strips as text.
 use Rattle.std.specs.Prelude.{ℕ, ◌-◌, Option, Some, None, List, [], ◌∷◌, ◌++◌, length, replicate, codes, decimal, ◌==◌, ◌||◌, nat_lt, if◌then◌else◌}
-use Rattle.w16_model.specs.declared.Kind.{Kind}
 use Rattle.w16_model.specs.declared.Kind.TheVariants.{Fixed, Moveable, Discardable}
-use Rattle.w16_model.specs.declared.Owner.{Owner}
-use Rattle.w16_picture.specs.declared.layout.Rect.{Rect}
-use Rattle.w16_picture.specs.declared.svg.Caption.{Caption}
-use Rattle.w16_picture.specs.Escape.{hex, shown}
+use Rattle.w16_model.specs.{declared.Kind.Kind, declared.Owner.Owner}
+use Rattle.w16_picture.specs.{declared.layout.Rect.Rect, declared.svg.Caption.Caption, Escape.hex, Escape.shown}
 
 -- what a part begins with: a dot, or a letter for the kind
 abbrev pub kind_letter : Kind → ℕ

@@ -1,9 +1,6 @@
 -- Text of others in XML and on a terminal: no part of it is markup or a control character.
 use Rattle.std.specs.Prelude.{◌≡◌, ◌≢◌, ℕ, ◌^◌, ◌-◌, ◌≤◌, Result, OnOk, String, string_bytes, List, [], ◌∷◌, ◌++◌, codes, false, ◌==◌, ◌||◌, nat_lt, if◌then◌else◌, Contains}
-use Rattle.std.specs.Global.{Global}
-use Rattle.std.specs.Fmt.{digits, padded_integral, format_spec}
-use Rattle.std.specs.List.{flat_map}
-use Rattle.std.specs.declared.alloc.AllocError.{AllocError}
+use Rattle.std.specs.{Global.Global, Fmt.digits, Fmt.padded_integral, Fmt.format_spec, List.flat_map, declared.alloc.AllocError.AllocError}
 
 -- A call that answers `Ok` has appended this text.
 abbrev pub Adds : Result (Unit {0}) AllocError → String Global → String Global → List ℕ → Type 0

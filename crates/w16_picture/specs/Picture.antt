@@ -1,8 +1,7 @@
 -- What is printed of a picture.
 use Rattle.std.specs.Prelude.{ℕ, ◌+◌, ◌*◌, List, [], ◌++◌, codes, decimal}
-use Rattle.w16_picture.specs.declared.style.TheConstants.{HEAD}
-use Rattle.w16_picture.specs.declared.style.Style.{Style}
 use Rattle.w16_picture.specs.declared.style.Style.TheVariants.{Svg, Text}
+use Rattle.w16_picture.specs.{declared.style.TheConstants.HEAD, declared.style.Style.Style}
 
 abbrev pub opening_text : Style → List ℕ
 opening_text Svg = HEAD.now

@@ -1,15 +1,10 @@
 -- What is printed for a strip.
+use Rattle.w16_picture.specs
 use Rattle.std.specs.Prelude.{ℕ, ◌+◌, true, false, List, ◌++◌, codes, filter}
 use Rattle.std.specs.List.{filter_map, flat_map}
-use Rattle.w16_picture.specs.declared.layout.Rect.{Rect}
-use Rattle.w16_picture.specs.declared.strips.Shape.{Shape}
-use Rattle.w16_picture.specs.declared.strips.Shape.TheVariants.{Part, Cells, Comes, Goes}
-use Rattle.w16_picture.specs.declared.style.Style.{Style}
-use Rattle.w16_picture.specs.declared.style.Style.TheVariants.{Svg, Text}
-use Rattle.w16_picture.specs.declared.svg.Caption.{Caption}
-use Rattle.w16_picture.specs.Bands.{band_to, is_alone}
-use Rattle.w16_picture.specs.Cells.{cells, heading_text}
-use Rattle.w16_picture.specs.Svg.{band_text, caption_text, fade_text, group_text, rect_text}
+use specs.declared.strips.Shape.TheVariants.{Part, Cells, Comes, Goes}
+use specs.declared.style.Style.TheVariants.{Svg, Text}
+use specs.{declared.layout.Rect.Rect, declared.strips.Shape.Shape, declared.style.Style.Style, declared.svg.Caption.Caption, Bands.band_to, Bands.is_alone, Cells.cells, Cells.heading_text, Svg.band_text, Svg.caption_text, Svg.fade_text, Svg.group_text, Svg.rect_text}
 
 abbrev pub shape_in : Shape → Rect → List ℕ
 shape_in Part rect = rect_text rect

@@ -1,12 +1,8 @@
 -- What is printed of strips and bands as SVG.
 use Rattle.std.specs.Prelude.{ℕ, ◌+◌, ◌-◌, Bool, Option, Some, None, List, [], ◌++◌, codes, decimal, ◌==◌, ◌&&◌, not, nat_le, nat_lt, if◌then◌else◌}
-use Rattle.w16_model.specs.declared.Kind.{Kind}
 use Rattle.w16_model.specs.declared.Kind.TheVariants.{Fixed, Moveable, Discardable}
-use Rattle.w16_model.specs.declared.Owner.{Owner}
-use Rattle.w16_picture.specs.declared.bands.Band.{Band}
-use Rattle.w16_picture.specs.declared.layout.Rect.{Rect}
-use Rattle.w16_picture.specs.declared.svg.Caption.{Caption}
-use Rattle.w16_picture.specs.Escape.{hex, escaped}
+use Rattle.w16_model.specs.{declared.Kind.Kind, declared.Owner.Owner}
+use Rattle.w16_picture.specs.{declared.bands.Band.Band, declared.layout.Rect.Rect, declared.svg.Caption.Caption, Escape.hex, Escape.escaped}
 
 unfoldable pub kind_word : Kind → List ℕ
 kind_word Fixed = codes "fixed"

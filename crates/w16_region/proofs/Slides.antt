@@ -1,26 +1,26 @@
 -- A part that is slid down, piece by piece.
-use Rattle.w16_region.proofs.Common.{ℕ, ◌≡◌, ◌+◌, ◌-◌, ◌<◌, ◌≤◌, List, ◌++◌, length, take, drop, arith, sym, ◌∙◌, ap, length-append, append_assoc, take-add, length-take-le, take_at}
-use Rattle.w16_region.proofs.Common.{drop-drop, drop-take, take-take, take-append-drop, part, put_part, length-part, length-put_part, drop-put_part, take-put_part, part_below, drop_at}
+use Rattle.w16_region.proofs.Common as C
+use Rattle.w16_region.proofs.Common.{ℕ, ◌≡◌, ◌+◌, ◌-◌, ◌<◌, ◌≤◌, List, ◌++◌, length, take, drop, arith, sym, ◌∙◌, ap, append_assoc, drop-drop, part, put_part, length-part}
 use borrow.Rule.Slice.PartMut.{put_mid}
 
 -- two pieces, one behind the other
 joined : (bytes : List ℕ) (from a b : ℕ) → part bytes from a ++ part bytes (from + a) b ≡ part bytes from (a + b)
-joined bytes from a b = ap (λ (zs : List ℕ). take a (drop from bytes) ++ take b zs) (sym (drop-drop a from bytes)) ∙ sym (take-add a b (drop from bytes))
+joined bytes from a b = ap (λ (zs : List ℕ). take a (drop from bytes) ++ take b zs) (sym (drop-drop a from bytes)) ∙ sym (C.take-add a b (drop from bytes))
 
 -- a part put before a cut
 cut_put : (mid ys : List ℕ) (a k m : ℕ) → length ys ≡ k → a + k ≤ m → put_mid a k (take m mid) ys ++ drop m mid ≡ put_part mid a ys
 cut_put mid ys a k m long le =
     let j : ℕ = m - (a + k) in let sum : a + k + j ≡ m = omega arith in
     let rest : drop (a + k) (take m mid) ++ drop m mid ≡ drop (a + k) mid =
-    ap (λ (i : ℕ). drop (a + k) (take i mid) ++ drop i mid) (sym sum) ∙ (λ i. drop-take (a + k) j mid i ++ sym (drop-drop j (a + k) mid) i) ∙ take-append-drop j (drop (a + k) mid) in
+    ap (λ (i : ℕ). drop (a + k) (take i mid) ++ drop i mid) (sym sum) ∙ (λ i. C.drop-take (a + k) j mid i ++ sym (drop-drop j (a + k) mid) i) ∙ C.take-append-drop j (drop (a + k) mid) in
     (λ i. (take a (take m mid) ++ (ys ++ drop-drop k a (take m mid) i)) ++ drop m mid)
     ∙ append_assoc (take a (take m mid)) (ys ++ drop (a + k) (take m mid)) (drop m mid)
     ∙ ap (λ (zs : List ℕ). take a (take m mid) ++ zs) (append_assoc ys (drop (a + k) (take m mid)) (drop m mid))
-    ∙ (λ i. take-take a m mid (omega arith) i ++ (ys ++ rest i))
+    ∙ (λ i. C.take-take a m mid (omega arith) i ++ (ys ++ rest i))
     ∙ ap (λ (zs : List ℕ). take a mid ++ (ys ++ zs)) (ap (λ (n : ℕ). drop n mid) (let e : a + k ≡ a + length ys = omega arith in e) ∙ sym (drop-drop (length ys) a mid))
 
 pub slide_none : (bytes : List ℕ) (from to : ℕ) → put_part bytes to (part bytes from 0) ≡ bytes
-slide_none bytes from to = take-append-drop to bytes
+slide_none bytes from to = C.take-append-drop to bytes
 
 module _ (bytes : List ℕ) (from to done n : ℕ) (down : to < from) (inside : from + (done + n) ≤ length bytes) where
   abbrev first : List ℕ
@@ -36,22 +36,22 @@ module _ (bytes : List ℕ) (from to done n : ℕ) (down : to < from) (inside : 
   first_long = length-part bytes from done (omega arith)
 
   mid_long : length mid ≡ length bytes
-  mid_long = let long = first_long in length-put_part bytes to first (omega arith)
+  mid_long = let long = first_long in C.length-put_part bytes to first (omega arith)
 
   source : part mid (from + done) n ≡ next
-  source = let long = first_long in ap (take n) (drop-put_part bytes to first (from + done) (omega arith) (omega arith))
+  source = let long = first_long in ap (take n) (C.drop-put_part bytes to first (from + done) (omega arith) (omega arith))
 
   front : take (to + done) mid ≡ take to bytes ++ first
   front =
       let rest : List ℕ = drop (length first) (drop to bytes) in let long = first_long in
-      let one = length-append (take to bytes) first in let two = length-take-le to bytes (omega arith) in
-      ap (take (to + done)) (sym (append_assoc (take to bytes) first rest)) ∙ take_at (take to bytes ++ first) rest (to + done) (omega arith)
+      let one = C.length-append (take to bytes) first in let two = C.length-take-le to bytes (omega arith) in
+      ap (take (to + done)) (sym (append_assoc (take to bytes) first rest)) ∙ C.take_at (take to bytes ++ first) rest (to + done) (omega arith)
 
   back : drop (length next) (drop (to + done) mid) ≡ drop (length (first ++ next)) (drop to bytes)
   back =
-      let long = first_long in let more = length-part bytes (from + done) n (omega arith) in let both = length-append first next in
+      let long = first_long in let more = length-part bytes (from + done) n (omega arith) in let both = C.length-append first next in
       drop-drop (length next) (to + done) mid
-      ∙ drop-put_part bytes to first (to + done + length next) (omega arith) (omega arith)
+      ∙ C.drop-put_part bytes to first (to + done + length next) (omega arith) (omega arith)
       ∙ ap (λ (k : ℕ). drop k bytes) (let e : to + done + length next ≡ to + length (first ++ next) = omega arith in e)
       ∙ sym (drop-drop (length (first ++ next)) to bytes)
 
@@ -92,15 +92,15 @@ module _ (bytes : List ℕ) (from to a n b : ℕ) (inside : to + (a + n + b) ≤
   behind : drop n (drop (to + a) lifted) ≡ last ++ drop (n + b) (drop (to + a) bytes)
   behind =
       drop-drop n (to + a) lifted
-      ∙ drop_at (take (to + (a + n)) bytes) (last ++ drop (length last) (drop (to + (a + n)) bytes)) (to + a + n) (length-take-le (to + (a + n)) bytes (omega arith) ∙ omega arith)
+      ∙ C.drop_at (take (to + (a + n)) bytes) (last ++ drop (length last) (drop (to + (a + n)) bytes)) (to + a + n) (C.length-take-le (to + (a + n)) bytes (omega arith) ∙ omega arith)
       ∙ ap (λ (rest : List ℕ). last ++ rest) (drop-drop (length last) (to + (a + n)) bytes ∙ ap (λ (k : ℕ). drop k bytes) (let long = last_long in let e : to + (a + n) + length last ≡ to + a + (n + b) = omega arith in e) ∙ sym (drop-drop (n + b) (to + a) bytes))
 
   -- as code writes it, in front of what is there
   pub piece_up : (old below above new : List ℕ) → old ≡ lifted → below ≡ take (to + a) old → above ≡ drop (to + a) old → new ≡ part below (from + a) n
       → below ++ (new ++ drop n above) ≡ put_part bytes (to + a) (part bytes (from + a) (n + b))
   piece_up old below above new is cut_front cut_back copied =
-      let before : below ≡ take (to + a) bytes = cut_front ∙ ap (take (to + a)) is ∙ take-put_part bytes (to + (a + n)) last (to + a) (omega arith) (omega arith) in
-      let own : new ≡ piece = copied ∙ ap (λ (f : List ℕ). part f (from + a) n) before ∙ part_below (take (to + a) bytes) bytes (from + a) n (to + a) (omega arith) (take-take (to + a) (to + a) bytes (omega arith)) in
+      let before : below ≡ take (to + a) bytes = cut_front ∙ ap (take (to + a)) is ∙ C.take-put_part bytes (to + (a + n)) last (to + a) (omega arith) (omega arith) in
+      let own : new ≡ piece = copied ∙ ap (λ (f : List ℕ). part f (from + a) n) before ∙ C.part_below (take (to + a) bytes) bytes (from + a) n (to + a) (omega arith) (C.take-take (to + a) (to + a) bytes (omega arith)) in
       let rest : drop n above ≡ last ++ drop (n + b) (drop (to + a) bytes) = ap (drop n) (cut_back ∙ ap (drop (to + a)) is) ∙ behind in
       let both : length (part bytes (from + a) (n + b)) ≡ n + b = length-part bytes (from + a) (n + b) (omega arith) in
       let next : piece ++ last ≡ part bytes (from + a) (n + b) = ap (λ (k : ℕ). piece ++ part bytes k b) (let e : from + (a + n) ≡ from + a + n = omega arith in e) ∙ joined bytes (from + a) n b in

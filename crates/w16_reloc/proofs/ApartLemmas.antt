@@ -1,20 +1,20 @@
 -- Sites that lie apart, and the same said of one after another.
-use Rattle.w16_reloc.proofs.Common.{◌≡◌, ℕ, ◌+◌, ◌<◌, ◌≤◌, List, [], ◌∷◌, ◌++◌, length, Bool, true, false, cond, refl, arith, All, count_by, ◌||◌, list_any, AllByRecursion, All-head, All-tail, All-nil, All-cons, sum_by-cons}
-use Rattle.w16_reloc.proofs.Common.{Part, LowByte, Selector, Pointer, Offset, Record, Stored, Added, System, Site, covers, meets, AreApart, AreSound, Names, AreNamed, of_width, width_of, all_sites, value_width, chain_width}
-use Rattle.w16_reloc.proofs.SiteLemmas.{none_meets}
-use Rattle.w16_reloc.proofs.WalkLemmas.{site_apart, chain_wide}
+use Rattle.w16_reloc.proofs
+use proofs.Common as C
+use proofs.Common.{◌≡◌, ℕ, ◌+◌, ◌<◌, ◌≤◌, List, [], ◌∷◌, ◌++◌, length, Bool, true, false, cond, refl, arith, All, ◌||◌, list_any, Part, LowByte, Selector, Pointer, Offset, Record, Added, Site, covers, meets, AreSound, Names, of_width, all_sites}
+use proofs.{SiteLemmas.none_meets, WalkLemmas.site_apart, WalkLemmas.chain_wide}
 
 abbrev pub AreWide : List Site → Type 0
-AreWide sites = AllByRecursion (λ s. 0 < s.width) sites
+AreWide sites = C.AllByRecursion (λ s. 0 < s.width) sites
 
 abbrev IsInside : ℕ → Site → Type 0
 IsInside len s = s.at + s.width ≤ len
 
 abbrev count : ℕ → List Site → ℕ
-count o sites = count_by (covers o) sites
+count o sites = C.count_by (covers o) sites
 
 count-cons : (o : ℕ) (s : Site) (ss : List Site) → count o (s ∷ ss) ≡ cond (covers o s) 1 0 + count o ss
-count-cons o s ss = sum_by-cons (λ x. cond (covers o x) 1 0) s ss
+count-cons o s ss = C.sum_by-cons (λ x. cond (covers o x) 1 0) s ss
 
 one_counts : (n m : ℕ) (lit : Bool) → n ≡ cond lit 1 0 + m → lit ≡ true → n ≡ 1 + m
 one_counts n m lit e is = rw is at e
@@ -54,9 +54,9 @@ clear_before o s before ss most lit =
 apart_steps : (len : ℕ) (before sites : List Site) → AreWide before → AreWide sites → All (IsInside len) sites → ((o : ℕ) → count o before + count o sites ≤ 1) → AreSound len before sites
 apart_steps len before [] earlier own inside once = tt
 apart_steps len before (s ∷ ss) earlier own inside once = (
-  All-head (IsInside len) s ss inside,
+  C.All-head (IsInside len) s ss inside,
   none_meets before s.at s.width earlier own.0 (λ o low high. clear_before o s before ss (once o) (own_byte s o low high)),
-  apart_steps len (s ∷ before) ss (own.0, earlier) own.1 (All-tail (IsInside len) s ss inside) (λ o. let most = once o in omega (arith, most, count-cons o s before, count-cons o s ss)),
+  apart_steps len (s ∷ before) ss (own.0, earlier) own.1 (C.All-tail (IsInside len) s ss inside) (λ o. let most = once o in omega (arith, most, count-cons o s before, count-cons o s ss)),
 )
 
 one_more : (before : List Site) (s : Site) (o : ℕ) (r : Bool) → covers o s ≡ r → list_any (meets s) before ≡ false → count o before ≤ 1 → count o (s ∷ before) ≤ 1
@@ -74,13 +74,13 @@ steps_once len before (s ∷ ss) sound once o =
     omega (arith, rest, count-cons o s before, count-cons o s ss)
 
 steps_inside : (len : ℕ) (before sites : List Site) → AreSound len before sites → All (IsInside len) sites
-steps_inside len before [] sound = All-nil (IsInside len)
-steps_inside len before (s ∷ ss) sound = All-cons (IsInside len) s ss sound.0 (steps_inside len (s ∷ before) ss sound.2)
+steps_inside len before [] sound = C.All-nil (IsInside len)
+steps_inside len before (s ∷ ss) sound = C.All-cons (IsInside len) s ss sound.0 (steps_inside len (s ∷ before) ss sound.2)
 
-pub steps_apart : (len : ℕ) (sites : List Site) → AreSound len [] sites → AreApart len sites
+pub steps_apart : (len : ℕ) (sites : List Site) → AreSound len [] sites → C.AreApart len sites
 steps_apart len sites sound = record { inside = steps_inside len [] sites sound; once = λ o. let most = steps_once len [] sites sound (λ q. omega arith) o in omega (arith, most) }
 
-pub value_wide : (part : Part) → 0 < value_width part
+pub value_wide : (part : Part) → 0 < C.value_width part
 value_wide LowByte = omega arith
 value_wide Selector = omega arith
 value_wide Pointer = omega arith
@@ -94,16 +94,16 @@ pub wide_append : (ss ts : List Site) → AreWide ss → AreWide ts → AreWide 
 wide_append [] ts a b = b
 wide_append (s ∷ ss) ts a b = (a.0, wide_append ss ts a.1 b)
 
-wide_record : (bytes : List ℕ) (r : Record) (ats : List ℕ) → Names bytes r ats → AreWide (of_width (width_of r) ats)
-wide_record bytes (Stored fixup) ats names = let wide = chain_wide fixup.part in wide_of (chain_width fixup.part) ats (omega (arith, wide))
-wide_record bytes (Added fixup) ats names = wide_of (value_width fixup.part) ats (value_wide fixup.part)
-wide_record bytes System ats names = rw names tt
+wide_record : (bytes : List ℕ) (r : Record) (ats : List ℕ) → Names bytes r ats → AreWide (of_width (C.width_of r) ats)
+wide_record bytes (C.Stored fixup) ats names = let wide = chain_wide fixup.part in wide_of (C.chain_width fixup.part) ats (omega (arith, wide))
+wide_record bytes (Added fixup) ats names = wide_of (C.value_width fixup.part) ats (value_wide fixup.part)
+wide_record bytes C.System ats names = rw names tt
 
-pub all_wide : (bytes : List ℕ) (records : List Record) (named : List (List ℕ)) → AreNamed bytes records named → AreWide (all_sites records named)
+pub all_wide : (bytes : List ℕ) (records : List Record) (named : List (List ℕ)) → C.AreNamed bytes records named → AreWide (all_sites records named)
 all_wide bytes [] named names = tt
 all_wide bytes (r ∷ rs) [] names = tt
-all_wide bytes (r ∷ rs) (ats ∷ others) names = wide_append (of_width (width_of r) ats) (all_sites rs others) (wide_record bytes r ats names.0) (all_wide bytes rs others names.1)
+all_wide bytes (r ∷ rs) (ats ∷ others) names = wide_append (of_width (C.width_of r) ats) (all_sites rs others) (wide_record bytes r ats names.0) (all_wide bytes rs others names.1)
 
-pub sound_steps : (bytes : List ℕ) (records : List Record) (named : List (List ℕ)) → AreNamed bytes records named → AreApart (length bytes) (all_sites records named) → AreSound (length bytes) [] (all_sites records named)
+pub sound_steps : (bytes : List ℕ) (records : List Record) (named : List (List ℕ)) → C.AreNamed bytes records named → C.AreApart (length bytes) (all_sites records named) → AreSound (length bytes) [] (all_sites records named)
 sound_steps bytes records named names apart =
     apart_steps (length bytes) [] (all_sites records named) tt (all_wide bytes records named names) apart.inside (λ o. let most = apart.once o in omega (arith, most))

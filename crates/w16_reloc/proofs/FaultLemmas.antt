@@ -1,14 +1,11 @@
 -- A check that fails has found the first fault.
-use Rattle.w16_reloc.proofs.Common.{◌≡◌, ◌≢◌, ℕ, suc, zero, ◌+◌, ◌*◌, ◌<◌, ◌≤◌, ◌⊎◌, inl, inr, List, [], ◌∷◌, ◌++◌, length, Bool, true, false, cond, Option, Some, None, Result, Ok, Err, refl, ap, arith, max, nat_lt}
-use Rattle.w16_reloc.proofs.Common.{nat_eq, ◌||◌, list_any, word_of, RelocFault, BadRecord, SiteOutside, Overlap, Store, Record, Stored, Added, System, Site, covers, meets, AreSound, Offer, IsRecord, record_at, is_named}
-use Rattle.w16_reloc.proofs.Common.{AreNamed, AreRecords, of_width, width_of, chain_width, value_width, all_sites, LeadsTo, NamesNext, IsAtFault, IsFirstFault, ◌>>=◌, site_at, chain_at, sites_at, formed, check_from}
-use Rattle.w16_reloc.proofs.Common.{joined}
-use Rattle.w16_reloc.proofs.SiteLemmas.{meets_covers, meets_inside}
-use Rattle.w16_reloc.proofs.WalkLemmas.{chain_wide}
-use Rattle.w16_reloc.proofs.Count.{no_more_sites}
-use Rattle.w16_reloc.proofs.ImageLemmas.{or_more}
-use Rattle.w16_reloc.proofs.ApartLemmas.{AreWide, steps_apart, all_wide, wide_append, wide_of, value_wide, own_byte}
-use Rattle.w16_reloc.proofs.SoundLemmas.{site_passed, sites_passed, formed_is, sound_append}
+use Rattle.w16_reloc.proofs
+use proofs.Common as C
+use proofs.Common.{◌≡◌, ◌≢◌, ℕ, suc, zero, ◌+◌, ◌*◌, ◌<◌, ◌≤◌, ◌⊎◌, inl, inr, List, [], ◌∷◌, ◌++◌, length, Bool, true, false, cond, Some, None, Result, Ok, Err, refl, ap, arith, max, ◌||◌, list_any, RelocFault, BadRecord, SiteOutside, Overlap, Store, Record, Added, Site, covers, meets}
+use proofs.Common.{AreSound, Offer, IsRecord, is_named, of_width, width_of, all_sites, ◌>>=◌, site_at, chain_at, sites_at, formed, check_from, joined}
+use proofs.ApartLemmas.{AreWide, steps_apart, all_wide, wide_append, wide_of, value_wide, own_byte}
+use proofs.SoundLemmas.{site_passed, sites_passed, formed_is, sound_append}
+use proofs.{SiteLemmas.meets_covers, SiteLemmas.meets_inside, WalkLemmas.chain_wide, Count.no_more_sites, ImageLemmas.or_more}
 
 bind_err : {A B : Type 0} (said : Result A RelocFault) (f : A → Result B RelocFault) (e : RelocFault) → (said >>= f) ≡ Err e → (said ≡ Err e) ⊎ ((x : A) × (said ≡ Ok x) × (f x ≡ Err e))
 bind_err (Ok x) f e h = inr (x, refl, h)
@@ -21,7 +18,7 @@ Stops len before site Overlap = (site.at + site.width ≤ len) × (list_any (mee
 Stops len before site BadRecord = ⊥
 Stops len before site (Store e) = ⊥
 
-stops_by : (len : ℕ) (before : List Site) (site : Site) (s t : Bool) (e : RelocFault) → nat_lt len (site.at + site.width) ≡ s → list_any (meets site) before ≡ t
+stops_by : (len : ℕ) (before : List Site) (site : Site) (s t : Bool) (e : RelocFault) → C.nat_lt len (site.at + site.width) ≡ s → list_any (meets site) before ≡ t
     → ◌≡◌ {A = Result (List Site) RelocFault} (cond s (Err SiteOutside) (cond t (Err Overlap) (Ok (site ∷ before)))) (Err e) → Stops len before site e
 stops_by len before site true t e a b h =
     let is : SiteOutside ≡ e = cc in
@@ -35,13 +32,13 @@ stops_by len before site false false e a b h = cc
 
 site_stops : (len : ℕ) (before : List Site) (site : Site) (e : RelocFault) → site_at len before site ≡ Err e → Stops len before site e
 unfolding site_at
-site_stops len before site e h = stops_by len before site (nat_lt len (site.at + site.width)) (list_any (meets site) before) e refl refl h
+site_stops len before site e h = stops_by len before site (C.nat_lt len (site.at + site.width)) (list_any (meets site) before) e refl refl h
 
 -- a chain stops at a site, or takes all its turns
 record ChainStops (bytes : List ℕ) (width : ℕ) (before : List Site) (from : ℕ) (e : RelocFault) : Type 0 where
   pub ats : List ℕ
   pub at : ℕ
-  pub leads : LeadsTo bytes from ats at
+  pub leads : C.LeadsTo bytes from ats at
   pub sound : AreSound (length bytes) before (of_width width ats)
   pub stops : Stops (length bytes) (joined before (of_width width ats)) (record { at = at; width = width }) e
 
@@ -52,16 +49,16 @@ chain_stops : (bytes : List ℕ) (width n : ℕ) (before : List Site) (from : �
 unfolding chain_at
 chain_stops bytes width zero before from e h = inr ([], refl, tt)
 chain_stops bytes width (suc n) before from e h =
-    elim (nat_eq from 65535) as (λ b. nat_eq from 65535 ≡ b → ChainStops bytes width before from e ⊎ Lasts (length bytes) width (suc n) before) [
+    elim (C.nat_eq from 65535) as (λ b. C.nat_eq from 65535 ≡ b → ChainStops bytes width before from e ⊎ Lasts (length bytes) width (suc n) before) [
       | true ↦ λ is. let end : ◌≡◌ {A = Result (List Site) RelocFault} (Ok before) (Err e) = rw is at h in cc
       | false ↦ λ is.
           let on : from ≢ 65535 = λ end. (let t = is in grind (arith, end)) in
           let site : Site = record { at = from; width = width } in
-          elim (bind_err (site_at (length bytes) before site) (λ more. chain_at bytes width n more (word_of bytes from)) e (rw is at h)) [
+          elim (bind_err (site_at (length bytes) before site) (λ more. chain_at bytes width n more (C.word_of bytes from)) e (rw is at h)) [
             | inl wrong ↦ inl (record { ats = []; at = from; leads = (refl, on); sound = tt; stops = site_stops (length bytes) before site e wrong })
             | inr more ↦
                 let fit = site_passed (length bytes) before more.0 from width more.1 in
-                elim (chain_stops bytes width n (site ∷ before) (word_of bytes from) e (rw fit.2 more.2)) [
+                elim (chain_stops bytes width n (site ∷ before) (C.word_of bytes from) e (rw fit.2 more.2)) [
                   | inl c ↦ inl (record { ats = from ∷ c.ats; at = c.at; leads = (refl, on, c.leads); sound = (fit.0, fit.1, c.sound); stops = c.stops })
                   | inr l ↦ inr (from ∷ l.0, omega (arith, l.1), (fit.0, fit.1, l.2))
                 ]
@@ -71,29 +68,29 @@ chain_stops bytes width (suc n) before from e h =
 record Stopped (bytes : List ℕ) (before : List Site) (r : Record) (e : RelocFault) : Type 0 where
   pub ats : List ℕ
   pub at : ℕ
-  pub names : NamesNext bytes r ats at
+  pub names : C.NamesNext bytes r ats at
   pub sound : AreSound (length bytes) before (of_width (width_of r) ats)
   pub stops : Stops (length bytes) (joined before (of_width (width_of r) ats)) (record { at = at; width = width_of r }) e
 
 sites_stop : (bytes : List ℕ) (before : List Site) (r : Record) (e : RelocFault) → sites_at bytes before r ≡ Err e → Stopped bytes before r e
 unfolding sites_at
-sites_stop bytes before (Stored fixup) e h =
-    elim (chain_stops bytes (chain_width fixup.part) (length bytes + 1) before fixup.offset e h) [
+sites_stop bytes before (C.Stored fixup) e h =
+    elim (chain_stops bytes (C.chain_width fixup.part) (length bytes + 1) before fixup.offset e h) [
       | inl c ↦ record { ats = c.ats; at = c.at; names = c.leads; sound = c.sound; stops = c.stops }
       | inr l ↦
           let wide = chain_wide fixup.part in
-          let few = no_more_sites (length bytes) (chain_width fixup.part) before l.0 (omega (arith, wide)) l.2 in
+          let few = no_more_sites (length bytes) (C.chain_width fixup.part) before l.0 (omega (arith, wide)) l.2 in
           absurd (omega (arith, few, l.1))
     ]
-sites_stop bytes before (Added fixup) e h = record { ats = []; at = fixup.offset; names = (refl, refl); sound = tt; stops = site_stops (length bytes) before (record { at = fixup.offset; width = value_width fixup.part }) e h }
-sites_stop bytes before System e h = cc
+sites_stop bytes before (Added fixup) e h = record { ats = []; at = fixup.offset; names = (refl, refl); sound = tt; stops = site_stops (length bytes) before (record { at = fixup.offset; width = C.value_width fixup.part }) e h }
+sites_stop bytes before C.System e h = cc
 
 unformed_by : (offer : Offer) (x : Record) (b : Bool) (e : RelocFault) → is_named offer x ≡ b → ◌≡◌ {A = Result Record RelocFault} (cond b (Ok x) (Err BadRecord)) (Err e)
     → (e ≡ BadRecord) × ((r : Record) → Some x ≡ Some r → is_named offer r ≡ true → ⊥)
 unformed_by offer x true e is h = cc
 unformed_by offer x false e is h = (cc, λ r same named. let which : x ≡ r = cc in let no = rw which at is in cc)
 
-unformed : (offer : Offer) (o : Option Record) (e : RelocFault) → formed offer o ≡ Err e → (e ≡ BadRecord) × ((r : Record) → o ≡ Some r → is_named offer r ≡ true → ⊥)
+unformed : (offer : Offer) (o : C.Option Record) (e : RelocFault) → formed offer o ≡ Err e → (e ≡ BadRecord) × ((r : Record) → o ≡ Some r → is_named offer r ≡ true → ⊥)
 unformed offer None e h = (cc, λ r same named. cc)
 unformed offer (Some x) e h = unformed_by offer x (is_named offer x) e refl h
 
@@ -112,8 +109,8 @@ record Failed (offer : Offer) (bytes table : List ℕ) (n i : ℕ) (before : Lis
   pub records : List Record
   pub named : List (List ℕ)
   pub few : length records < n
-  pub formed : AreRecords offer table i records
-  pub names : AreNamed bytes records named
+  pub formed : C.AreRecords offer table i records
+  pub names : C.AreNamed bytes records named
   pub sound : AreSound (length bytes) before (all_sites records named)
   pub number : ℕ
   pub counted : number ≡ i + length records
@@ -145,8 +142,8 @@ fails : (offer : Offer) (bytes table : List ℕ) (n i : ℕ) (before : List Site
 unfolding check_from
 fails offer bytes table zero i before e h = cc
 fails offer bytes table (suc n) i before e h =
-    elim (bind_err (formed offer (record_at offer.segments offer.references table (8 * i))) (λ r. sites_at bytes before r >>= λ after. check_from offer bytes table n (i + 1) after >>= λ others. Ok (r ∷ others)) e h) [
-      | inl bad ↦ let none = unformed offer (record_at offer.segments offer.references table (8 * i)) e bad in first_fails offer bytes table n i before e (rw none.0 (λ r is. none.1 r is.0 is.1))
+    elim (bind_err (formed offer (C.record_at offer.segments offer.references table (8 * i))) (λ r. sites_at bytes before r >>= λ after. check_from offer bytes table n (i + 1) after >>= λ others. Ok (r ∷ others)) e h) [
+      | inl bad ↦ let none = unformed offer (C.record_at offer.segments offer.references table (8 * i)) e bad in first_fails offer bytes table n i before e (rw none.0 (λ r is. none.1 r is.0 is.1))
       | inr is ↦ elim (bind_err (sites_at bytes before is.0) (λ after. check_from offer bytes table n (i + 1) after >>= λ others. Ok (is.0 ∷ others)) e is.2) [
         | inl wrong ↦ first_fails offer bytes table n i before e (stopped_fault offer bytes table (8 * i) before is.0 e (formed_is offer _ is.0 is.1) (sites_stop bytes before is.0 e wrong))
         | inr more ↦ elim (bind_err (check_from offer bytes table n (i + 1) more.0) (λ others. Ok (is.0 ∷ others)) e more.2) [
@@ -187,12 +184,12 @@ any_joined p before (s ∷ ss) h =
 any_of_all : (p : Site → Bool) (ss : List Site) → list_any p (joined [] ss) ≡ true → list_any p ss ≡ true
 any_of_all p ss h = elim (any_joined p [] ss h) [ inl none ↦ cc | inr some ↦ some ]
 
-next_wide : (bytes : List ℕ) (r : Record) (ats : List ℕ) (at : ℕ) → NamesNext bytes r ats at → 0 < width_of r
-next_wide bytes (Stored fixup) ats at names = let wide = chain_wide fixup.part in omega (arith, wide)
+next_wide : (bytes : List ℕ) (r : Record) (ats : List ℕ) (at : ℕ) → C.NamesNext bytes r ats at → 0 < width_of r
+next_wide bytes (C.Stored fixup) ats at names = let wide = chain_wide fixup.part in omega (arith, wide)
 next_wide bytes (Added fixup) ats at names = value_wide fixup.part
-next_wide bytes System ats at names = absurd names
+next_wide bytes C.System ats at names = absurd names
 
-at_fault : (offer : Offer) (bytes raw : List ℕ) (at : ℕ) (sites : List Site) (e : RelocFault) → AreWide sites → AreSound (length bytes) [] sites → Fault offer bytes raw at (joined [] sites) e → IsAtFault offer bytes raw at sites e
+at_fault : (offer : Offer) (bytes raw : List ℕ) (at : ℕ) (sites : List Site) (e : RelocFault) → AreWide sites → AreSound (length bytes) [] sites → Fault offer bytes raw at (joined [] sites) e → C.IsAtFault offer bytes raw at sites e
 at_fault offer bytes raw at sites BadRecord wide sound fault = fault
 at_fault offer bytes raw at sites (Store x) wide sound fault = absurd fault.2.stops
 at_fault offer bytes raw at sites SiteOutside wide sound fault =
@@ -214,7 +211,7 @@ at_fault offer bytes raw at sites Overlap wide sound fault =
       },
     )
 
-pub first_fault : (offer : Offer) (bytes table : List ℕ) (count : ℕ) (e : RelocFault) → check_from offer bytes table count 0 [] ≡ Err e → IsFirstFault offer bytes table count e
+pub first_fault : (offer : Offer) (bytes table : List ℕ) (count : ℕ) (e : RelocFault) → check_from offer bytes table count 0 [] ≡ Err e → C.IsFirstFault offer bytes table count e
 first_fault offer bytes table count e h =
     let f = fails offer bytes table count 0 [] e h in
     let same : f.number ≡ length f.records = omega (arith, f.counted) in

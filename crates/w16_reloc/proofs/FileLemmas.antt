@@ -1,10 +1,9 @@
 -- The segments of a module lie in its file.
-use Rattle.w16_reloc.proofs.Common.{◌≡◌, ℕ, suc, zero, ◌+◌, ◌*◌, ◌<◌, ◌≤◌, List, [], ◌∷◌, length, take, drop, Some, Ok, Err, Bool, true, false, cond, refl, ◌∙◌, ap, arith, max, nat_lt, nat_eq, slice_get}
-use Rattle.w16_reloc.proofs.Common.{bit_and, nat_tests, NeFault, Segment, Reading, bytes_or, reaches, word_of, each, place_at, header_at, fields_of, shift_of, segment_count, segment_table, records_at}
-use Rattle.w16_reloc.proofs.Common.{data_at, segment_at, entries_at, segments_at, rounded, resident_at, nonresident_at, references_at, table_at, resources_at, Tables, tables_at, tables_behind, tables_of}
-use Rattle.w16_reloc.proofs.Common.{LiesIn}
-use Rattle.w16_ne.specs.declared.fault.NeFault.TheVariants as faults
+use Rattle.w16_reloc.proofs
+use proofs.Common.{◌≡◌, ℕ, suc, zero, ◌+◌, ◌*◌, ◌<◌, ◌≤◌, List, [], ◌∷◌, length, take, drop, Some, Ok, Err, Bool, true, false, cond, refl, ◌∙◌, ap, arith, max, nat_lt, nat_eq, slice_get, bit_and, nat_tests, NeFault, Segment, Reading, bytes_or, reaches, word_of, each, place_at, header_at}
+use proofs.Common.{fields_of, shift_of, segment_count, segment_table, records_at, data_at, segment_at, entries_at, segments_at, rounded, resident_at, nonresident_at, references_at, table_at, resources_at, Tables, tables_at, tables_behind, tables_of, LiesIn}
 use Rattle.w16_ne.specs.Reading.{◌>>=◌}
+use Rattle.w16_ne.specs.declared.fault.NeFault.TheVariants as faults
 
 -- what was read went through each step
 bind_ok : {A B : Type 0} (read : Reading A) (f : A → Reading B) (y : B) → (read >>= f) ≡ Ok y → (x : A) × (read ≡ Ok x) × (f x ≡ Ok y)

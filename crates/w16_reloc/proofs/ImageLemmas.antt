@@ -1,10 +1,10 @@
 -- The values written one after another are the image, offset by offset.
-use Rattle.w16_reloc.proofs.Common.{◌≡◌, ℕ, ◌+◌, ◌<◌, ◌≤◌, List, [], ◌∷◌, ◌++◌, length, Bool, true, false, refl, sym, ◌∙◌, arith, get_or, drop, drop_more, nat_lt, nat_le, ◌&&◌, ◌||◌, list_any, Part, Record, Stored, Added, System, Far, Site, covers, meets, AreSound}
-use Rattle.w16_reloc.proofs.Common.{Names, AreNamed, IsSound, of_width, width_of, all_sites, chain_width, value_width, Patch, byte, stored_at, added_at, patches_of, patches, image_at, IsImage, value_of, moved, found_at, over, over_each, joined, IsReady, IsWritten}
-use Rattle.w16_reloc.proofs.Common.{IsOpen}
-use Rattle.w16_reloc.proofs.SiteLemmas.{any_meets}
-use Rattle.w16_reloc.proofs.WalkLemmas.{over_each_same, chain_narrow, value_narrow}
-use Rattle.w16_reloc.proofs.ApartLemmas.{sound_steps}
+use Rattle.w16_reloc.proofs
+use proofs.Common as C
+use proofs.Common.{◌≡◌, ℕ, ◌+◌, ◌<◌, ◌≤◌, List, [], ◌∷◌, ◌++◌, length, Bool, true, false, refl, sym, ◌∙◌, arith, get_or, drop, nat_lt, nat_le, ◌&&◌, ◌||◌, list_any, Part, Record, Added, Far, Site, covers, meets, AreSound, Names, AreNamed, of_width, width_of, all_sites, Patch, byte}
+use proofs.Common.{patches_of, patches, image_at, moved, over, over_each, IsOpen}
+use proofs.WalkLemmas.{over_each_same, chain_narrow, value_narrow}
+use proofs.{SiteLemmas.any_meets, ApartLemmas.sound_steps}
 
 -- patches that lie in these sites, one in each
 abbrev pub Fit : List Patch → List Site → Type 0
@@ -19,19 +19,19 @@ fit_append [] qs (s ∷ ss) ts a b = absurd a
 fit_append (p ∷ ps) qs [] ts a b = absurd a
 fit_append (p ∷ ps) qs (s ∷ ss) ts a b = (a.0, a.1, fit_append ps qs ss ts a.2 b)
 
-fit_stored : (value : List ℕ) (width : ℕ) (ats : List ℕ) → length value ≤ width → Fit (stored_at value ats) (of_width width ats)
+fit_stored : (value : List ℕ) (width : ℕ) (ats : List ℕ) → length value ≤ width → Fit (C.stored_at value ats) (of_width width ats)
 fit_stored value width [] narrow = tt
 fit_stored value width (at ∷ ats) narrow = (refl, narrow, fit_stored value width ats narrow)
 
-fit_added : (file : List ℕ) (part : Part) (far : Far) (ats : List ℕ) → Fit (added_at file part far ats) (of_width (value_width part) ats)
+fit_added : (file : List ℕ) (part : Part) (far : Far) (ats : List ℕ) → Fit (C.added_at file part far ats) (of_width (C.value_width part) ats)
 fit_added file part far [] = tt
-fit_added file part far (at ∷ ats) = (refl, value_narrow part (moved far (found_at part file at)), fit_added file part far ats)
+fit_added file part far (at ∷ ats) = (refl, value_narrow part (moved far (C.found_at part file at)), fit_added file part far ats)
 
 fit_record : (file : List ℕ) (r : Record) (far : Far) (ats : List ℕ) → Names file r ats → Fit (patches_of file r far ats) (of_width (width_of r) ats)
-fit_record file (Stored fixup) far ats names = fit_stored (value_of fixup.part far) (chain_width fixup.part) ats (chain_narrow fixup.part far)
+fit_record file (C.Stored fixup) far ats names = fit_stored (C.value_of fixup.part far) (C.chain_width fixup.part) ats (chain_narrow fixup.part far)
 fit_record file (Added fixup) far ats names = fit_added file fixup.part far ats
-fit_record file System far [] names = tt
-fit_record file System far (at ∷ ats) names = cc
+fit_record file C.System far [] names = tt
+fit_record file C.System far (at ∷ ats) names = cc
 
 pub fit_all : (file : List ℕ) (records : List Record) (values : List Far) (named : List (List ℕ)) → length records ≡ length values → AreNamed file records named → Fit (patches file records values named) (all_sites records named)
 fit_all file [] values named same names = tt
@@ -90,7 +90,7 @@ over_each_append : (ps qs : List Patch) (f : ℕ → ℕ) (o : ℕ) → over_eac
 over_each_append [] qs f o = refl
 over_each_append (p ∷ ps) qs f o = over_each_append ps qs (over p f) o
 
-pub sound_parts : (len : ℕ) (before ss ts : List Site) → AreSound len before (ss ++ ts) → AreSound len before ss × AreSound len (joined before ss) ts
+pub sound_parts : (len : ℕ) (before ss ts : List Site) → AreSound len before (ss ++ ts) → AreSound len before ss × AreSound len (C.joined before ss) ts
 sound_parts len before [] ts sound = (tt, sound)
 sound_parts len before (s ∷ ss) ts sound = let p = sound_parts len (s ∷ before) ss ts sound.2 in ((sound.0, sound.1, p.0), p.1)
 
@@ -101,8 +101,8 @@ first_named file r rs (ats ∷ others) names = (ats, others, refl, names.0, name
 pub record First (file : List ℕ) (total : ℕ → ℕ) (r : Record) (rs : List Record) (far : Far) (values : List Far) (bytes : List ℕ) : Type 0 where
   pub before : List Site
   pub ats : List ℕ
-  pub ready : IsReady file bytes before r ats
-  pub then : (new : List ℕ) → length new ≡ length bytes → IsWritten file bytes new before r far ats → IsOpen file total rs values new
+  pub ready : C.IsReady file bytes before r ats
+  pub then : (new : List ℕ) → length new ≡ length bytes → C.IsWritten file bytes new before r far ats → IsOpen file total rs values new
 
 pub open_first : (file : List ℕ) (total : ℕ → ℕ) (r : Record) (rs : List Record) (far : Far) (values : List Far) (bytes : List ℕ) → IsOpen file total (r ∷ rs) (far ∷ values) bytes → First file total r rs far values bytes
 open_first file total r rs far values bytes w =
@@ -115,7 +115,7 @@ open_first file total r rs far values bytes w =
       ats = p.0;
       ready = record { room = w.room; names = p.3; sound = sound.0; outside = w.outside };
       then = λ new same written. record {
-        before = joined w.before (of_width (width_of r) p.0);
+        before = C.joined w.before (of_width (width_of r) p.0);
         named = p.1;
         room = rw same w.room;
         names = p.4;
@@ -133,16 +133,16 @@ open_done file total values bytes w = open_by file total values bytes w.named w.
 
 -- one record more is written
 pub open_next : (file : List ℕ) (total : ℕ → ℕ) (records : List Record) (values : List Far) (i : ℕ) (r : Record) (far : Far) (old new : List ℕ) → i < length records → length records ≡ length values → IsOpen file total (drop i records) (drop i values) old
-    → length new ≡ length old → ((before : List Site) (ats : List ℕ) → IsReady file old before (get_or records i r) ats → IsWritten file old new before (get_or records i r) (get_or values i far) ats) → IsOpen file total (drop (i + 1) records) (drop (i + 1) values) new
+    → length new ≡ length old → ((before : List Site) (ats : List ℕ) → C.IsReady file old before (get_or records i r) ats → C.IsWritten file old new before (get_or records i r) (get_or values i far) ats) → IsOpen file total (drop (i + 1) records) (drop (i + 1) values) new
 open_next file total records values i r far old new lt many w same written =
     let some : i < length values = omega arith in
-    let more = rw (drop_more records i r lt, drop_more values i far some) at w in
+    let more = rw (C.drop_more records i r lt, C.drop_more values i far some) at w in
     let f = open_first file total (get_or records i r) (drop (i + 1) records) (get_or values i far) (drop (i + 1) values) old more in
     f.then new same (written f.before f.ats f.ready)
 
 -- where all were written, the bytes are the image
-pub written_image : (file : List ℕ) (records : List Record) (values : List Far) (named : List (List ℕ)) (old new : List ℕ) → length records ≡ length values → IsSound file records named → ((o : ℕ) → byte old o ≡ byte file o)
-    → ((o : ℕ) → byte new o ≡ over_each (patches file records values named) (byte old) o) → IsImage file records values named new
+pub written_image : (file : List ℕ) (records : List Record) (values : List Far) (named : List (List ℕ)) (old new : List ℕ) → length records ≡ length values → C.IsSound file records named → ((o : ℕ) → byte old o ≡ byte file o)
+    → ((o : ℕ) → byte new o ≡ over_each (patches file records values named) (byte old) o) → C.IsImage file records values named new
 written_image file records values named old new many sound begun each = λ o.
     each o ∙ over_each_same (patches file records values named) (byte old) (byte file) o begun
     ∙ image_is (length file) (patches file records values named) (all_sites records named) [] (byte file) o (fit_all file records values named many sound.0) (sound_steps file records named sound.0 sound.1)

@@ -1,20 +1,19 @@
 -- The imported names that records ask for, and where they are read.
-use Rattle.w16_reloc.proofs.Common.{◌≡◌, ◌≢◌, ◌⊎◌, inl, inr, ℕ, zero, suc, ◌+◌, ◌-◌, ◌*◌, ◌<◌, ◌≤◌, Bool, true, false, cond, nat_eq, nat_lt, nat_tests, bit_and, List, [], ◌∷◌, length, take, drop, get_or, get_or-drop, get_or_past, All, All-nil, All-cons}
-use Rattle.w16_reloc.proofs.Common.{Option, Some, None, Result, Ok, Err, refl, sym, ap, ◌∙◌, ◌&&◌, subst, arith, word_of, RelocFault, BadRecord, Record, Part, Fixup, Stored, Added, System, Tables, Site, Offer, AreRecords, ◌>>=◌, record_at, target_at, sites_at, formed, check_from}
-use Rattle.w16_reloc.proofs.Common.{any_offer, offer_in, offer_of, IsSoundSegment, is_named}
-use Rattle.std.proofs.lemmas.List.{drop-drop, drop-take, get_or-take, length-drop, length-take, take-take}
-use Rattle.std.proofs.lemmas.List.Elements.{All-get_or}
-use Rattle.std.proofs.lemmas.Nat.{and_le_r}
+use Rattle.w16_reloc.proofs
+use Rattle.w16_reloc.specs
+use proofs.Common as C
+use Rattle.std.proofs.lemmas.List as M
+use proofs.Common.{◌≡◌, ◌≢◌, ◌⊎◌, inl, inr, ℕ, zero, suc, ◌+◌, ◌-◌, ◌*◌, ◌<◌, ◌≤◌, Bool, true, false, cond, nat_eq, nat_lt, nat_tests, bit_and, List, [], ◌∷◌, length, take, drop, get_or, All, Option, Some, None, Result, Ok, Err, refl, sym, ap, ◌∙◌, ◌&&◌, subst, arith, word_of, RelocFault}
+use proofs.Common.{Record, Part, Fixup, Stored, Added, Site, Offer, AreRecords, ◌>>=◌, record_at, target_at, formed, check_from, any_offer, offer_in, offer_of}
+use proofs.SoundLemmas.{passed_is_sound}
+use Rattle.std.proofs.{lemmas.List.Elements.All-get_or, lemmas.Nat.and_le_r}
 use Rattle.std.specs.Prelude.{IfErr, IfSome, MatchResult, OnOk, min, option_map}
+use Rattle.w16_ne.specs.{Modules.imported_place, Texts.text_in}
+use specs.declared.record.Target.{Target}
+use specs.declared.record.Target.TheVariants.{Internal, Entry, ByOrdinal, ByName}
+use specs.Records.{fixup_of, has_text, imported_of, internal_of, name_in, part_of, text_of}
+use specs.Segments.{AreNamesFor, AreTextsOf, has_text_at, names_from}
 use Rattle.w16_reloc.specs.declared.fault.RelocFault.TheVariants as faults
-use Rattle.w16_reloc.proofs.SoundLemmas.{passed_is_sound}
-use Rattle.w16_reloc.proofs.Common.{Answers, IsOfRecords, Overlap, SiteOutside}
-use Rattle.w16_ne.specs.Modules.{imported_place}
-use Rattle.w16_ne.specs.Texts.{text_in}
-use Rattle.w16_reloc.specs.declared.record.Target.{Target}
-use Rattle.w16_reloc.specs.declared.record.Target.TheVariants.{Internal, Entry, ByOrdinal, ByName}
-use Rattle.w16_reloc.specs.Records.{fixup_of, has_text, imported_of, internal_of, name_in, part_of, text_of}
-use Rattle.w16_reloc.specs.Segments.{AreNamesFor, AreTextsOf, has_text_at, names_from}
 
 -- Which records ask for a name, and for which.
 
@@ -55,9 +54,9 @@ module _ (segments references : ℕ) (raw : List ℕ) (at : ℕ) where
 
   pub asks : (r : Record) → record_at segments references raw at ≡ Some r → Asks (name_in r)
   unfolding record_at
-  asks r = elim (nat_eq kind 3) as (λ b. nat_eq kind 3 ≡ b → cond b (Some System) (option_map (λ f. cond (nat_eq (bit_and (get_or raw (at + 1) 0) 4) 0) (Stored f) (Added f))
+  asks r = elim (nat_eq kind 3) as (λ b. nat_eq kind 3 ≡ b → cond b (Some C.System) (option_map (λ f. cond (nat_eq (bit_and (get_or raw (at + 1) 0) 4) 0) (Stored f) (Added f))
       (fixup_of (part_of (bit_and (get_or raw at 0) 127)) (word_of raw (at + 2)) (target_at segments references raw at))) ≡ Some r → Asks (name_in r)) [
-        | true ↦ λ e h. let same : System ≡ r = cc in inl (ap name_in (sym same))
+        | true ↦ λ e h. let same : C.System ≡ r = cc in inl (ap name_in (sym same))
         | false ↦ λ e h. fixup_asks Asks _ _ _ (target_at segments references raw at) (λ t. target_asks t e) r h
       ] refl
 
@@ -66,7 +65,7 @@ module _ (segments references : ℕ) (raw : List ℕ) (at : ℕ) where
 byte_small : (xs : List ℕ) (i : ℕ) → All (λ b. b < 256) xs → get_or xs i 0 < 256
 byte_small xs i all = elim (nat_lt i (length xs)) as (λ b. nat_lt i (length xs) ≡ b → get_or xs i 0 < 256) [
   | true ↦ λ e. All-get_or (λ b. b < 256) xs i 0 (grind (arith, nat_tests, e)) all
-  | false ↦ λ e. let past : length xs ≤ i = grind (arith, nat_tests, e) in subst (λ b. b < 256) (sym (get_or_past xs i 0 past)) (omega arith)
+  | false ↦ λ e. let past : length xs ≤ i = grind (arith, nat_tests, e) in subst (λ b. b < 256) (sym (C.get_or_past xs i 0 past)) (omega arith)
 ] refl
 
 word_small : (raw : List ℕ) (at : ℕ) → All (λ b. b < 256) raw → word_of raw at < 65536
@@ -81,10 +80,10 @@ module _ (file : List ℕ) (names name : ℕ) (small : name < 65536) (all : All 
   texts = names_from file names
 
   long : length texts ≡ min 65791 (length file - names)
-  long = length-take 65791 (drop names file) ∙ ap (min 65791) (length-drop names file)
+  long = M.length-take 65791 (drop names file) ∙ ap (min 65791) (M.length-drop names file)
 
   same_byte : get_or texts name 0 ≡ get_or file (names + name) 0
-  same_byte = get_or-take 65791 (drop names file) name 0 (omega (arith, small)) ∙ get_or-drop names file name 0
+  same_byte = M.get_or-take 65791 (drop names file) name 0 (omega (arith, small)) ∙ C.get_or-drop names file name 0
 
   is_byte : get_or texts name 0 < 256
   is_byte = byte_small texts name all
@@ -103,8 +102,8 @@ module _ (file : List ℕ) (names name : ℕ) (small : name < 65536) (all : All 
       let room : get_or texts name 0 ≤ rest = omega (arith, small, is_byte) in
       let at : names + (name + 1) ≡ names + name + 1 = omega arith in
       ap (λ n. take (get_or texts name 0) (drop (name + 1) (take n (drop names file)))) whole
-      ∙ ap (take (get_or texts name 0)) (drop-take (name + 1) rest (drop names file)) ∙ take-take (get_or texts name 0) rest (drop (name + 1) (drop names file)) room
-      ∙ ap (take (get_or texts name 0)) (drop-drop (name + 1) names file ∙ ap (λ n. drop n file) at) ∙ ap (λ n. take n (drop (names + name + 1) file)) same_byte
+      ∙ ap (take (get_or texts name 0)) (M.drop-take (name + 1) rest (drop names file)) ∙ M.take-take (get_or texts name 0) rest (drop (name + 1) (drop names file)) room
+      ∙ ap (take (get_or texts name 0)) (M.drop-drop (name + 1) names file ∙ ap (λ n. drop n file) at) ∙ ap (λ n. take n (drop (names + name + 1) file)) same_byte
 
 -- Checks by offers that agree of what the records ask for.
 module _ (segments references : ℕ) (f g : ℕ → Bool) (bytes raw : List ℕ) (count : ℕ) where
@@ -114,10 +113,10 @@ module _ (segments references : ℕ) (f g : ℕ → Bool) (bytes raw : List ℕ)
   abbrev B : Offer
   B = record { segments = segments; references = references; has_name = g }
 
-  module _ (same : (k : ℕ) → k < count → (r : Record) → record_at segments references raw (8 * k) ≡ Some r → is_named A r ≡ is_named B r) where
+  module _ (same : (k : ℕ) → k < count → (r : Record) → record_at segments references raw (8 * k) ≡ Some r → C.is_named A r ≡ C.is_named B r) where
     formed_same : (k : ℕ) → k < count → (o : Option Record) → record_at segments references raw (8 * k) ≡ o → formed A o ≡ formed B o
     formed_same k lt None e = refl
-    formed_same k lt (Some r) e = ap (λ b. cond b (Ok r) (Err BadRecord)) (same k lt r e)
+    formed_same k lt (Some r) e = ap (λ b. cond b (Ok r) (Err C.BadRecord)) (same k lt r e)
 
     pub same_check : (n i : ℕ) (before : List Site) → i + n ≡ count → check_from A bytes raw n i before ≡ check_from B bytes raw n i before
     unfolding check_from
@@ -125,10 +124,10 @@ module _ (segments references : ℕ) (f g : ℕ → Bool) (bytes raw : List ℕ)
     same_check (suc n) i before e =
         let first : formed A (record_at segments references raw (8 * i)) ≡ formed B (record_at segments references raw (8 * i)) = formed_same i (omega (arith, e)) (record_at segments references raw (8 * i)) refl in
         let more : i + 1 + n ≡ count = omega (arith, e) in
-        λ j. first j >>= λ r. sites_at bytes before r >>= λ after. same_check n (i + 1) after more j >>= λ others. Ok (r ∷ others)
+        λ j. first j >>= λ r. C.sites_at bytes before r >>= λ after. same_check n (i + 1) after more j >>= λ others. Ok (r ∷ others)
 
 -- The bytes that are read for a table tell what the file tells of its records.
-module _ (file : List ℕ) (t : Tables) (raw texts : List ℕ) (count : ℕ) (are : AreNamesFor file t raw count texts) (raw_bytes : All (λ b. b < 256) raw) (text_bytes : All (λ b. b < 256) texts) where
+module _ (file : List ℕ) (t : C.Tables) (raw texts : List ℕ) (count : ℕ) (are : AreNamesFor file t raw count texts) (raw_bytes : All (λ b. b < 256) raw) (text_bytes : All (λ b. b < 256) texts) where
   abbrev here : Offer
   here = offer_in texts (length t.segments) (length t.references)
 
@@ -152,10 +151,10 @@ module _ (file : List ℕ) (t : Tables) (raw texts : List ℕ) (count : ℕ) (ar
       (λ same name small. subst (λ xs. has_text_at file (imported_place t + name) ≡ has_text_at xs name) (sym same) (same_has file (imported_place t) name small (subst (All (λ b. b < 256)) same text_bytes))) k lt r e)) count 0 [] (omega arith)
 
   pub texts_of : (offer : Offer) → offer.segments ≡ length t.segments → offer.references ≡ length t.references → (i : ℕ) (records : List Record) → AreRecords offer raw i records → i + length records ≤ count → AreTextsOf file t records texts
-  texts_of offer s r i [] formed le = All-nil (λ r. IfSome (name_in r) (λ name. text_in texts name ≡ text_in file (imported_place t + name)))
+  texts_of offer s r i [] formed le = C.All-nil (λ r. IfSome (name_in r) (λ name. text_in texts name ≡ text_in file (imported_place t + name)))
   texts_of offer s r i (x ∷ xs) formed le =
       let first : record_at (length t.segments) (length t.references) raw (8 * i) ≡ Some x = subst (λ n. record_at n (length t.references) raw (8 * i) ≡ Some x) s (subst (λ n. record_at offer.segments n raw (8 * i) ≡ Some x) r formed.0.0) in
-      All-cons (λ r. IfSome (name_in r) (λ name. text_in texts name ≡ text_in file (imported_place t + name))) x xs
+      C.All-cons (λ r. IfSome (name_in r) (λ name. text_in texts name ≡ text_in file (imported_place t + name))) x xs
       (asked (λ name. text_in texts name ≡ text_in file (imported_place t + name))
       (λ same name small. subst (λ ys. text_in ys name ≡ text_in file (imported_place t + name)) (sym same) (same_text file (imported_place t) name small (subst (All (λ b. b < 256)) same text_bytes))) i (omega (arith, le)) x first)
       (texts_of offer s r (i + 1) xs formed.1 (omega (arith, le)))
@@ -168,12 +167,12 @@ module _ (file : List ℕ) (t : Tables) (raw texts : List ℕ) (count : ℕ) (ar
   texts_told (Ok x) bytes records h = let s = passed_is_sound here bytes raw count records h in texts_of here refl refl 0 records s.formed (omega (arith, s.many))
   texts_told (Err e) bytes records h = tt
 
-  pub answers_told : {X : Type 0} (r : Result X RelocFault) (before after : ℕ) (bytes : List ℕ) (records : List Record) → IfErr r IsOfRecords → Said r bytes records → Answers (λ _. records) before after r (check_from (offer_of file t) bytes raw count 0 [])
+  pub answers_told : {X : Type 0} (r : Result X RelocFault) (before after : ℕ) (bytes : List ℕ) (records : List Record) → IfErr r C.IsOfRecords → Said r bytes records → C.Answers (λ _. records) before after r (check_from (offer_of file t) bytes raw count 0 [])
   answers_told (Ok x) before after bytes records own h = same_said bytes ∙ h
   answers_told (Err (faults.Store e)) before after bytes records own h = absurd own
-  answers_told (Err BadRecord) before after bytes records own h = same_said bytes ∙ h
-  answers_told (Err SiteOutside) before after bytes records own h = same_said bytes ∙ h
-  answers_told (Err Overlap) before after bytes records own h = same_said bytes ∙ h
+  answers_told (Err C.BadRecord) before after bytes records own h = same_said bytes ∙ h
+  answers_told (Err C.SiteOutside) before after bytes records own h = same_said bytes ∙ h
+  answers_told (Err C.Overlap) before after bytes records own h = same_said bytes ∙ h
 
 -- Records that are well formed by what a module offers are so where each name is taken to have a text.
 any_named : (segments references : ℕ) (o : Option ℕ) → has_text (any_offer segments references) o ≡ true
@@ -186,7 +185,7 @@ any_formed names raw segments references i (r ∷ rs) formed = ((formed.0.0, any
 
 pub sound_passed : {X : Type 0} (r : Result X RelocFault) (texts bytes raw : List ℕ) (segments references count : ℕ) (records : List Record)
     → MatchResult r (λ _. check_from (offer_in texts segments references) bytes raw count 0 [] ≡ Ok records) (λ e. check_from (offer_in texts segments references) bytes raw count 0 [] ≡ Err e)
-    → OnOk r ((table : List ℕ) × (count : ℕ) × IsSoundSegment (any_offer segments references) bytes table count records)
+    → OnOk r ((table : List ℕ) × (count : ℕ) × C.IsSoundSegment (any_offer segments references) bytes table count records)
 sound_passed (Ok x) texts bytes raw segments references count records h =
     let s = passed_is_sound (offer_in texts segments references) bytes raw count records h in
     (raw, count, record { many = s.many; formed = any_formed texts raw segments references 0 records s.formed; sound = s.sound })

@@ -1,6 +1,6 @@
 -- Faults, told further.
-use Rattle.w16_reloc.proofs.Common.{◌≡◌, ℕ, suc, ◌-◌, ◌+◌, ◌*◌, ◌≤◌, ◌<◌, List, [], ◌∷◌, ◌++◌, Result, Ok, Err, refl, sym, ap, ◌∙◌, append_assoc, arith, append-nil, RelocFault, Record, Site}
-use Rattle.w16_reloc.proofs.Common.{OnOk, Segment, Tables, is_reloc_device, true, Offer, record_at, ◌>>=◌, IsOfRecords, sites_at, formed, check_from, Held, Refuses, Answers, data_of, records_of, offer_of, checked}
+use Rattle.w16_reloc.proofs.Common as C
+use Rattle.w16_reloc.proofs.Common.{◌≡◌, ℕ, suc, ◌-◌, ◌+◌, ◌*◌, ◌≤◌, ◌<◌, List, [], ◌∷◌, ◌++◌, Result, Ok, Err, refl, sym, ap, ◌∙◌, arith, RelocFault, Record, Site, OnOk, true, Offer, record_at, ◌>>=◌, formed, check_from, Held, Refuses, Answers}
 use Rattle.w16_store.specs.declared.store.StoreFault.TheVariants as stores
 use Rattle.w16_reloc.specs.declared.fault.RelocFault.TheVariants as faults
 
@@ -17,28 +17,16 @@ pub answers_since : {X Y : Type 0} (view : X → Y) (old before after : ℕ) (r 
 answers_since view old before after (Ok x) said le h = h
 answers_since view old before after (Err e) said le h = fails_on old before after e said said le h (λ s. s)
 
-pub own_fails : {A B : Type 0} (before after : ℕ) (e : RelocFault) (said : Result A RelocFault) (total : Result B RelocFault) → IsOfRecords e → said ≡ Err e → (said ≡ Err e → total ≡ Err e) → Refuses before after e total
-own_fails before after (faults.Store e) said total own h on = absurd own
-own_fails before after faults.BadRecord said total own h on = on h
-own_fails before after faults.SiteOutside said total own h on = on h
-own_fails before after faults.Overlap said total own h on = on h
-
-pub records_not_device : (e : RelocFault) → IsOfRecords e → is_reloc_device e ≡ true → ⊥
-records_not_device (faults.Store e) own h = own
-records_not_device faults.BadRecord own h = cc
-records_not_device faults.SiteOutside own h = cc
-records_not_device faults.Overlap own h = cc
-
 -- records that were checked before, and those that are checked still
 abbrev pub with_front : List Record → Result (List Record) RelocFault → Result (List Record) RelocFault
 with_front front said = said >>= λ x. Ok (front ++ x)
 
 regroup : (front : List Record) (r : Record) (said : Result (List Record) RelocFault) → with_front front (said >>= λ rs. Ok (r ∷ rs)) ≡ with_front (front ++ r ∷ []) said
-regroup front r (Ok rs) = ap (λ ys. Ok ys) (simp append_assoc)
+regroup front r (Ok rs) = ap (λ ys. Ok ys) (simp C.append_assoc)
 regroup front r (Err e) = refl
 
 pub goes_on : (offer : Offer) (bytes raw : List ℕ) (front : List Record) (count i : ℕ) (sites after : List Site) (r : Record) (total : Result (List Record) RelocFault) → i < count
-    → formed offer (record_at offer.segments offer.references raw (8 * i)) ≡ Ok r → sites_at bytes sites r ≡ Ok after
+    → formed offer (record_at offer.segments offer.references raw (8 * i)) ≡ Ok r → C.sites_at bytes sites r ≡ Ok after
     → with_front front (check_from offer bytes raw (count - i) i sites) ≡ total → with_front (front ++ r ∷ []) (check_from offer bytes raw (count - (i + 1)) (i + 1) after) ≡ total
 unfolding check_from
 goes_on offer bytes raw front count i sites after r total lt is named so_far =
@@ -55,7 +43,7 @@ stops_at_record offer bytes raw front count i sites e total lt so_far is =
     sym so_far ∙ one
 
 pub stops_at_sites : (offer : Offer) (bytes raw : List ℕ) (front : List Record) (count i : ℕ) (sites : List Site) (r : Record) (e : RelocFault) (total : Result (List Record) RelocFault) → i < count
-    → formed offer (record_at offer.segments offer.references raw (8 * i)) ≡ Ok r → with_front front (check_from offer bytes raw (count - i) i sites) ≡ total → sites_at bytes sites r ≡ Err e → total ≡ Err e
+    → formed offer (record_at offer.segments offer.references raw (8 * i)) ≡ Ok r → with_front front (check_from offer bytes raw (count - i) i sites) ≡ total → C.sites_at bytes sites r ≡ Err e → total ≡ Err e
 unfolding check_from
 stops_at_sites offer bytes raw front count i sites r e total lt is so_far named =
     let k : count - i ≡ suc (count - (i + 1)) = omega arith in
@@ -67,7 +55,7 @@ pub is_done : (offer : Offer) (bytes raw : List ℕ) (front : List Record) (coun
 unfolding check_from
 is_done offer bytes raw front count i sites total le so_far =
     let k : count - i ≡ 0 = omega arith in
-    let one : with_front front (check_from offer bytes raw (count - i) i sites) ≡ Ok front = rw k (ap (λ ys. Ok ys) (append-nil front)) in
+    let one : with_front front (check_from offer bytes raw (count - i) i sites) ≡ Ok front = rw k (ap (λ ys. Ok ys) (C.append-nil front)) in
     sym so_far ∙ one
 
 -- nothing was checked before the first
@@ -95,8 +83,8 @@ told : (result : Result (Unit {0}) RelocFault) (old before after : ℕ) (bytes :
 told (Ok x) old before after bytes records said le h = rw h refl
 told (Err e) old before after bytes records said le h = fails_on old before after e said (held_with bytes said) le h (λ is. rw is refl)
 
-pub checked_told : (file : List ℕ) (t : Tables) (s : Segment) (result : Result (Unit {0}) RelocFault) (old before after : ℕ) (bytes table : List ℕ) (count : ℕ) (records : List Record) → old ≤ before → bytes ≡ data_of file s → table ≡ records_of file s → count ≡ s.records
-    → Answers (λ _. records) before after result (check_from (offer_of file t) bytes table count 0 []) → Answers {Y = Held} (λ _. record { bytes = bytes; records = records }) old after result (checked file t s)
-unfolding checked
+pub checked_told : (file : List ℕ) (t : C.Tables) (s : C.Segment) (result : Result (Unit {0}) RelocFault) (old before after : ℕ) (bytes table : List ℕ) (count : ℕ) (records : List Record) → old ≤ before → bytes ≡ C.data_of file s → table ≡ C.records_of file s → count ≡ s.records
+    → Answers (λ _. records) before after result (check_from (C.offer_of file t) bytes table count 0 []) → Answers {Y = Held} (λ _. record { bytes = bytes; records = records }) old after result (C.checked file t s)
+unfolding C.checked
 checked_told file t s result old before after bytes table count records le data_is table_is many h =
-    rw data_is (told result old before after (data_of file s) records _ le (rw (data_is, table_is, many) at h))
+    rw data_is (told result old before after (C.data_of file s) records _ le (rw (data_is, table_is, many) at h))

@@ -1,7 +1,8 @@
 -- A chain that is written over, site by site.
-use Rattle.w16_reloc.proofs.Common.{◌≡◌, ℕ, ◌+◌, ◌-◌, ◌<◌, ◌≤◌, List, [], ◌∷◌, length, Bool, true, false, cond, refl, sym, ◌∙◌, ap, arith, get_or, ◌⊎◌, inl, inr, nat_lt, nat_le, ◌&&◌, ◌||◌, list_any, word_of, Part, LowByte}
-use Rattle.w16_reloc.proofs.Common.{Selector, Pointer, Offset, Far, Site, covers, meets, AreSound, IsChain, of_width, chain_width, value_width, Patch, byte, stored_at, value_of, over, over_each, IsFileOutside, IsWalked}
-use Rattle.w16_reloc.proofs.SiteLemmas.{any_meets}
+use Rattle.w16_reloc.proofs
+use proofs.Common.{◌≡◌, ℕ, ◌+◌, ◌-◌, ◌<◌, ◌≤◌, List, [], ◌∷◌, length, Bool, true, false, cond, refl, sym, ◌∙◌, ap, arith, get_or, ◌⊎◌, inl, inr, nat_lt, nat_le, ◌&&◌, ◌||◌, list_any, word_of, Part, LowByte, Selector, Pointer, Offset, Far, Site, covers, meets, AreSound, IsChain, of_width}
+use proofs.Common.{chain_width, value_width, Patch, byte, stored_at, value_of, over, over_each, IsFileOutside, IsWalked}
+use proofs.SiteLemmas.{any_meets}
 
 pub chain_narrow : (part : Part) (far : Far) → length (value_of part far) ≤ chain_width part
 chain_narrow LowByte far = omega arith

@@ -1,11 +1,10 @@
 -- How values are written, one after another, over bytes that were the file's.
+use Rattle.w16_reloc.specs
 use Rattle.std.specs.Prelude.{◌≡◌, ℕ, ◌+◌, ◌-◌, ◌≤◌, List, [], ◌∷◌, length, nat_lt, nat_le, ◌&&◌, false, if◌then◌else◌, slice_index}
 use Rattle.std.specs.List.{list_any}
-use Rattle.w16_reloc.specs.declared.record.Record.{Record}
-use Rattle.w16_reloc.specs.declared.value.Far.{Far}
-use Rattle.w16_reloc.specs.Sites.{Site, covers, AreSound}
-use Rattle.w16_reloc.specs.Sound.{IsChain, Names, AreNamed, of_width, width_of, all_sites}
-use Rattle.w16_reloc.specs.Images.{Patch, byte, stored_at, patches_of, patches}
+use specs.Sound.{IsChain, Names, AreNamed, of_width, width_of, all_sites}
+use specs.Images.{Patch, byte, stored_at, patches_of, patches}
+use specs.{declared.record.Record.Record, declared.value.Far.Far, Sites.Site, Sites.covers, Sites.AreSound}
 
 -- bytes by offset, with a patch written over them, and with several
 abbrev pub over : Patch → (ℕ → ℕ) → ℕ → ℕ

@@ -1,14 +1,11 @@
 -- The check of a segment's records, one site after another, with the first fault.
+use Rattle.w16_reloc.specs
 use Rattle.std.specs.Prelude.{◌≡◌, ℕ, zero, suc, ◌+◌, ◌<◌, ◌*◌, List, [], ◌∷◌, length, Option, Some, None, Result, Ok, Err, nat_lt, ◌==◌, Bool, false, if◌then◌else◌, slice_index_or}
 use Rattle.std.specs.List.{list_any, AllByRecursion}
 use Rattle.w16_ne.specs.Reading.{word_of}
-use Rattle.w16_reloc.specs.declared.fault.RelocFault.{RelocFault}
-use Rattle.w16_reloc.specs.declared.fault.RelocFault.TheVariants.{BadRecord, SiteOutside, Overlap, Store}
-use Rattle.w16_reloc.specs.declared.record.Record.{Record}
-use Rattle.w16_reloc.specs.declared.record.Record.TheVariants.{Stored, Added, System}
-use Rattle.w16_reloc.specs.Records.{Offer, is_named, record_at}
-use Rattle.w16_reloc.specs.Sound.{chain_width, value_width}
-use Rattle.w16_reloc.specs.Sites.{Site, covers, meets}
+use specs.declared.fault.RelocFault.TheVariants.{BadRecord, SiteOutside, Overlap, Store}
+use specs.declared.record.Record.TheVariants.{Stored, Added, System}
+use specs.{declared.fault.RelocFault.RelocFault, declared.record.Record.Record, Records.Offer, Records.is_named, Records.record_at, Sound.chain_width, Sound.value_width, Sites.Site, Sites.covers, Sites.meets}
 
 infixl 10 ◌>>=◌
 abbrev pub ◌>>=◌ : {A B : Type 0} → Result A RelocFault → (A → Result B RelocFault) → Result B RelocFault

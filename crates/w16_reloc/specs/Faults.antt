@@ -1,14 +1,12 @@
 -- The first fault of a segment, apart from how it is found.
+use Rattle.w16_reloc.specs
 use Rattle.std.specs.Prelude.{◌≡◌, ◌≢◌, ℕ, ◌+◌, ◌*◌, ◌<◌, ◌≤◌, List, [], ◌∷◌, ◌++◌, length, true}
 use Rattle.std.specs.List.{list_any}
 use Rattle.w16_ne.specs.Reading.{word_of}
-use Rattle.w16_reloc.specs.declared.fault.RelocFault.{RelocFault}
-use Rattle.w16_reloc.specs.declared.fault.RelocFault.TheVariants.{BadRecord, SiteOutside, Overlap, Store}
-use Rattle.w16_reloc.specs.declared.record.Record.{Record}
-use Rattle.w16_reloc.specs.declared.record.Record.TheVariants.{Stored, Added, System}
-use Rattle.w16_reloc.specs.Sites.{Site, covers, AreApart}
-use Rattle.w16_reloc.specs.Records.{Offer, IsRecord}
-use Rattle.w16_reloc.specs.Sound.{AreRecords, IsSound, of_width, width_of, all_sites}
+use specs.declared.fault.RelocFault.TheVariants.{BadRecord, SiteOutside, Overlap, Store}
+use specs.declared.record.Record.TheVariants.{Stored, Added, System}
+use specs.Sound.{AreRecords, IsSound, of_width, width_of, all_sites}
+use specs.{declared.fault.RelocFault.RelocFault, declared.record.Record.Record, Sites.Site, Sites.covers, Sites.AreApart, Records.Offer, Records.IsRecord}
 
 -- A chain leads from an offset over these offsets to one more.
 abbrev pub LeadsTo : List ℕ → ℕ → List ℕ → ℕ → Type 0

@@ -1,11 +1,10 @@
 -- What a relocated segment holds.
+use Rattle.w16_reloc.specs
 use Rattle.std.specs.Prelude.{◌≡◌, ℕ, ◌+◌, ◌-◌, ◌%◌, ◌/◌, List, [], ◌∷◌, ◌++◌, length, nat_lt, nat_le, ◌&&◌, if◌then◌else◌, slice_index}
 use Rattle.w16_ne.specs.Reading.{word_of}
-use Rattle.w16_reloc.specs.declared.record.Part.{Part}
-use Rattle.w16_reloc.specs.declared.record.Part.TheVariants.{LowByte, Selector, Pointer, Offset}
-use Rattle.w16_reloc.specs.declared.record.Record.{Record}
-use Rattle.w16_reloc.specs.declared.record.Record.TheVariants.{Stored, Added, System}
-use Rattle.w16_reloc.specs.declared.value.Far.{Far}
+use specs.declared.record.Part.TheVariants.{LowByte, Selector, Pointer, Offset}
+use specs.declared.record.Record.TheVariants.{Stored, Added, System}
+use specs.{declared.record.Part.Part, declared.record.Record.Record, declared.value.Far.Far}
 
 -- a word's bytes, the low one first
 abbrev pub word_bytes : ℕ → List ℕ

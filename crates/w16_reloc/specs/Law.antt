@@ -1,15 +1,7 @@
 -- What the definitions of relocation come to.
 use Rattle.std.specs.Prelude.{◌≡◌, ℕ, ◌<◌, ◌≤◌, List, [], length, Ok, Err, All}
-use Rattle.w16_reloc.specs.declared.fault.RelocFault.{RelocFault}
-use Rattle.w16_reloc.specs.declared.record.Record.{Record}
-use Rattle.w16_reloc.specs.declared.value.Far.{Far}
-use Rattle.w16_reloc.specs.Records.{Offer}
-use Rattle.w16_reloc.specs.Sound.{IsSound, IsSoundSegment}
-use Rattle.w16_reloc.specs.Faults.{IsFirstFault}
-use Rattle.w16_reloc.specs.Check.{check_from}
 use Rattle.w16_reloc.specs.Images.{byte, patches, image_at, IsImage}
-use Rattle.w16_reloc.specs.Naming.{naming, image_of}
-use Rattle.w16_reloc.specs.Apply.{over_each}
+use Rattle.w16_reloc.specs.{declared.fault.RelocFault.RelocFault, declared.record.Record.Record, declared.value.Far.Far, Records.Offer, Sound.IsSound, Sound.IsSoundSegment, Faults.IsFirstFault, Check.check_from, Naming.naming, Naming.image_of, Apply.over_each}
 
 -- A check that passes has found a sound segment, and passes every sound one.
 abbrev pub PassedLaw : Type 0

@@ -2,10 +2,8 @@
 use Rattle.std.specs.Prelude.{ℕ, zero, suc, List, [], ◌∷◌, length, map, ◌==◌, if◌then◌else◌}
 use Rattle.std.specs.List.{range_with_len}
 use Rattle.w16_ne.specs.Reading.{word_of}
-use Rattle.w16_reloc.specs.declared.record.Record.{Record}
 use Rattle.w16_reloc.specs.declared.record.Record.TheVariants.{Stored, Added, System}
-use Rattle.w16_reloc.specs.declared.value.Far.{Far}
-use Rattle.w16_reloc.specs.Images.{byte, patches, image_at}
+use Rattle.w16_reloc.specs.{declared.record.Record.Record, declared.value.Far.Far, Images.byte, Images.patches, Images.image_at}
 
 -- so many sites at most of the chain from an offset on
 abbrev pub chain_from : List ℕ → ℕ → ℕ → List ℕ

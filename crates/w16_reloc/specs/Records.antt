@@ -1,13 +1,11 @@
 -- Relocation records: 8 bytes each, an address type, a relocation type, an offset word, and two words for the target (volume 4).
+use Rattle.w16_reloc.specs
 use Rattle.std.specs.Prelude.{◌≡◌, ℕ, ◌+◌, List, Option, Some, None, ◌==◌, nat_lt, ◌||◌, Bool, true, if◌then◌else◌, bit_and, slice_index, option_map}
 use Rattle.w16_ne.specs.Reading.{word_of}
-use Rattle.w16_reloc.specs.declared.record.Part.{Part}
-use Rattle.w16_reloc.specs.declared.record.Part.TheVariants.{LowByte, Selector, Pointer, Offset}
-use Rattle.w16_reloc.specs.declared.record.Target.{Target}
-use Rattle.w16_reloc.specs.declared.record.Target.TheVariants.{Internal, Entry, ByOrdinal, ByName}
-use Rattle.w16_reloc.specs.declared.record.Fixup.{Fixup}
-use Rattle.w16_reloc.specs.declared.record.Record.{Record}
-use Rattle.w16_reloc.specs.declared.record.Record.TheVariants.{Stored, Added, System}
+use specs.declared.record.Part.TheVariants.{LowByte, Selector, Pointer, Offset}
+use specs.declared.record.Target.TheVariants.{Internal, Entry, ByOrdinal, ByName}
+use specs.declared.record.Record.TheVariants.{Stored, Added, System}
+use specs.{declared.record.Part.Part, declared.record.Target.Target, declared.record.Fixup.Fixup, declared.record.Record.Record}
 
 -- what a module offers to its records: how many segments and references, and where the imported names have a text in the file
 pub record Offer : Type 0 where

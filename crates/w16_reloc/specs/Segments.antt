@@ -1,18 +1,10 @@
 -- A segment of a module's file, and what a check of it answers.
 use Rattle.std.specs.Prelude.{◌≡◌, ◌≢◌, ◌⊎◌, bit_and, ℕ, ◌+◌, ◌*◌, ◌<◌, ◌≤◌, List, [], length, take, drop, All, Some, IfSome, Result, Ok, Err, nat_lt, ◌&&◌, Bool, true, false, slice_index}
-use Rattle.w16_store.specs.declared.store.StoreFault.{StoreFault}
+use Rattle.w16_store.specs.{declared.store.StoreFault.StoreFault, Later.is_device}
+use Rattle.w16_ne.specs.{declared.segment_table.Segment.Segment, Segments.records_at, declared.text_window.TheConstants.TEXTS, Texts.text_in, Modules.Tables, Modules.imported_place}
+use Rattle.w16_reloc.specs.{declared.fault.RelocFault.RelocFault, declared.record.Record.Record, Records.Offer, Records.name_in, Check.◌>>=◌, Check.check_from}
 use Rattle.w16_store.specs.declared.store.StoreFault.TheVariants as stores
-use Rattle.w16_store.specs.Later.{is_device}
-use Rattle.w16_ne.specs.declared.segment_table.Segment.{Segment}
-use Rattle.w16_ne.specs.Segments.{records_at}
-use Rattle.w16_ne.specs.declared.text_window.TheConstants.{TEXTS}
-use Rattle.w16_ne.specs.Texts.{text_in}
-use Rattle.w16_ne.specs.Modules.{Tables, imported_place}
-use Rattle.w16_reloc.specs.declared.fault.RelocFault.{RelocFault}
 use Rattle.w16_reloc.specs.declared.fault.RelocFault.TheVariants as faults
-use Rattle.w16_reloc.specs.declared.record.Record.{Record}
-use Rattle.w16_reloc.specs.Records.{Offer, name_in}
-use Rattle.w16_reloc.specs.Check.{◌>>=◌, check_from}
 
 -- a length byte at an offset and the text after it lie in the file
 abbrev pub has_text_at : List ℕ → ℕ → Bool

@@ -1,12 +1,10 @@
 -- When a segment is sound, apart from how it is checked.
+use Rattle.w16_reloc.specs
 use Rattle.std.specs.Prelude.{◌≡◌, ◌≢◌, ℕ, ◌+◌, ◌*◌, List, [], ◌∷◌, ◌++◌, length}
 use Rattle.w16_ne.specs.Reading.{word_of}
-use Rattle.w16_reloc.specs.declared.record.Part.{Part}
-use Rattle.w16_reloc.specs.declared.record.Part.TheVariants.{LowByte, Selector, Pointer, Offset}
-use Rattle.w16_reloc.specs.declared.record.Record.{Record}
-use Rattle.w16_reloc.specs.declared.record.Record.TheVariants.{Stored, Added, System}
-use Rattle.w16_reloc.specs.Sites.{Site, AreApart}
-use Rattle.w16_reloc.specs.Records.{Offer, IsRecord}
+use specs.declared.record.Part.TheVariants.{LowByte, Selector, Pointer, Offset}
+use specs.declared.record.Record.TheVariants.{Stored, Added, System}
+use specs.{declared.record.Part.Part, declared.record.Record.Record, Sites.Site, Sites.AreApart, Records.Offer, Records.IsRecord}
 
 -- The chain from an offset on names these offsets: the word at each is the next, and FFFF ends it (volume 4).
 abbrev pub IsChain : List ℕ → ℕ → List ℕ → Type 0

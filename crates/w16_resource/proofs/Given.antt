@@ -1,33 +1,31 @@
 -- How the object of a resource gets the bytes of a file.
-use Rattle.w16_resource.proofs.Common.{same_lists, All-nil, padded_length, get_or-map-range_with_len, nat_eq, padded, Bool, GRAIN, Handles, Held, IsSomeAnd, IsWritten, LARGEST_OWNED, List, Ok, Result}
-use Rattle.w16_resource.proofs.Common.{[], ap, arith, drop, false, false≢true, get_or, get_or_default, length, length-drop, length-take, ltb-false, nat_lt, refl, rounded_size, subst, suc, sym, take, true, zero, ℕ}
-use Rattle.w16_resource.proofs.Common.{◌<◌, ◌==◌, ◌||◌, ◌∙◌, ◌≡◌, ◌≤◌, fault_of, after, eqb-true, Store, Owned, Entry, Refuses, RelocFault}
-use Rattle.w16_resource.proofs.Common.{IsSourceOf, bytes_in, is_long, owned_at}
-use Rattle.std.specs.FinMap as finmap
+use Rattle.w16_resource.proofs.Common as C
+use Rattle.w16_resource.proofs.Common.{Bool, GRAIN, Held, IsWritten, LARGEST_OWNED, List, Ok, [], ap, arith, drop, false, false≢true, length, refl, rounded_size, subst, suc, sym, take, true, zero, ℕ, ◌<◌, ◌==◌, ◌||◌, ◌∙◌, ◌≡◌, ◌≤◌, after, Store, Owned, Entry, is_long}
 use Rattle.w16_reloc.specs.Sound.{IsSound}
+use Rattle.std.specs.FinMap as finmap
 use Rattle.w16_reloc.specs.declared.fault.RelocFault.TheVariants as relocs
 use Rattle.w16_store.specs.declared.store.StoreFault.TheVariants as stores
 
 -- what was written with no records is the data, and zeros after them
-plain_image : (source bytes : List ℕ) (n : ℕ) → length source ≤ length bytes → length bytes ≡ n → IsWritten source [] [] bytes → padded source n ≡ bytes
-plain_image source bytes n room long is = same_lists (padded source n) bytes (padded_length source n ∙ sym long) (λ k d lt.
-    let same = padded_length source n in
+plain_image : (source bytes : List ℕ) (n : ℕ) → length source ≤ length bytes → length bytes ≡ n → IsWritten source [] [] bytes → C.padded source n ≡ bytes
+plain_image source bytes n room long is = C.same_lists (C.padded source n) bytes (C.padded_length source n ∙ sym long) (λ k d lt.
+    let same = C.padded_length source n in
     let inside : k < length bytes = omega (arith, same, long, lt) in
-    get_or-map-range_with_len (λ o. get_or source o 0) 0 n k k d (omega (arith, same, lt)) (omega arith) ∙ sym (is.image [] sound room k) ∙ get_or_default bytes k 0 d inside)
+    C.get_or-map-range_with_len (λ o. C.get_or source o 0) 0 n k k d (omega (arith, same, lt)) (omega arith) ∙ sym (is.image [] sound room k) ∙ C.get_or_default bytes k 0 d inside)
   where
     sound : IsSound source [] []
-    sound = (tt, record { inside = All-nil _; once = λ o. omega arith })
+    sound = (tt, record { inside = C.All-nil _; once = λ o. omega arith })
 
 pub some_bytes : (n : ℕ) → is_long n ≡ false → 0 < n
 some_bytes zero e = absurd (false≢true (sym e))
 some_bytes (suc n) e = omega arith
 
 pub no_more : (n : ℕ) → is_long n ≡ false → n ≤ 65536
-no_more n e = by (nat_eq n 0) e
+no_more n e = by (C.nat_eq n 0) e
   where
-    by : (b : Bool) → (b || nat_lt LARGEST_OWNED n) ≡ false → n ≤ 65536
+    by : (b : Bool) → (b || C.nat_lt LARGEST_OWNED n) ≡ false → n ≤ 65536
     by true f = absurd (false≢true (sym f))
-    by false f = let le = ltb-false LARGEST_OWNED n f in let most : LARGEST_OWNED ≡ 65536 = refl in omega (arith, le, most)
+    by false f = let le = C.ltb-false LARGEST_OWNED n f in let most : LARGEST_OWNED ≡ 65536 = refl in omega (arith, le, most)
 
 pub rounded_up : (n : ℕ) → n ≤ rounded_size n
 rounded_up n = let unit : GRAIN ≡ 32 = refl in omega (arith, unit)
@@ -36,21 +34,21 @@ rounded_up n = let unit : GRAIN ≡ 32 = refl in omega (arith, unit)
 pub has_some : (file : List ℕ) (place n : ℕ) → is_long n ≡ false → place < length file → 0 < length (take n (drop place file))
 has_some file place n short inside =
     let some = some_bytes n short in
-    let cut = length-take n (drop place file) in
-    let rest = length-drop place file in
+    let cut = C.length-take n (drop place file) in
+    let rest = C.length-drop place file in
     omega (arith, some, cut, rest, inside)
 
 -- what was written is what its file gives it
-pub written_resource : {honest : Type 0} {files : List (List ℕ × List ℕ)} {name : List ℕ} {handles : Handles} {slot : ℕ} {entry : Entry} (s : IsSourceOf honest files name handles slot entry) (read : List ℕ)
-    → read ≡ take entry.len (drop entry.place s.file) → (bytes : List ℕ) → IsWritten read [] [] bytes → IsSomeAnd (owned_at handles slot) (λ (w : Owned). length bytes ≡ w.size) → bytes ≡ bytes_in s.file entry
+pub written_resource : {honest : Type 0} {files : List (List ℕ × List ℕ)} {name : List ℕ} {handles : C.Handles} {slot : ℕ} {entry : Entry} (s : C.IsSourceOf honest files name handles slot entry) (read : List ℕ)
+    → read ≡ take entry.len (drop entry.place s.file) → (bytes : List ℕ) → IsWritten read [] [] bytes → C.IsSomeAnd (C.owned_at handles slot) (λ (w : Owned). length bytes ≡ w.size) → bytes ≡ C.bytes_in s.file entry
 written_resource {entry = entry} s read same bytes are sized =
-    let long : length bytes ≡ rounded_size entry.len = subst (λ p. IsSomeAnd p (λ (w : Owned). length bytes ≡ w.size)) s.sized sized in
-    let cut = length-take entry.len (drop entry.place s.file) in
+    let long : length bytes ≡ rounded_size entry.len = subst (λ p. C.IsSomeAnd p (λ (w : Owned). length bytes ≡ w.size)) s.sized sized in
+    let cut = C.length-take entry.len (drop entry.place s.file) in
     let up = rounded_up entry.len in
     sym (plain_image (take entry.len (drop entry.place s.file)) bytes (rounded_size entry.len) (omega (arith, cut, up, long)) long (subst (λ bs. IsWritten bs [] [] bytes) same are))
 
 -- a failed read of what is there is the device's
-pub failed : {Y : Type 0} (before after : ℕ) (y : Y) (fault : RelocFault) → Refuses before after fault (Ok y) → fault_of fault ≡ Store
+pub failed : {Y : Type 0} (before after : ℕ) (y : Y) (fault : C.RelocFault) → C.Refuses before after fault (Ok y) → C.fault_of fault ≡ Store
 failed before after y (relocs.Store stores.Device) h = refl
 failed before after y (relocs.Store stores.Missing) h = absurd h
 failed before after y (relocs.Store stores.Short) h = absurd h
@@ -58,9 +56,9 @@ failed before after y relocs.BadRecord h = cc
 failed before after y relocs.SiteOutside h = cc
 failed before after y relocs.Overlap h = cc
 
-pub read_held : (held now : Held) → ◌≡◌ {A = Result Held RelocFault} (Ok held) (Ok now) → now.bytes ≡ held.bytes
+pub read_held : (held now : Held) → ◌≡◌ {A = C.Result Held C.RelocFault} (Ok held) (Ok now) → now.bytes ≡ held.bytes
 read_held held now e = let same : held ≡ now = cc in ap (λ (h : Held). h.bytes) (sym same)
 
 -- some bytes that are none
 pub none_empty : {A : Type 0} (bytes : List ℕ) → (length bytes == 0) ≡ true → 0 < length bytes → A
-none_empty bytes e lt = absurd (let none = eqb-true (length bytes) 0 e in omega (arith, none, lt))
+none_empty bytes e lt = absurd (let none = C.eqb-true (length bytes) 0 e in omega (arith, none, lt))

@@ -1,14 +1,11 @@
 -- Loads of resources in a list by slot.
 use Rattle.std.specs.Prelude.{ℕ, if◌then◌else◌, List, Option, ◌==◌}
-use Rattle.std.specs.Ordering.{nat_cmp}
-use Rattle.std.specs.FinMap as finmap
-use Rattle.std.specs.FinMap.{FinMap}
+use Rattle.std.specs.{Ordering.nat_cmp, FinMap.FinMap}
 use Rattle.w16_model.specs.Table.{by_id}
-use Rattle.w16_loading.specs.Free.{is_left_over}
-use Rattle.w16_loading.specs.Modules as loading
-use Rattle.w16_loading.specs.Modules.{LoadingWorld}
-use Rattle.w16_loading.specs.Release.{without_objects}
+use Rattle.w16_loading.specs.{Free.is_left_over, Modules.LoadingWorld, Release.without_objects}
 use Rattle.w16_resource.specs.declared.listing.Load.{Load}
+use Rattle.std.specs.FinMap as finmap
+use Rattle.w16_loading.specs.Modules as loading
 
 -- a load as the meaning of modules has it
 abbrev pub load_in : Load → loading.Load

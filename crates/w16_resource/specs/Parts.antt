@@ -1,13 +1,8 @@
 -- The world of modules over the parts of the machine that keep it, and what a call over a store answers.
 use Rattle.std.specs.Prelude.{ℕ, List, Result, Ok, Err}
-use Rattle.std.specs.Ordering.{nat_cmp}
-use Rattle.std.specs.FinMap.{FinMap}
+use Rattle.std.specs.{Ordering.nat_cmp, FinMap.FinMap}
 use Rattle.w16_model.specs.Handles.{Handles}
-use Rattle.w16_loading.specs.declared.FetchFault.{FetchFault}
-use Rattle.w16_loading.specs.Law.{IsLoadingWorld, IsOfFiles}
-use Rattle.w16_loading.specs.Modules.{Load, LoadingWorld, Modules}
-use Rattle.w16_loading.specs.Replies.{Reply}
-use Rattle.w16_loading.specs.Replies.Reply.{Word, Dword, Failed}
+use Rattle.w16_loading.specs.{declared.FetchFault.FetchFault, Law.IsLoadingWorld, Law.IsOfFiles, Modules.Load, Modules.LoadingWorld, Modules.Modules, Replies.Reply, Replies.Reply.Word, Replies.Reply.Dword, Replies.Reply.Failed}
 use Rattle.w16_format.specs.Ne.{ne_format}
 
 -- the world that these parts are

@@ -1,28 +1,16 @@
 -- Where a resource's bytes come from, and how its object gets them.
 use Rattle.std.specs.Prelude.{◌≡◌, ℕ, ◌<◌, ◌⊎◌, ◌==◌, ◌||◌, nat_lt, Bool, false, List, length, take, drop, Option, Some, None, Ok}
-use Rattle.std.specs.Ordering.{nat_cmp}
-use Rattle.std.specs.FinMap as finmap
-use Rattle.std.specs.FinMap.{FinMap}
+use Rattle.std.specs.{Ordering.nat_cmp, FinMap.FinMap}
 use Rattle.w16_global.specs.Owned.{HasNoSlot}
-use Rattle.w16_model.specs.Calls.{rounded_size}
-use Rattle.w16_model.specs.Changes.{with_object}
-use Rattle.w16_model.specs.Handles.{Handles, IsFreeSlot, handle_of}
-use Rattle.w16_model.specs.Owned.{owned_at}
+use Rattle.w16_model.specs.{Calls.rounded_size, Changes.with_object, Handles.Handles, Handles.IsFreeSlot, Handles.handle_of, Owned.owned_at}
 use Rattle.w16_store.specs.Files.{file_of}
-use Rattle.w16_ne.specs.Modules as ne
-use Rattle.w16_ne.specs.Modules.{tables_at}
-use Rattle.w16_ne.specs.Resources.{Entry, Label}
-use Rattle.w16_loading.specs.declared.FetchFault.{FetchFault}
-use Rattle.w16_loading.specs.declared.FetchFault.TheVariants.{NoRoom}
-use Rattle.w16_loading.specs.declared.TheConstants.{LARGEST_OWNED}
-use Rattle.w16_loading.specs.File.{Resource}
+use Rattle.w16_ne.specs.{Modules.tables_at, Resources.Entry, Resources.Label}
 use Rattle.w16_loading.specs.Modules.{Load, Module, Modules, module_at}
-use Rattle.w16_loading.specs.Replies.{Reply}
-use Rattle.w16_loading.specs.Replies.Reply.{Word, Failed}
-use Rattle.w16_loading.specs.Resource.{attributes_for}
-use Rattle.w16_format.specs.Data.{padded}
-use Rattle.w16_format.specs.Tables.{tables_in}
+use Rattle.w16_loading.specs.{declared.FetchFault.FetchFault, declared.FetchFault.TheVariants.NoRoom, declared.TheConstants.LARGEST_OWNED, File.Resource, Replies.Reply, Replies.Reply.Word, Replies.Reply.Failed, Resource.attributes_for}
+use Rattle.w16_format.specs.{Data.padded, Tables.tables_in}
 use Rattle.w16_loader.specs.Fetching.{GivesOwned}
+use Rattle.std.specs.FinMap as finmap
+use Rattle.w16_ne.specs.Modules as ne
 
 -- The resource of a place of a module is read from the file of this name, which has this entry for it.
 pub record IsSourceAt (modules : Modules) (handle place : ℕ) (file : List ℕ) (entry : Entry) : Type 0 where

@@ -1,13 +1,13 @@
 -- Lemmas on the arguments of commands.
-use Rattle.w16_script.proofs.Common.{common_steps, ◌≡◌, ◌≢◌, ℕ, ◌*◌, ◌^◌, ◌<◌, ◌≤◌, List, [], ◌∷◌, length, get_or, refl, ap, sym, subst, ◌∙◌, arith, Ok, Option, Some, None, IfNone, Command, Name}
-use Rattle.w16_script.proofs.Common.{Parameter, Label, IsLiteral, IsNumber, Argument, IsLabel, IsArgument, AreArguments, Makes, parameters_of, command_with, decode_of, decode_of-ok}
+use Rattle.w16_script.proofs.Common as C
+use Rattle.w16_script.proofs.Common.{◌≡◌, ◌≢◌, ℕ, ◌*◌, ◌^◌, ◌<◌, ◌≤◌, List, [], ◌∷◌, refl, ap, sym, subst, ◌∙◌, arith, Ok, Some, None, Command, Name, Label, IsNumber, Argument, IsArgument, AreArguments, Makes}
 use Rattle.w16_script.specs.declared.arguments.Parameter.TheVariants as p
 
 -- a word of another length doesn't have that many bytes
-pub length_bytes : (word bytes : _) → decode_of word ≡ Ok bytes → length word ≡ 2 * length bytes
-length_bytes word bytes h = (decode_of-ok word bytes h).2
+pub length_bytes : (word bytes : _) → C.decode_of word ≡ Ok bytes → C.length word ≡ 2 * C.length bytes
+length_bytes word bytes h = (C.decode_of-ok word bytes h).2
 
-pub IfNone-weaker : {X P Q : Type 0} (o : Option X) → (P → Q) → IfNone o P → IfNone o Q
+pub IfNone-weaker : {X P Q : Type 0} (o : C.Option X) → (P → Q) → C.IfNone o P → C.IfNone o Q
 IfNone-weaker o f h = grind arith
 
 -- Words that a parameter doesn't take.
@@ -30,11 +30,11 @@ module _ (registers word : List ℕ) where
   no_byte none value h = absurd h
 
 -- a label that is a number begins with `#`
-pub hash : (word digits : List ℕ) → word ≡ 35 ∷ digits → get_or word 0 0 ≢ 35 → ⊥
+pub hash : (word digits : List ℕ) → word ≡ 35 ∷ digits → C.get_or word 0 0 ≢ 35 → ⊥
 hash word digits is other = other (rw is refl)
 
 -- what begins with `#` is no label without a number
-pub no_number_behind : (word digits : List ℕ) → word ≡ 35 ∷ digits → ((n : ℕ) → IsLiteral digits n → n < 2 ^ 16 → ⊥) → (label : Label) → IsLabel word label → ⊥
+pub no_number_behind : (word digits : List ℕ) → word ≡ 35 ∷ digits → ((n : ℕ) → C.IsLiteral digits n → n < 2 ^ 16 → ⊥) → (label : Label) → C.IsLabel word label → ⊥
 no_number_behind word digits is none (Label.Text text) (same, reads, other) = hash word digits is other
 no_number_behind word digits is none (Label.Number n) (others, is_too, reads, small) =
     let same : others ≡ digits = cc in
@@ -54,7 +54,7 @@ pub something_left : (registers words : _) → (words ≡ [] → ⊥) → (value
 something_left registers [] some values h = some refl
 something_left registers (word ∷ words) some values h = absurd h
 
-module _ (registers word : List ℕ) (words rest : List (List ℕ)) (parameter : Parameter) (parameters : List Parameter) where
+module _ (registers word : List ℕ) (words rest : List (List ℕ)) (parameter : C.Parameter) (parameters : List C.Parameter) where
   pub more : (value values : _) → words ≡ word ∷ rest → IsArgument registers word parameter value → AreArguments registers rest parameters values → AreArguments registers words (parameter ∷ parameters) (value ∷ values)
   more value values is first others = rw is (first, others)
 
@@ -67,14 +67,14 @@ no_first registers [] parameter parameters none values h = absurd h
 no_first registers (word ∷ words) parameter parameters none [] h = absurd h
 no_first registers (word ∷ words) parameter parameters none (value ∷ values) h = none word words value refl h.0
 
-pub ruleset taken = (common_steps, more, no_first, no_rest)
+pub ruleset taken = (C.common_steps, more, no_first, no_rest)
 
 -- Commands of their arguments.
 
-pub makes : (registers words name parameters arguments command : _) → AreArguments registers words parameters arguments → parameters_of name ≡ parameters → command ≡ command_with name arguments → Makes registers name words command
+pub makes : (registers words name parameters arguments command : _) → AreArguments registers words parameters arguments → C.parameters_of name ≡ parameters → command ≡ C.command_with name arguments → Makes registers name words command
 makes registers words name parameters arguments command right same is = record { arguments = arguments; right = rw same right; is = is }
 
-pub makes_none : (registers words name parameters : _) → ((values : _) → AreArguments registers words parameters values → ⊥) → parameters_of name ≡ parameters → (command : _) → Makes registers name words command → ⊥
+pub makes_none : (registers words name parameters : _) → ((values : _) → AreArguments registers words parameters values → ⊥) → C.parameters_of name ≡ parameters → (command : _) → Makes registers name words command → ⊥
 makes_none registers words name parameters none same command made = none made.arguments (rw same at made.right)
 
-pub ruleset making = (common_steps, makes, makes_none)
+pub ruleset making = (C.common_steps, makes, makes_none)

@@ -1,13 +1,15 @@
 -- Lemmas on digits.
-use Rattle.w16_script.proofs.Common.{◌≡◌, ℕ, zero, suc, ◌+◌, ◌*◌, ◌%◌, ◌<◌, ◌≤◌, ◌⊎◌, Bool, true, false, Option, Some, None, Ok, Err, length, take, drop, refl, sym, ◌∙◌, arith, inl, inr, ◌==◌, ◌&&◌, if◌then◌else◌, nat_lt}
-use Rattle.w16_script.proofs.Common.{bit_or, slice_index, MatchOption, cases_lt, nat_tests, decode_of, decode_pairs, hex_digit_value, pair_value, FromHexError, InvalidHexCharacter, decode_of-even, prepend, decode_err, decode_done, VALUES}
-use Rattle.w16_script.proofs.OneNumberLemmas.{both}
+use Rattle.w16_script.proofs
+use proofs.Common as C
+use proofs.Common.{◌≡◌, ℕ, zero, suc, ◌+◌, ◌*◌, ◌%◌, ◌<◌, ◌≤◌, ◌⊎◌, Bool, true, false, Some, None, Ok, Err, length, take, drop, refl, sym, ◌∙◌, arith, inl, inr, ◌==◌, ◌&&◌, if◌then◌else◌, nat_lt, slice_index, nat_tests, decode_pairs, hex_digit_value, pair_value, InvalidHexCharacter}
+use proofs.Common.{VALUES}
+use proofs.OneNumberLemmas.{both}
 
 -- what a table has for a digit, and for what is none
-abbrev pub Stands : Option ℕ → ℕ → Type 0
-Stands digit x = MatchOption digit (x ≡ 16) (λ value. (x ≡ value) × (value < 16))
+abbrev pub Stands : C.Option ℕ → ℕ → Type 0
+Stands digit x = C.MatchOption digit (x ≡ 16) (λ value. (x ≡ value) × (value < 16))
 
-stands : Option ℕ → ℕ → Bool
+stands : C.Option ℕ → ℕ → Bool
 stands None x = x == 16
 stands (Some value) x = (x == value) && nat_lt value 16
 
@@ -26,7 +28,7 @@ unfolding all_right
 right-at value zero byte small e = absurd (omega (arith, small))
 right-at value (suc n) byte small e =
     let parts = both (stands (hex_digit_value n) (value n)) (all_right value n) e in
-    elim (cases_lt byte n) [
+    elim (C.cases_lt byte n) [
       | inl below ↦ right-at value n byte below parts.1
       | inr above ↦ let same : byte ≡ n = omega arith in rw same (from-stands (hex_digit_value n) (value n) parts.0)
     ]
@@ -41,7 +43,7 @@ value-at byte small = right-at (slice_index VALUES.now) 256 byte small values_ri
 
 -- and so is what it reckons
 abbrev pub reckoned : ℕ → ℕ
-reckoned byte = if nat_lt ((byte + 208) % 256) 10 then (byte + 208) % 256 else if nat_lt ((bit_or byte 32 + 159) % 256) 6 then (bit_or byte 32 + 159) % 256 + 10 else 16
+reckoned byte = if nat_lt ((byte + 208) % 256) 10 then (byte + 208) % 256 else if nat_lt ((C.bit_or byte 32 + 159) % 256) 6 then (C.bit_or byte 32 + 159) % 256 + 10 else 16
 
 reckoned_right : all_right reckoned 256 ≡ true
 unfolding all_right stands
@@ -61,9 +63,9 @@ pub pair-read : (a b high low i : _) → Stands (hex_digit_value a) high → Sta
 pair-read a b high low i p q first second = grind (arith, known)
 
 -- one of the two is none
-pub pair-bad : (a b high low i : _) → Stands (hex_digit_value a) high → Stands (hex_digit_value b) low → (nat_lt high 16 ≡ false) ⊎ (nat_lt low 16 ≡ false) → (e : FromHexError) × (pair_value a b i ≡ Err e)
+pub pair-bad : (a b high low i : _) → Stands (hex_digit_value a) high → Stands (hex_digit_value b) low → (nat_lt high 16 ≡ false) ⊎ (nat_lt low 16 ≡ false) → (e : C.FromHexError) × (pair_value a b i ≡ Err e)
 pair-bad a b high low i p q (inl bad) = (InvalidHexCharacter a i, rw (unknown (hex_digit_value a) high p (grind (arith, nat_tests, bad))) refl)
-pair-bad a b high low i p q (inr bad) = elim (cases_lt high 16) [
+pair-bad a b high low i p q (inr bad) = elim (C.cases_lt high 16) [
   | inl some ↦ (InvalidHexCharacter b (i + 1), rw (known (hex_digit_value a) high p some, unknown (hex_digit_value b) low q (grind (arith, nat_tests, bad))) refl)
   | inr none ↦ (InvalidHexCharacter a i, rw (unknown (hex_digit_value a) high p none) refl)
 ]
@@ -73,11 +75,11 @@ pub one-bad : (a b c : _) → ((a && b) && c) ≡ false → a ≡ true → (b �
 one-bad a b c e all = grind arith
 
 -- a bad pair is a bad text
-pub bad_text : (word out other i e : _) → length word ≡ 2 * length out → i < length out → pair_value (slice_index word (2 * i)) (slice_index word (2 * i + 1)) (2 * i) ≡ Err e → decode_pairs 0 word ≡ prepend (take i out) (decode_pairs (2 * i) (drop (2 * i) word)) → decode_of word ≡ Ok other → ⊥
+pub bad_text : (word out other i e : _) → length word ≡ 2 * length out → i < length out → pair_value (slice_index word (2 * i)) (slice_index word (2 * i + 1)) (2 * i) ≡ Err e → decode_pairs 0 word ≡ C.prepend (take i out) (decode_pairs (2 * i) (drop (2 * i) word)) → C.decode_of word ≡ Ok other → ⊥
 bad_text word out other i e sized here bad inv reads =
-    let even = decode_of-even word (omega (arith, sized)) in
-    let clash : Ok other ≡ Err e = sym reads ∙ even ∙ decode_err word out i e (omega (arith, sized, here)) bad inv in
+    let even = C.decode_of-even word (omega (arith, sized)) in
+    let clash : Ok other ≡ Err e = sym reads ∙ even ∙ C.decode_err word out i e (omega (arith, sized, here)) bad inv in
     cc
 
-pub whole_text : (word out i : _) → length word ≡ 2 * length out → length out ≤ i → decode_pairs 0 word ≡ prepend (take i out) (decode_pairs (2 * i) (drop (2 * i) word)) → decode_of word ≡ Ok out
-whole_text word out i sized here inv = decode_of-even word (omega (arith, sized)) ∙ decode_done word out i here (omega (arith, sized, here)) inv
+pub whole_text : (word out i : _) → length word ≡ 2 * length out → length out ≤ i → decode_pairs 0 word ≡ C.prepend (take i out) (decode_pairs (2 * i) (drop (2 * i) word)) → C.decode_of word ≡ Ok out
+whole_text word out i sized here inv = C.decode_of-even word (omega (arith, sized)) ∙ C.decode_done word out i here (omega (arith, sized, here)) inv

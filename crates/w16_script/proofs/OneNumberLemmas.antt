@@ -1,6 +1,5 @@
 -- A number has only one reading.
-use Rattle.w16_script.proofs.Common.{◌≡◌, ℕ, ◌+◌, ◌^◌, ◌<◌, inl, inr, Bool, true, List, ◌∷◌, length, get_or, drop, sym, ap, ◌∙◌, arith}
-use Rattle.w16_script.proofs.Common.{nat_tests, ◌&&◌, IsLiteral, IsSum, IsForm, IsOfRegister, IsNumber}
+use Rattle.w16_script.proofs.Common.{◌≡◌, ℕ, ◌+◌, ◌^◌, ◌<◌, inl, inr, Bool, true, List, ◌∷◌, length, get_or, drop, sym, ap, ◌∙◌, arith, nat_tests, ◌&&◌, IsLiteral, IsSum, IsForm, IsOfRegister, IsNumber}
 use Rattle.w16_script.proofs.RegisterLemmas.{BeginsWith-form, BeginsWith-same, BeginsWith-from}
 
 -- both tests hold

@@ -1,6 +1,5 @@
 -- Lemmas on the names of registers.
-use Rattle.w16_script.proofs.Common.{◌≡◌, ℕ, ◌+◌, ◌*◌, ◌/◌, ◌%◌, ◌<◌, ◌≤◌, ◌⊎◌, Bool, true, false, List, [], ◌∷◌, ◌++◌, get_or, length, append-nil, ◌≢◌, refl, sym}
-use Rattle.w16_script.proofs.Common.{ap, ◌∙◌, arith, nat_tests, ◌==◌, decimal, decimal_digit, decimal_step, IsRegister, BeginsWith, IsForm, IsOfRegister, is_digit}
+use Rattle.w16_script.proofs.Common.{◌≡◌, ℕ, ◌+◌, ◌*◌, ◌/◌, ◌%◌, ◌<◌, ◌≤◌, ◌⊎◌, Bool, true, false, List, [], ◌∷◌, ◌++◌, get_or, length, append-nil, ◌≢◌, refl, sym, ap, ◌∙◌, arith, nat_tests, ◌==◌, decimal, decimal_digit, decimal_step, IsRegister, BeginsWith, IsForm, IsOfRegister, is_digit}
 
 pub two_digits : (r : ℕ) → 10 ≤ r → r < 100 → decimal r ≡ (48 + r / 10) ∷ (48 + r % 10) ∷ []
 two_digits r some small = decimal_step r some (omega arith) ∙ ap (λ l. l ++ ((48 + r % 10) ∷ [])) (decimal_digit (r / 10) (omega arith))

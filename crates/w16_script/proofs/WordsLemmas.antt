@@ -3,8 +3,7 @@ use Rattle.w16_script.proofs.Common.{common_steps, if◌then◌else◌, ◌≡�
 use Rattle.std.proofs.Common.{◌+◌, ◌%◌, ◌^◌, ◌||◌, ◌==◌, not, cond, map, bit_or}
 use Rattle.std.proofs.lemmas.List.{length-map}
 use Rattle.std.proofs.lemmas.Simd.{map-map, mask_l-mod, length-chunk, first_set_mask_l}
-use Rattle.std.specs.Int.{trailing_zeros, w64}
-use Rattle.std.specs.List.{prefix_len}
+use Rattle.std.specs.{Int.trailing_zeros, Int.w64, List.prefix_len}
 use lib.Lanes.{chunk, mask_l, top}
 
 -- where the first byte is no blank there is a word

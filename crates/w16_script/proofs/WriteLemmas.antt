@@ -1,24 +1,25 @@
 -- Lemmas on writes.
-use Rattle.w16_script.proofs.Common.{◌≡◌, ◌+◌, ◌<◌, Result, OnErr, length, length-append, length-drop, ◌++◌, ap, ◌∙◌, append_assoc, take, drop, sym, take-append-drop, arith, Appends, Appends-trans, take-add, AppendsFront}
+use Rattle.w16_script.proofs.Common as C
+use Rattle.w16_script.proofs.Common.{◌≡◌, ◌+◌, ◌<◌, OnErr, ◌++◌, ap, ◌∙◌, take, drop, sym, arith, Appends, AppendsFront}
 
 -- what holds anyway holds on an error
-pub on_err : {T E P : Type 0} (r : Result T E) → P → OnErr r P
+pub on_err : {T E P : Type 0} (r : C.Result T E) → P → OnErr r P
 on_err r p = grind arith
 
 -- a further front of what is left
 pub Appends-take : (a b c xs ys n m : _) → Appends a b (take n xs) → ys ≡ drop n xs → Appends b c (take m ys) → Appends a c (take (n + m) xs)
-Appends-take a b c xs ys n m p e q = rw take-add (Appends-trans a b c _ _ p (rw e at q))
+Appends-take a b c xs ys n m p e q = rw C.take-add (C.Appends-trans a b c _ _ p (rw e at q))
 
 -- a front that is not all
-pub AppendsFront_take : {a b xs : _} (n : _) → n < length xs → Appends a b (take n xs) → AppendsFront a b xs
-AppendsFront_take {xs} n h p = record { front = take n xs; back = drop n xs; whole = sym (take-append-drop n xs); left = omega (arith, length-drop n xs); appends = p }
+pub AppendsFront_take : {a b xs : _} (n : _) → n < C.length xs → Appends a b (take n xs) → AppendsFront a b xs
+AppendsFront_take {xs} n h p = record { front = take n xs; back = drop n xs; whole = sym (C.take-append-drop n xs); left = omega (arith, C.length-drop n xs); appends = p }
 
 -- something before it was written whole, and something is left after it
 pub AppendsFront-between : {b bytes : _} (a c before behind : _) → Appends a b before → AppendsFront b c bytes → AppendsFront a c (before ++ (bytes ++ behind))
 AppendsFront-between a c before behind p q = record {
   front = before ++ q.front;
   back = q.back ++ behind;
-  whole = ap (λ l. before ++ (l ++ behind)) q.whole ∙ simp append_assoc;
-  left = omega (arith, q.left, length-append q.back behind);
-  appends = Appends-trans _ _ _ before q.front p q.appends;
+  whole = ap (λ l. before ++ (l ++ behind)) q.whole ∙ simp C.append_assoc;
+  left = omega (arith, q.left, C.length-append q.back behind);
+  appends = C.Appends-trans _ _ _ before q.front p q.appends;
 }

@@ -1,10 +1,7 @@
 -- What is said of a line that is bad.
 use Rattle.std.specs.Prelude.{◌≡◌, length}
-use Rattle.w16_script.specs.declared.name.Name.{Name}
-use Rattle.w16_script.specs.declared.expected.Expected.{Expected}
+use Rattle.w16_script.specs.{declared.name.Name.Name, declared.expected.Expected.Expected, Words.words_of, Grammar.text_of, Grammar.parameters_of}
 use Rattle.w16_script.specs.declared.expected.Expected.TheVariants as expected
-use Rattle.w16_script.specs.Words.{words_of}
-use Rattle.w16_script.specs.Grammar.{text_of, parameters_of}
 
 -- a word that is said to be no command's name is none, and a command is said to take as many parameters as it does
 abbrev pub IsExpected : Expected → Type 0

@@ -1,18 +1,13 @@
 -- What bytes of a script do, one after another.
+use Rattle.w16_script.specs
 use Rattle.std.specs.Prelude.{◌≡◌, ℕ, ◌+◌, List, [], ◌∷◌, ◌++◌, length, map, count_by, Option}
-use Rattle.std.specs.List.{flat_map, AllByRecursion}
-use Rattle.std.specs.Io.KnownBytes.{Keeps}
+use Rattle.std.specs.{List.flat_map, List.AllByRecursion, Io.KnownBytes.Keeps}
 use Rattle.w16_machine.specs.Machine.{Command, Event, Steps, Run, IsSame}
 use Rattle.w16_writes.specs.Promises.{Promises}
 use Rattle.w16_kernel.specs.Runs.{TakesMemory}
-use Rattle.w16_script.specs.declared.outcome.RunFault.{RunFault}
-use Rattle.w16_script.specs.declared.outcome.RunFault.TheVariants.{Write, Memory, TooLong}
-use Rattle.w16_script.specs.State.{State}
-use Rattle.w16_script.specs.Grammar.{Said, Reads}
-use Rattle.w16_script.specs.Written.{AppendsFront}
-use Rattle.w16_script.specs.Output.{Prints, RunsLines, has_reply}
-use Rattle.w16_script.specs.Text.{ended, HasNoLf, IsRaw, without_cr}
-use Rattle.w16_script.specs.Progress.{Progress, IsWithinLimits, IsOver}
+use specs.declared.outcome.RunFault.TheVariants.{Write, Memory, TooLong}
+use specs.Progress.{Progress, IsWithinLimits, IsOver}
+use specs.{declared.outcome.RunFault.RunFault, State.State, Grammar.Said, Grammar.Reads, Written.AppendsFront, Output.Prints, Output.RunsLines, Output.has_reply, Text.ended, Text.HasNoLf, Text.IsRaw, Text.without_cr}
 
 -- the line met a fault
 abbrev pub FailsAt : Steps → Option (List ℕ) → State → List ℕ → RunFault → Option (List ℕ) → State → Type 0

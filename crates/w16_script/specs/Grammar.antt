@@ -1,26 +1,19 @@
 -- What a line says.
 use Rattle.std.specs.Prelude.{◌≡◌, ◌≢◌, ℕ, suc, ◌^◌, ◌<◌, ◌≤◌, Bool, true, false, ◌==◌, List, [], ◌∷◌, length, codes, Ok, Option, Some, None, slice_index}
-use Rattle.std.specs.Char.{is_ascii_graphic}
-use Rattle.std.specs.List.{list_all, slice_get}
+use Rattle.std.specs.{Char.is_ascii_graphic, List.list_all, List.slice_get}
 use Rattle.hex.specs.Hex.{decode_of}
-use Rattle.w16_script.specs.declared.name.Name.{Name}
+use Rattle.w16_script.specs.{declared.name.Name.Name, declared.arguments.Parameter.Parameter, declared.bytes.TheConstants.MOST_BYTES, Words.words_of, Registers.IsRegister, Numbers.IsLiteral, Numbers.IsNumber}
+use Rattle.w16_loading.specs.Families.LoadingCommand.{OfHandles, OfResizes, OfFar, OfModules, OfResources}
+use Rattle.w16_machine.specs.{Machine.Command, Machine.Command.OfLoading, Machine.Command.OfLocals}
+use Rattle.w16_kernel.specs.declared.call.TheConstants.{MOST_READ, MOST_FILLED}
 use Rattle.w16_script.specs.declared.name.Name.TheVariants as name
-use Rattle.w16_script.specs.declared.arguments.Parameter.{Parameter}
 use Rattle.w16_script.specs.declared.arguments.Parameter.TheVariants as p
 use Rattle.w16_model.specs.Calls as calls
 use Rattle.w16_model.specs.Far as far
 use Rattle.w16_loading.specs.Families as families
-use Rattle.w16_loading.specs.Families.LoadingCommand.{OfHandles, OfResizes, OfFar, OfModules, OfResources}
 use Rattle.w16_loading.specs.File as files
 use Rattle.w16_loading.specs.Resizes as resizes
 use Rattle.w16_machine.specs.LocalCalls as locals
-use Rattle.w16_machine.specs.Machine.{Command}
-use Rattle.w16_machine.specs.Machine.Command.{OfLoading, OfLocals}
-use Rattle.w16_kernel.specs.declared.call.TheConstants.{MOST_READ, MOST_FILLED}
-use Rattle.w16_script.specs.declared.bytes.TheConstants.{MOST_BYTES}
-use Rattle.w16_script.specs.Words.{words_of}
-use Rattle.w16_script.specs.Registers.{IsRegister}
-use Rattle.w16_script.specs.Numbers.{IsLiteral, IsNumber}
 
 -- An argument as a value, and the value at a place in a list of them: 0, or no bytes and no text, where there is no such argument.
 

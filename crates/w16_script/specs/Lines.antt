@@ -1,12 +1,10 @@
 -- What the code says of a line.
 use Rattle.std.specs.Prelude.{◌<◌, IfSome}
 use Rattle.w16_loading.specs.Families.LoadingCommand.{OfFar}
-use Rattle.w16_machine.specs.Machine.{Command}
-use Rattle.w16_machine.specs.Machine.Command.{OfLoading}
+use Rattle.w16_machine.specs.{Machine.Command, Machine.Command.OfLoading}
 use Rattle.w16_kernel.specs.Runs.{command_of, IsCall}
-use Rattle.w16_script.specs.declared.line.Line.{Line}
+use Rattle.w16_script.specs.{declared.line.Line.Line, Grammar.Said}
 use Rattle.w16_script.specs.declared.line.Line.TheVariants as line
-use Rattle.w16_script.specs.Grammar.{Said}
 
 -- a far access
 abbrev pub IsFarAccess : Command → Type 0

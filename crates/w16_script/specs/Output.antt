@@ -2,15 +2,10 @@
 use Rattle.std.specs.Prelude.{◌≡◌, ℕ, Bool, not, List, [], ◌∷◌, ◌++◌, Option}
 use Rattle.std.specs.Io.KnownBytes.{Appends}
 use Rattle.w16_model.specs.declared.Item.{Item}
-use Rattle.w16_machine.specs.World.{IsWorldWalk, World}
-use Rattle.w16_loading.specs.Replies as replies
-use Rattle.w16_machine.specs.Machine.{Event, Steps, Run}
+use Rattle.w16_machine.specs.{World.IsWorldWalk, World.World, Machine.Event, Machine.Steps, Machine.Run}
 use Rattle.w16_writes.specs.Promises.{Promises}
-use Rattle.w16_script.specs.Registers.{stored_all}
-use Rattle.w16_script.specs.State.{State}
-use Rattle.w16_script.specs.Words.{words_of}
-use Rattle.w16_script.specs.Grammar.{Said, Reads, is_silent, target_of}
-use Rattle.w16_script.specs.Printed.{reply_text, walk_text, error_text}
+use Rattle.w16_script.specs.{Registers.stored_all, State.State, Words.words_of, Grammar.Said, Grammar.Reads, Grammar.is_silent, Grammar.target_of, Printed.reply_text, Printed.walk_text, Printed.error_text}
+use Rattle.w16_loading.specs.Replies as replies
 
 -- what is printed for a reply, in the world that its command left: for `Walked` the walk of that world
 abbrev pub Shows : World → replies.Reply → List ℕ → Type 0

@@ -1,17 +1,12 @@
 -- How replies are printed.
 use Rattle.std.specs.Prelude.{ℕ, List, [], ◌∷◌, ◌++◌, codes, Option, Some, None}
-use Rattle.std.specs.Int.{w16, w32, to_be_bytes}
-use Rattle.std.specs.Fmt.{decimal}
-use Rattle.std.specs.List.{flat_map}
+use Rattle.std.specs.{Int.w16, Int.w32, Int.to_be_bytes, Fmt.decimal, List.flat_map}
 use Rattle.hex.specs.Hex.{encode_lower}
-use Rattle.w16_model.specs.declared.FarFault.{FarFault}
 use Rattle.w16_model.specs.declared.FarFault.TheVariants.{BadSelector, ReadOnly, NotPresent, Limit}
+use Rattle.w16_model.specs.declared.Kind.TheVariants.{Fixed, Moveable, Discardable}
+use Rattle.w16_model.specs.{declared.FarFault.FarFault, declared.Kind.Kind, declared.Item.Item, declared.Owner.Owner}
 use Rattle.w16_loading.specs.declared.FetchFault.{FetchFault}
 use Rattle.w16_loading.specs.declared.FetchFault.TheVariants.{NoRoom, Store, Damaged}
-use Rattle.w16_model.specs.declared.Kind.{Kind}
-use Rattle.w16_model.specs.declared.Kind.TheVariants.{Fixed, Moveable, Discardable}
-use Rattle.w16_model.specs.declared.Item.{Item}
-use Rattle.w16_model.specs.declared.Owner.{Owner}
 use Rattle.w16_loading.specs.Replies as replies
 
 -- a fault's name

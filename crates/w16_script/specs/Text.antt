@@ -1,7 +1,6 @@
 -- How a text falls into lines.
 use Rattle.std.specs.Prelude.{◌≢◌, ℕ, ◌≤◌, List, [], ◌∷◌, ◌++◌, length, map}
-use Rattle.std.specs.List.{AllByRecursion}
-use Rattle.std.specs.Io.BufRead.{strip_last}
+use Rattle.std.specs.{List.AllByRecursion, Io.BufRead.strip_last}
 
 -- a line of the text with its LF
 abbrev pub ended : List ℕ → List ℕ

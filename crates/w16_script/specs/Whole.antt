@@ -1,17 +1,11 @@
 -- What a whole run does.
-use Rattle.w16_machine.specs.World.{World}
+use Rattle.w16_script.specs
+use Rattle.w16_machine.specs.{World.World, Machine.Steps}
 use Rattle.std.specs.Prelude.{◌≡◌, ℕ, ◌+◌, ◌<◌, ◌≤◌, ◌⊎◌, List, [], ◌++◌, length, count_by, Option}
-use Rattle.std.specs.List.{flat_map, AllByRecursion}
-use Rattle.std.specs.Io.KnownBytes.{Keeps, IsAtEnd}
-use Rattle.w16_machine.specs.Machine.{Steps}
-use Rattle.w16_script.specs.declared.outcome.Ended.{Ended}
-use Rattle.w16_script.specs.declared.outcome.RunFault.{RunFault}
-use Rattle.w16_script.specs.declared.outcome.RunFault.TheVariants.{Read, Write, Memory, TooLong}
-use Rattle.w16_script.specs.State.{State, state_with, start}
-use Rattle.w16_script.specs.Output.{RunsLines, has_reply}
-use Rattle.w16_script.specs.Text.{ended, IsRaw, last_of, lines_of}
-use Rattle.w16_script.specs.Progress.{Progress, fresh, IsWithinLimits}
-use Rattle.w16_script.specs.Feeding.{Feeds, FailsAt, Stops}
+use Rattle.std.specs.{List.flat_map, List.AllByRecursion, Io.KnownBytes.Keeps, Io.KnownBytes.IsAtEnd}
+use specs.declared.outcome.RunFault.TheVariants.{Read, Write, Memory, TooLong}
+use specs.Progress.{Progress, fresh, IsWithinLimits}
+use specs.{declared.outcome.Ended.Ended, declared.outcome.RunFault.RunFault, State.State, State.state_with, State.start, Output.RunsLines, Output.has_reply, Text.ended, Text.IsRaw, Text.last_of, Text.lines_of, Feeding.Feeds, Feeding.FailsAt, Feeding.Stops}
 
 -- The script of this text, whole: it is within the limits, its lines were run, what they print was written, and these are its counts.
 -- It left these registers.

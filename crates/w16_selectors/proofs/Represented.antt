@@ -1,13 +1,13 @@
 -- What a change of one slot keeps.
+use Rattle.w16_selectors.specs
 use Rattle.std.proofs.Common.{◌≡◌, ℕ, zero, suc, ◌+◌, ◌^◌, ◌<◌, ◌≤◌, List, ◌∷◌, length, map, set, replicate, Option, Some, None, is_some, IsSome, IfSome, refl, sym, ap, ◌∙◌, subst, arith, inl, inr, ◌⊎◌}
 use Rattle.std.proofs.lemmas.Bool.{cases_eq, cases_lt, false≢true}
 use Rattle.std.proofs.lemmas.List.{length-set, length-replicate, map-set, get_or-set_same, get_or-set_other, get_or-replicate, get_or_past}
 use Rattle.std.proofs.Math.Seq.{map-set_same}
 use Rattle.w16_model.specs.declared.TheConstants.{FIRST_SLOT, MOST_SLOTS}
-use Rattle.w16_selectors.specs.declared.Descriptor.{Descriptor}
-use Rattle.w16_selectors.specs.declared.SelKind.{SelKind}
-use Rattle.w16_selectors.specs.Descriptors.{DescriptorTable, descriptor_at, unset}
-use Rattle.w16_selectors.specs.Representation.{SelectorsInvariant, AreTaken, mark_of}
+use specs.Descriptors.{DescriptorTable, descriptor_at, unset}
+use specs.Representation.{SelectorsInvariant, AreTaken, mark_of}
+use specs.{declared.Descriptor.Descriptor, declared.SelKind.SelKind}
 
 -- a segment ends where an address of 32 bits can reach
 abbrev pub Reaches : Option Descriptor → Type 0

@@ -1,13 +1,14 @@
 -- What marks tell of slots, and where a run of free ones begins.
+use Rattle.w16_selectors.specs
 use Rattle.std.proofs.Common.{◌≡◌, ℕ, ◌+◌, ◌-◌, ◌<◌, ◌≤◌, List, length, get_or, drop, take, Bool, true, false, not, ◌↔◌, IsTrue, Option, Some, None, is_some, IsSome, option_map, unwrap_or, refl, sym, ap, ◌∙◌, subst, arith, inl, inr, length-take-le, length-drop}
 use Rattle.std.proofs.lemmas.Bool.{cases_lt, false≢true, eqb-true, eq-eqb}
 use Rattle.std.proofs.lemmas.List.{get_or-drop, get_or-take, length-map}
 use Rattle.std.proofs.Math.ListN.{get_or-map}
 use Rattle.memchr.specs.Find.{IsFirst, IsFirstByte, Nowhere, Passes, is_byte}
 use Rattle.w16_model.specs.declared.TheConstants.{FIRST_SLOT}
-use Rattle.w16_selectors.specs.declared.Descriptor.{Descriptor}
-use Rattle.w16_selectors.specs.Descriptors.{DescriptorTable, descriptor_at, IsUntaken, IsFreeRun}
-use Rattle.w16_selectors.specs.Representation.{SelectorsInvariant, mark_of}
+use specs.declared.Descriptor.{Descriptor}
+use specs.Descriptors.{DescriptorTable, descriptor_at, IsUntaken, IsFreeRun}
+use specs.Representation.{SelectorsInvariant, mark_of}
 use Rattle.w16_selectors.proofs.Represented.{mark_of_taken}
 
 mark_at : (table : DescriptorTable) (marks : List ℕ) (slot : ℕ) → SelectorsInvariant table marks → get_or marks slot 0 ≡ mark_of (descriptor_at table slot)

@@ -1,12 +1,8 @@
 -- Descriptors by slot, and what a far access finds by them.
 use Rattle.std.specs.Prelude.{◌≡◌, ℕ, ◌+◌, ◌/◌, ◌<◌, ◌≤◌, Bool, false, true, not, ◌&&◌, ◌==◌, if◌then◌else◌, nat_lt, List, length, slice_index_or, Option, Some, None, Result, Ok, Err}
-use Rattle.w16_model.specs.declared.FarFault.{FarFault}
 use Rattle.w16_model.specs.declared.FarFault.TheVariants.{BadSelector, ReadOnly, NotPresent, Limit}
-use Rattle.w16_model.specs.declared.TheConstants.{FIRST_SLOT}
-use Rattle.w16_model.specs.Handles.{selector_of}
-use Rattle.w16_selectors.specs.declared.SelKind.{SelKind}
-use Rattle.w16_selectors.specs.declared.SelKind.TheVariants.{Data, Code}
-use Rattle.w16_selectors.specs.declared.Descriptor.{Descriptor}
+use Rattle.w16_model.specs.{declared.FarFault.FarFault, declared.TheConstants.FIRST_SLOT, Handles.selector_of}
+use Rattle.w16_selectors.specs.{declared.SelKind.SelKind, declared.SelKind.TheVariants.Data, declared.SelKind.TheVariants.Code, declared.Descriptor.Descriptor}
 
 -- the descriptors by slot, none where the slot isn't taken
 abbrev pub DescriptorTable : Type 0

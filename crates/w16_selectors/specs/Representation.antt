@@ -1,8 +1,7 @@
 -- What the code keeps of the descriptors.
 use Rattle.std.specs.Prelude.{◌≡◌, ℕ, ◌+◌, ◌^◌, ◌<◌, ◌≤◌, List, length, map, IfSome, IsSome, Option, Some, None}
 use Rattle.w16_model.specs.declared.TheConstants.{FIRST_SLOT, MOST_SLOTS}
-use Rattle.w16_selectors.specs.Descriptors.{DescriptorTable, descriptor_at}
-use Rattle.w16_selectors.specs.declared.Descriptor.{Descriptor}
+use Rattle.w16_selectors.specs.{Descriptors.DescriptorTable, Descriptors.descriptor_at, declared.Descriptor.Descriptor}
 
 -- a mark for each slot: 0 where it is free
 abbrev pub mark_of : Option Descriptor → ℕ

@@ -1,16 +1,8 @@
 -- Files that are found by name.
 use Rattle.std.proofs.Common.{◌≡◌, ℕ, zero, suc, ◌+◌, ◌<◌, ◌≤◌, Bool, true, false, cond, List, [], ◌∷◌, ◌++◌, Option, Some, None, Ok, Err, length, get_or, position, refl, sym, ap, ◌∙◌, subst, arith, ltb}
-use Rattle.std.specs.Prelude.{option_map, unwrap_or}
-use Rattle.std.specs.List.{find, position_or_len}
-use Rattle.std.proofs.Math.ListN.{set}
-use Rattle.std.proofs.lemmas.Bool.Decides.{nat_tests}
-use Rattle.std.proofs.lemmas.List.Sums.{fails_before_first}
-use Rattle.w16_store.specs.declared.memory.File.{File}
-use Rattle.w16_store.specs.Names.{is_named}
-use Rattle.w16_store.specs.Files.{file_of, bytes_of, length_of, AreWith, HasBytes}
-use Rattle.w16_store.specs.declared.store.StoreFault.TheVariants.{Short}
-use Rattle.w16_store.specs.Memory.{files_in}
-use Rattle.w16_store.specs.Folder.{content_of, listed, IsHonestRead}
+use Rattle.std.proofs.{Math.ListN.set, lemmas.Bool.Decides.nat_tests, lemmas.List.Sums.fails_before_first}
+use Rattle.std.specs.{Prelude.option_map, Prelude.unwrap_or, List.find, List.position_or_len}
+use Rattle.w16_store.specs.{declared.memory.File.File, Names.is_named, Files.file_of, Files.bytes_of, Files.length_of, Files.AreWith, Files.HasBytes, declared.store.StoreFault.TheVariants.Short, Memory.files_in, Folder.content_of, Folder.listed, Folder.IsHonestRead}
 use Rattle.w16_store.proofs.Naming.{named_alike, named_by}
 
 -- By recursion.

@@ -1,28 +1,20 @@
 -- Names that are found by places in their order.
+use Rattle.std.proofs.lemmas.Cmp as M
 use Rattle.std.proofs.Common.{◌≡◌, ℕ, zero, suc, ◌+◌, ◌-◌, ◌<◌, ◌≤◌, Bool, true, false, List, [], ◌∷◌, Some, None, length, get_or, drop, ◌++◌, min, refl, sym, ap, ◌∙◌, subst, arith, length-drop, eqb-true, ◌||◌, map, Global, String}
-use Rattle.std.specs.String.{string_bytes}
-use Rattle.std.specs.Prelude.{nat_eq}
-use Rattle.std.specs.List.{find, list_any}
-use Rattle.std.specs.List.Sorted.{IsPartitionedBy, IsSortedBy}
-use Rattle.std.specs.Cmp.{IsTotalOrder}
-use Rattle.std.specs.declared.cmp.Ordering.{Ordering}
+use Rattle.std.proofs.lemmas.List.Sorted.{ranks_by, sorted_far, searchable_from_sorted}
+use Rattle.std.proofs.lemmas.List.{get_or_default, length-map, get_or-map}
+use Rattle.std.proofs.{lemmas.Bool.Decides.nat_tests, lemmas.Map.Text.is_eq-slice_cmp, lemmas.List.Folds.Any-from_list_any, lemmas.List.Folds.list_any-append}
 use Rattle.std.specs.declared.cmp.Ordering.TheVariants.{Less, Equal, Greater}
 use Rattle.std.specs.Ordering.{nat_cmp, is_lt, is_eq, ordering_then, ordering_reverse, ordering_index}
-use Rattle.std.specs.Str.{str_to_ascii_uppercase}
-use Rattle.std.proofs.lemmas.Bool.Decides.{nat_tests}
-use Rattle.std.proofs.lemmas.Cmp.{is_lt_index, on_total, then_total, nat_cmp_total, nat_list_cmp_total}
-use Rattle.std.proofs.lemmas.Map.Text.{is_eq-slice_cmp}
-use Rattle.std.proofs.lemmas.List.Sorted.{ranks_by, sorted_far, searchable_from_sorted}
-use Rattle.std.proofs.lemmas.List.Folds.{Any-from_list_any, list_any-append}
-use Rattle.std.proofs.lemmas.List.{get_or_default, length-map, get_or-map}
+use Rattle.std.specs.{String.string_bytes, Prelude.nat_eq, List.find, List.list_any, List.Sorted.IsPartitionedBy, List.Sorted.IsSortedBy, Cmp.IsTotalOrder, declared.cmp.Ordering.Ordering, Str.str_to_ascii_uppercase}
 use Rattle.w16_store.specs.Names.{is_named, name_cmp}
 use Rattle.w16_store.specs.Places.{name_at, place_cmp, AreInOrder, AreWhole, IsSplitAt}
 
 pub name_cmp_total : IsTotalOrder name_cmp
-name_cmp_total = on_total str_to_ascii_uppercase nat_list_cmp_total
+name_cmp_total = M.on_total str_to_ascii_uppercase M.nat_list_cmp_total
 
 pub place_cmp_total : (names : List (List ℕ)) → IsTotalOrder (place_cmp names)
-place_cmp_total names = then_total (on_total (name_at names) name_cmp_total) nat_cmp_total
+place_cmp_total names = M.then_total (M.on_total (name_at names) name_cmp_total) M.nat_cmp_total
 
 -- names that are one are those that compare as equal
 pub is_named-name_cmp : (a b : List ℕ) → is_eq (name_cmp a b) ≡ is_named a b
@@ -83,7 +75,7 @@ first_is_no_less Equal o h = refl
 first_is_no_less Greater o h = refl
 
 less_below : (r s : Ordering) → ordering_index r ≤ ordering_index s → is_lt s ≡ true → is_lt r ≡ true
-less_below r s h k = grind (arith, nat_tests, is_lt_index)
+less_below r s h k = grind (arith, nat_tests, M.is_lt_index)
 
 pub is_partitioned : (names : List (List ℕ)) (places : List ℕ) (name : List ℕ) → AreInOrder names places → IsPartitionedBy (λ p. is_lt (name_cmp (name_at names p) name)) places
 is_partitioned names places name rising i j d le within here =

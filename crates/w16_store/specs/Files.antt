@@ -1,9 +1,8 @@
 -- Files by name, and what an honest store answers about them.
 use Rattle.std.specs.Prelude.{◌≡◌, ℕ, ◌+◌, ◌<◌, List, length, take, drop, nat_lt, if◌then◌else◌, Option, Some, None, IfSome, All, Result, Ok, Err, option_map}
 use Rattle.std.specs.List.{find}
-use Rattle.w16_store.specs.declared.store.StoreFault.{StoreFault}
 use Rattle.w16_store.specs.declared.store.StoreFault.TheVariants.{Missing, Short, Device}
-use Rattle.w16_store.specs.Names.{is_named}
+use Rattle.w16_store.specs.{declared.store.StoreFault.StoreFault, Names.is_named}
 
 -- the bytes of the file of a name, if there is one; of equal names the first counts
 unfoldable pub file_of : List (List ℕ × List ℕ) → List ℕ → Option (List ℕ)

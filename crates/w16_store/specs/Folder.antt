@@ -1,7 +1,6 @@
 -- The files of a folder.
 use Rattle.std.specs.Prelude.{◌≡◌, ℕ, ◌+◌, ◌<◌, ◌≤◌, List, [], length, map, take, drop, Option, Some, Result, Ok, Err, option_map, unwrap_or}
-use Rattle.std.specs.List.{find}
-use Rattle.std.specs.Str.{bytes_eq}
+use Rattle.std.specs.{List.find, Str.bytes_eq}
 use Rattle.w16_store.specs.declared.disk.DiskFailure.{DiskFailure}
 
 -- the bytes of the file of exactly this name

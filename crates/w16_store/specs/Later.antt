@@ -1,7 +1,6 @@
 -- What calls leave of a store, and when they tell that its device failed.
 use Rattle.std.specs.Prelude.{◌≡◌, ℕ, ◌<◌, ◌≤◌, Bool, true, false, List}
-use Rattle.w16_store.specs.declared.store.StoreFault.{StoreFault}
-use Rattle.w16_store.specs.declared.store.StoreFault.TheVariants.{Device}
+use Rattle.w16_store.specs.{declared.store.StoreFault.StoreFault, declared.store.StoreFault.TheVariants.Device}
 
 -- A store after some calls: it has the same files, and its device has failed no fewer times.
 pub record IsLater (files : List (List ℕ × List ℕ)) (failures : ℕ) (files_after : List (List ℕ × List ℕ)) (failures_after : ℕ) : Type 0 where

@@ -1,9 +1,5 @@
 -- Names of files, modules, entries and resources.
-use Rattle.std.specs.Prelude.{ℕ, List, Bool}
-use Rattle.std.specs.declared.cmp.Ordering.{Ordering}
-use Rattle.std.specs.Ordering.{nat_cmp, on}
-use Rattle.std.specs.Cmp.Lexicographic.{slice_cmp}
-use Rattle.std.specs.Str.{bytes_eq, str_to_ascii_uppercase}
+use Rattle.std.specs.{Prelude.ℕ, Prelude.List, Prelude.Bool, declared.cmp.Ordering.Ordering, Ordering.nat_cmp, Ordering.on, Cmp.Lexicographic.slice_cmp, Str.bytes_eq, Str.str_to_ascii_uppercase}
 
 -- names are compared after ASCII upper-casing (profile)
 unfoldable pub is_named : List ℕ → List ℕ → Bool

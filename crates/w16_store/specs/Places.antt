@@ -1,9 +1,7 @@
 -- Places in a list of names, in the order of these.
 use Rattle.std.specs.Prelude.{◌≡◌, ℕ, ◌<◌, List, length, [], true, false, nat_eq, slice_index_or}
-use Rattle.std.specs.List.{list_any}
-use Rattle.std.specs.List.Sorted.{IsSorted, IsPartitionPoint}
-use Rattle.std.specs.declared.cmp.Ordering.{Ordering}
 use Rattle.std.specs.Ordering.{nat_cmp, on, then_cmp, is_lt}
+use Rattle.std.specs.{List.list_any, List.Sorted.IsSorted, List.Sorted.IsPartitionPoint, declared.cmp.Ordering.Ordering}
 use Rattle.w16_store.specs.Names.{name_cmp}
 
 -- the name at a place, and no bytes where there is none

@@ -1,10 +1,9 @@
 -- The leaves of a tree are its list.
+use Rattle.std.proofs.lemmas.List as M
 use Rattle.std.proofs.Common.{ℕ, zero, suc, ◌≡◌, ◌≢◌, ◌<◌, ◌≤◌, ◌+◌, ◌-◌, ◌*◌, ◌/◌, ◌%◌, max, List, [], ◌∷◌, length, take, drop, set, replicate, nat_le, Option, Some, None, arith, refl, sym, ap, ◌∙◌, subst, inl, inr, le-leb, lit<}
-use Rattle.std.specs.Prelude.{slice_index}
-use Rattle.std.specs.List.{position, position_or_len, fold}
 use Rattle.std.proofs.lemmas.Bool.{cases_lt, cases_eq, lt-leb, lt-ltb, le-ltb}
-use Rattle.std.proofs.lemmas.List.{get_or-take, get_or-drop, get_or-replicate, get_or_past, length-replicate, length-take, length-drop, get_or-set_other, get_or-set_same, set-set, set-get_or, drop-set-add}
-use Rattle.std.proofs.lemmas.List.Sums.{position_or_len_is}
+use Rattle.std.proofs.{lemmas.List.get_or-drop, lemmas.List.get_or-set_other, lemmas.List.Sums.position_or_len_is}
+use Rattle.std.specs.{Prelude.slice_index, List.position, List.position_or_len, List.fold}
 use Rattle.w16_tree.specs.Last.{last_below}
 use Rattle.w16_tree.specs.Tree.{row, begin, number, IsMost, IsUpheld, IsTree, IsFirstLeaf, IsLastLeaf}
 use Rattle.w16_tree.proofs.Tree.{below_nodes, reached, begin_rising, begin_end}
@@ -13,24 +12,24 @@ abbrev pub list_of : ℕ → ℕ → List ℕ → List ℕ
 list_of len leaves nodes = take len (drop leaves nodes)
 
 pub read : (len leaves k : ℕ) (nodes : List ℕ) → k < len → slice_index (list_of len leaves nodes) k ≡ slice_index nodes (leaves + k)
-read len leaves k nodes lt = get_or-take len (drop leaves nodes) k 0 lt ∙ get_or-drop leaves nodes k 0
+read len leaves k nodes lt = M.get_or-take len (drop leaves nodes) k 0 lt ∙ get_or-drop leaves nodes k 0
 
 pub zero_read : (n k : ℕ) → slice_index (replicate n 0) k ≡ 0
 zero_read n k = elim (cases_lt k n) [
-  | inl lt ↦ get_or-replicate n k 0 0 lt
-  | inr le ↦ get_or_past (replicate n 0) k 0 (let zs : List ℕ = replicate n 0 in let e : length zs ≡ n = length-replicate n 0 in omega arith)
+  | inl lt ↦ M.get_or-replicate n k 0 0 lt
+  | inr le ↦ M.get_or_past (replicate n 0) k 0 (let zs : List ℕ = replicate n 0 in let e : length zs ≡ n = M.length-replicate n 0 in omega arith)
 ]
 
 -- a place whose number is not 0 is in the list
 pub some_inside : (nodes : List ℕ) (p : ℕ) → 0 < slice_index nodes p → p < length nodes
-some_inside nodes p some = elim (cases_lt p (length nodes)) [ inl lt ↦ lt | inr le ↦ let z = get_or_past nodes p 0 le in absurd (omega arith) ]
+some_inside nodes p some = elim (cases_lt p (length nodes)) [ inl lt ↦ lt | inr le ↦ let z = M.get_or_past nodes p 0 le in absurd (omega arith) ]
 
 -- a row with a number that is not 0 is in the list, which is in whole rows
 pub row_inside : (nodes : List ℕ) (at p : ℕ) → length nodes % 16 ≡ 0 → at % 16 ≡ 0 → at ≤ p → p < at + 16 → 0 < slice_index nodes p → at + 16 ≤ length nodes
 row_inside nodes at p rows even from to some = let lt = some_inside nodes p some in omega arith
 
 pub IsTree-zeros : (height len leaves n : ℕ) → begin height 0 ≡ leaves → len < 15 * leaves + 16 → n % 16 ≡ 0 → leaves + len < n → IsTree height len leaves (replicate n 0)
-IsTree-zeros height len leaves n wide room rows long = let zs : List ℕ = replicate n 0 in let e : length zs ≡ n = length-replicate n 0 in record {
+IsTree-zeros height len leaves n wide room rows long = let zs : List ℕ = replicate n 0 in let e : length zs ≡ n = M.length-replicate n 0 in record {
   wide = wide;
   room = room;
   rows = omega arith;
@@ -44,7 +43,7 @@ IsTree-zeros height len leaves n wide room rows long = let zs : List ℕ = repli
 
 module _ (height len leaves : ℕ) (nodes : List ℕ) (tree : IsTree height len leaves nodes) where
   pub list_length : length (list_of len leaves nodes) ≡ len
-  list_length = let a = length-take len (drop leaves nodes) in let b = length-drop leaves nodes in let long = tree.long in omega arith
+  list_length = let a = M.length-take len (drop leaves nodes) in let b = M.length-drop leaves nodes in let long = tree.long in omega arith
 
   -- a leaf above 0 is in the list
   pub in_list : (k : ℕ) → 0 < slice_index nodes (leaves + k) → k < len
@@ -104,7 +103,7 @@ module _ (height len leaves : ℕ) (nodes : List ℕ) (tree : IsTree height len 
 
 -- to put back the number that was there leaves all as it was
 put_back : (nodes : List ℕ) (i y : ℕ) → nodes ≡ set (set nodes i y) i (slice_index nodes i)
-put_back nodes i y = sym (set-set nodes i y (slice_index nodes i) ∙ set-get_or nodes i 0)
+put_back nodes i y = sym (M.set-set nodes i y (slice_index nodes i) ∙ M.set-get_or nodes i 0)
 
 pub IsMost-along : (f g : ℕ → ℕ) (at m : ℕ) → ((p : ℕ) → at ≤ p → p < at + 16 → f p ≡ g p) → IsMost f at m → IsMost g at m
 IsMost-along f g at m same most = record {
@@ -126,7 +125,7 @@ take_set (suc len) zero y (x ∷ xs) = refl
 take_set (suc len) (suc k) y (x ∷ xs) = ap (λ ys. x ∷ ys) (take_set len k y xs)
 
 pub list_set : (len leaves k y : ℕ) (nodes new : List ℕ) → drop leaves new ≡ drop leaves (set nodes (leaves + k) y) → list_of len leaves new ≡ set (list_of len leaves nodes) k y
-list_set len leaves k y nodes new same = ap (take len) (same ∙ drop-set-add leaves nodes k y) ∙ take_set len k y (drop leaves nodes)
+list_set len leaves k y nodes new same = ap (take len) (same ∙ M.drop-set-add leaves nodes k y) ∙ take_set len k y (drop leaves nodes)
 
 -- The maximum by a fold: a bound that is reached.
 fold_most : (xs : List ℕ) (a m : ℕ) → a ≤ m → ((k : ℕ) → k < length xs → slice_index xs k ≤ m) → fold max a xs ≤ m
@@ -205,7 +204,7 @@ module _ (leaves i old : ℕ) (nodes : List ℕ) (up : (j : ℕ) → j < leaves 
         → IsMost (number (set (set nodes (i / 16 - 1) now) (i / 16 - 1) (slice_index nodes (i / 16 - 1)))) (row j) (slice_index (set nodes (i / 16 - 1) now) j)
     up_next inside j less = subst (λ (ns : List ℕ). IsMost (number ns) (row j) (slice_index (set nodes (i / 16 - 1) now) j)) (put_back nodes (i / 16 - 1) now) (elim (cases_eq j (i / 16 - 1)) [
       | inl here ↦
-          let e : now ≡ slice_index (set nodes (i / 16 - 1) now) j = sym (get_or-set_same nodes (i / 16 - 1) now 0 inside) ∙ ap (λ (k : ℕ). slice_index (set nodes (i / 16 - 1) now) k) (sym here) in
+          let e : now ≡ slice_index (set nodes (i / 16 - 1) now) j = sym (M.get_or-set_same nodes (i / 16 - 1) now 0 inside) ∙ ap (λ (k : ℕ). slice_index (set nodes (i / 16 - 1) now) k) (sym here) in
           subst (λ (m : ℕ). IsMost (number nodes) (row j) m) e (subst (λ (k : ℕ). IsMost (number nodes) (row k) now) (sym here) at_above)
       | inr apart ↦ subst (λ (m : ℕ). IsMost (number nodes) (row j) m) (sym (get_or-set_other nodes (i / 16 - 1) j now 0 apart)) (others j less (λ _. apart))
     ])

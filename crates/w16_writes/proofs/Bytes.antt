@@ -1,6 +1,6 @@
 -- Bytes by their number, in parts of lists; and bytes of one object at two times.
-use Rattle.w16_model.proofs.Common.{◌≡◌, ℕ, zero, suc, ◌+◌, ◌-◌, ◌<◌, ◌≤◌, ◌⊎◌, inl, inr, Bool, true, List, [], ◌∷◌, length, take, drop, Option, Some, None, get_or, unwrap_or, is_some, IsSomeAnd, refl, sym, ap, ◌∙◌, arith, slice_get, slice_range, false≢true, part, MatchOption}
-use Rattle.w16_model.proofs.Common.{IsWritten, AreResized}
+use Rattle.w16_model.proofs.Common as C
+use Rattle.w16_model.proofs.Common.{◌≡◌, ℕ, zero, suc, ◌+◌, ◌-◌, ◌<◌, ◌≤◌, ◌⊎◌, inl, inr, Bool, true, List, [], ◌∷◌, length, take, drop, Option, Some, None, is_some, refl, sym, ap, ◌∙◌, arith, slice_get, false≢true, part}
 use Rattle.std.proofs.lemmas.Option.{slice_get_within, slice_get-get_or}
 use Rattle.w16_model.specs.Table.{IsSameOutside}
 use Rattle.w16_writes.specs.LastWrite.{byte_in}
@@ -27,7 +27,7 @@ get-taken (suc n) [] i t = refl
 get-taken (suc n) (x ∷ xs) zero t = refl
 get-taken (suc n) (x ∷ xs) (suc i) t = get-taken n xs i t
 
-pub get-range : (bytes : List ℕ) (at n i : ℕ) → is_some (slice_get (slice_range bytes at (at + n)) i) ≡ true → slice_get (slice_range bytes at (at + n)) i ≡ slice_get bytes (at + i)
+pub get-range : (bytes : List ℕ) (at n i : ℕ) → is_some (slice_get (C.slice_range bytes at (at + n)) i) ≡ true → slice_get (C.slice_range bytes at (at + n)) i ≡ slice_get bytes (at + i)
 get-range bytes at n i t = get-taken (at + n - at) (drop at bytes) i t ∙ get-drop at bytes i
 
 -- a number with a byte is inside
@@ -54,7 +54,7 @@ get-outside lo hi before after i same (inl lt) = get-below lo before after i sam
 get-outside lo hi before after i same (inr le) = get-above hi before after i same.above le
 
 -- where a slice was written, and elsewhere
-module _ (before : List ℕ) (at : ℕ) (slice after : List ℕ) (w : IsWritten before at slice after) where
+module _ (before : List ℕ) (at : ℕ) (slice after : List ℕ) (w : C.IsWritten before at slice after) where
   pub get-written : (i byte : ℕ) → slice_get slice i ≡ Some byte → slice_get after (at + i) ≡ Some byte
   get-written i byte e = sym (get-part after at (length slice) i (slice_get_within slice i byte e)) ∙ ap (λ l. slice_get l i) w.written ∙ e
 
@@ -62,17 +62,17 @@ module _ (before : List ℕ) (at : ℕ) (slice after : List ℕ) (w : IsWritten 
   get-unwritten i out = elim (split i at) [
     | inl lt ↦ get-below at before after i w.below lt
     | inr le ↦ elim (split i (at + length slice)) [
-      | inl lt ↦ absurd (out (i - at) (get_or slice (i - at) 0) (omega (arith, le)) (slice_get-get_or slice (i - at) 0 (omega (arith, le, lt))))
+      | inl lt ↦ absurd (out (i - at) (C.get_or slice (i - at) 0) (omega (arith, le)) (slice_get-get_or slice (i - at) 0 (omega (arith, le, lt))))
       | inr above ↦ get-above (at + length slice) before after i w.above above
     ]
   ]
 
 -- what holds by cases
-pub some_such : {A : Type 0} {P : A → Type 0} (p : Option A) → IsSomeAnd p P → (a : A) × (p ≡ Some a) × P a
+pub some_such : {A : Type 0} {P : A → Type 0} (p : Option A) → C.IsSomeAnd p P → (a : A) × (p ≡ Some a) × P a
 some_such None h = absurd h
 some_such (Some a) h = (a, refl, h)
 
-pub none_or : {A N : Type 0} {S : A → Type 0} (p : Option A) → MatchOption p N S → N ⊎ ((a : A) × S a)
+pub none_or : {A N : Type 0} {S : A → Type 0} (p : Option A) → C.MatchOption p N S → N ⊎ ((a : A) × S a)
 none_or None h = inl h
 none_or (Some a) h = inr (a, h)
 
@@ -99,7 +99,7 @@ module _ {before after : Option (List ℕ)} where
   agree_new e = record { one = λ i p q. absurd (false≢true (sym (ap (λ b. is_some (byte_in b i)) e) ∙ p)) }
 
 -- at another size
-pub agree_resized : (zeroed : Bool) (n : ℕ) (before after : Option (List ℕ)) → IsSomeAnd after (AreResized zeroed n (unwrap_or before [])) → Agree before after
+pub agree_resized : (zeroed : Bool) (n : ℕ) (before after : Option (List ℕ)) → C.IsSomeAnd after (C.AreResized zeroed n (C.unwrap_or before [])) → Agree before after
 agree_resized zeroed n None after r = agree_new refl
 agree_resized zeroed n (Some before) None r = absurd r
 agree_resized zeroed n (Some before) (Some after) r = record {

@@ -1,8 +1,8 @@
 -- A byte is written, its object is moved or gets another handle, and it is read: what the law asks of a run can be met, also by a byte of a local
 -- object, one beside a local heap, and one that a second selector reaches.
+use Rattle.w16_machine.proofs.Common as C
 use Rattle.w16_loading.proofs.Common.{REACH}
-use Rattle.w16_machine.proofs.Common.{◌≡◌, ℕ, ◌+◌, ◌-◌, ◌*◌, length, ◌/◌, ◌==◌, ◌&&◌, nat_le, nat_lt, false, true, cond, List, [], ◌∷◌, Option, Some, None, is_some, option_map, unwrap_or, refl, sym, ap, ◌∙◌, Moveable, GlobalCompact, Read, Write, offset_in, selector_in, Object, bytes_at, object_at}
-use Rattle.w16_machine.proofs.Common.{Table, heap_in, bytes_in, OfFar, OfHandles, OfResizes, GlobalReAlloc, Event, OfLoading, LocalHeap, heap_of, local_in, local_of, segment_bytes, World}
+use Rattle.w16_machine.proofs.Common.{◌≡◌, ℕ, ◌+◌, ◌-◌, ◌*◌, ◌/◌, ◌==◌, ◌&&◌, nat_le, false, true, cond, List, [], ◌∷◌, Option, Some, None, is_some, option_map, refl, sym, ap, ◌∙◌, Moveable, Read, Write, object_at, Table, bytes_in, OfFar, Event, OfLoading, LocalHeap, World}
 use Rattle.w16_model.proofs.Common.{if◌then◌else◌, slice_get, Part, far_pointer, handle_of, owner_of, part_of_selector, selector_of}
 use Rattle.w16_loading.specs.Replies.Reply.{Bytes, Done, Dword, Word}
 use Rattle.w16_writes.specs.LastWrite.{Access, Has, IsUndisturbed, Position, Reads, Writes, byte_at, byte_in, is_in_range, place_at, position_after}
@@ -22,18 +22,18 @@ abbrev writing : ℕ → ℕ → List ℕ → World → Event
 writing selector offset bytes w = record { command = OfLoading (OfFar (Write (far_pointer selector offset) bytes)); reply = Done; after = w }
 
 abbrev reading : ℕ → ℕ → List ℕ → World → Event
-reading selector offset bytes w = record { command = OfLoading (OfFar (Read (far_pointer selector offset) (length bytes))); reply = Bytes bytes; after = w }
+reading selector offset bytes w = record { command = OfLoading (OfFar (Read (far_pointer selector offset) (C.length bytes))); reply = Bytes bytes; after = w }
 
 abbrev compacting : World → Event
-compacting w = record { command = OfLoading (OfHandles (GlobalCompact 32)); reply = Dword 32; after = w }
+compacting w = record { command = OfLoading (C.OfHandles (C.GlobalCompact 32)); reply = Dword 32; after = w }
 
 -- what a selector reaches
 reaches : (w : World) (selector : ℕ) {slot : ℕ} → (selector == selector_of (selector / 8)) ≡ true → owner_of w.loading.handles.attributes (selector / 8) ≡ Some slot → part_of_selector w.loading.handles selector ≡ Some (record { slot = slot; number = selector / 8 - slot })
 reaches w selector v e = (λ i. cond (v i) (option_map (λ slot. let p : Part = record { slot = slot; number = selector / 8 - slot } in p) (e i)) None)
 
 -- an access has a byte that is there
-has_there : {w : World} {p : Position} {byte : ℕ} {access : Access} (number index : ℕ) → byte_at w p ≡ Some byte → part_of_selector w.loading.handles (selector_in access.pointer) ≡ Some (record { slot = p.slot; number = number })
-    → place_at w p ≡ Some (REACH * number + offset_in access.pointer + index) → slice_get access.bytes index ≡ Some byte → Has w p byte access
+has_there : {w : World} {p : Position} {byte : ℕ} {access : Access} (number index : ℕ) → byte_at w p ≡ Some byte → part_of_selector w.loading.handles (C.selector_in access.pointer) ≡ Some (record { slot = p.slot; number = number })
+    → place_at w p ≡ Some (REACH * number + C.offset_in access.pointer + index) → slice_get access.bytes index ≡ Some byte → Has w p byte access
 has_there number index there selected place same = record { there = ap is_some there; selected = selected; number = number; index = index; place = place; has = same }
 
 has_byte : (w : World) → HasObject w 32 → byte_at w second ≡ Some 7
@@ -57,14 +57,14 @@ module _ (before after : World) (h : HasObject before 32) (g : HasObject after 3
 module _ (before after : World) (h : HasObject before 32) (g : HasObject after 40) where
   -- the handle of slot 32 is given, and that of slot 40 is answered
   abbrev resizing : Event
-  resizing = record { command = OfLoading (OfResizes (GlobalReAlloc 262 131104 0)); reply = Word 326; after = after }
+  resizing = record { command = OfLoading (C.OfResizes (C.GlobalReAlloc 262 131104 0)); reply = Word 326; after = after }
 
-  abbrev slot_by : ℕ → Option Object → Option ℕ
+  abbrev slot_by : ℕ → Option C.Object → Option ℕ
   slot_by handle p = elim p [ Some o ↦ if handle == handle_of o.kind (handle / 8) then Some (handle / 8) else None | None ↦ None ]
 
   -- so the position goes there, where its byte is read
   slot_there : (position_after before resizing second).slot ≡ 40
-  slot_there = (λ i. cond (unwrap_or (option_map (λ q. q == 32) (slot_by 262 (h.object i))) false) (unwrap_or (slot_by 326 (g.object i)) 32) 32)
+  slot_there = (λ i. cond (C.unwrap_or (option_map (λ q. q == 32) (slot_by 262 (h.object i))) false) (C.unwrap_or (slot_by 326 (g.object i)) 32) 32)
 
   byte_there : byte_at after (position_after before resizing second) ≡ Some 7
   byte_there = ap (λ s. byte_at after (record { slot = s; entry = None; offset = 1 })) slot_there ∙ (λ i. cond (is_in_range (g.none i) 1) None (byte_in (bytes_in (g.object i)) 1))
@@ -85,8 +85,8 @@ record HasHeap (w : World) (middle : Table) : Type 0 where
   pub heap : finmap.get w.heaps 32 ≡ Some middle
   pub from : middle.lo ≡ 4
   pub to : middle.hi ≡ 8
-  pub place : finmap.get (heap_in middle segment).places 0 ≡ Some 4
-  pub bytes : bytes_at (heap_in middle segment) 0 ≡ Some (1 ∷ 2 ∷ 3 ∷ 4 ∷ [])
+  pub place : finmap.get (C.heap_in middle segment).places 0 ≡ Some 4
+  pub bytes : C.bytes_at (C.heap_in middle segment) 0 ≡ Some (1 ∷ 2 ∷ 3 ∷ 4 ∷ [])
 
 -- the second byte of the local object, and one of the segment's beside the heap
 abbrev inside : Position
@@ -96,21 +96,21 @@ abbrev beside : Position
 beside = record { slot = 32; entry = None; offset = 9 }
 
 module _ (w : World) {middle : Table} (h : HasHeap w middle) where
-  local_is : local_in w 32 ≡ Some (record { slot = 32; table = middle; bytes = segment })
+  local_is : C.local_in w 32 ≡ Some (record { slot = 32; table = middle; bytes = segment })
   local_is =
-      ap (λ p. elim p as (λ _. Option LocalHeap) [ None ↦ None | Some t ↦ elim (segment_bytes w 32) as (λ _. Option LocalHeap) [ None ↦ None | Some bytes ↦ local_of 32 t bytes ] ]) h.heap
-      ∙ ap (λ p. elim p as (λ _. Option LocalHeap) [ None ↦ None | Some bytes ↦ local_of 32 middle bytes ]) (ap bytes_in h.object)
+      ap (λ p. elim p as (λ _. Option LocalHeap) [ None ↦ None | Some t ↦ elim (C.segment_bytes w 32) as (λ _. Option LocalHeap) [ None ↦ None | Some bytes ↦ C.local_of 32 t bytes ] ]) h.heap
+      ∙ ap (λ p. elim p as (λ _. Option LocalHeap) [ None ↦ None | Some bytes ↦ C.local_of 32 middle bytes ]) (ap bytes_in h.object)
       ∙ ap (λ n. if nat_le n 12 then Some (record { slot = 32; table = middle; bytes = segment }) else None) h.to
 
   inside_byte : byte_at w inside ≡ Some 2
-  inside_byte = ap (λ p. elim p as (λ _. Option ℕ) [ None ↦ None | Some at ↦ byte_in (bytes_at (heap_of at) 0) 1 ]) local_is ∙ ap (λ p. byte_in p 1) h.bytes
+  inside_byte = ap (λ p. elim p as (λ _. Option ℕ) [ None ↦ None | Some at ↦ byte_in (C.bytes_at (C.heap_of at) 0) 1 ]) local_is ∙ ap (λ p. byte_in p 1) h.bytes
 
   inside_place : place_at w inside ≡ Some 5
-  inside_place = ap (λ p. elim p as (λ _. Option ℕ) [ None ↦ None | Some at ↦ option_map (λ begin. begin + 1) (finmap.get (heap_of at).places 0) ]) local_is ∙ ap (option_map (λ begin. begin + 1)) h.place
+  inside_place = ap (λ p. elim p as (λ _. Option ℕ) [ None ↦ None | Some at ↦ option_map (λ begin. begin + 1) (finmap.get (C.heap_of at).places 0) ]) local_is ∙ ap (option_map (λ begin. begin + 1)) h.place
 
   beside_byte : byte_at w beside ≡ Some 9
-  beside_byte = ap (λ p. cond (is_in_range p 9) None (byte_in (segment_bytes w 32) 9)) h.heap
-      ∙ (λ i. cond (nat_le (h.from i) 9 && nat_lt 9 (h.to i)) None (byte_in (bytes_in (h.object i)) 9))
+  beside_byte = ap (λ p. cond (is_in_range p 9) None (byte_in (C.segment_bytes w 32) 9)) h.heap
+      ∙ (λ i. cond (nat_le (h.from i) 9 && C.nat_lt 9 (h.to i)) None (byte_in (bytes_in (h.object i)) 9))
 
 -- A byte of a local object, and one beside the heap, read back after a compaction, wherever the segment has slid.
 module _ (before after : World) (old new : Table) (h : HasHeap before old) (g : HasHeap after new) where

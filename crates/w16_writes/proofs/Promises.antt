@@ -1,17 +1,10 @@
 -- What every run promises: of no step, of one, and of runs that go on.
 use Rattle.std.proofs.Common.{List, [], ◌∷◌, ◌++◌, refl}
 use Rattle.std.specs.List.{AllByRecursion as Each}
-use Rattle.w16_machine.proofs.Common.{Format, Reply, World, IsWorld, Each-from_All}
+use Rattle.w16_machine.proofs.{Common.Format, Common.Reply, Common.World, Common.IsWorld, Common.Each-from_All, Apart.apart_law, Bystanders.step_spares_law, Discards.step_fewest, Runs.each_append, Worlds.world_law}
 use Rattle.w16_machine.specs.Machine.{Command, EachStep, Event, IsCommand, Run, Step, Steps}
-use Rattle.w16_machine.proofs.Apart.{apart_law}
-use Rattle.w16_machine.proofs.Bystanders.{step_spares_law}
-use Rattle.w16_machine.proofs.Discards.{step_fewest}
-use Rattle.w16_machine.proofs.Runs.{each_append}
-use Rattle.w16_machine.proofs.Worlds.{world_law}
-use Rattle.w16_writes.specs.LastWrite.{AllKeepWritten, KeepsWritten}
-use Rattle.w16_writes.specs.Promises.{Promises, RunPromisesLaw}
-use Rattle.w16_writes.proofs.Runs.{reads_back_law}
-use Rattle.w16_writes.proofs.Steps.{step_law}
+use Rattle.w16_writes.specs.{LastWrite.AllKeepWritten, LastWrite.KeepsWritten, Promises.Promises, Promises.RunPromisesLaw}
+use Rattle.w16_writes.proofs.{Runs.reads_back_law, Steps.step_law}
 
 pub promised_none : (old : World) → Promises old []
 promised_none old = record { ranged = tt; worlds = tt; apart = tt; bytes = tt; addresses = tt; ds = tt; fewest = tt; written = tt; reads_back = reads_back_law old [] tt }

@@ -1,19 +1,14 @@
 -- Steps of loading: what they leave of the bytes of global objects, and what far accesses put there and read.
-use Rattle.w16_loading.proofs.Common.{REACH, ◌≡◌, ℕ, ◌+◌, ◌*◌, ◌⊎◌, inl, inr, true, IsSomeAnd, List, length, Option, Some, None, is_some, refl, sym, ap, ◌∙◌, subst, arith, drop, ◌<◌, cases_eq, part, repeated, object_at, bytes_at, bytes_in, Handles, AreHandles, selector_in, offset_in}
-use Rattle.w16_loading.proofs.Common.{FarAnswer, FarCommand, Write, Fill, Answers, FetchesFrom, Fills, told, FarStep, Accesses, far_read, far_write, gives, reply_of_far, IsLoadingWorld, LoadingWorld, LoadingCommand, OfHandles, OfResizes, OfFar, OfModules, OfResources}
-use Rattle.w16_loading.proofs.Common.{LockResource, Reply, Failed, LocksResource, lock_outcome, locked, global_lock, GlobalLock, Calls, CallStep, ResizeCommand, ResizeReplies, ResizeStep, GlobalReAlloc, GlobalDiscard, HandleCommand}
-use Rattle.w16_loading.proofs.Common.{answer_in, call_of, call_outcome, contents, IsStepAbout}
+use Rattle.w16_loading.proofs.Common as C
+use Rattle.w16_loading.proofs.Common.{REACH, ◌≡◌, ℕ, ◌+◌, ◌*◌, ◌⊎◌, inl, inr, true, IsSomeAnd, List, length, Option, Some, None, is_some, refl, sym, ap, ◌∙◌, subst, arith, drop, ◌<◌, cases_eq, part, object_at, bytes_at, bytes_in, Handles, selector_in, offset_in, FarAnswer, FarCommand}
+use Rattle.w16_loading.proofs.Common.{Write, Fill, Answers, FetchesFrom, Fills, told, gives, IsLoadingWorld, LoadingWorld, LoadingCommand, OfResizes, OfFar, Reply, Calls, call_of}
+use Rattle.w16_loading.proofs.{Cases.access_cases, Cases.lock_cases, CallsKept.answered, FetchWorlds.fetched_world, Fillings.fetch_outcome, Spared.fetch_spares}
 use Rattle.w16_model.proofs.Common.{slice_get, length-take, Done, FarEffect, IsWritten, Reaches, next_slot, Part, part_of_selector, Word}
+use Rattle.w16_model.proofs.FarLaws.{far_effect_law}
 use Rattle.std.proofs.lemmas.Option.{slice_get_within}
 use Rattle.w16_model.specs.Far.{FarStep as HandlesFarStep}
 use Rattle.w16_loading.specs.Answers.{StepOver}
-use Rattle.w16_loading.proofs.Cases.{access_cases, lock_cases}
 use Rattle.w16_machine.proofs.Common.{Bytes, Fault, Read, FetchFault, Answer, Format, bystanders_law, OfLoading}
-use Rattle.w16_model.proofs.FarLaws.{far_effect_law}
-use Rattle.w16_loading.proofs.CallsKept.{answered}
-use Rattle.w16_loading.proofs.FetchWorlds.{fetched_world}
-use Rattle.w16_loading.proofs.Fillings.{fetch_outcome}
-use Rattle.w16_loading.proofs.Spared.{fetch_spares}
 use Rattle.w16_writes.specs.LastWrite.{Access, byte_in, read, slot_after_step, written}
 use Rattle.w16_writes.proofs.Bytes.{some_such, none_or, which, only, Agree, agree_new, agree_same, get-part, get-written, get-unwritten}
 use Rattle.w16_writes.proofs.Calls.{HeapsAgree, call_agrees, goes_free, had_no_object, kept_agrees, no_object}
@@ -71,11 +66,11 @@ record Made (old : LoadingWorld) (command : FarCommand) (reply : Reply) (new : L
   pub mid : Handles
   pub agree : HandlesAgree old.handles mid
   pub runs : mid.attributes ≡ old.handles.attributes
-  pub made : ((answer : FarAnswer) × (reply ≡ reply_of_far answer) × FarEffect mid command answer new.handles) ⊎ ((fault : FetchFault) × (reply ≡ Failed fault) × (new.handles ≡ mid))
+  pub made : ((answer : FarAnswer) × (reply ≡ C.reply_of_far answer) × FarEffect mid command answer new.handles) ⊎ ((fault : FetchFault) × (reply ≡ C.Failed fault) × (new.handles ≡ mid))
 
 module _ (answers : Answers) (old : LoadingWorld) (is : IsLoadingWorld old) {command : FarCommand} {reply : Reply} {new : LoadingWorld} where
   accessed : (access : LoadingWorld → FarAnswer × LoadingWorld) (selector : ℕ) → ((w : LoadingWorld) → new.handles ≡ (access w).1.handles → HandlesFarStep w.handles command (access w).0 new.handles)
-      → Accesses (FetchesFrom Fills answers) access old selector reply new → Made old command reply new
+      → C.Accesses (FetchesFrom Fills answers) access old selector reply new → Made old command reply new
   accessed access selector does step = elim (access_cases (FetchesFrom Fills answers) old reply new access selector step) [
     | inl (fault, next, f, g) ↦
         let agree = fetch_agrees is f in
@@ -90,10 +85,10 @@ module _ (answers : Answers) (old : LoadingWorld) (is : IsLoadingWorld old) {com
       in_world : (w : LoadingWorld) → IsLoadingWorld w → HandlesAgree old.handles w.handles → w.handles.attributes ≡ old.handles.attributes → gives (access w) reply new → Made old command reply new
       in_world w are agree runs g = record { mid = w.handles; agree = agree; runs = runs; made = inl ((access w).0, g.0, far_effect_law w.handles new.handles command (access w).0 are.handles (does w (ap handles_of g.1))) }
 
-far_made : (answers : Answers) (old : LoadingWorld) → IsLoadingWorld old → (command : FarCommand) (reply : Reply) (new : LoadingWorld) → FarStep (FetchesFrom Fills answers) old command reply new → Made old command reply new
-far_made answers old is (Read pointer count) reply new step = accessed answers old is (far_read (selector_in pointer) (offset_in pointer) count) (selector_in pointer) (λ w e. (refl, e)) step
-far_made answers old is (Write pointer bytes) reply new step = accessed answers old is (far_write (selector_in pointer) (offset_in pointer) bytes) (selector_in pointer) (λ w e. (refl, e)) step
-far_made answers old is (Fill pointer count byte) reply new step = accessed answers old is (far_write (selector_in pointer) (offset_in pointer) (repeated count byte)) (selector_in pointer) (λ w e. (refl, e)) step
+far_made : (answers : Answers) (old : LoadingWorld) → IsLoadingWorld old → (command : FarCommand) (reply : Reply) (new : LoadingWorld) → C.FarStep (FetchesFrom Fills answers) old command reply new → Made old command reply new
+far_made answers old is (Read pointer count) reply new step = accessed answers old is (C.far_read (selector_in pointer) (offset_in pointer) count) (selector_in pointer) (λ w e. (refl, e)) step
+far_made answers old is (Write pointer bytes) reply new step = accessed answers old is (C.far_write (selector_in pointer) (offset_in pointer) bytes) (selector_in pointer) (λ w e. (refl, e)) step
+far_made answers old is (Fill pointer count byte) reply new step = accessed answers old is (C.far_write (selector_in pointer) (offset_in pointer) (C.repeated count byte)) (selector_in pointer) (λ w e. (refl, e)) step
 
 -- What an access reached.
 module _ {mid new : Handles} {selector end : ℕ} {becomes : ℕ → List ℕ → List ℕ → Type 0} (r : Reaches mid selector end becomes new) where
@@ -173,7 +168,7 @@ far_keeps_by {old} {command} {reply} {new} m = elim m.made [
     unchanged : new.handles ≡ m.mid → HandlesAgree old.handles new.handles
     unchanged e q = subst (λ (h : Handles). HeapsAgree old.handles.heap h.heap q) (sym e) (m.agree q)
 
-    failed : (command : FarCommand) (fault : FetchFault) → new.handles ≡ m.mid → Does command (Failed fault)
+    failed : (command : FarCommand) (fault : FetchFault) → new.handles ≡ m.mid → Does command (C.Failed fault)
     failed (Read pointer count) fault e = calm (unchanged e)
     failed (Write pointer bytes) fault e = calm (unchanged e)
     failed (Fill pointer count byte) fault e = calm (unchanged e)
@@ -182,7 +177,7 @@ far_keeps_by {old} {command} {reply} {new} m = elim m.made [
         → Keeps old.handles new.handles (λ q. q) (Some (record { pointer = pointer; bytes = slice })) None
     puts pointer slice r = record { put = write_puts pointer slice r; got = λ slot i byte p h. absurd h; kept = write_keeps pointer slice r old.handles m.agree; free = λ slot. inl refl }
 
-    answered : (command : FarCommand) (answer : FarAnswer) → FarEffect m.mid command answer new.handles → Does command (reply_of_far answer)
+    answered : (command : FarCommand) (answer : FarAnswer) → FarEffect m.mid command answer new.handles → Does command (C.reply_of_far answer)
     answered (Read pointer count) (Fault fault) e = calm (unchanged e)
     answered (Write pointer bytes) (Fault fault) e = calm (unchanged e)
     answered (Fill pointer count byte) (Fault fault) e = calm (unchanged e)
@@ -193,7 +188,7 @@ far_keeps_by {old} {command} {reply} {new} m = elim m.made [
       free = λ slot. inl refl;
     }
     answered (Write pointer slice) Done r = puts pointer slice r
-    answered (Fill pointer count byte) Done r = puts pointer (repeated count byte) r
+    answered (Fill pointer count byte) Done r = puts pointer (C.repeated count byte) r
     answered (Read pointer count) Done r = absurd r
     answered (Write pointer slice) (Bytes bytes) r = absurd r
     answered (Fill pointer count byte) (Bytes bytes) r = absurd r
@@ -201,17 +196,17 @@ far_keeps_by {old} {command} {reply} {new} m = elim m.made [
 -- Other steps.
 
 -- A resize is the call that it stands for, with the answer that is printed, so it keeps segments.
-resizes_keep : (old new : Handles) → AreHandles old → (command : ResizeCommand) (reply : Reply) → ResizeReplies old command reply new → KeepsSegments old new (OfResizes command) reply
+resizes_keep : (old new : Handles) → C.AreHandles old → (command : C.ResizeCommand) (reply : Reply) → C.ResizeReplies old command reply new → KeepsSegments old new (OfResizes command) reply
 resizes_keep old new is command reply step =
-    let (answer, says, step) = some_such (answer_in reply) step in
+    let (answer, says, step) = some_such (C.answer_in reply) step in
     let to = λ (q : ℕ). ap (λ (p : Option Answer). elim p as (λ _. ℕ) [ None ↦ q | Some answer ↦ next_slot old (call_of command) answer new q ]) (sym says) in
     let call = by command answer step in
     quiet (λ q. subst (λ s. Agree (bytes_at old.heap q) (bytes_at new.heap s)) (to q) (call_agrees old new is (call_of command) answer call q))
     (λ q. subst (λ s. (s ≡ q) ⊎ (object_at old.heap s ≡ None)) (to q) (goes_free old new is (call_of command) answer call q))
   where
-    by : (command : ResizeCommand) (answer : Answer) → ResizeStep old command answer new → CallStep old (call_of command) answer new
-    by (GlobalReAlloc handle size flags) (Word answer) step = step
-    by (GlobalDiscard handle) (Word answer) step = step
+    by : (command : C.ResizeCommand) (answer : Answer) → C.ResizeStep old command answer new → C.CallStep old (call_of command) answer new
+    by (C.GlobalReAlloc handle size flags) (Word answer) step = step
+    by (C.GlobalDiscard handle) (Word answer) step = step
     by command answer step = absurd step
 
 module _ (honest : Type 0) (format : Format) (old new : LoadingWorld) (is : IsLoadingWorld old) (reply : Reply) (q : ℕ) where
@@ -219,31 +214,31 @@ module _ (honest : Type 0) (format : Format) (old new : LoadingWorld) (is : IsLo
   Agrees w = HeapsAgree old.handles.heap w.handles.heap q
 
   -- a call on handles
-  called : (command : HandleCommand) (answer : Answer) (next : Handles) → CallStep old.handles (Calls command) answer next → new.handles ≡ next → Agrees new
+  called : (command : C.HandleCommand) (answer : Answer) (next : Handles) → C.CallStep old.handles (Calls command) answer next → new.handles ≡ next → Agrees new
   called command answer next step e = subst (λ (h : Handles). HeapsAgree old.handles.heap h.heap q) (sym e) (call_agrees old.handles next is.handles (Calls command) answer step q)
 
   -- a lock of a resource, after a fetch where it has no bytes
-  lock_agrees : (answers : Answers) (handle : ℕ) → LocksResource (FetchesFrom Fills answers) old handle reply new → Agrees new
+  lock_agrees : (answers : Answers) (handle : ℕ) → C.LocksResource (FetchesFrom Fills answers) old handle reply new → Agrees new
   lock_agrees answers handle step = elim (lock_cases (FetchesFrom Fills answers) old reply new handle step) [
     | inl f ↦ subst Agrees (sym f.1) (agree_same refl)
     | inr (x, e, inl (fault, next, f, g)) ↦ becomes g (after fault next (fetch_agrees is f q))
     | inr (x, e, inr f) ↦ becomes f (locks old (agree_same refl))
   ]
     where
-      locks : (w : LoadingWorld) → Agrees w → Agrees (locked w handle).1
-      locks w a = let (answer, next) = global_lock w.handles handle in subst (Agree (bytes_at old.handles.heap q)) (sym ((contents w.handles next (Calls (GlobalLock handle)) answer (call_outcome w.handles next (GlobalLock handle) answer (refl, refl)) refl).bytes q)) a
+      locks : (w : LoadingWorld) → Agrees w → Agrees (C.locked w handle).1
+      locks w a = let (answer, next) = C.global_lock w.handles handle in subst (Agree (bytes_at old.handles.heap q)) (sym ((C.contents w.handles next (Calls (C.GlobalLock handle)) answer (C.call_outcome w.handles next (C.GlobalLock handle) answer (refl, refl)) refl).bytes q)) a
 
       becomes : {end : Reply × LoadingWorld} → ◌≡◌ {A = Reply × LoadingWorld} (reply, new) end → Agrees end.1 → Agrees new
       becomes e a = subst (λ (p : Reply × LoadingWorld). Agrees p.1) (sym e) a
 
-      after : (fault : Option FetchFault) (next : LoadingWorld) → Agrees next → Agrees (lock_outcome fault handle next).1
+      after : (fault : Option FetchFault) (next : LoadingWorld) → Agrees next → Agrees (C.lock_outcome fault handle next).1
       after None next a = locks next a
       after (Some faults.NoRoom) next a = a
       after (Some faults.Store) next a = a
       after (Some faults.Damaged) next a = a
 
   -- a step that is about no object
-  stands_by : (command : LoadingCommand) → StepOver honest format old command reply new → (IsStepAbout old.handles command q → ⊥) → Agrees new
+  stands_by : (command : LoadingCommand) → StepOver honest format old command reply new → (C.IsStepAbout old.handles command q → ⊥) → Agrees new
   stands_by command step out = elim (which (object_at old.handles.heap q)) [
     | inl e ↦ had_no_object e
     | inr (o, e) ↦ elim (bystanders_law honest format old new command reply q is step (ap is_some e) out) [ inl kept ↦ kept_agrees old.handles.heap new.handles.heap q kept | inr gone ↦ no_object gone.0 ]
@@ -253,13 +248,13 @@ module _ (honest : Type 0) (format : Format) (old new : LoadingWorld) (is : IsLo
   abbrev answers : Answers
   answers = told honest format old.files old.failures new.failures
 
-  idle : {command : LoadingCommand} {reply : Reply} → StepOver honest format old command reply new → ((q : ℕ) → IsStepAbout old.handles command q → ⊥) → HandlesAgree old.handles new.handles
+  idle : {command : LoadingCommand} {reply : Reply} → StepOver honest format old command reply new → ((q : ℕ) → C.IsStepAbout old.handles command q → ⊥) → HandlesAgree old.handles new.handles
   idle {command} {reply} step out q = stands_by honest format old new is reply q command step (out q)
 
   pub loading_keeps : (command : LoadingCommand) (reply : Reply) → StepOver honest format old command reply new → KeepsSegments old.handles new.handles command reply
-  loading_keeps (OfHandles command) reply step = calm (λ q. let f = step.step in let c = answered old is command reply f.0 f.1 in called honest format old new is reply q command c.0 f.0 c.1 (ap handles_of f.2))
+  loading_keeps (C.OfHandles command) reply step = calm (λ q. let f = step.step in let c = answered old is command reply f.0 f.1 in called honest format old new is reply q command c.0 f.0 c.1 (ap handles_of f.2))
   loading_keeps (OfResizes command) reply step = let f = step.step in subst (λ (h : Handles). KeepsSegments old.handles h (OfResizes command) reply) (sym (ap handles_of f.2)) (resizes_keep old.handles f.0 is.handles command reply f.1)
   loading_keeps (OfFar command) reply step = far_keeps_by (far_made answers old is command reply (record new { failures = old.failures }) step.step)
-  loading_keeps (OfModules command) reply step = calm (idle step (λ q about. about))
-  loading_keeps (OfResources (LockResource handle)) reply step = calm (λ q. lock_agrees honest format old (record new { failures = old.failures }) is reply q answers handle step.step)
-  loading_keeps (OfResources other) reply step = calm (idle step (λ q about. about))
+  loading_keeps (C.OfModules command) reply step = calm (idle step (λ q about. about))
+  loading_keeps (C.OfResources (C.LockResource handle)) reply step = calm (λ q. lock_agrees honest format old (record new { failures = old.failures }) is reply q answers handle step.step)
+  loading_keeps (C.OfResources other) reply step = calm (idle step (λ q about. about))

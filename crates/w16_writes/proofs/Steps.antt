@@ -1,18 +1,16 @@
 -- Each step keeps what is written.
-use Rattle.w16_machine.proofs.Common.{◌≡◌, ◌≢◌, ℕ, ◌+◌, ◌<◌, ◌≤◌, ◌⊎◌, inl, inr, Bool, true, false, cond, ◌&&◌, nat_le, nat_lt, IsSomeAnd, List, [], length, Option, Some, None, is_some, option_map, refl, sym, ap, ◌∙◌, subst, cases_eq, false≢true, IfSome, IsLocalIn}
-use Rattle.w16_machine.proofs.Common.{bytes_in, Object, bytes_at, object_at, Table, heap_in, LoadingCommand, Format, Reply, World, IsWorld, LocalHeap, current_heap, heap_of, local_in, segment_bytes, LocalCommand, LocalStep, IsObjectKept, KeepsRest, Event, Step}
-use Rattle.w16_machine.proofs.Common.{OfLoading, OfLocals, arith, IsLeftByGrowth, KeepsRestLonger}
+use Rattle.w16_machine.proofs as machine
+use Rattle.w16_writes.proofs
+use machine.Common as C
+use machine.Common.{◌≡◌, ◌≢◌, ℕ, ◌+◌, ◌<◌, ◌≤◌, ◌⊎◌, inl, inr, Bool, true, false, cond, ◌&&◌, IsSomeAnd, List, [], Option, Some, None, is_some, option_map, refl, sym, ap, ◌∙◌, subst, false≢true, bytes_in, object_at, Table, Reply, World, IsWorld, LocalHeap, current_heap, local_in}
+use machine.Common.{segment_bytes, Event, Step, OfLoading, arith}
+use machine.LocalFacts.{current_there, local_here, local_there, there_local}
+use machine.{Bystanders.other_same, LocalFrame.frame_law, LocalGoes.goes_law, LocalLonger.leaves_longer, Worlds.world_law}
 use Rattle.std.specs.List.{slice_get}
-use Rattle.w16_machine.proofs.Bystanders.{other_same}
-use Rattle.w16_machine.proofs.LocalFacts.{current_there, local_here, local_there, there_local}
-use Rattle.w16_machine.proofs.LocalFrame.{frame_law}
-use Rattle.w16_machine.proofs.LocalGoes.{goes_law}
-use Rattle.w16_machine.proofs.LocalLonger.{leaves_longer}
-use Rattle.w16_machine.proofs.Worlds.{world_law}
 use Rattle.w16_writes.specs.LastWrite.{Access, Has, IsThere, KeepsWritten, Position, StepLaw, byte_at, byte_in, is_in_range, place_at, position_after, read, slot_after_step, written}
-use Rattle.w16_writes.proofs.Bytes.{which, some_such, only, get-below, get-outside, inside}
-use Rattle.w16_writes.proofs.Locals.{local_agrees, segment_byte}
-use Rattle.w16_writes.proofs.Segments.{get, HasIn, KeepsSegments, loading_keeps}
+use proofs.Bytes.{which, some_such, only, get-below, get-outside, inside}
+use proofs.Locals.{local_agrees, segment_byte}
+use proofs.Segments.{get, HasIn, KeepsSegments, loading_keeps}
 use Rattle.std.specs.FinMap as finmap
 
 abbrev position : ℕ → Option ℕ → ℕ → Position
@@ -20,10 +18,10 @@ position slot entry offset = record { slot = slot; entry = entry; offset = offse
 
 -- the byte of a local object at an offset, and its place
 abbrev byte_of : ℕ → ℕ → Option LocalHeap → Option ℕ
-byte_of entry offset l = elim l [ None ↦ None | Some at ↦ byte_in (bytes_at (heap_of at) entry) offset ]
+byte_of entry offset l = elim l [ None ↦ None | Some at ↦ byte_in (C.bytes_at (C.heap_of at) entry) offset ]
 
 abbrev place_of : ℕ → ℕ → Option LocalHeap → Option ℕ
-place_of entry offset l = elim l [ None ↦ None | Some at ↦ option_map (λ begin. begin + offset) (finmap.get (heap_of at).places entry) ]
+place_of entry offset l = elim l [ None ↦ None | Some at ↦ option_map (λ begin. begin + offset) (finmap.get (C.heap_of at).places entry) ]
 
 there_in : (entry offset : ℕ) (l : Option LocalHeap) → is_some (byte_of entry offset l) ≡ true → (at : LocalHeap) × (l ≡ Some at) × (is_some (byte_of entry offset (Some at)) ≡ true)
 there_in entry offset None t = absurd (false≢true t)
@@ -85,7 +83,7 @@ placed w is a has p byte h =
 
 -- A step of loading: where a position is there before and after, it lies at one place of its object, since the table of a local heap that stays is
 -- the same, and its segment has its slot still.
-module _ (honest : Type 0) (format : Format) (old new : World) (command : LoadingCommand) (reply : Reply) (is : IsWorld old) (now : IsWorld new) (step : Step honest format old (OfLoading command) reply new) where
+module _ (honest : Type 0) (format : C.Format) (old new : World) (command : C.LoadingCommand) (reply : Reply) (is : IsWorld old) (now : IsWorld new) (step : Step honest format old (OfLoading command) reply new) where
   abbrev event : Event
   event = record { command = OfLoading command; reply = reply; after = new }
 
@@ -99,7 +97,7 @@ module _ (honest : Type 0) (format : Format) (old new : World) (command : Loadin
   keeps_slot : (slot : ℕ) (t : Table) → finmap.get old.heaps (next slot) ≡ Some t → next slot ≡ slot
   keeps_slot slot t e = elim (segments.free slot) [
     | inl same ↦ same
-    | inr none ↦ absurd (subst (λ b. IsSomeAnd b (IsLocalIn t)) (ap bytes_in none) (subst (λ p. IfSome p (λ t. IsSomeAnd (segment_bytes old (next slot)) (IsLocalIn t))) e (is.heaps.heaps (next slot))))
+    | inr none ↦ absurd (subst (λ b. IsSomeAnd b (C.IsLocalIn t)) (ap bytes_in none) (subst (λ p. C.IfSome p (λ t. IsSomeAnd (segment_bytes old (next slot)) (C.IsLocalIn t))) e (is.heaps.heaps (next slot))))
   ]
 
   one_place : (slot : ℕ) (entry : Option ℕ) (offset : ℕ) → IsThere old (position slot entry offset) → IsThere new (position (next slot) entry offset) → place_at new (position (next slot) entry offset) ≡ place_at old (position slot entry offset)
@@ -112,7 +110,7 @@ module _ (honest : Type 0) (format : Format) (old new : World) (command : Loadin
       let stood : finmap.get old.heaps after.slot ≡ Some after.table = ((goes_law honest format old new command reply step after.slot after.table).0 has.0.table).0 in
       let home : next slot ≡ slot = keeps_slot slot after.table (ap (finmap.get old.heaps) (sym has.1) ∙ stood) in
       ap (place_of entry offset) f
-      ∙ ap (λ (t : Table). option_map (λ begin. begin + offset) (finmap.get (heap_in t []).places entry)) (only stood (ap (finmap.get old.heaps) (has.1 ∙ home ∙ sym had.1) ∙ had.0.table))
+      ∙ ap (λ (t : Table). option_map (λ begin. begin + offset) (finmap.get (C.heap_in t []).places entry)) (only stood (ap (finmap.get old.heaps) (has.1 ∙ home ∙ sym had.1) ∙ had.0.table))
       ∙ sym (ap (place_of entry offset) e)
 
   -- so what it leaves of segments it leaves of positions
@@ -131,11 +129,11 @@ module _ (honest : Type 0) (format : Format) (old new : World) (command : Loadin
         ∙ still;
   }
 
-side : (lo hi offset : ℕ) → (nat_le lo offset && nat_lt offset hi) ≡ false → (offset < lo) ⊎ (hi ≤ offset)
+side : (lo hi offset : ℕ) → (C.nat_le lo offset && C.nat_lt offset hi) ≡ false → (offset < lo) ⊎ (hi ≤ offset)
 side lo hi offset e = grind arith
 
 -- A local call.
-module _ (old new : World) (command : LocalCommand) (reply : Reply) (is : IsWorld old) (now : IsWorld new) (step : LocalStep old command reply new) where
+module _ (old new : World) (command : C.LocalCommand) (reply : Reply) (is : IsWorld old) (now : IsWorld new) (step : C.LocalStep old command reply new) where
   -- a byte of a segment that is in no local heap's range is the same where it is there before and after
   module _ (slot offset : ℕ) (out : is_in_range (finmap.get old.heaps slot) offset ≡ false) (was : is_some (byte_in (segment_bytes old slot) offset) ≡ true) (there : is_some (byte_in (segment_bytes new slot) offset) ≡ true) where
     abbrev IsStill : Type 0
@@ -148,7 +146,7 @@ module _ (old new : World) (command : LocalCommand) (reply : Reply) (is : IsWorl
     becomes : {before after : List ℕ} → segment_bytes old slot ≡ Some before → segment_bytes new slot ≡ Some after → slice_get after offset ≡ slice_get before offset → IsStill
     becomes e f same = ap (λ b. byte_in b offset) f ∙ same ∙ sym (ap (λ b. byte_in b offset) e)
 
-    kept_outside : IsObjectKept old new slot → IsStill
+    kept_outside : C.IsObjectKept old new slot → IsStill
     kept_outside (inl same) = ap (λ o. byte_in (bytes_in o) offset) same
     kept_outside (inr h) =
         let (at, c, (mine, h)) = some_such (current_heap old) h in
@@ -158,7 +156,7 @@ module _ (old new : World) (command : LocalCommand) (reply : Reply) (is : IsWorl
         becomes (ap bytes_in e ∙ h.had) (ap bytes_in f ∙ g) (get-outside at.table.lo at.table.hi at.bytes bytes offset same.1 (beside at c mine))
 
     -- The heap grew. It ended where its segment did, so such a byte of the segment lies below it.
-    longer_outside : KeepsRestLonger old command new → IsLeftByGrowth old new slot → IsStill
+    longer_outside : C.KeepsRestLonger old command new → C.IsLeftByGrowth old new slot → IsStill
     longer_outside r (inl (inl same)) = ap (λ o. byte_in (bytes_in o) offset) same
     longer_outside r (inl (inr lost)) = absurd (let (o, e, h) = some_such (object_at old.loading.handles.heap slot) lost in false≢true (sym (ap (λ p. is_some (byte_in (bytes_in p) offset)) h.3) ∙ there))
     longer_outside r (inr h) =
@@ -167,15 +165,15 @@ module _ (old new : World) (command : LocalCommand) (reply : Reply) (is : IsWorl
         let (p, f, h) = some_such (object_at new.loading.handles.heap slot) h in
         let (bytes, g, same) = some_such p.bytes h.has in
         let had : segment_bytes old slot ≡ Some at.bytes = ap bytes_in e ∙ h.had in
-        let ends : at.table.hi ≡ length at.bytes = subst (λ (h : LocalHeap). h.table.hi ≡ length h.bytes) (only r.current c) r.ends in
+        let ends : at.table.hi ≡ C.length at.bytes = subst (λ (h : LocalHeap). h.table.hi ≡ C.length h.bytes) (only r.current c) r.ends in
         let low : offset < at.table.lo = elim (beside at c mine) [ inl lt ↦ lt | inr le ↦ absurd (omega (arith, ends, le, inside at.bytes offset (ap (λ b. is_some (byte_in b offset)) (sym had) ∙ was))) ] in
         becomes had (ap bytes_in f ∙ g) (get-below at.table.lo at.bytes bytes offset same.1 low)
 
-    is_there : (o : Option Object) → is_some (byte_in (bytes_in o) offset) ≡ true → is_some o ≡ true
+    is_there : (o : Option C.Object) → is_some (byte_in (bytes_in o) offset) ≡ true → is_some o ≡ true
     is_there None t = absurd (false≢true t)
     is_there (Some o) t = refl
 
-    same_outside : KeepsRest old new ⊎ KeepsRestLonger old command new → IsStill
+    same_outside : C.KeepsRest old new ⊎ C.KeepsRestLonger old command new → IsStill
     same_outside (inl k) = kept_outside (k.objects slot)
     same_outside (inr r) = longer_outside r ((leaves_longer old new command is.heaps r).objects slot (is_there (object_at old.loading.handles.heap slot) was))
 
@@ -190,7 +188,7 @@ module _ (old new : World) (command : LocalCommand) (reply : Reply) (is : IsWorl
       let stays : ((c : LocalHeap) → current_heap old ≡ Some c → c.slot ≢ slot) → byte_of entry offset (Some after) ≡ byte_of entry offset (Some at) = λ g. ap (λ h. byte_of entry offset (Some h)) (other_same old new command reply is step slot at after e f g) in
       let same : byte_of entry offset (Some after) ≡ byte_of entry offset (Some at) = elim (which (current_heap old)) [
         | inl d ↦ stays (λ c g. let never : ◌≡◌ {A = Option LocalHeap} None (Some c) = sym d ∙ g in cc)
-        | inr (c, d) ↦ elim (cases_eq c.slot slot) [
+        | inr (c, d) ↦ elim (C.cases_eq c.slot slot) [
           | inl s ↦ (local_agrees old new is.heaps command reply step at after (d ∙ sym (there_local old c (current_there old c d)) ∙ ap (local_in old) s ∙ e) (ap (local_in new) (local_there old slot at e).1 ∙ f) entry).one offset t u
           | inr s ↦ stays (λ b g. subst (λ (h : LocalHeap). h.slot ≢ slot) (only d g) s)
         ]
@@ -199,8 +197,8 @@ module _ (old new : World) (command : LocalCommand) (reply : Reply) (is : IsWorl
 
 pub step_law : (honest : Type 0) → StepLaw honest
 step_law honest format old new (OfLoading command) reply is known step = loading_kept honest format old new command reply is (world_law honest format old new (OfLoading command) reply is known step) step
-step_law honest format old new (OfLocals command) reply is known step = record {
+step_law honest format old new (C.OfLocals command) reply is known step = record {
   written = λ p byte h. absurd h;
   read = λ p byte h. absurd h;
-  kept = λ p was there out. local_kept old new command reply is (world_law honest format old new (OfLocals command) reply is known step) step p.slot p.entry p.offset was there;
+  kept = λ p was there out. local_kept old new command reply is (world_law honest format old new (C.OfLocals command) reply is known step) step p.slot p.entry p.offset was there;
 }

@@ -1,23 +1,11 @@
 -- What is written through far pointers reads back: where the byte of a position is, which accesses reach it, and what steps and runs leave of it.
 use Rattle.std.specs.Prelude.{◌≡◌, ℕ, ◌+◌, ◌*◌, Bool, true, false, ◌&&◌, if◌then◌else◌, nat_le, nat_lt, List, [], ◌∷◌, ◌++◌, All, Option, Some, None, option_map, is_some, IsSomeAnd, slice_get}
-use Rattle.std.specs.FinMap as finmap
-use Rattle.w16_model.specs.Bytes.{repeated}
 use Rattle.w16_model.specs.Far.FarCommand.{Read, Write, Fill}
-use Rattle.w16_model.specs.declared.TheConstants.{REACH}
-use Rattle.w16_model.specs.CallLaws.{next_slot}
-use Rattle.w16_model.specs.Handles.{Handles, part_of_selector, selector_in, offset_in}
-use Rattle.w16_model.specs.Heap.{bytes_at}
-use Rattle.w16_model.specs.Table.{Table}
-use Rattle.w16_loading.specs.Bystanders.{call_of}
-use Rattle.w16_loading.specs.Families.LoadingCommand.{OfFar, OfResizes}
-use Rattle.w16_loading.specs.File.{Format}
-use Rattle.w16_loading.specs.Replies.{Reply, answer_in}
-use Rattle.w16_loading.specs.Replies.Reply.{Bytes, Done}
-use Rattle.w16_machine.specs.Law.{IsWorld}
-use Rattle.w16_machine.specs.Local.{segment_bytes, heap_of, local_in}
+use Rattle.w16_model.specs.{Bytes.repeated, declared.TheConstants.REACH, CallLaws.next_slot, Handles.Handles, Handles.part_of_selector, Handles.selector_in, Handles.offset_in, Heap.bytes_at, Table.Table}
+use Rattle.w16_loading.specs.{Bystanders.call_of, Families.LoadingCommand.OfFar, Families.LoadingCommand.OfResizes, File.Format, Replies.Reply, Replies.answer_in, Replies.Reply.Bytes, Replies.Reply.Done}
 use Rattle.w16_machine.specs.Machine.{Command, EachStep, Event, IsCommand, Run, Step}
-use Rattle.w16_machine.specs.Machine.Command.{OfLoading}
-use Rattle.w16_machine.specs.World.{World}
+use Rattle.w16_machine.specs.{Law.IsWorld, Local.segment_bytes, Local.heap_of, Local.local_in, Machine.Command.OfLoading, World.World}
+use Rattle.std.specs.FinMap as finmap
 
 -- A position is an offset in an object: in that of a slot, or in that of an entry of the local heap in the slot's object.
 pub record Position : Type 0 where

@@ -1,6 +1,5 @@
 use Rattle.w16_arena.proofs.Common.{◌≡◌, ◌≢◌, ℕ, Some, IfSome, IfNone, block_with}
-use Rattle.w16_arena.proofs.Shown.{told}
-use Rattle.w16_arena.proofs.Next.{beginning_found, beginning_none}
+use Rattle.w16_arena.proofs.{Shown.told, Next.beginning_found, Next.beginning_none}
 use Rattle.w16_arena.proofs.Arena.block_beginning_at.Goals as goal
 
 pub returns-clause-found : goal.returns-clause-found

@@ -1,8 +1,5 @@
 use Rattle.w16_arena.proofs.Common.{ArenaState, refl, sym, arith, ap, heap_in, sound_heap, compaction_law}
-use Rattle.w16_arena.proofs.Keeping.{none_changed}
-use Rattle.w16_arena.proofs.Moved.{moved_few}
-use Rattle.w16_arena.proofs.Unmoved.{unmoved}
-use Rattle.w16_arena.proofs.Answering.{compacts_none, still_same}
+use Rattle.w16_arena.proofs.{Keeping.none_changed, Moved.moved_few, Unmoved.unmoved, Answering.compacts_none, Answering.still_same}
 use Rattle.w16_arena.proofs.Arena.compact.Goals as goal
 
 pub returns-clause-compacted : goal.returns-clause-compacted

@@ -1,7 +1,8 @@
-use Rattle.w16_arena.proofs.Common.{◌≡◌, ◌≤◌, [], length, Some, refl, arith, IsMultiple, block_with, heap_in, IsResized, Placed, KeepsRest, table_of, heap_of}
-use Rattle.w16_arena.proofs.Shown.{known as known_in, told}
-use Rattle.w16_arena.proofs.Fitting.{id_known, fits_less}
-use Rattle.w16_arena.proofs.InPlace.{kept_resized, rest_resized, is_cut, others_with}
+use Rattle.w16_arena.proofs
+use proofs.Common.{◌≡◌, ◌≤◌, [], length, Some, refl, arith, IsMultiple, block_with, heap_in, IsResized, Placed, KeepsRest, table_of, heap_of}
+use proofs.Shown.{known as known_in, told}
+use proofs.Fitting.{id_known, fits_less}
+use proofs.InPlace.{kept_resized, rest_resized, is_cut, others_with}
 use Rattle.w16_arena.proofs.Arena.cut.Goals as goal
 
 pub resize-requires-clause-id : goal.resize-requires-clause-id

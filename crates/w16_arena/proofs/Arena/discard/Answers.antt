@@ -1,6 +1,7 @@
-use Rattle.w16_arena.proofs.Common.{Entry, sym, ◌∙◌, ◌≡◌, IsSomeAnd, Option, subst, arith, lt-ltb, le-ltb}
-use Rattle.w16_arena.proofs.Refusals.{discard_none, discard_locked, discard_other, discard_ok}
-use Rattle.w16_arena.proofs.Keeping.{keeps_same}
+use Rattle.w16_arena.proofs
+use proofs.Common.{Entry, sym, ◌∙◌, ◌≡◌, IsSomeAnd, Option, subst, arith, lt-ltb, le-ltb}
+use proofs.Refusals.{discard_none, discard_locked, discard_other, discard_ok}
+use proofs.Keeping.{keeps_same}
 use Rattle.w16_arena.proofs.Arena.discard.Goals as goal
 
 pub returns-in_default-clause-err : goal.returns-in_default-clause-err

@@ -1,6 +1,7 @@
-use Rattle.w16_arena.proofs.Common.{◌<◌, length, sym, ap, ◌∙◌, subst, arith, Table, IsSound, ArenaState, table_of, holes_in}
-use Rattle.w16_arena.proofs.Keeping.{keeps_same, keeps_more}
-use Rattle.w16_arena.proofs.Oldest.{ArePartly, partly_none, partly_more, full, next_unlocked, order_short}
+use Rattle.w16_arena.proofs
+use proofs.Common.{◌<◌, length, sym, ap, ◌∙◌, subst, arith, Table, IsSound, ArenaState, table_of, holes_in}
+use proofs.Keeping.{keeps_same, keeps_more}
+use proofs.Oldest.{ArePartly, partly_none, partly_more, full, next_unlocked, order_short}
 use Rattle.w16_arena.proofs.Arena.discard_first.Goals as goal
 
 pub list_eligible-requires-clause-room : goal.list_eligible-requires-clause-room

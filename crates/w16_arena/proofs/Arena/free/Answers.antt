@@ -1,6 +1,4 @@
-use Rattle.w16_arena.proofs.Common.{sym, ◌∙◌, lt-ltb, le-ltb}
-use Rattle.w16_arena.proofs.Refusals.{free_none, free_locked, free_ok}
-use Rattle.w16_arena.proofs.Keeping.{keeps_same}
+use Rattle.w16_arena.proofs.{Common.sym, Common.◌∙◌, Common.lt-ltb, Common.le-ltb, Refusals.free_none, Refusals.free_locked, Refusals.free_ok, Keeping.keeps_same}
 use Rattle.w16_arena.proofs.Arena.free.Goals as goal
 
 pub returns-in_default-clause-ok : goal.returns-in_default-clause-ok

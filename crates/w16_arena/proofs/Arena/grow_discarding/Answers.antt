@@ -1,7 +1,7 @@
-use Rattle.w16_arena.proofs.Common.{ℕ, ap, ◌∙◌, subst, refl, sym, if◌then◌else◌, ◌-◌, IsSomeAnd, false≢true, counted, object_at, IsGrown, heap_in, Stands}
-use Rattle.w16_arena.proofs.Keeping.{heap_kept, none_changed}
-use Rattle.w16_arena.proofs.Answering.{rest_after}
-use Rattle.w16_arena.proofs.Growing.{entry_below, refused_then, known_then, room_then, grows_then}
+use Rattle.w16_arena.proofs
+use proofs.Common.{ℕ, ap, ◌∙◌, subst, refl, sym, if◌then◌else◌, ◌-◌, IsSomeAnd, false≢true, counted, object_at, IsGrown, heap_in, Stands}
+use proofs.Growing.{entry_below, refused_then, known_then, room_then, grows_then}
+use proofs.{Keeping.heap_kept, Keeping.none_changed, Answering.rest_after}
 use Rattle.w16_arena.proofs.Arena.grow_discarding.Goals as goal
 
 pub least_discards-requires-clause-h : goal.least_discards-requires-clause-h

@@ -1,10 +1,10 @@
-use Rattle.w16_arena.proofs.Written.{counted_if}
-use Rattle.w16_arena.proofs.Common.{counted, ◌≡◌, ◌+◌, ◌≤◌, false, [], length, IfSome, Some, refl, subst, arith, ℕ, ◌-◌, ap, ◌∙◌, if◌then◌else◌, Block, block_end, hole_after, IsMultiple, Reallocates, block_with, heap_in, Layout, IsResized, Placed, KeepsRest, table_of, heap_of, but_for, rest_wider}
-use Rattle.w16_arena.proofs.Shown.{known as known_in, told}
-use Rattle.w16_arena.proofs.Fitting.{id_known, fits_more, spare_small, ends_inside}
-use Rattle.w16_arena.proofs.InPlace.{kept_resized, rest_resized, is_extended, not_extended}
-use Rattle.w16_arena.proofs.Keeping.{leaves_cleared, used_placed}
-use Rattle.w16_arena.proofs.Extending.{long_after, others_after, grown_after}
+use Rattle.w16_arena.proofs
+use proofs.Common as C
+use proofs.Common.{◌≡◌, ◌+◌, ◌≤◌, false, [], length, IfSome, Some, refl, subst, arith, ℕ, ◌-◌, ap, ◌∙◌, if◌then◌else◌, Block, block_end, hole_after, IsMultiple, block_with, heap_in, Layout, Placed}
+use proofs.Fitting.{id_known, fits_more, spare_small, ends_inside}
+use proofs.InPlace.{kept_resized, rest_resized, is_extended, not_extended}
+use proofs.Extending.{long_after, others_after, grown_after}
+use proofs.{Written.counted_if, Shown.known as known_in, Shown.told, Keeping.leaves_cleared, Keeping.used_placed}
 use Rattle.w16_arena.proofs.Arena.grow_in_place.Goals as goal
 
 pub free_after-requires-clause-id : goal.free_after-requires-clause-id
@@ -26,7 +26,7 @@ returns-then-block-free_after-clause-refused g c =
     let known : block_with l.blocks b.id ≡ Some b = known_in c.self.invariant c.self.view_is (λ t. block_with t.blocks b.id ≡ Some b) c.requires.known in
     let free : c.free_after.result ≡ hole_after l.hi l.blocks (block_end b) = subst (λ p. IfSome p (λ (b : Block). c.free_after.result ≡ hole_after l.hi l.blocks (block_end b))) known c.free_after.ensures.value in
     let short = c.if-block-free_after.true in (
-      told c.self.invariant c.self.view_is (λ t. Reallocates (heap_in t m) b.id n c.args.options false (heap_in t m))
+      told c.self.invariant c.self.view_is (λ t. C.Reallocates (heap_in t m) b.id n c.args.options false (heap_in t m))
           (not_extended c.self.invariant b known n m (known_in c.self.invariant c.self.view_is (λ t. t.hi ≤ length m) c.requires.memory.inside) (known_in c.self.invariant c.self.view_is (λ t. IsMultiple t.grain n) c.requires.rounded) c.args.options c.requires.more c.requires.held (omega arith)),
       refl,
       refl,
@@ -79,7 +79,7 @@ returns-clause-resized g c =
     let long = long_after c.self.invariant b known n fits more kept.value kept.ordered m mid after inside kept.bytes.rest.bytes.long kept.small kept.bytes.contents kept.own c.args.options.zero c.clear_if.ensures.bytes in
     let others = others_after c.self.invariant b known n fits more kept.value kept.ordered m mid after inside kept.bytes.rest.bytes.long kept.small kept.bytes.contents kept.own c.args.options.zero c.clear_if.ensures.bytes in
     let grown = grown_after c.self.invariant b known n fits more kept.value kept.ordered m mid after inside kept.bytes.rest.bytes.long kept.small kept.bytes.contents kept.own c.args.options.zero c.clear_if.ensures.bytes in
-    rw c.forget_discards.ensures (told c.self.invariant c.self.view_is (λ t. IsResized (heap_in t m) b.id n c.args.options p [] (heap_of c.self.inside.entries.items c.resize.new.blocks c.self.inside.order.ids after))
+    rw c.forget_discards.ensures (told c.self.invariant c.self.view_is (λ t. C.IsResized (heap_in t m) b.id n c.args.options p [] (C.heap_of c.self.inside.entries.items c.resize.new.blocks c.self.inside.order.ids after))
     (is_extended c.self.invariant b known n kept.value kept.ordered m inside after long others (omega arith) (known_in c.self.invariant c.self.view_is (λ t. IsMultiple t.grain n) c.requires.rounded) c.args.options p refl refl fits.inside.2
     more c.requires.held (omega arith) grown refl))
 
@@ -90,14 +90,14 @@ returns-clause-rest g c =
     let free : c.free_after.result ≡ hole_after l.hi l.blocks (block_end b) = subst (λ p. IfSome p (λ (b : Block). c.free_after.result ≡ hole_after l.hi l.blocks (block_end b))) known c.free_after.ensures.value in
     let enough = c.if-block-free_after.false in
     let fits = fits_more l b known c.bounds.ensures.ordered c.args.size c.requires.more (omega arith) (known_in c.self.invariant c.self.view_is (λ t. IsMultiple t.grain c.args.size) c.requires.rounded) in let from = fits.inside.0 in let end = fits.inside.2 in let more = c.requires.more in
-    rw c.forget_discards.ensures (told c.self.invariant c.self.view_is (λ t. KeepsRest g.H.Holes.are_in g.S.Space.bytes g.S.Space.lenders t c.args.space.now (table_of c.self.inside.entries.items c.resize.new.blocks c.self.inside.order.ids) c.clear_if.new.space)
+    rw c.forget_discards.ensures (told c.self.invariant c.self.view_is (λ t. C.KeepsRest g.H.Holes.are_in g.S.Space.bytes g.S.Space.lenders t c.args.space.now (C.table_of c.self.inside.entries.items c.resize.new.blocks c.self.inside.order.ids) c.clear_if.new.space)
     (rest_resized c.self.invariant b known c.args.size c.resize.ensures.value c.resize.ensures.ordered
     (leaves_cleared b.at (b.at + c.args.size) g.met.H.Holes.stay c.resize.ensures.bytes.rest
-    (rest_wider c.clear_if.ensures.rest (omega arith) (omega arith)) c.clear_if.ensures.lenders (omega arith)
-    (omega arith) (used_placed (but_for b.id l) c.resize.new.blocks (record b { size = c.args.size })
+    (C.rest_wider c.clear_if.ensures.rest (omega arith) (omega arith)) c.clear_if.ensures.lenders (omega arith)
+    (omega arith) (used_placed (C.but_for b.id l) c.resize.new.blocks (record b { size = c.args.size })
     c.resize.ensures.value c.resize.ensures.ordered))))
 
 pub returns-clause-written : goal.returns-clause-written
 returns-clause-written g c =
     c.clear_if.ensures.written ∙ counted_if c.args.options.zero (g.S.Space.written c.resize.new.space) (c.args.size - c.args.block.size)
-    ∙ ap (λ (w : ℕ). counted w (if c.args.options.zero then c.args.size - c.args.block.size else 0)) c.resize.ensures.bytes.count
+    ∙ ap (λ (w : ℕ). C.counted w (if c.args.options.zero then c.args.size - c.args.block.size else 0)) c.resize.ensures.bytes.count

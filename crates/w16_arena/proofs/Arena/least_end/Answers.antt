@@ -1,13 +1,12 @@
-use Rattle.w16_arena.proofs.Common.{◌≡◌, false, ◌<◌, ◌≤◌, ℕ, nat_le, IfSome, IfNone, IsMultiple, List, Some, None, sym, ap, ◌∙◌, subst, length, Span, Table, block_with, heap_in, table_of}
+use Rattle.w16_arena.proofs
+use proofs.Common.{◌≡◌, false, ◌<◌, ◌≤◌, ℕ, nat_le, IfSome, IfNone, IsMultiple, List, Some, None, sym, ap, ◌∙◌, subst, length, Span, Table, block_with, heap_in, table_of}
+use proofs.LeastEnd.{Tells, answered_absent, answered_known, least_is, none_found, below_cap}
+use proofs.Arena.least_end.Goals.{in-None, in-Some}
+use proofs.{Shown.known, Shown.told, Reallocated.found_known}
 use Rattle.w16_model.specs.Ends.{ending, is_answered, IsLeastEnd, HasNoEnd}
 use Rattle.w16_holes.specs.declared.holes.TheConstants.{LAST_END}
-use Rattle.w16_compact.specs.Stretch.{stretch_at}
-use Rattle.w16_compact.specs.declared.stretch.Stretch.{Stretch}
-use Rattle.w16_arena.proofs.Shown.{known, told}
-use Rattle.w16_arena.proofs.Reallocated.{found_known}
-use Rattle.w16_arena.proofs.LeastEnd.{Tells, answered_absent, answered_known, least_is, none_found, below_cap}
+use Rattle.w16_compact.specs.{Stretch.stretch_at, declared.stretch.Stretch.Stretch}
 use Rattle.w16_arena.proofs.Arena.least_end.Goals as goal
-use Rattle.w16_arena.proofs.Arena.least_end.Goals.{in-None, in-Some}
 
 pub growth_stretch-stretch-requires-clause-known : goal.growth_stretch-stretch-requires-clause-known
 growth_stretch-stretch-requires-clause-known g c =

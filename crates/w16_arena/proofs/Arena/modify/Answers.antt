@@ -1,7 +1,5 @@
 use Rattle.w16_arena.proofs.Common.{is_some, sym, ap, ◌∙◌, block_with, entry_at, ArenaState, relisted}
-use Rattle.w16_arena.proofs.Shown.{holes_shown}
-use Rattle.w16_arena.proofs.Refusals.{modify_none, modify_fixed}
-use Rattle.w16_arena.proofs.Modified.{kept_modified, steps_modified}
+use Rattle.w16_arena.proofs.{Shown.holes_shown, Refusals.modify_none, Refusals.modify_fixed, Modified.kept_modified, Modified.steps_modified}
 use Rattle.w16_arena.proofs.Arena.modify.Goals as goal
 
 pub returns-in_default-clause-err : goal.returns-in_default-clause-err

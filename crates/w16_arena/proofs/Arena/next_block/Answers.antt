@@ -1,6 +1,5 @@
 use Rattle.w16_arena.proofs.Common.{◌≡◌, ◌<◌, ◌≤◌, ◌⊎◌, ℕ, Some, IfSome, IfNone, block_with, table_of}
-use Rattle.w16_arena.proofs.Shown.{told}
-use Rattle.w16_arena.proofs.Next.{next_found, next_lowest, next_none}
+use Rattle.w16_arena.proofs.{Shown.told, Next.next_found, Next.next_lowest, Next.next_none}
 use Rattle.w16_arena.proofs.Arena.next_block.Goals as goal
 
 pub returns-clause-found : goal.returns-clause-found

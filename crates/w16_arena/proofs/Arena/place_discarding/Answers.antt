@@ -1,23 +1,24 @@
-use Rattle.w16_arena.proofs.Common.{ℕ, arith, ap, ◌∙◌, subst, if◌then◌else◌, refl, counted, with_newest, IsNew, heap_in, Stands}
-use Rattle.w16_arena.proofs.Keeping.{heap_kept, none_changed}
-use Rattle.w16_arena.proofs.Answering.{refused_needed, absent_then, room_then, allocates_then, placed_then, discards_then, rest_after}
+use Rattle.w16_arena.proofs
+use proofs.Answering as M
+use proofs.Common.{ℕ, arith, ap, ◌∙◌, subst, if◌then◌else◌, refl, counted, with_newest, IsNew, heap_in, Stands}
+use proofs.Keeping.{heap_kept, none_changed}
 use Rattle.w16_arena.proofs.Arena.place_discarding.Goals as goal
 
 pub returns-in_default-clause-allocated : goal.returns-in_default-clause-allocated
 returns-in_default-clause-allocated g c =
     let found = c.least_discards.ensures in
-    rw found.same (refused_needed c.args.self.now found.sound (g.S.Space.bytes c.args.space.now) c.requires.memory.inside c.args.id c.args.size c.args.kind c.args.options c.requires.absent c.requires.some c.requires.rounded c.requires.may found.value c.in_default.is)
+    rw found.same (M.refused_needed c.args.self.now found.sound (g.S.Space.bytes c.args.space.now) c.requires.memory.inside c.args.id c.args.size c.args.kind c.args.options c.requires.absent c.requires.some c.requires.rounded c.requires.may found.value c.in_default.is)
 
 pub place-requires-clause-absent : goal.place-requires-clause-absent
 place-requires-clause-absent g c =
     let found = c.least_discards.ensures in
-    absent_then c.args.self.now found.sound (g.S.Space.bytes c.args.space.now) c.requires.memory.inside c.args.id c.args.size c.args.kind c.args.options c.requires.absent c.requires.some c.requires.rounded c.requires.may found.value
+    M.absent_then c.args.self.now found.sound (g.S.Space.bytes c.args.space.now) c.requires.memory.inside c.args.id c.args.size c.args.kind c.args.options c.requires.absent c.requires.some c.requires.rounded c.requires.may found.value
     c.in-Some.k c.in-Some.is c.discard_first.new.self (rw found.same at c.discard_first.ensures.discards)
 
 pub unreachable-requires : goal.unreachable-requires
 unreachable-requires g c =
     let found = c.least_discards.ensures in
-    let enough = room_then c.args.self.now found.sound (g.S.Space.bytes c.args.space.now) c.requires.memory.inside c.args.id c.args.size c.args.kind c.args.options c.requires.absent c.requires.some c.requires.rounded c.requires.may found.value
+    let enough = M.room_then c.args.self.now found.sound (g.S.Space.bytes c.args.space.now) c.requires.memory.inside c.args.id c.args.size c.args.kind c.args.options c.requires.absent c.requires.some c.requires.rounded c.requires.may found.value
     c.in-Some.k c.in-Some.is c.discard_first.new.self (rw found.same at c.discard_first.ensures.discards) in
     let short = c.in_default-place.ensures.refused.0 in
     omega arith
@@ -33,11 +34,11 @@ returns g c =
     let new = heap_in c.place.new.self.table (g.S.Space.bytes c.place.new.space) in
     let stands = subst (λ h. Stands h c.args.id c.args.size (IsNew c.args.options.zero c.args.size c.args.kind 0) (with_newest c.args.id) c.args.options c.in-Some-place.placed new) (heap_kept m (g.S.Space.bytes c.discard_first.new.space) mid.table bytes.contents) p.stands in
     record {
-      allocated = allocates_then c.args.self.now found.sound m c.requires.memory.inside c.args.id c.args.size c.args.kind c.args.options c.requires.absent c.requires.some c.requires.rounded c.requires.may found.value c.in-Some.k c.in-Some.is mid discards stands;
-      placed = placed_then c.args.self.now found.sound m c.requires.memory.inside c.args.id c.args.size c.args.kind c.args.options c.requires.absent c.requires.some c.requires.rounded c.requires.may found.value c.in-Some.k c.in-Some.is mid discards stands c.reveal_bytes.ensures;
-      discarded = discards_then c.args.self.now found.sound m c.requires.memory.inside c.args.id c.args.size c.args.kind c.args.options c.requires.absent c.requires.some c.requires.rounded c.requires.may found.value c.in-Some.k c.in-Some.is mid discards p.discarded;
+      allocated = M.allocates_then c.args.self.now found.sound m c.requires.memory.inside c.args.id c.args.size c.args.kind c.args.options c.requires.absent c.requires.some c.requires.rounded c.requires.may found.value c.in-Some.k c.in-Some.is mid discards stands;
+      placed = M.placed_then c.args.self.now found.sound m c.requires.memory.inside c.args.id c.args.size c.args.kind c.args.options c.requires.absent c.requires.some c.requires.rounded c.requires.may found.value c.in-Some.k c.in-Some.is mid discards stands c.reveal_bytes.ensures;
+      discarded = M.discards_then c.args.self.now found.sound m c.requires.memory.inside c.args.id c.args.size c.args.kind c.args.options c.requires.absent c.requires.some c.requires.rounded c.requires.may found.value c.in-Some.k c.in-Some.is mid discards p.discarded;
       refused = tt;
-      rest = rest_after discards.range bytes.rest p.rest;
+      rest = M.rest_after discards.range bytes.rest p.rest;
       written = p.written ∙ ap (λ (w : ℕ). counted (counted w c.in-Some-place.placed.moved) (if c.args.options.zero then c.args.size else 0)) bytes.count;
     }
 

@@ -1,6 +1,7 @@
-use Rattle.w16_arena.proofs.Lookups.{in_list}
-use Rattle.w16_arena.proofs.Common.{◌≡◌, ℕ, ◌-◌, ◌≤◌, true, false, is_ok, length, IsSome, option_map, unwrap_or, sym, ◌∙◌, subst, if◌then◌else◌, false≢true, bytes_at, Table, heap_in, fewest_law, sound_heap, IsResized}
-use Rattle.w16_arena.proofs.Reallocated.{IsTold, told_ok, revived, revived_listed, size_told, still_written, size_written, cut_written, found_known, held_by, no_size, revived_written}
+use Rattle.w16_arena.proofs
+use proofs.Lookups.{in_list}
+use proofs.Common.{◌≡◌, ℕ, ◌-◌, ◌≤◌, true, false, is_ok, length, IsSome, option_map, unwrap_or, sym, ◌∙◌, subst, if◌then◌else◌, false≢true, bytes_at, Table, heap_in, fewest_law, sound_heap, IsResized}
+use proofs.Reallocated.{IsTold, told_ok, revived, revived_listed, size_told, still_written, size_written, cut_written, found_known, held_by, no_size, revived_written}
 use Rattle.w16_arena.proofs.Arena.realloc.Given as Given
 use Rattle.w16_arena.proofs.Arena.realloc.Goals as goal
 

@@ -1,6 +1,7 @@
-use Rattle.w16_arena.proofs.Common.{◌≡◌, None, is_some, sym, ap, ◌∙◌, entry_at}
-use Rattle.w16_arena.proofs.Shown.{entry_known, known, nothing, kept_without, steps_without, steps_same}
-use Rattle.w16_arena.proofs.Keeping.{keeps_same}
+use Rattle.w16_arena.proofs
+use proofs.Common.{◌≡◌, None, is_some, sym, ap, ◌∙◌, entry_at}
+use proofs.Shown.{entry_known, known, nothing, kept_without, steps_without, steps_same}
+use proofs.Keeping.{keeps_same}
 use Rattle.w16_arena.proofs.Arena.release.Goals as goal
 
 pub invariant_of-self : goal.invariant_of-self

@@ -1,7 +1,5 @@
-use Rattle.w16_arena.proofs.Common.{ap, ◌∙◌, Layout, ArenaState, heap_in}
+use Rattle.w16_arena.proofs.{Common.ap, Common.◌∙◌, Common.Layout, Common.ArenaState, Common.heap_in, Keeping.heap_kept, Keeping.keeps_holes, Later.kept_later}
 use Rattle.w16_arena.specs.State.{table_of}
-use Rattle.w16_arena.proofs.Keeping.{heap_kept, keeps_holes}
-use Rattle.w16_arena.proofs.Later.{kept_later}
 use Rattle.w16_arena.proofs.Arena.set_end.Goals as goal
 
 pub invariant_of-self : goal.invariant_of-self

@@ -1,5 +1,4 @@
-use Rattle.w16_arena.proofs.Common.{◌∙◌}
-use Rattle.w16_arena.proofs.Shown.{holes_shown, kept_set, steps_set}
+use Rattle.w16_arena.proofs.{Common.◌∙◌, Shown.holes_shown, Shown.kept_set, Shown.steps_set}
 use Rattle.w16_arena.proofs.Arena.set_locks.Goals as goal
 
 pub invariant_of-self : goal.invariant_of-self

@@ -1,6 +1,7 @@
-use Rattle.w16_arena.proofs.Common.{ℕ, ◌≤◌, length, ap, ◌∙◌, subst, arith, counted, heap_in, SlidesTogether, ArenaState}
-use Rattle.w16_arena.proofs.Keeping.{heap_kept}
-use Rattle.w16_arena.proofs.Answering.{compacts_then, slid_then, listed_then, rest_after}
+use Rattle.w16_arena.proofs
+use proofs.Common.{ℕ, ◌≤◌, length, ap, ◌∙◌, subst, arith, counted, heap_in, SlidesTogether, ArenaState}
+use proofs.Keeping.{heap_kept}
+use proofs.Answering.{compacts_then, slid_then, listed_then, rest_after}
 use Rattle.w16_arena.proofs.Arena.slide_discarding.Goals as goal
 
 pub returns : goal.returns

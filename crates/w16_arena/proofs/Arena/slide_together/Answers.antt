@@ -1,9 +1,5 @@
-use Rattle.w16_arena.proofs.Written.{counted_none}
+use Rattle.w16_arena.proofs.{Written.counted_none, Arranged.same_moved, Rooms.no_hole, Rooms.whole_hole, Rooms.none_moved, Steps.kept_beside, Together.kept_slid, Together.rest_slid, Together.slides}
 use Rattle.std.proofs.Common.{◌<◌, refl, arith, sym}
-use Rattle.w16_arena.proofs.Arranged.{same_moved}
-use Rattle.w16_arena.proofs.Rooms.{no_hole, whole_hole, none_moved}
-use Rattle.w16_arena.proofs.Steps.{kept_beside}
-use Rattle.w16_arena.proofs.Together.{kept_slid, rest_slid, slides}
 use Rattle.w16_arena.proofs.Arena.slide_together.Goals as goal
 
 pub returns-then-room-eq0-clause-slides : goal.returns-then-room-eq0-clause-slides

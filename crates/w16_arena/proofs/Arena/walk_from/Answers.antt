@@ -1,7 +1,8 @@
 -- The first part is a hole, a block, or none.
-use Rattle.w16_arena.proofs.Common.{◌≡◌, ◌-◌, ◌≤◌, ◌<◌, ℕ, IsSomeAnd, List, length, Option, Some, None, slice_get, refl, sym, ap, subst, arith, Block, Entry, Item, Table, IsSound, entry_at, heap_in, IsFirstItem, by_its_id, rank, IfHole, IfBlock, IsFirstHole, IsFirstBlock, table_of}
-use Rattle.w16_arena.proofs.Shown.{known, told}
-use Rattle.w16_arena.proofs.Walks.{IsPartAt, apart, item_of, first_hole, first_block, part_inside}
+use Rattle.w16_arena.proofs
+use proofs.Common.{◌≡◌, ◌-◌, ◌≤◌, ◌<◌, ℕ, IsSomeAnd, List, length, Option, Some, None, slice_get, refl, sym, ap, subst, arith, Block, Entry, Item, Table, IsSound, entry_at, heap_in, IsFirstItem, by_its_id, rank, IfHole, IfBlock, IsFirstHole, IsFirstBlock, table_of}
+use proofs.Shown.{known, told}
+use proofs.Walks.{IsPartAt, apart, item_of, first_hole, first_block, part_inside}
 use Rattle.w16_arena.proofs.Arena.walk_from.Goals as goal
 
 -- what is told of a block, of the item that is some

@@ -1,5 +1,5 @@
+use Rattle.w16_arena.proofs.Oldest as M
 use Rattle.w16_arena.proofs.Common.{suc, ◌≡◌, ◌-◌, ◌∙◌, length, drop, ap, sym, slice_get, arith, all_left, below_cap, rest_after}
-use Rattle.w16_arena.proofs.Oldest.{listed_none, listed_full, listed_end, listed_past, listed_fits, listed_more}
 use Rattle.w16_arena.proofs.discards.list_eligible.Goals as goal
 
 pub loop-id-init : goal.loop-id-init
@@ -10,7 +10,7 @@ loop-id-init g c =
     let left : it.left ≡ length uses.ids = ap (λ x. x.left) is ∙ c.oldest_first-id-items.ensures.left in
     let next : it.next ≡ slice_get uses.ids 0 = ap (λ x. x.next) is ∙ c.oldest_first-id-items.ensures.next in
     let start = all_left it.order.now uses it.left it.next order left next in
-    record { may = start.0; ends = tt; from = (0, sym start.1); room = c.clear.ensures.capacity; listed = listed_none c.args.blocks.now.blocks uses.ids c.args.h c.args.k c.clear.new.self.items _ c.clear.ensures.items start.1 }
+    record { may = start.0; ends = tt; from = (0, sym start.1); room = c.clear.ensures.capacity; listed = M.listed_none c.args.blocks.now.blocks uses.ids c.args.h c.args.k c.clear.new.self.items _ c.clear.ensures.items start.1 }
 
 pub is_eligible-requires : goal.is_eligible-requires
 is_eligible-requires g c =
@@ -19,12 +19,12 @@ is_eligible-requires g c =
 
 pub returns-then-len-k-clause-listed : goal.returns-then-len-k-clause-listed
 returns-then-len-k-clause-listed g c = let now = c.loop-id in let len = now.listed.ok.0 in let full = c.if-len-k.true in let told = c.len.ensures in
-    listed_full c.args.blocks.now.blocks c.args.order.now.ids c.args.h c.args.k now.listed.items _ now.invariant.listed (omega arith)
+    M.listed_full c.args.blocks.now.blocks c.args.order.now.ids c.args.h c.args.k now.listed.items _ now.invariant.listed (omega arith)
 
 pub push_reserved-requires : goal.push_reserved-requires
 push_reserved-requires g c =
     let now = c.loop-id in let len = now.listed.ok.0 in let told = c.len.ensures in let more = c.if-len-k.false in let room = c.requires.room in let same = now.invariant.room in
-    let fits = listed_fits c.args.blocks.now.blocks c.args.order.now.ids c.args.h c.args.k now.listed.items c.in-Some.id _ _ c.in-Some.ensures.steps now.invariant.listed (sym c.is_eligible.ensures ∙ c.if-is_eligible.true) (omega arith) in
+    let fits = M.listed_fits c.args.blocks.now.blocks c.args.order.now.ids c.args.h c.args.k now.listed.items c.in-Some.id _ _ c.in-Some.ensures.steps now.invariant.listed (sym c.is_eligible.ensures ∙ c.if-is_eligible.true) (omega arith) in
     omega arith
 
 pub loop-id-preserved-then-is_eligible : goal.loop-id-preserved-then-is_eligible
@@ -36,7 +36,7 @@ loop-id-preserved-then-is_eligible g c =
       ends = on.1;
       from = (suc now.invariant.from.0, rest_after c.args.order.now.ids now.invariant.from.0 c.in-Some.id later (now.invariant.from.1 ∙ c.in-Some.ensures.steps));
       room = c.push_reserved.ensures.capacity ∙ now.invariant.room;
-      listed = listed_more c.args.blocks.now.blocks c.args.order.now.ids c.args.h c.args.k now.listed.items
+      listed = M.listed_more c.args.blocks.now.blocks c.args.order.now.ids c.args.h c.args.k now.listed.items
           c.in-Some.id later _ c.in-Some.ensures.steps now.invariant.listed
           (sym c.is_eligible.ensures ∙ c.if-is_eligible.true) (omega arith) c.push_reserved.new.self.items
           c.push_reserved.ensures.items;
@@ -50,8 +50,8 @@ loop-id-preserved g c =
       ends = on.1;
       from = (suc now.invariant.from.0, rest_after c.args.order.now.ids now.invariant.from.0 c.in-Some.id later (now.invariant.from.1 ∙ c.in-Some.ensures.steps));
       room = now.invariant.room;
-      listed = listed_past c.args.blocks.now.blocks c.args.order.now.ids c.args.h c.args.k now.listed.items c.in-Some.id later _ c.in-Some.ensures.steps now.invariant.listed (sym c.is_eligible.ensures ∙ c.if-is_eligible.false);
+      listed = M.listed_past c.args.blocks.now.blocks c.args.order.now.ids c.args.h c.args.k now.listed.items c.in-Some.id later _ c.in-Some.ensures.steps now.invariant.listed (sym c.is_eligible.ensures ∙ c.if-is_eligible.false);
     }
 
 pub returns-clause-listed : goal.returns-clause-listed
-returns-clause-listed g c = listed_end c.args.blocks.now.blocks c.args.order.now.ids c.args.h c.args.k c.loop-id.listed.items _ c.loop-id.invariant.listed c.in-None.ensures.steps.0
+returns-clause-listed g c = M.listed_end c.args.blocks.now.blocks c.args.order.now.ids c.args.h c.args.k c.loop-id.listed.items _ c.loop-id.invariant.listed c.in-None.ensures.steps.0

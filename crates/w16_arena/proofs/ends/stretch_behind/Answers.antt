@@ -1,9 +1,8 @@
-use Rattle.w16_arena.proofs.Common.{◌≡◌, IfSome, IsMultiple, subst, sym, arith, Block, block_end, hole_after, Layout}
-use Rattle.w16_arena.proofs.Fitting.{spare_small, ends_inside}
-use Rattle.w16_arena.proofs.Behind.{behind_is}
-use Rattle.w16_arena.proofs.ButFor.{own_grained}
+use Rattle.w16_arena.proofs
+use proofs.Common.{◌≡◌, IfSome, IsMultiple, subst, sym, arith, Block, block_end, hole_after, Layout}
+use proofs.ends.stretch_behind.Goals.{in-Some, in-None}
+use proofs.{Fitting.spare_small, Fitting.ends_inside, Behind.behind_is, ButFor.own_grained}
 use Rattle.w16_arena.proofs.ends.stretch_behind.Goals as goal
-use Rattle.w16_arena.proofs.ends.stretch_behind.Goals.{in-Some, in-None}
 
 pub overflow_add-block : goal.overflow_add-block
 overflow_add-block g c =

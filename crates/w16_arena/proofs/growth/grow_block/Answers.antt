@@ -1,12 +1,7 @@
-use Rattle.w16_arena.proofs.Written.{counted_none}
-use Rattle.w16_arena.proofs.Common.{false≢true, ◌≡◌, ◌+◌, inr, IfSome, refl, sym, ◌∙◌, subst, arith, inl, Block, block_end, hole_after, is_any, IsClear}
-use Rattle.w16_arena.proofs.ButFor.{free_but, own_below}
-use Rattle.w16_arena.proofs.Fitting.{fits_more}
-use Rattle.w16_arena.proofs.Grown.{grown_there}
-use Rattle.w16_arena.proofs.Replaced.{but_same}
-use Rattle.w16_arena.proofs.Keeping.{leaves_same}
-use Rattle.w16_arena.proofs.Rooms.{hole_free}
-use Rattle.w16_arena.proofs.Ways.{way_here, enough_here, enough_hole, none_still, slid_enough, clear_bytes}
+use Rattle.w16_arena.proofs
+use proofs.Ways as M
+use proofs.Common.{false≢true, ◌≡◌, ◌+◌, inr, IfSome, refl, sym, ◌∙◌, subst, arith, inl, Block, block_end, hole_after, is_any, IsClear}
+use proofs.{Written.counted_none, ButFor.free_but, ButFor.own_below, Fitting.fits_more, Grown.grown_there, Replaced.but_same, Keeping.leaves_same, Rooms.hole_free}
 use Rattle.w16_arena.proofs.growth.grow_block.Goals as goal
 
 pub free_after-requires-clause-id : goal.free_after-requires-clause-id
@@ -27,14 +22,14 @@ returns-then-size-block-clause-grown g c =
     let l = c.args.blocks.now in let e = c.resize.ensures in let memory = g.S.Space.bytes c.args.space.now in
     let behind = subst (λ o. IfSome o (λ (b : Block). c.free_after.result ≡ hole_after l.hi l.blocks (block_end b))) c.requires.known c.free_after.ensures.value in
     grown_there c.args.size c.args.block l l c.resize.new.blocks memory memory (g.S.Space.bytes c.resize.new.space) _
-    (way_here c.bounds.ensures.ordered c.args.block c.requires.known c.args.size c.requires.more c.free_after.result behind c.if-size-block.true memory)
+    (M.way_here c.bounds.ensures.ordered c.args.block c.requires.known c.args.size c.requires.more c.free_after.result behind c.if-size-block.true memory)
     c.requires.more e.value e.ordered e.own e.bytes.contents e.bytes.rest.bytes.long e.small
 
 pub returns-then-size-block-clause-enough : goal.returns-then-size-block-clause-enough
 returns-then-size-block-clause-enough g c =
     let l = c.args.blocks.now in
     let behind = subst (λ o. IfSome o (λ (b : Block). c.free_after.result ≡ hole_after l.hi l.blocks (block_end b))) c.requires.known c.free_after.ensures.value in
-    enough_here c.bounds.ensures.ordered c.args.block c.requires.known c.args.size c.requires.more c.free_after.result behind c.if-size-block.true c.args.compact
+    M.enough_here c.bounds.ensures.ordered c.args.block c.requires.known c.args.size c.requires.more c.free_after.result behind c.if-size-block.true c.args.compact
 
 -- in a hole
 pub move_to_hole-requires-clause-free : goal.move_to_hole-requires-clause-free
@@ -43,25 +38,25 @@ move_to_hole-requires-clause-free g c = hole_free c.bounds.ensures.ordered c.arg
 pub returns-in-Some-clause-enough : goal.returns-in-Some-clause-enough
 returns-in-Some-clause-enough g c =
     let found = sym c.in-Some.is ∙ c.hole_for.ensures.value in
-    enough_hole c.bounds.ensures.ordered c.args.block c.requires.known c.args.size c.in-Some.at found
+    M.enough_hole c.bounds.ensures.ordered c.args.block c.requires.known c.args.size c.in-Some.at found
     (free_but c.args.block.id c.args.size c.in-Some.at (hole_free c.bounds.ensures.ordered c.args.size c.in-Some.at found)) c.args.compact
 
 pub returns-in-Some-clause-still : goal.returns-in-Some-clause-still
 returns-in-Some-clause-still g c = λ off.
     let l = c.args.blocks.now in
-    let clear = clear_bytes c.args.size c.in-Some.at (hole_free c.bounds.ensures.ordered c.args.size c.in-Some.at (sym c.in-Some.is ∙ c.hole_for.ensures.value)) in
+    let clear = M.clear_bytes c.args.size c.in-Some.at (hole_free c.bounds.ensures.ordered c.args.size c.in-Some.at (sym c.in-Some.is ∙ c.hole_for.ensures.value)) in
     (c.move_to_hole.ensures.still, inr (subst (λ a. IsClear is_any l.lo l.hi l.blocks a (a + c.args.size)) (sym c.move_to_hole.ensures.at) clear))
 
 -- in a gap
 pub returns-then-compact-clause-enough : goal.returns-then-compact-clause-enough
-returns-then-compact-clause-enough g c = slid_enough c.bounds.ensures.ordered c.args.block c.requires.known c.args.size _ _ _ c.slide_for.result c.slide_for.ensures.grown c.args.compact c.if-compact.true
+returns-then-compact-clause-enough g c = M.slid_enough c.bounds.ensures.ordered c.args.block c.requires.known c.args.size _ _ _ c.slide_for.result c.slide_for.ensures.grown c.args.compact c.if-compact.true
 
 -- nowhere
 pub returns-else-compact-clause-refused : goal.returns-else-compact-clause-refused
 returns-else-compact-clause-refused g c =
     let l = c.args.blocks.now in let more = c.requires.more in
     let behind = subst (λ o. IfSome o (λ (b : Block). c.free_after.result ≡ hole_after l.hi l.blocks (block_end b))) c.requires.known c.free_after.ensures.value in (
-      none_still c.bounds.ensures.ordered c.args.block c.requires.known c.args.size (omega arith) c.free_after.result behind c.if-size-block.false (sym c.in_default.is ∙ c.hole_for.ensures.value) c.args.compact c.if-compact.false,
+      M.none_still c.bounds.ensures.ordered c.args.block c.requires.known c.args.size (omega arith) c.free_after.result behind c.if-size-block.false (sym c.in_default.is ∙ c.hole_for.ensures.value) c.args.compact c.if-compact.false,
       refl,
       refl,
     )

@@ -1,8 +1,4 @@
-use Rattle.w16_arena.proofs.Common.{arith}
-use Rattle.w16_arena.proofs.ButFor.{free_but}
-use Rattle.w16_arena.proofs.Fitting.{fits_free}
-use Rattle.w16_arena.proofs.Grown.{own_apart, elsewhere}
-use Rattle.w16_arena.proofs.Kept.{others_kept, outside_kept}
+use Rattle.w16_arena.proofs.{Common.arith, ButFor.free_but, Fitting.fits_free, Grown.own_apart, Grown.elsewhere, Kept.others_kept, Kept.outside_kept}
 use Rattle.w16_arena.proofs.growth.move_to.Goals as goal
 
 pub move_grown-requires-clause-fits : goal.move_grown-requires-clause-fits

@@ -1,9 +1,8 @@
-use Rattle.w16_arena.proofs.Written.{counted_both}
-use Rattle.w16_arena.proofs.Common.{counted, ◌+◌, ◌==◌, arith, ℕ, sym, ap, ◌∙◌, subst, ne_eqb, Layout, IsMultiple, sum_fits, may_beside, moved_most}
+use Rattle.w16_arena.proofs
+use proofs.Common.{counted, ◌+◌, ◌==◌, arith, ℕ, sym, ap, ◌∙◌, subst, ne_eqb, Layout, IsMultiple, sum_fits, may_beside, moved_most}
+use proofs.OtherGap.{all_moved, all_free, known_mid, bytes_mid, others_moved}
+use proofs.{Written.counted_both, ButFor.moved_but_for, ButFor.free_but, Grown.has_grown}
 use Rattle.std.proofs.lemmas.Bool.{cond-false}
-use Rattle.w16_arena.proofs.ButFor.{moved_but_for, free_but}
-use Rattle.w16_arena.proofs.Grown.{has_grown}
-use Rattle.w16_arena.proofs.OtherGap.{all_moved, all_free, known_mid, bytes_mid, others_moved}
 use Rattle.w16_arena.proofs.growth.move_to_gap.Goals as goal
 
 pub packed_to-from-requires-clause-gap : goal.packed_to-from-requires-clause-gap

@@ -1,9 +1,6 @@
 use Rattle.w16_arena.proofs.Common.{◌==◌, arith, ne_eqb, Some, all_but, moved_same, ordered_without, but_for}
+use Rattle.w16_arena.proofs.{Arranged.same_moved, ButFor.free_but, Grown.has_grown, Replaced.but_same}
 use Rattle.std.proofs.lemmas.Bool.{cond-false}
-use Rattle.w16_arena.proofs.Arranged.{same_moved}
-use Rattle.w16_arena.proofs.ButFor.{free_but}
-use Rattle.w16_arena.proofs.Grown.{has_grown}
-use Rattle.w16_arena.proofs.Replaced.{but_same}
 use Rattle.w16_arena.proofs.growth.move_to_hole.Goals as goal
 
 pub returns-clause-grown : goal.returns-clause-grown

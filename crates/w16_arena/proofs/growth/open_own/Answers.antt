@@ -1,10 +1,9 @@
-use Rattle.w16_arena.proofs.Common.{◌≡◌, ℕ, ◌+◌, ◌<◌, ◌≤◌, Option, Some, IfSome, refl, ap, ◌∙◌, subst, sym, arith, Block, part, block_end, loose_bytes, IsMultiple, block_with, Layout, FitsFor, all_but, replaced, contents, with_loose, opened, end_in, spare_in, Placed, HasGrown, LeavesFree}
-use Rattle.w16_arena.proofs.ButFor.{own_below}
-use Rattle.w16_arena.proofs.Fitting.{fits_free}
-use Rattle.w16_arena.proofs.Grown.{HasWay, grown_there}
-use Rattle.w16_arena.proofs.Opening.{may_open_held, own_within_held, own_way_held}
+use Rattle.w16_arena.proofs
+use proofs.Common as C
+use proofs.Common.{◌≡◌, ℕ, ◌+◌, ◌<◌, ◌≤◌, Some, IfSome, refl, ap, ◌∙◌, subst, sym, arith, Block, part, loose_bytes, block_with, Layout, with_loose, opened}
+use proofs.Opening.{may_open_held, own_within_held, own_way_held}
+use proofs.{ButFor.own_below, Fitting.fits_free, Grown.HasWay, Grown.grown_there, growth.open_own.Goals.After-reveal_bytes}
 use Rattle.w16_arena.proofs.growth.open_own.Given as Given
-use Rattle.w16_arena.proofs.growth.open_own.Goals.{After-reveal_bytes}
 use Rattle.w16_arena.proofs.growth.open_own.Goals as goal
 
 pub open-moved-requires-clause-id : goal.open-moved-requires-clause-id
@@ -13,7 +12,7 @@ open-moved-requires-clause-id g c = own_below c.whole_grains-high.ensures.ordere
 pub open-moved-requires-clause-within : goal.open-moved-requires-clause-within
 open-moved-requires-clause-within g c =
     let high = c.whole_grains-high.ensures in
-    subst (λ o. IfSome o (λ (b : Block). (c.args.gap.low ≤ b.at) × (block_end b ≤ c.whole_grains-high.result))) (sym c.requires.known)
+    subst (λ o. IfSome o (λ (b : Block). (c.args.gap.low ≤ b.at) × (C.block_end b ≤ c.whole_grains-high.result))) (sym c.requires.known)
     (own_within_held high.ordered c.args.block c.requires.known c.requires.more c.requires.rounded c.requires.gap c.requires.own high.below high.last)
 
 pub open-moved-requires-clause-gap : goal.open-moved-requires-clause-gap
@@ -44,9 +43,9 @@ module _ (g : Given.Over) (c : After-reveal_bytes g) where
   mid = c.open-moved.new.blocks
 
   is : (opened : Block) → Some opened ≡ block_with mid.blocks c.args.block.id → opened ≡ there
-  is opened value = let found : ◌≡◌ {A = Option Block} (Some opened) (Some there) = value ∙ place in cc
+  is opened value = let found : ◌≡◌ {A = C.Option Block} (Some opened) (Some there) = value ∙ place in cc
 
-  abbrev placed : Placed
+  abbrev placed : C.Placed
   placed = record { at = there.at; slid = record { from = c.args.gap.low; to = c.whole_grains-high.result }; moved = c.open-moved.result }
 
   -- the place that is opened for it
@@ -54,8 +53,8 @@ module _ (g : Given.Over) (c : After-reveal_bytes g) where
   way =
       let high = c.whole_grains-high.ensures in let e = c.open-moved.ensures in let l = c.args.blocks.now in let low = c.args.gap.low in
       own_way_held high.ordered c.args.block c.requires.known c.requires.more c.requires.rounded c.requires.gap c.requires.own high.below high.last
-      (of_block (λ b. with_loose c.args.block.id mid ≡ record old { blocks = opened low (block_end b) c.whole_grains-high.result old.blocks }) e.blocks) e.ordered e.contents e.rest.bytes.long c.reveal_bytes.ensures place
-      (of_block (λ b. LeavesFree low c.whole_grains-high.result (end_in old.blocks low b) (end_in old.blocks low b + spare_in old.blocks low c.whole_grains-high.result) old mid) e.left).clear placed refl refl e.moved
+      (of_block (λ b. with_loose c.args.block.id mid ≡ record old { blocks = opened low (C.block_end b) c.whole_grains-high.result old.blocks }) e.blocks) e.ordered e.contents e.rest.bytes.long c.reveal_bytes.ensures place
+      (of_block (λ b. C.LeavesFree low c.whole_grains-high.result (C.end_in old.blocks low b) (C.end_in old.blocks low b + C.spare_in old.blocks low c.whole_grains-high.result) old mid) e.left).clear placed refl refl e.moved
 
 pub resize-requires-clause-id : goal.resize-requires-clause-id
 resize-requires-clause-id g c =
@@ -65,16 +64,16 @@ pub resize-requires-clause-fits : goal.resize-requires-clause-fits
 resize-requires-clause-fits g c =
     let d = (goal.at.resize-requires-clause-fits g c).After-reveal_bytes in let same = is g d c.in-Some.opened c.in-Some.ensures.value in
     let more = c.requires.more in
-    subst (λ (b : Block). FitsFor c.open-moved.new.blocks (record b { size = c.args.size })) (sym same)
-    (fits_free c.open-moved.new.blocks (there g d) (place g d) c.open-moved.ensures.ordered c.args.size (there g d).at (omega arith) (subst (λ k. IsMultiple k c.args.size) (sym (ap (λ (k : Layout). k.grain) (way g d).slid.same)) c.requires.rounded) (way g d).free)
+    subst (λ (b : Block). C.FitsFor c.open-moved.new.blocks (record b { size = c.args.size })) (sym same)
+    (fits_free c.open-moved.new.blocks (there g d) (place g d) c.open-moved.ensures.ordered c.args.size (there g d).at (omega arith) (subst (λ k. C.IsMultiple k c.args.size) (sym (ap (λ (k : Layout). k.grain) (way g d).slid.same)) c.requires.rounded) (way g d).free)
 
 pub returns-clause-grown : goal.returns-clause-grown
 returns-clause-grown g c =
     let d = (goal.at.returns-clause-grown g c).After-reveal_bytes in let same = is g d c.in-Some.opened c.in-Some.ensures.value in
     let e = c.resize.ensures in
-    subst (λ (b : Block). HasGrown c.args.size c.args.block c.args.blocks.now (g.S.Space.bytes c.args.space.now) (record (placed g d) { at = b.at }) c.resize.new.blocks (g.S.Space.bytes c.resize.new.space)) (sym same)
+    subst (λ (b : Block). C.HasGrown c.args.size c.args.block c.args.blocks.now (g.S.Space.bytes c.args.space.now) (record (placed g d) { at = b.at }) c.resize.new.blocks (g.S.Space.bytes c.resize.new.space)) (sym same)
     (grown_there c.args.size c.args.block c.args.blocks.now c.open-moved.new.blocks c.resize.new.blocks (g.S.Space.bytes c.args.space.now) (g.S.Space.bytes c.open-moved.new.space) (g.S.Space.bytes c.resize.new.space) (placed g d) (way g d) c.requires.more
-    (e.value ∙ ap (λ (b : Block). record c.open-moved.new.blocks { blocks = replaced (record b { size = c.args.size }) c.open-moved.new.blocks.blocks }) same) e.ordered
+    (e.value ∙ ap (λ (b : Block). record c.open-moved.new.blocks { blocks = C.replaced (record b { size = c.args.size }) c.open-moved.new.blocks.blocks }) same) e.ordered
     (subst (λ (b : Block). (m : ℕ) → m ≤ b.size → m ≤ c.args.size → part (g.S.Space.bytes c.resize.new.space) b.at m ≡ part (g.S.Space.bytes c.open-moved.new.space) b.at m) same e.own)
-    (subst (λ (b : Block). contents (g.S.Space.bytes c.resize.new.space) (all_but b.id c.open-moved.new.blocks.blocks) ≡ contents (g.S.Space.bytes c.open-moved.new.space) (all_but b.id c.open-moved.new.blocks.blocks)) same e.bytes.contents)
+    (subst (λ (b : Block). C.contents (g.S.Space.bytes c.resize.new.space) (C.all_but b.id c.open-moved.new.blocks.blocks) ≡ C.contents (g.S.Space.bytes c.open-moved.new.space) (C.all_but b.id c.open-moved.new.blocks.blocks)) same e.bytes.contents)
     e.bytes.rest.bytes.long e.small)

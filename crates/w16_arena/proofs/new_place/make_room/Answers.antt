@@ -1,8 +1,4 @@
-use Rattle.w16_arena.proofs.Written.{counted_none}
-use Rattle.w16_arena.proofs.Common.{rules, sym, ◌∙◌, moved_same}
-use Rattle.w16_arena.proofs.Arranged.{same_moved}
-use Rattle.w16_arena.proofs.Keeping.{leaves_same}
-use Rattle.w16_arena.proofs.Rooms.{hole_free, hole_enough, hole_missing, made_enough}
+use Rattle.w16_arena.proofs.{Written.counted_none, Common.rules, Common.sym, Common.◌∙◌, Common.moved_same, Arranged.same_moved, Keeping.leaves_same, Rooms.hole_free, Rooms.hole_enough, Rooms.hole_missing, Rooms.made_enough}
 use Rattle.w16_arena.proofs.new_place.make_room.Goals as goal
 
 pub returns-in-Some-clause-slid : goal.returns-in-Some-clause-slid

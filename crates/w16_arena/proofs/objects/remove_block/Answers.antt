@@ -1,6 +1,5 @@
 use Rattle.w16_arena.proofs.Common.{◌≡◌, false, Option, Some, None, is_some, refl, sym, ◌∙◌, Block}
-use Rattle.w16_arena.proofs.With.{without_absent}
-use Rattle.w16_arena.proofs.Keeping.{keeps_same, keeps_holes}
+use Rattle.w16_arena.proofs.{With.without_absent, Keeping.keeps_same, Keeping.keeps_holes}
 use Rattle.w16_arena.proofs.objects.remove_block.Goals as goal
 
 -- what isn't there is nothing

@@ -1,8 +1,9 @@
+use Rattle.w16_blocks.proofs
 use Rattle.std.specs.Prelude.{◌%◌}
-use Rattle.w16_blocks.proofs.Common.{false≢true, ◌≡◌, ◌≢◌, ◌∙◌, ap, arith, sym, subst, Some, MatchOption, List, ℕ, AllByRecursion, Block, Span, Layout, block_with, blocks_in}
-use Rattle.w16_blocks.proofs.Tagged.{none_off}
+use proofs.Common.{false≢true, ◌≡◌, ◌≢◌, ◌∙◌, ap, arith, sym, subst, Some, MatchOption, List, ℕ, AllByRecursion, Block, Span, Layout, block_with, blocks_in}
+use proofs.Tagged.{none_off}
+use proofs.Blocks.beginning_at.Goals.{then-place-bounds-via-then-place-bounds, then-place-bounds-via-else-place-bounds+then-place-bounds-2, then-place-bounds-via-else-place-bounds+else-place-bounds-2+then-not-is_grained}
 use Rattle.w16_blocks.proofs.Blocks.beginning_at.Goals as goal
-use Rattle.w16_blocks.proofs.Blocks.beginning_at.Goals.{then-place-bounds-via-then-place-bounds, then-place-bounds-via-else-place-bounds+then-place-bounds-2, then-place-bounds-via-else-place-bounds+else-place-bounds-2+then-not-is_grained}
 
 pub returns-then-place-bounds-clause-value : goal.returns-then-place-bounds-clause-value
 returns-then-place-bounds-clause-value g c =

@@ -1,22 +1,22 @@
+use Rattle.w16_blocks.proofs.Keeping as M
 use Rattle.w16_blocks.proofs.Common.{List, subst, Span, AreSameOutside, holes_of, ap, ◌∙◌}
-use Rattle.w16_blocks.proofs.Keeping.{part_taken, free_taken, counts_more, layout_sized, BlocksInvariant-more}
 use Rattle.w16_blocks.proofs.Blocks.grow.Goals as goal
 
 pub take-requires-clause-part : goal.take-requires-clause-part
-take-requires-clause-part g c = part_taken c.self.invariant.0 c.self.inside.slots.ok.0 c.self.view_is c.args.block c.requires.known c.requires.fits c.requires.more
+take-requires-clause-part g c = M.part_taken c.self.invariant.0 c.self.inside.slots.ok.0 c.self.view_is c.args.block c.requires.known c.requires.fits c.requires.more
 
 pub take-requires-clause-free : goal.take-requires-clause-free
-take-requires-clause-free g c = free_taken c.self.invariant.0 c.self.inside.slots.ok.0 c.self.view_is c.args.block c.requires.known c.requires.fits c.requires.more
+take-requires-clause-free g c = M.free_taken c.self.invariant.0 c.self.inside.slots.ok.0 c.self.view_is c.args.block c.requires.known c.requires.fits c.requires.more
 
 pub overflow_sub-self : goal.overflow_sub-self
-overflow_sub-self g c = counts_more c.self.invariant.0 c.self.inside.slots.ok.0 c.self.view_is c.args.block c.requires.known c.requires.fits c.requires.more
+overflow_sub-self g c = M.counts_more c.self.invariant.0 c.self.inside.slots.ok.0 c.self.view_is c.args.block c.requires.known c.requires.fits c.requires.more
 
 pub invariant_of-self : goal.invariant_of-self
 invariant_of-self g c =
-    (BlocksInvariant-more c.self.invariant.0 c.self.inside.slots.ok.0 c.self.view_is c.args.block c.requires.known c.requires.fits c.requires.more c.take.ensures.range c.take.ensures.holes, c.self.invariant.1)
+    (M.BlocksInvariant-more c.self.invariant.0 c.self.inside.slots.ok.0 c.self.view_is c.args.block c.requires.known c.requires.fits c.requires.more c.take.ensures.range c.take.ensures.holes, c.self.invariant.1)
 
 pub returns-clause-value : goal.returns-clause-value
-returns-clause-value g c = layout_sized c.self.invariant.0 c.self.inside.slots.ok.0 c.self.view_is c.args.block c.requires.known c.requires.fits
+returns-clause-value g c = M.layout_sized c.self.invariant.0 c.self.inside.slots.ok.0 c.self.view_is c.args.block c.requires.known c.requires.fits
 
 pub returns-clause-ordered : goal.returns-clause-ordered
 returns-clause-ordered g c = (invariant_of-self g c).0.tables.ordered

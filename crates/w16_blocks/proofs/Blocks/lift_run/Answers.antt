@@ -1,31 +1,32 @@
-use Rattle.w16_blocks.proofs.Common.{counted, ℕ, List, map, ◌≡◌, ◌∙◌, ◌-◌, ap, arith, subst, with_items, Block, Span, Layout, holes_of, blocks_in, AreTables, layout_in, slid_with, AreSameBut}
-use Rattle.w16_blocks.proofs.RunHoles.{way_up}
-use Rattle.w16_blocks.proofs.RunKept.{part_entered, free_entered, part_left, used_left, same_free, BlocksInvariant-run, come_too, others_same, tables_back, blocks_back}
-use Rattle.w16_blocks.proofs.Outside.{part_inside}
+use Rattle.w16_blocks.proofs
+use proofs.Common as C
+use proofs.RunKept as M
+use proofs.Common.{ℕ, List, map, ◌≡◌, ◌∙◌, ◌-◌, ap, arith, subst, Block, Span, slid_with}
+use proofs.{RunHoles.way_up, Outside.part_inside}
 use Rattle.w16_blocks.proofs.Blocks.lift_run.Given as Given
 use Rattle.w16_blocks.proofs.Blocks.lift_run.Goals as goal
 
 pub take-requires-clause-part : goal.take-requires-clause-part
-take-requires-clause-part g c = part_entered c.self.invariant.0 c.self.view_is c.requires.run c.requires.some (way_up c.args.self.now c.args.run c.requires.run c.requires.some c.args.to c.min-apart.result c.requires.up.0 c.requires.up.1 c.requires.bare c.requires.grained c.min-apart.ensures)
+take-requires-clause-part g c = M.part_entered c.self.invariant.0 c.self.view_is c.requires.run c.requires.some (way_up c.args.self.now c.args.run c.requires.run c.requires.some c.args.to c.min-apart.result c.requires.up.0 c.requires.up.1 c.requires.bare c.requires.grained c.min-apart.ensures)
 
 pub take-requires-clause-free : goal.take-requires-clause-free
-take-requires-clause-free g c = free_entered c.self.invariant.0 c.self.view_is c.requires.run c.requires.some (way_up c.args.self.now c.args.run c.requires.run c.requires.some c.args.to c.min-apart.result c.requires.up.0 c.requires.up.1 c.requires.bare c.requires.grained c.min-apart.ensures)
+take-requires-clause-free g c = M.free_entered c.self.invariant.0 c.self.view_is c.requires.run c.requires.some (way_up c.args.self.now c.args.run c.requires.run c.requires.some c.args.to c.min-apart.result c.requires.up.0 c.requires.up.1 c.requires.bare c.requires.grained c.min-apart.ensures)
 
 pub put-requires-clause-kept : goal.put-requires-clause-kept
 put-requires-clause-kept g c =
     g.met.H.Holes.stay _ _ _ c.take.ensures.kept
-    (same_free c.self.invariant.0 c.self.view_is c.requires.run c.requires.some
+    (M.same_free c.self.invariant.0 c.self.view_is c.requires.run c.requires.some
     (way_up c.args.self.now c.args.run c.requires.run c.requires.some c.args.to c.min-apart.result c.requires.up.0
     c.requires.up.1 c.requires.bare c.requires.grained c.min-apart.ensures) c.take.ensures.range c.take.ensures.holes
     (let long = c.take.ensures.bytes.long in let inside = c.requires.memory.inside in omega arith) c.slide.ensures.bytes)
 
 pub put-requires-clause-part : goal.put-requires-clause-part
-put-requires-clause-part g c = part_left c.self.invariant.0 c.self.view_is c.requires.run c.requires.some
+put-requires-clause-part g c = M.part_left c.self.invariant.0 c.self.view_is c.requires.run c.requires.some
     (way_up c.args.self.now c.args.run c.requires.run c.requires.some c.args.to c.min-apart.result c.requires.up.0
     c.requires.up.1 c.requires.bare c.requires.grained c.min-apart.ensures) c.take.ensures.range c.take.ensures.holes
 
 pub put-requires-clause-used : goal.put-requires-clause-used
-put-requires-clause-used g c = used_left c.self.invariant.0 c.self.view_is c.requires.run c.requires.some
+put-requires-clause-used g c = M.used_left c.self.invariant.0 c.self.view_is c.requires.run c.requires.some
     (way_up c.args.self.now c.args.run c.requires.run c.requires.some c.args.to c.min-apart.result c.requires.up.0
     c.requires.up.1 c.requires.bare c.requires.grained c.min-apart.ensures) c.take.ensures.range c.take.ensures.holes
 
@@ -35,25 +36,25 @@ put-requires-clause-inside g c = part_inside (put-requires-clause-part g c) c.ta
 -- what the tables are afterwards
 module _ (g : Given.Over) (c : goal.After-self-3-1 g) where
   abbrev slots : List Block
-  slots = (with_items c.self.inside.slots c.retag_run_up.new.slots).items
+  slots = (C.with_items c.self.inside.slots c.retag_run_up.new.slots).items
 
   abbrev cells : List ℕ
-  cells = (with_items c.self.inside.begins c.retag_run_up.new.begins).items
+  cells = (C.with_items c.self.inside.begins c.retag_run_up.new.begins).items
 
-  tables : AreTables c.self.inside.slots.len c.self.inside.lo c.self.inside.hi c.self.inside.grain slots cells
-  tables = tables_back c.self.inside.slots c.self.inside.begins c.deref_mut.result.now c.retag_run_up.new.slots
+  tables : C.AreTables c.self.inside.slots.len c.self.inside.lo c.self.inside.hi c.self.inside.grain slots cells
+  tables = M.tables_back c.self.inside.slots c.self.inside.begins c.deref_mut.result.now c.retag_run_up.new.slots
       c.deref_mut-2.result.now c.retag_run_up.new.begins c.deref_mut.ensures.value c.deref_mut-2.ensures.value
       c.retag_run_up.ensures.slots c.retag_run_up.ensures.begins c.retag_run_up.ensures.tables
 
-  blocks : blocks_in slots cells ≡ map (slid_with c.args.run c.args.to) (blocks_in c.self.inside.slots.items c.self.inside.begins.items)
-  blocks = blocks_back c.self.inside.slots c.self.inside.begins c.deref_mut.result.now c.retag_run_up.new.slots
+  blocks : C.blocks_in slots cells ≡ map (slid_with c.args.run c.args.to) (C.blocks_in c.self.inside.slots.items c.self.inside.begins.items)
+  blocks = M.blocks_back c.self.inside.slots c.self.inside.begins c.deref_mut.result.now c.retag_run_up.new.slots
       c.deref_mut-2.result.now c.retag_run_up.new.begins c.deref_mut.ensures.value c.deref_mut-2.ensures.value
       c.retag_run_up.ensures.slots c.retag_run_up.ensures.begins (slid_with c.args.run c.args.to)
       c.retag_run_up.ensures.blocks
 
 pub invariant_of-self : goal.invariant_of-self
 invariant_of-self g c = (
-  BlocksInvariant-run c.self.invariant.0 c.self.view_is c.requires.run c.requires.some
+  M.BlocksInvariant-run c.self.invariant.0 c.self.view_is c.requires.run c.requires.some
       (way_up c.args.self.now c.args.run c.requires.run c.requires.some c.args.to c.min-apart.result c.requires.up.0
       c.requires.up.1 c.requires.bare c.requires.grained c.min-apart.ensures) c.take.ensures.range c.take.ensures.holes
       c.put.ensures.range c.put.ensures.holes (tables g c) (blocks g c),
@@ -62,7 +63,7 @@ invariant_of-self g c = (
 
 pub returns-clause-contents : goal.returns-clause-contents
 returns-clause-contents g c =
-    come_too c.self.invariant.0 c.self.view_is c.requires.run c.requires.some
+    M.come_too c.self.invariant.0 c.self.view_is c.requires.run c.requires.some
     (way_up c.args.self.now c.args.run c.requires.run c.requires.some c.args.to c.min-apart.result c.requires.up.0
     c.requires.up.1 c.requires.bare c.requires.grained c.min-apart.ensures) c.take.ensures.range c.take.ensures.holes
     c.put.ensures.range c.put.ensures.holes (tables g c) (blocks g c) c.requires.memory.inside c.take.ensures.bytes c.slide.ensures.bytes c.put.ensures.bytes
@@ -70,20 +71,20 @@ returns-clause-contents g c =
 pub returns-clause-value : goal.returns-clause-value
 returns-clause-value g c =
     let s = c.self.inside in
-    (λ i. record (layout_in s.slots.len s.lo s.hi s.grain s.slots.items s.begins.items) { blocks = blocks g c i }) ∙ ap (λ (l : Layout). record l { blocks = map (slid_with c.args.run c.args.to) l.blocks }) c.self.view_is
+    (λ i. record (C.layout_in s.slots.len s.lo s.hi s.grain s.slots.items s.begins.items) { blocks = blocks g c i }) ∙ ap (λ (l : C.Layout). record l { blocks = map (slid_with c.args.run c.args.to) l.blocks }) c.self.view_is
 
 pub returns-clause-ordered : goal.returns-clause-ordered
 returns-clause-ordered g c = (invariant_of-self g c).0.tables.ordered
 
 pub returns-clause-written : goal.returns-clause-written
-returns-clause-written g c = c.put.ensures.written ∙ c.slide.ensures.written ∙ ap (λ (w : ℕ). counted w (c.args.run.to - c.args.run.from)) c.take.ensures.written
+returns-clause-written g c = c.put.ensures.written ∙ c.slide.ensures.written ∙ ap (λ (w : ℕ). C.counted w (c.args.run.to - c.args.run.from)) c.take.ensures.written
 
 pub returns-clause-rest : goal.returns-clause-rest
 returns-clause-rest g c = record {
   kept = subst (λ (hs : List Span). g.H.Holes.are_in hs (g.S.Space.bytes c.put.new.space)) (invariant_of-self g c).0.between c.put.ensures.kept;
   bytes =
-      subst (λ (hs : List Span). AreSameBut c.args.to (c.args.run.to - c.args.run.from) (holes_of c.args.self.now) hs (g.S.Space.bytes c.args.space.now) (g.S.Space.bytes c.put.new.space)) (invariant_of-self g c).0.between
-      (others_same c.self.invariant.0 c.self.view_is c.requires.run c.requires.some
+      subst (λ (hs : List Span). C.AreSameBut c.args.to (c.args.run.to - c.args.run.from) (C.holes_of c.args.self.now) hs (g.S.Space.bytes c.args.space.now) (g.S.Space.bytes c.put.new.space)) (invariant_of-self g c).0.between
+      (M.others_same c.self.invariant.0 c.self.view_is c.requires.run c.requires.some
       (way_up c.args.self.now c.args.run c.requires.run c.requires.some c.args.to c.min-apart.result c.requires.up.0
       c.requires.up.1 c.requires.bare c.requires.grained c.min-apart.ensures) c.take.ensures.range
       c.take.ensures.holes

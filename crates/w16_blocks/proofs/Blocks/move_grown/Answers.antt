@@ -1,7 +1,8 @@
-use Rattle.w16_blocks.proofs.Common.{counted, List, add-one, ap, arith, subst, ℕ, ◌∙◌, Span, holes_of, AreSameOutsideBoth}
-use Rattle.w16_blocks.proofs.Keeping.{lies_in, place_grained, unit_inside}
-use Rattle.w16_blocks.proofs.MovedKept.{part_new, free_new, counts_more, source_in, part_old, used_old, same_free, layout_grown, BlocksInvariant-grown, come_too, others_same}
-use Rattle.w16_blocks.proofs.Outside.{part_inside}
+use Rattle.w16_blocks.proofs
+use proofs.MovedKept as M
+use proofs.Common.{counted, List, add-one, ap, arith, subst, ℕ, ◌∙◌, Span, holes_of, AreSameOutsideBoth}
+use proofs.Keeping.{lies_in, place_grained, unit_inside}
+use proofs.Outside.{part_inside}
 use Rattle.w16_blocks.proofs.Blocks.move_grown.Goals as goal
 
 pub returns-clause-written : goal.returns-clause-written
@@ -14,27 +15,27 @@ pub unit_of-from_unit-requires-clause-grained : goal.unit_of-from_unit-requires-
 unit_of-from_unit-requires-clause-grained g c = place_grained c.self.invariant.0 c.self.inside.slots.ok.0 c.self.view_is c.args.block.id c.requires.known
 
 pub take-requires-clause-part : goal.take-requires-clause-part
-take-requires-clause-part g c = part_new c.self.invariant.0 c.self.inside.slots.ok.0 c.self.view_is c.args.block c.requires.known c.requires.more c.requires.fits c.requires.apart
+take-requires-clause-part g c = M.part_new c.self.invariant.0 c.self.inside.slots.ok.0 c.self.view_is c.args.block c.requires.known c.requires.more c.requires.fits c.requires.apart
 
 pub take-requires-clause-free : goal.take-requires-clause-free
-take-requires-clause-free g c = free_new c.self.invariant.0 c.self.inside.slots.ok.0 c.self.view_is c.args.block c.requires.known c.requires.more c.requires.fits c.requires.apart
+take-requires-clause-free g c = M.free_new c.self.invariant.0 c.self.inside.slots.ok.0 c.self.view_is c.args.block c.requires.known c.requires.more c.requires.fits c.requires.apart
 
 pub slide-requires-clause-source : goal.slide-requires-clause-source
-slide-requires-clause-source g c = let long = c.take.ensures.bytes.long in let inside = source_in c.self.invariant.0 c.self.inside.slots.ok.0 c.self.view_is c.args.block c.requires.known c.requires.more c.requires.fits c.requires.apart c.requires.memory.inside in omega arith
+slide-requires-clause-source g c = let long = c.take.ensures.bytes.long in let inside = M.source_in c.self.invariant.0 c.self.inside.slots.ok.0 c.self.view_is c.args.block c.requires.known c.requires.more c.requires.fits c.requires.apart c.requires.memory.inside in omega arith
 
 pub put-requires-clause-kept : goal.put-requires-clause-kept
 put-requires-clause-kept g c =
     g.met.H.Holes.stay _ _ _ c.take.ensures.kept
-    (same_free c.self.invariant.0 c.self.inside.slots.ok.0 c.self.view_is c.args.block c.requires.known c.requires.more
+    (M.same_free c.self.invariant.0 c.self.inside.slots.ok.0 c.self.view_is c.args.block c.requires.known c.requires.more
     c.requires.fits c.requires.apart c.take.ensures.range c.take.ensures.holes
     (let long = c.take.ensures.bytes.long in let inside = c.requires.memory.inside in omega arith)
     c.slide.ensures.bytes)
 
 pub put-requires-clause-part : goal.put-requires-clause-part
-put-requires-clause-part g c = part_old c.self.invariant.0 c.self.inside.slots.ok.0 c.self.view_is c.args.block c.requires.known c.requires.more c.requires.fits c.requires.apart c.take.ensures.range c.take.ensures.holes
+put-requires-clause-part g c = M.part_old c.self.invariant.0 c.self.inside.slots.ok.0 c.self.view_is c.args.block c.requires.known c.requires.more c.requires.fits c.requires.apart c.take.ensures.range c.take.ensures.holes
 
 pub put-requires-clause-used : goal.put-requires-clause-used
-put-requires-clause-used g c = used_old c.self.invariant.0 c.self.inside.slots.ok.0 c.self.view_is c.args.block c.requires.known c.requires.more c.requires.fits c.requires.apart c.take.ensures.range c.take.ensures.holes
+put-requires-clause-used g c = M.used_old c.self.invariant.0 c.self.inside.slots.ok.0 c.self.view_is c.args.block c.requires.known c.requires.more c.requires.fits c.requires.apart c.take.ensures.range c.take.ensures.holes
 
 pub put-requires-clause-inside : goal.put-requires-clause-inside
 put-requires-clause-inside g c = part_inside (put-requires-clause-part g c) c.take.ensures.range c.self.invariant.0.ranged c.self.view_is c.requires.memory.inside c.take.ensures.bytes.long c.slide.ensures.length
@@ -43,18 +44,18 @@ pub index_mut-requires : goal.index_mut-requires
 index_mut-requires g c = let lt = unit_inside c.self.invariant.0 c.self.inside.slots.ok.0 c.self.view_is c.args.block.id c.requires.known c.unit_of-from_unit.result c.unit_of-from_unit.ensures in let length_is = c.self.inside.begins.ok.0 in omega arith
 
 pub overflow_sub-self-2 : goal.overflow_sub-self-2
-overflow_sub-self-2 g c = counts_more c.self.invariant.0 c.self.inside.slots.ok.0 c.self.view_is c.args.block c.requires.known c.requires.more c.requires.fits c.requires.apart
+overflow_sub-self-2 g c = M.counts_more c.self.invariant.0 c.self.inside.slots.ok.0 c.self.view_is c.args.block c.requires.known c.requires.more c.requires.fits c.requires.apart
 
 pub invariant_of-self : goal.invariant_of-self
 invariant_of-self g c = (
-  BlocksInvariant-grown c.self.invariant.0 c.self.inside.slots.ok.0 c.self.view_is c.args.block c.requires.known c.requires.more c.requires.fits c.requires.apart
+  M.BlocksInvariant-grown c.self.invariant.0 c.self.inside.slots.ok.0 c.self.view_is c.args.block c.requires.known c.requires.more c.requires.fits c.requires.apart
       c.take.ensures.range c.take.ensures.holes c.put.ensures.range c.put.ensures.holes c.unit_of-from_unit.result c.unit_of-to_unit.result c.unit_of-from_unit.ensures c.unit_of-to_unit.ensures (add-one c.args.block.id),
   c.self.invariant.1,
 )
 
 pub returns-clause-value : goal.returns-clause-value
 returns-clause-value g c =
-    layout_grown c.self.invariant.0 c.self.inside.slots.ok.0 c.self.view_is c.args.block c.requires.known c.requires.more c.requires.fits c.requires.apart
+    M.layout_grown c.self.invariant.0 c.self.inside.slots.ok.0 c.self.view_is c.args.block c.requires.known c.requires.more c.requires.fits c.requires.apart
     c.take.ensures.range c.take.ensures.holes c.put.ensures.range c.put.ensures.holes c.unit_of-from_unit.result c.unit_of-to_unit.result c.unit_of-from_unit.ensures c.unit_of-to_unit.ensures (add-one c.args.block.id)
 
 pub returns-clause-ordered : goal.returns-clause-ordered
@@ -62,7 +63,7 @@ returns-clause-ordered g c = (invariant_of-self g c).0.tables.ordered
 
 pub returns-clause-contents : goal.returns-clause-contents
 returns-clause-contents g c =
-    come_too c.self.invariant.0 c.self.inside.slots.ok.0 c.self.view_is c.args.block c.requires.known c.requires.more c.requires.fits c.requires.apart
+    M.come_too c.self.invariant.0 c.self.inside.slots.ok.0 c.self.view_is c.args.block c.requires.known c.requires.more c.requires.fits c.requires.apart
     c.take.ensures.range c.take.ensures.holes c.put.ensures.range c.put.ensures.holes c.requires.memory.inside c.take.ensures.bytes c.slide.ensures.bytes c.put.ensures.bytes
 
 pub returns-clause-rest : goal.returns-clause-rest
@@ -70,7 +71,7 @@ returns-clause-rest g c = record {
   kept = subst (λ (hs : List Span). g.H.Holes.are_in hs (g.S.Space.bytes c.put.new.space)) (invariant_of-self g c).0.between c.put.ensures.kept;
   bytes =
       subst (λ (hs : List Span). AreSameOutsideBoth (holes_of c.args.self.now) hs (g.S.Space.bytes c.args.space.now) (g.S.Space.bytes c.put.new.space)) (invariant_of-self g c).0.between
-      (others_same c.self.invariant.0 c.self.inside.slots.ok.0 c.self.view_is c.args.block c.requires.known c.requires.more c.requires.fits c.requires.apart
+      (M.others_same c.self.invariant.0 c.self.inside.slots.ok.0 c.self.view_is c.args.block c.requires.known c.requires.more c.requires.fits c.requires.apart
       c.take.ensures.range c.take.ensures.holes c.put.ensures.range c.put.ensures.holes c.requires.memory.inside c.take.ensures.bytes c.slide.ensures.bytes c.put.ensures.bytes);
   loans = c.put.ensures.lenders ∙ c.slide.ensures.lenders ∙ c.take.ensures.lenders;
 }

@@ -1,6 +1,8 @@
-use Rattle.w16_blocks.proofs.Common.{suc, ◌≡◌, ◌+◌, ◌-◌, ◌*◌, arith, sym, subst, slice_index, get_or_read, Range, IsPlace, Layout, no_block, layout_in, IsFirstHole, IsFirstBlock, IsBehindAll}
-use Rattle.w16_blocks.proofs.Next.{unit_place, unit_inside}
-use Rattle.w16_blocks.proofs.Passed.{hole_at, hole_first, block_first, none_first, passed_first, passed_more}
+use Rattle.w16_blocks.proofs
+use proofs.Common as C
+use proofs.Passed as M
+use proofs.Common.{suc, ◌≡◌, ◌+◌, ◌-◌, ◌*◌, arith, sym, subst, get_or_read, Range, Layout}
+use proofs.Next.{unit_place, unit_inside}
 use Rattle.w16_blocks.proofs.Blocks.part_from.Goals as goal
 
 pub index-requires-then-begin-gt0 : goal.index-requires-then-begin-gt0
@@ -13,23 +15,23 @@ pub returns-then-begin-gt0-clause-block : goal.returns-then-begin-gt0-clause-blo
 returns-then-begin-gt0-clause-block g c =
     let s = c.self.inside in let some = c.if-begin-gt0.true in let lt = unit_inside c.self.invariant.0.tables c.self.view_is c.units-unit-end.result c.loop-unit.unit c.units-unit-end.ensures.value c.loop-unit-test.true in let many = s.begins.ok.0 in let few = s.slots.ok.0 in
     let cell = get_or_read s.begins.items c.loop-unit.unit c.index.result.now (omega arith) c.index.ensures 0 in
-    let tells : slice_index s.begins.items c.loop-unit.unit ≡ suc (c.index.result.now - 1) = omega arith in
+    let tells : C.slice_index s.begins.items c.loop-unit.unit ≡ suc (c.index.result.now - 1) = omega arith in
     let inside = (c.self.invariant.0.tables.begun c.loop-unit.unit (c.index.result.now - 1) tells).inside in
-    let block = get_or_read s.slots.items (c.index.result.now - 1) c.index-then-begin-gt0.result.now (omega arith) c.index-then-begin-gt0.ensures no_block in
-    subst (λ (l : Layout). IsFirstBlock l c.args.at c.index-then-begin-gt0.result.now) c.self.view_is
-    (subst (IsFirstBlock (layout_in s.slots.len s.lo s.hi s.grain s.slots.items s.begins.items) c.args.at) (sym block)
-    (block_first c.self.invariant.0.tables c.args.at c.loop-unit.unit c.loop-unit.invariant c.saturating_sub.result c.units_over-first.result c.saturating_sub.ensures c.units_over-first.ensures (omega arith) (c.index.result.now - 1) tells))
+    let block = get_or_read s.slots.items (c.index.result.now - 1) c.index-then-begin-gt0.result.now (omega arith) c.index-then-begin-gt0.ensures C.no_block in
+    subst (λ (l : Layout). C.IsFirstBlock l c.args.at c.index-then-begin-gt0.result.now) c.self.view_is
+    (subst (C.IsFirstBlock (C.layout_in s.slots.len s.lo s.hi s.grain s.slots.items s.begins.items) c.args.at) (sym block)
+    (M.block_first c.self.invariant.0.tables c.args.at c.loop-unit.unit c.loop-unit.invariant c.saturating_sub.result c.units_over-first.result c.saturating_sub.ensures c.units_over-first.ensures (omega arith) (c.index.result.now - 1) tells))
 
 pub at-hole-requires-clause-place : goal.at-hole-requires-clause-place
 at-hole-requires-clause-place g c =
     let s = c.self.inside in let lt = unit_inside c.self.invariant.0.tables c.self.view_is c.units-unit-end.result c.loop-unit.unit c.units-unit-end.ensures.value c.loop-unit-test.true in let many = s.begins.ok.0 in
-    subst (λ (r : Range). IsPlace r (s.lo + c.loop-unit.unit * s.grain)) (sym c.self.invariant.0.ranged)
+    subst (λ (r : Range). C.IsPlace r (s.lo + c.loop-unit.unit * s.grain)) (sym c.self.invariant.0.ranged)
     (unit_place c.self.invariant.0.tables c.self.view_is c.units-unit-end.result c.loop-unit.unit c.units-unit-end.ensures.value c.loop-unit-test.true)
 
 pub overflow_add-result : goal.overflow_add-result
 overflow_add-result g c =
     let s = c.self.inside in let place = s.lo + c.loop-unit.unit * s.grain in
-    let end = (hole_at c.self.invariant.0.tables place c.at-hole.result c.self.invariant.0.between c.at-hole.ensures c.if-hole-gt0.true).clear.below in
+    let end = (M.hole_at c.self.invariant.0.tables place c.at-hole.result c.self.invariant.0.between c.at-hole.ensures c.if-hole-gt0.true).clear.below in
     let small = c.self.invariant.0.tables.ordered.small in record { fits = omega arith }
 
 pub returns-then-hole-gt0-clause-hole : goal.returns-then-hole-gt0-clause-hole
@@ -37,21 +39,21 @@ returns-then-hole-gt0-clause-hole g c =
     let s = c.self.inside in let lt = unit_inside c.self.invariant.0.tables c.self.view_is c.units-unit-end.result c.loop-unit.unit c.units-unit-end.ensures.value c.loop-unit-test.true in let many = s.begins.ok.0 in let zero_is = c.if-begin-gt0.false in
     let cell = get_or_read s.begins.items c.loop-unit.unit c.index.result.now (omega arith) c.index.ensures 0 in
     let place = s.lo + c.loop-unit.unit * s.grain in
-    subst (λ (l : Layout). IsFirstHole l c.args.at (record { from = place; to = place + c.at-hole.result })) c.self.view_is
-    (hole_first c.self.invariant.0.tables c.args.at c.loop-unit.unit c.loop-unit.invariant c.saturating_sub.result c.units_over-first.result c.saturating_sub.ensures c.units_over-first.ensures (omega arith)
+    subst (λ (l : Layout). C.IsFirstHole l c.args.at (record { from = place; to = place + c.at-hole.result })) c.self.view_is
+    (M.hole_first c.self.invariant.0.tables c.args.at c.loop-unit.unit c.loop-unit.invariant c.saturating_sub.result c.units_over-first.result c.saturating_sub.ensures c.units_over-first.ensures (omega arith)
     place c.at-hole.result (omega arith) (omega arith) c.self.invariant.0.between c.at-hole.ensures c.if-hole-gt0.true)
 
 pub returns-clause-none : goal.returns-clause-none
 returns-clause-none g c =
     let past = c.loop-unit-test.false in let many = c.self.inside.begins.ok.0 in
-    subst (λ (l : Layout). IsBehindAll l c.args.at) c.self.view_is
-    (none_first c.self.invariant.0.tables c.args.at c.loop-unit.unit c.loop-unit.invariant c.saturating_sub.result c.units_over-first.result c.saturating_sub.ensures c.units_over-first.ensures (omega arith) c.self.view_is c.units-unit-end.result c.units-unit-end.ensures.value past)
+    subst (λ (l : Layout). C.IsBehindAll l c.args.at) c.self.view_is
+    (M.none_first c.self.invariant.0.tables c.args.at c.loop-unit.unit c.loop-unit.invariant c.saturating_sub.result c.units_over-first.result c.saturating_sub.ensures c.units_over-first.ensures (omega arith) c.self.view_is c.units-unit-end.result c.units-unit-end.ensures.value past)
 
 pub loop-unit-init : goal.loop-unit-init
-loop-unit-init g c = passed_first c.self.invariant.0.tables c.args.at c.saturating_sub.result c.units_over-first.result c.saturating_sub.ensures c.units_over-first.ensures
+loop-unit-init g c = M.passed_first c.self.invariant.0.tables c.args.at c.saturating_sub.result c.units_over-first.result c.saturating_sub.ensures c.units_over-first.ensures
 
 pub loop-unit-preserved : goal.loop-unit-preserved
 loop-unit-preserved g c =
     let s = c.self.inside in let lt = unit_inside c.self.invariant.0.tables c.self.view_is c.units-unit-end.result c.loop-unit.unit c.units-unit-end.ensures.value c.loop-unit-test.true in let many = s.begins.ok.0 in let zero_is = c.if-begin-gt0.false in let none = c.if-hole-gt0.false in
     let cell = get_or_read s.begins.items c.loop-unit.unit c.index.result.now (omega arith) c.index.ensures 0 in
-    passed_more c.self.invariant.0.tables c.args.at c.loop-unit.unit c.loop-unit.invariant (s.lo + c.loop-unit.unit * s.grain) c.at-hole.result (omega arith) (omega arith) c.self.invariant.0.between c.at-hole.ensures (omega arith)
+    M.passed_more c.self.invariant.0.tables c.args.at c.loop-unit.unit c.loop-unit.invariant (s.lo + c.loop-unit.unit * s.grain) c.at-hole.result (omega arith) (omega arith) c.self.invariant.0.between c.at-hole.ensures (omega arith)

@@ -1,6 +1,7 @@
-use Rattle.w16_blocks.proofs.Common.{◌+◌, arith, refl, sym}
-use Rattle.w16_blocks.proofs.Keeping.{lies_in, place_grained, unit_inside}
-use Rattle.w16_blocks.proofs.Renamed.{same_layout, layout_renamed, BlocksInvariant-renamed}
+use Rattle.w16_blocks.proofs
+use proofs.Common.{◌+◌, arith, refl, sym}
+use proofs.Keeping.{lies_in, place_grained, unit_inside}
+use proofs.Renamed.{same_layout, layout_renamed, BlocksInvariant-renamed}
 use Rattle.w16_blocks.proofs.Blocks.rename.Goals as goal
 
 pub returns-in_default-clause-value : goal.returns-in_default-clause-value

@@ -1,7 +1,5 @@
 use Rattle.w16_blocks.proofs.Common.{◌≡◌, ◌+◌, ◌≤◌, ◌⊎◌, arith, inl, inr, block_end}
-use Rattle.w16_blocks.proofs.Rising.{run_before, none_ends, none_ends_low}
-use Rattle.w16_blocks.proofs.Remove.{each_with}
-use Rattle.w16_blocks.proofs.Step.{lies}
+use Rattle.w16_blocks.proofs.{Rising.run_before, Rising.none_ends, Rising.none_ends_low, Remove.each_with, Step.lies}
 use Rattle.w16_blocks.proofs.Blocks.run_begin.Goals as goal
 
 pub returns-in_default-clause-first : goal.returns-in_default-clause-first

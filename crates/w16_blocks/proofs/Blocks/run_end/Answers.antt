@@ -1,7 +1,5 @@
 use Rattle.std.proofs.Common.{arith, ◌≢◌, inl, inr}
-use Rattle.w16_blocks.proofs.Tagged.{known_by, all_by}
-use Rattle.w16_blocks.proofs.Sliding.{run_more, ends_below}
-use Rattle.w16_blocks.proofs.Step.{lies}
+use Rattle.w16_blocks.proofs.{Tagged.known_by, Tagged.all_by, Sliding.run_more, Sliding.ends_below, Step.lies}
 use Rattle.w16_blocks.proofs.Blocks.run_end.Goals as goal
 
 pub returns-clause-last : goal.returns-clause-last

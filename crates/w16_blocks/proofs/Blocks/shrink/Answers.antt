@@ -1,30 +1,30 @@
+use Rattle.w16_blocks.proofs.Keeping as M
 use Rattle.w16_blocks.proofs.Common.{List, ap, arith, subst, Span, AreSameOutside, Layout, Leaves}
-use Rattle.w16_blocks.proofs.Keeping.{lies_in, part_put, used_put, with_size, layout_sized, BlocksInvariant-less}
 use Rattle.w16_blocks.proofs.Blocks.shrink.Goals as goal
 
 pub put-requires-clause-part : goal.put-requires-clause-part
-put-requires-clause-part g c = part_put c.self.invariant.0 c.self.inside.slots.ok.0 c.self.view_is c.args.block c.requires.known c.requires.fits c.requires.less
+put-requires-clause-part g c = M.part_put c.self.invariant.0 c.self.inside.slots.ok.0 c.self.view_is c.args.block c.requires.known c.requires.fits c.requires.less
 
 pub put-requires-clause-used : goal.put-requires-clause-used
-put-requires-clause-used g c = used_put c.self.invariant.0 c.self.inside.slots.ok.0 c.self.view_is c.args.block c.requires.known c.requires.fits c.requires.less
+put-requires-clause-used g c = M.used_put c.self.invariant.0 c.self.inside.slots.ok.0 c.self.view_is c.args.block c.requires.known c.requires.fits c.requires.less
 
 pub put-requires-clause-inside : goal.put-requires-clause-inside
 put-requires-clause-inside g c =
-    let end = (lies_in c.self.invariant.0 c.self.inside.slots.ok.0 c.self.view_is c.args.block.id c.requires.known).2 in
+    let end = (M.lies_in c.self.invariant.0 c.self.inside.slots.ok.0 c.self.view_is c.args.block.id c.requires.known).2 in
     let top = ap (λ (l : Layout). l.hi) c.self.view_is in
     let less = c.requires.less in
     let inside = c.requires.memory.inside in omega arith
 
 pub overflow_add-self : goal.overflow_add-self
 overflow_add-self g c =
-    let le = with_size c.self.invariant.0 c.self.inside.slots.ok.0 c.self.view_is c.args.block.id c.requires.known in let small = c.self.invariant.0.tables.ordered.small in record { fits = omega arith }
+    let le = M.with_size c.self.invariant.0 c.self.inside.slots.ok.0 c.self.view_is c.args.block.id c.requires.known in let small = c.self.invariant.0.tables.ordered.small in record { fits = omega arith }
 
 pub invariant_of-self : goal.invariant_of-self
 invariant_of-self g c =
-    (BlocksInvariant-less c.self.invariant.0 c.self.inside.slots.ok.0 c.self.view_is c.args.block c.requires.known c.requires.fits c.requires.less c.put.ensures.range c.put.ensures.holes, c.self.invariant.1)
+    (M.BlocksInvariant-less c.self.invariant.0 c.self.inside.slots.ok.0 c.self.view_is c.args.block c.requires.known c.requires.fits c.requires.less c.put.ensures.range c.put.ensures.holes, c.self.invariant.1)
 
 pub returns-clause-value : goal.returns-clause-value
-returns-clause-value g c = layout_sized c.self.invariant.0 c.self.inside.slots.ok.0 c.self.view_is c.args.block c.requires.known c.requires.fits
+returns-clause-value g c = M.layout_sized c.self.invariant.0 c.self.inside.slots.ok.0 c.self.view_is c.args.block c.requires.known c.requires.fits
 
 pub returns-clause-ordered : goal.returns-clause-ordered
 returns-clause-ordered g c = (invariant_of-self g c).0.tables.ordered

@@ -1,16 +1,16 @@
-use Rattle.w16_blocks.proofs.Common.{ℕ, List, length, map, min, refl, ◌≡◌, ◌≢◌, ◌∙◌, ◌+◌, ◌-◌, ◌<◌, ◌≤◌, ap, arith, sym, subst, with_items, AllByRecursion, Block, Span, IsMultiple}
-use Rattle.w16_blocks.proofs.Common.{IsFree, IsOrdered, IsPart, Range, Layout, range_of, holes_of, blocks_in, AreTables, layout_in, IsBare, IsRun, joined, taken, slid_with, AreSameBut}
+use Rattle.w16_blocks.proofs
+use proofs.Common as C
+use proofs.Common.{ℕ, List, map, min, refl, ◌≡◌, ◌≢◌, ◌∙◌, ◌+◌, ◌-◌, ◌<◌, ◌≤◌, ap, arith, sym, subst, Block, Span, Range, Layout, holes_of, IsRun, taken, slid_with}
+use proofs.RunHoles.{IsWay, way_down, bare_free, run_part}
+use proofs.RunKept.{used_run, BlocksInvariant-run, tables_back, blocks_back, lent_layout}
+use proofs.{Unslid.has_bytes, Blocks.slide_run.Goals.After-retag_run-end}
 use Rattle.w16_blocks.specs.Runs.{EndsAt}
-use Rattle.w16_blocks.proofs.RunHoles.{IsWay, way_down, bare_free, run_part}
-use Rattle.w16_blocks.proofs.RunKept.{used_run, BlocksInvariant-run, tables_back, blocks_back, lent_layout}
-use Rattle.w16_blocks.proofs.Unslid.{has_bytes}
 use Rattle.w16_blocks.proofs.Blocks.slide_run.Given as Given
-use Rattle.w16_blocks.proofs.Blocks.slide_run.Goals.{After-retag_run-end}
 use Rattle.w16_blocks.proofs.Blocks.slide_run.Goals as goal
 
 -- the run that the tables told, and its way down
-found : {m l : Layout} → m ≡ l → {from end high to : ℕ} → IsRun m (record { from = from; to = end }) → EndsAt m high end → (l.lo ≤ to) × (to < from) × (from < high) × (high ≤ l.hi) → IsMultiple l.grain to → (AllByRecursion (λ b. b.at ≢ from) l.blocks → ⊥)
-    → IsBare to from l.blocks → IsRun l (record { from = from; to = end }) × (from < end) × IsWay l (record { from = from; to = end }) to to (end - min (end - from) (from - to)) (min (end - from) (from - to))
+found : {m l : Layout} → m ≡ l → {from end high to : ℕ} → IsRun m (record { from = from; to = end }) → EndsAt m high end → (l.lo ≤ to) × (to < from) × (from < high) × (high ≤ l.hi) → C.IsMultiple l.grain to → (C.AllByRecursion (λ b. b.at ≢ from) l.blocks → ⊥)
+    → C.IsBare to from l.blocks → IsRun l (record { from = from; to = end }) × (from < end) × IsWay l (record { from = from; to = end }) to to (end - min (end - from) (from - to)) (min (end - from) (from - to))
 found {m} {l} same {from} {end} {high} {to} told last part grained begins bare =
     let run : Span = record { from = from; to = end } in
     let is = subst (λ (k : Layout). IsRun k run) same told in
@@ -21,7 +21,7 @@ module _ (g : Given.Over) (c : After-retag_run-end g) where
   abbrev run : Span
   run = record { from = c.args.within.from; to = c.retag_run-end.result }
 
-  same : layout_in (length c.deref_mut.result.now) c.self.inside.lo c.self.inside.hi c.self.inside.grain c.deref_mut.result.now c.deref_mut-2.result.now ≡ c.args.self.now
+  same : C.layout_in (C.length c.deref_mut.result.now) c.self.inside.lo c.self.inside.hi c.self.inside.grain c.deref_mut.result.now c.deref_mut-2.result.now ≡ c.args.self.now
   same = lent_layout c.self.inside.slots c.self.inside.begins c.self.view_is c.deref_mut.ensures.value c.deref_mut-2.ensures.value
 
   abbrev apart : ℕ
@@ -32,17 +32,17 @@ module _ (g : Given.Over) (c : After-retag_run-end g) where
 
   -- what the tables are afterwards
   abbrev slots : List Block
-  slots = (with_items c.self.inside.slots c.retag_run-end.new.slots).items
+  slots = (C.with_items c.self.inside.slots c.retag_run-end.new.slots).items
 
   abbrev cells : List ℕ
-  cells = (with_items c.self.inside.begins c.retag_run-end.new.begins).items
+  cells = (C.with_items c.self.inside.begins c.retag_run-end.new.begins).items
 
-  tables : AreTables c.self.inside.slots.len c.self.inside.lo c.self.inside.hi c.self.inside.grain slots cells
+  tables : C.AreTables c.self.inside.slots.len c.self.inside.lo c.self.inside.hi c.self.inside.grain slots cells
   tables = tables_back c.self.inside.slots c.self.inside.begins c.deref_mut.result.now c.retag_run-end.new.slots
       c.deref_mut-2.result.now c.retag_run-end.new.begins c.deref_mut.ensures.value c.deref_mut-2.ensures.value
       c.retag_run-end.ensures.slots c.retag_run-end.ensures.begins c.retag_run-end.ensures.tables
 
-  blocks : blocks_in slots cells ≡ map (slid_with run c.args.to) (blocks_in c.self.inside.slots.items c.self.inside.begins.items)
+  blocks : C.blocks_in slots cells ≡ map (slid_with run c.args.to) (C.blocks_in c.self.inside.slots.items c.self.inside.begins.items)
   blocks = blocks_back c.self.inside.slots c.self.inside.begins c.deref_mut.result.now c.retag_run-end.new.slots
       c.deref_mut-2.result.now c.retag_run-end.new.begins c.deref_mut.ensures.value c.deref_mut-2.ensures.value
       c.retag_run-end.ensures.slots c.retag_run-end.ensures.begins (slid_with run c.args.to)
@@ -51,17 +51,17 @@ module _ (g : Given.Over) (c : After-retag_run-end g) where
 pub slide_down-requires-clause-new : goal.slide_down-requires-clause-new
 slide_down-requires-clause-new g c =
     let w = way g (goal.at.slide_down-requires-clause-new g c).After-retag_run-end in let r = c.requires in
-    subst (λ (r : Range). IsPart r c.args.to (c.retag_run-end.result - c.args.within.from)) (sym (c.self.invariant.0.ranged ∙ ap range_of c.self.view_is)) (run_part c.args.self.now _ w.0 w.1 c.args.to r.part.0 w.2.high r.grained.1)
+    subst (λ (r : Range). C.IsPart r c.args.to (c.retag_run-end.result - c.args.within.from)) (sym (c.self.invariant.0.ranged ∙ ap C.range_of c.self.view_is)) (run_part c.args.self.now _ w.0 w.1 c.args.to r.part.0 w.2.high r.grained.1)
 
 pub slide_down-requires-clause-old : goal.slide_down-requires-clause-old
 slide_down-requires-clause-old g c =
     let w = way g (goal.at.slide_down-requires-clause-old g c).After-retag_run-end in let low = w.0.inside.0 in let top = w.0.inside.2 in
-    subst (λ (r : Range). IsPart r c.args.within.from (c.retag_run-end.result - c.args.within.from)) (sym (c.self.invariant.0.ranged ∙ ap range_of c.self.view_is)) (run_part c.args.self.now _ w.0 w.1 c.args.within.from low (omega arith) w.0.grained.0)
+    subst (λ (r : Range). C.IsPart r c.args.within.from (c.retag_run-end.result - c.args.within.from)) (sym (c.self.invariant.0.ranged ∙ ap C.range_of c.self.view_is)) (run_part c.args.self.now _ w.0 w.1 c.args.within.from low (omega arith) w.0.grained.0)
 
 pub slide_down-requires-clause-free : goal.slide_down-requires-clause-free
 slide_down-requires-clause-free g c =
     let r = c.requires in let one = r.part.0 in let three = r.part.2 in let four = r.part.3 in let ordered = c.self.invariant.0.tables.ordered in
-    subst (IsFree c.args.to c.args.within.from) (sym (c.self.invariant.0.between ∙ ap holes_of c.self.view_is)) (bare_free c.args.self.now (subst IsOrdered c.self.view_is ordered) c.args.to c.args.within.from one r.part.1 (omega arith) r.bare)
+    subst (C.IsFree c.args.to c.args.within.from) (sym (c.self.invariant.0.between ∙ ap holes_of c.self.view_is)) (bare_free c.args.self.now (subst C.IsOrdered c.self.view_is ordered) c.args.to c.args.within.from one r.part.1 (omega arith) r.bare)
 
 pub slide_down-requires-clause-used : goal.slide_down-requires-clause-used
 slide_down-requires-clause-used g c =
@@ -78,7 +78,7 @@ invariant_of-self g c =
     let begin : from + (end - from) - min (end - from) (from - c.args.to) ≡ end - min (end - from) (from - c.args.to) = omega arith in
     let high : from + (end - from) ≡ end - min (end - from) (from - c.args.to) + min (end - from) (from - c.args.to) = omega arith in (
       BlocksInvariant-run c.self.invariant.0 c.self.view_is w.0 w.1 w.2 refl refl e.range
-          (e.holes ∙ (λ i. joined (begin i) (high i) (taken c.args.to (c.args.to + min (end - from) (from - c.args.to)) (g.H.HoleList.holes c.self.inside.holes)))) (tables g d) (blocks g d),
+          (e.holes ∙ (λ i. C.joined (begin i) (high i) (taken c.args.to (c.args.to + min (end - from) (from - c.args.to)) (g.H.HoleList.holes c.self.inside.holes)))) (tables g d) (blocks g d),
       c.self.invariant.1,
     )
 
@@ -94,7 +94,7 @@ returns-clause-last g c = subst (λ (l : Layout). EndsAt l c.args.within.to c.re
 pub returns-clause-value : goal.returns-clause-value
 returns-clause-value g c =
     let s = c.self.inside in let d = (goal.at.returns-clause-value g c).After-retag_run-end in
-    (λ i. record (layout_in s.slots.len s.lo s.hi s.grain s.slots.items s.begins.items) { blocks = blocks g d i }) ∙ ap (λ (l : Layout). record l { blocks = map (slid_with (run g d) c.args.to) l.blocks }) c.self.view_is
+    (λ i. record (C.layout_in s.slots.len s.lo s.hi s.grain s.slots.items s.begins.items) { blocks = blocks g d i }) ∙ ap (λ (l : Layout). record l { blocks = map (slid_with (run g d) c.args.to) l.blocks }) c.self.view_is
 
 pub returns-clause-ordered : goal.returns-clause-ordered
 returns-clause-ordered g c = (invariant_of-self g c).0.tables.ordered
@@ -104,7 +104,7 @@ returns-clause-rest g c = record {
   kept = subst (λ (hs : List Span). g.H.Holes.are_in hs (g.S.Space.bytes c.slide_down.new.space)) (invariant_of-self g c).0.between c.slide_down.ensures.kept;
   bytes =
       let n = c.retag_run-end.result - c.args.within.from in
-      subst (λ (hs : List Span). AreSameBut c.args.to n (holes_of c.args.self.now) hs (g.S.Space.bytes c.args.space.now) (g.S.Space.bytes c.slide_down.new.space)) (invariant_of-self g c).0.between
-      (subst (λ (hs : List Span). AreSameBut c.args.to n hs (g.H.HoleList.holes c.slide_down.new.self) (g.S.Space.bytes c.args.space.now) (g.S.Space.bytes c.slide_down.new.space)) (c.self.invariant.0.between ∙ ap holes_of c.self.view_is) c.slide_down.ensures.bytes);
+      subst (λ (hs : List Span). C.AreSameBut c.args.to n (holes_of c.args.self.now) hs (g.S.Space.bytes c.args.space.now) (g.S.Space.bytes c.slide_down.new.space)) (invariant_of-self g c).0.between
+      (subst (λ (hs : List Span). C.AreSameBut c.args.to n hs (g.H.HoleList.holes c.slide_down.new.self) (g.S.Space.bytes c.args.space.now) (g.S.Space.bytes c.slide_down.new.space)) (c.self.invariant.0.between ∙ ap holes_of c.self.view_is) c.slide_down.ensures.bytes);
   loans = c.slide_down.ensures.lenders;
 }

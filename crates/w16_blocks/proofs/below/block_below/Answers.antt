@@ -1,7 +1,5 @@
 use Rattle.w16_blocks.proofs.Common.{ℕ, ◌≡◌, ◌-◌, ◌∙◌, arith, refl, ap, sym, subst, slice_index, div_ceil, IsLastBelow, blocks_in}
-use Rattle.w16_blocks.proofs.Downward.{none_below, last_here}
-use Rattle.w16_blocks.proofs.Tagged.{is_slot, slot_in}
-use Rattle.w16_blocks.proofs.Ending.{last_ending}
+use Rattle.w16_blocks.proofs.{Downward.none_below, Downward.last_here, Tagged.is_slot, Tagged.slot_in, Ending.last_ending}
 use Rattle.w16_blocks.proofs.below.block_below.Goals as goal
 
 pub bounds-slots-begin : goal.bounds-slots-begin

@@ -1,6 +1,7 @@
-use Rattle.w16_blocks.proofs.Common.{ℕ, ◌≡◌, ◌+◌, ◌-◌, ◌∙◌, ◌≤◌, List, length, arith, refl, sym, subst, AllByRecursion, Block, IsOrdered, blocks_in, layout_in, AreTables}
-use Rattle.w16_blocks.proofs.Rising.{begins_in, fits_next, list_next, cut_next, none_before}
-use Rattle.w16_blocks.proofs.Sliding.{slid_none}
+use Rattle.w16_blocks.proofs
+use proofs.Common.{ℕ, ◌≡◌, ◌+◌, ◌-◌, ◌∙◌, ◌≤◌, List, length, arith, refl, sym, subst, AllByRecursion, Block, IsOrdered, blocks_in, layout_in, AreTables}
+use proofs.Rising.{begins_in, fits_next, list_next, cut_next, none_before}
+use proofs.Sliding.{slid_none}
 use Rattle.w16_blocks.proofs.lifts.retag_run_up.Goals as goal
 
 -- the tables at some turn, whose number of ids is that of the start

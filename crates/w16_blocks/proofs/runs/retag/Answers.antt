@@ -1,7 +1,7 @@
-use Rattle.w16_blocks.proofs.Common.{ℕ, ◌+◌, Block, ◌∙◌, ap, length, set, refl, sym, subst, add-one, blocks_in, layout_in, AreTables}
-use Rattle.w16_blocks.proofs.Step.{lies, grained_known}
-use Rattle.w16_blocks.proofs.Tables.{cell_at, unit_told, AreTables-move, blocks_in-move}
-use Rattle.w16_blocks.proofs.Tagged.{entry_is}
+use Rattle.w16_blocks.proofs
+use proofs.Common.{ℕ, ◌+◌, Block, ◌∙◌, ap, length, set, refl, sym, subst, add-one, blocks_in, layout_in, AreTables}
+use proofs.Tables.{cell_at, unit_told, AreTables-move, blocks_in-move}
+use proofs.{Step.lies, Step.grained_known, Tagged.entry_is}
 use Rattle.w16_blocks.proofs.runs.retag.Goals as goal
 
 pub unit_of-requires-clause-from : goal.unit_of-requires-clause-from

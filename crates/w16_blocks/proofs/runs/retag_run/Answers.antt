@@ -1,18 +1,18 @@
-use Rattle.w16_blocks.proofs.Common.{multiple_less, ℕ, List, Some, length, map, arith, refl, sym, subst, inl, inr, ◌∙◌, ◌+◌, ◌-◌, ◌<◌, ◌≤◌, ◌^◌, ◌≡◌, ◌≢◌, AllByRecursion}
-use Rattle.w16_blocks.proofs.Common.{Block, Span, IsMultiple, block_with, multiple_sum, Layout, IsOrdered, FitsFor, replaced, blocks_in, layout_in, AreTables, slid_with}
-use Rattle.w16_blocks.proofs.Step.{lies}
-use Rattle.w16_blocks.proofs.Sliding.{IsReady, slid_none, ready_start, ends_inside, fits_there, ready_then, slid_then, run_more}
-use Rattle.w16_blocks.proofs.Unslid.{unslid, none_unslid}
+use Rattle.w16_blocks.proofs
+use proofs.Common as C
+use proofs.Sliding as M
+use proofs.Common.{ℕ, List, Some, length, map, arith, refl, sym, subst, inl, inr, ◌∙◌, ◌+◌, ◌-◌, ◌<◌, ◌≤◌, ◌^◌, ◌≡◌, ◌≢◌, AllByRecursion, Block, Span, IsMultiple, layout_in}
+use proofs.{Step.lies, Sliding.IsReady, Unslid.unslid, Unslid.none_unslid}
 use Rattle.w16_blocks.proofs.runs.retag_run.Goals as goal
 
 pub loop-at-init : goal.loop-at-init
 loop-at-init c =
-    let blocks = blocks_in c.args.slots.now c.args.begins.now in
+    let blocks = C.blocks_in c.args.slots.now c.args.begins.now in
     let low = c.requires.inside.0 in let down = c.requires.inside.1 in let up = c.requires.inside.2 in let high = c.requires.inside.3 in
     record {
       tables = c.requires.tables;
-      slid = sym (slid_none c.args.within.from c.args.to blocks);
-      ready = ready_start c.args.within c.args.to blocks c.requires.bare c.requires.whole.1;
+      slid = sym (M.slid_none c.args.within.from c.args.to blocks);
+      ready = M.ready_start c.args.within c.args.to blocks c.requires.bare c.requires.whole.1;
       run = record {
         inside = (omega arith, omega arith, omega arith);
         grained = (c.requires.grained.0, c.requires.grained.0);
@@ -26,31 +26,31 @@ loop-at-init c =
     }
 
 -- the tables at some turn, whose number of ids is that of the start
-module _ {cap lo hi g : ℕ} {slots : List Block} {cells : List ℕ} (t : AreTables cap lo hi g slots cells) (same : length slots ≡ cap) where
-  abbrev now : Layout
+module _ {cap lo hi g : ℕ} {slots : List Block} {cells : List ℕ} (t : C.AreTables cap lo hi g slots cells) (same : length slots ≡ cap) where
+  abbrev now : C.Layout
   now = layout_in (length slots) lo hi g slots cells
 
-  ordered : IsOrdered now
-  ordered = subst (λ (n : ℕ). IsOrdered (layout_in n lo hi g slots cells)) (sym same) t.ordered
+  ordered : C.IsOrdered now
+  ordered = subst (λ (n : ℕ). C.IsOrdered (layout_in n lo hi g slots cells)) (sym same) t.ordered
 
   ids : length slots < 2 ^ 32
   ids = let few = t.ids in omega arith
 
-  module _ {run : Span} {to at : ℕ} (down : to ≤ run.from) (from : run.from ≤ at) (lt : at < run.to) (ready : AllByRecursion (IsReady run to at) now.blocks) (x : Block) (known : block_with now.blocks x.id ≡ Some x) (here : x.at ≡ at) where
+  module _ {run : Span} {to at : ℕ} (down : to ≤ run.from) (from : run.from ≤ at) (lt : at < run.to) (ready : AllByRecursion (IsReady run to at) now.blocks) (x : Block) (known : C.block_with now.blocks x.id ≡ Some x) (here : x.at ≡ at) where
     ends : at + x.size ≤ run.to
-    ends = ends_inside now ordered ids run to at down from lt ready x known here
+    ends = M.ends_inside now ordered ids run to at down from lt ready x known here
 
     some : 0 < x.size
     some = (lies now x.id x known ordered).1
 
-    fits : IsMultiple g to → IsMultiple g at → IsMultiple g run.from → lo ≤ to → FitsFor now (record x { at = to + (at - run.from) })
-    fits one two three low = fits_there now ordered ids run to at down from lt ready x known here (multiple_sum g to (at - run.from) one (multiple_less g at run.from two three)) low
+    fits : IsMultiple g to → IsMultiple g at → IsMultiple g run.from → lo ≤ to → C.FitsFor now (record x { at = to + (at - run.from) })
+    fits one two three low = M.fits_there now ordered ids run to at down from lt ready x known here (C.multiple_sum g to (at - run.from) one (C.multiple_less g at run.from two three)) low
 
-    slid : (old : List Block) → now.blocks ≡ map (slid_with (record { from = run.from; to = at }) to) old → replaced (record x { at = to + (at - run.from) }) now.blocks ≡ map (slid_with (record { from = run.from; to = at + x.size }) to) old
-    slid = slid_then now ordered ids run to at down from lt ready x known here
+    slid : (old : List Block) → now.blocks ≡ map (C.slid_with (record { from = run.from; to = at }) to) old → C.replaced (record x { at = to + (at - run.from) }) now.blocks ≡ map (C.slid_with (record { from = run.from; to = at + x.size }) to) old
+    slid = M.slid_then now ordered ids run to at down from lt ready x known here
 
-    ready' : AllByRecursion (IsReady run to (at + x.size)) (replaced (record x { at = to + (at - run.from) }) now.blocks)
-    ready' = ready_then now ordered ids run to at down from lt ready x known here
+    ready' : AllByRecursion (IsReady run to (at + x.size)) (C.replaced (record x { at = to + (at - run.from) }) now.blocks)
+    ready' = M.ready_then now ordered ids run to at down from lt ready x known here
 
 pub retag-requires-clause-fits : goal.retag-requires-clause-fits
 retag-requires-clause-fits c =
@@ -76,10 +76,10 @@ loop-at-preserved c =
     let old = layout_in (length c.args.slots.now) c.args.bounds.from c.args.bounds.to c.args.grain c.args.slots.now c.args.begins.now in
     let new = sym c.retag.ensures.blocks in
     record {
-      tables = subst (λ (n : ℕ). AreTables n c.args.bounds.from c.args.bounds.to c.args.grain c.retag.new.slots c.retag.new.begins) inv.slots c.retag.ensures.tables;
+      tables = subst (λ (n : ℕ). C.AreTables n c.args.bounds.from c.args.bounds.to c.args.grain c.retag.new.slots c.retag.new.begins) inv.slots c.retag.ensures.tables;
       slid = c.retag.ensures.blocks ∙ slid inv.tables inv.slots down inv.from lt inv.ready block is.1 is.0 old.blocks inv.slid;
       ready = subst (AllByRecursion (IsReady part c.args.to (at + block.size))) new (ready' inv.tables inv.slots down inv.from lt inv.ready block is.1 is.0);
-      run = run_more old part.from at block c.requires.tables.ordered (unslid part.from at c.args.to block old.blocks _ down inv.from (omega arith) inv.slid is.1) here inv.run;
+      run = M.run_more old part.from at block c.requires.tables.ordered (unslid part.from at c.args.to block old.blocks _ down inv.from (omega arith) inv.slid is.1) here inv.run;
       from = let start = inv.from in omega arith;
       end = ends inv.tables inv.slots down inv.from lt inv.ready block is.1 is.0;
       slots = c.retag.ensures.slots ∙ inv.slots;

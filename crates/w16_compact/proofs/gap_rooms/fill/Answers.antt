@@ -1,8 +1,8 @@
-use Rattle.w16_compact.proofs.Common.{◌≡◌, ◌+◌, ◌-◌, ◌<◌, ℕ, length, max, not, filter, arith, refl, sym, ap, ◌∙◌, subst, Block, Span, room, is_about}
-use Rattle.w16_compact.proofs.OnePass.{ord_max-max}
-use Rattle.w16_compact.proofs.ByAddress.{all_left, may_begin}
-use Rattle.w16_compact.proofs.Skips.{IsPassed, rest_is, fits_now, reaches_now, turn_skipped, turn_pinned, turn_loose, passed_start, passed_end, ends_now_all, id_here}
-use Rattle.w16_compact.proofs.Filled.{IsFilled, fill_start, fill_skipped, fill_loose, fill_pinned, fill_ended}
+use Rattle.w16_compact.proofs
+use proofs.Skips as M
+use proofs.Common.{◌≡◌, ◌+◌, ◌-◌, ◌<◌, ℕ, length, max, not, filter, arith, refl, sym, ap, ◌∙◌, subst, Block, Span, room, is_about}
+use proofs.Filled.{IsFilled, fill_start, fill_skipped, fill_loose, fill_pinned, fill_ended}
+use proofs.{OnePass.ord_max-max, ByAddress.all_left, ByAddress.may_begin, Skips.rest_is}
 use Rattle.w16_compact.proofs.gap_rooms.fill.Goals as goal
 
 pub loop-block-init : goal.loop-block-init
@@ -20,8 +20,8 @@ loop-block-init g c =
       passed = (
         0,
         left,
-        subst (λ (s : Span). IsPassed (λ x. not (is_about h x.id)) l.hi l.blocks (room l.lo l.hi (filter (λ x. not (is_about h x.id)) l.blocks)) 0 0 s.from 0) (sym c.bounds-bounds.ensures.value)
-            (passed_start (λ x. not (is_about h x.id)) l.lo l.hi l.blocks c.bounds-bounds.ensures.ordered.laid),
+        subst (λ (s : Span). M.IsPassed (λ x. not (is_about h x.id)) l.hi l.blocks (room l.lo l.hi (filter (λ x. not (is_about h x.id)) l.blocks)) 0 0 s.from 0) (sym c.bounds-bounds.ensures.value)
+            (M.passed_start (λ x. not (is_about h x.id)) l.lo l.hi l.blocks c.bounds-bounds.ensures.ordered.laid),
       );
       filled = subst (IsFilled (λ x. not (is_about h x.id)) l.lo l.hi l.cap l.blocks c.cap-gap.result c.bounds-bounds.result.from 0 c.args.gap_of.now c.args.rooms.now) left
           (fill_start (λ x. not (is_about h x.id)) l.lo l.hi l.cap l.blocks c.cap-gap.result c.bounds-bounds.result.from c.args.gap_of.now c.args.rooms.now c.cap-gap.ensures low c.bounds-bounds.ensures.ordered.named);
@@ -35,7 +35,7 @@ loop-block-preserved-then-is_about g c =
     record {
       may = on.0;
       ends = on.1;
-      passed = (now.passed.0 + 1, rest_is l.blocks c.in-Some.block _ now.passed.0 here, turn_skipped p l.hi l.blocks _ c.in-Some.block _ now.passed.0 here c.loop-block.most c.loop-block.reached now.passed.2 out);
+      passed = (now.passed.0 + 1, rest_is l.blocks c.in-Some.block _ now.passed.0 here, M.turn_skipped p l.hi l.blocks _ c.in-Some.block _ now.passed.0 here c.loop-block.most c.loop-block.reached now.passed.2 out);
       filled = fill_skipped p l.lo l.hi l.cap l.blocks c.in-Some.block _ c.loop-block.gap c.loop-block.reached c.loop-block.gap_of c.loop-block.rooms
           (subst (IsFilled p l.lo l.hi l.cap l.blocks c.loop-block.gap c.loop-block.reached.low c.loop-block.reached.loose c.loop-block.gap_of c.loop-block.rooms) c.in-Some.ensures.steps now.filled) out;
     }
@@ -44,7 +44,7 @@ loop-block-preserved-then-is_about g c =
 pub bounds-gap_of-block : goal.bounds-gap_of-block
 bounds-gap_of-block g c =
     let l = c.args.blocks.now in let now = c.loop-block.invariant in
-    let lt = id_here l.cap l.blocks c.in-Some.block _ now.passed.0 (now.passed.1 ∙ c.in-Some.ensures.steps) c.bounds-bounds.ensures.ordered.named in
+    let lt = M.id_here l.cap l.blocks c.in-Some.block _ now.passed.0 (now.passed.1 ∙ c.in-Some.ensures.steps) c.bounds-bounds.ensures.ordered.named in
     let many = c.requires.gap_of in let long = c.loop-block.auto.gap_of in
     omega arith
 
@@ -55,14 +55,14 @@ loop-block-preserved-then-not-is_pinned g c =
     let counted = ap not (sym c.is_about.ensures ∙ c.if-is_about.false) in
     let loose = sym c.is_pinned.ensures ∙ c.if-not-is_pinned.true in
     let lt : c.in-Some.block.id < length c.loop-block.gap_of = let many = c.requires.gap_of in let long = c.loop-block.auto.gap_of in
-    let id = id_here l.cap l.blocks c.in-Some.block _ now.passed.0 here c.bounds-bounds.ensures.ordered.named in omega arith in
+    let id = M.id_here l.cap l.blocks c.in-Some.block _ now.passed.0 here c.bounds-bounds.ensures.ordered.named in omega arith in
     record {
       may = on.0;
       ends = on.1;
       passed = (
         now.passed.0 + 1,
         rest_is l.blocks c.in-Some.block _ now.passed.0 here,
-        turn_loose p l.hi l.blocks _ c.in-Some.block _ now.passed.0 here c.loop-block.most c.loop-block.reached now.passed.2 counted loose c.loop-block.most refl c.passing-reached.result c.passing-reached.ensures,
+        M.turn_loose p l.hi l.blocks _ c.in-Some.block _ now.passed.0 here c.loop-block.most c.loop-block.reached now.passed.2 counted loose c.loop-block.most refl c.passing-reached.result c.passing-reached.ensures,
       );
       filled = fill_loose p l.lo l.hi l.cap l.blocks c.in-Some.block _ c.loop-block.gap c.loop-block.reached c.loop-block.gap_of c.loop-block.rooms
           (subst (IsFilled p l.lo l.hi l.cap l.blocks c.loop-block.gap c.loop-block.reached.low c.loop-block.reached.loose c.loop-block.gap_of c.loop-block.rooms) c.in-Some.ensures.steps now.filled)
@@ -82,12 +82,12 @@ loop-block-preserved g c =
       passed = (
         now.passed.0 + 1,
         rest_is l.blocks c.in-Some.block _ now.passed.0 here,
-        turn_pinned p l.hi l.blocks _ c.in-Some.block _ now.passed.0 here c.loop-block.most c.loop-block.reached now.passed.2 counted pinned c.max-most.result
+        M.turn_pinned p l.hi l.blocks _ c.in-Some.block _ now.passed.0 here c.loop-block.most c.loop-block.reached now.passed.2 counted pinned c.max-most.result
             (c.max-most.ensures ∙ ord_max-max c.loop-block.most _ ∙ ap (max c.loop-block.most) c.room_to-room.ensures) c.passing-reached-in-loop-block.result c.passing-reached-in-loop-block.ensures,
       );
       filled = fill_pinned p l.lo l.hi l.cap l.blocks c.in-Some.block _ c.loop-block.gap c.loop-block.reached c.loop-block.gap_of c.loop-block.rooms
           (subst (IsFilled p l.lo l.hi l.cap l.blocks c.loop-block.gap c.loop-block.reached.low c.loop-block.reached.loose c.loop-block.gap_of c.loop-block.rooms) c.in-Some.ensures.steps now.filled)
-          counted pinned lt (reaches_now p l.hi l.blocks _ c.in-Some.block _ now.passed.0 here c.loop-block.most c.loop-block.reached now.passed.2) c.room_to-room.result c.room_to-room.ensures c.passing-reached-in-loop-block.result c.passing-reached-in-loop-block.ensures;
+          counted pinned lt (M.reaches_now p l.hi l.blocks _ c.in-Some.block _ now.passed.0 here c.loop-block.most c.loop-block.reached now.passed.2) c.room_to-room.result c.room_to-room.ensures c.passing-reached-in-loop-block.result c.passing-reached-in-loop-block.ensures;
     }
 
 -- behind the last block
@@ -97,7 +97,7 @@ returns-clause-value g c =
     let to : c.bounds-bounds.result.to ≡ l.hi = ap (λ (s : Span). s.to) c.bounds-bounds.ensures.value in
     let last : c.room_to-room-2.result ≡ l.hi - r.low - r.loose = c.room_to-room-2.ensures ∙ ap (λ (k : ℕ). k - r.low - r.loose) to in
     let best : c.max.result ≡ max c.loop-block.most (l.hi - r.low - r.loose) = c.max.ensures ∙ ap (λ (k : ℕ). max c.loop-block.most k) last in
-    passed_end (λ x. not (is_about c.args.h x.id)) l.hi l.blocks _ now.passed.0 (now.passed.1 ∙ c.in-None.ensures.steps.0) c.loop-block.most r now.passed.2 c.max.result best
+    M.passed_end (λ x. not (is_about c.args.h x.id)) l.hi l.blocks _ now.passed.0 (now.passed.1 ∙ c.in-None.ensures.steps.0) c.loop-block.most r now.passed.2 c.max.result best
 
 pub returns-clause-told : goal.returns-clause-told
 returns-clause-told g c =
@@ -106,25 +106,25 @@ returns-clause-told g c =
     let none = now.passed.1 ∙ c.in-None.ensures.steps.0 in
     let lt : c.loop-block.gap < length c.loop-block.rooms = let many = c.requires.rooms in let long = c.loop-block.auto.rooms in let known = now.filled.known in omega arith in
     fill_ended p l.lo l.hi l.cap l.blocks c.loop-block.gap c.loop-block.reached.low c.loop-block.reached.loose c.loop-block.gap_of c.loop-block.rooms _ c.room_to-room-2.result _ c.in-None.ensures.steps.0 now.filled
-    (ends_now_all p l.hi l.blocks _ now.passed.0 none c.loop-block.most c.loop-block.reached now.passed.2) lt (c.room_to-room-2.ensures ∙ ap (λ (k : ℕ). k - c.loop-block.reached.low - c.loop-block.reached.loose) to) refl
+    (M.ends_now_all p l.hi l.blocks _ now.passed.0 none c.loop-block.most c.loop-block.reached now.passed.2) lt (c.room_to-room-2.ensures ∙ ap (λ (k : ℕ). k - c.loop-block.reached.low - c.loop-block.reached.loose) to) refl
 
 -- the next block's place and the bytes before it
 pub passing-reached-requires : goal.passing-reached-requires
 passing-reached-requires g c =
     let l = c.args.blocks.now in let now = c.loop-block.invariant in
-    let fits = fits_now (λ x. not (is_about c.args.h x.id)) l.hi l.blocks _ c.in-Some.block _ now.passed.0 (now.passed.1 ∙ c.in-Some.ensures.steps) c.loop-block.most c.loop-block.reached now.passed.2 c.bounds-bounds.ensures.ordered.small in
+    let fits = M.fits_now (λ x. not (is_about c.args.h x.id)) l.hi l.blocks _ c.in-Some.block _ now.passed.0 (now.passed.1 ∙ c.in-Some.ensures.steps) c.loop-block.most c.loop-block.reached now.passed.2 c.bounds-bounds.ensures.ordered.small in
     record { end = fits.0; sum = fits.1 }
 
 pub passing-reached-requires-in-loop-block : goal.passing-reached-requires-in-loop-block
 passing-reached-requires-in-loop-block g c =
     let l = c.args.blocks.now in let now = c.loop-block.invariant in
-    let fits = fits_now (λ x. not (is_about c.args.h x.id)) l.hi l.blocks _ c.in-Some.block _ now.passed.0 (now.passed.1 ∙ c.in-Some.ensures.steps) c.loop-block.most c.loop-block.reached now.passed.2 c.bounds-bounds.ensures.ordered.small in
+    let fits = M.fits_now (λ x. not (is_about c.args.h x.id)) l.hi l.blocks _ c.in-Some.block _ now.passed.0 (now.passed.1 ∙ c.in-Some.ensures.steps) c.loop-block.most c.loop-block.reached now.passed.2 c.bounds-bounds.ensures.ordered.small in
     record { end = fits.0; sum = fits.1 }
 
 pub room_to-room-requires : goal.room_to-room-requires
 room_to-room-requires g c =
     let l = c.args.blocks.now in let now = c.loop-block.invariant in
-    reaches_now (λ x. not (is_about c.args.h x.id)) l.hi l.blocks _ c.in-Some.block _ now.passed.0 (now.passed.1 ∙ c.in-Some.ensures.steps) c.loop-block.most c.loop-block.reached now.passed.2
+    M.reaches_now (λ x. not (is_about c.args.h x.id)) l.hi l.blocks _ c.in-Some.block _ now.passed.0 (now.passed.1 ∙ c.in-Some.ensures.steps) c.loop-block.most c.loop-block.reached now.passed.2
 
 pub bounds-rooms-gap : goal.bounds-rooms-gap
 bounds-rooms-gap g c = let many = c.requires.rooms in let long = c.loop-block.auto.rooms in let known = c.loop-block.invariant.filled.known in omega arith

@@ -1,6 +1,5 @@
 use Rattle.w16_compact.proofs.Common.{ℕ, ◌≡◌, not, drop, filter, room, is_about, from_address}
-use Rattle.w16_compact.proofs.Skips.{IsPassed}
-use Rattle.w16_compact.proofs.Filled.{IsFilled}
+use Rattle.w16_compact.proofs.{Skips.IsPassed, Filled.IsFilled}
 use Rattle.w16_compact.proofs.gap_rooms.fill.Given as goal
 
 abbrev pub invariant-loop-block : goal.invariant-loop-block

@@ -1,10 +1,8 @@
-use Rattle.w16_compact.proofs.Common.{◌≡◌, ℕ, ◌+◌, ◌-◌, ◌<◌, ◌≤◌, sum_by, refl, drop, List, [], ◌∷◌, Option, Some, None, false, IsSome, MatchOption, arith, sym, ap, ◌∙◌, subst, false≢true, Block, Span, is_about, room, Layout, IsOrdered, sum_fits, Gap, Reached, others, without, HasRoom}
-use Rattle.w16_compact.proofs.AllLoose.{walked_all, none_in}
-use Rattle.w16_compact.proofs.ByAddress.{all_left, may_begin}
-use Rattle.w16_compact.proofs.LeftOut.{ordered_without, none_left, next_in, next_out}
-use Rattle.w16_compact.proofs.OnePass.{too_few}
-use Rattle.w16_compact.proofs.Skips.{rest_is}
-use Rattle.w16_compact.proofs.Walked.{IsWalked, fits_here, walk_start, gap_here, walked_next, gap_last, none_found, enough_room}
+use Rattle.w16_compact.proofs
+use proofs.Walked as M
+use proofs.Common.{◌≡◌, ℕ, ◌+◌, ◌-◌, ◌<◌, ◌≤◌, sum_by, refl, drop, List, [], ◌∷◌, Option, Some, None, false, IsSome, MatchOption, arith, sym, ap, ◌∙◌, subst, false≢true, Block, Span, is_about, room, Layout, IsOrdered, sum_fits, Gap, Reached, others, without, HasRoom}
+use proofs.LeftOut.{ordered_without, none_left, next_in, next_out}
+use proofs.{AllLoose.walked_all, AllLoose.none_in, ByAddress.all_left, ByAddress.may_begin, OnePass.too_few, Skips.rest_is}
 use Rattle.w16_compact.proofs.gaps.gap_for.Goals as goal
 
 pub overflow_add-spare : goal.overflow_add-spare
@@ -34,7 +32,7 @@ loop-block-init g c =
         (
           0,
           ap (others c.args.h) (all_left l it.blocks.now it.from same first),
-          walk_start (without c.args.h l) c.args.n ordered c.bounds-bounds.result.from (ap (λ (s : Span). s.from) c.bounds-bounds.ensures.value),
+          M.walk_start (without c.args.h l) c.args.n ordered c.bounds-bounds.result.from (ap (λ (s : Span). s.from) c.bounds-bounds.ensures.value),
         ),
       ),
     )
@@ -55,16 +53,16 @@ pub returns-in-Some-gap_before-clause-found : goal.returns-in-Some-gap_before-cl
 returns-in-Some-gap_before-clause-found g c =
     let l = without c.args.h c.args.blocks.now in let inv = c.loop-block.invariant.2 in let is = c.in-Some-gap_before.ensures in
     let here = next c.args.h c.args.blocks.now inv.1.0 _ c.in-Some.block _ inv.1.1 c.in-Some.ensures.steps (sym c.is_about.ensures ∙ c.if-is_about.false) in
-    subst (HasRoom l c.args.n) (sym is.0) (gap_here l c.args.n inv.0 c.in-Some.block _ inv.1.0 here c.loop-block.reached inv.1.2 is.2 c.requires.some is.1)
+    subst (HasRoom l c.args.n) (sym is.0) (M.gap_here l c.args.n inv.0 c.in-Some.block _ inv.1.0 here c.loop-block.reached inv.1.2 is.2 c.requires.some is.1)
 
 pub returns-in-Some-gap_before-clause-enough : goal.returns-in-Some-gap_before-clause-enough
-returns-in-Some-gap_before-clause-enough g c = λ _. enough_room (without c.args.h c.args.blocks.now) c.args.n c.loop-block.invariant.2.0 c.in-Some-gap_before.gap (returns-in-Some-gap_before-clause-found g c)
+returns-in-Some-gap_before-clause-enough g c = λ _. M.enough_room (without c.args.h c.args.blocks.now) c.args.n c.loop-block.invariant.2.0 c.in-Some-gap_before.gap (returns-in-Some-gap_before-clause-found g c)
 
 pub passing-reached-requires : goal.passing-reached-requires
 passing-reached-requires g c =
     let inv = c.loop-block.invariant.2 in
     let here = next c.args.h c.args.blocks.now inv.1.0 _ c.in-Some.block _ inv.1.1 c.in-Some.ensures.steps (sym c.is_about.ensures ∙ c.if-is_about.false) in
-    let fits = fits_here (without c.args.h c.args.blocks.now) c.args.n inv.0 c.in-Some.block _ inv.1.0 here c.loop-block.reached inv.1.2 in
+    let fits = M.fits_here (without c.args.h c.args.blocks.now) c.args.n inv.0 c.in-Some.block _ inv.1.0 here c.loop-block.reached inv.1.2 in
     record { end = fits.0; sum = fits.1 }
 
 pub loop-block-preserved : goal.loop-block-preserved
@@ -74,20 +72,20 @@ loop-block-preserved g c =
     let on = c.in-Some.ensures.goes.on c.loop-block.invariant.1 in (
       on.0,
       on.1,
-      (inv.0, (inv.1.0 + 1, rest_is l.blocks c.in-Some.block _ inv.1.0 here, walked_next l c.args.n inv.0 c.in-Some.block _ inv.1.0 here c.loop-block.reached inv.1.2 c.in_default.ensures c.passing-reached.result c.passing-reached.ensures)),
+      (inv.0, (inv.1.0 + 1, rest_is l.blocks c.in-Some.block _ inv.1.0 here, M.walked_next l c.args.n inv.0 c.in-Some.block _ inv.1.0 here c.loop-block.reached inv.1.2 c.in_default.ensures c.passing-reached.result c.passing-reached.ensures)),
     )
 
 -- what the last gap gives
-module _ (l : Layout) (n : ℕ) (ordered : IsOrdered l) (some : 0 < n) (i : ℕ) (r : Reached) (now : IsWalked l n ordered i r) (none : drop i l.blocks ≡ []) where
+module _ (l : Layout) (n : ℕ) (ordered : IsOrdered l) (some : 0 < n) (i : ℕ) (r : Reached) (now : M.IsWalked l n ordered i r) (none : drop i l.blocks ≡ []) where
   last : (hi : ℕ) (o : Option Gap) → hi ≡ l.hi → MatchOption o (hi < r.low + r.loose + n) (λ g. (g ≡ record { low = r.low; high = hi; loose = r.loose }) × (r.low + r.loose + n ≤ hi)) → MatchOption o (room l.lo l.hi l.blocks < n) (HasRoom l n)
-  last hi None e less = none_found l n ordered i r now none some (omega arith)
+  last hi None e less = M.none_found l n ordered i r now none some (omega arith)
   last hi (Some g) e found =
       let enough = found.1 in
-      subst (HasRoom l n) (sym (found.0 ∙ ap (λ (k : ℕ). let v : Gap = record { low = r.low; high = k; loose = r.loose } in v) e)) (gap_last l n ordered i r now none some (omega arith))
+      subst (HasRoom l n) (sym (found.0 ∙ ap (λ (k : ℕ). let v : Gap = record { low = r.low; high = k; loose = r.loose } in v) e)) (M.gap_last l n ordered i r now none some (omega arith))
 
   enough : (o : Option Gap) → MatchOption o (room l.lo l.hi l.blocks < n) (HasRoom l n) → IsSome o → n ≤ room l.lo l.hi l.blocks
   enough None less is = absurd (false≢true is)
-  enough (Some g) found is = enough_room l n ordered g found
+  enough (Some g) found is = M.enough_room l n ordered g found
 
 pub returns-clause-found : goal.returns-clause-found
 returns-clause-found g c =
@@ -108,7 +106,7 @@ module _ (g : _) (c : goal.After-gap_to g) where
   ordered : IsOrdered left
   ordered = ordered_without c.args.h c.args.blocks.now c.bounds-bounds.ensures.ordered
 
-  walked : (j : ℕ) × (drop j left.blocks ≡ []) × IsWalked left c.args.n ordered j (record { low = c.bounds-bounds.result.from; loose = c.bounds-bounds.result.to - c.bounds-bounds.result.from - (c.free.result + c.left_out.result) })
+  walked : (j : ℕ) × (drop j left.blocks ≡ []) × M.IsWalked left c.args.n ordered j (record { low = c.bounds-bounds.result.from; loose = c.bounds-bounds.result.to - c.bounds-bounds.result.from - (c.free.result + c.left_out.result) })
   walked =
       let l = c.args.blocks.now in let from = ap (λ (s : Span). s.from) c.bounds-bounds.ensures.value in let to = ap (λ (s : Span). s.to) c.bounds-bounds.ensures.value in
       let fit = sum_fits l.lo l.hi l.blocks c.bounds-bounds.ensures.ordered.laid in let free = c.free.ensures.value in let own = c.left_out.ensures.value in

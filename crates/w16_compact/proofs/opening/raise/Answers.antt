@@ -1,8 +1,9 @@
-use Rattle.w16_compact.proofs.Common.{ℕ, ◌≡◌, ◌≢◌, Some, inl, inr, ◌-◌, ◌<◌, ◌≤◌, ◌⊎◌, ◌∙◌, arith, refl, sym, ap, subst, cases_lt, AllByRecursion, Block, block_end, IsMultiple}
-use Rattle.w16_compact.proofs.Common.{block_with, multiple_sum, Layout, IsOrdered, IsRun, BeginsAt, each_with, lies, multiple_less, grained_known, moved_between, AreSlid, raised}
-use Rattle.w16_compact.proofs.Gathering.{cut_low, cut_high, at_most}
-use Rattle.w16_compact.proofs.Raising.{loose_empty, raised_none, raised_all, moved_start, slid_raised, cut_low_now, cut_end_now, end_below, room_then, bare_then, place_then, list_then, cut_then, moved_then}
-use Rattle.w16_compact.proofs.Rests.{leaves_more, rest_same}
+use Rattle.w16_compact.proofs
+use proofs.Common as C
+use proofs.Raising as M
+use proofs.Common.{ℕ, ◌≡◌, ◌≢◌, Some, inl, inr, ◌-◌, ◌<◌, ◌≤◌, ◌⊎◌, ◌∙◌, arith, refl, sym, ap, subst, Block, block_end, Layout, IsRun, lies, multiple_less}
+use proofs.Gathering.{cut_low, cut_high, at_most}
+use proofs.{Raising.room_then, Rests.leaves_more, Rests.rest_same}
 use Rattle.w16_compact.proofs.opening.raise.Given as Given
 use Rattle.w16_compact.proofs.opening.raise.Goals as goal
 
@@ -12,14 +13,14 @@ loop-block-init g c =
     record {
       bounds = (refl, refl, refl, refl);
       ordered = c.reveal_order.ensures;
-      list = sym (raised_none l.blocks c.args.high l.blocks);
+      list = sym (M.raised_none l.blocks c.args.high l.blocks);
       low = order;
       high = omega arith;
       cut = cut_high c.args.low c.args.high l.blocks order gap.loose;
-      place = let none = loose_empty l.blocks c.args.high in omega arith;
+      place = let none = M.loose_empty l.blocks c.args.high in omega arith;
       room = omega arith;
       grained = c.requires.grained;
-      moved = sym (ap (moved_between l.blocks) (sym (raised_none l.blocks c.args.high l.blocks)) ∙ moved_start c.args.high l.blocks);
+      moved = sym (ap (C.moved_between l.blocks) (sym (M.raised_none l.blocks c.args.high l.blocks)) ∙ M.moved_start c.args.high l.blocks);
       small = omega arith;
       written = omega arith;
       contents = refl;
@@ -27,14 +28,14 @@ loop-block-init g c =
     }
 
 -- the run that ends with a block has bytes
-run_some : (l : Layout) (x : Block) → IsOrdered l → block_with l.blocks x.id ≡ Some x → (low begin : ℕ) → low ≤ x.at → IsRun l (record { from = begin; to = block_end x }) → BeginsAt l low begin → begin < block_end x
+run_some : (l : Layout) (x : Block) → C.IsOrdered l → C.block_with l.blocks x.id ≡ Some x → (low begin : ℕ) → low ≤ x.at → IsRun l (record { from = begin; to = block_end x }) → C.BeginsAt l low begin → begin < block_end x
 run_some l x ordered known low begin from is first =
     let size = (lies l x.id x known ordered).1 in let order = is.inside.1 in
     elim first [
       | inl bottom ↦ omega arith
-      | inr none ↦ elim (cases_lt begin (block_end x)) [
+      | inr none ↦ elim (C.cases_lt begin (block_end x)) [
         | inl lt ↦ lt
-        | inr ge ↦ absurd (each_with (λ b. block_end b ≢ begin) x.id x l.blocks known none (omega arith))
+        | inr ge ↦ absurd (C.each_with (λ b. block_end b ≢ begin) x.id x l.blocks known none (omega arith))
       ]
     ]
 
@@ -52,13 +53,13 @@ run_begin-requires-clause-inside g c =
 pub run_begin-requires-clause-grained : goal.run_begin-requires-clause-grained
 run_begin-requires-clause-grained g c =
     let l = c.args.blocks.now in let inv = c.loop-block.invariant in let is = c.in-Some.ensures.value in
-    let grained = grained_known c.loop-block.blocks c.in-Some.block.id c.in-Some.block is.0.known inv.ordered in multiple_sum c.loop-block.blocks.grain c.in-Some.block.at c.in-Some.block.size grained.0 grained.1
+    let grained = C.grained_known c.loop-block.blocks c.in-Some.block.id c.in-Some.block is.0.known inv.ordered in C.multiple_sum c.loop-block.blocks.grain c.in-Some.block.at c.in-Some.block.size grained.0 grained.1
 
 pub run_begin-requires-clause-whole : goal.run_begin-requires-clause-whole
 run_begin-requires-clause-whole g c =
     let l = c.args.blocks.now in let inv = c.loop-block.invariant in let is = c.in-Some.ensures.value in (
-      cut_low_now l.blocks c.args.low c.args.high c.loop-block.from c.loop-block.to inv.low inv.high inv.place inv.room c.loop-block.blocks.blocks inv.list (cut_low c.args.low c.args.high l.blocks c.requires.gap.inside.1 c.requires.gap.loose),
-      cut_end_now c.loop-block.blocks c.in-Some.block inv.ordered is.0.known,
+      M.cut_low_now l.blocks c.args.low c.args.high c.loop-block.from c.loop-block.to inv.low inv.high inv.place inv.room c.loop-block.blocks.blocks inv.list (cut_low c.args.low c.args.high l.blocks c.requires.gap.inside.1 c.requires.gap.loose),
+      M.cut_end_now c.loop-block.blocks c.in-Some.block inv.ordered is.0.known,
     )
 
 pub overflow_sub-to : goal.overflow_sub-to
@@ -83,7 +84,7 @@ lift-requires-clause-some g c =
 pub lift-requires-clause-bare : goal.lift-requires-clause-bare
 lift-requires-clause-bare g c =
     let l = c.args.blocks.now in let inv = c.loop-block.invariant in let is = c.in-Some.ensures.value in
-    bare_then l.blocks l.lo l.hi c.args.low c.args.high c.loop-block.from c.loop-block.to c.reveal_order.ensures.laid c.requires.gap.loose inv.high inv.place inv.room inv.cut c.loop-block.blocks inv.ordered inv.list
+    M.bare_then l.blocks l.lo l.hi c.args.low c.args.high c.loop-block.from c.loop-block.to c.reveal_order.ensures.laid c.requires.gap.loose inv.high inv.place inv.room inv.cut c.loop-block.blocks inv.ordered inv.list
     c.in-Some.block is.0.known is.0.below is.0.last (record
     { from = c.run_begin.result; to = block_end c.in-Some.block }) c.run_begin.ensures.run
     (run_some c.loop-block.blocks c.in-Some.block inv.ordered is.0.known c.args.low c.run_begin.result is.1
@@ -93,7 +94,7 @@ pub lift-requires-clause-grained : goal.lift-requires-clause-grained
 lift-requires-clause-grained g c =
     let l = c.args.blocks.now in let inv = c.loop-block.invariant in let is = c.in-Some.ensures.value in
     let grain = inv.bounds.3 in let run = c.run_begin.ensures.run in
-    multiple_less c.loop-block.blocks.grain c.loop-block.to (block_end c.in-Some.block - c.run_begin.result) (subst (λ (n : ℕ). IsMultiple n c.loop-block.to) (sym grain) inv.grained)
+    multiple_less c.loop-block.blocks.grain c.loop-block.to (block_end c.in-Some.block - c.run_begin.result) (subst (λ (n : ℕ). C.IsMultiple n c.loop-block.to) (sym grain) inv.grained)
     (multiple_less c.loop-block.blocks.grain (block_end c.in-Some.block) c.run_begin.result run.grained.1 run.grained.0)
 
 pub lift-requires-clause-up : goal.lift-requires-clause-up
@@ -110,7 +111,7 @@ pub loop-block-smaller : goal.loop-block-smaller
 loop-block-smaller g c =
     let l = c.args.blocks.now in let inv = c.loop-block.invariant in let is = c.in-Some.ensures.value in
     let some = run_some c.loop-block.blocks c.in-Some.block inv.ordered is.0.known c.args.low c.run_begin.result is.1 c.run_begin.ensures.run c.run_begin.ensures.first in
-    let end = end_below l.blocks l.lo l.hi c.args.low c.args.high c.loop-block.from c.loop-block.to c.reveal_order.ensures.laid c.requires.gap.loose inv.high inv.place inv.room inv.cut c.loop-block.blocks inv.ordered inv.list
+    let end = M.end_below l.blocks l.lo l.hi c.args.low c.args.high c.loop-block.from c.loop-block.to c.reveal_order.ensures.laid c.requires.gap.loose inv.high inv.place inv.room inv.cut c.loop-block.blocks inv.ordered inv.list
     c.in-Some.block is.0.known is.0.below is.0.last (record
     { from = c.run_begin.result; to = block_end c.in-Some.block }) c.run_begin.ensures.run
     (run_some c.loop-block.blocks c.in-Some.block inv.ordered is.0.known c.args.low c.run_begin.result is.1
@@ -121,7 +122,7 @@ loop-block-preserved g c =
     let l = c.args.blocks.now in let inv = c.loop-block.invariant in let is = c.in-Some.ensures.value in
     let run = c.run_begin.ensures.run in
     let new = c.lift.ensures.blocks in
-    let list = ap (λ (m : Layout). m.blocks) new ∙ list_then l.blocks l.lo l.hi c.args.low c.args.high c.loop-block.from c.loop-block.to c.reveal_order.ensures.laid c.requires.gap.loose inv.high inv.place inv.room inv.cut c.loop-block.blocks inv.ordered inv.list
+    let list = ap (λ (m : Layout). m.blocks) new ∙ M.list_then l.blocks l.lo l.hi c.args.low c.args.high c.loop-block.from c.loop-block.to c.reveal_order.ensures.laid c.requires.gap.loose inv.high inv.place inv.room inv.cut c.loop-block.blocks inv.ordered inv.list
     c.in-Some.block is.0.known is.0.below is.0.last (record
     { from = c.run_begin.result; to = block_end c.in-Some.block }) c.run_begin.ensures.run
     (run_some c.loop-block.blocks c.in-Some.block inv.ordered is.0.known c.args.low c.run_begin.result is.1
@@ -132,7 +133,7 @@ loop-block-preserved g c =
     (run_some c.loop-block.blocks c.in-Some.block inv.ordered is.0.known c.args.low c.run_begin.result is.1
     c.run_begin.ensures.run c.run_begin.ensures.first) c.run_begin.ensures.low refl in
     let r = c.from-moved.ensures ∙ c.lift.ensures.moved in
-    let step = moved_then l.blocks l.lo l.hi c.args.low c.args.high c.loop-block.from c.loop-block.to c.reveal_order.ensures.laid c.requires.gap.loose inv.high inv.place inv.room inv.cut c.loop-block.blocks inv.ordered inv.list
+    let step = M.moved_then l.blocks l.lo l.hi c.args.low c.args.high c.loop-block.from c.loop-block.to c.reveal_order.ensures.laid c.requires.gap.loose inv.high inv.place inv.room inv.cut c.loop-block.blocks inv.ordered inv.list
     c.in-Some.block is.0.known is.0.below is.0.last (record
     { from = c.run_begin.result; to = block_end c.in-Some.block }) c.run_begin.ensures.run
     (run_some c.loop-block.blocks c.in-Some.block inv.ordered is.0.known c.args.low c.run_begin.result is.1
@@ -144,26 +145,26 @@ loop-block-preserved g c =
       ordered = c.lift.ensures.ordered;
       list = list;
       low = c.run_begin.ensures.low;
-      high = let end = end_below l.blocks l.lo l.hi c.args.low c.args.high c.loop-block.from c.loop-block.to c.reveal_order.ensures.laid c.requires.gap.loose inv.high inv.place inv.room inv.cut c.loop-block.blocks inv.ordered inv.list
+      high = let end = M.end_below l.blocks l.lo l.hi c.args.low c.args.high c.loop-block.from c.loop-block.to c.reveal_order.ensures.laid c.requires.gap.loose inv.high inv.place inv.room inv.cut c.loop-block.blocks inv.ordered inv.list
           c.in-Some.block is.0.known is.0.below is.0.last
           (record { from = c.run_begin.result; to = block_end c.in-Some.block }) c.run_begin.ensures.run
           (run_some c.loop-block.blocks c.in-Some.block inv.ordered is.0.known c.args.low c.run_begin.result is.1
           c.run_begin.ensures.run c.run_begin.ensures.first) c.run_begin.ensures.low refl in let two = inv.high in
           let order = run.inside.1 in omega arith;
-      cut = cut_then l.blocks l.lo l.hi c.args.low c.args.high c.loop-block.from c.loop-block.to c.reveal_order.ensures.laid c.requires.gap.loose inv.high inv.place inv.room inv.cut c.loop-block.blocks inv.ordered inv.list
+      cut = M.cut_then l.blocks l.lo l.hi c.args.low c.args.high c.loop-block.from c.loop-block.to c.reveal_order.ensures.laid c.requires.gap.loose inv.high inv.place inv.room inv.cut c.loop-block.blocks inv.ordered inv.list
           c.in-Some.block is.0.known is.0.below is.0.last
           (record { from = c.run_begin.result; to = block_end c.in-Some.block }) c.run_begin.ensures.run
           (run_some c.loop-block.blocks c.in-Some.block inv.ordered is.0.known c.args.low c.run_begin.result is.1
           c.run_begin.ensures.run c.run_begin.ensures.first) c.run_begin.ensures.low refl;
-      place = place_then l.blocks l.lo l.hi c.args.low c.args.high c.loop-block.from c.loop-block.to c.reveal_order.ensures.laid c.requires.gap.loose inv.high inv.place inv.room inv.cut c.loop-block.blocks inv.ordered inv.list
+      place = M.place_then l.blocks l.lo l.hi c.args.low c.args.high c.loop-block.from c.loop-block.to c.reveal_order.ensures.laid c.requires.gap.loose inv.high inv.place inv.room inv.cut c.loop-block.blocks inv.ordered inv.list
           c.in-Some.block is.0.known is.0.below is.0.last
           (record { from = c.run_begin.result; to = block_end c.in-Some.block }) c.run_begin.ensures.run
           (run_some c.loop-block.blocks c.in-Some.block inv.ordered is.0.known c.args.low c.run_begin.result is.1
           c.run_begin.ensures.run c.run_begin.ensures.first) c.run_begin.ensures.low refl;
       room = room.1;
       grained = multiple_less l.grain c.loop-block.to (block_end c.in-Some.block - c.run_begin.result) inv.grained
-          (subst (λ (n : ℕ). IsMultiple n (block_end c.in-Some.block - c.run_begin.result)) grain (multiple_less c.loop-block.blocks.grain (block_end c.in-Some.block) c.run_begin.result run.grained.1 run.grained.0));
-      moved = let total = inv.moved in let same = ap (moved_between l.blocks) list in omega (arith, total, same, step);
+          (subst (λ (n : ℕ). C.IsMultiple n (block_end c.in-Some.block - c.run_begin.result)) grain (multiple_less c.loop-block.blocks.grain (block_end c.in-Some.block) c.run_begin.result run.grained.1 run.grained.0));
+      moved = let total = inv.moved in let same = ap (C.moved_between l.blocks) list in omega (arith, total, same, step);
       small = let h = inv.small in omega arith;
       written = let h = inv.written in let k = c.lift.ensures.written in let wide = c.from-moved.ensures in omega (arith, h, k, wide);
       contents = c.lift.ensures.contents ∙ inv.contents;
@@ -171,10 +172,10 @@ loop-block-preserved g c =
     }
 
 module _ (g : Given.Over) (c : goal.In_default g) where
-  list : c.loop-block.blocks.blocks ≡ raised c.args.low c.args.high c.args.blocks.now.blocks
+  list : c.loop-block.blocks.blocks ≡ C.raised c.args.low c.args.high c.args.blocks.now.blocks
   list =
       let l = c.args.blocks.now in let inv = c.loop-block.invariant in
-      inv.list ∙ raised_all l.blocks c.args.low c.loop-block.from c.args.high inv.low l.blocks (subst (AllByRecursion (λ b. (b.at < c.args.low) ⊎ (c.loop-block.from ≤ b.at))) inv.list c.in_default.ensures.value)
+      inv.list ∙ M.raised_all l.blocks c.args.low c.loop-block.from c.args.high inv.low l.blocks (subst (C.AllByRecursion (λ b. (b.at < c.args.low) ⊎ (c.loop-block.from ≤ b.at))) inv.list c.in_default.ensures.value)
 
 pub returns-clause-blocks : goal.returns-clause-blocks
 returns-clause-blocks g c =
@@ -184,4 +185,4 @@ returns-clause-blocks g c =
 pub returns-clause-slid : goal.returns-clause-slid
 returns-clause-slid g c =
     let l = c.args.blocks.now in
-    subst (AreSlid l.blocks) (sym (list g c)) (slid_raised l.blocks c.args.low c.args.high l.lo l.hi l.blocks c.reveal_order.ensures.laid c.requires.gap.loose)
+    subst (C.AreSlid l.blocks) (sym (list g c)) (M.slid_raised l.blocks c.args.low c.args.high l.lo l.hi l.blocks c.reveal_order.ensures.laid c.requires.gap.loose)

@@ -1,7 +1,8 @@
-use Rattle.w16_compact.proofs.Common.{ℕ, suc, List, ◌≡◌, ◌-◌, ◌<◌, inl, inr, length, drop, ap, sym, ◌∙◌, subst, arith, add-one, cases_lt, eligible, room_for, snapshot}
-use Rattle.w16_compact.proofs.Searched.{first_here, passed_here, room_past}
-use Rattle.w16_compact.proofs.Skips.{rest_after}
-use Rattle.w16_compact.proofs.Widened.{known_gap, fits_room, reached_next, once_each}
+use Rattle.w16_compact.proofs
+use proofs.Common.{ℕ, suc, List, ◌≡◌, ◌-◌, ◌<◌, inl, inr, length, drop, ap, sym, ◌∙◌, subst, arith, add-one, cases_lt, eligible, room_for, snapshot}
+use proofs.Searched.{first_here, passed_here, room_past}
+use proofs.Skips.{rest_after}
+use proofs.Widened.{known_gap, fits_room, reached_next, once_each}
 use Rattle.w16_compact.proofs.prefix.search.Goals as goal
 
 pub loop-id-preserved-then-not-is_eligible : goal.loop-id-preserved-then-not-is_eligible

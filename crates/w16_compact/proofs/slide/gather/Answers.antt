@@ -1,8 +1,9 @@
-use Rattle.w16_compact.proofs.Common.{◌≡◌, ◌≢◌, ◌+◌, ◌-◌, refl, sym, ◌∙◌, ap, subst, arith, AllByRecursion, Span, IsClear, IsHole, is_any, loose_bytes, Layout, gathered, moved_between, FitsGap, AreSlid}
-use Rattle.w16_compact.proofs.Cleared.{slid_gathered, clear_gathered, hole_gathered, alone_gathered}
-use Rattle.w16_compact.proofs.Rests.{leaves_more, rest_same}
-use Rattle.w16_compact.proofs.Order.{each_got}
-use Rattle.w16_compact.proofs.Gathering.{AreKept, kept_start, moved_same, some_run, above, cuts, bare_to, grained_at, fits_then, list_then, run_then, kept_then, moved_step, at_most, list_end}
+use Rattle.w16_compact.proofs
+use proofs.Common as C
+use proofs.Gathering as M
+use proofs.Common.{◌≡◌, ◌≢◌, ◌+◌, ◌-◌, refl, sym, ◌∙◌, ap, subst, arith, Span, Layout}
+use proofs.Cleared.{slid_gathered, clear_gathered, hole_gathered, alone_gathered}
+use proofs.{Rests.leaves_more, Rests.rest_same, Order.each_got, Gathering.above, Gathering.cuts}
 use Rattle.w16_compact.proofs.slide.gather.Given as Given
 use Rattle.w16_compact.proofs.slide.gather.Goals as goal
 
@@ -16,8 +17,8 @@ loop-block-init g c =
       settled = c.packed_to-to.ensures.run;
       high = c.packed_to-to.ensures.high;
       fits = gap.loose;
-      stay = kept_start c.packed_to-to.result l.blocks;
-      moved = sym (moved_same l.blocks);
+      stay = M.kept_start c.packed_to-to.result l.blocks;
+      moved = sym (M.moved_same l.blocks);
       small = omega arith;
       written = omega arith;
       contents = refl;
@@ -34,7 +35,7 @@ settle-requires-clause-part g c =
 pub settle-requires-clause-grained : goal.settle-requires-clause-grained
 settle-requires-clause-grained g c =
     let inv = c.loop-block.invariant in
-    (grained_at c.loop-block.blocks inv.ordered c.args.low c.args.high c.loop-block.to c.in-Some.block c.in-Some.ensures.value.0 inv.fits c.requires.gap.inside.1 inv.settled, inv.settled.grained.1)
+    (M.grained_at c.loop-block.blocks inv.ordered c.args.low c.args.high c.loop-block.to c.in-Some.block c.in-Some.ensures.value.0 inv.fits c.requires.gap.inside.1 inv.settled, inv.settled.grained.1)
 
 pub settle-requires-clause-whole : goal.settle-requires-clause-whole
 settle-requires-clause-whole g c =
@@ -47,7 +48,7 @@ settle-requires-clause-begins g c = λ none. each_got (λ b. b.at ≢ c.in-Some.
 pub settle-requires-clause-bare : goal.settle-requires-clause-bare
 settle-requires-clause-bare g c =
     let inv = c.loop-block.invariant in
-    bare_to c.loop-block.blocks inv.ordered c.args.low c.args.high c.loop-block.to c.in-Some.block c.in-Some.ensures.value.0 inv.fits c.requires.gap.inside.1 inv.settled
+    M.bare_to c.loop-block.blocks inv.ordered c.args.low c.args.high c.loop-block.to c.in-Some.block c.in-Some.ensures.value.0 inv.fits c.requires.gap.inside.1 inv.settled
 
 pub overflow_add-to : goal.overflow_add-to
 overflow_add-to g c =
@@ -60,7 +61,7 @@ pub loop-block-smaller : goal.loop-block-smaller
 loop-block-smaller g c =
     let inv = c.loop-block.invariant in
     let up = above c.loop-block.blocks inv.ordered c.args.low c.args.high c.loop-block.to c.in-Some.block c.in-Some.ensures.value.0 inv.fits c.requires.gap.inside.1 inv.settled in
-    let some = some_run c.loop-block.blocks c.args.high c.settle.result _ c.in-Some.block c.in-Some.ensures.value.0 c.in-Some.ensures.value.1 c.settle.ensures.run.inside.1 c.settle.ensures.last in
+    let some = M.some_run c.loop-block.blocks c.args.high c.settle.result _ c.in-Some.block c.in-Some.ensures.value.0 c.in-Some.ensures.value.1 c.settle.ensures.run.inside.1 c.settle.ensures.last in
     let lt = c.in-Some.ensures.value.1 in omega arith
 
 pub loop-block-preserved : goal.loop-block-preserved
@@ -68,23 +69,23 @@ loop-block-preserved g c =
     let l = c.loop-block.blocks in let inv = c.loop-block.invariant in let to = c.loop-block.to in let low = c.args.low in let high = c.args.high in
     let run : Span = record { from = c.in-Some.block.at; to = c.settle.result } in
     let up = above l inv.ordered low high to c.in-Some.block c.in-Some.ensures.value.0 inv.fits c.requires.gap.inside.1 inv.settled in
-    let some = some_run l high c.settle.result _ c.in-Some.block c.in-Some.ensures.value.0 c.in-Some.ensures.value.1 c.settle.ensures.run.inside.1 c.settle.ensures.last in
-    let bare = bare_to l inv.ordered low high to c.in-Some.block c.in-Some.ensures.value.0 inv.fits c.requires.gap.inside.1 inv.settled in
+    let some = M.some_run l high c.settle.result _ c.in-Some.block c.in-Some.ensures.value.0 c.in-Some.ensures.value.1 c.settle.ensures.run.inside.1 c.settle.ensures.last in
+    let bare = M.bare_to l inv.ordered low high to c.in-Some.block c.in-Some.ensures.value.0 inv.fits c.requires.gap.inside.1 inv.settled in
     let from = inv.settled.inside.1 in let top = c.settle.ensures.high in let is = c.settle.ensures.run in
     let new = c.settle.ensures.blocks in
     let list = ap (λ (m : Layout). m.blocks) new in
     let r = c.from-moved.ensures ∙ c.moved_bytes.ensures in
-    let step = moved_step l inv.ordered low high to run from up some top is bare c.args.blocks.now.blocks inv.stay c.from-moved.result r in
-    let few = at_most c.from-moved.result run.from to (run.to - run.from) r in
+    let step = M.moved_step l inv.ordered low high to run from up some top is bare c.args.blocks.now.blocks inv.stay c.from-moved.result r in
+    let few = M.at_most c.from-moved.result run.from to (run.to - run.from) r in
     record {
       bounds = (ap (λ (m : Layout). m.cap) new ∙ inv.bounds.0, ap (λ (m : Layout). m.lo) new ∙ inv.bounds.1, ap (λ (m : Layout). m.hi) new ∙ inv.bounds.2, ap (λ (m : Layout). m.grain) new ∙ inv.bounds.3);
       ordered = c.settle.ensures.ordered;
-      list = ap (gathered low high) list ∙ list_then l inv.ordered low high to run from up some top is bare ∙ inv.list;
-      settled = run_then l inv.ordered low high to run from up some top is bare c.settle.new.blocks c.settle.ensures.ordered new inv.settled;
+      list = ap (C.gathered low high) list ∙ M.list_then l inv.ordered low high to run from up some top is bare ∙ inv.list;
+      settled = M.run_then l inv.ordered low high to run from up some top is bare c.settle.new.blocks c.settle.ensures.ordered new inv.settled;
       high = omega arith;
-      fits = subst (AllByRecursion (FitsGap low high)) (sym list) (fits_then l inv.ordered low high to run from up some top is bare inv.fits);
-      stay = subst (AreKept (to + (run.to - run.from)) c.args.blocks.now.blocks) (sym list) (kept_then l inv.ordered low high to run from up some top is bare c.args.blocks.now.blocks inv.stay);
-      moved = let total = inv.moved in let same = ap (moved_between c.args.blocks.now.blocks) list in omega (arith, total, same, step);
+      fits = subst (C.AllByRecursion (C.FitsGap low high)) (sym list) (M.fits_then l inv.ordered low high to run from up some top is bare inv.fits);
+      stay = subst (M.AreKept (to + (run.to - run.from)) c.args.blocks.now.blocks) (sym list) (M.kept_then l inv.ordered low high to run from up some top is bare c.args.blocks.now.blocks inv.stay);
+      moved = let total = inv.moved in let same = ap (C.moved_between c.args.blocks.now.blocks) list in omega (arith, total, same, step);
       small = let h = inv.small in omega arith;
       written = let h = inv.written in let k = c.settle.ensures.written in let wide = c.from-moved.ensures in let own = c.moved_bytes.ensures in omega (arith, h, k, wide, own);
       contents = c.settle.ensures.contents ∙ inv.contents;
@@ -92,8 +93,8 @@ loop-block-preserved g c =
     }
 
 module _ (g : Given.Over) (c : goal.In_default g) where
-  list : c.loop-block.blocks.blocks ≡ gathered c.args.low c.args.high c.args.blocks.now.blocks
-  list = list_end c.loop-block.blocks c.args.low c.args.high c.loop-block.to c.args.blocks.now.blocks c.loop-block.invariant.ordered c.loop-block.invariant.settled c.in_default.ensures.value c.loop-block.invariant.list
+  list : c.loop-block.blocks.blocks ≡ C.gathered c.args.low c.args.high c.args.blocks.now.blocks
+  list = M.list_end c.loop-block.blocks c.args.low c.args.high c.loop-block.to c.args.blocks.now.blocks c.loop-block.invariant.ordered c.loop-block.invariant.settled c.in_default.ensures.value c.loop-block.invariant.list
 
 pub returns-clause-blocks : goal.returns-clause-blocks
 returns-clause-blocks g c =
@@ -103,12 +104,12 @@ returns-clause-blocks g c =
 pub returns-clause-slid : goal.returns-clause-slid
 returns-clause-slid g c =
     let l = c.args.blocks.now in
-    subst (AreSlid l.blocks) (sym (list g c)) (slid_gathered c.args.low c.args.high l.lo l.hi l.blocks c.reveal_order.ensures.laid c.requires.gap.loose)
+    subst (C.AreSlid l.blocks) (sym (list g c)) (slid_gathered c.args.low c.args.high l.lo l.hi l.blocks c.reveal_order.ensures.laid c.requires.gap.loose)
 
 pub returns-clause-left : goal.returns-clause-left
 returns-clause-left g c =
-    let l = c.args.blocks.now in let low = c.args.low in let high = c.args.high in let free = low + loose_bytes l.blocks low high in let laid = c.reveal_order.ensures.laid in record {
-      clear = subst (λ bs. IsClear is_any l.lo l.hi bs free high) (sym (list g c)) (clear_gathered l low high laid c.requires.gap);
-      hole = λ gap some. subst (λ bs. IsHole l.lo l.hi bs free high) (sym (list g c)) (hole_gathered l low high laid c.requires.gap gap some);
-      alone = λ gap a b hole. alone_gathered l low high laid c.requires.gap gap a b (subst (λ bs. IsHole l.lo l.hi bs a b) (list g c) hole);
+    let l = c.args.blocks.now in let low = c.args.low in let high = c.args.high in let free = low + C.loose_bytes l.blocks low high in let laid = c.reveal_order.ensures.laid in record {
+      clear = subst (λ bs. C.IsClear C.is_any l.lo l.hi bs free high) (sym (list g c)) (clear_gathered l low high laid c.requires.gap);
+      hole = λ gap some. subst (λ bs. C.IsHole l.lo l.hi bs free high) (sym (list g c)) (hole_gathered l low high laid c.requires.gap gap some);
+      alone = λ gap a b hole. alone_gathered l low high laid c.requires.gap gap a b (subst (λ bs. C.IsHole l.lo l.hi bs a b) (list g c) hole);
     }

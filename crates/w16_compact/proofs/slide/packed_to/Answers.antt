@@ -1,5 +1,4 @@
-use Rattle.w16_compact.proofs.Gathering.{run_start}
-use Rattle.w16_compact.proofs.Packed.{run_packed}
+use Rattle.w16_compact.proofs.{Gathering.run_start, Packed.run_packed}
 use Rattle.w16_compact.proofs.slide.packed_to.Goals as goal
 
 pub returns-in-Some-clause-run : goal.returns-in-Some-clause-run

@@ -1,8 +1,8 @@
-use Rattle.w16_compact.proofs.Common.{◌≡◌, ◌+◌, ◌-◌, ℕ, max, nat_le, filter, arith, refl, sym, ap, ◌∙◌, subst, Span, room, laid_later, IsGrained, IsMultiple, multiple_sum}
-use Rattle.w16_compact.proofs.OnePass.{ord_max-max}
-use Rattle.w16_compact.proofs.ByAddress.{all_left, may_begin}
-use Rattle.w16_compact.proofs.Skips.{IsPassed, no_grain, passed_grained, each_here, rest_is, passed_start, passed_end, ends_now_all, id_here}
-use Rattle.w16_compact.proofs.Stays.{seen, stays, goes_for, laid_seen, seen_none, reaches, turn_out, turn_sliding, turn_still, prefix_is}
+use Rattle.w16_compact.proofs
+use proofs.Skips as M
+use proofs.Common.{◌≡◌, ◌+◌, ◌-◌, ℕ, max, nat_le, filter, arith, refl, sym, ap, ◌∙◌, subst, Span, room, laid_later, IsGrained, IsMultiple, multiple_sum}
+use proofs.Stays.{seen, stays, goes_for, laid_seen, seen_none, reaches, turn_out, turn_sliding, turn_still, prefix_is}
+use proofs.{OnePass.ord_max-max, ByAddress.all_left, ByAddress.may_begin, Skips.rest_is}
 use Rattle.w16_compact.proofs.stretch.stretch_for.Goals as goal
 
 pub loop-block-init : goal.loop-block-init
@@ -20,16 +20,16 @@ loop-block-init g c =
         0,
         all_left l it.blocks.now it.from same first,
         λ end le.
-            subst (λ (s : Span). IsPassed p end xs (room l.lo end (filter p xs)) 0 0 s.from 0) (sym c.bounds-bounds.ensures.value)
-            (passed_start p l.lo end xs (laid_seen o.compact l.lo end l.blocks (laid_later l.lo l.hi end l.blocks c.bounds-bounds.ensures.ordered.laid le))),
+            subst (λ (s : Span). M.IsPassed p end xs (room l.lo end (filter p xs)) 0 0 s.from 0) (sym c.bounds-bounds.ensures.value)
+            (M.passed_start p l.lo end xs (laid_seen o.compact l.lo end l.blocks (laid_later l.lo l.hi end l.blocks c.bounds-bounds.ensures.ordered.laid le))),
       );
-      grained = (subst (λ (s : Span). IsMultiple l.grain s.from) (sym c.bounds-bounds.ensures.value) c.bounds-bounds.ensures.ordered.from, no_grain l.grain);
+      grained = (subst (λ (s : Span). IsMultiple l.grain s.from) (sym c.bounds-bounds.ensures.value) c.bounds-bounds.ensures.ordered.from, M.no_grain l.grain);
     }
 
 pub is_left_out-requires : goal.is_left_out-requires
 is_left_out-requires g c =
     let l = c.args.blocks.now in let now = c.loop-block.invariant in
-    id_here l.cap l.blocks c.in-Some.block _ now.passed.0 (now.passed.1 ∙ c.in-Some.ensures.steps) c.bounds-bounds.ensures.ordered.named
+    M.id_here l.cap l.blocks c.in-Some.block _ now.passed.0 (now.passed.1 ∙ c.in-Some.ensures.steps) c.bounds-bounds.ensures.ordered.named
 
 pub loop-block-preserved-then-is_left_out : goal.loop-block-preserved-then-is_left_out
 loop-block-preserved-then-is_left_out g c =
@@ -69,7 +69,7 @@ loop-block-preserved-then-may_slide g c =
             turn_sliding goes end _ l.blocks c.in-Some.block _ now.passed.0 here c.loop-block.most c.loop-block.reached o.compact (sym c.is_left_out.ensures ∙ c.if-is_left_out.false) (sym c.may_slide.ensures ∙ c.if-may_slide.true)
             c.passing-reached.result c.passing-reached.ensures (now.passed.2 end le),
       );
-      grained = passed_grained l.grain c.loop-block.reached c.passing-reached.result c.in-Some.block (each_here (IsGrained l.grain) l.blocks c.in-Some.block _ now.passed.0 here c.bounds-bounds.ensures.ordered.grained) now.grained c.passing-reached.ensures;
+      grained = M.passed_grained l.grain c.loop-block.reached c.passing-reached.result c.in-Some.block (M.each_here (IsGrained l.grain) l.blocks c.in-Some.block _ now.passed.0 here c.bounds-bounds.ensures.ordered.grained) now.grained c.passing-reached.ensures;
     }
 
 pub room_to-requires : goal.room_to-requires
@@ -98,7 +98,7 @@ loop-block-preserved g c =
             turn_still goes end _ l.blocks c.in-Some.block _ now.passed.0 here c.loop-block.most c.loop-block.reached o.compact (sym c.is_left_out.ensures ∙ c.if-is_left_out.false) (sym c.may_slide.ensures ∙ c.if-may_slide.false)
             c.max-most.result most (now.passed.2 end le),
       );
-      grained = let fits = each_here (IsGrained l.grain) l.blocks c.in-Some.block _ now.passed.0 here c.bounds-bounds.ensures.ordered.grained in (multiple_sum l.grain _ _ fits.0 fits.1, no_grain l.grain);
+      grained = let fits = M.each_here (IsGrained l.grain) l.blocks c.in-Some.block _ now.passed.0 here c.bounds-bounds.ensures.ordered.grained in (multiple_sum l.grain _ _ fits.0 fits.1, M.no_grain l.grain);
     }
 
 -- behind the last block
@@ -107,14 +107,14 @@ room_to-requires-2 g c =
     let l = c.args.blocks.now in let now = c.loop-block.invariant in let o = c.args.options in
     let p = stays o.compact (goes_for l.blocks c.args.order.now.ids c.args.h o.discard) in
     let to : c.bounds-bounds.result.to ≡ l.hi = ap (λ (s : Span). s.to) c.bounds-bounds.ensures.value in
-    let le = ends_now_all p l.hi (seen o.compact l.blocks) _ now.passed.0 (seen_none o.compact l.blocks now.passed.0 (now.passed.1 ∙ c.in-None.ensures.steps.0)) c.loop-block.most c.loop-block.reached (now.passed.2 l.hi (omega arith)) in
+    let le = M.ends_now_all p l.hi (seen o.compact l.blocks) _ now.passed.0 (seen_none o.compact l.blocks now.passed.0 (now.passed.1 ∙ c.in-None.ensures.steps.0)) c.loop-block.most c.loop-block.reached (now.passed.2 l.hi (omega arith)) in
     omega arith
 
 pub overflow_add-result : goal.overflow_add-result
 overflow_add-result g c =
     let l = c.args.blocks.now in let now = c.loop-block.invariant in let o = c.args.options in
     let p = stays o.compact (goes_for l.blocks c.args.order.now.ids c.args.h o.discard) in
-    let le = ends_now_all p l.hi (seen o.compact l.blocks) _ now.passed.0 (seen_none o.compact l.blocks now.passed.0 (now.passed.1 ∙ c.in-None.ensures.steps.0)) c.loop-block.most c.loop-block.reached (now.passed.2 l.hi (omega arith)) in
+    let le = M.ends_now_all p l.hi (seen o.compact l.blocks) _ now.passed.0 (seen_none o.compact l.blocks now.passed.0 (now.passed.1 ∙ c.in-None.ensures.steps.0)) c.loop-block.most c.loop-block.reached (now.passed.2 l.hi (omega arith)) in
     let small = c.bounds-bounds.ensures.ordered.small in record { fits = omega arith }
 
 pub returns-clause-value : goal.returns-clause-value
@@ -122,7 +122,7 @@ returns-clause-value g c = λ end n le.
     let l = c.args.blocks.now in let now = c.loop-block.invariant in let o = c.args.options in let r = c.loop-block.reached in
     let p = stays o.compact (goes_for l.blocks c.args.order.now.ids c.args.h o.discard) in let xs = seen o.compact l.blocks in
     let none = seen_none o.compact l.blocks now.passed.0 (now.passed.1 ∙ c.in-None.ensures.steps.0) in
-    let whole : max c.loop-block.most (end - r.low - r.loose) ≡ room l.lo end (filter p xs) = passed_end p end xs _ now.passed.0 none c.loop-block.most r (now.passed.2 end le) (max c.loop-block.most (end - r.low - r.loose)) refl in
+    let whole : max c.loop-block.most (end - r.low - r.loose) ≡ room l.lo end (filter p xs) = M.passed_end p end xs _ now.passed.0 none c.loop-block.most r (now.passed.2 end le) (max c.loop-block.most (end - r.low - r.loose)) refl in
     let to : c.bounds-bounds.result.to ≡ l.hi = ap (λ (s : Span). s.to) c.bounds-bounds.ensures.value in
     let last : c.room_to-2.result ≡ l.hi - r.low - r.loose = c.room_to-2.ensures ∙ ap (λ (k : ℕ). k - r.low - r.loose) to in
     let best : c.max.result ≡ max c.loop-block.most (l.hi - r.low - r.loose) = c.max.ensures ∙ ap (λ (k : ℕ). max c.loop-block.most k) last in

@@ -1,6 +1,5 @@
 use Rattle.w16_global.proofs.Common.{◌∙◌, ◌<◌, inr, sym, ap, subst, arith, is_some, begins_in}
-use Rattle.w16_global.proofs.Following.{further}
-use Rattle.w16_global.proofs.Told.{placed_below, run_known, run_sized, told_labelled}
+use Rattle.w16_global.proofs.{Following.further, Told.placed_below, Told.run_known, Told.run_sized, Told.told_labelled}
 use Rattle.w16_global.proofs.follow.follow_slid.Goals as goal
 
 pub objects-preserved : goal.objects-preserved

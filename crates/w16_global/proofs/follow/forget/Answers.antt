@@ -1,6 +1,5 @@
 use Rattle.w16_global.proofs.Common.{◌∙◌, ◌≡◌, ◌<◌, ℕ, All, All-get_or, None, get_or, sym, ap, subst, bytes_at, arith, is_member, take, vacated}
-use Rattle.w16_global.proofs.Following.{forgets_next}
-use Rattle.w16_global.proofs.Told.{run_known, told_labelled}
+use Rattle.w16_global.proofs.{Following.forgets_next, Told.run_known, Told.told_labelled}
 use Rattle.w16_global.proofs.follow.forget.Goals as goal
 
 pub overflow_cast-first : goal.overflow_cast-first

@@ -1,8 +1,10 @@
 -- One module more is bound.
-use Rattle.w16_loader.proofs.Common.{◌∷◌, ◌<◌, ◌≤◌, [], drop, get_or, length, sym, ap, ◌∙◌, subst, arith, IsSomeAnd, drop_more, drop_all, without_values, Modules, module_at, AreTargets, IsSaid, all_bound}
+use Rattle.w16_loader.proofs
+use proofs.Common as C
+use proofs.Bindings as M
+use proofs.Common.{◌∷◌, ◌<◌, ◌≤◌, [], drop, length, sym, ap, ◌∙◌, subst, arith}
+use proofs.{Values.fault_since, Bindings.step}
 use Rattle.std.specs.FinMap as finmap
-use Rattle.w16_loader.proofs.Values.{fault_since}
-use Rattle.w16_loader.proofs.Bindings.{no_more, none_left, others_next, read_here, said_here, step, still_alike, targets_in_all, targets_left, targets_next}
 use Rattle.w16_loader.proofs.binding.bind_modules.Goals as goal
 
 pub loop-place-preserved : goal.loop-place-preserved
@@ -12,35 +14,35 @@ loop-place-preserved g c =
     let next = c.bind_module.new.registry in
     let handles = c.args.handles.now in
     let place = c.loop-place.place in
-    let handle = get_or handles place 0 in
+    let handle = C.get_or handles place 0 in
     let files = g.S.Store.files c.args.store.now in
     let before = c.loop-place.invariant in
     let lt : place < length handles = omega arith in
-    let here = drop_more handles place 0 lt in
+    let here = C.drop_more handles place 0 lt in
     let ts = c.in-Ok.ensures.any in
     record {
       files = c.in-Ok.ensures.stays.same ∙ before.files;
       failures = omega (arith, c.in-Ok.ensures.stays.counted, before.failures);
-      values = still_alike old now next handles place handle here before.values ts.0 ts.2;
-      others = λ q none. others_next old now next handles place handle here before.values ts.0 ts.2 q none (before.others q none);
+      values = M.still_alike old now next handles place handle here before.values ts.0 ts.2;
+      others = λ q none. M.others_next old now next handles place handle here before.values ts.0 ts.2 q none (before.others q none);
       any = λ more are.
-          (let b = before.any (ts.0 ∷ more) (targets_left old now next handles place handle here before.values ts.0 ts.1 more are) in (
+          (let b = before.any (ts.0 ∷ more) (M.targets_left old now next handles place handle here before.values ts.0 ts.1 more are) in (
             b.0,
             b.1,
             b.2 ∙ step old now next handles place handle here before.values ts.0 ts.2 more,
             λ reads honest said rest.
-                (let read = read_here old now next handles place handle here before.values files reads said lt in
-                let is = said_here old now next handles place handle here before.values files reads said lt in
-                let still = subst (λ fs. IsSomeAnd (module_at now handle) (λ m. IsSaid fs m read)) (sym before.files) is in
-                b.3 reads honest said (targets_next old now next handles place handle here before.values files reads said lt ts.0 more (ts.3 read honest still) rest)),
+                (let read = M.read_here old now next handles place handle here before.values files reads said lt in
+                let is = M.said_here old now next handles place handle here before.values files reads said lt in
+                let still = subst (λ fs. C.IsSomeAnd (C.module_at now handle) (λ m. C.IsSaid fs m read)) (sym before.files) is in
+                b.3 reads honest said (M.targets_next old now next handles place handle here before.values files reads said lt ts.0 more (ts.3 read honest still) rest)),
           ));
     }
 
 pub returns-in-Err-clause-values : goal.returns-in-Err-clause-values
-returns-in-Err-clause-values g c = λ q. ap (λ (modules : Modules). without_values (finmap.get modules q)) c.in-Err.ensures.err ∙ c.loop-place.invariant.values q
+returns-in-Err-clause-values g c = λ q. ap (λ (modules : C.Modules). C.without_values (finmap.get modules q)) c.in-Err.ensures.err ∙ c.loop-place.invariant.values q
 
 pub returns-in-Err-clause-others : goal.returns-in-Err-clause-others
-returns-in-Err-clause-others g c = λ q none. ap (λ (modules : Modules). finmap.get modules q) c.in-Err.ensures.err ∙ c.loop-place.invariant.others q none
+returns-in-Err-clause-others g c = λ q none. ap (λ (modules : C.Modules). finmap.get modules q) c.in-Err.ensures.err ∙ c.loop-place.invariant.others q none
 
 pub returns-in-Err-clause-faults : goal.returns-in-Err-clause-faults
 returns-in-Err-clause-faults g c = λ reads honest said.
@@ -48,28 +50,28 @@ returns-in-Err-clause-faults g c = λ reads honest said.
     let now = c.loop-place.registry in
     let handles = c.args.handles.now in
     let place = c.loop-place.place in
-    let handle = get_or handles place 0 in
+    let handle = C.get_or handles place 0 in
     let files = g.S.Store.files c.args.store.now in
     let before = c.loop-place.invariant in
     let lt : place < length handles = omega arith in
-    let here = drop_more handles place 0 lt in
-    let read = read_here old now now handles place handle here before.values files reads said lt in
-    let is = said_here old now now handles place handle here before.values files reads said lt in
-    let still = subst (λ fs. IsSomeAnd (module_at now handle) (λ m. IsSaid fs m read)) (sym before.files) is in
+    let here = C.drop_more handles place 0 lt in
+    let read = M.read_here old now now handles place handle here before.values files reads said lt in
+    let is = M.said_here old now now handles place handle here before.values files reads said lt in
+    let still = subst (λ fs. C.IsSomeAnd (C.module_at now handle) (λ m. C.IsSaid fs m read)) (sym before.files) is in
     c.fault_at.ensures.failure _ _ (fault_since _ _ _ _ c.in-Err.fault before.failures (c.in-Err.ensures.failed read honest still))
 
 pub returns-clause-any : goal.returns-clause-any
 returns-clause-any g c =
     let old = c.args.registry.now in
     let past : length c.args.handles.now ≤ c.loop-place.place = omega arith in
-    let none = drop_all c.loop-place.place c.args.handles.now past in
-    let all = c.loop-place.invariant.any [] (subst (λ hs. AreTargets old hs []) (sym none) tt) in (
+    let none = C.drop_all c.loop-place.place c.args.handles.now past in
+    let all = c.loop-place.invariant.any [] (subst (λ hs. C.AreTargets old hs []) (sym none) tt) in (
       all.0,
       all.1,
-      sym (all.2 ∙ none_left (finmap.get old) c.loop-place.registry (drop c.loop-place.place c.args.handles.now) [] none),
-      λ reads honest said. all.3 reads honest said (sym (ap targets_in_all (drop_all c.loop-place.place reads (no_more c.args.handles.now reads _ said c.loop-place.place past)))),
+      sym (all.2 ∙ M.none_left (finmap.get old) c.loop-place.registry (drop c.loop-place.place c.args.handles.now) [] none),
+      λ reads honest said. all.3 reads honest said (sym (ap M.targets_in_all (C.drop_all c.loop-place.place reads (M.no_more c.args.handles.now reads _ said c.loop-place.place past)))),
     )
 
 pub returns-clause-bound : goal.returns-clause-bound
 returns-clause-bound g c = λ reads honest said.
-    let all = returns-clause-any g c in all.2 ∙ ap (all_bound (finmap.get c.args.registry.now) c.args.registry.now c.args.handles.now) (all.3 reads honest said)
+    let all = returns-clause-any g c in all.2 ∙ ap (C.all_bound (finmap.get c.args.registry.now) c.args.registry.now c.args.handles.now) (all.3 reads honest said)

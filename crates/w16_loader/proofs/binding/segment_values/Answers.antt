@@ -1,11 +1,10 @@
 -- A segment that passes its check has the records that its file says.
 use Rattle.w16_loader.proofs.Common.{◌≡◌, ◌-◌, length, map, sym, ap, ◌∙◌, arith, length-map, segment_in}
-use Rattle.std.specs.FinMap as finmap
-use Rattle.w16_ne.specs.Modules.{Tables}
-use Rattle.w16_loading.specs.File as loading
-use Rattle.w16_ne.specs.Texts.{text_in}
-use Rattle.w16_format.specs.Data.{record_target}
 use Rattle.w16_loader.proofs.Values.{found, segment_refused, stored_as, stored_there, targets_alike, targets_are}
+use Rattle.w16_ne.specs.{Modules.Tables, Texts.text_in}
+use Rattle.w16_format.specs.Data.{record_target}
+use Rattle.std.specs.FinMap as finmap
+use Rattle.w16_loading.specs.File as loading
 use Rattle.w16_loader.proofs.binding.segment_values.Goals as goal
 
 pub check-requires-clause-last : goal.check-requires-clause-last

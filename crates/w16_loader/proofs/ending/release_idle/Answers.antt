@@ -1,6 +1,5 @@
 -- One went, and what goes from there on goes after it.
-use Rattle.w16_loader.proofs.Common.{◌∙◌, with_handles, in_world}
-use Rattle.w16_loader.proofs.Endings.{goes_first}
+use Rattle.w16_loader.proofs.{Common.◌∙◌, Common.with_handles, Common.in_world, Endings.goes_first}
 use Rattle.w16_loader.proofs.ending.release_idle.Goals as goal
 
 pub loop-handle-preserved : goal.loop-handle-preserved

@@ -1,7 +1,8 @@
 -- A segment more: its object gets its bytes, and leaves the others without, or it ends all.
-use Rattle.w16_loader.proofs.Common.{◌≡◌, ◌+◌, ◌-◌, ◌<◌, ◌≤◌, length, refl, ◌∙◌, sym, arith, subst, IsItsFiles, IsSaid, gives_over}
-use Rattle.w16_loader.proofs.Fillings.{part_at, part_unfilled, part_goes, part_ends, parts_done, at_none, rest_then}
-use Rattle.w16_loader.proofs.Givings.{turn_since}
+use Rattle.w16_loader.proofs
+use proofs.Common.{◌≡◌, ◌+◌, ◌-◌, ◌<◌, ◌≤◌, length, refl, ◌∙◌, sym, arith, subst, IsItsFiles, IsSaid, gives_over}
+use proofs.Fillings.{part_at, part_unfilled, part_goes, part_ends, parts_done, at_none, rest_then}
+use proofs.Givings.{turn_since}
 use Rattle.w16_loader.proofs.filling.fill_segments.Goals as goal
 
 pub loop-done-init : goal.loop-done-init

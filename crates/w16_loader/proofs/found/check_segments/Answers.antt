@@ -1,9 +1,10 @@
 -- A segment whose check passes leaves the others to decide; one whose check doesn't, decides.
-use Rattle.w16_loader.proofs.Common.{◌≡◌, ◌+◌, ◌-◌, ◌<◌, ◌≤◌, length, All, All-nil, Some, IsFit, map, option_map, segment_in, refl, sym, ap, subst, ◌∙◌, arith, slice_get, slice_get-map, length-map, take_all}
-use Rattle.w16_loader.proofs.Files.{there, all_sound, sound_next, is_unsound}
+use Rattle.w16_loader.proofs
+use proofs.Common.{◌≡◌, ◌+◌, ◌-◌, ◌<◌, ◌≤◌, length, All, All-nil, Some, IsFit, map, option_map, segment_in, refl, sym, ap, subst, ◌∙◌, arith, slice_get, slice_get-map, length-map, take_all}
+use proofs.Files.{there, all_sound, sound_next, is_unsound}
+use proofs.NameSteps.{fit_more, fits}
+use proofs.Tellings.{sound_told, unsound_told}
 use Rattle.w16_loader.specs.Devices.{is_file_device}
-use Rattle.w16_loader.proofs.NameSteps.{fit_more, fits}
-use Rattle.w16_loader.proofs.Tellings.{sound_told, unsound_told}
 use Rattle.w16_loader.proofs.found.check_segments.Goals as goal
 
 pub loop-place-preserved : goal.loop-place-preserved

@@ -3,8 +3,7 @@ use Rattle.std.specs.Result.{IfErr}
 use Rattle.w16_store.specs.Later.{RoseIf}
 use Rattle.w16_loader.specs.Devices.{is_file_device}
 use Rattle.w16_loader.proofs.Common.{◌<◌, arith, inl, Modules, Found, List, MatchResult, MakesOf, ReadsIn, answers_of, tables_in, ℕ, ◌≤◌, Result, Ok, Err, sym, subst, FileFault, IsFault, Refused}
-use Rattle.w16_loader.proofs.Meanings.{all_there}
-use Rattle.w16_loader.proofs.Values.{fault_since}
+use Rattle.w16_loader.proofs.{Meanings.all_there, Values.fault_since}
 use Rattle.w16_loading.specs.Answers.{Answers}
 use Rattle.w16_loader.specs.declared.found.FileFault.TheVariants as faults
 use Rattle.w16_loader.proofs.found.examine_file.Goals as goal

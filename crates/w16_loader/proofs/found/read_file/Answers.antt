@@ -1,9 +1,7 @@
 -- A file that is there has its tables, or its fault.
 use Rattle.w16_store.specs.Files.{file_of}
-use Rattle.w16_loader.proofs.Files.{is_read, is_refused}
-use Rattle.w16_loader.proofs.Common.{sym, ap, ◌∙◌, arith}
+use Rattle.w16_loader.proofs.{Files.is_read, Files.is_refused, Common.sym, Common.ap, Common.◌∙◌, Common.arith, Tellings.length_told, Tellings.read_told, Tellings.refuses_told}
 use Rattle.w16_loader.specs.Devices.{is_file_device}
-use Rattle.w16_loader.proofs.Tellings.{length_told, read_told, refuses_told}
 use Rattle.w16_loader.proofs.found.read_file.Goals as goal
 
 pub returns-in-Err-clause-says : goal.returns-in-Err-clause-says

@@ -1,13 +1,14 @@
 -- A module whose name nothing has is new where its relocations are sound and a handle is left.
-use Rattle.w16_loader.proofs.Common.{FileFault, Some, referent_of, IsFault, Ok, false, ReadsIn, Refused, answers_of, tables_in, Modules, Found, List, ℕ, ◌≡◌, None, refl, inl, inr, length-map, found_in, [], ap, sym, ◌∙◌, arith, meant_in}
-use Rattle.w16_loader.specs.declared.found.FileFault.TheVariants as faults
+use Rattle.w16_loader.proofs.Common as C
+use Rattle.w16_loader.proofs.Common.{Some, Ok, false, tables_in, Found, List, ℕ, ◌≡◌, None, refl, inl, inr, [], ap, sym, ◌∙◌, arith, meant_in}
 use Rattle.w16_loading.specs.Answers.{Answers}
+use Rattle.w16_loader.specs.declared.found.FileFault.TheVariants as faults
 use Rattle.w16_ne.specs.Modules as ne
 use Rattle.w16_loader.proofs.found.settle.Goals as goal
 
 pub returns-in-Some-clause-makes : goal.returns-in-Some-clause-makes
 returns-in-Some-clause-makes g c = λ says.
-    let meant : meant_in c.args.registry.now c.args.found.now c.name.result.now ≡ Some (referent_of c.in-Some.referent) = sym (c.in-Some.ensures []) in
+    let meant : meant_in c.args.registry.now c.args.found.now c.name.result.now ≡ Some (C.referent_of c.in-Some.referent) = sym (c.in-Some.ensures []) in
     (tables_in c.args.read, says, ap (λ n. meant_in c.args.registry.now c.args.found.now n) (sym c.name.ensures) ∙ meant)
 
 pub returns-in-Ok-clause-makes : goal.returns-in-Ok-clause-makes
@@ -18,10 +19,10 @@ returns-in-Ok-clause-makes g c = λ says.
 pub returns-in-Ok-2-clause-makes : goal.returns-in-Ok-2-clause-makes
 returns-in-Ok-2-clause-makes g c = λ says.
     let none = ap (λ n. meant_in c.args.registry.now c.args.found.now n) (sym c.name.ensures) ∙ sym (c.in-None.ensures []) in
-    inr (tables_in c.args.read, says, none, inr ((c.in-Ok.ensures.checked says).1, omega (arith, c.free_count.ensures, c.if-found-free_count.false, length-map c.args.found.now (found_in [])), refl))
+    inr (tables_in c.args.read, says, none, inr ((c.in-Ok.ensures.checked says).1, omega (arith, c.free_count.ensures, c.if-found-free_count.false, C.length-map c.args.found.now (C.found_in [])), refl))
 
-unsound : {A : Type 0} (answers : Answers) (modules : Modules) (found : List (Found A)) (name : List ℕ) (t : ne.Tables) (before after : ℕ) (fault : FileFault) → answers.says name (Ok (tables_in t)) → meant_in modules found t.name ≡ None
-    → IsFault (λ number. answers.sound name (tables_in t) false × (number ≡ 11)) before after fault → IsFault (λ number. ReadsIn answers modules found name (Refused number)) before after fault
+unsound : {A : Type 0} (answers : Answers) (modules : C.Modules) (found : List (Found A)) (name : List ℕ) (t : ne.Tables) (before after : ℕ) (fault : C.FileFault) → answers.says name (Ok (tables_in t)) → meant_in modules found t.name ≡ None
+    → C.IsFault (λ number. answers.sound name (tables_in t) false × (number ≡ 11)) before after fault → C.IsFault (λ number. C.ReadsIn answers modules found name (C.Refused number)) before after fault
 unsound answers modules found name t before after (faults.Refused number) says none h = inr (tables_in t, says, none, inl h)
 unsound answers modules found name t before after faults.Device says none h = h
 unsound answers modules found name t before after faults.OutOfMemory says none h = tt
@@ -29,4 +30,4 @@ unsound answers modules found name t before after faults.OutOfMemory says none h
 pub returns-in-Err-clause-makes : goal.returns-in-Err-clause-makes
 returns-in-Err-clause-makes g c = λ says.
     let none = ap (λ n. meant_in c.args.registry.now c.args.found.now n) (sym c.name.ensures) ∙ sym (c.in-None.ensures []) in
-    unsound (answers_of g.S.Store.is_honest (g.S.Store.files c.args.store.now)) c.args.registry.now c.args.found.now c.args.name.now c.args.read _ _ c.in-Err.fault says none (c.in-Err.ensures.checked says)
+    unsound (C.answers_of g.S.Store.is_honest (g.S.Store.files c.args.store.now)) c.args.registry.now c.args.found.now c.args.name.now c.args.read _ _ c.in-Err.fault says none (c.in-Err.ensures.checked says)

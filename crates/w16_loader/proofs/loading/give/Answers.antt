@@ -1,7 +1,8 @@
 -- What isn't bound or filled is a load that is undone.
-use Rattle.w16_loader.proofs.Common.{fold, slice_index_or, sym, subst, arith, Says, without_module, with_handles, AreSaid, LoadsHeld, answer_in, of_fault, in_world}
-use Rattle.w16_loader.proofs.Closed.{taken_back}
-use Rattle.w16_loader.proofs.HeldLoads.{filled_held, unbound_held, unfilled_held}
+use Rattle.w16_loader.proofs
+use proofs.Common.{fold, slice_index_or, sym, subst, arith, Says, without_module, with_handles, AreSaid, LoadsHeld, answer_in, of_fault, in_world}
+use proofs.Closed.{taken_back}
+use proofs.HeldLoads.{filled_held, unbound_held, unfilled_held}
 use Rattle.w16_loader.proofs.loading.give.Goals as goal
 
 pub returns-in-Err-clause-given : goal.returns-in-Err-clause-given

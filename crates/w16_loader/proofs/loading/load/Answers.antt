@@ -1,9 +1,11 @@
 -- A load of what is there already, and a new module's load, from the read of its file on.
-use Rattle.w16_loader.proofs.Common.{◌≡◌, [], Bool, None, IfOk, sym, ap, ◌∙◌, subst, used_again, meant_in, in_world, in_parts, Says, Refused, Meant, There, ne_format, tables_in, answer_in, in_store, IsAccepted, IsFault, MakesOf, ReadsIn, answers_of}
-use Rattle.std.specs.FinMap as finmap
+use Rattle.w16_loader.proofs
+use proofs.Common as C
+use proofs.Common.{◌≡◌, [], Bool, None, IfOk, sym, ap, ◌∙◌, subst, in_world, Says, Meant, There, ne_format, answer_in, in_store, answers_of}
+use proofs.HeldLoads.{for_one, refused_file, there_again, unnamed}
 use Rattle.w16_loading.specs.Answers.{FillsFewest, LoadsFrom, told}
+use Rattle.std.specs.FinMap as finmap
 use Rattle.w16_loader.specs.declared.found.Reading.TheVariants as makes
-use Rattle.w16_loader.proofs.HeldLoads.{for_one, refused_file, there_again, unnamed}
 use Rattle.w16_loader.proofs.loading.load.Goals as goal
 
 pub returns-in-Err-clause-over : goal.returns-in-Err-clause-over
@@ -15,7 +17,7 @@ returns-in-Err-clause-over g c = λ rest.
     for_one (λ b answer. LoadsFrom FillsFewest (told g.S.Store.is_honest ne_format files start after) b world c.args.file.now (answer_in answer) world) c.args.is_load_module c.refuse.result
     (subst (λ r. IfOk r (λ answer. (b : Bool) → LoadsFrom FillsFewest (told g.S.Store.is_honest ne_format files start after) b world c.args.file.now (answer_in answer) world)) (sym c.refuse.ensures.answer)
     (refused_file g.S.Store.is_honest files start after rest c.args.registry.now c.args.global.now.handles c.args.file.now c.in-Err.fault
-    (subst (λ fs. IsFault (λ number. ReadsIn (answers_of g.S.Store.is_honest (g.S.Store.files c.args.store.now)) c.args.registry.now fs c.args.file.now (Refused number)) start after c.in-Err.fault) (c.as_slice.ensures.value ∙ c.new-found.ensures.items) c.in-Err.ensures.makes)))
+    (subst (λ fs. C.IsFault (λ number. C.ReadsIn (answers_of g.S.Store.is_honest (g.S.Store.files c.args.store.now)) c.args.registry.now fs c.args.file.now (C.Refused number)) start after c.in-Err.fault) (c.as_slice.ensures.value ∙ c.new-found.ensures.items) c.in-Err.ensures.makes)))
 
 pub returns-in-Ok-Meant-There-clause-over : goal.returns-in-Ok-Meant-There-clause-over
 returns-in-Ok-Meant-There-clause-over g c = λ rest.
@@ -24,11 +26,11 @@ returns-in-Ok-Meant-There-clause-over g c = λ rest.
     let after = g.S.Store.failures c.examine_file.new.store in
     let modules = c.args.registry.now in
     let handle = c.in-Ok-Meant-There.handle in
-    let parts = in_parts rest c.args.global.now.handles files start in
-    let made = subst (MakesOf (answers_of g.S.Store.is_honest (g.S.Store.files c.args.store.now)) modules c.as_slice.result.now c.args.file.now) (c.in-Ok-Meant-There.field-0-is ∙ ap makes.Meant c.in-Ok-Meant-There.field-0-0-is) c.in-Ok-Meant-There.ensures.makes in
-    let used = subst (λ h. used_again c.args.is_load_module (in_world parts modules) h (finmap.get modules h) ≡ (Says c.load_again.result, in_world parts c.load_again.new.registry)) c.in-Ok-Meant-There.handle-is (c.load_again.ensures parts) in
+    let parts = C.in_parts rest c.args.global.now.handles files start in
+    let made = subst (C.MakesOf (answers_of g.S.Store.is_honest (g.S.Store.files c.args.store.now)) modules c.as_slice.result.now c.args.file.now) (c.in-Ok-Meant-There.field-0-is ∙ ap makes.Meant c.in-Ok-Meant-There.field-0-0-is) c.in-Ok-Meant-There.ensures.makes in
+    let used = subst (λ h. C.used_again c.args.is_load_module (in_world parts modules) h (finmap.get modules h) ≡ (Says c.load_again.result, in_world parts c.load_again.new.registry)) c.in-Ok-Meant-There.handle-is (c.load_again.ensures parts) in
     there_again g.S.Store.is_honest files start after rest modules c.args.global.now.handles c.args.file.now c.args.is_load_module handle (Says c.load_again.result) (in_world parts c.load_again.new.registry)
-    (subst (λ fs. ReadsIn (answers_of g.S.Store.is_honest (g.S.Store.files c.args.store.now)) modules fs c.args.file.now (Meant (There handle))) (c.as_slice.ensures.value ∙ c.new-found.ensures.items) made) (sym used)
+    (subst (λ fs. C.ReadsIn (answers_of g.S.Store.is_honest (g.S.Store.files c.args.store.now)) modules fs c.args.file.now (Meant (There handle))) (c.as_slice.ensures.value ∙ c.new-found.ensures.items) made) (sym used)
 
 pub returns-clause-over : goal.returns-clause-over
 returns-clause-over g c = λ rest.
@@ -37,9 +39,9 @@ returns-clause-over g c = λ rest.
     let after = g.S.Store.failures c.load_new.new.store in
     let modules = c.args.registry.now in
     let read = c.in-Ok-Read.read in
-    let made = subst (MakesOf (answers_of g.S.Store.is_honest (g.S.Store.files c.args.store.now)) modules c.as_slice.result.now c.args.file.now) c.in-Ok-Read.field-0-is c.in-Ok-Read.ensures.makes in
-    let none = subst (λ fs. meant_in modules fs read.name ≡ None) (c.as_slice.ensures.value ∙ c.new-found.ensures.items) made.1 in
-    let accepted = subst (λ fs. IsAccepted (answers_of g.S.Store.is_honest fs) c.args.file.now (tables_in read)) (sym c.in-Ok-Read.ensures.stays.same) made.0 in
+    let made = subst (C.MakesOf (answers_of g.S.Store.is_honest (g.S.Store.files c.args.store.now)) modules c.as_slice.result.now c.args.file.now) c.in-Ok-Read.field-0-is c.in-Ok-Read.ensures.makes in
+    let none = subst (λ fs. C.meant_in modules fs read.name ≡ None) (c.as_slice.ensures.value ∙ c.new-found.ensures.items) made.1 in
+    let accepted = subst (λ fs. C.IsAccepted (answers_of g.S.Store.is_honest fs) c.args.file.now (C.tables_in read)) (sym c.in-Ok-Read.ensures.stays.same) made.0 in
     for_one (λ b answer. LoadsFrom FillsFewest (told g.S.Store.is_honest ne_format files start after) b (in_store rest modules c.args.global.now.handles files start) c.args.file.now (answer_in answer)
     (in_store rest c.load_new.new.registry c.load_new.new.global.handles files start)) c.args.is_load_module c.load_new.result
     (subst (λ fs. IfOk c.load_new.result (λ answer. (b : Bool) → LoadsFrom FillsFewest (told g.S.Store.is_honest ne_format fs start after) b (in_store rest modules c.args.global.now.handles fs start) c.args.file.now (answer_in answer)

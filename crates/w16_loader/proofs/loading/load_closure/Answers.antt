@@ -1,11 +1,7 @@
 -- A load that is done, and one that is undone.
-use Rattle.w16_loader.proofs.Common.{◌≡◌, ◌<◌, inl, [], IfOk, OnErr, fold, length, slice_index_or, refl, sym, ap, ◌∙◌, subst, arith, Global, without_module}
-use Rattle.w16_loader.proofs.Common.{Says, LoadingWorld, with_handles, closed_in, AreUnbound, LoadsHeld, answer_in, failed_by, IsUnbound, in_world}
+use Rattle.w16_loader.proofs.Common.{◌≡◌, ◌<◌, inl, [], IfOk, OnErr, fold, length, slice_index_or, refl, sym, ap, ◌∙◌, subst, arith, Global, without_module, Says, LoadingWorld, with_handles, closed_in, AreUnbound, LoadsHeld, answer_in, failed_by, IsUnbound, in_world}
+use Rattle.w16_loader.proofs.{Closed.err_by, Closed.first_of, Closed.some_handles, NameSteps.same_global, HeldLoads.closure_alike, HeldLoads.is_closure, Holdings.held_alike}
 use Rattle.std.specs.FinMap as finmap
-use Rattle.w16_loader.proofs.Closed.{err_by, first_of, some_handles}
-use Rattle.w16_loader.proofs.NameSteps.{same_global}
-use Rattle.w16_loader.proofs.HeldLoads.{closure_alike, is_closure}
-use Rattle.w16_loader.proofs.Holdings.{held_alike}
 use Rattle.w16_loader.proofs.loading.load_closure.Goals as goal
 
 pub index-requires : goal.index-requires

@@ -1,13 +1,14 @@
 -- A new module's load, by its closure.
-use Rattle.w16_loader.proofs.Common.{Bool, [], Err, IfOk, sym, subst, arith, tables_in, IsFault, closed_in, answer_in, in_store, ne_format, AreAccepted, ClosesOf, IsAccepted, IsClosureBy, LoadsHeld, answers_of}
+use Rattle.w16_loader.proofs
+use proofs.Common as C
+use proofs.Common.{Bool, [], Err, IfOk, sym, subst, arith, in_store, answers_of, ◌<◌, ◌≤◌, ℕ, Ok}
+use proofs.HeldLoads.{closed_load, is_closure, refused_closure}
 use Rattle.w16_loading.specs.Answers.{FillsFewest, LoadsFrom, told}
-use Rattle.w16_loader.proofs.HeldLoads.{closed_load, is_closure, refused_closure}
 use Rattle.w16_store.specs.Later.{RoseIf}
 use Rattle.w16_loader.specs.Devices.{is_load_device}
-use Rattle.w16_loader.proofs.Common.{◌<◌, ◌≤◌, ℕ, Ok, Result, AllocError, LoadAnswer}
 use Rattle.w16_loader.proofs.loading.load_new.Goals as goal
 
-rose_since : (r : Result LoadAnswer AllocError) (before mid after : ℕ) → before ≤ mid → IfOk r (RoseIf is_load_device mid after) → IfOk r (RoseIf is_load_device before after)
+rose_since : (r : C.Result C.LoadAnswer C.AllocError) (before mid after : ℕ) → before ≤ mid → IfOk r (RoseIf is_load_device mid after) → IfOk r (RoseIf is_load_device before after)
 rose_since (Ok answer) before mid after le h = λ e. (let lt : mid < after = h e in omega (arith, le, lt))
 rose_since (Err e) before mid after le h = h
 
@@ -18,25 +19,25 @@ pub returns-in-Err-clause-loads : goal.returns-in-Err-clause-loads
 returns-in-Err-clause-loads g c = λ rest start le accepted unnamed.
     let files = g.S.Store.files c.args.store.now in
     let after = g.S.Store.failures c.close.new.store in
-    let t = tables_in c.args.read in
+    let t = C.tables_in c.args.read in
     let world = in_store rest c.args.registry.now c.args.global.now.handles files start in
-    subst (λ r. IfOk r (λ answer. (b : Bool) → LoadsFrom FillsFewest (told g.S.Store.is_honest ne_format files start after) b world c.args.file.now (answer_in answer) world)) (sym c.refuse.ensures.answer)
+    subst (λ r. IfOk r (λ answer. (b : Bool) → LoadsFrom FillsFewest (told g.S.Store.is_honest C.ne_format files start after) b world c.args.file.now (C.answer_in answer) world)) (sym c.refuse.ensures.answer)
     (refused_closure g.S.Store.is_honest files start after rest c.args.registry.now c.args.global.now.handles c.args.file.now t accepted unnamed c.requires (g.S.Store.failures c.args.store.now) le c.in-Err.fault
-    (subst (λ f. IsFault (λ number. ClosesOf (answers_of g.S.Store.is_honest (g.S.Store.files c.args.store.now)) c.args.registry.now f t (Err number)) (g.S.Store.failures c.args.store.now) after c.in-Err.fault) c.in_ok-name.ensures
-    (c.in-Err.ensures.refused (subst (λ f. IsAccepted (answers_of g.S.Store.is_honest (g.S.Store.files c.args.store.now)) f t) (sym c.in_ok-name.ensures) accepted))))
+    (subst (λ f. C.IsFault (λ number. C.ClosesOf (answers_of g.S.Store.is_honest (g.S.Store.files c.args.store.now)) c.args.registry.now f t (Err number)) (g.S.Store.failures c.args.store.now) after c.in-Err.fault) c.in_ok-name.ensures
+    (c.in-Err.ensures.refused (subst (λ f. C.IsAccepted (answers_of g.S.Store.is_honest (g.S.Store.files c.args.store.now)) f t) (sym c.in_ok-name.ensures) accepted))))
 
 pub returns-in-Ok-clause-loads : goal.returns-in-Ok-clause-loads
 returns-in-Ok-clause-loads g c = λ rest start le accepted unnamed.
     let files = g.S.Store.files c.args.store.now in
     let after = g.S.Store.failures c.load_closure.new.store in
-    let t = tables_in c.args.read in
+    let t = C.tables_in c.args.read in
     let world = in_store rest c.args.registry.now c.args.global.now.handles files start in
     let new = in_store rest c.load_closure.new.registry c.load_closure.new.global.handles files start in
-    let meant = closed_in [] c.in-Ok.closure in
-    let all = subst (λ fs. AreAccepted (answers_of g.S.Store.is_honest fs) meant.found) (sym c.in-Ok.ensures.stays.same) (c.in-Ok.ensures.accepted (subst (λ f. IsAccepted (answers_of g.S.Store.is_honest (g.S.Store.files c.args.store.now)) f t) (sym c.in_ok-name.ensures) accepted)) in
+    let meant = C.closed_in [] c.in-Ok.closure in
+    let all = subst (λ fs. C.AreAccepted (answers_of g.S.Store.is_honest fs) meant.found) (sym c.in-Ok.ensures.stays.same) (c.in-Ok.ensures.accepted (subst (λ f. C.IsAccepted (answers_of g.S.Store.is_honest (g.S.Store.files c.args.store.now)) f t) (sym c.in_ok-name.ensures) accepted)) in
     closed_load g.S.Store.is_honest files start after rest c.args.registry.now c.args.global.now.handles c.args.file.now t accepted unnamed c.requires c.in-Ok.closure
-    (subst (λ f. IsClosureBy (answers_of g.S.Store.is_honest (g.S.Store.files c.args.store.now)) c.args.registry.now f t c.in-Ok.closure) c.in_ok-name.ensures c.in-Ok.ensures.closes) new c.load_closure.result
-    (subst (λ fs. IfOk c.load_closure.result (λ answer. LoadsHeld g.S.Store.is_honest fs start after world meant (answer_in answer) new)) c.in-Ok.ensures.stays.same
+    (subst (λ f. C.IsClosureBy (answers_of g.S.Store.is_honest (g.S.Store.files c.args.store.now)) c.args.registry.now f t c.in-Ok.closure) c.in_ok-name.ensures c.in-Ok.ensures.closes) new c.load_closure.result
+    (subst (λ fs. IfOk c.load_closure.result (λ answer. C.LoadsHeld g.S.Store.is_honest fs start after world meant (C.answer_in answer) new)) c.in-Ok.ensures.stays.same
     (c.load_closure.ensures.loads (record rest { files = files; failures = start }) meant start (omega (arith, le, c.in-Ok.ensures.stays.counted)) (is_closure [] c.in-Ok.closure) all))
 
 pub load_closure-requires-clause-few : goal.load_closure-requires-clause-few

@@ -1,12 +1,12 @@
 -- A module more has its name, or those before it lose theirs.
-use Rattle.w16_loader.proofs.Common.{◌≡◌, ◌+◌, ◌<◌, if◌then◌else◌, Bool, true, false, [], ◌∷◌, ◌++◌, Some, length, get_or, map, fold, take, slice_get, refl, sym, ap, ◌∙◌, subst, arith, rules, from_bool, enumerate_from, YieldsList-from_vec}
-use Rattle.w16_loader.proofs.Common.{YieldsList-from_enumerate, YieldsList-turn, YieldsList-end, length_push, length-set, length-take-le, get_or-map, length-enumerate_from, IsFreeModule, with_handles, without_module, found_in, in_world, GetNames}
-use Rattle.w16_loader.proofs.Common.{unbound_by}
-use Rattle.w16_loader.proofs.Imports.{pushed_other}
-use Rattle.w16_loader.proofs.NameSteps.{some_world, same_global, at_turn, facing, as_found, next_named, next_free, all_are_named, all_go_back, too_few_slots}
+use Rattle.w16_loader.proofs
+use proofs.Common as C
+use proofs.NameSteps as M
+use proofs.Common.{◌≡◌, ◌+◌, ◌<◌, if◌then◌else◌, Bool, true, false, [], ◌∷◌, ◌++◌, Some, length, get_or, map, fold, take, refl, sym, ap, ◌∙◌, subst, arith, rules, YieldsList-from_vec, YieldsList-from_enumerate, YieldsList-turn, with_handles, in_world, unbound_by}
+use proofs.{Imports.pushed_other, NameSteps.some_world, NameSteps.at_turn}
 use Rattle.w16_loader.proofs.naming.name_all.Goals as goal
 
-counts : (b : Bool) → from_bool b ≡ (if b then 1 else 0)
+counts : (b : Bool) → C.from_bool b ≡ (if b then 1 else 0)
 counts true = refl
 counts false = refl
 
@@ -17,9 +17,9 @@ name_module-requires-clause-free g c =
     let at = at_turn c.args.found.items (length c.loop-place.yielded) c.in-Some.place c.in-Some.found t.0 t.1 in
     let lt : length c.loop-place.yielded < length c.args.found.items = at.0 in
     let place : c.in-Some.place ≡ length c.loop-place.yielded = at.1 in
-    subst (λ k. IsFreeModule c.loop-place.registry (get_or c.args.handles.now k 0)) (sym place)
-    (next_free (in_world (with_handles some_world c.args.global.now.handles) c.args.registry.now) (in_world (with_handles some_world c.loop-place.global.handles) c.loop-place.registry) _ _ c.args.handles.now (length c.loop-place.yielded)
-    (omega (arith, lt, c.requires.handles)) c.requires.free c.requires.apart (c.loop-place.invariant.named some_world (map (found_in []) c.args.found.items) (as_found c.args.found.items)))
+    subst (λ k. C.IsFreeModule c.loop-place.registry (get_or c.args.handles.now k 0)) (sym place)
+    (M.next_free (in_world (with_handles some_world c.args.global.now.handles) c.args.registry.now) (in_world (with_handles some_world c.loop-place.global.handles) c.loop-place.registry) _ _ c.args.handles.now (length c.loop-place.yielded)
+    (omega (arith, lt, c.requires.handles)) c.requires.free c.requires.apart (c.loop-place.invariant.named some_world (map (C.found_in []) c.args.found.items) (M.as_found c.args.found.items)))
 
 pub loop-place-preserved : goal.loop-place-preserved
 loop-place-preserved g c =
@@ -28,24 +28,24 @@ loop-place-preserved g c =
     let at = at_turn c.args.found.items (length c.loop-place.yielded) c.in-Some.place c.in-Some.found t.0 t.1 in
     let lt : length c.loop-place.yielded < length c.args.found.items = at.0 in
     let place : c.in-Some.place ≡ length c.loop-place.yielded = at.1 in
-    let here : slice_get c.args.found.items c.in-Some.place ≡ Some c.in-Some.found = ap (slice_get c.args.found.items) place ∙ at.2 in
-    let more : c.in-Some.place + 1 ≡ length (c.loop-place.yielded ++ (c.in-Some.place, c.in-Some.found) ∷ []) = omega (arith, place, length_push c.loop-place.yielded (c.in-Some.place, c.in-Some.found)) in
+    let here : C.slice_get c.args.found.items c.in-Some.place ≡ Some c.in-Some.found = ap (C.slice_get c.args.found.items) place ∙ at.2 in
+    let more : c.in-Some.place + 1 ≡ length (c.loop-place.yielded ++ (c.in-Some.place, c.in-Some.found) ∷ []) = omega (arith, place, C.length_push c.loop-place.yielded (c.in-Some.place, c.in-Some.found)) in
     let room : c.in-Some.place < length c.loop-place.imports.items = omega (arith, place, lt, c.loop-place.invariant.many, c.requires.imports) in
     record {
       named = λ rest meant all.
-          let m = facing c.args.found.items meant c.in-Some.place c.in-Some.found all here in
-          let before = subst (λ k. GetNames (in_world (with_handles rest c.args.global.now.handles) c.args.registry.now) (unbound_by (λ p. get_or (map (λ v. v.items) c.args.imports.now.items) p [])) (take k meant) (take k c.args.handles.now)
+          let m = M.facing c.args.found.items meant c.in-Some.place c.in-Some.found all here in
+          let before = subst (λ k. C.GetNames (in_world (with_handles rest c.args.global.now.handles) c.args.registry.now) (unbound_by (λ p. get_or (map (λ v. v.items) c.args.imports.now.items) p [])) (take k meant) (take k c.args.handles.now)
           (in_world (with_handles rest c.loop-place.global.handles) c.loop-place.registry)) (sym place) (c.loop-place.invariant.named rest meant all) in
-          subst (λ k. GetNames (in_world (with_handles rest c.args.global.now.handles) c.args.registry.now) (unbound_by (λ p. get_or (map (λ v. v.items) c.args.imports.now.items) p [])) (take k meant) (take k c.args.handles.now)
+          subst (λ k. C.GetNames (in_world (with_handles rest c.args.global.now.handles) c.args.registry.now) (unbound_by (λ p. get_or (map (λ v. v.items) c.args.imports.now.items) p [])) (take k meant) (take k c.args.handles.now)
           (in_world (with_handles rest c.name_module.new.global.handles) c.name_module.new.registry)) more
-          (next_named (λ p. get_or (map (λ v. v.items) c.args.imports.now.items) p []) c.in-Some.place c.in-Some.found (get_or c.args.handles.now c.in-Some.place 0) c.from-uses.result c.replace-imports.result.items m.0 m.2
+          (M.next_named (λ p. get_or (map (λ v. v.items) c.args.imports.now.items) p []) c.in-Some.place c.in-Some.found (get_or c.args.handles.now c.in-Some.place 0) c.from-uses.result c.replace-imports.result.items m.0 m.2
           (c.from-uses.ensures ∙ counts _)
-          (ap (λ v. v.items) (c.replace-imports.ensures.value ∙ c.index_mut.ensures.value) ∙ sym (get_or-map (λ v. v.items) c.loop-place.imports.items c.in-Some.place c.index_mut.result.now [] room)
+          (ap (λ v. v.items) (c.replace-imports.ensures.value ∙ c.index_mut.ensures.value) ∙ sym (C.get_or-map (λ v. v.items) c.loop-place.imports.items c.in-Some.place c.index_mut.result.now [] room)
           ∙ c.loop-place.invariant.imports c.in-Some.place (omega (arith, place)))
           (in_world (with_handles rest c.args.global.now.handles) c.args.registry.now) (in_world (with_handles rest c.loop-place.global.handles) c.loop-place.registry)
           (in_world (with_handles rest c.name_module.new.global.handles) c.name_module.new.registry) c.args.found.items meant c.args.handles.now all c.requires.handles (omega (arith, place, lt)) m.1 refl before (c.in-Ok.ensures.named rest));
       imports = λ p le. pushed_other (λ v. v.items) c.loop-place.imports.items c.in-Some.place c.replace-imports.new.dest p (λ e. absurd (omega (arith, le, e, more))) ∙ c.loop-place.invariant.imports p (omega (arith, le, more, place));
-      many = length-set c.loop-place.imports.items c.in-Some.place c.replace-imports.new.dest ∙ c.loop-place.invariant.many;
+      many = C.length-set c.loop-place.imports.items c.in-Some.place c.replace-imports.new.dest ∙ c.loop-place.invariant.many;
       written = c.name_module.ensures.written ∙ c.loop-place.invariant.written;
     }
 
@@ -56,34 +56,34 @@ slice_bounds-release_modules-end g c =
     let at = at_turn c.args.found.items (length c.loop-place.yielded) c.in-Some.place c.in-Some.found t.0 t.1 in
     let lt : length c.loop-place.yielded < length c.args.found.items = at.0 in
     let place : c.in-Some.place ≡ length c.loop-place.yielded = at.1 in
-    sym (length-take-le _ c.args.handles.now (omega (arith, lt, place, c.requires.handles)))
+    sym (C.length-take-le _ c.args.handles.now (omega (arith, lt, place, c.requires.handles)))
 
 pub returns-in-Err-clause-same : goal.returns-in-Err-clause-same
 returns-in-Err-clause-same g c =
     let t = YieldsList-turn (YieldsList-from_enumerate {s = c.into_iter-place-iterator.result} (YieldsList-from_vec c.args.found.items (first_of (cc, search rules)) (first_of (cc, search rules))) (first_of (cc, search rules)))
     c.loop-place.yielded c.loop-place.place-iterator c.loop-place.yielded_by c.next.result c.next.new.self (c.in-Some.place, c.in-Some.found) c.in-Some.is c.next.ensures.steps in
     let at = at_turn c.args.found.items (length c.loop-place.yielded) c.in-Some.place c.in-Some.found t.0 t.1 in
-    let back = all_go_back c.args.global.now.handles c.loop-place.global.handles c.release_modules.new.global.handles c.args.registry.now c.loop-place.registry c.release_modules.new.registry
+    let back = M.all_go_back c.args.global.now.handles c.loop-place.global.handles c.release_modules.new.global.handles c.args.registry.now c.loop-place.registry c.release_modules.new.registry
     (unbound_by (λ p. get_or (map (λ v. v.items) c.args.imports.now.items) p [])) c.args.found.items c.args.handles.now (length c.loop-place.yielded) c.reveal_handles.ensures (λ g. refl) c.requires.handles at.0 c.requires.free c.requires.apart
     c.loop-place.invariant.named
-    (λ rest. c.release_modules.ensures.gone rest ∙ (λ i. fold without_module (in_world (with_handles rest ((c.in-Err.ensures.same.1 i).handles)) (c.in-Err.ensures.same.0 i)) (take (at.1 i) c.args.handles.now))) in
-    (back.0, same_global c.release_modules.new.global c.args.global.now back.1 (c.release_modules.ensures.written ∙ c.name_module.ensures.written ∙ c.loop-place.invariant.written))
+    (λ rest. c.release_modules.ensures.gone rest ∙ (λ i. fold C.without_module (in_world (with_handles rest ((c.in-Err.ensures.same.1 i).handles)) (c.in-Err.ensures.same.0 i)) (take (at.1 i) c.args.handles.now))) in
+    (back.0, M.same_global c.release_modules.new.global c.args.global.now back.1 (c.release_modules.ensures.written ∙ c.name_module.ensures.written ∙ c.loop-place.invariant.written))
 
 pub returns-in-Err-clause-no_slot : goal.returns-in-Err-clause-no_slot
 returns-in-Err-clause-no_slot g c = λ meant all e.
     let t = YieldsList-turn (YieldsList-from_enumerate {s = c.into_iter-place-iterator.result} (YieldsList-from_vec c.args.found.items (first_of (cc, search rules)) (first_of (cc, search rules))) (first_of (cc, search rules)))
     c.loop-place.yielded c.loop-place.place-iterator c.loop-place.yielded_by c.next.result c.next.new.self (c.in-Some.place, c.in-Some.found) c.in-Some.is c.next.ensures.steps in
     let at = at_turn c.args.found.items (length c.loop-place.yielded) c.in-Some.place c.in-Some.found t.0 t.1 in
-    too_few_slots c.args.global.now.handles c.loop-place.global.handles c.args.registry.now c.loop-place.registry (unbound_by (λ p. get_or (map (λ v. v.items) c.args.imports.now.items) p [])) c.args.found.items meant c.args.handles.now
+    M.too_few_slots c.args.global.now.handles c.loop-place.global.handles c.args.registry.now c.loop-place.registry (unbound_by (λ p. get_or (map (λ v. v.items) c.args.imports.now.items) p [])) c.args.found.items meant c.args.handles.now
     (length c.loop-place.yielded) c.in-Some.found at.2 all c.requires.handles at.0 (c.loop-place.invariant.named some_world meant all) (c.in-Err.ensures.no_slot e)
 
 pub returns-clause-named : goal.returns-clause-named
 returns-clause-named g c = λ rest meant all.
-    let end = YieldsList-end (YieldsList-from_enumerate {s = c.into_iter-place-iterator.result} (YieldsList-from_vec c.args.found.items (first_of (cc, search rules)) (first_of (cc, search rules))) (first_of (cc, search rules)))
+    let end = C.YieldsList-end (YieldsList-from_enumerate {s = c.into_iter-place-iterator.result} (YieldsList-from_vec c.args.found.items (first_of (cc, search rules)) (first_of (cc, search rules))) (first_of (cc, search rules)))
     c.loop-place.yielded c.loop-place.place-iterator c.loop-place.yielded_by c.next.result c.next.new.self c.in-None.is c.next.ensures.steps in
-    let long : length c.loop-place.yielded ≡ length (enumerate_from 0 c.args.found.items) = end.1 in
-    all_are_named (in_world (with_handles rest c.args.global.now.handles) c.args.registry.now) (in_world (with_handles rest c.loop-place.global.handles) c.loop-place.registry) _ c.args.found.items meant c.args.handles.now (length c.loop-place.yielded)
-    all c.requires.handles (omega (arith, long, length-enumerate_from 0 c.args.found.items)) (c.loop-place.invariant.named rest meant all)
+    let long : length c.loop-place.yielded ≡ length (C.enumerate_from 0 c.args.found.items) = end.1 in
+    M.all_are_named (in_world (with_handles rest c.args.global.now.handles) c.args.registry.now) (in_world (with_handles rest c.loop-place.global.handles) c.loop-place.registry) _ c.args.found.items meant c.args.handles.now (length c.loop-place.yielded)
+    all c.requires.handles (omega (arith, long, C.length-enumerate_from 0 c.args.found.items)) (c.loop-place.invariant.named rest meant all)
 
 pub bounds-handles-place : goal.bounds-handles-place
 bounds-handles-place g c =

@@ -1,8 +1,6 @@
 -- The handles are free and differ, so the modules of the closure get them.
 use Rattle.w16_loader.proofs.Common.{◌≡◌, ◌≢◌, ◌≤◌, [], All, AllPairs, length, get_or, map, sym, ap, ◌∙◌, subst, arith, IsFreeModule, free_modules, with_handles, bound_in, in_world, GetNames, imports_among, unbound_by}
-use Rattle.w16_loader.proofs.FreeHandles.{lowest_free, lowest_apart}
-use Rattle.w16_loader.proofs.NameSteps.{as_many}
-use Rattle.w16_loader.proofs.Namings.{unbound_named}
+use Rattle.w16_loader.proofs.{FreeHandles.lowest_free, FreeHandles.lowest_apart, NameSteps.as_many, Namings.unbound_named}
 use Rattle.w16_loader.proofs.naming.name_modules.Goals as goal
 
 pub name_all-requires-clause-free : goal.name_all-requires-clause-free

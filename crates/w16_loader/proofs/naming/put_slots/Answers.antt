@@ -1,14 +1,16 @@
 -- A segment more has its object, or those before it lose theirs.
-use Rattle.w16_loader.proofs.Common.{◌≡◌, ◌+◌, ◌-◌, ◌<◌, ◌≤◌, Some, All, length, map, zip, take, option_map, slice_get, sym, ap, ◌∙◌, subst, arith, length-map, length-take-le, take_all, slice_get-map, segment_in, is_member, Global, with_handles, without_objects, free_slots, IsFit, Takes}
-use Rattle.w16_loader.proofs.NameSteps.{slot_more, few_more, fit_more, fits, all_back, too_few, same_global}
+use Rattle.w16_loader.proofs
+use proofs.Common as C
+use proofs.Common.{◌≡◌, ◌+◌, ◌-◌, ◌<◌, ◌≤◌, Some, All, length, map, zip, take, sym, ap, ◌∙◌, subst, arith, length-map, take_all, segment_in, with_handles, IsFit, Takes}
+use proofs.NameSteps.{slot_more, few_more, fit_more, fits, all_back, too_few, same_global}
 use Rattle.w16_loader.proofs.naming.put_slots.Goals as goal
 
 pub loop-i-preserved : goal.loop-i-preserved
 loop-i-preserved g c =
     let lt : c.loop-i.i < length c.loop-i.slots = omega arith in
     let place : c.loop-i.i + 1 - 1 ≡ c.loop-i.i = omega arith in
-    let here : slice_get (map segment_in c.args.module_file.now.segments) c.loop-i.i ≡ Some (segment_in c.segment.result) =
-    slice_get-map segment_in c.args.module_file.now.segments c.loop-i.i ∙ ap (λ k. option_map segment_in (slice_get c.args.module_file.now.segments k)) (sym place) ∙ ap (option_map segment_in) c.segment.ensures.found in
+    let here : C.slice_get (map segment_in c.args.module_file.now.segments) c.loop-i.i ≡ Some (segment_in c.segment.result) =
+    C.slice_get-map segment_in c.args.module_file.now.segments c.loop-i.i ∙ ap (λ k. C.option_map segment_in (C.slice_get c.args.module_file.now.segments k)) (sym place) ∙ ap (C.option_map segment_in) c.segment.ensures.found in
     record {
       taken = λ rest. slot_more c.loop-i.slots (map segment_in c.args.module_file.now.segments) c.loop-i.i c.in-Some.slot (segment_in c.segment.result) (with_handles rest c.args.global.now.handles) (with_handles rest c.loop-i.global.handles)
           (with_handles rest c.take_slot.new.global.handles) lt here (c.loop-i.invariant.taken rest) c.in-Some.ensures.free (c.in-Some.ensures.taken rest);
@@ -20,19 +22,19 @@ loop-i-preserved g c =
 pub returns-in-None-clause-same : goal.returns-in-None-clause-same
 returns-in-None-clause-same g c = λ f.
     let lt : c.loop-i.i < length c.loop-i.slots = omega arith in
-    let some : length (take c.loop-i.i c.loop-i.slots) ≡ c.loop-i.i = length-take-le c.loop-i.i c.loop-i.slots (omega (arith, lt)) in
+    let some : length (take c.loop-i.i c.loop-i.slots) ≡ c.loop-i.i = C.length-take-le c.loop-i.i c.loop-i.slots (omega (arith, lt)) in
     let many : length (map segment_in c.args.module_file.now.segments) ≡ length c.args.module_file.now.segments = length-map c.args.module_file.now.segments segment_in in
     same_global c.release_slots.new.global c.args.global.now
     (all_back c.args.global.now.handles c.loop-i.global.handles c.release_slots.new.global.handles (take c.loop-i.i c.loop-i.slots) (map segment_in c.args.module_file.now.segments) c.reveal_handles.ensures (omega (arith, some, many)) c.loop-i.invariant.taken
-    (λ rest. c.release_slots.ensures.gone rest ∙ ap (λ (x : Global). without_objects (λ q. is_member q (take c.loop-i.i c.loop-i.slots)) (with_handles rest x.handles)) c.in-None.ensures.none.1))
+    (λ rest. c.release_slots.ensures.gone rest ∙ ap (λ (x : C.Global). C.without_objects (λ q. C.is_member q (take c.loop-i.i c.loop-i.slots)) (with_handles rest x.handles)) c.in-None.ensures.none.1))
     (c.release_slots.ensures.written ∙ c.take_slot.ensures.written ∙ c.loop-i.invariant.written)
 
 pub returns-in-None-clause-no_slot : goal.returns-in-None-clause-no_slot
 returns-in-None-clause-no_slot g c = λ f.
     let lt : c.loop-i.i < length c.loop-i.slots = omega arith in
-    let some : length (take c.loop-i.i c.loop-i.slots) ≡ c.loop-i.i = length-take-le c.loop-i.i c.loop-i.slots (omega (arith, lt)) in
+    let some : length (take c.loop-i.i c.loop-i.slots) ≡ c.loop-i.i = C.length-take-le c.loop-i.i c.loop-i.slots (omega (arith, lt)) in
     let many : length (map segment_in c.args.module_file.now.segments) ≡ length c.args.module_file.now.segments = length-map c.args.module_file.now.segments segment_in in
-    subst (λ n. length (free_slots c.args.global.now.handles) < n) many
+    subst (λ n. length (C.free_slots c.args.global.now.handles) < n) many
     (too_few c.args.global.now.handles c.loop-i.global.handles (take c.loop-i.i c.loop-i.slots) (map segment_in c.args.module_file.now.segments) (omega (arith, some, many)) c.loop-i.invariant.taken c.in-None.ensures.none.0)
 
 pub returns-clause-taken : goal.returns-clause-taken

@@ -1,16 +1,17 @@
-use Rattle.w16_loader.proofs.Common.{◌≡◌, ◌-◌, ◌≤◌, inl, inr, ℕ, List, [], ◌++◌, length, take, drop, get_or, refl, sym, ◌∙◌, ap, arith, replicate, min, cases_lt, append-nil, drop_all, get_or_append_left, get_or-append_right, get_or_past, get_or-replicate, length-replicate, take_at}
+use Rattle.w16_loader.proofs.Common as C
+use Rattle.w16_loader.proofs.Common.{◌≡◌, ◌-◌, ◌≤◌, inl, inr, ℕ, List, [], ◌++◌, length, take, drop, get_or, refl, sym, ◌∙◌, ap, arith, replicate, min}
 use Rattle.std.proofs.Common.{take_all, length-drop}
 use borrow.Rule.Slice.PartMut.{put_mid}
 use Rattle.w16_loader.proofs.segment_work.place.Goals as goal
 
 zero_at : (k i : ℕ) → get_or {A = ℕ} (replicate {A = ℕ} k 0) i 0 ≡ 0
-zero_at k i = elim (cases_lt i k) [
-  | inl lt ↦ get_or-replicate k i 0 0 lt
-  | inr le ↦ get_or_past (replicate {A = ℕ} k 0) i 0 (omega (arith, le, length_zeros k))
+zero_at k i = elim (C.cases_lt i k) [
+  | inl lt ↦ C.get_or-replicate k i 0 0 lt
+  | inr le ↦ C.get_or_past (replicate {A = ℕ} k 0) i 0 (omega (arith, le, length_zeros k))
 ]
   where
     length_zeros : (k : ℕ) → length (replicate {A = ℕ} k 0) ≡ k
-    length_zeros k = length-replicate k 0
+    length_zeros k = C.length-replicate k 0
 
 -- bytes over which a whole list was put, and zeros after it
 placed : (source b s z : List ℕ) (n m : ℕ) → n ≡ length source → s ≡ take n source → z ≡ replicate m 0 → (o : ℕ)
@@ -19,12 +20,12 @@ placed source b s z n m e is zeros o =
     let whole : s ≡ source = is ∙ take_all n source (omega (arith, e)) in
     let long : length s ≡ n = ap length whole ∙ sym e in
     let xs : List ℕ = s ++ drop n b in
-    let front : take n xs ≡ s = take_at s (drop n b) n long in
-    let back : drop (length xs - n) (drop n xs) ≡ [] = drop_all (length xs - n) (drop n xs) (omega (arith, length-drop n xs)) in
-    let all : put_mid n (length xs - n) xs z ≡ source ++ z = (λ i. front i ++ (z ++ back i)) ∙ (λ i. whole i ++ append-nil z i) in
-    ap (λ l. get_or l o 0) all ∙ elim (cases_lt o (length source)) [
-      | inl lt ↦ get_or_append_left source z 0 o lt
-      | inr le ↦ get_or-append_right source z (length source) o 0 refl le ∙ ap (λ l. get_or l (o - length source) 0) zeros ∙ zero_at m (o - length source) ∙ sym (get_or_past source o 0 le)
+    let front : take n xs ≡ s = C.take_at s (drop n b) n long in
+    let back : drop (length xs - n) (drop n xs) ≡ [] = C.drop_all (length xs - n) (drop n xs) (omega (arith, length-drop n xs)) in
+    let all : put_mid n (length xs - n) xs z ≡ source ++ z = (λ i. front i ++ (z ++ back i)) ∙ (λ i. whole i ++ C.append-nil z i) in
+    ap (λ l. get_or l o 0) all ∙ elim (C.cases_lt o (length source)) [
+      | inl lt ↦ C.get_or_append_left source z 0 o lt
+      | inr le ↦ C.get_or-append_right source z (length source) o 0 refl le ∙ ap (λ l. get_or l (o - length source) 0) zeros ∙ zero_at m (o - length source) ∙ sym (C.get_or_past source o 0 le)
     ]
 
 shorter : (m n k : ℕ) → k ≡ min m n → m ≤ n → k ≡ m

@@ -1,6 +1,5 @@
 -- The first of the name among the places that are left is the first of all.
-use Rattle.w16_loader.proofs.Common.{◌≡◌, listed, first_named}
-use Rattle.w16_loader.proofs.Listed.{listed_from}
+use Rattle.w16_loader.proofs.{Common.◌≡◌, Common.listed, Common.first_named, Listed.listed_from}
 use Rattle.w16_loader.proofs.table.first_named.Given as goal
 
 abbrev pub invariant-loop-handle : goal.invariant-loop-handle

@@ -1,6 +1,5 @@
 -- The owner among the places that are left is the owner among all.
-use Rattle.w16_loader.proofs.Common.{◌≡◌, segment_among, listed}
-use Rattle.w16_loader.proofs.Listed.{listed_from}
+use Rattle.w16_loader.proofs.{Common.◌≡◌, Common.segment_among, Common.listed, Listed.listed_from}
 use Rattle.w16_loader.proofs.table.segment_of.Given as goal
 
 abbrev pub invariant-loop-handle : goal.invariant-loop-handle

@@ -1,6 +1,5 @@
-use Rattle.w16_loading.proofs.LoadEffects.{load_law}
-use Rattle.w16_loading.proofs.ResourceEffects.{load_resource_law, lock_resource_law}
 use Rattle.w16_loading.proofs.Effects.{built_in_law, find_law, free_law, named_law, sizeof_law}
+use Rattle.w16_loading.proofs.{LoadEffects.load_law, ResourceEffects.load_resource_law, ResourceEffects.lock_resource_law}
 use Rattle.w16_loading.proofs.laws.calls_of_modules_do_what_they_are_for.Goals as goal
 
 pub returns-clause-named : goal.returns-clause-named

@@ -1,6 +1,5 @@
 use Rattle.std.proofs.Common.{◌∙◌, ap, sym, inl, inr, not}
-use Rattle.std.proofs.lemmas.Bool.{le-ltb}
-use Rattle.std.proofs.lemmas.Bool.Decides.{eqb_tells}
+use Rattle.std.proofs.{lemmas.Bool.le-ltb, lemmas.Bool.Decides.eqb_tells}
 use Rattle.w16_lru.proofs.Outcomes.{alone_none, large_none, there}
 use Rattle.w16_lru.proofs.Order.contains.Goals as goal
 

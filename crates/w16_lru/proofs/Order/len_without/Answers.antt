@@ -1,7 +1,8 @@
-use Rattle.w16_lru.proofs.Common.{arith}
-use Rattle.w16_lru.proofs.Outcomes.{alone_none, as_many, large_none, less}
+use Rattle.w16_lru.proofs
+use proofs.Common.{arith}
+use proofs.Outcomes.{alone_none, as_many, large_none, less}
+use proofs.Order.len_without.Goals.{then-id-self-via-then-id-self, then-id-self-via-else-id-self+then-index-id}
 use Rattle.w16_lru.proofs.Order.len_without.Goals as goal
-use Rattle.w16_lru.proofs.Order.len_without.Goals.{then-id-self-via-then-id-self, then-id-self-via-else-id-self+then-index-id}
 
 pub returns-then-id-self : goal.returns-then-id-self
 returns-then-id-self g c =

@@ -1,6 +1,7 @@
-use Rattle.w16_lru.proofs.Common.{◌≡◌, ◌<◌, arith, ap, with_items, Uses}
-use Rattle.w16_lru.proofs.Renamed.{relinked}
-use Rattle.w16_lru.proofs.Outcomes.{none_there, renamed_kept, renamed_value, relinked_items}
+use Rattle.w16_lru.proofs
+use proofs.Common.{◌≡◌, ◌<◌, arith, ap, with_items, Uses}
+use proofs.Renamed.{relinked}
+use proofs.Outcomes.{none_there, renamed_kept, renamed_value, relinked_items}
 use Rattle.w16_lru.proofs.Order.rename.Given as given
 use Rattle.w16_lru.proofs.Order.rename.Goals as goal
 

@@ -1,8 +1,10 @@
-use Rattle.w16_lru.proofs.Common.{◌≡◌, ◌∙◌, ap, sym, arith, subst, false, ℕ, ◌<◌, get_or, swap, slice_index, with_items, is_member, member_gone, Uses}
-use Rattle.w16_lru.proofs.Outcomes.{IsFront, fits, joined_kept, joined_value, put_back, exchanged_after, exchanged_before}
+use Rattle.w16_lru.proofs
+use proofs.Outcomes as M
+use proofs.Common.{◌≡◌, ◌∙◌, ap, sym, arith, subst, false, ℕ, ◌<◌, get_or, swap, slice_index, with_items, is_member, member_gone, Uses}
+use proofs.Outcomes.{IsFront, fits}
+use proofs.Order.to_end.Goals.{in-Oldest, in-Newest}
 use Rattle.w16_lru.proofs.Order.to_end.Given as given
 use Rattle.w16_lru.proofs.Order.to_end.Goals as goal
-use Rattle.w16_lru.proofs.Order.to_end.Goals.{in-Oldest, in-Newest}
 
 pub overflow_add-self : goal.overflow_add-self
 overflow_add-self g c =
@@ -25,28 +27,28 @@ module _ (g : given.Over) (c : goal.After-self-3-1 g) where
   ]
 
   after_is : (with_items c.self.inside.after c.exchange.new.after).items ≡ swap c.self.inside.after.items c.match-end.front c.args.id
-  after_is = exchanged_after c.self.inside.after c.deref_mut.result.now c.exchange.new.after c.match-end.front c.args.id c.deref_mut.ensures.value c.exchange.ensures.after
+  after_is = M.exchanged_after c.self.inside.after c.deref_mut.result.now c.exchange.new.after c.match-end.front c.args.id c.deref_mut.ensures.value c.exchange.ensures.after
 
   before_is : (with_items c.self.inside.before c.exchange.new.before).items
       ≡ swap c.self.inside.before.items (slice_index c.self.inside.after.items c.match-end.front) (slice_index c.self.inside.after.items c.args.id)
   before_is =
-      exchanged_before c.self.inside.before c.self.inside.after.items c.deref_mut.result.now c.deref_mut-2.result.now c.exchange.new.before
+      M.exchanged_before c.self.inside.before c.self.inside.after.items c.deref_mut.result.now c.deref_mut-2.result.now c.exchange.new.before
       c.match-end.front c.args.id c.deref_mut.ensures.value c.deref_mut-2.ensures.value c.exchange.ensures.before
 
 pub invariant_of-self : goal.invariant_of-self
 invariant_of-self g c =
     let s = c.self.inside in
-    joined_kept s.cap s.members s.after.items s.before.items c.remove.new.self c.self.invariant c.self.view_is
+    M.joined_kept s.cap s.members s.after.items s.before.items c.remove.new.self c.self.invariant c.self.view_is
     c.args.id c.match-end.front (small g c)
     (with_items s.after c.exchange.new.after).items (with_items s.before c.exchange.new.before).items (after_is g c) (before_is g c) (none g c) c.args.end (is_front g c)
 
 pub returns-clause-value : goal.returns-clause-value
 returns-clause-value g c =
     let s = c.self.inside in
-    joined_value s.cap s.members s.after.items s.before.items c.remove.new.self c.self.invariant c.self.view_is
+    M.joined_value s.cap s.members s.after.items s.before.items c.remove.new.self c.self.invariant c.self.view_is
     c.args.id c.match-end.front (small g c)
     (with_items s.after c.exchange.new.after).items (with_items s.before c.exchange.new.before).items (after_is g c) (before_is g c) (none g c) c.args.end (is_front g c)
-    ∙ put_back c.args.self.now c.remove.new.self c.args.id c.args.end c.remove.ensures.value
+    ∙ M.put_back c.args.self.now c.remove.new.self c.args.id c.args.end c.remove.ensures.value
 
 pub returns-clause-uses : goal.returns-clause-uses
 returns-clause-uses g c = (invariant_of-self g c).uses

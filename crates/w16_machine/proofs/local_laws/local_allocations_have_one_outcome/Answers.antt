@@ -1,5 +1,4 @@
-use Rattle.w16_machine.proofs.LocalOneGrowth.{one_growth_law}
-use Rattle.w16_machine.proofs.LocalRefusals.{outcome_law}
+use Rattle.w16_machine.proofs.{LocalOneGrowth.one_growth_law, LocalRefusals.outcome_law}
 use Rattle.w16_machine.proofs.local_laws.local_allocations_have_one_outcome.Goals as goal
 
 pub returns-clause-outcome : goal.returns-clause-outcome

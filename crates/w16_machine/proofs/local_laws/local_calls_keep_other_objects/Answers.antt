@@ -1,6 +1,4 @@
-use Rattle.w16_machine.proofs.LocalOrders.{local_order_law}
-use Rattle.w16_machine.proofs.LocalOthers.{local_others_law, local_pinned_law}
-use Rattle.w16_machine.proofs.LocalStill.{places_law}
+use Rattle.w16_machine.proofs.{LocalOrders.local_order_law, LocalOthers.local_others_law, LocalOthers.local_pinned_law, LocalStill.places_law}
 use Rattle.w16_machine.proofs.local_laws.local_calls_keep_other_objects.Goals as goal
 
 pub returns-clause-others : goal.returns-clause-others

@@ -1,5 +1,4 @@
-use Rattle.w16_machine.proofs.LocalFrame.{frame_law}
-use Rattle.w16_machine.proofs.LocalLonger.{growth_law}
+use Rattle.w16_machine.proofs.{LocalFrame.frame_law, LocalLonger.growth_law}
 use Rattle.w16_machine.proofs.local_laws.local_calls_keep_the_rest.Goals as goal
 
 pub returns-clause-rest : goal.returns-clause-rest

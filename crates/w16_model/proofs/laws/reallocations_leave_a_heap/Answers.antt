@@ -1,6 +1,4 @@
-use Rattle.w16_model.proofs.Absence.{discard_heap_law}
-use Rattle.w16_model.proofs.KindChanges.{kind_heap_law}
-use Rattle.w16_model.proofs.Reallocations.{heap_law}
+use Rattle.w16_model.proofs.{Absence.discard_heap_law, KindChanges.kind_heap_law, Reallocations.heap_law}
 use Rattle.w16_model.proofs.laws.reallocations_leave_a_heap.Goals as goal
 
 pub returns-clause-sizes : goal.returns-clause-sizes

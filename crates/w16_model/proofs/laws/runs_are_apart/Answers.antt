@@ -1,5 +1,4 @@
-use Rattle.w16_model.proofs.Runs.{owner_law, reach_law}
-use Rattle.w16_model.proofs.Selectors.{selectors_law}
+use Rattle.w16_model.proofs.{Runs.owner_law, Runs.reach_law, Selectors.selectors_law}
 use Rattle.w16_model.proofs.laws.runs_are_apart.Goals as goal
 
 pub returns-clause-owner : goal.returns-clause-owner

@@ -1,6 +1,4 @@
-use Rattle.w16_model.proofs.Empty.{empty_law}
-use Rattle.w16_model.proofs.KeptHandles.{far_law}
-use Rattle.w16_model.proofs.ResizedHandles.{handle_law}
+use Rattle.w16_model.proofs.{Empty.empty_law, KeptHandles.far_law, ResizedHandles.handle_law}
 use Rattle.w16_model.proofs.laws.steps_keep_handles.Goals as goal
 
 pub returns-clause-begin : goal.returns-clause-begin

@@ -1,8 +1,6 @@
 use Rattle.w16_ne.proofs.Common.{ℕ, ◌*◌, ◌+◌, Option, err_from_is_err_and, Reading, entry_size, sound_entry}
-use Rattle.w16_ne.specs.declared.entry_table.Entry.{Entry}
-use Rattle.w16_ne.specs.Entries.{entry_in}
-use Rattle.w16_ne.proofs.Each.{goes_on, stops}
-use Rattle.w16_ne.proofs.Until.{told_on}
+use Rattle.w16_ne.proofs.{Each.goes_on, Each.stops, Until.told_on}
+use Rattle.w16_ne.specs.{declared.entry_table.Entry.Entry, Entries.entry_in}
 use Rattle.w16_ne.proofs.entry_table.bundle.Goals as goal
 
 pub returns-in_err-entry : goal.returns-in_err-entry

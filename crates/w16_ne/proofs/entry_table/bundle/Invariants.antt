@@ -1,7 +1,6 @@
 use Rattle.w16_ne.proofs.Common.{◌≡◌, ◌-◌, ◌*◌, ◌+◌, ℕ, Option, Reading, each, entry_size, sound_entry, bundle_in}
-use Rattle.w16_ne.specs.declared.entry_table.Entry.{Entry}
-use Rattle.w16_ne.specs.Entries.{entry_in}
 use Rattle.w16_ne.proofs.Each.{with_front}
+use Rattle.w16_ne.specs.{declared.entry_table.Entry.Entry, Entries.entry_in}
 use Rattle.w16_ne.proofs.entry_table.bundle.Given as goal
 
 abbrev pub invariant-loop-i : goal.invariant-loop-i

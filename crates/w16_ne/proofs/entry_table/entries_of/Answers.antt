@@ -1,6 +1,7 @@
-use Rattle.w16_ne.proofs.Common.{◌≡◌, ◌+◌, length, length-append, sym, ◌∙◌, arith, slice_index, err_from_is_err_and}
-use Rattle.w16_ne.proofs.Bundles.{here, goes_on, stops, is_refused, is_done, bundle-length}
-use Rattle.w16_ne.proofs.Until.{told_on}
+use Rattle.w16_ne.proofs
+use proofs.Common.{◌≡◌, ◌+◌, length, length-append, sym, ◌∙◌, arith, slice_index, err_from_is_err_and}
+use proofs.Bundles.{here, goes_on, stops, is_refused, is_done, bundle-length}
+use proofs.Until.{told_on}
 use Rattle.w16_ne.proofs.entry_table.entries_of.Goals as goal
 
 pub returns-then-is_end-clause-exact : goal.returns-then-is_end-clause-exact

@@ -1,6 +1,7 @@
-use Rattle.w16_ne.proofs.Common.{◌≡◌, ◌+◌, ◌∙◌, [], ◌∷◌, ◌++◌, refl, arith, subst, err_from_is_err_and, file_of, Entry, found_in, name_at, names_from, size, IsListing}
-use Rattle.w16_ne.proofs.Pieces.{failure_is}
-use Rattle.w16_ne.proofs.Until.{fails_on, goes_on, stops, is_done, past_the_end, entry_ends, found_long}
+use Rattle.w16_ne.proofs
+use proofs.Common.{◌≡◌, ◌+◌, ◌∙◌, [], ◌∷◌, ◌++◌, refl, arith, subst, err_from_is_err_and, file_of, Entry, found_in, name_at, names_from, size, IsListing}
+use proofs.Pieces.{failure_is}
+use proofs.Until.{fails_on, goes_on, stops, is_done, past_the_end, entry_ends, found_long}
 use Rattle.w16_ne.proofs.name_table.add_names.Goals as goal
 
 pub returns-in_err-piece-clause-exact : goal.returns-in_err-piece-clause-exact

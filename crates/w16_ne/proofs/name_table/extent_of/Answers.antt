@@ -1,7 +1,8 @@
-use Rattle.w16_ne.proofs.Common.{◌≡◌, ◌+◌, ◌∙◌, arith, err_from_is_err_and, file_of, found_in, name_at, names_from, size}
+use Rattle.w16_ne.proofs
+use proofs.Until as M
+use proofs.Common.{◌≡◌, ◌+◌, ◌∙◌, arith, err_from_is_err_and, file_of, found_in, name_at, names_from, size}
+use proofs.Pieces.{failure_is}
 use Rattle.w16_ne.specs.declared.fault.NeFault.TheVariants as faults
-use Rattle.w16_ne.proofs.Pieces.{failure_is}
-use Rattle.w16_ne.proofs.Until.{fails_on, past_the_end, entry_ends, found_long, err_now, err_later, err_over}
 use Rattle.w16_ne.proofs.name_table.extent_of.Goals as goal
 
 pub returns-in_err-piece-clause-exact : goal.returns-in_err-piece-clause-exact
@@ -13,7 +14,7 @@ returns-in_err-piece-clause-exact g c = λ honest known.
 pub returns-then-place-len-clause-exact : goal.returns-then-place-len-clause-exact
 returns-then-place-len-clause-exact g c = λ honest known.
     let file = file_of (g.S.Store.files c.args.store.now) c.args.name.now in
-    c.loop.invariant.3 honest known faults.Truncated (err_now file c.args.len c.loop.counter c.loop.place faults.Truncated c.loop-test.true (past_the_end file c.args.len c.loop.place known c.if-place-len.true))
+    c.loop.invariant.3 honest known faults.Truncated (M.err_now file c.args.len c.loop.counter c.loop.place faults.Truncated c.loop-test.true (M.past_the_end file c.args.len c.loop.place known c.if-place-len.true))
 
 pub returns-in_err-name_of-clause-exact : goal.returns-in_err-name_of-clause-exact
 returns-in_err-name_of-clause-exact g c = λ honest known.
@@ -21,8 +22,8 @@ returns-in_err-name_of-clause-exact g c = λ honest known.
     let p = err_from_is_err_and c.from_residual-in_err-name_of.result c.from_residual-in_err-name_of.ensures.1 in
     let read = rw c.loop.invariant.0 at c.in_err-name_of.ensures.exact in
     let said = read honest known (c.loop.invariant.2 honest known) in
-    rw (p.1, p.2) (fails_on file _ _ _ c.in_err-name_of.field-0.0 (name_at file c.loop.place) (names_from file c.args.len c.args.at) c.loop.invariant.1 said
-    (λ e. c.loop.invariant.3 honest known _ (err_now file c.args.len c.loop.counter c.loop.place _ c.loop-test.true e)))
+    rw (p.1, p.2) (M.fails_on file _ _ _ c.in_err-name_of.field-0.0 (name_at file c.loop.place) (names_from file c.args.len c.args.at) c.loop.invariant.1 said
+    (λ e. c.loop.invariant.3 honest known _ (M.err_now file c.args.len c.loop.counter c.loop.place _ c.loop-test.true e)))
 
 pub loop-preserved : goal.loop-preserved
 loop-preserved g c = (
@@ -35,13 +36,13 @@ loop-preserved g c = (
       let said = read honest known (c.loop.invariant.2 honest known) in
       let x = found_in c.name_of.new.piece.bytes.items c.in-Some.found in
       let inside = rw c.in-Some.is at c.in_ok-name_of.ensures.inside in
-      let long = found_long c.name_of.new.piece.bytes.items c.in-Some.found inside in
-      let ends = entry_ends file c.args.len c.loop.place x known said in
+      let long = M.found_long c.name_of.new.piece.bytes.items c.in-Some.found inside in
+      let ends = M.entry_ends file c.args.len c.loop.place x known said in
       let next : c.saturating_add-place.result ≡ c.loop.place + size x = omega (arith, c.saturating_add-place.ensures, c.from.ensures, c.ranges.len.fits, long, ends) in
-      c.loop.invariant.3 honest known e (err_later file c.args.len c.loop.counter c.loop.place x e c.loop-test.true said (rw next at later)),
+      c.loop.invariant.3 honest known e (M.err_later file c.args.len c.loop.counter c.loop.place x e c.loop-test.true said (rw next at later)),
 )
 
 pub returns-clause-exact : goal.returns-clause-exact
 returns-clause-exact g c = λ honest known.
     let file = file_of (g.S.Store.files c.args.store.now) c.args.name.now in
-    c.loop.invariant.3 honest known faults.Truncated (err_over file c.args.len c.loop.counter c.loop.place c.loop-test.false)
+    c.loop.invariant.3 honest known faults.Truncated (M.err_over file c.args.len c.loop.counter c.loop.place c.loop-test.false)

@@ -1,6 +1,7 @@
-use Rattle.w16_ne.proofs.Common.{◌≡◌, ◌+◌, ◌∙◌, [], ◌∷◌, ◌++◌, length, refl, sym, subst, slice_index, Entry, IsListing}
-use Rattle.w16_ne.proofs.Listed.{here, goes_on, is_refused, is_done}
-use Rattle.w16_ne.proofs.Bounds.{is_past, is_inside}
+use Rattle.w16_ne.proofs
+use proofs.Common.{◌≡◌, ◌+◌, ◌∙◌, [], ◌∷◌, ◌++◌, length, refl, sym, subst, slice_index, Entry, IsListing}
+use proofs.Listed.{here, goes_on, is_refused, is_done}
+use proofs.Bounds.{is_past, is_inside}
 use Rattle.w16_ne.proofs.nonresident.add_names.Goals as goal
 
 pub returns-then-is_end-clause-exact : goal.returns-then-is_end-clause-exact

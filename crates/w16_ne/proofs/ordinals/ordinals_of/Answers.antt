@@ -1,6 +1,5 @@
 use Rattle.w16_ne.proofs.Common.{◌++◌, ◌∷◌, [], ◌∙◌, ap, sym, subst, take, arith, add-one, Entry, Finds}
-use Rattle.std.proofs.Math.Seq.{take-suc}
-use Rattle.std.proofs.lemmas.Option.{get_or_from_slice_get}
+use Rattle.std.proofs.{Math.Seq.take-suc, lemmas.Option.get_or_from_slice_get}
 use Rattle.w16_ne.proofs.ordinals.ordinals_of.Goals as goal
 
 pub loop-i-preserved : goal.loop-i-preserved

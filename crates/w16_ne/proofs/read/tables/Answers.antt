@@ -1,7 +1,6 @@
 use Rattle.w16_ne.proofs.Common.{◌∙◌, ap, rules, Ok, Tables, tables_behind}
+use Rattle.w16_ne.proofs.{Parts.told_behind, Tables.same_tables}
 use Rattle.w16_ne.specs.Parts.{parts_behind}
-use Rattle.w16_ne.proofs.Parts.{told_behind}
-use Rattle.w16_ne.proofs.Tables.{same_tables}
 use Rattle.w16_ne.proofs.read.tables.Goals as goal
 
 pub returns-in_err-references-clause-part : goal.returns-in_err-references-clause-part

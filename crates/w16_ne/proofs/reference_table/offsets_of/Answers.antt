@@ -1,6 +1,5 @@
 use Rattle.w16_ne.proofs.Common.{◌≡◌, ℕ, ◌*◌, ◌+◌, List, [], ◌∷◌, ◌++◌, map, Ok, subst, rules, err_from_is_err_and, map_push, All-push, Truncated, Reading, Refused, word_of, text_at, texts_at, HasText, text_in}
-use Rattle.w16_ne.proofs.Each.{goes_on, stops}
-use Rattle.w16_ne.proofs.Until.{told_on}
+use Rattle.w16_ne.proofs.{Each.goes_on, Each.stops, Until.told_on}
 use Rattle.w16_ne.proofs.reference_table.offsets_of.Goals as goal
 
 pub returns-in_err-test_text-clause-exact : goal.returns-in_err-test_text-clause-exact

@@ -1,7 +1,7 @@
-use Rattle.w16_ne.proofs.Common.{◌≡◌, ◌≤◌, ◌∙◌, arith, err_from_is_err_and, All-push, file_of, Block, block_at, blocks_from}
-use Rattle.w16_ne.proofs.Until.{fails_on}
-use Rattle.w16_ne.proofs.Pieces.{failure_is}
-use Rattle.w16_ne.proofs.Blocks.{end_of, goes_on, stops, is_done, past_the_end, block_ends}
+use Rattle.w16_ne.proofs
+use proofs.Common.{◌≡◌, ◌≤◌, ◌∙◌, arith, err_from_is_err_and, All-push, file_of, Block, block_at, blocks_from}
+use proofs.Blocks.{end_of, goes_on, stops, is_done, past_the_end, block_ends}
+use proofs.{Until.fails_on, Pieces.failure_is}
 use Rattle.w16_ne.proofs.resource_blocks.blocks_before.Goals as goal
 
 pub returns-in_err-piece-clause-exact : goal.returns-in_err-piece-clause-exact

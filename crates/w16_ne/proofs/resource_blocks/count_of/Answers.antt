@@ -1,8 +1,8 @@
-use Rattle.w16_ne.proofs.Common.{◌≡◌, ◌∙◌, arith, err_from_is_err_and, file_of, block_at, blocks_from}
+use Rattle.w16_ne.proofs
+use proofs.Common.{◌≡◌, ◌∙◌, arith, err_from_is_err_and, file_of, block_at, blocks_from}
+use proofs.Blocks.{end_of, past_the_end, block_ends, err_now, err_later, err_over}
+use proofs.{Until.fails_on, Pieces.failure_is}
 use Rattle.w16_ne.specs.declared.fault.NeFault.TheVariants as faults
-use Rattle.w16_ne.proofs.Until.{fails_on}
-use Rattle.w16_ne.proofs.Pieces.{failure_is}
-use Rattle.w16_ne.proofs.Blocks.{end_of, past_the_end, block_ends, err_now, err_later, err_over}
 use Rattle.w16_ne.proofs.resource_blocks.count_of.Goals as goal
 
 pub returns-then-place-len-clause-exact : goal.returns-then-place-len-clause-exact

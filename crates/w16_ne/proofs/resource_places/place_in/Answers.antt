@@ -1,7 +1,6 @@
 use Rattle.w16_ne.proofs.Common.{◌∙◌, sym, ap, label_of, label_in}
-use Rattle.w16_ne.specs.Resources.{is_label}
-use Rattle.w16_ne.specs.declared.resource_rows.Row.{Row}
 use Rattle.w16_ne.proofs.Firsts.{nowhere}
+use Rattle.w16_ne.specs.{Resources.is_label, declared.resource_rows.Row.Row}
 use Rattle.w16_ne.proofs.resource_places.place_in.Goals as goal
 
 pub returns-then-not-is_label : goal.returns-then-not-is_label

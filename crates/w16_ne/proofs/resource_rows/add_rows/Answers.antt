@@ -1,14 +1,16 @@
-use Rattle.w16_ne.proofs.Common.{◌≡◌, ℕ, ◌*◌, ◌+◌, ◌∙◌, [], ◌∷◌, ◌++◌, map, arith, refl, sym, ap, ◌-◌, append_assoc, length-append, err_from_is_err_and, map_push, append-nil, All-push, file_of, Row, Reading, each, resource_at, resources_of, HasLabel, entry_in}
+use Rattle.w16_ne.proofs
+use proofs.Common as C
+use proofs.Common.{◌≡◌, ℕ, ◌*◌, ◌+◌, ◌∙◌, [], ◌∷◌, ◌++◌, map, arith, refl, sym, ap, ◌-◌, file_of, Row, Reading, each, resource_at, resources_of, entry_in}
+use proofs.Each.{goes_on, stops, is_done, front_none}
+use proofs.Until.{fails_on}
 use Rattle.w16_ne.specs.Resources.{Entry}
-use Rattle.w16_ne.proofs.Each.{goes_on, stops, is_done, front_none}
-use Rattle.w16_ne.proofs.Until.{fails_on}
 use Rattle.w16_ne.proofs.resource_rows.add_rows.Goals as goal
 
 pub returns-in_err-row-clause-exact : goal.returns-in_err-row-clause-exact
 returns-in_err-row-clause-exact g c = λ table shift honest piece texts.
     let file = file_of (g.S.Store.files c.args.store.now) c.args.name.now in
     let item : ℕ → Reading Entry = λ i. resource_at file table shift (c.args.block.at + 12 * i) in
-    let p = err_from_is_err_and c.from_residual.result c.from_residual.ensures.1 in
+    let p = C.err_from_is_err_and c.from_residual.result c.from_residual.ensures.1 in
     let exact = rw (c.from.ensures, c.loop-i.invariant.0) at c.in_err-row.ensures.exact in
     let said = exact table shift honest (c.loop-i.invariant.2 honest piece) texts in
     let l = c.loop-i.invariant.3 in
@@ -26,14 +28,14 @@ loop-i-preserved g c =
       λ honest piece. (let kept = rw c.loop-i.invariant.0 at c.in_ok-row.ensures.kept in kept honest (c.loop-i.invariant.2 honest piece)),
       (
         l.0 ++ row ∷ [],
-        c.in_ok-push.ensures.items ∙ ap (λ rs. rs ++ row ∷ []) l.1 ∙ simp append_assoc,
-        omega (arith, l.2, length-append l.0 (row ∷ [])),
-        All-push (λ (r : Row). HasLabel texts r.id) l.0 row l.3 c.in_ok-row.ensures.inside,
+        c.in_ok-push.ensures.items ∙ ap (λ rs. rs ++ row ∷ []) l.1 ∙ simp C.append_assoc,
+        omega (arith, l.2, C.length-append l.0 (row ∷ [])),
+        C.All-push (λ (r : Row). C.HasLabel texts r.id) l.0 row l.3 c.in_ok-row.ensures.inside,
         λ table shift honest piece known.
             let item : ℕ → Reading Entry = λ i. resource_at file table shift (c.args.block.at + 12 * i) in
             let exact = rw (c.from.ensures, c.loop-i.invariant.0) at c.in_ok-row.ensures.exact in
             let said = exact table shift honest (c.loop-i.invariant.2 honest piece) known in
-            rw (map_push (entry_in texts shift) l.0 row) (goes_on item (map (entry_in texts shift) l.0) c.args.block.count c.loop-i.i (entry_in texts shift row) (resources_of file table shift c.args.block) c.loop-i-test.true said (l.4 table shift honest piece known)),
+            rw (C.map_push (entry_in texts shift) l.0 row) (goes_on item (map (entry_in texts shift) l.0) c.args.block.count c.loop-i.i (entry_in texts shift row) (resources_of file table shift c.args.block) c.loop-i-test.true said (l.4 table shift honest piece known)),
       ),
     )
 
@@ -45,7 +47,7 @@ loop-i-init g c = (
   λ honest piece. piece,
   (
     [],
-    sym (append-nil c.args.rows.now.items),
+    sym (C.append-nil c.args.rows.now.items),
     refl,
     λ k d lt. absurd (omega (arith, lt)),
     λ table shift honest piece known.

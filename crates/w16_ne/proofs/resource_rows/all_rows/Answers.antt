@@ -1,31 +1,30 @@
-use Rattle.w16_ne.proofs.Common.{◌≡◌, ℕ, suc, ◌+◌, ◌<◌, ◌≤◌, ◌∙◌, List, Option, [], ◌∷◌, ◌++◌, Ok, Err, length, drop, get_or, refl, sym, ap, add-one, arith, drop-cons}
-use Rattle.w16_ne.proofs.Common.{drop_of_length-le, err_from_is_err_and, append-nil, nat_lt, filter-append, file_of, NeFault, Block, Reading, Typed, typed_at, all_typed}
-use Rattle.w16_ne.proofs.Common.{filled}
-use Rattle.w16_ne.proofs.Each.{with_front, regroup}
-use Rattle.w16_ne.proofs.Until.{fails_on}
+use Rattle.w16_ne.proofs
+use proofs.Common as C
+use proofs.Common.{◌≡◌, ℕ, suc, ◌+◌, ◌<◌, ◌≤◌, ◌∙◌, List, [], ◌∷◌, ◌++◌, Ok, Err, length, drop, refl, sym, ap, arith, file_of, Block, Typed, all_typed}
+use proofs.{Each.with_front, Each.regroup, Until.fails_on}
 use Rattle.w16_ne.proofs.resource_rows.all_rows.Goals as goal
 
-module _ (file : Option (List ℕ)) (table shift : ℕ) (blocks : List Block) (i : ℕ) (front : List Typed) (total : Reading (List Typed)) where
-  goes_on : (d : Block) (x : Typed) → i < length blocks → typed_at file table shift (get_or blocks i d) ≡ Ok x
+module _ (file : C.Option (List ℕ)) (table shift : ℕ) (blocks : List Block) (i : ℕ) (front : List Typed) (total : C.Reading (List Typed)) where
+  goes_on : (d : Block) (x : Typed) → i < length blocks → C.typed_at file table shift (C.get_or blocks i d) ≡ Ok x
       → with_front front (all_typed file table shift (drop i blocks)) ≡ total → with_front (front ++ x ∷ []) (all_typed file table shift (drop (i + 1) blocks)) ≡ total
   goes_on d x lt h so_far =
-      let one : with_front front (all_typed file table shift (drop i blocks)) ≡ with_front (front ++ x ∷ []) (all_typed file table shift (drop (i + 1) blocks)) = rw (drop-cons blocks i d lt, h, add-one) (regroup front x (all_typed file table shift (drop (suc i) blocks))) in
+      let one : with_front front (all_typed file table shift (drop i blocks)) ≡ with_front (front ++ x ∷ []) (all_typed file table shift (drop (i + 1) blocks)) = rw (C.drop-cons blocks i d lt, h, C.add-one) (regroup front x (all_typed file table shift (drop (suc i) blocks))) in
       sym one ∙ so_far
 
-  stops : (d : Block) (e : NeFault) → i < length blocks → typed_at file table shift (get_or blocks i d) ≡ Err e → with_front front (all_typed file table shift (drop i blocks)) ≡ total → total ≡ Err e
+  stops : (d : Block) (e : C.NeFault) → i < length blocks → C.typed_at file table shift (C.get_or blocks i d) ≡ Err e → with_front front (all_typed file table shift (drop i blocks)) ≡ total → total ≡ Err e
   stops d e lt h so_far =
-      let one : with_front front (all_typed file table shift (drop i blocks)) ≡ Err e = rw (drop-cons blocks i d lt, h) refl in
+      let one : with_front front (all_typed file table shift (drop i blocks)) ≡ Err e = rw (C.drop-cons blocks i d lt, h) refl in
       sym so_far ∙ one
 
   is_done : length blocks ≤ i → with_front front (all_typed file table shift (drop i blocks)) ≡ total → total ≡ Ok front
   is_done le so_far =
-      let one : with_front front (all_typed file table shift (drop i blocks)) ≡ Ok front = rw (drop_of_length-le blocks le) (ap (λ ys. Ok ys) (append-nil front)) in
+      let one : with_front front (all_typed file table shift (drop i blocks)) ≡ Ok front = rw (C.drop_of_length-le blocks le) (ap (λ ys. Ok ys) (C.append-nil front)) in
       sym so_far ∙ one
 
 pub returns-in_err-add_block-clause-exact : goal.returns-in_err-add_block-clause-exact
 returns-in_err-add_block-clause-exact g c = λ table shift honest known texts.
     let file = file_of (g.S.Store.files c.args.store.now) c.args.name.now in
-    let p = err_from_is_err_and c.from_residual-in_err-add_block.result c.from_residual-in_err-add_block.ensures.1 in
+    let p = C.err_from_is_err_and c.from_residual-in_err-add_block.result c.from_residual-in_err-add_block.ensures.1 in
     let exact = rw c.loop-block.invariant.0 at c.in_err-add_block.ensures.exact in
     let said = exact table shift honest (c.loop-block.invariant.3 honest known) texts c.loop-block.invariant.2 in
     let l = c.loop-block.invariant.4 table shift honest known texts in
@@ -45,7 +44,7 @@ loop-block-preserved g c = (
       let l = c.loop-block.invariant.4 table shift honest known texts in
       let x = said.0 in (
         l.0 ++ x ∷ [],
-        said.2 ∙ ap (λ ts. ts ++ filled (x ∷ [])) l.1 ∙ sym (filter-append (λ (t : Typed). nat_lt 0 (length t.1)) l.0 (x ∷ [])),
+        said.2 ∙ ap (λ ts. ts ++ C.filled (x ∷ [])) l.1 ∙ sym (C.filter-append (λ (t : Typed). C.nat_lt 0 (length t.1)) l.0 (x ∷ [])),
         goes_on file table shift c.args.blocks.now c.loop-block.block-index l.0 _ _ x c.loop-block-test.true said.1 l.2,
       ),
 )

@@ -1,6 +1,5 @@
 use Rattle.w16_ne.proofs.Common.{◌^◌, ◌∙◌, map, sym, err_from_is_err_and, are_placed, entry_in}
-use Rattle.w16_ne.proofs.Until.{told_on}
-use Rattle.w16_ne.proofs.Places.{row_goes, row_stops}
+use Rattle.w16_ne.proofs.{Until.told_on, Places.row_goes, Places.row_stops}
 use Rattle.w16_ne.proofs.resource_table.test_places.Goals as goal
 
 pub returns-in_err-test_place-clause-exact : goal.returns-in_err-test_place-clause-exact

@@ -1,8 +1,5 @@
 use Rattle.w16_ne.proofs.Common.{◌≡◌, ◌∙◌, ◌^◌, length, map, true, false, ap, sym, refl, Ok, arith, nat_lt, nat_tests, err_from_is_err_and, file_of, texts_behind, typed_in, resource_count, are_placed, are_all_placed, entry_in, grouped, total}
-use Rattle.w16_ne.proofs.Filled.{count_filled, placed_filled}
-use Rattle.w16_ne.proofs.Places.{count_grouped, placed_grouped}
-use Rattle.w16_ne.proofs.Pieces.{refused_is}
-use Rattle.w16_ne.proofs.Until.{told_on}
+use Rattle.w16_ne.proofs.{Filled.count_filled, Filled.placed_filled, Places.count_grouped, Places.placed_grouped, Pieces.refused_is, Until.told_on}
 use Rattle.w16_ne.proofs.resource_table.typed_in.Goals as goal
 
 pub returns-then-are_too_many-clause-exact : goal.returns-then-are_too_many-clause-exact

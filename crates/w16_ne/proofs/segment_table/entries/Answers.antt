@@ -1,6 +1,5 @@
 use Rattle.w16_ne.proofs.Common.{ℕ, ◌*◌, ◌∙◌, Result, arith, rules, err_from_is_err_and, All-push, file_of, NeFault, Segment, IsSized, segment_at, entries_at}
-use Rattle.w16_ne.proofs.Each.{goes_on, stops}
-use Rattle.w16_ne.proofs.Until.{fails_on}
+use Rattle.w16_ne.proofs.{Each.goes_on, Each.stops, Until.fails_on}
 use Rattle.w16_ne.proofs.segment_table.entries.Goals as goal
 
 pub returns-in_err-segment-clause-exact : goal.returns-in_err-segment-clause-exact

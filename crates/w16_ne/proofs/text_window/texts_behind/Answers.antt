@@ -1,7 +1,5 @@
-use Rattle.w16_ne.proofs.Common.{file_of, bytes_or, texts_behind}
+use Rattle.w16_ne.proofs.{Common.file_of, Common.bytes_or, Common.texts_behind, Until.gives_on, Pieces.front_is}
 use Rattle.w16_ne.specs.declared.fault.NeFault.TheVariants as faults
-use Rattle.w16_ne.proofs.Until.{gives_on}
-use Rattle.w16_ne.proofs.Pieces.{front_is}
 use Rattle.w16_ne.proofs.text_window.texts_behind.Goals as goal
 
 pub returns-clause-exact : goal.returns-clause-exact

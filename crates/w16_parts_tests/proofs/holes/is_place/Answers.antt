@@ -1,5 +1,4 @@
-use Rattle.std.proofs.Common.{◌/◌, arith}
-use Rattle.std.proofs.Math.Nat.{div-add-mod}
+use Rattle.std.proofs.{Common.◌/◌, Common.arith, Math.Nat.div-add-mod}
 use Rattle.w16_parts_tests.proofs.holes.is_place.Goals as goal
 
 pub returns-then-place-le256 : goal.returns-then-place-le256

@@ -1,5 +1,4 @@
-use Rattle.std.proofs.Common.{sym, arith}
-use Rattle.std.proofs.lemmas.Grind.{common_steps}
+use Rattle.std.proofs.{Common.sym, Common.arith, lemmas.Grind.common_steps}
 use Rattle.w16_picture.specs.Bands.{is_alone}
 use Rattle.w16_picture.proofs.Joining.{no_rect, filter-next}
 use Rattle.w16_picture.proofs.bands.alone.Goals as goal

@@ -1,12 +1,10 @@
 use Rattle.std.proofs.Common.{◌≡◌, ◌∙◌, List, All, sym, subst, arith}
+use Rattle.std.proofs.{lemmas.Grind.common_steps, lemmas.List.Elements.Contains-get_or}
 use Rattle.std.specs.List.{filter_map}
-use Rattle.std.proofs.lemmas.Grind.{common_steps}
-use Rattle.std.proofs.lemmas.List.Elements.{Contains-get_or}
-use Rattle.w16_picture.specs.declared.bands.Band.{Band}
-use Rattle.w16_picture.specs.Bands.{JoinsObject, band_to}
+use Rattle.w16_picture.specs.{declared.bands.Band.Band, Bands.JoinsObject, Bands.band_to}
 use Rattle.w16_picture.proofs.Joining.{no_rect, filter_map-some, filter_map-none, joins-all}
-use Rattle.w16_picture.proofs.bands.bands_between.Goals as goal
 use Rattle.w16_picture.proofs.bands.bands_between.Goals.{in-Some+in_ok-push, in_default}
+use Rattle.w16_picture.proofs.bands.bands_between.Goals as goal
 
 pub loop-to-preserved : goal.loop-to-preserved
 loop-to-preserved c =

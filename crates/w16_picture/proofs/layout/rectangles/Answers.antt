@@ -1,7 +1,6 @@
 use Rattle.std.proofs.Common.{◌≡◌, List, subst, sym, arith}
 use Rattle.std.proofs.lemmas.Grind.{common_steps}
-use Rattle.w16_picture.specs.declared.layout.Rect.{Rect}
-use Rattle.w16_picture.specs.Layout.{IsStrip, strip}
+use Rattle.w16_picture.specs.{declared.layout.Rect.Rect, Layout.IsStrip, Layout.strip}
 use Rattle.w16_picture.proofs.Placing.{Fills-inside, IsStrip-strip}
 use Rattle.w16_picture.proofs.layout.rectangles.Goals as goal
 

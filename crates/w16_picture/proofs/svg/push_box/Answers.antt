@@ -1,5 +1,4 @@
-use Rattle.std.proofs.Common.{rules}
-use Rattle.std.proofs.lemmas.List.{append_assoc}
+use Rattle.std.proofs.{Common.rules, lemmas.List.append_assoc}
 use Rattle.w16_picture.specs.Svg.{box_text}
 use Rattle.w16_picture.proofs.svg.push_box.Goals as goal
 

@@ -1,4 +1,7 @@
-use Rattle.w16_region.proofs.Common.{ℕ, ◌+◌, ◌≤◌, ◌⊎◌, List, [], ◌∷◌, length, refl, sym, w64, Bor, MutBor, proved}
+use Rattle.w16_region.proofs
+use proofs.Common.{ℕ, ◌+◌, ◌≤◌, ◌⊎◌, List, [], ◌∷◌, length, refl, sym, w64, Bor, MutBor, proved}
+use proofs.storage.pair_of.Statement.{statement}
+use proofs.Pairs.{pair_lent, lends_pair, source, target, put, long_source, long_target}
 use mir.Syntax.{named}
 use mir.Val.{Val, vint, vstruct, vcons, vnil}
 use base.Fml.{Lft, ftrue, flft}
@@ -20,9 +23,7 @@ use denote.Struct.Struct.{within as laid_within}
 use denote.Struct.Tuple.{tuple_type}
 use denote.Triple.Walked.{says, Stays, stay_dropped, walk_of, ends_at, Goes-dropped, Goes-spent_slice}
 use Rattle.w16_region.specs.contracts.storage.pair_of as f
-use Rattle.w16_region.proofs.storage.pair_of.Statement.{statement}
 use Rattle.w16_region.proofs.storage.pair_of.Code as code
-use Rattle.w16_region.proofs.Pairs.{pair_lent, lends_pair, source, target, put, long_source, long_target}
 
 abbrev stayed : Stays f.ended.signature.params f.ended.kept
 stayed = (stay_dropped (mut_slice_of (0 ∷ []) tt (plain (λ _. u8))) no, (stay_dropped (plain (λ _. usize)) yes, (stay_dropped (plain (λ _. usize)) yes, (stay_dropped (plain (λ _. usize)) yes, (stay_dropped (plain (λ _. usize)) yes, tt)))))

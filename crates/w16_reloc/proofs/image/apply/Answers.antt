@@ -1,6 +1,7 @@
-use Rattle.w16_reloc.proofs.Common.{◌≡◌, ◌∙◌, [], drop, take, take_all, subst, All, refl, arith, All-more, IsFar, drop_of_length-le, byte, patches, over_each}
-use Rattle.w16_reloc.proofs.ApartLemmas.{sound_steps}
-use Rattle.w16_reloc.proofs.ImageLemmas.{open_next, open_done, written_image}
+use Rattle.w16_reloc.proofs
+use proofs.Common.{◌≡◌, ◌∙◌, [], drop, take, take_all, subst, All, refl, arith, All-more, IsFar, drop_of_length-le, byte, patches, over_each}
+use proofs.ApartLemmas.{sound_steps}
+use proofs.ImageLemmas.{open_next, open_done, written_image}
 use Rattle.w16_reloc.proofs.image.apply.Goals as goal
 
 pub loop-i-preserved : goal.loop-i-preserved

@@ -1,7 +1,8 @@
-use Rattle.w16_reloc.proofs.Common.{◌≡◌, ◌-◌, ◌+◌, ◌<◌, ◌⊎◌, inl, inr, ◌∙◌, length, arith, chain_width, value_of}
-use Rattle.w16_reloc.proofs.WalkLemmas.{walk_stops, walk_over, walk_on, chain_narrow, chain_wide}
+use Rattle.w16_reloc.proofs
+use proofs.Common.{◌≡◌, ◌-◌, ◌+◌, ◌<◌, ◌⊎◌, inl, inr, ◌∙◌, length, arith, chain_width, value_of}
+use proofs.WalkLemmas.{walk_stops, walk_over, walk_on, chain_narrow, chain_wide}
+use proofs.image.write_chain.Goals.{then-at-via-then-at, then-at-via-else-at+then-place-width}
 use Rattle.w16_reloc.proofs.image.write_chain.Goals as goal
-use Rattle.w16_reloc.proofs.image.write_chain.Goals.{then-at-via-then-at, then-at-via-else-at+then-place-width}
 
 pub returns-then-at : goal.returns-then-at
 returns-then-at c = λ file last total walked.

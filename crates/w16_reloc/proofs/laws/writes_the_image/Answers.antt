@@ -1,6 +1,4 @@
-use Rattle.w16_reloc.proofs.Common.{[], length, all_sites, byte, patches}
-use Rattle.w16_reloc.proofs.ApartLemmas.{sound_steps}
-use Rattle.w16_reloc.proofs.ImageLemmas.{image_is, fit_all}
+use Rattle.w16_reloc.proofs.{Common.[], Common.length, Common.all_sites, Common.byte, Common.patches, ApartLemmas.sound_steps, ImageLemmas.image_is, ImageLemmas.fit_all}
 use Rattle.w16_reloc.proofs.laws.writes_the_image.Goals as goal
 
 pub returns : goal.returns

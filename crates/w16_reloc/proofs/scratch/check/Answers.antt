@@ -1,7 +1,8 @@
-use Rattle.w16_reloc.proofs.Common.{◌≡◌, ◌-◌, Some, Option, sym, arith, err_from_is_err_and, Segment, checked}
-use Rattle.w16_reloc.proofs.Refusals.{fails_on, never, ok_same, checked_told}
-use Rattle.w16_reloc.proofs.ImportedNames.{answers_told, sound_passed, texts_told}
-use Rattle.w16_reloc.proofs.FileLemmas.{module_lies}
+use Rattle.w16_reloc.proofs
+use proofs.Common.{◌≡◌, ◌-◌, Some, Option, sym, arith, err_from_is_err_and, Segment, checked}
+use proofs.Refusals.{fails_on, never, ok_same, checked_told}
+use proofs.ImportedNames.{answers_told, sound_passed, texts_told}
+use proofs.FileLemmas.{module_lies}
 use Rattle.w16_reloc.proofs.scratch.check.Goals as goal
 
 some_same : (x y : Segment) (o : Option Segment) → o ≡ Some x → o ≡ Some y → x ≡ y
@@ -35,7 +36,8 @@ returns-clause-exact g c = λ file s honest has tables found.
     let passed = rw (c.segment_count.ensures.count, c.reference_count.ensures, c.as_slice-4.ensures.value, c.as_slice-5.ensures.value, c.as_slice-6.ensures.value) at said in
     let names = rw c.as_slice.ensures.value at c.in_ok-read_names.ensures.exact file honest (rw c.in_ok-count.ensures.stays.same has) in
     let offered = answers_told file c.args.module_file.now _ _ _ names (rw c.as_slice-2.ensures.value at c.reveal_bytes.ensures) (rw c.as_slice-3.ensures.value at c.reveal_bytes-2.ensures) c.check_records.result (g.S.Store.failures c.read_names.new.store) (g.S.Store.failures c.read_names.new.store) _ _ c.check_records.ensures.own passed in
-    rw (← same) (checked_told file c.args.module_file.now c.segment-found.result c.check_records.result _ _ _ _ _ _ _ (omega (arith, c.in_ok-count.ensures.stays.counted, c.in_ok-read_names.ensures.stays.counted)) held.0 held.1 (sym many) offered)
+    rw (← same) (checked_told file c.args.module_file.now c.segment-found.result c.check_records.result _ _ _ _ _ _ _
+    (omega (arith, c.in_ok-count.ensures.stays.counted, c.in_ok-read_names.ensures.stays.counted)) held.0 held.1 (sym many) offered)
 
 pub returns-clause-names : goal.returns-clause-names
 returns-clause-names g c = λ file honest has.

@@ -1,6 +1,5 @@
 use Rattle.w16_reloc.proofs.Common.{◌≡◌, ◌+◌, ◌*◌, ◌<◌, ◌≤◌, ℕ, List, Ok, Result, sym, length, arith, err_from_is_err_and, RelocFault}
-use Rattle.w16_reloc.proofs.Refusals.{fails_on}
-use Rattle.w16_reloc.proofs.FileLemmas.{table_inside}
+use Rattle.w16_reloc.proofs.{Refusals.fails_on, FileLemmas.table_inside}
 use Rattle.w16_reloc.proofs.segment.read_table.Goals as goal
 
 pub returns-in_err-read_bytes-clause-exact : goal.returns-in_err-read_bytes-clause-exact

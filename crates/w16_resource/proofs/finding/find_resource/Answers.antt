@@ -1,6 +1,5 @@
 -- The table's place is that of the module.
-use Rattle.w16_resource.proofs.Common.{ap, unwrap_or, ◌∙◌}
-use Rattle.w16_resource.proofs.Fetched.{place_found}
+use Rattle.w16_resource.proofs.{Common.ap, Common.unwrap_or, Common.◌∙◌, Fetched.place_found}
 use Rattle.w16_resource.proofs.finding.find_resource.Goals as goal
 
 pub returns-in-Some : goal.returns-in-Some

@@ -1,6 +1,7 @@
-use Rattle.w16_script.proofs.Common.{◌≡◌, ◌+◌, ◌*◌, true, false, refl, sym, slice_index, arith, ◌∙◌, length-set, nat_tests, decode_step}
-use Rattle.w16_script.proofs.OneNumberLemmas.{both as parts}
-use Rattle.w16_script.proofs.DigitLemmas.{one-bad, pair-read, pair-bad, bad_text, whole_text}
+use Rattle.w16_script.proofs
+use proofs.Common.{◌≡◌, ◌+◌, ◌*◌, true, false, refl, sym, slice_index, arith, ◌∙◌, length-set, nat_tests, decode_step}
+use proofs.OneNumberLemmas.{both as parts}
+use proofs.DigitLemmas.{one-bad, pair-read, pair-bad, bad_text, whole_text}
 use Rattle.w16_script.proofs.bytes.decode.Goals as goal
 
 pub pairs-preserved : goal.pairs-preserved

@@ -1,6 +1,4 @@
-use Rattle.w16_script.proofs.Common.{arith}
-use Rattle.w16_script.proofs.ArgumentLemmas.{IfNone-weaker}
-use Rattle.w16_script.proofs.OneNumberLemmas.{no_sum}
+use Rattle.w16_script.proofs.{Common.arith, ArgumentLemmas.IfNone-weaker, OneNumberLemmas.no_sum}
 use Rattle.w16_script.proofs.number.form.Goals as goal
 
 pub returns-in-Some-eq43-default-clause-none : goal.returns-in-Some-eq43-default-clause-none

@@ -1,5 +1,4 @@
-use Rattle.w16_script.proofs.ArgumentLemmas.{IfNone-weaker}
-use Rattle.w16_script.proofs.OneNumberLemmas.{no_number}
+use Rattle.w16_script.proofs.{ArgumentLemmas.IfNone-weaker, OneNumberLemmas.no_number}
 use Rattle.w16_script.proofs.number.number.Goals as goal
 
 pub returns-in-None-clause-none : goal.returns-in-None-clause-none

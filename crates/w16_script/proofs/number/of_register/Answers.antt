@@ -1,5 +1,4 @@
-use Rattle.w16_script.proofs.ArgumentLemmas.{IfNone-weaker}
-use Rattle.w16_script.proofs.RegisterLemmas.{BeginsWith-from, no_form}
+use Rattle.w16_script.proofs.{ArgumentLemmas.IfNone-weaker, RegisterLemmas.BeginsWith-from, RegisterLemmas.no_form}
 use Rattle.w16_script.proofs.number.of_register.Goals as goal
 
 pub returns-clause-none : goal.returns-clause-none

@@ -1,7 +1,6 @@
 use Rattle.w16_script.proofs.Common.{◌≡◌, codes, ◌++◌, [], ◌∷◌, arith, append-nil, Appends-nil, on_err_weaker, encode_lower, reply_text}
+use Rattle.w16_script.proofs.{WriteLemmas.on_err, WriteLemmas.AppendsFront-between, PrintLemmas.bytes_text}
 use Rattle.w16_loading.specs.Replies as replies
-use Rattle.w16_script.proofs.WriteLemmas.{on_err, AppendsFront-between}
-use Rattle.w16_script.proofs.PrintLemmas.{bytes_text}
 use Rattle.w16_script.proofs.print.print_bytes.Goals as goal
 
 pub returns-in_err-write_whole-clause-err : goal.returns-in_err-write_whole-clause-err

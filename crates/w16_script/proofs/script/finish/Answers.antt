@@ -1,5 +1,4 @@
-use Rattle.w16_script.proofs.Common.{refl}
-use Rattle.w16_script.proofs.WholeLemmas.{Finishes-none, empty-from}
+use Rattle.w16_script.proofs.{Common.refl, WholeLemmas.Finishes-none, WholeLemmas.empty-from}
 use Rattle.w16_script.proofs.script.finish.Goals as goal
 
 pub returns-then-is_empty-clause-ok : goal.returns-then-is_empty-clause-ok

@@ -1,5 +1,4 @@
-use Rattle.w16_script.proofs.Common.{IfErr-weaker}
-use Rattle.w16_script.proofs.WholeLemmas.{Fails-later}
+use Rattle.w16_script.proofs.{Common.IfErr-weaker, WholeLemmas.Fails-later}
 use Rattle.w16_script.proofs.script.run.Goals as goal
 
 pub returns-clause-err : goal.returns-clause-err

@@ -1,22 +1,24 @@
-use Rattle.w16_script.proofs.Common.{err_from_is_err_and, [], ◌++◌, take, length-take, arith, ap, IfOk-weaker, IfErr-weaker, Consumes-nil, Consumes-trans, state_with}
-use Rattle.w16_script.proofs.FeedLemmas.{Feeds-held, Feeds-kept, Feeds-trans}
-use Rattle.w16_script.proofs.WholeLemmas.{fresh-fits, Script-from, FailsLater-piece, FailsLater-last, Consumes-none}
+use Rattle.w16_script.proofs
+use proofs.Common as C
+use proofs.Common.{[], ◌++◌, take, arith, ap}
+use proofs.FeedLemmas.{Feeds-held, Feeds-kept, Feeds-trans}
+use proofs.WholeLemmas.{fresh-fits, Script-from, FailsLater-piece, FailsLater-last, Consumes-none}
 use Rattle.w16_script.proofs.script.run_over.Goals as goal
 
 pub returns-in_err-feed-clause-err : goal.returns-in_err-feed-clause-err
 returns-in_err-feed-clause-err g c =
     let (text, consumed, feeds) = c.pieces.invariant.fed in
-    let p = err_from_is_err_and c.from_residual.result c.from_residual.ensures.1 in
+    let p = C.err_from_is_err_and c.from_residual.result c.from_residual.ensures.1 in
     rw (p.1, p.2) (
       text ++ take c.in-Ok.count c.read_some.new.buffer,
-      Consumes-trans _ _ _ _ _ consumed c.in-Ok.ensures.ok,
-      FailsLater-piece _ _ _ _ _ _ _ _ _ _ text _ _ (Feeds-kept feeds c.flush_writer.ensures) c.pieces.invariant.fits (omega (arith, c.pieces.invariant.size, c.read_some.auto.buffer, length-take c.in-Ok.count c.read_some.new.buffer))
+      C.Consumes-trans _ _ _ _ _ consumed c.in-Ok.ensures.ok,
+      FailsLater-piece _ _ _ _ _ _ _ _ _ _ text _ _ (Feeds-kept feeds c.flush_writer.ensures) c.pieces.invariant.fits (omega (arith, c.pieces.invariant.size, c.read_some.auto.buffer, C.length-take c.in-Ok.count c.read_some.new.buffer))
           c.in_err-feed.ensures.err,
     )
 
 pub pieces-init : goal.pieces-init
 pieces-init g c = record {
-  fed = ([], Consumes-nil _, Feeds-held tt c.new-state.ensures.progress (ap (state_with (g.K.Machine.world c.args.kernel.now)) c.new-state.ensures.registers));
+  fed = ([], C.Consumes-nil _, Feeds-held tt c.new-state.ensures.progress (ap (C.state_with (g.K.Machine.world c.args.kernel.now)) c.new-state.ensures.registers));
   fits = rw c.new-state.ensures.progress fresh-fits;
   size = c.requires;
 }
@@ -25,7 +27,7 @@ pub pieces-preserved : goal.pieces-preserved
 pieces-preserved g c =
     let (text, consumed, feeds) = c.pieces.invariant.fed in
     record {
-      fed = (text ++ take c.in-Ok.count c.read_some.new.buffer, Consumes-trans _ _ _ _ _ consumed c.in-Ok.ensures.ok, Feeds-trans (Feeds-kept feeds c.flush_writer.ensures) c.in_ok-feed.ensures.ok);
+      fed = (text ++ take c.in-Ok.count c.read_some.new.buffer, C.Consumes-trans _ _ _ _ _ consumed c.in-Ok.ensures.ok, Feeds-trans (Feeds-kept feeds c.flush_writer.ensures) c.in_ok-feed.ensures.ok);
       fits = c.in_ok-feed.ensures.within;
       size = omega (arith, c.pieces.invariant.size, c.read_some.auto.buffer);
     }
@@ -33,7 +35,7 @@ pieces-preserved g c =
 pub returns-then-count-eq0-clause-ok : goal.returns-then-count-eq0-clause-ok
 returns-then-count-eq0-clause-ok g c =
     let (text, consumed, feeds) = c.pieces.invariant.fed in
-    IfOk-weaker c.finish.result _ _
+    C.IfOk-weaker c.finish.result _ _
     (λ counts finishes. (
       text,
       Consumes-none _ _ _ _ _ _ c.if-count-eq0.true consumed c.in-Ok.ensures.ok,
@@ -45,7 +47,7 @@ returns-then-count-eq0-clause-ok g c =
 pub returns-then-count-eq0-clause-err : goal.returns-then-count-eq0-clause-err
 returns-then-count-eq0-clause-err g c =
     let (text, consumed, feeds) = c.pieces.invariant.fed in
-    IfErr-weaker c.finish.result _ _
+    C.IfErr-weaker c.finish.result _ _
     (λ fault (filled, fails). (
       text,
       Consumes-none _ _ _ _ _ _ c.if-count-eq0.true consumed c.in-Ok.ensures.ok,

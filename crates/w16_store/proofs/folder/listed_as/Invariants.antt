@@ -1,6 +1,5 @@
 use Rattle.std.proofs.Common.{◌≡◌, map, drop}
-use Rattle.std.specs.List.{find}
-use Rattle.std.specs.String.{string_bytes}
+use Rattle.std.specs.{List.find, String.string_bytes}
 use Rattle.w16_store.specs.Names.{is_named}
 use Rattle.w16_store.proofs.folder.listed_as.Given as goal
 

@@ -1,7 +1,6 @@
 use Rattle.std.proofs.Common.{◌≡◌, sym, rules, Some, None, position}
 use Rattle.std.proofs.lemmas.List.Quantifiers.{position-Some}
-use Rattle.w16_store.specs.declared.memory.File.{File}
-use Rattle.w16_store.specs.Names.{is_named}
+use Rattle.w16_store.specs.{declared.memory.File.File, Names.is_named}
 use Rattle.w16_store.proofs.Finding.{at_place, nowhere, fails_before}
 use Rattle.w16_store.proofs.memory.bytes_of.Goals as goal
 

@@ -1,9 +1,6 @@
-use Rattle.std.proofs.Common.{ℕ, map, rules}
-use Rattle.std.specs.Ordering.{is_lt}
-use Rattle.std.specs.String.{string_bytes}
-use Rattle.std.proofs.lemmas.List.Sorted.{IsPartitionPoint-from_clause}
-use Rattle.w16_store.specs.Names.{name_cmp}
-use Rattle.w16_store.specs.Places.{name_at}
+use Rattle.std.proofs.{Common.ℕ, Common.map, Common.rules, lemmas.List.Sorted.IsPartitionPoint-from_clause}
+use Rattle.std.specs.{Ordering.is_lt, String.string_bytes}
+use Rattle.w16_store.specs.{Names.name_cmp, Places.name_at}
 use Rattle.w16_store.proofs.Listing.{is_partitioned}
 use Rattle.w16_store.proofs.places.first_from.Goals as goal
 

@@ -1,10 +1,6 @@
 use Rattle.std.proofs.Common.{Global, map, sym, ◌∙◌, arith, rules}
-use Rattle.std.proofs.lemmas.List.{length-map}
-use Rattle.std.specs.Prelude.{nat_eq}
-use Rattle.std.specs.Ordering.{is_lt}
-use Rattle.std.specs.String.{string_bytes}
-use Rattle.std.proofs.lemmas.List.Sorted.{ranks_by, list_any-IsPermutation}
-use Rattle.std.proofs.lemmas.Fn.{always_returns_same}
+use Rattle.std.proofs.{lemmas.List.length-map, lemmas.List.Sorted.ranks_by, lemmas.List.Sorted.list_any-IsPermutation, lemmas.Fn.always_returns_same}
+use Rattle.std.specs.{Prelude.nat_eq, Ordering.is_lt, String.string_bytes}
 use Rattle.w16_store.specs.Places.{place_cmp}
 use Rattle.w16_store.proofs.Listing.{place_cmp_total}
 use Rattle.w16_store.proofs.places.places_of.Goals as goal

@@ -1,5 +1,4 @@
-use Rattle.w16_writes.proofs.Runs.{reads_back_law}
-use Rattle.w16_writes.proofs.Promises.{run_promises_law}
+use Rattle.w16_writes.proofs.{Runs.reads_back_law, Promises.run_promises_law}
 use Rattle.w16_writes.proofs.laws.runs_read_back.Goals as goal
 
 pub returns-clause-steps : goal.returns-clause-steps

@@ -1,8 +1,7 @@
-use Rattle.w16_global.proofs.Common.{◌≡◌, ◌+◌, ◌<◌, ◌∙◌, ◌||◌, ℕ, Some, ap, arith, length, length-set, subst, sym, AreHandles, AreLabelled, begins_in, descriptor_at, handles_of, is_member, rules, slots_in, some_slots, told}
-use Rattle.w16_global.proofs.Joining.{given_handles, within}
-use Rattle.w16_global.proofs.Joined.{unused_in}
-use Rattle.w16_global.proofs.Owners.{free_selector, handles_shown}
-use Rattle.w16_global.proofs.Sliding.{allocated_gone, allocated_handles, allocated_joined, allocated_labelled, allocated_run, allocated_slots, given_moved}
+use Rattle.w16_global.proofs
+use proofs.Sliding as M
+use proofs.Common.{◌≡◌, ◌+◌, ◌<◌, ◌∙◌, ◌||◌, ℕ, Some, ap, arith, length, length-set, subst, sym, AreHandles, AreLabelled, begins_in, descriptor_at, handles_of, is_member, rules, slots_in, some_slots, told}
+use proofs.{Joining.given_handles, Joining.within, Joined.unused_in, Owners.free_selector, Owners.handles_shown}
 use Rattle.w16_global.proofs.global.Global16.allocate.Goals as goal
 
 pub alloc-requires-clause-free : goal.alloc-requires-clause-free
@@ -16,19 +15,19 @@ take_run-requires-clause-few g c = (c.requires.sized.0, omega (arith, c.self.inv
 
 pub follow-requires-clause-handles : goal.follow-requires-clause-handles
 follow-requires-clause-handles g c = subst (λ xs. AreHandles (handles_of c.alloc.new.self xs 0))
-    (sym c.deref.ensures.value) (allocated_handles c.self.invariant c.alloc.new.self c.in-Some.ensures.cap c.args.slot
+    (sym c.deref.ensures.value) (M.allocated_handles c.self.invariant c.alloc.new.self c.in-Some.ensures.cap c.args.slot
     c.args.attributes (handles_shown c.self.view_is) c.requires.free c.requires.run c.requires.sized c.args.size
     c.args.kind c.args.options c.in-Some.ensures.allocated c.in-Some.ensures.discarded c.requires.enough)
 
 pub follow-requires-clause-labelled : goal.follow-requires-clause-labelled
 follow-requires-clause-labelled g c = subst (λ xs. AreLabelled xs c.take_run.new.selectors) (sym c.deref.ensures.value)
-    (allocated_labelled c.self.invariant c.alloc.new.self c.in-Some.ensures.cap c.args.slot c.args.attributes
+    (M.allocated_labelled c.self.invariant c.alloc.new.self c.in-Some.ensures.cap c.args.slot c.args.attributes
     (handles_shown c.self.view_is) c.requires.free c.requires.run c.requires.sized c.args.size c.args.kind
     c.args.options c.in-Some.ensures.allocated c.in-Some.ensures.discarded c.requires.enough c.kind_for.result
     c.kind_for.ensures c.take_run.new.selectors c.take_run.ensures.taken)
 
 pub follow-requires-clause-gone : goal.follow-requires-clause-gone
-follow-requires-clause-gone g c = allocated_gone c.self.invariant c.alloc.new.self c.in-Some.ensures.cap c.args.slot
+follow-requires-clause-gone g c = M.allocated_gone c.self.invariant c.alloc.new.self c.in-Some.ensures.cap c.args.slot
     c.args.attributes (handles_shown c.self.view_is) c.requires.free c.requires.run c.requires.sized c.args.size
     c.args.kind c.args.options c.in-Some.ensures.allocated c.in-Some.ensures.discarded c.requires.enough
 
@@ -41,7 +40,7 @@ follow-requires-clause-many g c =
     )
 
 pub place_run-requires-clause-known : goal.place_run-requires-clause-known
-place_run-requires-clause-known g c = λ number below. (allocated_run c.self.invariant c.alloc.new.self
+place_run-requires-clause-known g c = λ number below. (M.allocated_run c.self.invariant c.alloc.new.self
     c.in-Some.ensures.cap c.args.slot c.args.attributes (handles_shown c.self.view_is) c.requires.free c.requires.run
     c.requires.sized c.args.size c.args.kind c.args.options c.in-Some.ensures.allocated c.in-Some.ensures.discarded
     c.requires.enough c.kind_for.result c.kind_for.ensures c.in-Some.placed.slid.from c.in-Some.placed.slid.to
@@ -53,7 +52,7 @@ place_run-requires-clause-known g c = λ number below. (allocated_run c.self.inv
 
 pub place_run-requires-clause-numbered : goal.place_run-requires-clause-numbered
 place_run-requires-clause-numbered g c = λ number below.
-    (allocated_run c.self.invariant c.alloc.new.self c.in-Some.ensures.cap c.args.slot c.args.attributes
+    (M.allocated_run c.self.invariant c.alloc.new.self c.in-Some.ensures.cap c.args.slot c.args.attributes
     (handles_shown c.self.view_is) c.requires.free c.requires.run c.requires.sized c.args.size c.args.kind
     c.args.options c.in-Some.ensures.allocated c.in-Some.ensures.discarded c.requires.enough c.kind_for.result
     c.kind_for.ensures c.in-Some.placed.slid.from c.in-Some.placed.slid.to c.take_run.new.selectors
@@ -64,7 +63,7 @@ place_run-requires-clause-numbered g c = λ number below.
     below).1
 
 pub place_run-requires-clause-enough : goal.place_run-requires-clause-enough
-place_run-requires-clause-enough g c = ap (λ xs. slots_in xs c.args.slot) c.deref-2.ensures.value ∙ allocated_slots
+place_run-requires-clause-enough g c = ap (λ xs. slots_in xs c.args.slot) c.deref-2.ensures.value ∙ M.allocated_slots
     c.self.invariant c.alloc.new.self c.in-Some.ensures.cap c.args.slot c.args.attributes
     (handles_shown c.self.view_is) c.requires.free c.requires.run c.requires.sized c.args.size c.args.kind
     c.args.options c.in-Some.ensures.allocated c.in-Some.ensures.discarded c.requires.enough
@@ -73,7 +72,7 @@ pub place_run-requires-clause-few : goal.place_run-requires-clause-few
 place_run-requires-clause-few g c = omega (arith, c.follow.ensures.many, c.take_run.ensures.many, c.self.invariant.selectors_many, c.self.invariant.some, c.self.invariant.handles.few)
 
 pub invariant_of-self-2 : goal.invariant_of-self-2
-invariant_of-self-2 g c = allocated_joined c.self.invariant c.alloc.new.self c.in-Some.ensures.cap c.args.slot
+invariant_of-self-2 g c = M.allocated_joined c.self.invariant c.alloc.new.self c.in-Some.ensures.cap c.args.slot
     c.args.attributes (handles_shown c.self.view_is) c.requires.free c.requires.run c.requires.sized c.args.size
     c.args.kind c.args.options c.in-Some.ensures.allocated c.in-Some.ensures.discarded c.requires.enough
     c.kind_for.result c.kind_for.ensures c.in-Some.placed.at c.in-Some.placed.slid.from c.in-Some.placed.slid.to
@@ -87,7 +86,7 @@ invariant_of-self-2 g c = allocated_joined c.self.invariant c.alloc.new.self c.i
 
 pub returns-clause-rest : goal.returns-clause-rest
 returns-clause-rest g c =
-    given_moved c.self.inside.objects c.self.inside.attributes.items _ (handles_shown c.self.view_is) c.alloc.new.self c.args.slot c.args.attributes c.in-Some.placed.moved c.in-Some.ensures.moved
+    M.given_moved c.self.inside.objects c.self.inside.attributes.items _ (handles_shown c.self.view_is) c.alloc.new.self c.args.slot c.args.attributes c.in-Some.placed.moved c.in-Some.ensures.moved
     (given_handles c.self.invariant c.alloc.new.self c.in-Some.ensures.cap c.args.slot c.args.attributes (handles_shown c.self.view_is) c.requires.free (subst (λ n. 0 < n) (sym c.requires.enough) (some_slots c.args.size)) c.in-Some.placed.moved)
 
 pub index_mut-requires : goal.index_mut-requires

@@ -1,5 +1,4 @@
-use Rattle.w16_global.proofs.Owners.{handles_shown}
-use Rattle.w16_global.proofs.Slots.{extends, ends}
+use Rattle.w16_global.proofs.{Owners.handles_shown, Slots.extends, Slots.ends}
 use Rattle.w16_global.proofs.global.Global16.can_extend.Goals as goal
 
 pub returns-else-count-own-clause-value : goal.returns-else-count-own-clause-value

@@ -1,7 +1,5 @@
 use Rattle.w16_global.proofs.Common.{ap, sym, ◌∙◌, ◌<◌, subst, Handles, slots_at}
-use Rattle.w16_global.proofs.Changing.{emptied_joined}
-use Rattle.w16_global.proofs.Owners.{handles_shown, labelled}
-use Rattle.w16_global.proofs.Told.{run_known, slots_are}
+use Rattle.w16_global.proofs.{Changing.emptied_joined, Owners.handles_shown, Owners.labelled, Told.run_known, Told.slots_are}
 use Rattle.w16_global.proofs.global.Global16.discard.Goals as goal
 
 pub invariant_of-self-2 : goal.invariant_of-self-2

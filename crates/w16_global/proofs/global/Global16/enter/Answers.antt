@@ -1,7 +1,4 @@
-use Rattle.w16_global.proofs.Common.{ap, arith, Holding, ◌+◌}
-use Rattle.w16_global.proofs.Joining.{entered_joined, entered_known, given_unmoved}
-use Rattle.w16_global.proofs.Joined.{unused_in}
-use Rattle.w16_global.proofs.Owners.{free_selector, handles_shown}
+use Rattle.w16_global.proofs.{Common.ap, Common.arith, Common.Holding, Common.◌+◌, Joining.entered_joined, Joining.entered_known, Joining.given_unmoved, Joined.unused_in, Owners.free_selector, Owners.handles_shown}
 use Rattle.w16_global.proofs.global.Global16.enter.Goals as goal
 
 pub invariant_of-self : goal.invariant_of-self

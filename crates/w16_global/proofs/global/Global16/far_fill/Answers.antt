@@ -1,8 +1,8 @@
-use Rattle.w16_global.proofs.Common.{true, refl, Gives, far_write, repeated, length-repeated, All-repeated}
+use Rattle.w16_global.proofs
+use proofs.Common.{true, refl, Gives, far_write, repeated, length-repeated, All-repeated}
+use proofs.Access.{has_part, write_faults, written_joined, fill_known}
+use proofs.{Reach.handed_on, Owners.handles_shown}
 use Rattle.w16_model.specs.Far as access
-use Rattle.w16_global.proofs.Reach.{handed_on}
-use Rattle.w16_global.proofs.Access.{has_part, write_faults, written_joined, fill_known}
-use Rattle.w16_global.proofs.Owners.{handles_shown}
 use Rattle.w16_global.proofs.global.Global16.far_fill.Goals as goal
 
 pub fill-requires : goal.fill-requires

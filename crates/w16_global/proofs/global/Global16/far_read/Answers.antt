@@ -1,7 +1,6 @@
 use Rattle.w16_global.proofs.Common.{false, length, sym, ap, ◌∙◌, subst, Gives, far_read}
+use Rattle.w16_global.proofs.{Access.has_part, Access.part_length, Access.read_known, Owners.handles_shown}
 use Rattle.w16_model.specs.Far as access
-use Rattle.w16_global.proofs.Access.{has_part, part_length, read_known}
-use Rattle.w16_global.proofs.Owners.{handles_shown}
 use Rattle.w16_global.proofs.global.Global16.far_read.Goals as goal
 
 pub part-part-requires : goal.part-part-requires

@@ -1,6 +1,4 @@
-use Rattle.w16_global.proofs.Common.{true, length, refl, All-bytes}
-use Rattle.w16_global.proofs.Access.{has_part, written_joined, write_known}
-use Rattle.w16_global.proofs.Owners.{handles_shown}
+use Rattle.w16_global.proofs.{Common.true, Common.length, Common.refl, Common.All-bytes, Access.has_part, Access.written_joined, Access.write_known, Owners.handles_shown}
 use Rattle.w16_global.proofs.global.Global16.far_write.Goals as goal
 
 pub write-requires : goal.write-requires

@@ -1,5 +1,4 @@
-use Rattle.w16_global.proofs.Owners.{handles_shown}
-use Rattle.w16_global.proofs.Slots.{found_run, no_run}
+use Rattle.w16_global.proofs.{Owners.handles_shown, Slots.found_run, Slots.no_run}
 use Rattle.w16_global.proofs.global.Global16.free_run.Goals as goal
 
 pub returns-else-count-eq1-clause-found : goal.returns-else-count-eq1-clause-found

@@ -1,5 +1,4 @@
-use Rattle.w16_global.proofs.Owners.{handles_shown}
-use Rattle.w16_global.proofs.Slots.{found_free, none_free}
+use Rattle.w16_global.proofs.{Owners.handles_shown, Slots.found_free, Slots.none_free}
 use Rattle.w16_global.proofs.global.Global16.free_slot.Goals as goal
 
 pub returns-clause-found : goal.returns-clause-found

@@ -1,6 +1,5 @@
 use Rattle.w16_global.proofs.Common.{◌≡◌, ◌∙◌, ap, option_map, unwrap_or, Descriptor, rules}
-use Rattle.w16_global.proofs.Reach.{base_known}
-use Rattle.w16_global.proofs.Owners.{handles_shown}
+use Rattle.w16_global.proofs.{Reach.base_known, Owners.handles_shown}
 use Rattle.w16_global.proofs.global.Global16.get_selector_base.Goals as goal
 
 pub returns : goal.returns

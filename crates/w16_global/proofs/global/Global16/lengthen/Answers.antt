@@ -1,7 +1,4 @@
-use Rattle.w16_global.proofs.Common.{ap, ◌∙◌, Global}
-use Rattle.w16_global.proofs.Lengthening.{lengthened, null_kept, null_written}
-use Rattle.w16_global.proofs.Owners.{handles_shown}
-use Rattle.w16_global.proofs.Owning.{known_handles}
+use Rattle.w16_global.proofs.{Common.ap, Common.◌∙◌, Common.Global, Lengthening.lengthened, Lengthening.null_kept, Lengthening.null_written, Owners.handles_shown, Owning.known_handles}
 use Rattle.w16_global.proofs.global.Global16.lengthen.Goals as goal
 
 pub returns-clause-step : goal.returns-clause-step

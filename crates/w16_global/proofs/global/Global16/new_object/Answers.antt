@@ -1,6 +1,7 @@
-use Rattle.w16_global.proofs.Common.{refl, sym, ap, ◌∙◌, subst, arith, AreHandles, Attributes, None, GMEM_DDESHARE, has_flag, Handles, HasNoRun, IsFreeRun, handles_of, rounded_size, slots_for}
-use Rattle.w16_global.proofs.Allocation.{absent_answered, bytes_answered, bytes_refused, refuses_slots}
-use Rattle.w16_global.proofs.Owners.{handles_shown}
+use Rattle.w16_global.proofs
+use proofs.Common.{refl, sym, ap, ◌∙◌, subst, arith, AreHandles, Attributes, None, GMEM_DDESHARE, has_flag, Handles, HasNoRun, IsFreeRun, handles_of, rounded_size, slots_for}
+use proofs.Allocation.{absent_answered, bytes_answered, bytes_refused, refuses_slots}
+use proofs.Owners.{handles_shown}
 use Rattle.w16_global.proofs.global.Global16.new_object.Goals as goal
 
 pub returns-then-size-eq0-clause-step : goal.returns-then-size-eq0-clause-step

@@ -1,6 +1,5 @@
 use Rattle.std.proofs.Common.{sym}
-use Rattle.w16_global.proofs.Owners.{handles_shown}
-use Rattle.w16_global.proofs.Resizing.{empties_ok}
+use Rattle.w16_global.proofs.{Owners.handles_shown, Resizing.empties_ok}
 use Rattle.w16_global.proofs.global.Global16.realloc_to_zero.Goals as goal
 
 pub returns-in-Ok-clause-step : goal.returns-in-Ok-clause-step

@@ -1,7 +1,5 @@
 use Rattle.w16_global.proofs.Common.{ap, sym, ◌∙◌, ◌<◌, subst, Handles, Holding, Global, slots_at}
-use Rattle.w16_global.proofs.Joining.{removed_joined, removed_shown}
-use Rattle.w16_global.proofs.Owners.{handles_shown, labelled}
-use Rattle.w16_global.proofs.Told.{run_known, slots_are}
+use Rattle.w16_global.proofs.{Joining.removed_joined, Joining.removed_shown, Owners.handles_shown, Owners.labelled, Told.run_known, Told.slots_are}
 use Rattle.w16_global.proofs.global.Global16.remove.Goals as goal
 
 pub invariant_of-self : goal.invariant_of-self

@@ -1,6 +1,4 @@
-use Rattle.w16_global.proofs.Common.{◌∙◌, sym, false≢true}
-use Rattle.w16_global.proofs.Owners.{handles_shown}
-use Rattle.w16_global.proofs.Slots.{found_run, gets_other, lacks_other, lacks_run, no_run}
+use Rattle.w16_global.proofs.{Common.◌∙◌, Common.sym, Common.false≢true, Owners.handles_shown, Slots.found_run, Slots.gets_other, Slots.lacks_other, Slots.lacks_run, Slots.no_run}
 use Rattle.w16_global.proofs.global.Global16.run_for.Goals as goal
 
 pub returns-then-may_leave-clause-gets : goal.returns-then-may_leave-clause-gets

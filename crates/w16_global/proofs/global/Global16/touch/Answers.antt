@@ -1,5 +1,4 @@
-use Rattle.w16_global.proofs.Common.{ap, Holding}
-use Rattle.w16_global.proofs.Joining.{touched_joined}
+use Rattle.w16_global.proofs.{Common.ap, Common.Holding, Joining.touched_joined}
 use Rattle.w16_global.proofs.global.Global16.touch.Goals as goal
 
 pub invariant_of-self : goal.invariant_of-self

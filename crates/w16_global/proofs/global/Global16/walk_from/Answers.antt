@@ -1,6 +1,5 @@
 use Rattle.w16_global.proofs.Common.{rules, ◌≡◌, ◌+◌, ◌<◌, ◌≤◌, sym, subst, option_map, Option, Some, None, Item, Owner, IsFirstItem, IsItem, Handles, handle_of}
-use Rattle.w16_global.proofs.Walked.{renamed, first_renamed, apart_renamed}
-use Rattle.w16_global.proofs.Owners.{handles_shown}
+use Rattle.w16_global.proofs.{Walked.renamed, Walked.first_renamed, Walked.apart_renamed, Owners.handles_shown}
 use Rattle.w16_global.proofs.global.Global16.walk_from.Goals as goal
 
 pub returns-in_err-item-clause-found : goal.returns-in_err-item-clause-found

@@ -1,5 +1,4 @@
-use Rattle.w16_global.proofs.Common.{Compacts, heap_in}
-use Rattle.w16_global.proofs.Parts.{ends_low, told}
+use Rattle.w16_global.proofs.{Common.Compacts, Common.heap_in, Parts.ends_low, Parts.told}
 use Rattle.w16_global.proofs.objects.Objects.compact.Goals as goal
 
 pub returns-clause-compacted : goal.returns-clause-compacted

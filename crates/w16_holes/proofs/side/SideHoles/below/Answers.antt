@@ -1,6 +1,5 @@
 use Rattle.w16_holes.proofs.Common.{ℕ, ◌+◌, ap, arith, ◌∙◌, Some, None, subst, Range, Free, AreHoles, Inside}
-use Rattle.w16_holes.proofs.Last.{last_is, last_lower}
-use Rattle.w16_holes.proofs.Steps.{AreHoles-cells}
+use Rattle.w16_holes.proofs.{Last.last_is, Last.last_lower, Steps.AreHoles-cells}
 use Rattle.w16_holes.proofs.side.SideHoles.below.Goals as goal
 
 abbrev range : {Z : Type 0} → Inside Z → Range

@@ -1,7 +1,5 @@
 use Rattle.w16_holes.proofs.Common.{ℕ, option_map, ap, arith, sym, subst, ◌∙◌, ◌≡◌, ◌+◌, ◌-◌, ◌*◌, Free, last_before}
-use Rattle.w16_holes.proofs.Look.{to_is}
-use Rattle.w16_holes.proofs.Last.{last_cell}
-use Rattle.w16_holes.proofs.Told.{IsInside-wide}
+use Rattle.w16_holes.proofs.{Look.to_is, Last.last_cell, Told.IsInside-wide}
 use Rattle.w16_holes.proofs.side.SideHoles.length_below.Goals as goal
 
 pub begin_of-begin-requires-clause-fits : goal.begin_of-begin-requires-clause-fits

@@ -1,6 +1,5 @@
 use Rattle.w16_holes.proofs.Common.{ℕ, List, ◌≡◌, ◌+◌, ◌-◌, ◌∙◌, ap, set, sym, subst, slice_index, Range, Free, AreCells, spans, Inside}
-use Rattle.w16_holes.proofs.Units.{multiple_sum}
-use Rattle.w16_holes.proofs.Pass.{passes_so}
+use Rattle.w16_holes.proofs.{Units.multiple_sum, Pass.passes_so}
 use Rattle.w16_holes.proofs.side.SideHoles.pass.Given as given
 use Rattle.w16_holes.proofs.side.SideHoles.pass.Goals as goal
 

@@ -1,5 +1,4 @@
-use Rattle.w16_holes.proofs.Common.{Range}
-use Rattle.w16_holes.proofs.Steps.{AreHoles-cells}
+use Rattle.w16_holes.proofs.{Common.Range, Steps.AreHoles-cells}
 use Rattle.w16_holes.proofs.side.SideHoles.reveal_order.Goals as goal
 
 pub returns-clause-ordered : goal.returns-clause-ordered

@@ -1,6 +1,4 @@
-use Rattle.w16_holes.proofs.Common.{◌∙◌, Range}
-use Rattle.w16_holes.proofs.Look.{longest_is}
-use Rattle.w16_holes.proofs.Steps.{AreHoles-cells}
+use Rattle.w16_holes.proofs.{Common.◌∙◌, Common.Range, Look.longest_is, Steps.AreHoles-cells}
 use Rattle.w16_holes.proofs.side.SideHolesHoles.longest.Goals as goal
 
 pub returns-clause-value : goal.returns-clause-value

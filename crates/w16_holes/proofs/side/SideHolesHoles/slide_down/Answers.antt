@@ -1,6 +1,7 @@
-use Rattle.w16_holes.proofs.Common.{◌≡◌, List, length, arith, refl, sym, ap, ◌∙◌, subst, ◌+◌, ◌-◌, Span, joined, taken, AreSameBut, AreSameOutside}
-use Rattle.w16_holes.proofs.Passing.{part_taken, free_taken, part_put, used_put, come_too, others_same}
-use Rattle.w16_holes.proofs.Slid.{slid_alone}
+use Rattle.w16_holes.proofs
+use proofs.Common.{◌≡◌, List, length, arith, refl, sym, ap, ◌∙◌, subst, ◌+◌, ◌-◌, Span, joined, taken, AreSameBut, AreSameOutside}
+use proofs.Passing.{part_taken, free_taken, part_put, used_put, come_too, others_same}
+use proofs.Slid.{slid_alone}
 use Rattle.w16_holes.proofs.side.SideHolesHoles.slide_down.Given as given
 use Rattle.w16_holes.proofs.side.SideHolesHoles.slide_down.Goals as goal
 

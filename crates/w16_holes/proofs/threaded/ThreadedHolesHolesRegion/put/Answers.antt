@@ -1,6 +1,7 @@
-use Rattle.w16_holes.proofs.Common.{ℕ, List, ◌+◌, ◌-◌, ◌≤◌, length, Option, IfSome, arith, sym, ap, ◌∙◌, subst, Span, Free, IsPart, IsUsed, AreSameOutside, AreThreaded, put_link}
-use Rattle.w16_holes.proofs.Below.{last_used}
-use Rattle.w16_holes.proofs.Links.{place_behind, put_less, put_top, put_fits, put_room, put_all}
+use Rattle.w16_holes.proofs
+use proofs.Common.{ℕ, List, ◌+◌, ◌-◌, ◌≤◌, length, Option, IfSome, arith, sym, ap, ◌∙◌, subst, Span, Free, IsPart, IsUsed, AreSameOutside, AreThreaded, put_link}
+use proofs.Below.{last_used}
+use proofs.Links.{place_behind, put_less, put_top, put_fits, put_room, put_all}
 use Rattle.w16_holes.proofs.threaded.ThreadedHolesHolesRegion.put.Goals as goal
 
 pub next_above-next-requires-clause-place : goal.next_above-next-requires-clause-place

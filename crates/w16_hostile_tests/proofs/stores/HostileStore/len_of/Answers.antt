@@ -1,7 +1,6 @@
 -- No file has any name.
 use Rattle.std.specs.Prelude.{ℕ, List, [], Result, Ok, Err, IfErr}
-use Rattle.w16_store.specs.declared.store.StoreFault.{StoreFault}
-use Rattle.w16_store.specs.Files.{file_of, IsMissing}
+use Rattle.w16_store.specs.{declared.store.StoreFault.StoreFault, Files.file_of, Files.IsMissing}
 use Rattle.w16_store.proofs.Finding.{file_of-nil}
 use Rattle.w16_hostile_tests.proofs.stores.HostileStore.len_of.Goals as goal
 

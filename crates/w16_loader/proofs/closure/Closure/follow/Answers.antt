@@ -1,39 +1,40 @@
 -- A name that means nothing is looked for in its file.
+use Rattle.w16_loader.proofs.Common as C
 use Rattle.std.specs.Result.{IfErr}
 use Rattle.std.proofs.lemmas.Result.{IfErr-weaker, IfOk-weaker}
+use Rattle.w16_loader.proofs.Common.{[], inr, Found, meant_in, IsRefusedFile, ◌≡◌, ℕ, List, None, IfOk, sym, ap, ◌∙◌, subst, IsFault, dll}
+use Rattle.w16_loading.specs.Answers.{Answers}
 use Rattle.w16_loading.specs.Closure as closing
 use Rattle.w16_loader.specs.declared.closure.Followed.TheVariants as leads
 use Rattle.w16_loader.specs.declared.found.FileFault.TheVariants as faults
-use Rattle.w16_loader.proofs.Common.{[], inr, Found, meant_in, IsRefusedFile, IsRefusedName, LeadsByAnswer, LeadsTo, answers_of, ◌≡◌, ℕ, List, None, option_map, IfOk, sym, ap, ◌∙◌, subst, FileFault, IsFault, Modules, dll, referent_of}
-use Rattle.w16_loading.specs.Answers.{Answers}
 use Rattle.w16_loader.proofs.closure.Closure.follow.Goals as goal
 
-named_refused : {A : Type 0} (answers : Answers) (modules : Modules) (found : List (Found A)) (name : List ℕ) (before after : ℕ) (fault : FileFault) → meant_in modules found name ≡ None
-    → IsFault (IsRefusedFile answers modules found (dll name)) before after fault → IsFault (IsRefusedName answers modules found name) before after fault
+named_refused : {A : Type 0} (answers : Answers) (modules : C.Modules) (found : List (Found A)) (name : List ℕ) (before after : ℕ) (fault : C.FileFault) → meant_in modules found name ≡ None
+    → IsFault (IsRefusedFile answers modules found (dll name)) before after fault → IsFault (C.IsRefusedName answers modules found name) before after fault
 named_refused answers modules found name before after (faults.Refused number) none h = (none, h)
 named_refused answers modules found name before after faults.Device none h = h
 named_refused answers modules found name before after faults.OutOfMemory none h = tt
 
 pub returns-in-Ok-clause-refused : goal.returns-in-Ok-clause-refused
 returns-in-Ok-clause-refused g c =
-    let answers = answers_of g.S.Store.is_honest (g.S.Store.files c.args.store.now) in
+    let answers = C.answers_of g.S.Store.is_honest (g.S.Store.files c.args.store.now) in
     let modules = c.args.registry.now in
     let before = g.S.Store.failures c.args.store.now in
     let after = g.S.Store.failures c.follow_file.new.store in
     let old = c.args.self.now in
     let name = c.args.name.now in
-    let none = subst (λ found. meant_in modules found name ≡ None) c.as_slice-found.ensures.value (sym (c.meant.ensures []) ∙ ap (option_map referent_of) c.in_default.is) in
+    let none = subst (λ found. meant_in modules found name ≡ None) c.as_slice-found.ensures.value (sym (c.meant.ensures []) ∙ ap (C.option_map C.referent_of) c.in_default.is) in
     let fault = subst (λ found. IfErr c.follow_file.result (IsFault (IsRefusedFile answers modules found c.in-Ok.file.items) before after)) c.as_slice-found.ensures.value c.follow_file.ensures.refused in
     let here = subst (λ file. IfErr c.follow_file.result (IsFault (IsRefusedFile answers modules old.found.items file) before after)) c.in-Ok.ensures fault in
     IfErr-weaker c.follow_file.result _ _ (λ fault. named_refused answers modules old.found.items name before after fault none) here
 
 pub returns-in-Ok-clause-leads : goal.returns-in-Ok-clause-leads
 returns-in-Ok-clause-leads g c =
-    let answers = answers_of g.S.Store.is_honest (g.S.Store.files c.args.store.now) in
+    let answers = C.answers_of g.S.Store.is_honest (g.S.Store.files c.args.store.now) in
     let modules = c.args.registry.now in
     let old = c.args.self.now in
     let name = c.args.name.now in
-    let none = subst (λ found. meant_in modules found name ≡ None) c.as_slice-found.ensures.value (sym (c.meant.ensures []) ∙ ap (option_map referent_of) c.in_default.is) in
-    let read = subst (λ found. IfOk c.follow_file.result (LeadsByAnswer answers modules found c.in-Ok.file.items)) c.as_slice-found.ensures.value c.follow_file.ensures.leads in
-    let here = subst (λ file. IfOk c.follow_file.result (LeadsByAnswer answers modules old.found.items file)) c.in-Ok.ensures read in
-    IfOk-weaker c.follow_file.result _ (LeadsTo answers modules old.found.items name) (λ made h. inr (none, h)) here
+    let none = subst (λ found. meant_in modules found name ≡ None) c.as_slice-found.ensures.value (sym (c.meant.ensures []) ∙ ap (C.option_map C.referent_of) c.in_default.is) in
+    let read = subst (λ found. IfOk c.follow_file.result (C.LeadsByAnswer answers modules found c.in-Ok.file.items)) c.as_slice-found.ensures.value c.follow_file.ensures.leads in
+    let here = subst (λ file. IfOk c.follow_file.result (C.LeadsByAnswer answers modules old.found.items file)) c.in-Ok.ensures read in
+    IfOk-weaker c.follow_file.result _ (C.LeadsTo answers modules old.found.items name) (λ made h. inr (none, h)) here

@@ -1,9 +1,9 @@
 -- Each module leads on, and after the last place none is left.
-use Rattle.w16_loader.proofs.Common.{[], map, subst, found_in, AreAccepted, IsFault, LeadsBy, RefusesBy, answers_of, ◌+◌, ◌≤◌, ◌∙◌, refl, arith, MOST_MODULES, free_modules, reached_of}
-use Rattle.w16_loader.proofs.Followings.{few_free}
+use Rattle.w16_loader.proofs
+use proofs.Common.{[], map, subst, found_in, AreAccepted, IsFault, LeadsBy, RefusesBy, answers_of, ◌+◌, ◌≤◌, ◌∙◌, refl, arith, MOST_MODULES, free_modules, reached_of}
+use proofs.Closings.{all_followed, nowhere, refused_through, through}
+use proofs.{Followings.few_free, Few.few_through, Few.few_same}
 use Rattle.w16_loader.proofs.Followings as old
-use Rattle.w16_loader.proofs.Few.{few_through, few_same}
-use Rattle.w16_loader.proofs.Closings.{all_followed, nowhere, refused_through, through}
 use Rattle.w16_loader.proofs.closure.Closure.follow_all.Goals as goal
 
 pub loop-place-preserved : goal.loop-place-preserved

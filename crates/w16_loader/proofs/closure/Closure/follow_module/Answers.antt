@@ -1,8 +1,9 @@
 -- Each reference leads on, and the last to the next module.
-use Rattle.w16_loader.proofs.Common.{[], map, found_in, AreAccepted, IsFault, LeadsBy, RefusesBy, answers_of, ◌≡◌, ◌+◌, ◌-◌, ◌∙◌, refl, ap, sym, length, subst, arith, reached_of}
+use Rattle.w16_loader.proofs
+use proofs.Common.{[], map, found_in, AreAccepted, IsFault, LeadsBy, RefusesBy, answers_of, ◌≡◌, ◌+◌, ◌-◌, ◌∙◌, refl, ap, sym, length, subst, arith, reached_of}
+use proofs.Few.{few_through, few_same}
+use proofs.Closings.{module_followed, nowhere, refused_through, through}
 use Rattle.w16_loader.proofs.Followings as old
-use Rattle.w16_loader.proofs.Few.{few_through, few_same}
-use Rattle.w16_loader.proofs.Closings.{module_followed, nowhere, refused_through, through}
 use Rattle.w16_loader.proofs.closure.Closure.follow_module.Goals as goal
 
 pub loop-done-preserved : goal.loop-done-preserved

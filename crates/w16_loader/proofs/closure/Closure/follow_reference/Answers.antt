@@ -1,8 +1,5 @@
 -- A reference that is followed is the next of those that are left.
-use Rattle.w16_loader.proofs.Common.{answers_of, ap, ◌∙◌, references_at}
-use Rattle.w16_loader.proofs.Followings.{indexed, same_after}
-use Rattle.w16_loader.proofs.Few.{few_after}
-use Rattle.w16_loader.proofs.Closings.{accepts_more, leads_on, refused_at}
+use Rattle.w16_loader.proofs.{Common.answers_of, Common.ap, Common.◌∙◌, Common.references_at, Followings.indexed, Followings.same_after, Few.few_after, Closings.accepts_more, Closings.leads_on, Closings.refused_at}
 use Rattle.w16_loader.proofs.closure.Closure.follow_reference.Goals as goal
 
 pub returns-in-Ok-bind-clause-same : goal.returns-in-Ok-bind-clause-same

@@ -1,9 +1,7 @@
 -- The module is taken out, and put back with these values.
 use Rattle.w16_loader.proofs.Common.{refl, ap, ◌∙◌, registered, map, far_of, Module}
+use Rattle.w16_loader.proofs.{Counting.again_counts, Counting.again_named, Registered.module_there, Bindings.bound_again, Bindings.none_bound}
 use Rattle.std.specs.FinMap as finmap
-use Rattle.w16_loader.proofs.Counting.{again_counts, again_named}
-use Rattle.w16_loader.proofs.Registered.{module_there}
-use Rattle.w16_loader.proofs.Bindings.{bound_again, none_bound}
 use Rattle.w16_loader.proofs.registry.Registry.bind.Goals as goal
 
 pub returns-in-None : goal.returns-in-None

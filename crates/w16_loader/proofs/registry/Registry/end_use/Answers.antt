@@ -1,9 +1,6 @@
 -- The module is taken out, and put back with one use less.
-use Rattle.w16_loader.proofs.Common.{refl, ap, ◌∙◌, registered, Module}
+use Rattle.w16_loader.proofs.{Common.refl, Common.ap, Common.◌∙◌, Common.registered, Common.Module, Counting.again_counts, Counting.again_named, Registered.module_there, Uses.less_of_module, Uses.none_less}
 use Rattle.std.specs.FinMap as finmap
-use Rattle.w16_loader.proofs.Counting.{again_counts, again_named}
-use Rattle.w16_loader.proofs.Registered.{module_there}
-use Rattle.w16_loader.proofs.Uses.{less_of_module, none_less}
 use Rattle.w16_loader.proofs.registry.Registry.end_use.Goals as goal
 
 pub returns-in-None : goal.returns-in-None

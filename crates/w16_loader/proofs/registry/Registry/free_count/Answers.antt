@@ -1,6 +1,5 @@
 -- The places that are taken are the handles that name something.
-use Rattle.w16_loader.proofs.Common.{arith}
-use Rattle.w16_loader.proofs.Registered.{len_is, few}
+use Rattle.w16_loader.proofs.{Common.arith, Registered.len_is, Registered.few}
 use Rattle.w16_loader.proofs.registry.Registry.free_count.Goals as goal
 
 pub overflow_sub-result : goal.overflow_sub-result

@@ -1,10 +1,11 @@
 -- A handle more is looked at, and those that are free are as many as the table has free places.
-use Rattle.w16_loader.proofs.Common.{◌≡◌, ◌+◌, ◌<◌, ◌≤◌, ◌++◌, ◌∷◌, [], length, take, true, false, sym, ap, ◌∙◌, arith, FIRST_MODULE, MOST_MODULES, named_of}
+use Rattle.w16_loader.proofs
+use proofs.Common.{◌≡◌, ◌+◌, ◌<◌, ◌≤◌, ◌++◌, ◌∷◌, [], length, take, true, false, sym, ap, ◌∙◌, arith, FIRST_MODULE, MOST_MODULES, named_of}
+use proofs.FreeHandles.{is_free, free_from, handle_more, handle_taken, enough, all_through, as_many, tested}
+use proofs.registry.Registry.free_handles.Goals.{then-len-count+then-is_none+in_ok-push, else-len-count, else-len-count-via-then-len-count+else-is_none, else-len-count-via-else-len-count}
 use Rattle.std.proofs.Common.{length-append}
 use Rattle.std.specs.FinMap as finmap
-use Rattle.w16_loader.proofs.FreeHandles.{is_free, free_from, handle_more, handle_taken, enough, all_through, as_many, tested}
 use Rattle.w16_loader.proofs.registry.Registry.free_handles.Goals as goal
-use Rattle.w16_loader.proofs.registry.Registry.free_handles.Goals.{then-len-count+then-is_none+in_ok-push, else-len-count, else-len-count-via-then-len-count+else-is_none, else-len-count-via-else-len-count}
 
 pub loop-handle-preserved : goal.loop-handle-preserved
 loop-handle-preserved g c =

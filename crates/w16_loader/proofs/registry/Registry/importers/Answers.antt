@@ -1,7 +1,6 @@
 -- The table's entries are the map's, and are counted.
 use Rattle.w16_loader.proofs.Common.{◌+◌, ◌<◌, FIRST_MODULE, MOST_MODULES, arith, ◌∙◌, length, get_or_default}
-use Rattle.w16_loader.proofs.Counting.{few}
-use Rattle.w16_loader.proofs.Registered.{entries_are}
+use Rattle.w16_loader.proofs.{Counting.few, Registered.entries_are}
 use Rattle.w16_loader.proofs.registry.Registry.importers.Goals as goal
 
 pub returns-then-place-len-clause-many : goal.returns-then-place-len-clause-many

@@ -1,8 +1,6 @@
 -- A table of free places is one, and names nothing.
-use Rattle.w16_loader.proofs.Common.{◌+◌, FIRST_MODULE, MOST_MODULES}
+use Rattle.w16_loader.proofs.{Common.◌+◌, Common.FIRST_MODULE, Common.MOST_MODULES, Counting.new_counts, Registered.new_table, Registered.none_registered}
 use Rattle.std.proofs.Common.{rules}
-use Rattle.w16_loader.proofs.Counting.{new_counts}
-use Rattle.w16_loader.proofs.Registered.{new_table, none_registered}
 use Rattle.w16_loader.proofs.registry.Registry.new.Goals as goal
 
 pub invariant_of-result : goal.invariant_of-result

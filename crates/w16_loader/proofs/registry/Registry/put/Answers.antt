@@ -1,8 +1,9 @@
 -- The table's entry is the map's, and what it imports is counted.
-use Rattle.w16_loader.proofs.Common.{◌<◌, length, ap, ◌∙◌, arith, named_of, registered}
+use Rattle.w16_loader.proofs
+use proofs.Common.{◌<◌, length, ap, ◌∙◌, arith, named_of, registered}
+use proofs.Counting.{few, put_counts}
+use proofs.Registered.{free_place, named_set}
 use Rattle.std.specs.FinMap as finmap
-use Rattle.w16_loader.proofs.Counting.{few, put_counts}
-use Rattle.w16_loader.proofs.Registered.{free_place, named_set}
 use Rattle.w16_loader.proofs.registry.Registry.put.Goals as goal
 
 pub recount-requires-clause-few : goal.recount-requires-clause-few

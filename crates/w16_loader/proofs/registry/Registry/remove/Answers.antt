@@ -1,7 +1,6 @@
 -- The table's entry is the map's, and what it imported isn't counted any more.
-use Rattle.w16_loader.proofs.Common.{ap, ◌∙◌, registered}
 use Rattle.w16_loader.proofs.Counting.{few, gone_counts, gone_named, inside, was_counted}
-use Rattle.w16_loader.proofs.Registered.{module_there}
+use Rattle.w16_loader.proofs.{Common.ap, Common.◌∙◌, Common.registered, Registered.module_there}
 use Rattle.w16_loader.proofs.registry.Registry.remove.Goals as goal
 
 pub returns-in-None-clause-found : goal.returns-in-None-clause-found

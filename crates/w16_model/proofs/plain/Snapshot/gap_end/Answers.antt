@@ -1,8 +1,8 @@
-use Rattle.w16_model.proofs.Common.{sym, ◌∙◌, and_left, and_right, lt-leb, is_pinned}
-use Rattle.w16_model.proofs.Folds.{no_block}
-use Rattle.w16_model.proofs.Folds.{first_from-taken, first_from-passed}
+use Rattle.w16_model.proofs
+use proofs.Common.{sym, ◌∙◌, and_left, and_right, lt-leb, is_pinned}
+use proofs.Folds.{no_block, first_from-taken, first_from-passed}
+use proofs.plain.Snapshot.gap_end.Goals.{then-is_pinned+then-from-block, else-is_pinned, else-is_pinned-via-then-is_pinned+else-from-block, else-is_pinned-via-else-is_pinned}
 use Rattle.w16_model.proofs.plain.Snapshot.gap_end.Goals as goal
-use Rattle.w16_model.proofs.plain.Snapshot.gap_end.Goals.{then-is_pinned+then-from-block, else-is_pinned, else-is_pinned-via-then-is_pinned+else-from-block, else-is_pinned-via-else-is_pinned}
 
 pub loop-block-preserved : goal.loop-block-preserved
 loop-block-preserved c = elim c.if-is_pinned.branch [

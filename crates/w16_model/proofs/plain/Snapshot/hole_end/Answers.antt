@@ -1,8 +1,8 @@
-use Rattle.w16_model.proofs.Common.{refl, ◌∙◌, lt-leb, is_any}
-use Rattle.w16_model.proofs.Folds.{no_block}
-use Rattle.w16_model.proofs.Folds.{first_from-taken, first_from-passed}
+use Rattle.w16_model.proofs
+use proofs.Common.{refl, ◌∙◌, lt-leb, is_any}
+use proofs.Folds.{no_block, first_from-taken, first_from-passed}
+use proofs.plain.Snapshot.hole_end.Goals.{then-from-block, else-from-block}
 use Rattle.w16_model.proofs.plain.Snapshot.hole_end.Goals as goal
-use Rattle.w16_model.proofs.plain.Snapshot.hole_end.Goals.{then-from-block, else-from-block}
 
 pub loop-block-preserved : goal.loop-block-preserved
 loop-block-preserved c = elim c.if-from-block.branch [

@@ -1,6 +1,5 @@
 use Rattle.std.proofs.Common.{sym, ap, not, arith}
-use Rattle.w16_model.proofs.Folds.{no_block}
-use Rattle.w16_model.proofs.Folds.{loose_bytes-fit, loose_bytes-all}
+use Rattle.w16_model.proofs.Folds.{no_block, loose_bytes-fit, loose_bytes-all}
 use Rattle.w16_model.proofs.plain.Snapshot.loose_between.Goals as goal
 
 pub overflow_add-bytes : goal.overflow_add-bytes

@@ -1,5 +1,4 @@
-use Rattle.w16_model.proofs.Common.{◌∙◌}
-use Rattle.w16_model.proofs.Trials.{placed_without}
+use Rattle.w16_model.proofs.{Common.◌∙◌, Trials.placed_without}
 use Rattle.w16_model.proofs.plain.Snapshot.room_for.Goals as goal
 
 pub room-requires : goal.room-requires

@@ -1,10 +1,7 @@
 use Rattle.std.specs.Prelude.{IfSome}
 use Rattle.w16_ne.proofs.Common.{◌≡◌, ◌<◌, ℕ, List, Option, Some, None, length, sym, ap, ◌∙◌, option_map, label_of, entry_of, Tables, Typed, HasResources}
-use Rattle.w16_ne.specs.Modules.{resource_at}
-use Rattle.w16_ne.specs.declared.resource_places.Resource.{Resource}
-use Rattle.w16_ne.specs.declared.resource_places.ResourceName.{ResourceName}
-use Rattle.w16_ne.proofs.ModuleFormat.{module_format}
-use Rattle.w16_ne.proofs.ResourcesFormat.{resources_begin}
+use Rattle.w16_ne.proofs.{ModuleFormat.module_format, ResourcesFormat.resources_begin}
+use Rattle.w16_ne.specs.{Modules.resource_at, declared.resource_places.Resource.Resource, declared.resource_places.ResourceName.ResourceName}
 use Rattle.w16_ne.proofs.module_file.Module.resource.Goals as goal
 
 begins : (file header : List ℕ) (ne place : ℕ) (types : List Typed) (o : Option (ResourceName × Resource)) → HasResources file ne header types

@@ -1,7 +1,6 @@
 use Rattle.w16_ne.proofs.Common.{◌≡◌, ◌∙◌, ◌<◌, ◌≤◌, suc, length, get_or, Some, sym, ap, arith, nat_tests, recursion_from_All, Group, Label, label_of, entry_of, HasLabel, label_in, entry_in, kind_at}
-use Rattle.w16_ne.specs.Modules.{resource_at}
-use Rattle.w16_ne.specs.Resources.{Entry}
 use Rattle.w16_ne.proofs.Places.{found_grouped, none_grouped, kind_there}
+use Rattle.w16_ne.specs.{Modules.resource_at, Resources.Entry}
 use Rattle.w16_ne.proofs.resource_places.ResourceTable.resource.Goals as goal
 
 pub returns-in_err-row : goal.returns-in_err-row

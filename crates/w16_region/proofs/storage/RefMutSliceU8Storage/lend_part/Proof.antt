@@ -1,5 +1,6 @@
 use Rattle.std.proofs.Common.{◌≡◌, ◌+◌, ◌-◌, ◌^◌, ◌<◌, ◌≤◌, List, [], ◌∷◌, length, take, drop as drop_list, refl, ap, arith, w64}
 use Rattle.std.proofs.raw_atomic.Walks.{proved}
+use Rattle.w16_region.proofs.{storage.RefMutSliceU8Storage.lend_part.Statement.statement, Lends.within_lent, Lends.lends_within}
 use base.Fraction.{full_share}
 use mir.Syntax.{Ty, named, erased, mut, ty_ref, ty_int, w8}
 use mir.Val.{Val, vint}
@@ -22,9 +23,7 @@ use denote.Steps.{nothing, heard, opens, closes}
 use denote.Triple.Walked.{says, Stays, stay_dropped, walk_of, ends_at, Goes-dropped, Goes-spent_ref}
 use borrow.Table.Elements.{at_byte}
 use Rattle.w16_region.specs.contracts.storage.RefMutSliceU8Storage.lend_part as f
-use Rattle.w16_region.proofs.storage.RefMutSliceU8Storage.lend_part.Statement.{statement}
 use Rattle.w16_region.proofs.storage.RefMutSliceU8Storage.lend_part.Code as code
-use Rattle.w16_region.proofs.Lends.{within_lent, lends_within}
 
 -- the inner reference, as the place's type says it
 abbrev Place : Ty

@@ -1,4 +1,4 @@
-use Rattle.w16_region.proofs.Common.{List, [], ◌∷◌, length, refl, proved}
+use Rattle.w16_region.proofs.{Common.List, Common.[], Common.◌∷◌, Common.length, Common.refl, Common.proved, storage.RefMutSliceU8Whole.lend_whole.Statement.statement, Lends.whole_lent, Lends.lends_whole}
 use base.Fraction.{full_share}
 use mir.Syntax.{Ty, named, erased, mut, ty_ref, ty_int, w8}
 use mir.Val.{Val}
@@ -18,10 +18,8 @@ use denote.Slice.{MutSlice, room, slice_ty, slice_val, mut_slice_vals, mut_slice
 use denote.Steps.{nothing, opens, closes}
 use denote.Triple.Walked.{says, Stays, stay_dropped, walk_of, ends_at, Goes-spent_ref}
 use Rattle.w16_region.specs.contracts.storage.RefMutSliceU8Whole.lend_whole as f
-use Rattle.w16_region.proofs.storage.RefMutSliceU8Whole.lend_whole.Statement.{statement}
 use Rattle.w16_region.proofs.storage.RefMutSliceU8Whole.lend_whole.Code as code
 use denote.Through.{renamed}
-use Rattle.w16_region.proofs.Lends.{whole_lent, lends_whole}
 
 -- the inner reference, as the place's type says it
 abbrev Place : Ty

@@ -1,6 +1,5 @@
 -- After the list there is no load.
-use Rattle.w16_resource.proofs.Common.{arith}
-use Rattle.w16_resource.proofs.Listed.{none_behind}
+use Rattle.w16_resource.proofs.{Common.arith, Listed.none_behind}
 use Rattle.w16_resource.proofs.resources.Resources.end.Goals as goal
 
 pub returns-clause-all : goal.returns-clause-all

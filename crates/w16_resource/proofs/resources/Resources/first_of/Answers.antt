@@ -1,5 +1,4 @@
 -- The first of the list is the first of the map.
-use Rattle.w16_resource.proofs.Common.{}
 use Rattle.w16_resource.proofs.Listed.{entries_are}
 use Rattle.w16_resource.proofs.resources.Resources.first_of.Goals as goal
 

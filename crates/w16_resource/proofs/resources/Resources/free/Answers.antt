@@ -1,8 +1,7 @@
 -- No resource, a load less, a locked object, or the last load and its object.
 use Rattle.w16_resource.proofs.Common.{LoadingWorld, and_mask, ap, bit_and, load_in, locks_at, subst, sym, ℕ, ◌%◌, ◌∙◌, ◌≡◌, ◌≤◌}
+use Rattle.w16_resource.proofs.{Freed.last_gone, Freed.lock_count, Named.named_slot}
 use Rattle.w16_loading.specs.Modules as loading
-use Rattle.w16_resource.proofs.Freed.{last_gone, lock_count}
-use Rattle.w16_resource.proofs.Named.{named_slot}
 use Rattle.w16_resource.proofs.resources.Resources.free.Goals as goal
 
 pub returns : goal.returns

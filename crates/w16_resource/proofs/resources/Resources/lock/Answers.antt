@@ -1,9 +1,10 @@
 -- A resource is locked where it has bytes, or once it is fetched.
-use Rattle.w16_resource.proofs.Common.{Dword, None, Some, ap, dword_in, is_some, load_in, loading_of, sym, ℕ, ◌∙◌}
+use Rattle.w16_resource.proofs
+use proofs.Common.{Dword, None, Some, ap, dword_in, is_some, load_in, loading_of, sym, ℕ, ◌∙◌}
+use proofs.Locked.{lock_is}
+use proofs.Named.{named_slot, is_loaded, lacks, present, absent}
+use proofs.Steps.{unnamed, at_once, fetched}
 use Rattle.w16_loading.specs.Modules as loading
-use Rattle.w16_resource.proofs.Locked.{lock_is}
-use Rattle.w16_resource.proofs.Named.{named_slot, is_loaded, lacks, present, absent}
-use Rattle.w16_resource.proofs.Steps.{unnamed, at_once, fetched}
 use Rattle.w16_resource.proofs.resources.Resources.lock.Goals as goal
 
 pub returns-in_default-clause-step : goal.returns-in_default-clause-step

@@ -1,6 +1,5 @@
 use Rattle.std.proofs.Common.{◌≡◌, ℕ, List, map, refl, rules, Option, Some, None, ◌∙◌}
-use Rattle.std.specs.List.{find}
-use Rattle.std.specs.String.{string_bytes}
+use Rattle.std.specs.{List.find, String.string_bytes}
 use Rattle.w16_store.specs.Names.{is_named}
 use Rattle.w16_store.proofs.Finding.{length_from_read, not_in_folder, bytes_of_listed}
 use Rattle.w16_store.proofs.folder.DirStoreStore.len_of.Goals as goal

@@ -1,6 +1,5 @@
 use Rattle.std.proofs.Common.{◌≡◌, map, refl, rules, Some, None}
-use Rattle.std.specs.List.{find}
-use Rattle.std.specs.String.{string_bytes}
+use Rattle.std.specs.{List.find, String.string_bytes}
 use Rattle.w16_store.specs.Names.{is_named}
 use Rattle.w16_store.proofs.Finding.{bytes_from_read, short_from_read, not_in_folder}
 use Rattle.w16_store.proofs.folder.DirStoreStore.read_at.Goals as goal

@@ -1,7 +1,6 @@
 use Rattle.std.proofs.Common.{◌≡◌, ap, rules, Some, None, position}
 use Rattle.std.proofs.lemmas.List.Quantifiers.{position-Some}
-use Rattle.w16_store.specs.declared.memory.File.{File}
-use Rattle.w16_store.specs.Names.{is_named}
+use Rattle.w16_store.specs.{declared.memory.File.File, Names.is_named}
 use Rattle.w16_store.proofs.Finding.{with_replaced, with_added, fails_before}
 use Rattle.w16_store.proofs.memory.MemStore.add.Goals as goal
 
