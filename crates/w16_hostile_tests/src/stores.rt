@@ -86,4 +86,6 @@ impl Store for Hostile {
         };
         count_failure(&mut self.failures, len)
     }
+
+    fn refresh(&mut self) {}
 }

@@ -126,4 +126,6 @@ impl Store for GrowingStore {
         self.missed = missed_name(&len, name);
         len
     }
+
+    fn refresh(&mut self) {}
 }

@@ -100,6 +100,7 @@ impl<S: Store + Drop, A: Allocator + Copy> Kernel<S, A> {
         ensures wanted { OnErr result (TakesMemory self.old (command_of call.now)) }
         ensures refused { OnErr result (IsSame self.old self.new) }
     {
+        self.library.store.refresh();
         let before = discardable_beside(&self.global, call.object_slot(0));
         let reply = step(
             &mut self.global,

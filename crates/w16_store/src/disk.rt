@@ -1,5 +1,5 @@
 //! What a folder's store needs of the system.
-ghost use Rattle.std.specs.Prelude.{ℕ, ◌<◌, List, map, IfOk, IfErr, OnErr};
+ghost use Rattle.std.specs.Prelude.{◌≡◌, ℕ, ◌<◌, List, map, IfOk, IfErr, OnErr};
 ghost use Rattle.std.specs.List.Sorted.{IsPermutation};
 ghost use Rattle.std.specs.String.{string_bytes};
 ghost use Rattle.w16_store.specs.Files.{HasBytes};
@@ -43,4 +43,9 @@ pub trait Disk {
         ensures honest { is_honest → IsHonestRead (failures self.old) (failures self.new) result
             (content_of (files self.old) name.now) at buf.old buf.new }
         ensures bytes { is_honest → IfOk result (λ _. HasBytes (content_of (files self.old) name.now)) };
+
+    /// From now on a file that was read before is looked at anew.
+    fn refresh(&mut self)
+        ensures files { files self.new ≡ files self.old }
+        ensures failures { failures self.new ≡ failures self.old };
 }

@@ -139,4 +139,8 @@ impl<D: Disk + Drop> Store for DirStore<D> {
             },
         }
     }
+
+    fn refresh(&mut self) {
+        self.disk.refresh();
+    }
 }

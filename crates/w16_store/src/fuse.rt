@@ -78,4 +78,8 @@ impl<S: Store + Drop> Store for FuseStore<S> {
     {
         self.inner.len_of(name)
     }
+
+    fn refresh(&mut self) {
+        self.inner.refresh();
+    }
 }

@@ -93,4 +93,6 @@ impl Store for MemStore {
         reveal_bytes(bytes);
         Ok(bytes.len() as u64)
     }
+
+    fn refresh(&mut self) {}
 }

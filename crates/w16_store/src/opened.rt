@@ -48,11 +48,11 @@ impl<F: OpenFile + Read + Seek + Drop> Opened<F> {
         })
     }
 
-    /// Whether the file has this name and lies at its path as it was when it was opened.
-    pub fn is_still<R: Files>(&self, runtime: &R, name: &str) -> bool
+    /// Whether the file has this name and lies at its path as it was when it was opened, at which it doesn't look again where it was looked at already.
+    pub fn is_still<R: Files>(&self, runtime: &R, name: &str, looked: bool) -> bool
         ensures { IsTrue result → string_bytes self.now.name ≡ name.now }
     {
-        self.name.as_str() == name && self.has_stamp(runtime)
+        self.name.as_str() == name && (looked || self.has_stamp(runtime))
     }
 
     fn has_stamp<R: Files>(&self, runtime: &R) -> bool {

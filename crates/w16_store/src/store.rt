@@ -1,5 +1,5 @@
 //! What a store is.
-ghost use Rattle.std.specs.Prelude.{ℕ, List, length, IfOk, IfErr};
+ghost use Rattle.std.specs.Prelude.{◌≡◌, ℕ, List, length, IfOk, IfErr};
 ghost use Rattle.w16_store.specs.Files.{file_of, bytes_of, length_of, IsHonestAnswer, IsMissing, HasBytes};
 ghost use Rattle.w16_store.specs.Later.{IsLater, RoseIf, is_device};
 
@@ -45,4 +45,9 @@ pub trait Store {
             (length_of (file_of (files self.old) name.now)) }
         ensures missing { IfErr result (IsMissing (file_of (files self.old) name.now)) }
         ensures bytes { is_honest → IfOk result (λ _. HasBytes (file_of (files self.old) name.now)) };
+
+    /// Tells the store that a call begins: a file that may have changed since the one before is looked at anew.
+    fn refresh(&mut self)
+        ensures files { files self.new ≡ files self.old }
+        ensures failures { failures self.new ≡ failures self.old };
 }

@@ -21,6 +21,8 @@ pub struct SystemDisk<R: Files + Drop> {
     folder: String,
     /// The file that was read last, where no read failed since.
     last: Option<Opened<R::File>>,
+    /// Whether that one was looked at since a call began.
+    looked: bool,
     failures: u64,
 }
 
@@ -36,6 +38,7 @@ impl<R: Files + AllocGlobal + Clone + Drop> SystemDisk<R> {
             alloc,
             folder: String::from_str(alloc, folder)?,
             last: None,
+            looked: false,
             failures: 0,
         })
     }
@@ -52,13 +55,14 @@ impl<R: Files + Drop> SystemDisk<R> {
         Opened::new(self.alloc, name, path, file)
     }
 
-    /// A file as it is now: the one that was read last, where it is that one and didn't change. Afterwards there is none that was read last.
+    /// A file as it is now: the one that was read last, where it is that one and didn't change, at which it looks once in a call. Afterwards there is
+    /// none that was read last.
     fn take_file(&mut self, name: &str) -> io::Result<Opened<R::File>>
         ensures name { IfOk result (λ file. string_bytes file.name ≡ name.now) }
         ensures failures { self.new.failures ≡ self.old.failures }
     {
         if let Some(last) = self.last.take() {
-            if last.is_still(&self.runtime, name) {
+            if last.is_still(&self.runtime, name, self.looked) {
                 return Ok(last);
             }
         }
@@ -70,6 +74,7 @@ impl<R: Files + Drop> SystemDisk<R> {
         ensures { self.new.failures ≡ self.old.failures }
     {
         let mut file = self.take_file(name)?;
+        self.looked = true;
         let len = file.read(at, buf)?;
         self.last = Some(file);
         Ok(len)
@@ -152,5 +157,9 @@ impl<R: Files + AllocGlobal + Clone + Drop> Disk for SystemDisk<R> {
             Ok(len) => Ok(len),
             Err(_) => self.fail(),
         }
+    }
+
+    fn refresh(&mut self) {
+        self.looked = false;
     }
 }

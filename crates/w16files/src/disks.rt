@@ -42,6 +42,8 @@ impl Disk for OneFile {
         buf.fill(7);
         Ok(4)
     }
+
+    fn refresh(&mut self) {}
 }
 
 /// A file that is gone once anything was opened that is no regular file. To open a FIFO would wait in its place.

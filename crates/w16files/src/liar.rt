@@ -62,4 +62,6 @@ impl Store for Liar {
     fn len_of(&mut self, name: &[u8]) -> Result<u64, StoreFault> {
         self.inner.len_of(name)
     }
+
+    fn refresh(&mut self) {}
 }
