@@ -28,16 +28,17 @@ returns-clause-sound g c =
 
 pub returns-clause-exact : goal.returns-clause-exact
 returns-clause-exact g c = λ file s honest has tables found.
+    let failures = g.S.Store.failures c.read_names.new.store in let counted = c.in_ok-count.ensures in let texts = c.in_ok-read_names.ensures in
     let same = some_same c.segment-found.result s _ c.segment-found.ensures.found found in
     let lies = module_lies file c.args.module_file.now (c.args.segment - 1) c.segment-found.result tables c.segment-found.ensures.found in
-    let many = ok_same _ _ (c.in_ok-count.ensures.exact file honest has lies) in
-    let held = c.in_ok-count.ensures.held file honest has lies in
+    let many = ok_same _ _ (counted.exact file honest has lies) in
+    let held = counted.held file honest has lies in
     let said = c.check_records.ensures.exact (rw c.as_mut_slice.ensures.value c.clear_marks.ensures.clear) in
     let passed = rw (c.segment_count.ensures.count, c.reference_count.ensures, c.as_slice-4.ensures.value, c.as_slice-5.ensures.value, c.as_slice-6.ensures.value) at said in
-    let names = rw c.as_slice.ensures.value at c.in_ok-read_names.ensures.exact file honest (rw c.in_ok-count.ensures.stays.same has) in
-    let offered = answers_told file c.args.module_file.now _ _ _ names (rw c.as_slice-2.ensures.value at c.reveal_bytes.ensures) (rw c.as_slice-3.ensures.value at c.reveal_bytes-2.ensures) c.check_records.result (g.S.Store.failures c.read_names.new.store) (g.S.Store.failures c.read_names.new.store) _ _ c.check_records.ensures.own passed in
+    let names = rw c.as_slice.ensures.value at texts.exact file honest (rw counted.stays.same has) in
+    let offered = answers_told file c.args.module_file.now _ _ _ names (rw c.as_slice-2.ensures.value at c.reveal_bytes.ensures) (rw c.as_slice-3.ensures.value at c.reveal_bytes-2.ensures) c.check_records.result failures failures _ _ c.check_records.ensures.own passed in
     rw (← same) (checked_told file c.args.module_file.now c.segment-found.result c.check_records.result _ _ _ _ _ _ _
-    (omega (arith, c.in_ok-count.ensures.stays.counted, c.in_ok-read_names.ensures.stays.counted)) held.0 held.1 (sym many) offered)
+    (omega (arith, counted.stays.counted, texts.stays.counted)) held.0 held.1 (sym many) offered)
 
 pub returns-clause-names : goal.returns-clause-names
 returns-clause-names g c = λ file honest has.
