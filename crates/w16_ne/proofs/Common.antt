@@ -25,7 +25,7 @@ pub use Rattle.w16_ne.specs.Listing.{IsListing}
 pub use Rattle.w16_ne.specs.ModuleFormat.{IsModule, IsPart}
 pub use Rattle.w16_ne.specs.Modules.{Tables, listed_resources, tables_of}
 unfoldable pub use Rattle.w16_ne.specs.Modules.{tables_at, tables_behind}
-pub use Rattle.w16_ne.specs.Names.{Entry, Finds, IsPiece, IsUpper, at_place, first_text, found_in, names_from, names_in, ordinal_in, piece_at, size, upper}
+pub use Rattle.w16_ne.specs.Names.{Entry, Finds, IsPiece, at_place, first_text, found_in, names_from, names_in, ordinal_in, piece_at, size}
 unfoldable pub use Rattle.w16_ne.specs.Names.{name_at, names_at, nonresident_at, resident_at, table_names}
 pub use Rattle.w16_ne.specs.NamesFormat.{AreListed, AreNames, IsName}
 pub use Rattle.w16_ne.specs.Reading.{Gives, IsFailure, IsOfFile, Reading, Refused, Refuses, Tells, bytes_or, dword_of, each, front_at, length_at, reaches, word_of, ◌>>=◌}

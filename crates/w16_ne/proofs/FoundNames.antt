@@ -1,26 +1,10 @@
 -- Ordinals of names, and how one is found.
 use Rattle.w16_ne.proofs
 use proofs.Common as C
-use proofs.Common.{◌≡◌, ℕ, ◌<◌, ◌≤◌, ◌++◌, Bool, true, false, cond, List, [], ◌∷◌, length, map, Option, Some, None, refl, sym, ap, ◌∙◌, arith, option_map, is_some, find, to_ascii_uppercase, bytes_eq, str_to_ascii_uppercase, is_named, is_named-Decides, Entry, upper, Finds, ordinal_in}
+use proofs.Common.{◌≡◌, ℕ, ◌<◌, ◌≤◌, ◌++◌, Bool, true, false, cond, List, [], ◌∷◌, length, map, Option, Some, None, refl, sym, ap, ◌∙◌, arith, option_map, is_some, find, bytes_eq, str_to_ascii_uppercase, is_named, is_named-Decides, Entry, Finds, ordinal_in}
 use Rattle.std.specs.{Map.lookup, Option.option_or, Prelude.Vec}
 use Rattle.indexmap.proofs.CallerLemmas.{insert_entry-new}
 use Rattle.indexmap.specs.IndexMap.{IndexMap, get_by, insert_entry}
-
--- Upper-casing.
-
-upper_by : (c : ℕ) → to_ascii_uppercase (to_ascii_uppercase c) ≡ to_ascii_uppercase c
-upper_by c = grind (arith, C.nat_tests)
-
-pub upper_twice : (cs : List ℕ) → str_to_ascii_uppercase (str_to_ascii_uppercase cs) ≡ str_to_ascii_uppercase cs
-upper_twice [] = refl
-upper_twice (c ∷ cs) = cc (upper_by c, upper_twice cs)
-
--- an upper-cased name has the same names
-same_named : (e : Entry) (name : List ℕ) → is_named (upper e).0 name ≡ is_named e.0 name
-same_named e name =
-    let twice = upper_twice e.0 in
-    C.same_from_decides (is_named (upper e).0 name) (is_named e.0 name) (is_named-Decides (upper e).0 name)
-    (λ t. twice ∙ (is_named-Decides e.0 name).0 t, λ h. (is_named-Decides e.0 name).1 (sym twice ∙ h))
 
 told_first : (b : Bool) (e : Entry) (o : Option Entry) → option_map (λ (x : Entry). x.1) (cond b (Some e) o) ≡ cond b (Some e.1) (option_map (λ (x : Entry). x.1) o)
 told_first true e o = refl
@@ -29,22 +13,13 @@ told_first false e o = refl
 abbrev pub told : (Entry → Bool) → List Entry → Option ℕ
 told p names = option_map (λ (e : Entry). e.1) (find p names)
 
-told_alike : (p q : Entry → Bool) (names : List Entry) → ((e : Entry) → p (upper e) ≡ q e) → told p (map upper names) ≡ told q names
-told_alike p q [] h = refl
-told_alike p q (e ∷ es) h =
-    told_first (p (upper e)) (upper e) (find p (map upper es)) ∙ ap (λ b. cond b (Some e.1) (told p (map upper es))) (h e)
-    ∙ ap (λ (o : Option ℕ). cond (q e) (Some e.1) o) (told_alike p q es h) ∙ sym (told_first (q e) e (find q es))
-
-pub same_ordinal : (names : List Entry) (name : List ℕ) → ordinal_in (map upper names) name ≡ ordinal_in names name
-same_ordinal names name = ap (λ (o : Option ℕ). C.unwrap_or o 0) (told_alike (λ e. is_named e.0 name) (λ e. is_named e.0 name) names (λ e. same_named e name))
-
 -- A look-up by an upper-cased text.
 
-named_upper : (e : Entry) (name : List ℕ) → C.IsUpper e → bytes_eq (str_to_ascii_uppercase name) e.0 ≡ is_named e.0 name
-named_upper e name up =
+named_upper : (e : Entry) (text name : List ℕ) → text ≡ str_to_ascii_uppercase e.0 → bytes_eq (str_to_ascii_uppercase name) text ≡ is_named e.0 name
+named_upper e text name up =
     let u = str_to_ascii_uppercase name in
-    C.same_from_decides (bytes_eq u e.0) (is_named e.0 name) (C.bytes_eq-Decides u e.0)
-    (λ t. sym ((is_named-Decides e.0 name).0 t) ∙ up, λ h. (is_named-Decides e.0 name).1 (up ∙ sym h))
+    C.same_from_decides (bytes_eq u text) (is_named e.0 name) (C.bytes_eq-Decides u text)
+    (λ t. sym ((is_named-Decides e.0 name).0 t) ∙ sym up, λ h. (is_named-Decides e.0 name).1 (sym up ∙ sym h))
 
 more_by : (b : Bool) (n : ℕ) {o : Option ℕ} (p q : Option ℕ) → o ≡ option_or p q → cond b (Some n) o ≡ option_or (cond b (Some n) p) q
 more_by true n p q h = refl
@@ -59,14 +34,14 @@ lookup_more : {K : Type 0} (p : K → Bool) (es : List (K × ℕ)) (e : K × ℕ
 lookup_more p [] e = refl
 lookup_more p (x ∷ xs) e = more_by (p x.0) x.1 _ _ (lookup_more p xs e)
 
-module _ {Z S : Type 0} (m : IndexMap (Vec ℕ Z) ℕ S) (names : List Entry) (finds : Finds m names) (e : Entry) (up : C.IsUpper e) where
+module _ {Z S : Type 0} (m : IndexMap (Vec ℕ Z) ℕ S) (names : List Entry) (finds : Finds m names) (e : Entry) (text : List ℕ) (up : text ≡ str_to_ascii_uppercase e.0) where
   -- a name whose text isn't there is put last
-  pub finds_new : is_some (get_by (λ text. bytes_eq e.0 text.items) m) ≡ false → (n : IndexMap (Vec ℕ Z) ℕ S) (k : Vec ℕ Z) → k.items ≡ e.0
+  pub finds_new : is_some (get_by (λ key. bytes_eq text key.items) m) ≡ false → (n : IndexMap (Vec ℕ Z) ℕ S) (k : Vec ℕ Z) → k.items ≡ text
       → n.entries ≡ insert_entry (λ x y. bytes_eq x.items y.items) m.entries k e.1 → Finds n (names ++ e ∷ [])
   finds_new miss n k same entries name =
-      let test = λ (text : Vec ℕ Z). bytes_eq (str_to_ascii_uppercase name) text.items in
-      let here : test k ≡ is_named e.0 name = ap (bytes_eq (str_to_ascii_uppercase name)) same ∙ named_upper e name up in
-      let absent = ap (λ (t : List ℕ). get_by (λ text. bytes_eq t text.items) m) same ∙ none _ miss in
+      let test = λ (key : Vec ℕ Z). bytes_eq (str_to_ascii_uppercase name) key.items in
+      let here : test k ≡ is_named e.0 name = ap (bytes_eq (str_to_ascii_uppercase name)) same ∙ named_upper e text name up in
+      let absent = ap (λ (t : List ℕ). get_by (λ key. bytes_eq t key.items) m) same ∙ none _ miss in
       ap (lookup test) (entries ∙ insert_entry-new (λ x y. bytes_eq x.items y.items) m k e.1 absent) ∙ lookup_more test m.entries (k, e.1)
       ∙ (λ i. option_or (finds name i) (cond (here i) (Some e.1) None)) ∙ sym (told_more (λ x. is_named x.0 name) names e)
     where
@@ -75,7 +50,7 @@ module _ {Z S : Type 0} (m : IndexMap (Vec ℕ Z) ℕ S) (names : List Entry) (f
       none (Some n) h = cc
 
   -- one whose text is there is passed over
-  pub finds_old : is_some (get_by (λ text. bytes_eq e.0 text.items) m) ≡ true → Finds m (names ++ e ∷ [])
+  pub finds_old : is_some (get_by (λ key. bytes_eq text key.items) m) ≡ true → Finds m (names ++ e ∷ [])
   finds_old there name = finds name ∙ by (is_named e.0 name) refl ∙ sym (told_more (λ x. is_named x.0 name) names e)
     where
       among : Option ℕ
@@ -91,16 +66,16 @@ module _ {Z S : Type 0} (m : IndexMap (Vec ℕ Z) ℕ S) (names : List Entry) (f
 
       by : (b : Bool) → is_named e.0 name ≡ b → among ≡ option_or among (cond (is_named e.0 name) (Some e.1) None)
       by true h =
-          let same : e.0 ≡ str_to_ascii_uppercase name = sym up ∙ (is_named-Decides e.0 name).0 h in
-          kept among _ (ap is_some (sym (finds name)) ∙ ap (λ (t : List ℕ). is_some (get_by (λ text. bytes_eq t text.items) m)) (sym same) ∙ there)
+          let same : text ≡ str_to_ascii_uppercase name = up ∙ (is_named-Decides e.0 name).0 h in
+          kept among _ (ap is_some (sym (finds name)) ∙ ap (λ (t : List ℕ). is_some (get_by (λ key. bytes_eq t key.items) m)) (sym same) ∙ there)
       by false h = none among ∙ ap (λ b. option_or among (cond b (Some e.1) None)) (sym h)
 
 -- a text that is longer than all names is none of them
 longer_by : (b : Bool) (e : Entry) (name : List ℕ) (o : Option Entry) → is_named e.0 name ≡ b → length e.0 < length name → o ≡ None → cond b (Some e) o ≡ None
 longer_by true e name o h less none =
     let same = ap length ((is_named-Decides e.0 name).0 h) in
-    let one = C.length-map e.0 to_ascii_uppercase in
-    let two = C.length-map name to_ascii_uppercase in
+    let one = C.length-map e.0 C.to_ascii_uppercase in
+    let two = C.length-map name C.to_ascii_uppercase in
     absurd (omega (arith, same, one, two, less))
 longer_by false e name o h less none = none
 

@@ -1,13 +1,9 @@
 -- What the definitions of the format come to.
 use Rattle.std.specs.Prelude.{◌≡◌, ◌↔◌, ◌⊎◌, ℕ, ◌+◌, ◌++◌, List, map, Option, Some, Ok, Err}
-use Rattle.w16_ne.specs.{declared.fault.NeFault.NeFault, declared.segment_table.Segment.Segment, Header.segment_table, Header.segment_count, Header.shift_of, Segments.segments_at, Names.Entry, Names.upper, Names.ordinal_in, Names.names_at, Modules.Tables, Modules.tables_at, Parts.parts_at}
+use Rattle.w16_ne.specs.{declared.fault.NeFault.NeFault, declared.segment_table.Segment.Segment, Header.segment_table, Header.segment_count, Header.shift_of, Segments.segments_at, Names.Entry, Names.names_at, Modules.Tables, Modules.tables_at, Parts.parts_at}
 use Rattle.w16_ne.specs.{Parts.without_part, Entries.entries_in, NamesFormat.AreNames, SegmentsFormat.IsSegmentTable, EntriesFormat.IsEntryTable, ModuleFormat.IsModule}
 use Rattle.w16_ne.specs.declared.entry_table.Entry as entries
 use Rattle.w16_ne.specs.declared.fault.NeFault.TheVariants as faults
-
--- a name that is found among upper-cased ones has the ordinal that the tables give it: the first equal name's
-abbrev pub NamesLaw : Type 0
-NamesLaw = (names : List Entry) (name : List ℕ) → ordinal_in (map upper names) name ≡ ordinal_in names name
 
 -- a table of names is read exactly where its bytes are names and a 0
 abbrev pub NamesFormatLaw : Type 0

@@ -1,8 +1,8 @@
 -- A module's file as a whole, in which nothing is read: where each table lies that the module has.
 use Rattle.w16_ne.specs
-use Rattle.std.specs.Prelude.{◌≡◌, ◌<◌, ◌≤◌, ℕ, ◌+◌, ◌++◌, List, drop, length, map, take}
+use Rattle.std.specs.Prelude.{◌≡◌, ◌<◌, ◌≤◌, ℕ, ◌+◌, ◌++◌, List, drop, length, take}
 use specs.Header.{shift_of, entry_table, entry_length, segment_count, segment_table, resident_names, reference_count, reference_table, imported_names, nonresident_length, nonresident_names}
-use specs.Names.{Entry, upper, first_text}
+use specs.Names.{Entry, first_text}
 use specs.HeaderFormat.{IsOldHeader, IsHeader, IsAccepted}
 use specs.NamesFormat.{AreNames, AreListed}
 use specs.{Modules.Tables, SegmentsFormat.IsSegmentTable, ReferencesFormat.IsReferenceTable, EntriesFormat.IsEntryTable, ResourcesFormat.HasResources}
@@ -20,7 +20,7 @@ pub record AreNamed (t : Tables) (resident nonresident : List Entry) : Type 0 wh
   pub some : 0 < length resident
   pub name : t.name ≡ first_text resident
   pub description : t.description ≡ first_text nonresident
-  pub names : t.names ≡ map upper (drop 1 resident ++ drop 1 nonresident)
+  pub names : t.names ≡ drop 1 resident ++ drop 1 nonresident
   pub many : t.resident ≡ length (drop 1 resident)
 
 -- These are the tables of the file: it has such headers, and each table lies where the header says.

@@ -5,7 +5,7 @@ use Rattle.std.specs.List.{flat_map}
 use specs.declared.segment_table.Segment.{Segment}
 use specs.Header.{place_at, header_at, fields_of, imported_names}
 use specs.Resources.{Label, Typed, resources_at}
-use specs.{declared.entry_table.Entry.Entry, Reading.Reading, Reading.◌>>=◌, Segments.segments_at, Names.upper, Names.first_text, Names.resident_at, Names.nonresident_at, References.references_at, Entries.table_at}
+use specs.{declared.entry_table.Entry.Entry, Reading.Reading, Reading.◌>>=◌, Segments.segments_at, Names.first_text, Names.resident_at, Names.nonresident_at, References.references_at, Entries.table_at}
 use Rattle.w16_ne.specs.Names as names
 use Rattle.w16_ne.specs.Resources as resources
 
@@ -16,7 +16,7 @@ pub record Tables : Type 0 where
   pub header : List ℕ
   pub name : List ℕ
   pub description : List ℕ
-  -- the names of entries, upper-cased, with their ordinals, and how many of them are resident: those that stand first
+  -- the names of entries with their ordinals, and how many of them are resident: those that stand first
   pub names : List names.Entry
   pub resident : ℕ
   pub segments : List Segment
@@ -32,7 +32,7 @@ tables_of place header segments resident references entries nonresident resource
   header = header;
   name = first_text resident;
   description = first_text nonresident;
-  names = map upper (drop 1 resident ++ drop 1 nonresident);
+  names = drop 1 resident ++ drop 1 nonresident;
   resident = length (drop 1 resident);
   segments = segments;
   references = references;

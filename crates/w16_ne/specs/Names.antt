@@ -86,13 +86,6 @@ ordinal_in names name = unwrap_or (option_map (λ e. e.1) (find (λ e. is_named 
 abbrev pub Finds : {Z S : Type 0} → IndexMap (Vec ℕ Z) ℕ S → List Entry → Type 0
 Finds map names = (name : List ℕ) → get_by (λ text. bytes_eq (str_to_ascii_uppercase name) text.items) map ≡ option_map (λ e. e.1) (find (λ e. is_named e.0 name) names)
 
--- a name as a module keeps it, upper-cased
-abbrev pub upper : Entry → Entry
-upper e = (str_to_ascii_uppercase e.0, e.1)
-
-abbrev pub IsUpper : Entry → Type 0
-IsUpper e = str_to_ascii_uppercase e.0 ≡ e.0
-
 -- the text of a table's first name; empty where it has none
 abbrev pub first_text : List Entry → List ℕ
 first_text [] = []

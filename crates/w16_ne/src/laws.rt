@@ -1,5 +1,5 @@
 //! The laws of the format's definitions. Each function does nothing: its contract is the law.
-ghost use Rattle.w16_ne.specs.Law.{NamesLaw, NamesFormatLaw, SegmentsFormatLaw, EntriesFormatLaw, ModuleFormatLaw, OneModuleLaw, PartsLaw, FrontLaw};
+ghost use Rattle.w16_ne.specs.Law.{NamesFormatLaw, SegmentsFormatLaw, EntriesFormatLaw, ModuleFormatLaw, OneModuleLaw, PartsLaw, FrontLaw};
 ghost use Rattle.std.specs.Prelude.{◌≡◌};
 ghost use Rattle.w16_ne.specs.declared.name_piece.TheConstants.{PIECE};
 ghost use Rattle.w16_ne.specs.declared.segment_table.TheConstants.{LARGEST_SEGMENT, SEGMENT_UNIT};
@@ -12,11 +12,6 @@ pub fn figures_of_files()
     ensures unit { SEGMENT_UNIT ≡ 32 }
     ensures texts { TEXTS ≡ 65791 }
     ensures piece { PIECE ≡ 1024 }
-{}
-
-/// A module keeps each name once, upper-cased, and finds the ordinals that the tables give.
-pub fn names_are_found_as_the_tables_have_them()
-    ensures { NamesLaw }
 {}
 
 /// Names are read exactly where they are: a reading is what its bytes say, and what they say is read.

@@ -1,6 +1,5 @@
 //! A module as its file has it.
 ghost use Rattle.std.specs.Prelude.{◌≡◌, ℕ, ◌<◌, ◌≤◌, ◌+◌, ◌-◌, ◌^◌, ◌&&◌, List, Some, Ok, IfSome, length, position, slice_get, option_map};
-ghost use Rattle.std.specs.Str.{str_to_ascii_uppercase};
 ghost use Rattle.w16_ne.specs.Header.{is_library};
 ghost use Rattle.w16_ne.specs.Names.{ordinal_in};
 ghost use Rattle.w16_ne.specs.Segments.{IsSized};
@@ -152,11 +151,10 @@ impl<A: Allocator> Module<A> {
         self.resident as usize
     }
 
-    /// A name of an entry by its number from 0, in the order of the tables: its text, upper-cased, and its ordinal.
+    /// A name of an entry by its number from 0, in the order of the tables: its text, as the file has it, and its ordinal.
     pub fn entry_name(&self, i: usize) -> (&[u8], u16)
         requires { i < length self.now.names }
         ensures found { slice_get self.now.names i ≡ Some (result.0.now, result.1) }
-        ensures upper { str_to_ascii_uppercase result.0.now ≡ result.0.now }
     {
         self.names.name(i)
     }

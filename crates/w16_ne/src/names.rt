@@ -2,7 +2,7 @@
 ghost use Rattle.std.specs.Prelude.{◌≡◌, ◌<◌, ◌≤◌, ◌++◌, [], ◌∷◌, length, All, slice_get, Some, IfOk, IfErr, OnOk};
 ghost use Rattle.std.specs.Str.{str_to_ascii_uppercase};
 ghost use Rattle.w16_ne.specs.declared.fault.NeFault.TheVariants.{OutOfMemory};
-ghost use Rattle.w16_ne.specs.Names.{IsUpper, Finds, ordinal_in};
+ghost use Rattle.w16_ne.specs.Names.{Finds, ordinal_in};
 
 use crate::fault::NeFault;
 use crate::ordinals::{NameSeed, Ordinals};
@@ -18,7 +18,7 @@ pub struct Place {
     ordinal: u16,
 }
 
-/// Names with their ordinals, upper-cased, in the order of the tables. All texts lie in one buffer.
+/// Names with their ordinals, in the order of the tables. All texts lie in one buffer.
 #[derive(Drop)]
 pub struct Names<A: Allocator> {
     texts: Vec<u8, A>,
@@ -27,14 +27,14 @@ pub struct Names<A: Allocator> {
 
 impl<A: Allocator> Model for Names<A> {
     ghost use Rattle.std.specs.Prelude.{◌≡◌, ◌<◌, ◌≤◌, ◌+◌, ◌^◌, length, map, All, List};
-    ghost use Rattle.w16_ne.specs.Names.{Entry, IsUpper, at_place};
+    ghost use Rattle.w16_ne.specs.Names.{Entry, at_place};
 
     ghost Value = { List Entry };
 
     ghost view = { λ s. map (at_place s.texts.items) s.places.items };
 
     ghost invariant = { λ s. All (λ p. p.start + p.len ≤ length s.texts.items) s.places.items × (length s.places.items < 2 ^ 32)
-        × All (λ e. length e.0 ≤ 255) (map (at_place s.texts.items) s.places.items) × All IsUpper (map (at_place s.texts.items) s.places.items) };
+        × All (λ e. length e.0 ≤ 255) (map (at_place s.texts.items) s.places.items) };
 }
 
 impl<A: Allocator + Copy> Names<A> {
@@ -58,10 +58,10 @@ impl<A: Allocator> Names<A> {
         self.places.len()
     }
 
-    /// Adds a name, upper-cased. An error is that there was no memory, or that there are 4 GB of names.
+    /// Adds a name. An error is that there was no memory, or that there are 4 GB of names.
     pub fn push(&mut self, text: &[u8], ordinal: u16) -> Result<(), NeFault>
         requires { length text.now ≤ 255 }
-        ensures ok { OnOk result (self.new ≡ self.old ++ (str_to_ascii_uppercase text.now, ordinal) ∷ []) }
+        ensures ok { OnOk result (self.new ≡ self.old ++ (text.now, ordinal) ∷ []) }
         ensures err { IfErr result (λ e. e ≡ OutOfMemory) }
     {
         let Ok(start) = u32::try_from(self.texts.len()) else {
@@ -70,11 +70,8 @@ impl<A: Allocator> Names<A> {
         if self.places.len() >= u32::MAX as usize {
             return Err(NeFault::OutOfMemory);
         }
-        let mut room = [0u8; 255];
-        let upper = &mut room[..text.len()];
-        write_upper(text, upper);
         self.places.reserve(1)?;
-        self.texts.extend_from_slice(&*upper)?;
+        self.texts.extend_from_slice(text)?;
         self.places.push_reserved(Place {
             start,
             len: text.len() as u8,
@@ -87,7 +84,7 @@ impl<A: Allocator> Names<A> {
     pub fn name(&self, i: usize) -> (&[u8], u16)
         requires { i < length self.now }
         ensures found { slice_get self.now i ≡ Some (result.0.now, result.1) }
-        ensures upper { str_to_ascii_uppercase result.0.now ≡ result.0.now }
+        ensures short { length result.0.now ≤ 255 }
     {
         let place = self.places[i];
         (
@@ -127,7 +124,7 @@ impl<A: Allocator> Names<A> {
 }
 
 /// Writes a text, upper-cased.
-fn write_upper(text: &[u8], room: &mut [u8])
+pub fn write_upper(text: &[u8], room: &mut [u8])
     requires { length text.now ≡ length room.old }
     ensures { room.new ≡ str_to_ascii_uppercase text.now }
 {

@@ -1,10 +1,11 @@
 //! The ordinals of names: a map whose hashes are keyed by the file's names.
-ghost use Rattle.std.specs.Prelude.{◌≡◌, List, ◌++◌, [], ◌∷◌, IfOk, OnOk, IfErr};
+ghost use Rattle.std.specs.Prelude.{◌≡◌, ℕ, List, ◌++◌, [], ◌∷◌, IfOk, OnOk, IfErr};
 ghost use Rattle.w16_ne.specs.declared.fault.NeFault.TheVariants.{OutOfMemory};
-ghost use Rattle.w16_ne.specs.Names.{Entry, IsUpper, Finds};
+ghost use Rattle.w16_ne.specs.Names.{Entry, Finds};
+ghost use Rattle.std.specs.Str.{str_to_ascii_uppercase};
 
 use crate::fault::NeFault;
-use crate::names::Names;
+use crate::names::{Names, write_upper};
 use indexmap::IndexMap;
 use std::alloc::Allocator;
 use std::hash::{BuildHasher, DefaultHasher};
@@ -37,20 +38,22 @@ pub fn ordinals_of<A: Allocator + Copy>(alloc: A, names: &Names<A>) -> Result<Or
     let mut ordinals = IndexMap::with_capacity_and_hasher(alloc, names.len(), names.seed())?;
     for i in 0..names.len() {
         let (text, ordinal) = names.name(i);
-        add(alloc, &mut ordinals, text, ordinal)?;
+        let mut room = [0u8; 255];
+        let key = &mut room[..text.len()];
+        write_upper(text, key);
+        add(alloc, &mut ordinals, &*key, ordinal)?;
     }
     Ok(ordinals)
 }
 
-/// Adds a name that is upper-cased, unless an equal one is there.
+/// Adds a name by its key, its upper-cased text, unless an equal one is there.
 fn add<A: Allocator + Copy>(
     alloc: A,
     ordinals: &mut Ordinals<A>,
     text: &[u8],
     ordinal: u16,
 ) -> Result<(), NeFault>
-    requires { IsUpper (text.now, ordinal) }
-    ensures ok { OnOk result ((names : List Entry) → Finds ordinals.old names → Finds ordinals.new (names ++ (text.now, ordinal) ∷ [])) }
+    ensures ok { OnOk result ((names : List Entry) (name : List ℕ) → text.now ≡ str_to_ascii_uppercase name → Finds ordinals.old names → Finds ordinals.new (names ++ (name, ordinal) ∷ [])) }
     ensures err { IfErr result (λ e. e ≡ OutOfMemory) }
 {
     if ordinals.contains_key(text) {

@@ -127,7 +127,7 @@ entry_text n None = []
 entry_text n (Some (InSegment segment offset)) = codes "entry " ++ decimal n ++ codes ": " ++ decimal segment ++ codes ":" ++ hex 4 offset ++ line_end
 entry_text n (Some (Constant value)) = codes "entry " ++ decimal n ++ codes ": constant " ++ hex 4 value ++ line_end
 
--- a name of an entry, in upper case, by its number from 0: the resident ones come first
+-- a name of an entry by its number from 0: the resident ones come first
 unfoldable pub standing_text : Bool → List ℕ
 standing_text resident = if resident then codes "resident name " else codes "nonresident name "
 
