@@ -2,7 +2,8 @@ use Rattle.w16_arena.proofs
 use proofs.Common as C
 use proofs.Common.{◌≡◌, ℕ, ◌+◌, ◌<◌, ◌≤◌, Some, IfSome, refl, ap, ◌∙◌, subst, sym, arith, Block, part, loose_bytes, block_with, Layout, with_loose, opened}
 use proofs.Opening.{may_open_held, own_within_held, own_way_held}
-use proofs.{ButFor.own_below, Fitting.fits_free, Grown.HasWay, Grown.grown_there, growth.open_own.Goals.After-reveal_bytes}
+use proofs.{ButFor.own_below, Fitting.fits_free, Grown.HasWay, Grown.grown_there}
+use Rattle.w16_arena.proofs.growth.open_own.Goals.{After-reveal_bytes}
 use Rattle.w16_arena.proofs.growth.open_own.Given as Given
 use Rattle.w16_arena.proofs.growth.open_own.Goals as goal
 

@@ -1,6 +1,7 @@
 use Rattle.w16_blocks.proofs.Later as M
 use Rattle.w16_blocks.proofs.Common.{◌≡◌, ◌+◌, ◌-◌, ◌/◌, ◌++◌, List, length, replicate, arith, ap, ◌∙◌, subst, Span, joined, AreSameOutside, Leaves}
 use Rattle.w16_blocks.proofs.Blocks.set_end.Goals as goal
+use Rattle.w16_blocks.proofs.Blocks.set_end.Goals.{After-lengthen-then-from-end}
 
 pub put-requires-clause-part : goal.put-requires-clause-part
 put-requires-clause-part g c = M.part_later c.self.invariant.0 c.args.end c.if-from-end.true c.set_end.ensures.range c.self.view_is c.requires.low c.requires.high
@@ -14,7 +15,7 @@ lengthen-requires g c = let r = c.requires.reserved in M.cells_fit c.self.invari
 pub lengthen-requires-then-from-end : goal.lengthen-requires-then-from-end
 lengthen-requires-then-from-end g c = let r = c.requires.reserved in M.cells_fit c.self.invariant.0.tables.some c.cells_to-cells.ensures (omega arith) c.self.invariant.1.ends
 
-module _ (g : _) (c : goal.After-lengthen-then-from-end g) where
+module _ (g : _) (c : After-lengthen-then-from-end g) where
   longer :
       c.lengthen.new.table.items
       ≡ c.self.inside.begins.items ++ replicate ((c.args.end - c.self.inside.lo) / c.self.inside.grain + 1 - length c.self.inside.begins.items) 0

@@ -3,7 +3,8 @@ use proofs.Common as C
 use proofs.Common.{ℕ, List, map, min, refl, ◌≡◌, ◌≢◌, ◌∙◌, ◌+◌, ◌-◌, ◌<◌, ◌≤◌, ap, arith, sym, subst, Block, Span, Range, Layout, holes_of, IsRun, taken, slid_with}
 use proofs.RunHoles.{IsWay, way_down, bare_free, run_part}
 use proofs.RunKept.{used_run, BlocksInvariant-run, tables_back, blocks_back, lent_layout}
-use proofs.{Unslid.has_bytes, Blocks.slide_run.Goals.After-retag_run-end}
+use proofs.Unslid.{has_bytes}
+use Rattle.w16_blocks.proofs.Blocks.slide_run.Goals.{After-retag_run-end}
 use Rattle.w16_blocks.specs.Runs.{EndsAt}
 use Rattle.w16_blocks.proofs.Blocks.slide_run.Given as Given
 use Rattle.w16_blocks.proofs.Blocks.slide_run.Goals as goal
