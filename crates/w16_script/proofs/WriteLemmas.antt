@@ -14,6 +14,16 @@ Appends-take a b c xs ys n m p e q = rw C.take-add (C.Appends-trans a b c _ _ p 
 pub AppendsFront_take : {a b xs : _} (n : _) → n < C.length xs → Appends a b (take n xs) → AppendsFront a b xs
 AppendsFront_take {xs} n h p = record { front = take n xs; back = drop n xs; whole = sym (C.take-append-drop n xs); left = omega (arith, C.length-drop n xs); appends = p }
 
+-- a front was written, and of what is left a further one
+pub AppendsFront_rest : {a b c xs ys : _} (n : _) → Appends a b (take n xs) → ys ≡ drop n xs → AppendsFront b c ys → AppendsFront a c xs
+AppendsFront_rest {a} {c} {xs} n p is q = record {
+  front = take n xs ++ q.front;
+  back = q.back;
+  whole = sym (take-append-drop n xs) ∙ ap (λ l. take n xs ++ l) (sym is ∙ q.whole) ∙ sym (append_assoc (take n xs) q.front q.back);
+  left = q.left;
+  appends = Appends-trans _ _ _ _ q.front p q.appends;
+}
+
 -- something before it was written whole, and something is left after it
 pub AppendsFront-between : {b bytes : _} (a c before behind : _) → Appends a b before → AppendsFront b c bytes → AppendsFront a c (before ++ (bytes ++ behind))
 AppendsFront-between a c before behind p q = record {

@@ -161,6 +161,7 @@ pub fn one<'a, V: Value<'a>>(text: &'a [u8], registers: &Registers) -> Option<V>
 
 /// The two arguments that the text is.
 #[tactic(auto, using(crate::proofs::ArgumentLemmas::taken))]
+#[inline(always)]
 pub fn two<'a, V: Value<'a>, W: Value<'a>>(text: &'a [u8], registers: &Registers) -> Option<(V, W)>
     ensures found { IfSome result (λ values. AreArguments registers.now (words_of text.now) (V.parameter ∷ W.parameter ∷ []) (V.argument values.0 ∷ W.argument values.1 ∷ [])) }
     ensures none { IfNone result ((values : List Argument) → AreArguments registers.now (words_of text.now) (V.parameter ∷ W.parameter ∷ []) values → ⊥) }

@@ -9,7 +9,7 @@ ghost use Rattle.w16_script.specs.Written.{AppendsFront};
 ghost use Rattle.w16_script.specs.Printed.{end_text, reply_text, error_text};
 
 use crate::bytes::encode;
-use crate::write::write_whole;
+use crate::write::{write_few, write_whole};
 use arrayvec::ArrayVec;
 use std::io::{self, ErrorKind, Write};
 use w16_kernel::{MOST_READ, Reply};
@@ -152,8 +152,16 @@ pub fn write_reply<W: Write>(
     ensures err { OnErr result (AppendsFront (W.contents writer.old) (W.contents writer.new) (reply_text (reply_of reply.now))) }
 {
     match reply {
-        Reply::Word(word) => print_digits(writer, &word.to_be_bytes(), room),
-        Reply::Dword(dword) => print_digits(writer, &dword.to_be_bytes(), room),
+        Reply::Word(word) => {
+            let mut text = [b'\n'; 5];
+            let _ = hex::encode_to_slice(&word.to_be_bytes(), &mut text[..4]);
+            write_few(writer, &text)
+        }
+        Reply::Dword(dword) => {
+            let mut text = [b'\n'; 9];
+            let _ = hex::encode_to_slice(&dword.to_be_bytes(), &mut text[..8]);
+            write_few(writer, &text)
+        }
         Reply::Bytes(bytes) => print_bytes(writer, bytes, room),
         Reply::Done => write_whole(writer, b"ok\n"),
         Reply::Fault(fault) => write_whole(writer, fault_line(*fault)),

@@ -1,11 +1,12 @@
 //! Writes whose failure leaves a known front, and flushes.
-ghost use Rattle.std.specs.Prelude.{◌≤◌, OnOk, OnErr, IfOk, take, length};
+ghost use Rattle.std.specs.Prelude.{◌<◌, ◌≤◌, OnOk, OnErr, IfOk, take, length};
 ghost use Rattle.std.specs.Io.KnownBytes.{Appends, Keeps};
 ghost use Rattle.w16_script.specs.Written.{AppendsFront};
 
 use std::io::{self, Error, ErrorKind, Write};
 
 /// One write. An interruption has written nothing, and is no fault.
+#[inline(always)]
 fn write_some<W: Write>(writer: &mut W, bytes: &[u8]) -> Result<usize, ErrorKind>
     ensures ok { IfOk result (λ n. (n ≤ length bytes.now) × Appends (W.contents writer.old) (W.contents writer.new) (take n bytes.now)) }
     ensures err { OnErr result (Keeps (W.contents writer.old) (W.contents writer.new)) }
@@ -39,6 +40,20 @@ pub fn write_whole<W: Write>(writer: &mut W, bytes: &[u8]) -> Result<(), ErrorKi
         return Ok(());
     }
     Err(ErrorKind::TimedOut)
+}
+
+/// Writes few bytes as `write_whole` does. They mostly go at once.
+#[inline(always)]
+pub fn write_few<W: Write>(writer: &mut W, bytes: &[u8]) -> Result<(), ErrorKind>
+    requires { 0 < length bytes.now }
+    ensures ok { OnOk result (Appends (W.contents writer.old) (W.contents writer.new) bytes.now) }
+    ensures err { OnErr result (AppendsFront (W.contents writer.old) (W.contents writer.new) bytes.now) }
+{
+    let count = write_some(writer, bytes)?;
+    if count == bytes.len() {
+        return Ok(());
+    }
+    write_whole(writer, &bytes[count..])
 }
 
 /// Flushes the writer, tried again where it was interrupted. What it holds stays.
