@@ -1,9 +1,9 @@
 #!/usr/bin/env python3
-"""Writes module files as a stranger may make them, of very many names, blocks, references or resources.
+"""Writes module files as a stranger may make them, of very many names, blocks, references, resources or relocation records.
 
 usage: hostile.py FOLDER COUNT
 
-Each of the six files has COUNT of what it is of, or as many as such a file may have. It prints the rows of `hostile.txt` for them:
+Each of the ten files has COUNT of what it is of, or as many as such a file may have. It prints the rows of `hostile.txt` for them:
 `./hostile.py ../data 1000 > ../data/hostile.txt`. How long one takes to be read, and how much memory, GNU's `time` tells:
 `/usr/bin/time -v w16ne FOLDER/LETTERS.DLL > /dev/null`.
 """
@@ -55,6 +55,11 @@ FILES = {
     "BLOCKS.DLL": ("blocks without resources", 131_072, lambda n: bytes([250, 0, 0, 0, 0, 0, 0, 0])),
     "REFS.DLL": ("references to one name of 255 bytes", 65_535, lambda n: bytes(2)),
     "TEXTS.DLL": ("blocks whose texts overlap", 65_535, texts),
+    # Records of a system's part, which have no sites; such that add a byte, each at one of its own, by ordinal and by name; and one chain of words.
+    "SHARED.DLL": ("records in a table that 253 segments share", 65_535, lambda n: struct.pack("<BBHHH", 5, 3, 0, 1, 0)),
+    "RECORDS.DLL": ("records of one segment", 65_535, lambda n: struct.pack("<BBHHH", 0, 5, n, 1, n)),
+    "IMPORTS.DLL": ("records that import by name", 65_535, lambda n: struct.pack("<BBHHH", 0, 6, n, 1, 1)),
+    "CHAIN.DLL": ("sites of one chain", 32_767, lambda n: struct.pack("<H", 2 * n + 2)),
 }
 
 
@@ -77,8 +82,26 @@ def headers(resources, references):
     return bytes(header)
 
 
+def segments(segments, data, records, many):
+    """A file of so many segments, all with the same data and the same records."""
+    table = 64 + 8 * segments
+    header = bytearray(headers(table, 1))
+    for at, word in ((0x1C, segments), (0x26, table), (0x28, table + 11), (0x2A, table + 13)):
+        struct.pack_into("<H", header, 64 + at, word)
+    # After the module's name there are one reference and the imported names, of which it leads to the second.
+    names = b"\x07HOSTILE\x00\x00\x00" + struct.pack("<H", 1) + b"\x00\x06KERNEL"
+    place = (64 + table + len(names) + 15) // 16
+    row = struct.pack("<4H", place, len(data), 0x0100, len(data))
+    front = bytes(header) + row * segments + names
+    return front.ljust(16 * place, b"\x00") + data + struct.pack("<H", records) + many
+
+
 def file_of(name, count):
     many = b"".join(map(FILES[name][2], range(count)))
+    if name == "CHAIN.DLL":
+        return segments(1, many[:-2] + b"\xff\xff", 1, struct.pack("<BBHHH", 5, 1, 0, 1, 1))
+    if name in ("SHARED.DLL", "RECORDS.DLL", "IMPORTS.DLL"):
+        return segments(253 if name == "SHARED.DLL" else 1, bytes(count), count, many)
     # Behind the module's name the names go on, or they end, and the shift of a resource table comes, or an imported name.
     begin = {"BLOCKS.DLL": bytes([0, 4, 0]), "TEXTS.DLL": bytes([0, 4, 0]), "REFS.DLL": bytes(1) + bytes([255]) * 256}.get(name, b"")
     has_resources = name in ("BLOCKS.DLL", "TEXTS.DLL")
@@ -89,7 +112,7 @@ def file_of(name, count):
 
 def main():
     folder, count = Path(sys.argv[1]), int(sys.argv[2])
-    print("# What is read of module files of very many names, blocks, references or resources. Written by `scripts/hostile.py`.")
+    print("# What is read of module files of very many names, blocks, references, resources or relocation records. Written by `scripts/hostile.py`.")
     for name, (title, most, _) in FILES.items():
         data = file_of(name, min(count, most))
         (folder / name).write_bytes(data)
