@@ -1,7 +1,9 @@
 pub mod Numbering
 pub mod Honest
 pub mod Chains
-pub mod Values
+pub mod Characters
+pub mod Sending
+pub mod ReadsBack
 pub mod Verdicts
 pub mod Depths
 pub mod Imported

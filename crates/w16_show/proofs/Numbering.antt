@@ -16,6 +16,10 @@ left-from [] i x h = cc
 left-from (y ∷ ys) zero x h = let same : y ≡ x = cc in ap (λ z. z ∷ ys) same
 left-from (y ∷ ys) (suc i) x h = left-from ys i x h
 
+-- what the next one gives, before the rest
+pub numbered-next : {X Y : Type 0} (gives : ℕ → X → List Y) (n : ℕ) (xs : List X) (i : ℕ) (x : X) → slice_get xs i ≡ Some x → numbered gives n (drop i xs) ≡ gives n x ++ numbered gives (n + 1) (drop (i + 1) xs)
+numbered-next gives n xs i x h = rw (left-from xs i x h, add-one n, add-one i) refl
+
 -- one turn: what was there, and what the next one gives, with the rest behind it
 pub numbered-step : {X Y : Type 0} (gives : ℕ → X → List Y) (front after total : List Y) (n : ℕ) (xs : List X) (i : ℕ) (x : X) → slice_get xs i ≡ Some x → after ≡ front ++ gives n x
     → front ++ numbered gives n (drop i xs) ≡ total → after ++ numbered gives (n + 1) (drop (i + 1) xs) ≡ total
@@ -52,10 +56,6 @@ there (x ∷ xs) (suc i) h = there xs i (omega arith)
 -- an item that is there, also by its number from one on
 pub got-some : {X : Type 0} (xs : List X) (i : ℕ) → i < length xs → (x : X) × (slice_get xs i ≡ Some x) × (slice_get xs ((i + 1) - 1) ≡ Some x)
 got-some xs i h = let got = there xs i h in (got.0, got.1, subst (λ (k : ℕ). slice_get xs k ≡ Some got.0) (sym (less-one i)) got.1)
-
--- behind the last one
-pub at-end : {X Y : Type 0} (gives : ℕ → X → List Y) (front total : List Y) (n : ℕ) (xs : List X) (i : ℕ) → length xs ≤ i → front ++ numbered gives n (drop i xs) ≡ total → front ≡ total
-at-end {X} {Y} gives front total n xs i h before = sym (append-nil front) ∙ (rw (drop_of_length-le xs h) at before)
 
 -- a sum over all, of which those before an index are done
 pub sum-step : {X : Type 0} (f : X → ℕ) (xs : List X) (i : ℕ) (x : X) (total one : ℕ) → slice_get xs i ≡ Some x → one ≡ f x → total + sum_by f (drop i xs) ≡ sum_by f xs → (total + one) + sum_by f (drop (i + 1) xs) ≡ sum_by f xs

@@ -1,5 +1,5 @@
 -- What is printed of a module as JSON: objects, whose members stand in the order of their keys.
-use Rattle.std.specs.Prelude.{ℕ, Bool, true, false, Option, Some, None, Result, Ok, Err, List, [], ◌∷◌, codes, map, nat_lt, unwrap_or, option_map, slice_index}
+use Rattle.std.specs.Prelude.{ℕ, Bool, true, false, Option, Some, None, Result, Ok, Err, List, [], ◌∷◌, ◌++◌, codes, decimal, map, nat_lt, unwrap_or, option_map, slice_index}
 use Rattle.serde_json.specs.Data.{Data, null, boolean, number, unsigned, string, array, no_items, item, object, no_members, member}
 use Rattle.serde_json.specs.View.{items_of}
 use Rattle.w16_ne.specs.declared.entry_table.Entry.{Entry}
@@ -83,6 +83,12 @@ segment_object i s fault records = object
     (member (codes "fault") fault (member (codes "flags") (n s.flags.0) (member (codes "length") (n s.len) (member (codes "number") (n i)
     (member (codes "object") (n s.size) (member (codes "place") (n s.place) (member (codes "relocations") (list records) no_members)))))))
 
+-- the text of a sound segment up to its records
+abbrev pub segment_front : ℕ → Segment → List ℕ
+segment_front i s =
+    codes "{\"fault\":null,\"flags\":" ++ (decimal s.flags.0 ++ (codes ",\"length\":" ++ (decimal s.len ++ (codes ",\"number\":" ++ (decimal i
+    ++ (codes ",\"object\":" ++ (decimal s.size ++ (codes ",\"place\":" ++ (decimal s.place ++ codes ",\"relocations\":")))))))))
+
 abbrev pub segment_said : List ℕ → Tables → ℕ → Segment → Result Held RelocFault → Data
 segment_said file tables i s (Ok held) = segment_object i s null (map (relocation_json file tables held.bytes) held.records)
 segment_said file tables i s (Err fault) = segment_object i s (string (unsound_text fault)) []
@@ -91,15 +97,19 @@ abbrev pub segment_json : List ℕ → Tables → ℕ → Segment → List Data
 segment_json file tables i s = segment_said file tables i s (checked file tables s) ∷ []
 
 -- an ordinal, and where it leads; nothing where it has no entry
+abbrev pub entry_object : ℕ → Entry → Data
+entry_object ordinal (InSegment segment offset) = object (member (codes "offset") (n offset) (member (codes "ordinal") (n ordinal) (member (codes "segment") (n segment) no_members)))
+entry_object ordinal (Constant value) = object (member (codes "constant") (n value) (member (codes "ordinal") (n ordinal) no_members))
+
 abbrev pub entry_json : ℕ → Option Entry → List Data
 entry_json ordinal None = []
-entry_json ordinal (Some (InSegment segment offset)) =
-    object (member (codes "offset") (n offset) (member (codes "ordinal") (n ordinal) (member (codes "segment") (n segment) no_members))) ∷ []
-entry_json ordinal (Some (Constant value)) = object (member (codes "constant") (n value) (member (codes "ordinal") (n ordinal) no_members)) ∷ []
+entry_json ordinal (Some entry) = entry_object ordinal entry ∷ []
+
+abbrev pub name_object : ℕ → ℕ → List ℕ × ℕ → Data
+name_object resident i name = object (member (codes "name") (text name.0) (member (codes "ordinal") (n name.1) (member (codes "resident") (boolean (nat_lt i resident)) no_members)))
 
 abbrev pub name_json : ℕ → ℕ → List ℕ × ℕ → List Data
-name_json resident i name =
-    object (member (codes "name") (text name.0) (member (codes "ordinal") (n name.1) (member (codes "resident") (boolean (nat_lt i resident)) no_members))) ∷ []
+name_json resident i name = name_object resident i name ∷ []
 
 abbrev pub reference_json : ℕ → List ℕ → List Data
 reference_json i name = text name ∷ []

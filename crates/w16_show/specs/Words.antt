@@ -1,6 +1,7 @@
 -- How numbers, bytes and flags are printed, and the words for what has no text of its own.
 use Rattle.std.specs.Prelude.{◌≡◌, ℕ, ◌^◌, ◌-◌, Option, Some, None, Result, OnOk, List, [], ◌∷◌, ◌++◌, codes, false, ◌==◌, ◌||◌, nat_lt, decimal, if◌then◌else◌, bit_and}
 use Rattle.std.specs.Char.{encode_utf8}
+use Rattle.std.specs.Io.KnownBytes.{Appends}
 use Rattle.std.specs.Fmt.{digits, padded_integral, format_spec}
 use Rattle.std.specs.List.{flat_map}
 use Rattle.std.specs.declared.alloc.AllocError.{AllocError}
@@ -16,6 +17,10 @@ use Rattle.w16_reloc.specs.declared.record.Part.TheVariants.{LowByte, Selector, 
 -- A call that answers `Ok` has put this text behind what was there.
 abbrev pub Adds : Result (Unit {0}) AllocError → List ℕ → List ℕ → List ℕ → Type 0
 Adds result old new text = OnOk result (new ≡ old ++ text)
+
+-- A call that answers `Ok` has sent this text to a writer, where it is known what that holds.
+abbrev pub Sends : {E : Type 0} → Result (Unit {0}) E → Option (List ℕ) → Option (List ℕ) → List ℕ → Type 0
+Sends result held holds text = OnOk result (Appends held holds text)
 
 abbrev pub line_end : List ℕ
 line_end = 10 ∷ []

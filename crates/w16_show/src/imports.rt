@@ -5,13 +5,14 @@ ghost use Rattle.std.specs.List.{flat_map, fold};
 ghost use Rattle.w16_ne.specs.declared.segment_table.Segment.{Segment};
 ghost use Rattle.w16_reloc.specs.Segments.{checked};
 ghost use Rattle.w16_show.specs.Report.{IsOpened};
-ghost use Rattle.w16_show.specs.Words.{Adds};
+ghost use Rattle.w16_show.specs.Words.{Adds, Sends};
 ghost use Rattle.w16_show.specs.Imports.{targets_of, targets_in, with_import, ranked_imports};
 ghost use Rattle.w16_show.specs.Text.{import_text};
 
 use crate::relocations::push_target;
 use std::alloc::{AllocError, Global};
 use std::collections::BTreeMap;
+use std::io::{self, Write};
 use w16_ne::Module;
 use w16_reloc::{Record, Scratch, Target, check};
 use w16_store::MemStore;
@@ -110,17 +111,20 @@ fn push_import(
     out.push_str("\n")
 }
 
-/// Puts the lines of what a module imports behind a text.
-pub fn push_imports(
-    out: &mut String,
+/// Sends the lines of what a module imports. The text is room for one.
+pub fn send_imports<W: Write>(
+    writer: &mut W,
+    line: &mut String,
     file: &[u8],
     tables: &Module,
     imports: &BTreeMap<u64, Target>,
-) -> Result<(), AllocError>
-    ensures { Adds result (string_bytes out.old) (string_bytes out.new) (flat_map (import_text file.now tables.now) (values imports.now)) }
+) -> io::Result<()>
+    ensures { Sends result (W.contents writer.old) (W.contents writer.new) (flat_map (import_text file.now tables.now) (values imports.now)) }
 {
     for import in imports.values() {
-        push_import(out, file, tables, *import)?;
+        line.clear();
+        push_import(line, file, tables, *import)?;
+        writer.write_all(line.as_bytes())?;
     }
     Ok(())
 }

@@ -1,6 +1,6 @@
 //! The header as JSON.
-ghost use Rattle.std.specs.Prelude.{◌≡◌, slice_index, IfOk};
-ghost use Rattle.serde_json.specs.View.{view};
+ghost use Rattle.std.specs.Prelude.{slice_index};
+ghost use Rattle.w16_show.specs.Plain.{Makes};
 ghost use Rattle.w16_show.specs.Json.{pair, sizes_json, start_json, fields_json, header_json};
 
 use crate::bytes::{byte, word};
@@ -12,14 +12,14 @@ use w16_ne::Module;
 
 /// Two numbers.
 fn pair_value(alloc: Global, a: u16, b: u16) -> Result<Value, AllocError>
-    ensures { IfOk result (λ v. view v ≡ pair a b) }
+    ensures { Makes result (pair a b) }
 {
     json!(in alloc; [a, b])
 }
 
 /// Two bytes of a header, by their offsets.
 fn bytes_value(alloc: Global, header: &[u8], a: usize, b: usize) -> Result<Value, AllocError>
-    ensures { IfOk result (λ v. view v ≡ pair (slice_index header.now a) (slice_index header.now b)) }
+    ensures { Makes result (pair (slice_index header.now a) (slice_index header.now b)) }
 {
     pair_value(
         alloc,
@@ -31,7 +31,7 @@ fn bytes_value(alloc: Global, header: &[u8], a: usize, b: usize) -> Result<Value
 /// The sizes that a header asks for.
 #[tactic(auto, unfolding(crate::specs::Json::sizes_json))]
 fn sizes_value(alloc: Global, header: &[u8]) -> Result<Value, AllocError>
-    ensures { IfOk result (λ v. view v ≡ sizes_json header.now) }
+    ensures { Makes result (sizes_json header.now) }
 {
     let (segment, heap, stack) = (word(header, 0x0e), word(header, 0x10), word(header, 0x12));
     json!(in alloc; {"automatic_data": segment, "heap": heap, "stack": stack})
@@ -40,7 +40,7 @@ fn sizes_value(alloc: Global, header: &[u8]) -> Result<Value, AllocError>
 /// Where the module of a header begins to run.
 #[tactic(auto, unfolding(crate::specs::Json::start_json))]
 fn start_value(alloc: Global, header: &[u8]) -> Result<Value, AllocError>
-    ensures { IfOk result (λ v. view v ≡ start_json header.now) }
+    ensures { Makes result (start_json header.now) }
 {
     let entry = pair_value(alloc, word(header, 0x16), word(header, 0x14))?;
     let top = pair_value(alloc, word(header, 0x1a), word(header, 0x18))?;
@@ -50,7 +50,7 @@ fn start_value(alloc: Global, header: &[u8]) -> Result<Value, AllocError>
 /// The fields of a header.
 #[tactic(auto, unfolding(crate::specs::Json::fields_json))]
 fn fields_value(alloc: Global, header: &[u8]) -> Result<Value, AllocError>
-    ensures { IfOk result (λ v. view v ≡ fields_json header.now) }
+    ensures { Makes result (fields_json header.now) }
 {
     let linker = bytes_value(alloc, header, 2, 3)?;
     let sizes = sizes_value(alloc, header)?;
@@ -71,7 +71,7 @@ fn fields_value(alloc: Global, header: &[u8]) -> Result<Value, AllocError>
 /// What a module is, and the fields of its header.
 #[tactic(auto, unfolding(crate::specs::Json::header_json))]
 pub fn header_value(alloc: Global, tables: &Module) -> Result<Value, AllocError>
-    ensures { IfOk result (λ v. view v ≡ header_json tables.now) }
+    ensures { Makes result (header_json tables.now) }
 {
     let description = text_value(alloc, tables.description())?;
     let fields = fields_value(alloc, tables.header())?;

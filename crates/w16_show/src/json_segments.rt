@@ -1,149 +1,231 @@
 //! Segments and their relocation records as JSON.
 ghost use Rattle.std.specs.BTreeMap.{values};
-ghost use Rattle.std.specs.Prelude.{◌≡◌, ◌<◌, ◌≤◌, ◌-◌, List, Some, length, map, slice_get, IfOk};
-ghost use Rattle.serde_json.specs.Data.{Data};
-ghost use Rattle.serde_json.specs.View.{view};
-ghost use Rattle.w16_reloc.specs.Segments.{checked};
+ghost use Rattle.std.specs.Prelude.{◌≡◌, ℕ, ◌<◌, ◌≤◌, ◌-◌, List, Some, [], length, map, slice_get, string_bytes, IfOk};
+ghost use Rattle.serde_json.specs.Data.{Data, boolean, null, string};
+ghost use Rattle.serde_json.specs.View.{items_of, view};
 ghost use Rattle.w16_show.specs.Imports.{imports};
 ghost use Rattle.w16_show.specs.Report.{IsOpened};
 ghost use Rattle.w16_show.specs.Numbered.{numbered};
-ghost use Rattle.w16_show.specs.Json.{list, target_json, fixup_json, relocation_json, segment_object, segment_said, segment_json};
+ghost use Rattle.w16_show.specs.Words.{Adds, part_text};
+ghost use Rattle.w16_show.specs.Plain.{AddsJson, ArePlain, IsPlain, Makes, PassesOn, SendsJson};
+ghost use Rattle.w16_show.specs.Json.{list, target_json, fixup_json, relocation_json, segment_object, segment_front, segment_json};
 
 use crate::imports::imports;
-use crate::json_values::{offsets_value, text_value, word_value};
+use crate::json_values::{comma, push_offsets, push_text, send_value, word_value};
 use crate::relocations::{imported_name, reference_name};
 use crate::sites::sites_of;
-use crate::words::{part_word, unsound_word};
+use crate::words::unsound_word;
 use serde_json::{Value, json};
 use std::alloc::{AllocError, Global};
 use std::collections::BTreeMap;
+use std::io::{self, Write};
 use w16_ne::{Module, Segment};
-use w16_reloc::{Fixup, Record, Scratch, Target, check};
+use w16_reloc::{Fixup, Part, Record, Scratch, Target, check};
 use w16_store::MemStore;
 
-/// Where a record points.
-fn target_value(
-    alloc: Global,
+/// Puts a target in another module, by its ordinal, behind a text.
+#[tactic(auto, unfolding(json::specs::Print::escape_byte))]
+fn push_by_ordinal(
+    out: &mut String,
+    tables: &Module,
+    reference: u16,
+    ordinal: u16,
+) -> Result<(), AllocError>
+    ensures { (file : List ℕ) → AddsJson result (string_bytes out.old) (string_bytes out.new) (target_json file tables.now (Target.ByOrdinal reference ordinal)) }
+{
+    out.push_str("{\"module\":")?;
+    push_text(out, reference_name(tables, reference))?;
+    write!(out, ",\"ordinal\":{ordinal}}}")
+}
+
+/// Puts a target in another module, by its name, behind a text.
+#[tactic(auto, unfolding(json::specs::Print::escape_byte))]
+fn push_by_name(
+    out: &mut String,
+    file: &[u8],
+    tables: &Module,
+    reference: u16,
+    name: u16,
+) -> Result<(), AllocError>
+    ensures { AddsJson result (string_bytes out.old) (string_bytes out.new) (target_json file.now tables.now (Target.ByName reference name)) }
+{
+    out.push_str("{\"module\":")?;
+    push_text(out, reference_name(tables, reference))?;
+    out.push_str(",\"name\":")?;
+    push_text(out, imported_name(file, tables, name))?;
+    out.push_str("}")
+}
+
+/// Puts where a record points behind a text.
+#[tactic(auto, unfolding(json::specs::Print::escape_byte))]
+fn push_target(
+    out: &mut String,
     file: &[u8],
     tables: &Module,
     target: Target,
-) -> Result<Value, AllocError>
-    ensures { IfOk result (λ v. view v ≡ target_json file.now tables.now target) }
+) -> Result<(), AllocError>
+    ensures { AddsJson result (string_bytes out.old) (string_bytes out.new) (target_json file.now tables.now target) }
 {
     match target {
         Target::Internal { segment, offset } => {
-            json!(in alloc; {"offset": offset, "segment": segment})
+            write!(out, "{{\"offset\":{offset},\"segment\":{segment}}}")
         }
-        Target::Entry { ordinal } => json!(in alloc; {"ordinal": ordinal}),
-        Target::ByOrdinal { reference, ordinal } => {
-            let from = text_value(alloc, reference_name(tables, reference))?;
-            json!(in alloc; {"module": from, "ordinal": ordinal})
-        }
-        Target::ByName { reference, name } => {
-            let from = text_value(alloc, reference_name(tables, reference))?;
-            let name = text_value(alloc, imported_name(file, tables, name))?;
-            json!(in alloc; {"module": from, "name": name})
-        }
+        Target::Entry { ordinal } => write!(out, "{{\"ordinal\":{ordinal}}}"),
+        Target::ByOrdinal { reference, ordinal } => push_by_ordinal(
+            out, tables, reference, ordinal,
+        ),
+        Target::ByName { reference, name } => push_by_name(out, file, tables, reference, name),
     }
 }
 
-/// Imports that were found in a module.
-fn targets_value(
+/// Sends imports that were found in a module.
+fn send_targets<W: Write>(
     alloc: Global,
+    writer: &mut W,
     file: &[u8],
     tables: &Module,
     imports: &BTreeMap<u64, Target>,
-) -> Result<Value, AllocError>
-    ensures { IfOk result (λ v. view v ≡ list (map (target_json file.now tables.now) (values imports.now))) }
+) -> io::Result<()>
+    ensures { SendsJson result (W.contents writer.old) (W.contents writer.new) (list (map (target_json file.now tables.now) (values imports.now))) }
 {
-    let mut targets = Vec::with_capacity(alloc, imports.len())?;
+    writer.write_all(b"[")?;
+    let mut line = String::new(alloc);
+    let mut later = false;
     for target in imports.values() {
-        targets.push(target_value(alloc, file, tables, *target)?)?;
+        line.clear();
+        line.push_str(comma(later))?;
+        push_target(&mut line, file, tables, *target)?;
+        writer.write_all(line.as_bytes())?;
+        later = true;
     }
-    Ok(Value::Array(targets))
+    writer.write_all(b"]")
 }
 
-/// What a module imports.
-pub fn imports_value(
+/// Sends what a module imports.
+pub fn send_imports<W: Write>(
     alloc: Global,
+    writer: &mut W,
     file: &[u8],
     store: &mut MemStore,
     name: &[u8],
     tables: &Module,
     scratch: &mut Scratch,
-) -> Result<Value, AllocError>
+) -> io::Result<()>
     ensures same { store.new ≡ store.old }
     ensures value { IsOpened store.old name.now file.now tables.now
-        → IfOk result (λ v. view v ≡ list (map (target_json file.now tables.now) (imports file.now tables.now))) }
+        → SendsJson result (W.contents writer.old) (W.contents writer.new) (list (map (target_json file.now tables.now) (imports file.now tables.now))) }
 {
     let imports = imports(alloc, store, name, tables, scratch)?;
-    targets_value(alloc, file, tables, &imports)
+    send_targets(alloc, writer, file, tables, &imports)
 }
 
-/// A fixup, with its sites, and whether its value is added.
-fn fixup_value(
-    alloc: Global,
+/// Puts a truth value behind a text.
+fn push_bool(out: &mut String, is_true: bool) -> Result<(), AllocError>
+    ensures { AddsJson result (string_bytes out.old) (string_bytes out.new) (boolean is_true) }
+{
+    if is_true {
+        out.push_str("true")
+    } else {
+        out.push_str("false")
+    }
+}
+
+/// Puts what of its target a record writes behind a text.
+#[tactic(auto, unfolding(crate::specs::Words::part_text, json::specs::Print::escape_byte))]
+fn push_part(out: &mut String, part: Part) -> Result<(), AllocError>
+    ensures { AddsJson result (string_bytes out.old) (string_bytes out.new) (string (part_text part)) }
+{
+    match part {
+        Part::LowByte => out.push_str("\"byte\""),
+        Part::Selector => out.push_str("\"selector\""),
+        Part::Pointer => out.push_str("\"pointer\""),
+        Part::Offset => out.push_str("\"offset\""),
+    }
+}
+
+/// Puts a fixup, with its sites, and whether its value is added, behind a text.
+fn push_fixup(
+    out: &mut String,
     file: &[u8],
     tables: &Module,
     sites: &[u16],
     add: bool,
     fixup: &Fixup,
-) -> Result<Value, AllocError>
-    ensures { IfOk result (λ v. view v ≡ fixup_json file.now tables.now sites.now add fixup.now) }
+) -> Result<(), AllocError>
+    ensures { AddsJson result (string_bytes out.old) (string_bytes out.new) (fixup_json file.now tables.now sites.now add fixup.now) }
 {
-    let part = word_value(alloc, part_word(fixup.part))?;
-    let sites = offsets_value(alloc, sites)?;
-    let target = target_value(alloc, file, tables, fixup.target)?;
-    json!(in alloc; {"add": add, "part": part, "sites": sites, "target": target})
+    out.push_str("{\"add\":")?;
+    push_bool(out, add)?;
+    out.push_str(",\"part\":")?;
+    push_part(out, fixup.part)?;
+    out.push_str(",\"sites\":")?;
+    push_offsets(out, sites)?;
+    out.push_str(",\"target\":")?;
+    push_target(out, file, tables, fixup.target)?;
+    out.push_str("}")
 }
 
-/// A record. The vector is room for its sites.
-fn relocation_value(
-    alloc: Global,
+/// Puts a record behind a text. The vector is room for its sites.
+#[tactic(auto, unfolding(json::specs::Print::escape_byte))]
+fn push_relocation(
+    out: &mut String,
     file: &[u8],
     tables: &Module,
     bytes: &[u8],
     relocation: &Record,
     sites: &mut Vec<u16>,
-) -> Result<Value, AllocError>
-    ensures { IfOk result (λ v. view v ≡ relocation_json file.now tables.now bytes.now relocation.now) }
+) -> Result<(), AllocError>
+    ensures { AddsJson result (string_bytes out.old) (string_bytes out.new) (relocation_json file.now tables.now bytes.now relocation.now) }
 {
     sites_of(bytes, relocation, sites)?;
     match relocation {
-        Record::Stored(fixup) => fixup_value(alloc, file, tables, sites, false, fixup),
-        Record::Added(fixup) => fixup_value(alloc, file, tables, sites, true, fixup),
-        Record::System => json!(in alloc; {"system": true}),
+        Record::Stored(fixup) => push_fixup(out, file, tables, sites, false, fixup),
+        Record::Added(fixup) => push_fixup(out, file, tables, sites, true, fixup),
+        Record::System => out.push_str("{\"system\":true}"),
     }
 }
 
-/// The records of the segment that was checked last.
-fn relocations_value(
+/// Sends the records of the segment that was checked last.
+fn send_relocations<W: Write>(
     alloc: Global,
+    writer: &mut W,
     file: &[u8],
     tables: &Module,
     scratch: &Scratch,
-) -> Result<Value, AllocError>
-    ensures { IfOk result (λ v. view v ≡ list (map (relocation_json file.now tables.now scratch.now.held.bytes) scratch.now.held.records)) }
+) -> io::Result<()>
+    ensures { SendsJson result (W.contents writer.old) (W.contents writer.new) (list (map (relocation_json file.now tables.now scratch.now.held.bytes) scratch.now.held.records)) }
 {
+    writer.write_all(b"[")?;
+    let mut line = String::new(alloc);
     let mut sites = Vec::new(alloc);
-    let mut values = Vec::new(alloc);
+    let mut later = false;
     for relocation in scratch.records() {
-        let value = relocation_value(alloc, file, tables, scratch.bytes(), relocation, &mut sites)?;
-        values.push(value)?;
+        line.clear();
+        line.push_str(comma(later))?;
+        push_relocation(
+            &mut line,
+            file,
+            tables,
+            scratch.bytes(),
+            relocation,
+            &mut sites,
+        )?;
+        writer.write_all(line.as_bytes())?;
+        later = true;
     }
-    Ok(Value::Array(values))
+    writer.write_all(b"]")
 }
 
-/// A segment with its records, or with their first fault.
-fn segment_object(
+/// A segment with no records, and their first fault.
+fn segment_value(
     alloc: Global,
     number: usize,
     segment: &Segment,
     fault: Value,
-    records: Value,
 ) -> Result<Value, AllocError>
-    ensures { (items : List Data) → view records ≡ list items → IfOk result (λ v. view v ≡ segment_object number segment.now (view fault) items) }
+    ensures { (d : Data) → view fault ≡ d → IsPlain d → Makes result (segment_object number segment.now d []) }
 {
+    let records = Value::Array(Vec::new(alloc));
     json!(in alloc; {
         "fault": fault,
         "flags": segment.flags.0,
@@ -155,51 +237,84 @@ fn segment_object(
     })
 }
 
-/// A segment by its number, from 1.
-fn segment_value(
+/// Puts a segment that is sound behind a text, up to its records.
+fn push_front(out: &mut String, number: usize, segment: &Segment) -> Result<(), AllocError>
+    ensures text { Adds result (string_bytes out.old) (string_bytes out.new) (segment_front number segment.now) }
+    ensures plain { (records : List Data) → ArePlain (items_of records) → IsPlain (segment_object number segment.now null records) }
+{
+    let (flags, len, size, place) = (segment.flags.0, segment.len, segment.size, segment.place);
+    write!(
+        out,
+        "{{\"fault\":null,\"flags\":{flags},\"length\":{len},\"number\":{number},"
+    )?;
+    write!(out, "\"object\":{size},\"place\":{place},\"relocations\":")
+}
+
+/// Sends a segment by its number, from 1, with its records, or with their first fault.
+fn send_segment<W: Write>(
     alloc: Global,
+    writer: &mut W,
+    later: bool,
     file: &[u8],
     store: &mut MemStore,
     name: &[u8],
     tables: &Module,
     number: usize,
     scratch: &mut Scratch,
-) -> Result<Value, AllocError>
+) -> io::Result<bool>
     requires first { 0 < number }
     requires last { number ≤ length tables.now.segments }
     ensures same { store.new ≡ store.old }
     ensures value { (s : Segment) → IsOpened store.old name.now file.now tables.now
-        → slice_get tables.now.segments (number - 1) ≡ Some s → IfOk result (λ v. view v ≡ segment_said file.now tables.now number s (checked file.now tables.now s)) }
+        → slice_get tables.now.segments (number - 1) ≡ Some s
+        → IfOk result (λ now. PassesOn (W.contents writer.old) (W.contents writer.new) later now (segment_json file.now tables.now number s)) }
 {
     let segment = tables.segment(number);
     match check(store, name, tables, number, scratch) {
         Ok(()) => {
-            let records = relocations_value(alloc, file, tables, scratch)?;
-            segment_object(alloc, number, &segment, Value::Null, records)
+            let mut front = String::from_str(alloc, comma(later))?;
+            push_front(&mut front, number, &segment)?;
+            writer.write_all(front.as_bytes())?;
+            send_relocations(alloc, writer, file, tables, scratch)?;
+            writer.write_all(b"}")?;
+            Ok(true)
         }
         Err(fault) => {
             let word = word_value(alloc, unsound_word(fault))?;
-            segment_object(alloc, number, &segment, word, Value::Array(Vec::new(alloc)))
+            let segment = segment_value(alloc, number, &segment, word)?;
+            send_value(alloc, writer, later, &segment)
         }
     }
 }
 
-/// All segments.
-pub fn segments_value(
+/// Sends all segments.
+pub fn send_segments<W: Write>(
     alloc: Global,
+    writer: &mut W,
     file: &[u8],
     store: &mut MemStore,
     name: &[u8],
     tables: &Module,
     scratch: &mut Scratch,
-) -> Result<Value, AllocError>
+) -> io::Result<()>
     ensures same { store.new ≡ store.old }
     ensures value { IsOpened store.old name.now file.now tables.now
-        → IfOk result (λ v. view v ≡ list (numbered (segment_json file.now tables.now) 1 tables.now.segments)) }
+        → SendsJson result (W.contents writer.old) (W.contents writer.new) (list (numbered (segment_json file.now tables.now) 1 tables.now.segments)) }
 {
-    let mut values = Vec::new(alloc);
+    writer.write_all(b"[")?;
+    let mut later = false;
     for i in 0..tables.segment_count() {
-        values.push(segment_value(alloc, file, store, name, tables, i + 1, scratch)?)?;
+        later = send_segment(
+            alloc,
+            writer,
+            later,
+            file,
+            store,
+            name,
+            tables,
+            i + 1,
+            scratch,
+        )?;
     }
-    Ok(Value::Array(values))
+    writer.write_all(b"]")
 }

@@ -6,7 +6,7 @@ mod entries;
 mod extract;
 mod header;
 mod imports;
-mod json;
+mod json_file;
 mod json_header;
 mod json_segments;
 mod json_tables;
@@ -23,7 +23,7 @@ mod verdict;
 mod words;
 
 pub use extract::Resources;
-pub use json::show_json;
+pub use json_file::show_json;
 pub use parts::Parts;
-pub use text::{Shown, show_text};
+pub use text::show_text;
 pub use verdict::{Unsound, Verdict};

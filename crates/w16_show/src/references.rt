@@ -1,11 +1,12 @@
 //! The lines of the modules that a module refers to.
 ghost use Rattle.std.specs.Prelude.{◌≡◌, string_bytes};
 ghost use Rattle.w16_show.specs.Numbered.{numbered};
-ghost use Rattle.w16_show.specs.Words.{Adds};
+ghost use Rattle.w16_show.specs.Words.{Adds, Sends};
 ghost use Rattle.w16_show.specs.Text.{reference_text};
 
 use crate::bytes::push_escaped;
 use std::alloc::AllocError;
+use std::io::{self, Write};
 use w16_ne::Module;
 
 /// Puts the line of a reference behind a text.
@@ -18,12 +19,18 @@ fn push_reference(out: &mut String, number: usize, name: &[u8]) -> Result<(), Al
     out.push_str("\n")
 }
 
-/// Puts the lines of all references behind a text.
-pub fn push_references(out: &mut String, tables: &Module) -> Result<(), AllocError>
-    ensures { Adds result (string_bytes out.old) (string_bytes out.new) (numbered reference_text 1 tables.now.references) }
+/// Sends the lines of all references. The text is room for one.
+pub fn send_references<W: Write>(
+    writer: &mut W,
+    line: &mut String,
+    tables: &Module,
+) -> io::Result<()>
+    ensures { Sends result (W.contents writer.old) (W.contents writer.new) (numbered reference_text 1 tables.now.references) }
 {
     for i in 0..tables.reference_count() {
-        push_reference(out, i + 1, tables.reference(i + 1))?;
+        line.clear();
+        push_reference(line, i + 1, tables.reference(i + 1))?;
+        writer.write_all(line.as_bytes())?;
     }
     Ok(())
 }

@@ -1,13 +1,14 @@
 //! The lines of relocation records.
 ghost use Rattle.std.specs.Prelude.{◌≡◌, Ok, string_bytes};
 ghost use Rattle.std.specs.List.{flat_map};
-ghost use Rattle.w16_show.specs.Words.{Adds};
+ghost use Rattle.w16_show.specs.Words.{Adds, Sends};
 ghost use Rattle.w16_show.specs.Text.{reference_name, imported_name, target_text, site_text, fixup_text, relocation_text, relocations_text};
 
 use crate::bytes::push_escaped;
 use crate::sites::sites_of;
 use crate::words::part_word;
 use std::alloc::AllocError;
+use std::io::{self, Write};
 use w16_ne::Module;
 use w16_reloc::{Fixup, Record, Scratch, Target};
 
@@ -110,18 +111,21 @@ fn push_relocation(
     }
 }
 
-/// Puts the lines of the records of the segment that was checked last behind a text.
-pub fn push_relocations(
-    out: &mut String,
+/// Sends the lines of the records of the segment that was checked last. The text is room for one.
+pub fn send_relocations<W: Write>(
+    writer: &mut W,
+    line: &mut String,
     file: &[u8],
     tables: &Module,
     scratch: &Scratch,
-) -> Result<(), AllocError>
-    ensures { Adds result (string_bytes out.old) (string_bytes out.new) (relocations_text file.now tables.now (Ok scratch.now.held)) }
+) -> io::Result<()>
+    ensures { Sends result (W.contents writer.old) (W.contents writer.new) (relocations_text file.now tables.now (Ok scratch.now.held)) }
 {
-    let mut sites = Vec::new(*out.allocator());
+    let mut sites = Vec::new(*line.allocator());
     for relocation in scratch.records() {
-        push_relocation(out, file, tables, scratch.bytes(), relocation, &mut sites)?;
+        line.clear();
+        push_relocation(line, file, tables, scratch.bytes(), relocation, &mut sites)?;
+        writer.write_all(line.as_bytes())?;
     }
     Ok(())
 }

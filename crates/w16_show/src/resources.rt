@@ -3,12 +3,13 @@ ghost use Rattle.std.specs.Prelude.{◌≡◌, Some, string_bytes};
 ghost use Rattle.w16_ne.specs.Resources.{Label, Entry, label_of, entry_of};
 ghost use Rattle.w16_ne.specs.Modules.{listed_resources, resource_at};
 ghost use Rattle.w16_show.specs.Numbered.{numbered};
-ghost use Rattle.w16_show.specs.Words.{Adds};
+ghost use Rattle.w16_show.specs.Words.{Adds, Sends};
 ghost use Rattle.w16_show.specs.Text.{label_text, kind_text, labels_text, place_text, resource_words, resource_text};
 
 use crate::bytes::{push_escaped, push_flag};
 use crate::words::kind_word;
 use std::alloc::AllocError;
+use std::io::{self, Write};
 use w16_ne::{Module, Resource, ResourceName};
 
 /// Puts a type or an id behind a text: its number, or its text in quotes.
@@ -103,12 +104,18 @@ fn push_numbered(out: &mut String, tables: &Module, number: usize) -> Result<(),
     }
 }
 
-/// Puts the lines of all resources behind a text.
-pub fn push_resources(out: &mut String, tables: &Module) -> Result<(), AllocError>
-    ensures { Adds result (string_bytes out.old) (string_bytes out.new) (numbered resource_text 1 (listed_resources tables.now.resources)) }
+/// Sends the lines of all resources. The text is room for one.
+pub fn send_resources<W: Write>(
+    writer: &mut W,
+    line: &mut String,
+    tables: &Module,
+) -> io::Result<()>
+    ensures { Sends result (W.contents writer.old) (W.contents writer.new) (numbered resource_text 1 (listed_resources tables.now.resources)) }
 {
     for i in 0..tables.resource_count() {
-        push_numbered(out, tables, i + 1)?;
+        line.clear();
+        push_numbered(line, tables, i + 1)?;
+        writer.write_all(line.as_bytes())?;
     }
     Ok(())
 }

@@ -4,13 +4,14 @@ ghost use Rattle.w16_ne.specs.declared.segment_table.Segment.{Segment};
 ghost use Rattle.w16_reloc.specs.Segments.{checked};
 ghost use Rattle.w16_show.specs.Report.{IsOpened};
 ghost use Rattle.w16_show.specs.Numbered.{numbered};
-ghost use Rattle.w16_show.specs.Words.{Adds};
+ghost use Rattle.w16_show.specs.Words.{Adds, Sends};
 ghost use Rattle.w16_show.specs.Text.{memory_words, segment_words, data_text, object_text, segment_text, whole_segment, relocations_text};
 
 use crate::bytes::push_flag;
-use crate::relocations::push_relocations;
+use crate::relocations::send_relocations;
 use crate::words::unsound_word;
 use std::alloc::AllocError;
+use std::io::{self, Write};
 use w16_ne::{Module, Segment};
 use w16_reloc::{Scratch, check};
 use w16_store::MemStore;
@@ -65,48 +66,55 @@ fn push_line(out: &mut String, number: usize, segment: &Segment) -> Result<(), A
     out.push_str("\n")
 }
 
-/// Puts the records of a segment behind a text, or what isn't sound of them.
-fn push_records(
-    out: &mut String,
+/// Sends the line of a segment, and its records or what isn't sound of them. The text is room for a line.
+fn send_segment<W: Write>(
+    writer: &mut W,
+    line: &mut String,
     file: &[u8],
     store: &mut MemStore,
     name: &[u8],
     tables: &Module,
     number: usize,
     scratch: &mut Scratch,
-) -> Result<(), AllocError>
+) -> io::Result<()>
     requires first { 0 < number }
     requires last { number ≤ length tables.now.segments }
     ensures same { store.new ≡ store.old }
     ensures text { (s : Segment) → IsOpened store.old name.now file.now tables.now
         → slice_get tables.now.segments (number - 1) ≡ Some s
-        → Adds result (string_bytes out.old) (string_bytes out.new) (relocations_text file.now tables.now (checked file.now tables.now s)) }
+        → Sends result (W.contents writer.old) (W.contents writer.new) (whole_segment file.now tables.now number s) }
 {
+    line.clear();
+    push_line(line, number, &tables.segment(number))?;
     match check(store, name, tables, number, scratch) {
-        Ok(()) => push_relocations(out, file, tables, scratch),
+        Ok(()) => {
+            writer.write_all(line.as_bytes())?;
+            send_relocations(writer, line, file, tables, scratch)
+        }
         Err(fault) => {
             let word = unsound_word(fault);
-            writeln!(out, "  {word}")
+            writeln!(line, "  {word}")?;
+            writer.write_all(line.as_bytes())
         }
     }
 }
 
-/// Puts the lines of all segments and of their records behind a text.
-pub fn push_segments(
-    out: &mut String,
+/// Sends the lines of all segments and of their records. The text is room for one.
+pub fn send_segments<W: Write>(
+    writer: &mut W,
+    line: &mut String,
     file: &[u8],
     store: &mut MemStore,
     name: &[u8],
     tables: &Module,
     scratch: &mut Scratch,
-) -> Result<(), AllocError>
+) -> io::Result<()>
     ensures same { store.new ≡ store.old }
     ensures text { IsOpened store.old name.now file.now tables.now
-        → Adds result (string_bytes out.old) (string_bytes out.new) (numbered (whole_segment file.now tables.now) 1 tables.now.segments) }
+        → Sends result (W.contents writer.old) (W.contents writer.new) (numbered (whole_segment file.now tables.now) 1 tables.now.segments) }
 {
     for i in 0..tables.segment_count() {
-        push_line(out, i + 1, &tables.segment(i + 1))?;
-        push_records(out, file, store, name, tables, i + 1, scratch)?;
+        send_segment(writer, line, file, store, name, tables, i + 1, scratch)?;
     }
     Ok(())
 }

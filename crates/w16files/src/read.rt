@@ -4,7 +4,7 @@ use crate::tables::put_tables;
 use crate::words::{Put, put_text};
 use std::alloc::{AllocError, Global};
 use w16_ne::{Module, NeFault, read_module};
-use w16_show::{Parts, Resources, Shown, Verdict, show_json, show_text};
+use w16_show::{Parts, Resources, Verdict, show_json, show_text};
 use w16_store::{FuseStore, MemStore, Store, StoreFault};
 
 /// A store of these bytes.
@@ -25,10 +25,33 @@ fn put_sum_of(out: &mut String, alloc: Global, module: &Module) -> Put {
     write!(out, "{sum:04x}")
 }
 
+/// What is printed of a file.
+#[derive(Drop)]
+pub struct Shown {
+    text: String,
+    verdict: Verdict,
+}
+
+/// What is printed of a file as text, or as JSON.
+pub fn shown(alloc: Global, name: &str, bytes: &[u8], json: bool) -> Result<Shown, AllocError> {
+    let mut text = Vec::new(alloc);
+    let printed = if json {
+        show_json(alloc, &mut text, name, bytes)
+    } else {
+        show_text(alloc, &mut text, name, bytes, Parts::all())
+    };
+    // A vector fails only for want of memory.
+    let Ok(verdict) = printed else {
+        return Err(AllocError);
+    };
+    let text = String::from_utf8_lossy(alloc, &text)?;
+    Ok(Shown { text, verdict })
+}
+
 /// Whether a file's text and its JSON tell its fault, or a verdict where it has none.
 fn is_shown(alloc: Global, bytes: &[u8], fault: Option<NeFault>) -> Result<bool, AllocError> {
-    let text = show_text(alloc, "F", bytes, Parts::all())?;
-    let json = show_json(alloc, "F", bytes)?;
+    let text = shown(alloc, "F", bytes, false)?;
+    let json = shown(alloc, "F", bytes, true)?;
     let (told, begin, text_end, json_end) = match text.verdict {
         Verdict::NotAccepted(e) => (Some(e.fault), "{\"fault\":\"", "", ""),
         Verdict::NotSound(_) => (None, "{\"fault\":null", "", ",\"sound\":false}"),

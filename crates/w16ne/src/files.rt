@@ -2,10 +2,9 @@
 use crate::extract::extract;
 use crate::fault::Fault;
 use crate::options::Options;
-use std::alloc::AllocError;
 use std::fs::File;
 use std::io::{self, BufWriter, Error, ErrorKind, Read, Write};
-use w16_show::{Shown, Verdict, show_json, show_text};
+use w16_show::{Verdict, show_json, show_text};
 
 /// The statuses of a file: it is sound; it can't be read, or what is taken out of it can't be written; it isn't accepted or isn't sound.
 const SOUND: u8 = 0;
@@ -44,20 +43,21 @@ fn name_of(path: &str) -> &str {
     }
 }
 
-/// What is printed of a file.
-fn shown(
+/// Prints a file, and answers the verdict on it.
+fn print(
     rt: &HostRuntime,
     options: &Options<'_>,
     path: &str,
     file: &[u8],
-) -> Result<Shown, AllocError> {
+    writer: &mut impl Write,
+) -> io::Result<Verdict> {
     let name = name_of(path);
-    if options.json {
-        let mut shown = show_json(rt.alloc(), name, file)?;
-        shown.text.push_str("\n")?;
-        return Ok(shown);
+    if !options.json {
+        return show_text(rt.alloc(), writer, name, file, options.parts);
     }
-    show_text(rt.alloc(), name, file, options.parts)
+    let verdict = show_json(rt.alloc(), writer, name, file)?;
+    writer.write_all(b"\n")?;
+    Ok(verdict)
 }
 
 /// The status of a verdict.
@@ -78,6 +78,14 @@ fn unread(rt: &HostRuntime, path: &str, error: io::Error) -> Result<u8, Fault> {
     Ok(UNREAD)
 }
 
+/// Why a file can't be printed.
+fn unprinted(error: &io::Error) -> Fault {
+    match error.kind() {
+        ErrorKind::OutOfMemory => Fault::Memory,
+        _ => Fault::Write,
+    }
+}
+
 /// Prints a file, takes out its resources where this is asked for, and answers its status.
 fn show(
     rt: &HostRuntime,
@@ -90,11 +98,10 @@ fn show(
         Ok(file) => file,
         Err(error) => return unread(rt, path, error),
     };
-    let shown = shown(rt, options, path, &file)?;
-    if writer.write_all(shown.text.as_bytes()).is_err() {
-        return Err(Fault::Write);
-    }
-    let status = status_of(&shown.verdict);
+    let status = match print(rt, options, path, &file, writer) {
+        Ok(verdict) => status_of(&verdict),
+        Err(error) => return Err(unprinted(&error)),
+    };
     match &options.taken {
         None => Ok(status),
         Some(taken) => Ok(status.max(extract(rt, taken, path, &file, left)?)),

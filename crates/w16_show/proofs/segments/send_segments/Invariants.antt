@@ -1,0 +1,11 @@
+use Rattle.std.proofs.Common.{◌≡◌, ◌+◌, drop}
+use Rattle.w16_show.specs.Report.{IsOpened}
+use Rattle.w16_show.specs.Numbered.{numbered}
+use Rattle.w16_show.specs.Text.{whole_segment}
+use Rattle.w16_show.proofs.Sending.{Leaves}
+use Rattle.w16_show.proofs.segments.send_segments.Given as goal
+
+abbrev pub invariant-loop-i : goal.invariant-loop-i
+invariant-loop-i g l =
+    (l.store ≡ l.fn.store) × (IsOpened l.fn.store l.name l.file l.tables
+    → Leaves (g.W.Write.contents l.fn.writer) (g.W.Write.contents l.writer) (numbered (whole_segment l.file l.tables) (l.i + 1) (drop l.i l.tables.segments)) (numbered (whole_segment l.file l.tables) 1 l.tables.segments))
