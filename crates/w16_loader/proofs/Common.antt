@@ -41,7 +41,7 @@ pub use Rattle.w16_loader.specs.declared.closure.Followed.{Followed}
 pub use Rattle.w16_loader.specs.declared.entry.Entry.{Entry}
 pub use Rattle.w16_loader.specs.declared.found.FileFault.TheVariants.{Device, OutOfMemory}
 pub use Rattle.w16_loader.specs.declared.found.FileFault.{FileFault}
-pub use Rattle.w16_loader.specs.declared.found.Found.{Found}
+pub use Rattle.w16_loader.specs.declared.tagged.Found.{Found}
 pub use Rattle.w16_loader.specs.declared.found.Reading.{Reading}
 pub use Rattle.w16_loader.specs.declared.found.Referent.{Referent}
 pub use Rattle.w16_loader.specs.declared.loading.LoadAnswer.{LoadAnswer}

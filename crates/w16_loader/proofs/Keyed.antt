@@ -1,7 +1,8 @@
 -- An entry that comes to a place, or goes from one.
-use Rattle.std.proofs.Common.{◌≡◌, ◌≢◌, ℕ, zero, suc, ◌+◌, ◌<◌, List, [], ◌∷◌, length, get_or, set, replicate, Option, Some, None, is_some, cond, count_by, inl, inr, refl, sym, ap, ◌∙◌, arith, OnSome}
+use Rattle.std.proofs.Common.{◌≡◌, ◌≢◌, ℕ, zero, suc, ◌+◌, ◌<◌, ◌≤◌, List, [], ◌∷◌, length, get_or, set, replicate, Option, Some, None, is_some, cond, count_by, inl, inr, refl, sym, ap, ◌∙◌, arith, OnSome}
 use Rattle.std.proofs.lemmas.List.{get_or-set_same, get_or-set_other, get_or_past, length-map, length-set, map-set, set-get_or}
 use Rattle.std.proofs.lemmas.List.Sums.{sum_by-set, sum_by-cons, count_by-le-length}
+use Rattle.std.proofs.lemmas.Grind.{common_steps}
 use Rattle.std.proofs.{Math.ListN.get_or-map, lemmas.Bool.cases_eq}
 use Rattle.slab.specs.Slab.{Slab, get, ContainsKey, slab_len, HasRoomFor, Updates}
 use Rattle.w16_loader.specs.Places.{under, placed, IsKeyed}
@@ -13,6 +14,9 @@ count_set xs i was now lt e = rw e at (sum_by-set (λ x. cond (is_some x) 1 0) x
 pub none_placed : {T : Type 0} (slab : Slab T) (n : ℕ) → placed slab (replicate n None) ≡ replicate n None
 none_placed slab zero = refl
 none_placed slab (suc n) = ap (λ l. None ∷ l) (none_placed slab n)
+
+pub new_keyed : {T : Type 0} (slab : Slab T) (keys : List (Option ℕ)) (n : ℕ) → keys ≡ replicate n None → slab.slots ≡ [] → n ≤ slab.capacity → IsKeyed slab keys
+new_keyed slab keys n e empty room = grind (arith, common_steps)
 
 -- as many places are taken as have keys
 pub counted : {T : Type 0} (slab : Slab T) (keys : List (Option ℕ)) → ((q k : ℕ) → get_or keys q None ≡ Some k → ContainsKey slab k) → count_by is_some (placed slab keys) ≡ count_by is_some keys

@@ -2,6 +2,7 @@ pub mod Common
 pub mod Fetches
 pub mod Giving
 pub mod Listed
+pub mod NameTags
 pub mod Keyed
 pub mod Registered
 pub mod Uses

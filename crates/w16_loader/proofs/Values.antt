@@ -35,10 +35,9 @@ check_failed before after held (relocs.Store stores.Device) h = h
 check_failed before after held (relocs.Store stores.Missing) h = absurd h
 check_failed before after held (relocs.Store stores.Short) h = absurd h
 
--- The file of a module by its name, and with the tables that the module keeps.
-module _ (files : Files) (m : Module) (file : List ℕ) (t : Tables) (is : C.IsStoredAs files m file t) (name : List ℕ) (named : name ≡ m.file) (u : Tables) (kept : tables_in u ≡ m.tables) where
-  pub stored_there : C.file_of files name ≡ Some file
-  stored_there = ap (C.file_of files) named ∙ is.stored
+-- the file of a module by its name
+pub stored_there : (files : Files) (m : Module) (file : List ℕ) (t : Tables) → C.IsStoredAs files m file t → (name : List ℕ) → name ≡ m.file → C.file_of files name ≡ Some file
+stored_there files m file t is name named = ap (C.file_of files) named ∙ is.stored
 
 -- Records whose names stand in some bytes as in the file point where the file says.
 target_alike : (f g : ℕ → List ℕ) (x : pointing.Target) → IfSome (text_of x) (λ name. f name ≡ g name) → target_by f x ≡ target_by g x

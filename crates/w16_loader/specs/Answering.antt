@@ -6,7 +6,7 @@ use Rattle.w16_loading.specs.{Answers.Answers, Answers.ClosesFrom, Answers.Reads
 use Rattle.w16_format.specs.{Ne.ne_format, Tables.tables_in}
 use specs.Closing.{Files, around_in, found_in, meant_in, referent_of}
 use specs.Following.{LeadsByName, bound_in, number_of_reference}
-use specs.{declared.found.Found.Found, declared.found.Reading.Reading, declared.closure.Closure.Closure, declared.closure.Followed.Followed, Reached.Begins, Reached.IsFoundOf, Naming.IsFit}
+use specs.{declared.tagged.Found.Found, declared.found.Reading.Reading, declared.closure.Closure.Closure, declared.closure.Followed.Followed, Reached.Begins, Reached.IsFoundOf, Naming.IsFit}
 use Rattle.w16_loading.specs.Closure as closing
 use Rattle.w16_ne.specs.Modules as ne
 use Rattle.w16_loader.specs.declared.found.Reading.TheVariants as makes

@@ -6,7 +6,7 @@ use Rattle.w16_reloc.specs.declared.fault.RelocFault.{RelocFault}
 use Rattle.w16_loading.specs.{File.ModuleFile, Modules.Modules, Modules.Named, Modules.handle_named, Modules.free_modules, Closure.Around, Closure.are_sound, Closure.Referent.There, Closure.Referent.New, Closure.Reading.Meant, Closure.Reading.Read}
 use Rattle.w16_format.specs.Ne.{ne_format, module_file, number_of}
 use Rattle.w16_loader.specs.declared.found.FileFault.TheVariants.{Refused, Device, OutOfMemory}
-use Rattle.w16_loader.specs.{declared.found.Found.Found, declared.found.Referent.Referent, declared.found.Reading.Reading, declared.found.FileFault.FileFault}
+use Rattle.w16_loader.specs.{declared.tagged.Found.Found, declared.found.Referent.Referent, declared.found.Reading.Reading, declared.found.FileFault.FileFault}
 use Rattle.std.specs.FinMap as finmap
 use Rattle.w16_store.specs.declared.store.StoreFault.TheVariants as stores
 use Rattle.w16_ne.specs.declared.fault.NeFault.TheVariants as faults

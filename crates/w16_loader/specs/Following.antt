@@ -4,7 +4,7 @@ use Rattle.std.specs.Prelude.{◌≡◌, ◌≤◌, ◌==◌, if◌then◌else�
 use Rattle.w16_loading.specs.{Modules.Modules, Modules.free_modules, Closure.Referent.New, Closure.Reading.Meant}
 use specs.declared.found.FileFault.TheVariants.{Refused, Device, OutOfMemory}
 use specs.Closing.{Files, referent_of, found_in, meant_in}
-use specs.{declared.found.Found.Found, declared.found.FileFault.FileFault, declared.closure.Bound.Bound, declared.closure.Closure.Closure, declared.closure.Followed.Followed}
+use specs.{declared.tagged.Found.Found, declared.found.FileFault.FileFault, declared.closure.Bound.Bound, declared.closure.Closure.Closure, declared.closure.Followed.Followed}
 use Rattle.w16_loading.specs.Closure as closing
 use Rattle.w16_loader.specs.declared.found.Referent as kept
 use Rattle.w16_loader.specs.declared.found.Referent.TheVariants as refers

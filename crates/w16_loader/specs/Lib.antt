@@ -1,5 +1,6 @@
 pub mod Entries
 pub mod Places
+pub mod Tags
 pub mod Registry
 pub mod Closing
 pub mod Following

@@ -1,7 +1,7 @@
 -- What the code of a load has found and reached, as a closure.
 use Rattle.std.specs.Prelude.{◌≡◌, ℕ, List, [], ◌∷◌, map, take, length}
 use Rattle.w16_format.specs.Tables.{tables_in}
-use Rattle.w16_loader.specs.{declared.found.Found.Found, declared.closure.Closure.Closure, Following.left_from, Following.bound_in}
+use Rattle.w16_loader.specs.{declared.tagged.Found.Found, declared.closure.Closure.Closure, Following.left_from, Following.bound_in}
 use Rattle.w16_loading.specs.Closure as closing
 
 -- one module as another, except for what its file says beside its tables

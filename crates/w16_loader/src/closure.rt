@@ -13,8 +13,9 @@ ghost use Rattle.w16_format.specs.Tables.{tables_in};
 ghost use Rattle.w16_loader.specs.Answering.{AreAccepted, ClosesOf, IsAccepted, IsClosureBy, IsRefusedFile, IsRefusedName, LeadsBy, LeadsByAnswer, LeadsTo, RefusesBy, answers_of};
 ghost use Rattle.w16_loader.specs.Reached.{reached_of, closed_of};
 
-use crate::found::{FileFault, Found, Reading, Referent, examine_file, meant};
+use crate::found::{FileFault, Reading, Referent, examine_file, meant};
 use crate::registry::Registry;
+use crate::tagged::{Found, name_tag};
 use std::alloc::{AllocError, Allocator, Global};
 use w16_loading::MOST_MODULES;
 use w16_reloc::Scratch;
@@ -97,7 +98,10 @@ fn follow_file<S: Store, A: Allocator + Copy>(
     match examine_file(alloc, registry, store, found, scratch, file.as_slice()) {
         Err(fault) => Err(fault_of_reference(fault)),
         Ok(Reading::Meant(referent)) => Ok(Followed::Meant(referent)),
-        Ok(Reading::Read(module)) => Ok(Followed::New(Found { file, module })),
+        Ok(Reading::Read(module)) => {
+            let tag = name_tag(module.name());
+            Ok(Followed::New(Found { file, module, tag }))
+        }
     }
 }
 

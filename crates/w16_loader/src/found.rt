@@ -1,5 +1,5 @@
 //! New modules of a load, and what it makes of a name and of a file.
-ghost use Rattle.std.specs.Prelude.{◌≡◌, ◌≤◌, List, ℕ, Some, Ok, Err, true, false, map, option_map, position, IfOk, IfErr, OnOk, All, MatchResult};
+ghost use Rattle.std.specs.Prelude.{◌≡◌, ◌≤◌, ◌==◌, ◌&&◌, List, ℕ, Some, Ok, Err, true, false, map, option_map, position, IfOk, IfErr, OnOk, All, MatchResult};
 ghost use Rattle.w16_store.specs.Names as names;
 ghost use Rattle.w16_store.specs.Files.{file_of};
 ghost use Rattle.w16_ne.specs.Reading.{is_ne_device};
@@ -18,11 +18,12 @@ ghost use Rattle.w16_loader.specs.Closing as loads;
 ghost use Rattle.w16_loader.specs.Closing.{Files, around_in, referent_of, found_in, said, IsRead, IsFault, IsUnsound, IsThere};
 
 use crate::registry::Registry;
+use crate::tagged::{Found, name_tag};
 use std::alloc::{Allocator, Global};
 use thiserror::Error;
 use w16_ne::{Module, NeFault, read_module};
 use w16_reloc::{RelocFault, Scratch, check};
-use w16_store::{Store, StoreFault, is_named};
+use w16_store::{Store, StoreFault};
 
 /// The number of a load whose file isn't there.
 const NO_FILE: u16 = 2;
@@ -32,13 +33,6 @@ const BAD_FILE: u16 = 11;
 
 /// The number of a load for which no handle is left.
 const NO_HANDLE: u16 = 0;
-
-/// A new module of a load: the name of its file, and what that says.
-#[derive(Drop)]
-pub struct Found<A: Allocator = Global> {
-    pub file: Vec<u8, A>,
-    pub module: Module<A>,
-}
 
 /// What a name means to a load.
 #[derive(Clone, Copy, Debug, PartialEq, Eq)]
@@ -64,13 +58,11 @@ pub enum FileFault {
     OutOfMemory,
 }
 
-/// The first new module of a name.
-fn place_named<A: Allocator>(found: &[Found<A>], name: &[u8]) -> Option<usize>
-    ensures { result ≡ position (λ f. names.is_named f.module.name name.now) found.now }
+/// The first new module of a name that has this tag.
+fn place_named<A: Allocator>(found: &[Found<A>], tag: u32, name: &[u8]) -> Option<usize>
+    ensures { result ≡ position (λ f. (f.tag == tag) && names.is_named f.module.name name.now) found.now }
 {
-    found
-        .iter()
-        .position(|found| is_named(found.module.name(), name))
+    found.iter().position(|found| found.is_tagged(tag, name))
 }
 
 /// What a name means to a load, in any case of letters: a module or built-in that is there, else a new module; none where neither has it.
@@ -81,10 +73,11 @@ pub fn meant<A: Allocator>(
 ) -> Option<Referent>
     ensures { (files : Files) → option_map referent_of result ≡ closing.meant (around_in registry.now files) (map (found_in files) found.now) name.now }
 {
-    match registry.handle_of(name) {
+    let tag = name_tag(name);
+    match registry.handle_tagged(tag, name) {
         Some(handle) => Some(Referent::There(handle)),
         None => {
-            let place = place_named(found, name)?;
+            let place = place_named(found, tag, name)?;
             Some(Referent::New(place))
         }
     }

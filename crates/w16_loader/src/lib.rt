@@ -17,18 +17,18 @@ mod segment;
 mod segment_fetch;
 mod segment_work;
 mod table;
+mod tagged;
 
 pub use binding::BindFault;
 pub use closure::{Bound, Closure, Followed, close};
 pub use ending::{free, release_slot};
 pub use entry::{Entry, Loaded, NOWHERE};
 pub use fault::Failure;
-pub use found::{
-    FileFault, Found, Reading, Referent, check_segments, examine_file, meant, read_file,
-};
+pub use found::{FileFault, Reading, Referent, check_segments, examine_file, meant, read_file};
 pub use loading::{LoadAnswer, load};
 pub use naming::NameFault;
 pub use registry::Registry;
 pub use segment_fetch::{SegmentSource, fault_of, fetch, give};
 pub use segment_work::SegmentWork;
 pub use table::SegmentOf;
+pub use tagged::Found;

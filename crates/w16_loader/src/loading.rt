@@ -23,9 +23,10 @@ use crate::closure::{Closure, close};
 use crate::ending::release_modules;
 use crate::fault::Failure;
 use crate::filling::fill_modules;
-use crate::found::{FileFault, Found, Reading, Referent, examine_file};
+use crate::found::{FileFault, Reading, Referent, examine_file};
 use crate::naming::{NameFault, name_modules};
 use crate::registry::Registry;
+use crate::tagged::{Found, name_tag};
 use std::alloc::{AllocError, Allocator, Global};
 use w16_global::Global16;
 use w16_loading::FetchFault;
@@ -203,6 +204,7 @@ fn load_new<S: Store, A: Allocator + Copy>(
     ensures err { OnErr result ((registry.new ≡ registry.old) × (global.new ≡ global.old)) }
 {
     let name = registry.copy_of(file)?;
+    let tag = name_tag(read.name());
     match close(
         alloc,
         registry,
@@ -211,6 +213,7 @@ fn load_new<S: Store, A: Allocator + Copy>(
         Found {
             file: name,
             module: read,
+            tag,
         },
     ) {
         Err(fault) => refuse(fault),

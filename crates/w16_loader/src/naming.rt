@@ -23,9 +23,10 @@ ghost use Rattle.w16_loader.specs.Registry.{in_world};
 use crate::closure::{Bound, Closure};
 use crate::ending::{release_modules, release_slots};
 use crate::entry::Loaded;
-use crate::found::{Found, Referent};
+use crate::found::Referent;
 use crate::registry::Registry;
 use crate::segment::{is_code, segment_kind};
+use crate::tagged::Found;
 use std::alloc::{AllocError, Allocator};
 use std::mem;
 use thiserror::Error;
@@ -172,7 +173,7 @@ fn name_module<A: Allocator + Copy>(
         Ok(slots) => slots,
         Err(fault) => return Err(fault),
     };
-    let Found { file, module } = found;
+    let Found { file, module, .. } = found;
     let loaded = Loaded::new(file, module, uses, slots, Vec::new(alloc), imports);
     match put_module(alloc, registry, global, handle, loaded) {
         Ok(()) => Ok(()),

@@ -14,10 +14,12 @@ ghost use Rattle.w16_loader.specs.Entries.{named_of};
 ghost use Rattle.w16_loader.specs.Naming.{free_handles};
 ghost use Rattle.w16_loader.specs.Registry.{in_world, owner_in, IsLowest};
 ghost use Rattle.w16_loader.specs.Binding.{with_values};
+ghost use Rattle.w16_loader.specs.Tags as tags;
 
 use crate::entry::{Entry, Loaded, NOWHERE};
 use crate::places::Places;
 use crate::table::SegmentOf;
+use crate::tagged::name_tag;
 use crate::{counts, table};
 use std::alloc::{AllocError, Allocator, Global};
 use std::marker::Model;
@@ -34,7 +36,7 @@ pub(crate) const PLACES: usize = (FIRST_MODULE + MOST_MODULES) as usize;
 #[derive(Drop)]
 pub struct Registry<A: Allocator = Global> {
     counts: Vec<u16, A>,
-    entries: Places<Entry<A>, A>,
+    entries: Places<A>,
 }
 
 impl<A: Allocator> Model for Registry<A> {
@@ -97,7 +99,15 @@ impl<A: Allocator> Registry<A> {
     pub fn handle_of(&self, name: &[u8]) -> Option<u16>
         ensures { result ≡ handle_named self.now name.now }
     {
-        table::first_named(&self.entries, name)
+        self.handle_tagged(name_tag(name), name)
+    }
+
+    /// The handle of a name whose tag is given.
+    pub(crate) fn handle_tagged(&self, tag: u32, name: &[u8]) -> Option<u16>
+        requires { tag ≡ tags.name_tag name.now }
+        ensures { result ≡ handle_named self.now name.now }
+    {
+        table::first_named(&self.entries, tag, name)
     }
 
     /// How many modules import what a handle names; a module doesn't count itself.

@@ -4,11 +4,11 @@ ghost use Rattle.w16_loading.specs.Modules.{importers_among, module_in};
 ghost use Rattle.w16_loading.specs.Owner.{segment_among};
 ghost use Rattle.w16_loader.specs.Entries.{named_of};
 ghost use Rattle.w16_loader.specs.Registry.{listed, first_named, owner_in};
+ghost use Rattle.w16_loader.specs.Tags.{name_tag};
 
 use crate::entry::{Entry, Loaded};
 use crate::places::Places;
 use std::alloc::Allocator;
-use w16_store::is_named;
 
 /// A segment of a module: the module's handle, and the segment's number from 1.
 #[derive(Clone, Copy, Debug, PartialEq, Eq)]
@@ -18,10 +18,7 @@ pub struct SegmentOf {
 }
 
 /// Takes a module out of its place; none, and nothing changes, where none is there.
-pub fn take_module<A: Allocator>(
-    entries: &mut Places<Entry<A>, A>,
-    place: usize,
-) -> Option<Box<Loaded<A>, A>>
+pub fn take_module<A: Allocator>(entries: &mut Places<A>, place: usize) -> Option<Box<Loaded<A>, A>>
     ensures found { option_map (λ loaded. loaded.value) result ≡ module_in (option_map named_of (slice_index_or entries.old place None)) }
     ensures gone { OnSome result (entries.new ≡ slice_set entries.old place None) }
     ensures none { IfNone result (entries.new ≡ entries.old) }
@@ -36,15 +33,17 @@ pub fn take_module<A: Allocator>(
     }
 }
 
-/// The first place whose name is this one.
-pub fn first_named<A: Allocator>(entries: &Places<Entry<A>, A>, name: &[u8]) -> Option<u16>
-    requires { length entries.now ≤ 65536 }
+/// The first place whose name is this one, whose tag is given.
+pub fn first_named<A: Allocator>(entries: &Places<A>, tag: u32, name: &[u8]) -> Option<u16>
+    requires few { length entries.now ≤ 65536 }
+    requires tag { tag ≡ name_tag name.now }
     ensures { result ≡ first_named (listed entries.now) name.now }
 {
+    if !entries.has_tag(tag) {
+        return None;
+    }
     for handle in 0..entries.len() {
-        if let Some(entry) = entries.get(handle)
-            && is_named(entry.name(), name)
-        {
+        if entries.is_named_at(handle, tag, name) {
             return Some(handle as u16);
         }
     }
@@ -52,7 +51,7 @@ pub fn first_named<A: Allocator>(entries: &Places<Entry<A>, A>, name: &[u8]) -> 
 }
 
 /// How many modules import what a handle names; a module doesn't count itself.
-pub fn importers<A: Allocator>(entries: &Places<Entry<A>, A>, handle: u16) -> usize
+pub fn importers<A: Allocator>(entries: &Places<A>, handle: u16) -> usize
     ensures many { result ≡ importers_among (listed entries.now) handle }
     ensures few { result ≤ length entries.now }
 {
@@ -69,7 +68,7 @@ pub fn importers<A: Allocator>(entries: &Places<Entry<A>, A>, handle: u16) -> us
 }
 
 /// The segment whose object is in a slot.
-pub fn segment_of<A: Allocator>(entries: &Places<Entry<A>, A>, slot: u16) -> Option<SegmentOf>
+pub fn segment_of<A: Allocator>(entries: &Places<A>, slot: u16) -> Option<SegmentOf>
     requires { length entries.now ≤ 65536 }
     ensures { owner_in result ≡ segment_among (listed entries.now) slot }
 {

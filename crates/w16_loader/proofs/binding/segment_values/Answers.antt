@@ -21,7 +21,7 @@ returns-in-Err-clause-failed g c = λ read s honest is at.
     let stored = stored_as files m read is t c.module.ensures in
     rw c.fault_of_check.ensures.fault
     (segment_refused files m read is t c.module.ensures (c.args.number - 1) s at _ _ c.in-Err.fault
-    (c.in-Err.ensures.exact is.file (found files m read is t c.module.ensures (c.args.number - 1) s at).0 honest (stored_there files m is.file t stored c.file.result.now c.file.ensures t c.module.ensures) stored.read (found files m read is t c.module.ensures (c.args.number - 1) s at).1))
+    (c.in-Err.ensures.exact is.file (found files m read is t c.module.ensures (c.args.number - 1) s at).0 honest (stored_there files m is.file t stored c.file.result.now c.file.ensures) stored.read (found files m read is t c.module.ensures (c.args.number - 1) s at).1))
 
 pub returns-in-Err-record_values-clause-failed : goal.returns-in-Err-record_values-clause-failed
 returns-in-Err-record_values-clause-failed g c = λ read s honest is at. tt
@@ -36,7 +36,7 @@ returns-in-Ok-record_values-clause-any g c = (
       let t = c.module.result.now in
       let stored = stored_as files m read is t c.module.ensures in
       let segment = found files m read is t c.module.ensures (c.args.number - 1) s at in
-      let there = stored_there files m is.file t stored c.file.result.now c.file.ensures t c.module.ensures in
+      let there = stored_there files m is.file t stored c.file.result.now c.file.ensures in
       let passed = c.in-Ok.ensures.exact is.file segment.0 honest there stored.read segment.1 in
       targets_alike _ _ c.check.new.scratch.held.records (c.in-Ok.ensures.names is.file honest there) ∙ sym (targets_are files m read is t c.module.ensures (c.args.number - 1) s at c.check.new.scratch.held passed),
 )

@@ -1,17 +1,21 @@
 -- The key goes from its place, and the entry from the slab.
-use Rattle.std.proofs.Common.{None, get_or, set, sym, ap, ◌∙◌}
+use Rattle.std.proofs.Common.{None, get_or, set, sym, ap, ◌∙◌, subst}
+use Rattle.std.proofs.lemmas.List.{set-get_or}
 use Rattle.w16_loader.proofs.Keyed.{untouched, take_placed, take_keyed}
+use Rattle.w16_loader.proofs.NameTags.{set_tags}
+use Rattle.w16_loader.specs.Tags.{AreTags}
 use Rattle.w16_loader.proofs.places.Places.take.Goals as goal
 
 pub returns-in_err-key-clause-left : goal.returns-in_err-key-clause-left
-returns-in_err-key-clause-left g c = rw (← c.self.view_is) (untouched c.self.invariant c.args.place (ap (λ l. get_or l c.args.place None) (sym c.as_slice.ensures.value) ∙ sym c.key_at.ensures ∙ c.in_err-key.was))
+returns-in_err-key-clause-left g c = rw (← c.self.view_is) (untouched c.self.invariant.0 c.args.place (ap (λ l. get_or l c.args.place None) (sym c.as_slice.ensures.value) ∙ sym c.key_at.ensures ∙ c.in_err-key.was))
 
 pub invariant_of-self : goal.invariant_of-self
 invariant_of-self g c =
     let r = c.try_remove.ensures in
-    take_keyed c.self.invariant c.args.place (ap (λ l. get_or l c.args.place None) (sym c.as_slice.ensures.value) ∙ sym c.key_at.ensures ∙ c.in_ok-key.was) r.updates r.value r.capacity r.len
+    let had = ap (λ l. get_or l c.args.place None) (sym c.as_slice.ensures.value) ∙ sym c.key_at.ensures ∙ c.in_ok-key.was in
+    (take_keyed c.self.invariant.0 c.args.place had r.updates r.value r.capacity r.len, subst (λ es. AreTags es c.self.inside.tags.items) (sym (take_placed c.self.invariant.0 c.args.place had r.updates)) (subst (AreTags _) (set-get_or c.self.inside.tags.items c.args.place 0) (set_tags _ _ c.args.place None _ c.self.invariant.1 tt)))
 
 pub returns-clause-left : goal.returns-clause-left
 returns-clause-left g c =
-    take_placed c.self.invariant c.args.place (ap (λ l. get_or l c.args.place None) (sym c.as_slice.ensures.value) ∙ sym c.key_at.ensures ∙ c.in_ok-key.was) c.try_remove.ensures.updates
+    take_placed c.self.invariant.0 c.args.place (ap (λ l. get_or l c.args.place None) (sym c.as_slice.ensures.value) ∙ sym c.key_at.ensures ∙ c.in_ok-key.was) c.try_remove.ensures.updates
     ∙ ap (λ l. set l c.args.place None) c.self.view_is

@@ -4,4 +4,4 @@ use Rattle.w16_loader.proofs.Keyed.{counted}
 use Rattle.w16_loader.proofs.places.Places.taken.Goals as goal
 
 pub returns : goal.returns
-returns g c = rw (← c.self.view_is) (c.len.ensures ∙ c.self.invariant.many ∙ sym (counted c.self.inside.entries c.self.inside.keys.items c.self.invariant.there))
+returns g c = rw (← c.self.view_is) (c.len.ensures ∙ c.self.invariant.0.many ∙ sym (counted c.self.inside.entries c.self.inside.keys.items c.self.invariant.0.there))
