@@ -82,7 +82,7 @@ fn explain<S: Store + Drop>(
                 "line {number}: no selector is free, or no room as the flags have it"
             ),
         },
-        (_, _, Reply::Fault(FarFault::Limit), Some(Why::Limit(_, last))) => {
+        (_, _, Reply::Fault(FarFault::Limit), Some(Why::Limit(last))) => {
             eprintln!(rt;
                 "line {number}: the last byte that the selector reaches is at offset {last:#x}"
             )

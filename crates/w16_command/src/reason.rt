@@ -16,22 +16,32 @@ fn of_load(number: u16) -> Option<&'static str> {
     }
 }
 
-/// What is said of a call by its reply alone.
+/// What is said of a call by its reply alone, where what it names is there.
 fn of_reply(call: &Call<'_>, reply: &Reply<'_>) -> Option<&'static str> {
     match (*call, *reply) {
         (LoadModule { .. } | LoadLibrary { .. }, Reply::Word(number)) => { of_load(number) }
         (GlobalAlloc { size: 0, .. }, Reply::Word(0)) => Some(
             "a fixed object of size 0, or no selector is free",
         ),
-        (GlobalReAlloc { size: 0, .. }, Reply::Word(0)) => {
+        (GlobalReAlloc { size: 0, .. } | LocalReAlloc { size: 0, .. }, Reply::Word(0)) => {
             Some("a size of 0 needs 0x0002 and a discardable object without locks")
         }
         (GlobalAlloc { size, .. } | GlobalReAlloc { size, .. }, Reply::Word(0))
             if size > LARGEST_SIZE => { Some("more than 16711680 bytes") }
         (GlobalReAlloc { .. }, Reply::Word(0)) => Some("no room to grow, or no selector is free"),
+        (LocalInit { .. }, Reply::Word(0)) => {
+            Some("no such segment or range, or it is code or has a local heap")
+        }
+        (LocalAlloc { .. }, Reply::Word(0)) => {
+            Some("no room, 1024 objects, or a fixed object of size 0")
+        }
+        (LocalReAlloc { .. }, Reply::Word(0)) => Some("no room to grow"),
+        (LocalHandle { .. }, Reply::Word(0)) => Some("no local object begins there"),
         (GetModuleHandle { .. }, Reply::Word(0)) => Some("no module has the name"),
-        (GetProcAddress { .. }, Reply::Dword(0)) => Some("no such module or entry"),
-        (FindResource { .. }, Reply::Word(0)) => Some("no such module or resource"),
+        (GetProcAddress { .. }, Reply::Dword(0)) => Some("no such entry"),
+        (FindResource { .. }, Reply::Word(0)) => Some("no such resource"),
+        (SizeofResource { .. }, Reply::Dword(0)) => Some("no such resource, or an empty one"),
+        (FreeResource { .. }, Reply::Word(1)) => Some("no loaded resource, or locked"),
         _ => None,
     }
 }
@@ -39,13 +49,16 @@ fn of_reply(call: &Call<'_>, reply: &Reply<'_>) -> Option<&'static str> {
 /// What is said of a call, by what the kernel found before it and its reply.
 pub fn reason(call: &Call<'_>, why: Option<Why>, reply: &Reply<'_>) -> Option<&'static str> {
     match why {
-        Some(Why::BadHandle(_)) => Some("bad handle"),
-        Some(Why::BadSelector(_)) => Some("no object has the selector"),
-        Some(Why::Owned(_)) => Some("the object is a module's"),
-        Some(Why::Locked(_)) => Some("locked"),
-        Some(Why::NotDiscardable(_)) => Some("not discardable"),
-        Some(Why::NoBytes(_)) => Some("the object has no bytes"),
-        Some(Why::Limit(_, _)) => None,
+        Some(Why::BadHandle) => Some("bad handle"),
+        Some(Why::BadSelector) => Some("no object has the selector"),
+        Some(Why::BadModule) => Some("no module has the handle"),
+        Some(Why::NoLocalHeap) => Some("DS names no local heap"),
+        Some(Why::BadName) => Some("no local object has the name"),
+        Some(Why::Owned) => Some("the object is a module's"),
+        Some(Why::Locked) => Some("locked"),
+        Some(Why::NotDiscardable) => Some("not discardable"),
+        Some(Why::NoBytes) => Some("the object has no bytes"),
+        Some(Why::Limit(_)) => None,
         None => of_reply(call, reply),
     }
 }

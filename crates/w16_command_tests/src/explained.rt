@@ -27,6 +27,17 @@ GlobalReAlloc r0 0 0
 GlobalAlloc 2 32
 GlobalAlloc 2 32
 LoadLibrary none
+FreeLibrary 33
+LocalAlloc 0 8
+LocalInit 0x107 4 64
+DS 0x107
+LocalSize 6
+LocalAlloc 2 8
+LocalDiscard 2
+LocalLock 2
+LocalFree 2
+LocalAlloc 2 0
+LocalLock 6
 Moved 1";
 
 const EXPLAINED: &str = "line 2: GlobalAlloc takes FLAGS SIZE
@@ -42,12 +53,19 @@ line 15: not discardable
 line 16: a size of 0 needs 0x0002 and a discardable object without locks
 line 18: no selector is free, or no room as the flags have it
 line 19: no such file
-line 20: Moved takes no arguments
+line 20: no module has the handle
+line 21: DS names no local heap
+line 24: no local object has the name
+line 26: not discardable
+line 28: locked
+line 30: the object has no bytes
+line 31: Moved takes no arguments
 ";
 
 const REPLIES: &str =
     "error syntax\n0106\n00000000\n01070000\nerror syntax\n0106\n0000\nerror syntax
-fault limit\nfault selector\nerror syntax\n0000\n0000\n0000\n010e\n0000\n0002\nerror syntax\n";
+fault limit\nfault selector\nerror syntax\n0000\n0000\n0000\n010e\n0000\n0002\n0000\n0000\n0001
+ok\n0000\n0002\n0000\n0004\n0002\n0006\n0000\nerror syntax\n";
 
 /// A text that is read at most that many bytes at once.
 #[derive(Drop)]
@@ -84,11 +102,11 @@ fn ends_so(alloc: Global, explain: bool, at_once: usize, room: &mut [u8]) -> Res
 #[test]
 fn replies_are_written_and_refusals_explained(rt: HostRuntime) -> Result<(), Fail> {
     for (explain, at_once, count) in [
-        (true, 1, 155),
-        (true, 7, 155),
-        (true, 100_000, 155),
-        (false, 100_000, 155),
-        (false, 100_000, 150),
+        (true, 1, 208),
+        (true, 7, 208),
+        (true, 100_000, 208),
+        (false, 100_000, 208),
+        (false, 100_000, 203),
         (true, 7, 20),
     ] {
         let mut room = vec![in rt.alloc(); 0u8; count]?;

@@ -1,57 +1,85 @@
 -- Why calls are refused, by what the world answers to questions.
-use Rattle.std.specs.Prelude.{◌≡◌, ℕ, ◌%◌, ◌<◌, true, false, Option, None, Some}
+use Rattle.std.specs.Prelude.{◌≡◌, ◌%◌, ◌<◌, ℕ, true, false, None, IsNone, IsSome, option_map, unwrap_or}
+use Rattle.std.specs.FinMap as finmap
 use Rattle.w16_model.specs.Calls.{global_flags, global_handle, global_size, has_flag, selector_limit}
-use Rattle.w16_model.specs.Calls.HandleCommand.{GlobalFree, GlobalLock, GlobalUnlock, GlobalSize, GlobalFlags, GlobalHandle, GetSelectorBase, GetSelectorLimit, GlobalLRUNewest, GlobalLRUOldest}
+use Rattle.w16_model.specs.Calls.HandleCommand.{GlobalSize, GlobalFlags, GlobalHandle, GetSelectorBase, GetSelectorLimit}
+use Rattle.w16_model.specs.CallLaws.{handle_in}
+use Rattle.w16_model.specs.Outcomes.Call.{Calls}
 use Rattle.w16_model.specs.Far.FarCommand.{Read, Write, Fill}
-use Rattle.w16_model.specs.Handles.{Handles, selector_in, slot_of_handle}
+use Rattle.w16_model.specs.Handles.{selector_in, slot_of_handle}
 use Rattle.w16_model.specs.Owned.{owns}
 use Rattle.w16_model.specs.declared.TheConstants.{GMEM_DISCARDABLE}
-use Rattle.w16_loading.specs.Families.LoadingCommand.{OfHandles, OfResizes, OfFar}
+use Rattle.w16_loading.specs.Families.LoadingCommand.{OfHandles, OfResizes, OfFar, OfModules, OfResources}
+use Rattle.w16_loading.specs.Families.ModuleCommand.{FreeLibrary, FreeModule, GetModuleUsage, GetProcAddress}
+use Rattle.w16_loading.specs.Families.ResourceCommand.{FindResource, LoadResource, SizeofResource}
 use Rattle.w16_loading.specs.Resizes.ResizeCommand.{GlobalReAlloc, GlobalDiscard}
+use Rattle.w16_machine.specs.Local.{current_heap, object_named}
+use Rattle.w16_machine.specs.LocalCalls.{asked_of, local_flags, local_size}
+use Rattle.w16_machine.specs.LocalCalls.LocalCommand.{LocalInit, DS}
+use Rattle.w16_machine.specs.LocalLaw.{named_by}
 use Rattle.w16_machine.specs.Machine.{Command}
-use Rattle.w16_machine.specs.Machine.Command.{OfLoading}
+use Rattle.w16_machine.specs.Machine.Command.{OfLoading, OfLocals}
+use Rattle.w16_machine.specs.World.{World}
+use Rattle.w16_machine.specs.declared.local.TheConstants.{LMEM_DISCARDABLE}
 use Rattle.w16_kernel.specs.declared.kernel.why.Why.{Why}
 use Rattle.w16_kernel.specs.declared.kernel.why.Why.TheVariants as why
 
--- a reason holds of these handles
-abbrev pub IsWhy : Handles → Why → Type 0
-IsWhy handles (why.BadHandle handle) = slot_of_handle handles handle ≡ None
-IsWhy handles (why.BadSelector selector) = global_handle handles selector ≡ 0
-IsWhy handles (why.Owned handle) = owns handles handle ≡ true
-IsWhy handles (why.Locked handle) = 0 < global_flags handles handle % 256
-IsWhy handles (why.NotDiscardable handle) = has_flag (global_flags handles handle) GMEM_DISCARDABLE ≡ false
-IsWhy handles (why.NoBytes handle) = global_size handles handle ≡ 0
-IsWhy handles (why.Limit selector last) = selector_limit handles selector ≡ last
+-- what a command names, by which it may be refused
+pub data Subject : Type 0 where
+  Object : (handle : ℕ) → Subject
+  Selector : (selector : ℕ) → Subject
+  Module : (handle : ℕ) → Subject
+  LocalHeap : Subject
+  LocalObject : (name : ℕ) → Subject
+  Other : Subject
 
--- the handle by which a command names a global object, if it names one so
-abbrev pub handle_asked : Command → Option ℕ
-handle_asked (OfLoading (OfHandles (GlobalFree handle))) = Some handle
-handle_asked (OfLoading (OfHandles (GlobalLock handle))) = Some handle
-handle_asked (OfLoading (OfHandles (GlobalUnlock handle))) = Some handle
-handle_asked (OfLoading (OfHandles (GlobalSize handle))) = Some handle
-handle_asked (OfLoading (OfHandles (GlobalFlags handle))) = Some handle
-handle_asked (OfLoading (OfHandles (GlobalLRUNewest handle))) = Some handle
-handle_asked (OfLoading (OfHandles (GlobalLRUOldest handle))) = Some handle
-handle_asked (OfLoading (OfResizes (GlobalReAlloc handle size flags))) = Some handle
-handle_asked (OfLoading (OfResizes (GlobalDiscard handle))) = Some handle
-handle_asked command = None
+abbrev pub subject_of : Command → Subject
+subject_of (OfLoading (OfHandles (GlobalSize handle))) = Object handle
+subject_of (OfLoading (OfHandles (GlobalFlags handle))) = Object handle
+subject_of (OfLoading (OfResizes (GlobalReAlloc handle size flags))) = Object handle
+subject_of (OfLoading (OfResizes (GlobalDiscard handle))) = Object handle
+subject_of (OfLoading (OfHandles (GlobalHandle selector))) = Selector selector
+subject_of (OfLoading (OfHandles (GetSelectorBase selector))) = Selector selector
+subject_of (OfLoading (OfHandles (GetSelectorLimit selector))) = Selector selector
+subject_of (OfLoading (OfHandles command)) = unwrap_or (option_map Object (handle_in (Calls command))) Other
+subject_of (OfLoading (OfFar (Read pointer count))) = Selector (selector_in pointer)
+subject_of (OfLoading (OfFar (Write pointer bytes))) = Selector (selector_in pointer)
+subject_of (OfLoading (OfFar (Fill pointer count byte))) = Selector (selector_in pointer)
+subject_of (OfLoading (OfModules (FreeLibrary handle))) = Module handle
+subject_of (OfLoading (OfModules (FreeModule handle))) = Module handle
+subject_of (OfLoading (OfModules (GetModuleUsage handle))) = Module handle
+subject_of (OfLoading (OfModules (GetProcAddress handle label))) = Module handle
+subject_of (OfLoading (OfResources (FindResource handle name kind))) = Module handle
+subject_of (OfLoading (OfResources (LoadResource handle place))) = Module handle
+subject_of (OfLoading (OfResources (SizeofResource handle place))) = Module handle
+subject_of (OfLoading command) = Other
+subject_of (OfLocals (LocalInit selector start end)) = Other
+subject_of (OfLocals (DS selector)) = Other
+subject_of (OfLocals command) = unwrap_or (option_map LocalObject (named_by command)) LocalHeap
 
--- the selector by which it names one
-abbrev pub selector_asked : Command → Option ℕ
-selector_asked (OfLoading (OfHandles (GlobalHandle selector))) = Some selector
-selector_asked (OfLoading (OfHandles (GetSelectorBase selector))) = Some selector
-selector_asked (OfLoading (OfHandles (GetSelectorLimit selector))) = Some selector
-selector_asked (OfLoading (OfFar (Read pointer count))) = Some (selector_in pointer)
-selector_asked (OfLoading (OfFar (Write pointer bytes))) = Some (selector_in pointer)
-selector_asked (OfLoading (OfFar (Fill pointer count byte))) = Some (selector_in pointer)
-selector_asked command = None
+-- a reason holds in a world, of what a call names
+abbrev pub IsWhy : World → Subject → Why → Type 0
+IsWhy w (Object handle) why.BadHandle = slot_of_handle w.loading.handles handle ≡ None
+IsWhy w (Object handle) why.Owned = owns w.loading.handles handle ≡ true
+IsWhy w (Object handle) why.Locked = 0 < global_flags w.loading.handles handle % 256
+IsWhy w (Object handle) why.NotDiscardable = has_flag (global_flags w.loading.handles handle) GMEM_DISCARDABLE ≡ false
+IsWhy w (Object handle) why.NoBytes = global_size w.loading.handles handle ≡ 0
+IsWhy w (Selector selector) why.BadSelector = global_handle w.loading.handles selector ≡ 0
+IsWhy w (Selector selector) (why.Limit last) = selector_limit w.loading.handles selector ≡ last
+IsWhy w (Module handle) why.BadModule = finmap.get w.loading.modules handle ≡ None
+IsWhy w LocalHeap why.NoLocalHeap = IsNone (current_heap w)
+IsWhy w (LocalObject name) why.NoLocalHeap = IsNone (current_heap w)
+IsWhy w (LocalObject name) why.BadName = IsNone (object_named w name)
+IsWhy w (LocalObject name) why.Locked = 0 < asked_of w name local_flags % 256
+IsWhy w (LocalObject name) why.NotDiscardable = has_flag (asked_of w name local_flags) LMEM_DISCARDABLE ≡ false
+IsWhy w (LocalObject name) why.NoBytes = asked_of w name local_size ≡ 0
+IsWhy w subject reason = ⊥
 
--- A reason is of the handle or selector that the command names.
-abbrev pub IsAsked : Command → Why → Type 0
-IsAsked command (why.BadHandle handle) = handle_asked command ≡ Some handle
-IsAsked command (why.BadSelector selector) = selector_asked command ≡ Some selector
-IsAsked command (why.Owned handle) = handle_asked command ≡ Some handle
-IsAsked command (why.Locked handle) = handle_asked command ≡ Some handle
-IsAsked command (why.NotDiscardable handle) = handle_asked command ≡ Some handle
-IsAsked command (why.NoBytes handle) = handle_asked command ≡ Some handle
-IsAsked command (why.Limit selector last) = selector_asked command ≡ Some selector
+-- What a call names is there; of a selector something is always told.
+abbrev pub IsThere : World → Subject → Type 0
+IsThere w (Object handle) = IsSome (slot_of_handle w.loading.handles handle)
+IsThere w (Selector selector) = ⊥
+IsThere w (Module handle) = IsSome (finmap.get w.loading.modules handle)
+IsThere w LocalHeap = IsSome (current_heap w)
+IsThere w (LocalObject name) = IsSome (object_named w name)
+IsThere w Other = Unit {0}

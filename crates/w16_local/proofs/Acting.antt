@@ -30,7 +30,7 @@ pub may_lent : {handles : Handles} {tables : FinMap nat_cmp Table} {slot : ℕ} 
 may_lent {handles} {tables} {slot} {so} may t is =
     let both : ◌≡◌ {A = Option Table} (Some may.table) (Some t) = sym may.was ∙ is in
     let same : may.table ≡ t = cc in
-    subst (λ (b : Option (List ℕ)). IsSomeAnd b (so t)) (sym may.had) (subst (λ (t : Table). so t may.bytes) same may.may)
+    rw may.had (rw same at may.may)
 
 -- and what was done there
 pub acted_in : {handles : Handles} {tables : FinMap nat_cmp Table} {slot : ℕ} {does : Table → List ℕ → Table → List ℕ → Type 0} (t s : Table) → finmap.get tables slot ≡ Some t → IsLocalTable s
@@ -48,7 +48,7 @@ acted_same {handles} {next} {tables} {new} {slot} a table bytes =
 pub held_here : {so : World → LocalHeap → World → Type 0} {handles next : Handles} {tables new : FinMap nat_cmp Table} {ds slot : ℕ} {t : Table} (is : IsIn handles tables ds slot t) → InSlot handles tables slot next new so → (rest : World)
     → so (with_parts rest handles tables ds) (in_slot t is.bytes slot) (with_parts rest next new ds)
 held_here {so} {handles} {next} {tables} {new} {ds} {slot} {t} is s rest =
-    subst (λ (p : Table × List ℕ). so (with_parts rest handles tables ds) (in_slot p.0 p.1 slot) (with_parts rest next new ds)) (λ i. (same_table i, same_bytes i)) (s.holds rest ds)
+    rw (same_table, same_bytes) at (s.holds rest ds)
   where
     same_table : s.table ≡ t
     same_table = let both : ◌≡◌ {A = Option Table} (Some s.table) (Some t) = sym s.was ∙ is.kept in cc
@@ -62,8 +62,7 @@ may_in is act may = record { table = _; bytes = is.bytes; was = is.kept; had = i
 
 -- and the bytes that were lent for it are those of that heap
 pub lent_in : {old : Global} {tables : FinMap nat_cmp Table} {ds slot : ℕ} {t : Table} (is : IsIn old.handles tables ds slot t) (new : Global) → IsLent old slot new → IsLentOnce old tables ds new
-lent_in {old} {tables} {ds} is new lent = inr (subst (λ (m : Option LocalHeap). IsSomeAnd m (λ at. new.written ≡ counted old.written (length at.bytes))) (sym is.is_current)
-    (subst (λ (m : Option (List ℕ)). IsSomeAnd m (λ bytes. new.written ≡ counted old.written (length bytes))) is.had lent))
+lent_in is new lent = inr (rw is.is_current (rw is.had at lent))
 
 -- Their segment stays as long,
 pub once_in : (old new : Global) {tables left : FinMap nat_cmp Table} {slot : ℕ} {does : Table → List ℕ → Table → List ℕ → Type 0} (a : ActedIn old.handles tables slot does new.handles left)
@@ -71,8 +70,8 @@ pub once_in : (old new : Global) {tables left : FinMap nat_cmp Table} {slot : �
 once_in old new {slot = slot} a lent =
     let o : (o : Object) × (object_at old.handles.heap slot ≡ Some o) × (o.bytes ≡ Some a.bytes) = object_of old.handles.heap slot a.bytes a.had in
     let now : bytes_at new.handles.heap slot ≡ Some a.after = ap (λ (h : Handles). bytes_at h.heap slot) a.rest.1 ∙ ap bytes_in (segment_after old.handles.heap slot o.0 o.1 a.bytes o.2 a.after a.long) in (
-      subst (λ (b : Option (List ℕ)). IsSomeAnd b (λ bytes. length bytes ≡ length a.bytes)) (sym now) a.long,
-      subst (λ (b : Option (List ℕ)). IsSomeAnd b (λ bytes. new.written ≡ counted old.written (length bytes))) a.had lent,
+      rw now a.long,
+      rw a.had at lent,
     )
 
 -- in whatever world has these parts.
@@ -83,7 +82,7 @@ once_slot old new a lent = record { table = a.before; bytes = a.bytes; was = a.w
 -- What is written for a request is written in the heap that DS names, where it may have grown,
 module _ {old : Global} {tables : FinMap nat_cmp Table} {ds slot : ℕ} {t : Table} (is : IsIn old.handles tables ds slot t) (new : Global) (flags size : ℕ) (is_for : LocalHeap → ℕ → Type 0) where
   written_in : WritesFor is_for flags size (alone old.handles tables ds) old.written new.handles new.written (in_slot t is.bytes slot) → IsLentOrGrown is_for flags size old tables ds new
-  written_in so = inr (subst (λ (m : Option LocalHeap). IsSomeAnd m (WritesFor is_for flags size (alone old.handles tables ds) old.written new.handles new.written)) (sym is.is_current) so)
+  written_in so = inr (rw is.is_current so)
 
   pub served_in : {left : FinMap nat_cmp Table} (kind : Option Kind) (id : ℕ) → is_for (in_slot t is.bytes slot) id → 0 < size
       → InSlot old.handles tables slot new.handles left (λ before at after. WritesServed (record { id = id; size = rounded_up size; kind = kind; options = local_options flags }) before at old.written after.loading.handles new.written)
@@ -116,7 +115,7 @@ module _ {handles : Handles} {tables : FinMap nat_cmp Table} {ds slot : ℕ} {t 
   same_bytes = let both : ◌≡◌ {A = Option (List ℕ)} (Some a.bytes) (Some is.bytes) = sym a.had ∙ is.had in cc
 
   acted : Acted act t is.bytes answer a.table a.after
-  acted = subst (λ (p : Table × List ℕ). Acted act p.0 p.1 answer a.table a.after) (λ i. (same_table i, same_bytes i)) a.does.1.0
+  acted = rw (same_table, same_bytes) at a.does.1.0
 
   abbrev old : World
   old = with_parts rest handles tables ds

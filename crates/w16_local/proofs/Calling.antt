@@ -36,7 +36,7 @@ resize id size flags = record { id = id; size = rounded_up size; kind = None; op
 
 -- bytes are given up
 gives_up : {old new : World} {at : LocalHeap} (r : Result Heap Refusal) (taken refused : ℕ) → Acts old at (λ next. r ≡ Ok next) new → GivesUp old at r taken refused taken new
-gives_up {old} {new} {at} r taken refused a = subst (λ r. GivesUp old at r taken refused taken new) (sym a.acted) (refl, acts_as (λ next. next ≡ heap_in a.table a.bytes) a refl)
+gives_up r taken refused a = rw a.acted (refl, acts_as _ a refl)
 
 gives_none : (old : World) (at : LocalHeap) (r : Result Heap Refusal) (taken refused : ℕ) → is_ok r ≡ false → GivesUp old at r taken refused refused old
 gives_none old at (Ok heap) taken refused e = absurd (false≢true (sym e))
@@ -48,18 +48,14 @@ module _ {handles : Handles} {tables : FinMap nat_cmp Table} {ds name slot : ℕ
 
   -- LocalFree
   pub free_calls : {answer : ℕ} {next : Handles} {new : FinMap nat_cmp Table} → ActedIn handles tables slot (DoesAct (Free id) answer) next new → Calls handles tables ds (LocalFree name) 0 next new
-  free_calls {answer} {next} {new} a rest =
-      on_named n rest name 0 (with_parts rest next new ds) (λ o. GivesUp (with_parts rest handles tables ds) o.heap (after_free (heap_of o.heap) o.id) 0 name 0 (with_parts rest next new ds)) (elim (acting.outcome n.heap a rest) [
+  free_calls a rest =
+      on_named n rest _ _ _ _ (elim (acting.outcome n.heap a rest) [
         | inl same ↦ absurd same.0
         | inr acts ↦ gives_up (after_free before id) 0 name acts
       ])
 
   pub free_refused : is_ok (after_free before id) ≡ false → Calls handles tables ds (LocalFree name) name handles tables
-  free_refused e rest =
-      on_named n rest name name (with_parts rest handles tables ds)
-      (λ o. GivesUp (with_parts rest handles tables ds) o.heap (after_free (heap_of o.heap) o.id) 0 name name
-      (with_parts rest handles tables ds)) (gives_none (with_parts rest handles tables ds)
-      (record { slot = slot; table = t; bytes = n.heap.bytes }) (after_free before id) 0 name e)
+  free_refused e rest = on_named n rest _ _ _ _ (gives_none _ _ (after_free before id) 0 name e)
 
   -- LocalReAlloc
   module _ (size flags : ℕ) where
@@ -69,14 +65,10 @@ module _ {handles : Handles} {tables : FinMap nat_cmp Table} {ds name slot : ℕ
     abbrev Sizes : World → ℕ → World → LocalObject → Type 0
     Sizes old answer new o = MatchBool (size == 0) (DiscardsObject old name flags answer new o) (SizesObject old size flags answer new o)
 
-    abbrev Case : World → ℕ → World → LocalObject → Type 0
-    Case old answer new o = MatchBool (has_flag flags LMEM_MODIFY) (ModifiesObject old name flags answer new o) (Sizes old answer new o)
-
     pub modify_calls : has_flag flags LMEM_MODIFY ≡ true → {X : Type 0} (r : Result X Refusal) (new : FinMap nat_cmp Table) → Stepped tables slot (λ a b. after_modify a id (moveable_or_discardable flags) ≡ outcome r b) new → OnErr r (new ≡ tables)
         → Calls handles tables ds (LocalReAlloc name size flags) name handles new
-    modify_calls f r new s same rest = on_named n rest 0 name (with_parts rest handles new ds) (Case (with_parts rest handles tables ds) name (with_parts rest handles new ds))
-        (subst (λ b. MatchBool b (ModifiesObject (with_parts rest handles tables ds) name flags name (with_parts rest handles new ds) named_object) (Sizes (with_parts rest handles tables ds) name (with_parts rest handles new ds) named_object)) (sym f)
-        (leaves n rest (λ h. after_modify h id (moveable_or_discardable flags)) r new s same (λ _. name) (λ _. name) name (told r)))
+    modify_calls f r new s same rest = on_named n rest _ _ _ _
+        (rw f (leaves n rest (λ h. after_modify h id (moveable_or_discardable flags)) r new s same (λ _. name) (λ _. name) name (told r)))
       where
         told : {X : Type 0} (r : Result X Refusal) → name ≡ answer_of r name (λ _. name)
         told (Ok x) = refl
@@ -84,13 +76,11 @@ module _ {handles : Handles} {tables : FinMap nat_cmp Table} {ds name slot : ℕ
 
     module _ (f : has_flag flags LMEM_MODIFY ≡ false) (answer : ℕ) (next : Handles) (new : FinMap nat_cmp Table) where
       not_modified : ((rest : World) → Sizes (with_parts rest handles tables ds) answer (with_parts rest next new ds) named_object) → Calls handles tables ds (LocalReAlloc name size flags) answer next new
-      not_modified so rest = on_named n rest 0 answer (with_parts rest next new ds) (Case (with_parts rest handles tables ds) answer (with_parts rest next new ds))
-          (subst (λ b. MatchBool b (ModifiesObject (with_parts rest handles tables ds) name flags answer (with_parts rest next new ds) named_object) (Sizes (with_parts rest handles tables ds) answer (with_parts rest next new ds) named_object)) (sym f) (so rest))
+      not_modified so rest = on_named n rest _ _ _ _ (rw f (so rest))
 
       pub resize_calls : 0 < size → InSlot handles tables slot next new (λ old at left. Served (resize id size flags) old at answer left) → Calls handles tables ds (LocalReAlloc name size flags) answer next new
       resize_calls some s = not_modified (λ rest.
-          subst (λ b. MatchBool b (DiscardsObject (with_parts rest handles tables ds) name flags answer (with_parts rest next new ds) named_object) (SizesObject (with_parts rest handles tables ds) size flags answer (with_parts rest next new ds) named_object))
-          (sym (ne_eqb size 0 (λ e. absurd (omega (arith, e, some)))))
+          rw (ne_eqb size 0 (λ e. absurd (omega (arith, e, some))))
           (elim (acting.held_here n.heap s rest) [
             | inl acts ↦ inl (sizes (heap_of named_object.heap) acts)
             | inr r ↦ inr (
@@ -107,32 +97,20 @@ module _ {handles : Handles} {tables : FinMap nat_cmp Table} {ds name slot : ℕ
 
       module _ (none : size ≡ 0) where
         of_none : ((rest : World) → DiscardsObject (with_parts rest handles tables ds) name flags answer (with_parts rest next new ds) named_object) → Calls handles tables ds (LocalReAlloc name size flags) answer next new
-        of_none so = not_modified (λ rest.
-            subst (λ b. MatchBool b (DiscardsObject (with_parts rest handles tables ds) name flags answer (with_parts rest next new ds) named_object) (SizesObject (with_parts rest handles tables ds) size flags answer (with_parts rest next new ds) named_object))
-            (sym (eq-eqb size 0 none)) (so rest))
-
-        asked_to : (b : Bool) → has_flag flags LMEM_MOVEABLE ≡ b →
-            ((rest : World) → MatchBool b (GivesUp (with_parts rest handles tables ds) named_object.heap
-            (after_discard before id) name 0 answer (with_parts rest next new ds))
-            (Stays (with_parts rest handles tables ds) 0 answer (with_parts rest next new ds)))
-            → Calls handles tables ds (LocalReAlloc name size flags) answer next new
-        asked_to b m so = of_none (λ rest. subst (λ b. MatchBool b
-            (GivesUp (with_parts rest handles tables ds) named_object.heap (after_discard before id) name 0 answer
-            (with_parts rest next new ds)) (Stays (with_parts rest handles tables ds) 0 answer
-            (with_parts rest next new ds))) (sym m) (so rest))
+        of_none so = not_modified (λ rest. rw (eq-eqb size 0 none) (so rest))
 
     module _ (f : has_flag flags LMEM_MODIFY ≡ false) (none : size ≡ 0) where
       pub discard_calls : has_flag flags LMEM_MOVEABLE ≡ true → {answer : ℕ} {next : Handles} {new : FinMap nat_cmp Table} → ActedIn handles tables slot (DoesAct (Discard id) answer) next new → Calls handles tables ds (LocalReAlloc name size flags) name next new
-      discard_calls m {answer} {next} {new} a = asked_to f name next new none true m (λ rest. elim (acting.outcome n.heap a rest) [
+      discard_calls m a = of_none f _ _ _ none (λ rest. rw m (elim (acting.outcome n.heap a rest) [
         | inl same ↦ absurd same.0
         | inr acts ↦ gives_up (after_discard before id) name 0 acts
-      ])
+      ]))
 
       pub discard_refused : has_flag flags LMEM_MOVEABLE ≡ true → is_ok (after_discard before id) ≡ false → Calls handles tables ds (LocalReAlloc name size flags) 0 handles tables
-      discard_refused m e = asked_to f 0 handles tables none true m (λ rest. gives_none (with_parts rest handles tables ds) named_object.heap (after_discard before id) name 0 e)
+      discard_refused m e = of_none f _ _ _ none (λ rest. rw m (gives_none _ _ (after_discard before id) name 0 e))
 
       pub discard_unasked : has_flag flags LMEM_MOVEABLE ≡ false → Calls handles tables ds (LocalReAlloc name size flags) 0 handles tables
-      discard_unasked m = asked_to f 0 handles tables none false m (λ rest. (refl, refl))
+      discard_unasked m = of_none f _ _ _ none (λ rest. rw m (refl, refl))
 
 -- a size in whole grains may be asked for
 pub rounded_size : (size n : ℕ) → n ≡ rounded_up size → 0 < size → IsSize n
@@ -161,7 +139,7 @@ module _ {handles : Handles} {tables : FinMap nat_cmp Table} {ds slot : ℕ} {t 
 
   module _ (flags size : ℕ) where
     alloc_in : (answer : ℕ) (next : Handles) (new : FinMap nat_cmp Table) → ((rest : World) → AllocatesIn (with_parts rest handles tables ds) flags size answer (with_parts rest next new ds) here) → Calls handles tables ds (LocalAlloc flags size) answer next new
-    alloc_in answer next new so rest = subst (λ (c : Option LocalHeap). MatchOption c (Stays (with_parts rest handles tables ds) 0 answer (with_parts rest next new ds)) (AllocatesIn (with_parts rest handles tables ds) flags size answer (with_parts rest next new ds))) (sym is.is_current) (so rest)
+    alloc_in answer next new so rest = rw is.is_current (so rest)
 
     pub alloc_full : IsFull t → Calls handles tables ds (LocalAlloc flags size) 0 handles tables
     alloc_full full = alloc_in 0 handles tables (λ rest. inl (inr (λ q free. full q free.0 (no_entry q free.1)), (refl, refl)))
@@ -180,10 +158,7 @@ module _ {handles : Handles} {tables : FinMap nat_cmp Table} {ds slot : ℕ} {t 
       }
 
       makes : 0 < size → {answer : ℕ} {old left : World} {at : LocalHeap} → Acts old at (Done (Alloc id (rounded_up size) (local_kind flags) (local_options flags)) (heap_of at) answer) left → MakesObject old at flags size id answer left
-      makes some {answer} {old} {left} {at} acts =
-          subst (λ b. MatchBool b ((h : Heap) × EntersObject (heap_of at) flags id answer h × Becomes old at h left) (Acts old at (AllocatesObject (heap_of at) flags size id answer) left))
-          (sym (ap (λ b. b && has_flag flags LMEM_MOVEABLE) (ne_eqb size 0 (λ e. absurd (omega (arith, e, some))))))
-          (acts_as (AllocatesObject (heap_of at) flags size id answer) acts (record { allocated = acts.acted.0; named = acts.acted.1 }))
+      makes some acts = rw (ne_eqb size 0 (λ e. absurd (omega (arith, e, some)))) (acts_as _ acts (record { allocated = acts.acted.0; named = acts.acted.1 }))
 
       pub alloc_calls : 0 < size → {answer : ℕ} {next : Handles} {new : FinMap nat_cmp Table} → InSlot handles tables slot next new (λ old at left. Served (make id size flags) old at answer left) → Calls handles tables ds (LocalAlloc flags size) answer next new
       alloc_calls some {answer} {next} {new} s = alloc_in answer next new (λ rest. inr (
@@ -252,20 +227,13 @@ module _ {handles : Handles} {tables : FinMap nat_cmp Table} {ds slot : ℕ} {t 
           enter_calls = alloc_in (4 * id + 2) handles new (λ rest. inr (
             id,
             is_lowest,
-            inl (subst (λ b. MatchBool b ((h : Heap) × EntersObject heap flags id (4 * id + 2) h × Becomes
-                (with_parts rest handles tables ds) here h (with_parts rest handles new ds))
-                (Acts (with_parts rest handles tables ds) here (AllocatesObject heap flags size id (4 * id + 2))
-                (with_parts rest handles new ds)))
-                (sym (ap (λ b. b && has_flag flags LMEM_MOVEABLE) (eq-eqb size 0 none) ∙ m))
+            inl (rw (eq-eqb size 0 none, m)
                 (made, record { entered = record { unused = no_object id lowest.free; entered = entered ∙ ap (λ (k : Kind). with_object heap id (record { kind = k; locks = 0; bytes = None })) kind_is }; named = named }, becomes rest)),
           ))
 
 -- where DS names no heap
 pub alloc_none : (handles : Handles) (tables : FinMap nat_cmp Table) (ds flags size : ℕ) → current_heap (alone handles tables ds) ≡ None → Calls handles tables ds (LocalAlloc flags size) 0 handles tables
-alloc_none handles tables ds flags size none rest = subst
-    (λ (c : Option LocalHeap). MatchOption c (Stays (with_parts rest handles tables ds) 0 0
-    (with_parts rest handles tables ds)) (AllocatesIn (with_parts rest handles tables ds) flags size 0
-    (with_parts rest handles tables ds))) (sym none) (refl, refl)
+alloc_none handles tables ds flags size none rest = rw none (refl, refl)
 
 -- what a bad name leaves
 pub free_none : (handles : Handles) (tables : FinMap nat_cmp Table) (ds name : ℕ) → object_named (alone handles tables ds) name ≡ None → Calls handles tables ds (LocalFree name) name handles tables
@@ -277,20 +245,10 @@ realloc_none handles tables ds name size flags = none_calls handles tables ds na
 -- LocalCompact
 pub compact_calls : {handles : Handles} {tables : FinMap nat_cmp Table} {ds slot : ℕ} {t : Table} (is : IsIn handles tables ds slot t) (size : ℕ) {answer : ℕ} {next : Handles} {new : FinMap nat_cmp Table} → ActedIn handles tables slot (DoesAct (Compact size) answer) next new
     → Calls handles tables ds (LocalCompact size) answer next new
-compact_calls {handles} {tables} {ds} {slot} {t} is size {answer} {next} {new} a rest =
-    subst (λ (c : Option LocalHeap). MatchOption c (Stays (with_parts rest handles tables ds) 0 answer (with_parts rest next new ds)) (CompactsIn (with_parts rest handles tables ds) size answer (with_parts rest next new ds))) (sym is.is_current)
-    (elim (acting.outcome is a rest) [
-      | inl same ↦ subst (λ b. MatchBool b (Stays (with_parts rest handles tables ds) (most_room (heap_in t is.bytes))
-          answer (with_parts rest next new ds)) (Acts (with_parts rest handles tables ds)
-          (record { slot = slot; table = t; bytes = is.bytes }) (MakesRoom (heap_in t is.bytes) size answer)
-          (with_parts rest next new ds)))
-          (sym (eq-eqb size 0 same.0.0)) (same.0.1, same.1)
-      | inr acts ↦ subst (λ b. MatchBool b (Stays (with_parts rest handles tables ds) (most_room (heap_in t is.bytes))
-          answer (with_parts rest next new ds)) (Acts (with_parts rest handles tables ds)
-          (record { slot = slot; table = t; bytes = is.bytes }) (MakesRoom (heap_in t is.bytes) size answer)
-          (with_parts rest next new ds)))
-          (sym (ne_eqb size 0 (λ e. absurd (let some = acts.acted.0 in omega (arith, e, some))))) (acts_as (MakesRoom (heap_in t is.bytes) size answer) acts acts.acted.1)
-    ])
+compact_calls is size a rest = rw is.is_current (elim (acting.outcome is a rest) [
+  | inl same ↦ rw (eq-eqb size 0 same.0.0) (same.0.1, same.1)
+  | inr acts ↦ rw (ne_eqb size 0 (λ e. absurd (let some = acts.acted.0 in omega (arith, e, some)))) (acts_as _ acts acts.acted.1)
+])
 
 pub compact_none : (handles : Handles) (tables : FinMap nat_cmp Table) (ds size : ℕ) → current_heap (alone handles tables ds) ≡ None → Calls handles tables ds (LocalCompact size) 0 handles tables
-compact_none handles tables ds size none rest = subst (λ (c : Option LocalHeap). MatchOption c (Stays (with_parts rest handles tables ds) 0 0 (with_parts rest handles tables ds)) (CompactsIn (with_parts rest handles tables ds) size 0 (with_parts rest handles tables ds))) (sym none) (refl, refl)
+compact_none handles tables ds size none rest = rw none (refl, refl)

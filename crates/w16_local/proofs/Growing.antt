@@ -38,7 +38,7 @@ segment_there heap slot bytes had = ap is_some (object_of heap slot bytes had).1
 handle_for : (handles : Handles) (slot : ℕ) (bytes : List ℕ) → bytes_at handles.heap slot ≡ Some bytes → (handle : ℕ) × (slot_of_handle handles handle ≡ Some slot)
 handle_for handles slot bytes had =
     let o : (o : Object) × (object_at handles.heap slot ≡ Some o) × (o.bytes ≡ Some bytes) = object_of handles.heap slot bytes had in
-    (handle_of o.0.kind slot, (names_law handles (handle_of o.0.kind slot) slot).0.1 (subst (λ p. IsSomeAnd p (λ (p : Object). handle_of o.0.kind slot ≡ handle_of p.kind slot)) (sym o.1) refl))
+    (handle_of o.0.kind slot, (names_law handles (handle_of o.0.kind slot) slot).0.1 (rw o.1 refl))
 
 -- a growth sets nothing to zero
 no_zeros : (options : RoomOptions) (handles : Handles) (handle size answer : ℕ) → zeroed_behind handles handle size (growth_flags options) answer ≡ 0
@@ -72,7 +72,7 @@ module _ {old : Global} {tables : FinMap nat_cmp Table} {slot size : ℕ} {r : R
     was = m.was;
     had = m.had;
     holds = λ rest ds. inl (
-      (λ handle named. let l = step handle named in (l.left, subst (λ (p : ℕ × ℕ). GlobalReAllocs old.handles handle size p.0 p.1 l.left) (λ i. (flags_are i, null i)) l.step)),
+      (λ handle named. let l = step handle named in (l.left, rw (flags_are, null) at l.step)),
       (refl, λ i. with_parts rest (same i).handles tables ds),
     );
   }
@@ -92,7 +92,7 @@ module _ {old : Global} {tables : FinMap nat_cmp Table} {slot size : ℕ} {r : R
     there = record { table = m.was; bytes = m.had; inside = omega (arith, m.growth.ends) }
 
     reallocated : GlobalReAllocs old.handles handle.0 size (growth_flags r.options) answer l.left
-    reallocated = subst (λ f. GlobalReAllocs old.handles handle.0 size f answer l.left) flags_are l.step
+    reallocated = rw flags_are at l.step
 
     now : (bytes : List ℕ) × (bytes_at l.left.heap slot ≡ Some bytes)
     now = bytes_of world are at there r.options size is_size handle.0 handle.1 answer answered l.left reallocated
@@ -120,8 +120,8 @@ module _ {old : Global} {tables : FinMap nat_cmp Table} {slot size : ℕ} {r : R
       high = let w = is_size.whole in (8 * w.0, omega (arith, w.1));
       last = is_size.most;
       ends = sym grown.long;
-      may = subst (MayAct (act_of r)) (sym later_heap) (may_later r (heap_in m.table m.bytes) size m.may);
-      answered = subst (λ h. is_answered h r.id r.size r.options ≡ true) (sym later_heap) m.growth.served.answered;
+      may = rw later_heap (may_later r (heap_in m.table m.bytes) size m.may);
+      answered = rw later_heap m.growth.served.answered;
     }
 
     has_now : bytes_at new.handles.heap slot ≡ Some now.0
@@ -149,7 +149,7 @@ module _ {old : Global} {tables : FinMap nat_cmp Table} {slot size : ℕ} {r : R
         same_bytes = let both : ◌≡◌ {A = Option (List ℕ)} (Some a.bytes) (Some now.0) = sym a.had ∙ has_now in cc
 
         later : Later r size m.table now.0 result a.table a.after
-        later = subst (λ (p : Table × List ℕ). Later r size p.0 p.1 result a.table a.after) (λ i. (same_table i, same_bytes i)) a.does.1.0
+        later = rw (same_table, same_bytes) at a.does.1.0
 
         after_handles : next ≡ record l.left { heap = after_write l.left.heap slot 0 a.after; moved = old.handles.moved }
         after_handles = a.rest.1 ∙ (λ i. record (l.handles i) { heap = after_write (l.handles i).heap slot 0 a.after })
@@ -196,4 +196,4 @@ module _ {old : Global} {tables : FinMap nat_cmp Table} {slot size : ℕ} {r : R
             written = l.written ∙ ap (λ k. counted (counted old.written l.left.moved) k) (ap (λ f. zeroed_behind old.handles handle.0 size f answer) flags_are ∙ no_zeros r.options old.handles handle.0 size answer) ∙ counted_none (counted old.written l.left.moved)
 
             count_is : count ≡ counted (counted old.written l.left.moved) size
-            count_is = subst (λ b. IsSomeAnd b (λ (bytes : List ℕ). count ≡ counted new.written (length bytes))) has_now lent ∙ (λ i. counted (written i) (grown.long i))
+            count_is = (rw has_now at lent) ∙ (λ i. counted (written i) (grown.long i))

@@ -59,8 +59,8 @@ writes_ok (Err x) old new id n before after zeros e placed written = absurd (fal
 -- a compaction for 0 bytes, or for some
 pub compacted : (n answer : ℕ) (old new : Heap) → Compacts old n answer new → ((n ≡ 0) × (answer ≡ most_room old) × (new ≡ old)) ⊎ ((0 < n) × MakesRoom old n answer new)
 compacted n answer old new c = elim (cases_lt 0 n) [
-  | inl some ↦ inr (some, subst (λ b. MatchBool b ((answer ≡ most_room old) × (new ≡ old)) (MakesRoom old n answer new)) (ne_eqb n 0 (λ e. absurd (omega (arith, e, some)))) c)
-  | inr none ↦ let zero : n ≡ 0 = omega (arith, none) in let idle : (answer ≡ most_room old) × (new ≡ old) = subst (λ b. MatchBool b ((answer ≡ most_room old) × (new ≡ old)) (MakesRoom old n answer new)) (eq-eqb n 0 zero) c in inl (zero, idle.0, idle.1)
+  | inl some ↦ inr (some, rw (ne_eqb n 0 (λ e. absurd (omega (arith, e, some)))) at c)
+  | inr none ↦ let zero : n ≡ 0 = omega (arith, none) in let idle = rw (eq-eqb n 0 zero) at c in inl (zero, idle.0, idle.1)
 ]
 
 -- what it answers lies in the range
@@ -83,7 +83,7 @@ module _ {t : Table} {free : List ℕ} (kept : LocalHeapInvariant t free) (bytes
   known id lt = let many : length t.entries ≡ 1024 = kept.is_local.entries in omega (arith, many, lt)
 
   pub grained : (size : ℕ) → IsMultiple 4 size → IsMultiple t.grain size
-  grained size m = subst (λ g. IsMultiple g size) (sym kept.is_local.grain) m
+  grained size m = rw kept.is_local.grain m
 
   pub absent : (id : ℕ) → object_at (heap_in t bytes) id ≡ None → block_with t.blocks id ≡ None
   absent id none = no_block parts id (no_entry parts id none)
@@ -164,10 +164,10 @@ module _ {t : Table} {free : List ℕ} (kept : LocalHeapInvariant t free) (bytes
       alloc_kept r is id n kind options lt a placed are =
           let p = if_ok r (λ p. IsPlaced (heap_in t bytes) id n p (heap_in s after)) is placed in
           set_free kept range bytes after inside long id true lt (there_placed (heap_in s after) (heap_after are) id p.0.at p.1.place)
-          (allocated_others id n kind options (subst (λ b. Allocates (heap_in t bytes) id n kind 0 options b (heap_in s after)) (answered r is) a))
+          (allocated_others id n kind options (rw (answered r is) at a))
 
       pub realloc_kept : {X E : Type 0} (r : Result X E) → is_err r ≡ false → (id n : ℕ) (options : RoomOptions) → Reallocates (heap_in t bytes) id n options (is_ok r) (heap_in s after) → LocalHeapInvariant s free
-      realloc_kept r is id n options a = same_free kept range bytes after inside long (reallocated_same id n options (subst (λ b. Reallocates (heap_in t bytes) id n options b (heap_in s after)) (answered r is) a))
+      realloc_kept r is id n options a = same_free kept range bytes after inside long (reallocated_same id n options (rw (answered r is) at a))
 
       pub compact_kept : (n answer : ℕ) → Compacts (heap_in t bytes) n answer (heap_in s after) → LocalHeapInvariant s free
       compact_kept n answer c = same_free kept range bytes after inside long (elim (compacted n answer (heap_in t bytes) (heap_in s after) c) [
@@ -178,14 +178,14 @@ module _ {t : Table} {free : List ℕ} (kept : LocalHeapInvariant t free) (bytes
 -- What an act leaves, in words of the heap's value.
 module _ {t v : Table} (shown : t ≡ v) (bytes : List ℕ) where
   pub may_shown : (act : ByteOp) → MayActOver act v bytes → MayActOver act t bytes
-  may_shown act may = subst (λ (t : Table). MayActOver act t bytes) (sym shown) may
+  may_shown act may = rw shown may
 
   module _ (s : Table) (after : List ℕ) (range : IsSameRange t s) (outside : IsSameOutside t.lo t.hi bytes after) where
     acted : (act : ByteOp) (answer : ℕ) → Done act (heap_in t bytes) answer (heap_in s after) → Acted act v bytes answer s after
-    acted act answer done = subst (λ (t : Table). Acted act t bytes answer s after) shown (record { range = range; outside = outside; act_is = inr done })
+    acted act answer done = rw (← shown) (record { range = range; outside = outside; act_is = inr done })
 
     idle : (act : ByteOp) (answer : ℕ) → Idle act (heap_in t bytes) answer → s ≡ t → after ≡ bytes → Acted act v bytes answer s after
-    idle act answer is same still = subst (λ (t : Table). Acted act t bytes answer s after) shown (record { range = range; outside = outside; act_is = inl (is, same, still) })
+    idle act answer is same still = rw (← shown) (record { range = range; outside = outside; act_is = inl (is, same, still) })
 
     -- Requests that are refused.
     module _ {X E : Type 0} (r : Result X E) (is : is_err r ≡ true) (same : s ≡ t) (still : after ≡ bytes) where
@@ -193,10 +193,10 @@ module _ {t v : Table} (shown : t ≡ v) (bytes : List ℕ) where
       again i = heap_in (same i) (still i)
 
       pub alloc_idle : (id n : ℕ) (kind : Kind) (options : RoomOptions) → Allocates (heap_in t bytes) id n kind 0 options (is_ok r) (heap_in s after) → Acted (Alloc id n kind options) v bytes 0 s after
-      alloc_idle id n kind options a = idle (Alloc id n kind options) 0 (subst (Allocates (heap_in t bytes) id n kind 0 options false) again (subst (λ b. Allocates (heap_in t bytes) id n kind 0 options b (heap_in s after)) (refused r is) a), refl) same still
+      alloc_idle id n kind options a = idle (Alloc id n kind options) 0 (subst (Allocates (heap_in t bytes) id n kind 0 options false) again (rw (refused r is) at a), refl) same still
 
       pub realloc_idle : (id n : ℕ) (options : RoomOptions) → Reallocates (heap_in t bytes) id n options (is_ok r) (heap_in s after) → Acted (Realloc id n options) v bytes 0 s after
-      realloc_idle id n options a = idle (Realloc id n options) 0 (subst (Reallocates (heap_in t bytes) id n options false) again (subst (λ b. Reallocates (heap_in t bytes) id n options b (heap_in s after)) (refused r is) a), refl) same still
+      realloc_idle id n options a = idle (Realloc id n options) 0 (subst (Reallocates (heap_in t bytes) id n options false) again (rw (refused r is) at a), refl) same still
 
     -- Requests that are answered: the object has the name that is looked up, for it stands somewhere.
     module _ {E : Type 0} (r : Result Placed E) (is : is_err r ≡ false) (heap : IsHeap (heap_in s after)) (id n : ℕ) (placed : IfOk r (λ p. IsPlaced (heap_in t bytes) id n p (heap_in s after))) (name : Option ℕ) (named : name_at (heap_in s after) id ≡ name) where
@@ -204,10 +204,10 @@ module _ {t v : Table} (shown : t ≡ v) (bytes : List ℕ) where
       its_name = let p = if_ok r (λ p. IsPlaced (heap_in t bytes) id n p (heap_in s after)) is placed in named_placed (heap_in s after) heap id p.0.at p.1.place name named
 
       pub alloc_done : (kind : Kind) (options : RoomOptions) → Allocates (heap_in t bytes) id n kind 0 options (is_ok r) (heap_in s after) → Acted (Alloc id n kind options) v bytes (unwrap_or name 0) s after
-      alloc_done kind options a = acted (Alloc id n kind options) (unwrap_or name 0) (subst (λ b. Allocates (heap_in t bytes) id n kind 0 options b (heap_in s after)) (answered r is) a, its_name)
+      alloc_done kind options a = acted (Alloc id n kind options) (unwrap_or name 0) (rw (answered r is) at a, its_name)
 
       pub realloc_done : (options : RoomOptions) → Reallocates (heap_in t bytes) id n options (is_ok r) (heap_in s after) → Acted (Realloc id n options) v bytes (unwrap_or name 0) s after
-      realloc_done options a = acted (Realloc id n options) (unwrap_or name 0) (subst (λ b. Reallocates (heap_in t bytes) id n options b (heap_in s after)) (answered r is) a, its_name)
+      realloc_done options a = acted (Realloc id n options) (unwrap_or name 0) (rw (answered r is) at a, its_name)
 
     -- A compaction; for 0 bytes the table is the same, as the heap is.
     pub compact_acted : IsSound t → t.hi ≤ length bytes → (n answer : ℕ) → Compacts (heap_in t bytes) n answer (heap_in s after) → (n ≡ 0 → after ≡ bytes) → Acted (Compact n) v bytes answer s after

@@ -25,7 +25,7 @@ module _ (handles : Handles) (is : AreHandles handles) (slot : ℕ) (bytes : Lis
   whole =
       let o : (o : Object) × (object_at handles.heap slot ≡ Some o) × (o.bytes ≡ Some bytes) = object_of handles.heap slot bytes had in
       let block : IsBlockOf handles.heap (its o.0) = record { object = o.0; bytes = bytes; is_there = o.1; has_bytes = o.2; place = refl; size = refl; hold = refl } in
-      subst (λ g. IsMultiple g (length bytes)) is.grain (Each-at AreWhole (blocks handles.heap) (Each-from_All _ (blocks handles.heap) is.heap.grained) (its o.0) (block_member handles.heap (its o.0) block)).1
+      rw is.grain at (Each-at AreWhole (blocks handles.heap) (Each-from_All _ (blocks handles.heap) is.heap.grained) (its o.0) (block_member handles.heap (its o.0) block)).1
 
 -- a refused one isn't answered
 pub idle_refused : (r : Request) (heap : Heap) → MayAct (act_of r) heap → (answer : ℕ) → Idle (act_of r) heap answer → is_answered heap r.id r.size r.options ≡ false
@@ -55,7 +55,7 @@ done_named r heap next answer = turn r.kind
 pub idle_of : (r : Request) {table left : Table} {bytes after : List ℕ} {answer : ℕ} → Acted (act_of r) table bytes answer left after → answer ≡ 0 → IsHeap (heap_in left after) → IsLocalTable left
     → Idle (act_of r) (heap_in table bytes) 0 × (left ≡ table) × (after ≡ bytes)
 idle_of r {table} {left} {bytes} {after} {answer} a none is is_local = elim a.act_is [
-  | inl same ↦ (subst (Idle (act_of r) (heap_in table bytes)) none same.0, same.1, same.2)
+  | inl same ↦ (rw none at same.0, same.1, same.2)
   | inr done ↦ absurd (some_name (heap_in left after) is is_local.low r.id (done_named r (heap_in table bytes) (heap_in left after) answer done ∙ ap Some none))
 ]
 
@@ -66,8 +66,8 @@ later_done r end {table} {left} {bytes} {before} {after} {answer} may same outsi
   range = a.range;
   outside = record { below = a.outside.below ∙ outside.below; above = a.outside.above ∙ outside.above };
   done = elim a.act_is [
-    | inl idle ↦ absurd (false≢true (sym (idle_refused r (heap_in (record table { hi = end }) bytes) may.may answer (subst (λ h. Idle (act_of r) h answer) same idle.0)) ∙ may.answered))
-    | inr done ↦ subst (λ h. Done (act_of r) h answer (heap_in left after)) same done
+    | inl idle ↦ absurd (false≢true (sym (idle_refused r (heap_in (record table { hi = end }) bytes) may.may answer (rw same at idle.0)) ∙ may.answered))
+    | inr done ↦ rw same at done
   ];
 }
 
@@ -75,32 +75,32 @@ later_done r end {table} {left} {bytes} {before} {after} {answer} may same outsi
 module _ (r : Request) {act : ByteOp} (act_is : act ≡ act_of r) {t s : Table} {bytes after : List ℕ} {answer : ℕ} (may : MayActOver (act_of r) t bytes) (a : Acted act t bytes answer s after) (long : length after ≡ length bytes)
     (is_local : IsLocalTable s) (are_bytes : All (λ b. b < 256) after) (none : answer ≡ 0) where
   pub request_idle : Idle (act_of r) (heap_in t bytes) 0 × (s ≡ t) × (after ≡ bytes)
-  request_idle = idle_of r (subst (λ act. Acted act t bytes answer s after) act_is a) none (sound_law s after is_local.sound (omega (arith, a.range.hi, long, may.0)) are_bytes) is_local
+  request_idle = idle_of r (rw act_is at a) none (sound_law s after is_local.sound (omega (arith, a.range.hi, long, may.0)) are_bytes) is_local
 
   pub request_refused : is_answered (heap_in s after) r.id r.size r.options ≡ false
-  request_refused = subst (λ h. is_answered h r.id r.size r.options ≡ false) (λ i. heap_in (sym request_idle.1 i) (sym request_idle.2 i)) (idle_refused r (heap_in t bytes) may.1 0 request_idle.0)
+  request_refused = rw (request_idle.1, request_idle.2) (idle_refused r (heap_in t bytes) may.1 0 request_idle.0)
 
   pub request_done : (size : Option ℕ) → SizeTold r s after size → (before count : ℕ) → Writes act (heap_in t bytes) (heap_in s after) before count → ServedOver r t bytes (Lacks size) s after × Writes (act_of r) (heap_in t bytes) (heap_in s after) before count
   request_done size told before count writes = (
-    (request_idle.0, request_idle.1, request_idle.2, subst (λ (p : Table × List ℕ). SizeTold r p.0 p.1 size) (λ i. (request_idle.1 i, request_idle.2 i)) told),
-    subst (λ act. Writes act (heap_in t bytes) (heap_in s after) before count) act_is writes,
+    (request_idle.0, request_idle.1, request_idle.2, rw (request_idle.1, request_idle.2) at told),
+    rw act_is at writes,
   )
 
 -- What is asked of a heap once its end has been moved: it may be, and what becomes of it.
 module _ (r : Request) {act : ByteOp} (act_is : act ≡ act_of r) {end : ℕ} {t now : Table} {bytes : List ℕ} (before : List ℕ) (may : MayEndLater r end t bytes) (now_is : now ≡ record t { hi = end }) (same : heap_in now before ≡ heap_in now bytes)
     (long : length before ≡ length bytes) where
   same_heap : heap_in (record t { hi = end }) before ≡ heap_in (record t { hi = end }) bytes
-  same_heap = subst (λ t. heap_in t before ≡ heap_in t bytes) now_is same
+  same_heap = rw now_is at same
 
   pub later_may : MayActOver act now before
   later_may = (
-    subst (λ (n : Table). n.hi ≤ length before) (sym now_is) (omega (arith, may.ends, long)),
-    subst (λ act. MayAct act (heap_in now before)) (sym act_is) (subst (λ (n : Table). MayAct (act_of r) (heap_in n before)) (sym now_is) (subst (MayAct (act_of r)) (sym same_heap) may.may)),
+    rw now_is (omega (arith, may.ends, long)),
+    rw (act_is, now_is, same_heap) may.may,
   )
 
   pub later_served : {s : Table} {after : List ℕ} {answer : ℕ} → IsSameOutside t.lo end bytes before → Acted act now before answer s after → (moved count written : ℕ) → moved ≡ count → Writes act (heap_in now before) (heap_in s after) moved written
       → Later r end t bytes answer s after × Writes (act_of r) (heap_in (record t { hi = end }) bytes) (heap_in s after) count written
   later_served {s} {after} {answer} outside acted moved count written none writes = (
-    later_done r end may same_heap outside (subst (λ (p : ByteOp × Table). Acted p.0 p.1 before answer s after) (λ i. (act_is i, now_is i)) acted),
-    subst (λ h. Writes (act_of r) h (heap_in s after) count written) same_heap (subst (λ (p : ByteOp × (Table × ℕ)). Writes p.0 (heap_in p.1.0 before) (heap_in s after) p.1.1 written) (λ i. (act_is i, (now_is i, none i))) writes),
+    later_done r end may same_heap outside (rw (act_is, now_is) at acted),
+    rw (act_is, now_is, none, same_heap) at writes,
   )

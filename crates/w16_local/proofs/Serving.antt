@@ -71,22 +71,22 @@ module _ {handles : Handles} {tables : FinMap nat_cmp Table} {slot : ℕ} (r : R
       bytes = a.bytes;
       was = a.was;
       had = a.had;
-      holds = λ rest ds. inr (idle, inl ((λ size g. absurd (subst (SizeTold r a.before a.bytes) none told slot size g)), (refl, same_world rest ds)));
+      holds = λ rest ds. inr (idle, inl ((λ size g. absurd ((rw none at told) slot size g)), (refl, same_world rest ds)));
     }
 
     -- There is one.
     module _ (some : ℕ) (some_is : size ≡ Some some) where
       growth : IsGrowth (in_slot a.before a.bytes slot) r.id r.size r.options some
-      growth = subst (SizeTold r a.before a.bytes) some_is told slot
+      growth = (rw some_is at told) slot
 
       pub may_grow : MayActIn handles tables slot (MayActOver (act_of r)) → MayGrowIn next new slot some r
-      may_grow may = subst (λ (p : Handles × FinMap nat_cmp Table). MayGrowIn p.0 p.1 slot some r) (λ i. (sym same.1 i, sym same.0 i)) (record {
+      may_grow may = rw (same.0, same.1) (record {
         table = a.before;
         bytes = a.bytes;
         was = a.was;
         had = a.had;
-        is_local = subst IsLocalTable a.does.1.0.1 a.is_local;
-        may = subst (λ (p : Table × List ℕ). MayAct (act_of r) (heap_in p.0 p.1)) (λ i. (table_is i, bytes_are i)) may.may.1;
+        is_local = rw a.does.1.0.1 at a.is_local;
+        may = rw (table_is, bytes_are) at may.may.1;
         growth = growth;
       })
         where
@@ -116,7 +116,7 @@ module _ {handles : Handles} {tables : FinMap nat_cmp Table} {slot : ℕ} (r : R
       }
         where
           there : InSlot handles tables slot last final (λ old at left. Grown r some old at answer left)
-          there = subst (λ (p : Handles × FinMap nat_cmp Table). InSlot p.0 p.1 slot last final (λ old at left. Grown r some old at answer left)) (λ i. (same.1 i, same.0 i)) g
+          there = rw (same.0, same.1) at g
 
           table_is : there.table ≡ a.before
           table_is = let both : ◌≡◌ {A = Option Table} (Some there.table) (Some a.before) = sym there.was ∙ a.was in cc
@@ -125,7 +125,7 @@ module _ {handles : Handles} {tables : FinMap nat_cmp Table} {slot : ℕ} (r : R
           bytes_are = let both : ◌≡◌ {A = Option (List ℕ)} (Some there.bytes) (Some a.bytes) = sym there.had ∙ a.had in cc
 
           grown : (rest : World) (ds : ℕ) → Grown r some (with_parts rest handles tables ds) (in_slot a.before a.bytes slot) answer (with_parts rest last final ds)
-          grown rest ds = subst (λ (p : Table × List ℕ). Grown r some (with_parts rest handles tables ds) (in_slot p.0 p.1 slot) answer (with_parts rest last final ds)) (λ i. (table_is i, bytes_are i)) (there.holds rest ds)
+          grown rest ds = rw (table_is, bytes_are) at (there.holds rest ds)
 
 -- What is written where the heap doesn't grow,
 pub once_writes : (old new : Global) {tables left : FinMap nat_cmp Table} {slot : ℕ} {does : Table → List ℕ → Table → List ℕ → Type 0} (r : Request) → ActedIn old.handles tables slot does new.handles left → IsLent old slot new
@@ -141,15 +141,14 @@ module _ (old between new : Global) {tables mid : FinMap nat_cmp Table} (left : 
   grown_writes may = record { table = a.before; bytes = a.bytes; was = a.was; had = a.had; holds = λ rest ds. turn rest ds may }
     where
       turn : (rest : World) (ds : ℕ) → (new ≡ between) ⊎ GrownFrom between.handles mid between.written → WritesServed r (with_parts rest old.handles tables ds) (in_slot a.before a.bytes slot) old.written new.handles new.written
-      turn rest ds (inl still) = inl (subst (λ (g : Global). WritesOnce (in_slot a.before a.bytes slot) old.written g.handles g.written) (sym still) (once_in old between a lent))
-      turn rest ds (inr grown) = inr (subst (λ (p : Table × List ℕ). WritesGrown (with_parts rest old.handles tables ds) (in_slot p.0 p.1 slot) r.id r.size r.options (counted old.written (length a.bytes)) new.handles new.written)
-          (λ i. (table_is i, bytes_are i)) (there.holds rest ds))
+      turn rest ds (inl still) = inl (rw still (once_in old between a lent))
+      turn rest ds (inr grown) = inr (rw (table_is, bytes_are) at (there.holds rest ds))
         where
           kept : (mid ≡ tables) × (between.handles ≡ old.handles)
           kept = same r size a
 
           there : GrownFrom old.handles tables (counted old.written (length a.bytes))
-          there = subst (λ (p : Handles × FinMap nat_cmp Table × ℕ). GrownFrom p.0 p.1 p.2) (λ i. (kept.1 i, kept.0 i, (once_in old between a lent).1 i)) grown
+          there = rw (kept.1, kept.0, (once_in old between a lent).1) at grown
 
           table_is : there.table ≡ a.before
           table_is = let both : ◌≡◌ {A = Option Table} (Some there.table) (Some a.before) = sym there.was ∙ a.was in cc

@@ -35,7 +35,7 @@ module _ {X : Type 0} (table : X → Table) (xs : List (Option X)) {tables : Fin
 
 -- what holds of a slot's table
 pub holds_in : (P : Table → Type 0) {m : Option Table} {t : Table} → m ≡ Some t → IsSomeAnd m P → P t
-holds_in P e h = subst (λ (m : Option Table). IsSomeAnd m P) e h
+holds_in P e h = rw e at h
 
 -- a slot of which something holds has a table
 pub known_in : (m : Option Table) (P : Table → Type 0) → IsSomeAnd m P → IsSome m
@@ -52,7 +52,7 @@ module _ {handles : Handles} {tables : FinMap nat_cmp Table} {ds name slot : ℕ
 
   -- what is so of the object that the name has
   pub on_named : (otherwise answer : ℕ) (new : World) (so : LocalObject → Type 0) → so object → OnNamed old name otherwise answer new so
-  on_named otherwise answer new so holds = subst (λ o. MatchOption o (Stays old otherwise answer new) so) (sym (is_named handles tables ds n)) holds
+  on_named otherwise answer new so holds = rw (is_named handles tables ds n) holds
 
   module _ (after : Heap → Result Heap Refusal) {X : Type 0} (r : Result X Refusal) (new : FinMap nat_cmp Table) (s : Stepped tables slot (λ a b. after a ≡ outcome r b) new) (same : OnErr r (new ≡ tables)) where
     was_it : s.before ≡ t
@@ -62,7 +62,7 @@ module _ {handles : Handles} {tables : FinMap nat_cmp Table} {ds name slot : ℕ
     next = with_parts rest handles new ds
 
     taken_so : after (heap_in t n.heap.bytes) ≡ outcome r (heap_in s.after n.heap.bytes)
-    taken_so = subst (λ (b : Table). after (heap_in b n.heap.bytes) ≡ outcome r (heap_in s.after n.heap.bytes)) was_it (s.heaps n.heap.bytes (subst (λ (b : Table). b.hi ≤ length n.heap.bytes) (sym was_it) n.heap.over.inside))
+    taken_so = rw was_it at (s.heaps n.heap.bytes (rw was_it n.heap.over.inside))
 
     becomes : Becomes old object.heap (heap_in s.after n.heap.bytes) next
     becomes = record {
@@ -74,7 +74,7 @@ module _ {handles : Handles} {tables : FinMap nat_cmp Table} {ds name slot : ℕ
     }
 
     pub leaves : (taken : Heap → ℕ) (refused : Refusal → ℕ) (answer : ℕ) → answer ≡ answer_of r (taken (heap_in s.after n.heap.bytes)) refused → Leaves old object.heap (after (heap_in t n.heap.bytes)) taken refused answer next
-    leaves taken refused answer is = subst (λ k. Leaves old object.heap k taken refused answer next) (sym taken_so) (turn r same becomes is)
+    leaves taken refused answer is = rw taken_so (turn r same becomes is)
       where
         turn : (r : Result X Refusal) → OnErr r (new ≡ tables) → Becomes old object.heap (heap_in s.after n.heap.bytes) next → answer ≡ answer_of r (taken (heap_in s.after n.heap.bytes)) refused → Leaves old object.heap (outcome r (heap_in s.after n.heap.bytes)) taken refused answer next
         turn (Ok done) e b is = (is, b)
@@ -91,7 +91,7 @@ lock_calls {handles} {tables} {ds} {name} {slot} {t} {id} n pointer is r new s s
 -- what a bad name leaves
 pub none_calls : (handles : Handles) (tables : FinMap nat_cmp Table) (ds name otherwise : ℕ) (so : World → LocalObject → Type 0) → object_named (alone handles tables ds) name ≡ None → (rest : World)
     → OnNamed (with_parts rest handles tables ds) name otherwise otherwise (with_parts rest handles tables ds) (so (with_parts rest handles tables ds))
-none_calls handles tables ds name otherwise so none rest = subst (λ o. MatchOption o (Stays (with_parts rest handles tables ds) otherwise otherwise (with_parts rest handles tables ds)) (so (with_parts rest handles tables ds))) (sym none) (refl, refl)
+none_calls handles tables ds name otherwise so none rest = rw none (refl, refl)
 
 pub lock_none : (handles : Handles) (tables : FinMap nat_cmp Table) (ds name : ℕ) → object_named (alone handles tables ds) name ≡ None → Calls handles tables ds (LocalLock name) 0 handles tables
 lock_none handles tables ds name = none_calls handles tables ds name 0 (λ old o. Leaves old o.heap (after_lock (heap_of o.heap) o.id) (λ _. near_pointer (heap_of o.heap) o.id) (lock_refused (near_pointer (heap_of o.heap) o.id)) 0 old)

@@ -1,6 +1,5 @@
 //! Flags and sizes of the Local calls. Bits that no flag has are kept, and ignored.
 ghost use Rattle.std.specs.Prelude.{⊤, ◌≡◌, [], ◌∷◌, codes};
-ghost use Rattle.w16_model.specs.Calls as model;
 ghost use Rattle.w16_machine.specs.Local as local;
 ghost use Rattle.w16_machine.specs.LocalCalls as calls;
 ghost use Rattle.w16_machine.specs.declared.local.TheConstants.{LMEM_DISCARDABLE, LMEM_MODIFY, LMEM_MOVEABLE, LMEM_NOCOMPACT, LMEM_NODISCARD, LMEM_ZEROINIT};

@@ -1,84 +1,109 @@
 //! Why calls are refused.
-ghost use Rattle.std.specs.Prelude.{◌≡◌, ◌≤◌, ◌<◌, ℕ, None, Some, IfNone, IfSome, IsSome};
+ghost use Rattle.std.specs.Prelude.{◌≡◌, ◌≤◌, ◌<◌, IfNone, IfSome};
 ghost use Rattle.w16_model.specs.Calls.{rounded_size};
-ghost use Rattle.w16_model.specs.Handles.{slot_of_handle};
 ghost use Rattle.w16_model.specs.Request.{most_room};
-ghost use Rattle.w16_machine.specs.Machine.{Command};
+ghost use Rattle.w16_local.specs.Parts.{alone};
 ghost use Rattle.w16_kernel.specs.Runs.{command_of};
-ghost use Rattle.w16_kernel.specs.Why.{IsWhy, IsAsked, handle_asked, selector_asked};
+ghost use Rattle.w16_kernel.specs.Why.{IsThere, IsWhy, subject_of};
+ghost use Rattle.w16_kernel.specs.Why.Subject.{LocalObject, Object, Selector};
 
 use crate::call::Call;
 use crate::kernel::Kernel;
 use std::alloc::Allocator;
 use w16_global::Global16;
+use w16_local::LocalHeaps;
+use w16_machine::local::LMEM_DISCARDABLE;
 use w16_model::names::selector_in;
 use w16_model::{GMEM_DISCARDABLE, has_flag};
 use w16_store::Store;
 
-/// Why a call is refused, of the handle or the selector that it names.
+/// Why a call is refused, of what it names.
 #[derive(Debug, Clone, Copy, PartialEq, Eq)]
 pub enum Why {
-    BadHandle(u16),
-    BadSelector(u16),
+    BadHandle,
+    BadSelector,
+    BadModule,
+    /// DS names none.
+    NoLocalHeap,
+    /// No object of the local heap has the name.
+    BadName,
     /// A module owns the object.
-    Owned(u16),
-    Locked(u16),
-    NotDiscardable(u16),
+    Owned,
+    Locked,
+    NotDiscardable,
     /// The object has no bytes.
-    NoBytes(u16),
+    NoBytes,
     /// The offset of the last byte that the selector reaches.
-    Limit(u16, u32),
+    Limit(u32),
 }
 
-/// Why a call is refused that names an object by this handle.
-fn why_object<A: Allocator + Copy>(
+/// Why a call is refused that names a local object.
+fn why_name<A: Allocator + Copy>(
+    locals: &LocalHeaps<A>,
     global: &Global16<A>,
+    ds: u16,
     call: &Call<'_>,
-    handle: u16,
+    name: u16,
 ) -> Option<Why>
-    requires { handle_asked (command_of call.now) ≡ Some handle }
-    ensures holds { IfSome result (IsWhy global.now.handles) }
-    ensures asked { IfSome result (IsAsked (command_of call.now)) }
-    ensures none { IfNone result (IsSome (slot_of_handle global.now.handles handle)) }
+    ensures holds { IfSome result (IsWhy (alone global.now.handles locals.now ds) (LocalObject name)) }
+    ensures there { IfNone result (IsThere (alone global.now.handles locals.now ds) (LocalObject name)) }
 {
     use Call::*;
-    let Some(slot) = global.slot_of_handle(handle) else {
-        return Some(Why::BadHandle(handle));
+    if !locals.has_heap(global, ds) {
+        return Some(Why::NoLocalHeap);
+    }
+    let Some((size, flags)) = locals.size_and_flags(global, ds, name) else {
+        return Some(Why::BadName);
     };
-    let (owned, empty) = (global.is_owned(slot), global.global_size(handle) == 0);
-    let flags = global.global_flags(handle);
     match call {
-        GlobalFree { .. } | GlobalReAlloc { .. } | GlobalDiscard { .. } if owned => {
-            Some(Why::Owned(handle))
-        }
-        GlobalFree { .. } | GlobalDiscard { .. } if flags % 256 > 0 => Some(Why::Locked(handle)),
-        GlobalLock { .. } | GlobalSize { .. } | GlobalLRUNewest { .. } | GlobalLRUOldest { .. }
-            if empty => { Some(Why::NoBytes(handle)) }
-        GlobalDiscard { .. } | GlobalLRUNewest { .. } | GlobalLRUOldest { .. }
-            if !has_flag(flags, GMEM_DISCARDABLE) => { Some(Why::NotDiscardable(handle)) }
+        LocalFree { .. } | LocalDiscard { .. } if flags % 256 > 0 => Some(Why::Locked),
+        LocalDiscard { .. } if !has_flag(flags, LMEM_DISCARDABLE) => Some(Why::NotDiscardable),
+        LocalLock { .. } | LocalSize { .. } if size == 0 => Some(Why::NoBytes),
         _ => None,
     }
 }
 
-/// That a selector is bad, or the last byte that it reaches.
-fn why_selector<A: Allocator + Copy>(global: &Global16<A>, selector: u16) -> Why
-    ensures holds { IsWhy global.now.handles result }
-    ensures asked { (command : Command) → selector_asked command ≡ Some selector → IsAsked command result }
-{
-    if global.global_handle(selector) == 0 {
-        Why::BadSelector(selector)
-    } else {
-        Why::Limit(selector, global.get_selector_limit(selector))
-    }
-}
-
 impl<S: Store + Drop, A: Allocator + Copy> Kernel<S, A> {
-    /// Why a call is refused, if it is, as far as the handle or the selector that it names says: always where a handle is bad, and of a selector.
+    /// Why a call is refused that names a global object by this handle.
+    fn why_object(&self, call: &Call<'_>, handle: u16) -> Option<Why>
+        ensures holds { IfSome result (IsWhy self.now (Object handle)) }
+        ensures there { IfNone result (IsThere self.now (Object handle)) }
+    {
+        use Call::*;
+        let Some(slot) = self.global.slot_of_handle(handle) else {
+            return Some(Why::BadHandle);
+        };
+        let owned = self.global.is_owned(slot);
+        let empty = self.global.global_size(handle) == 0;
+        let flags = self.global.global_flags(handle);
+        match call {
+            GlobalFree { .. } | GlobalReAlloc { .. } | GlobalDiscard { .. } if owned => {
+                Some(Why::Owned)
+            }
+            GlobalFree { .. } | GlobalDiscard { .. } if flags % 256 > 0 => Some(Why::Locked),
+            GlobalLock { .. } | GlobalSize { .. } | GlobalLRUNewest { .. } | GlobalLRUOldest { .. }
+                if empty => { Some(Why::NoBytes) }
+            GlobalDiscard { .. } | GlobalLRUNewest { .. } | GlobalLRUOldest { .. }
+                if !has_flag(flags, GMEM_DISCARDABLE) => { Some(Why::NotDiscardable) }
+            _ => None,
+        }
+    }
+
+    /// That a selector is bad, or the last byte that it reaches.
+    fn why_selector(&self, selector: u16) -> Why
+        ensures { IsWhy self.now (Selector selector) result }
+    {
+        if self.global.global_handle(selector) == 0 {
+            Why::BadSelector
+        } else {
+            Why::Limit(self.global.get_selector_limit(selector))
+        }
+    }
+
+    /// Why a call is refused, if it is, as far as what it names says: always where that isn't there, and of a selector.
     pub fn why(&self, call: &Call<'_>) -> Option<Why>
-        ensures holds { IfSome result (IsWhy self.now.loading.handles) }
-        ensures asked { IfSome result (IsAsked (command_of call.now)) }
-        ensures handle { IfNone result ((handle : ℕ) → handle_asked (command_of call.now) ≡ Some handle → IsSome (slot_of_handle self.now.loading.handles handle)) }
-        ensures selector { IfNone result (selector_asked (command_of call.now) ≡ None) }
+        ensures holds { IfSome result (IsWhy self.now (subject_of (command_of call.now))) }
+        ensures there { IfNone result (IsThere self.now (subject_of (command_of call.now))) }
     {
         use Call::*;
         match *call {
@@ -90,12 +115,36 @@ impl<S: Store + Drop, A: Allocator + Copy> Kernel<S, A> {
             | GlobalLRUNewest { handle }
             | GlobalLRUOldest { handle }
             | GlobalSize { handle }
-            | GlobalFlags { handle } => why_object(&self.global, call, handle),
+            | GlobalFlags { handle } => self.why_object(call, handle),
             GlobalHandle { selector }
             | GetSelectorBase { selector }
-            | GetSelectorLimit { selector } => Some(why_selector(&self.global, selector)),
+            | GetSelectorLimit { selector } => Some(self.why_selector(selector)),
             Read { pointer, .. } | Write { pointer, .. } | Fill { pointer, .. } => {
-                Some(why_selector(&self.global, selector_in(pointer)))
+                Some(self.why_selector(selector_in(pointer)))
+            }
+            FreeLibrary { handle }
+            | FreeModule { handle }
+            | GetModuleUsage { handle }
+            | GetProcAddress { handle, .. }
+            | FindResource { handle, .. }
+            | LoadResource { handle, .. }
+            | SizeofResource { handle, .. } => match self.library.registry.get(handle) {
+                None => Some(Why::BadModule),
+                Some(_) => None,
+            },
+            LocalReAlloc { name, .. }
+            | LocalDiscard { name }
+            | LocalFree { name }
+            | LocalLock { name }
+            | LocalUnlock { name }
+            | LocalSize { name }
+            | LocalFlags { name } => why_name(&self.locals, &self.global, self.ds, call, name),
+            LocalAlloc { .. } | LocalCompact { .. } | LocalHandle { .. } => {
+                if self.locals.has_heap(&self.global, self.ds) {
+                    None
+                } else {
+                    Some(Why::NoLocalHeap)
+                }
             }
             _ => None,
         }
