@@ -1,11 +1,9 @@
 -- The program's faults and their exit statuses.
-use Rattle.std.specs.Prelude.{ℕ, ◌≡◌, List}
-use Rattle.std.specs.Borrow.{Bor}
-use Rattle.std.specs.declared.io.Error.{Error}
+use Rattle.std.specs.{Prelude.ℕ, Prelude.◌≡◌, Prelude.List, Borrow.Bor, declared.io.Error.Error}
 use Rattle.w16_script.specs.declared.outcome.RunFault.{RunFault}
+use Rattle.w16_command.specs.declared.fault.Fault.{Fault}
 use Rattle.w16_script.specs.declared.outcome.RunFault.TheVariants as run
 use Rattle.w16_script.specs.Status as script
-use Rattle.w16_command.specs.declared.fault.Fault.{Fault}
 use Rattle.w16_command.specs.declared.fault.Fault.TheVariants as fault
 
 -- 2 for what the command line asks for; a run's fault has the status that scripts give it

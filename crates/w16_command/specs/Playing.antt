@@ -1,16 +1,11 @@
 -- What the program's run of a script does, and what is answered for it.
 use Rattle.std.specs.Prelude.{◌≡◌, ℕ, ◌⊎◌, List, Option, Result, Ok, Err, IsOk, IsErrAnd, MatchResult}
-use Rattle.std.specs.Borrow.{Bor}
 use Rattle.std.specs.Io.KnownBytes.{Consumes, IsAtEnd, Keeps}
-use Rattle.std.specs.declared.io.Error.{Error}
-use Rattle.w16_machine.specs.World.{World}
-use Rattle.w16_machine.specs.Machine.{Steps}
-use Rattle.w16_script.specs.Whole.{Script, Fails}
-use Rattle.w16_script.specs.declared.outcome.Ended.{Ended}
-use Rattle.w16_script.specs.declared.outcome.RunFault.{RunFault}
-use Rattle.w16_command.specs.declared.fault.Fault.{Fault}
+use Rattle.std.specs.{Borrow.Bor, declared.io.Error.Error}
+use Rattle.w16_machine.specs.{World.World, Machine.Steps}
+use Rattle.w16_script.specs.{Whole.Script, Whole.Fails, declared.outcome.Ended.Ended, declared.outcome.RunFault.RunFault}
 use Rattle.w16_command.specs.declared.fault.Fault.TheVariants.{Write, Memory}
-use Rattle.w16_command.specs.Faults.{of_run}
+use Rattle.w16_command.specs.{declared.fault.Fault.Fault, Faults.of_run}
 
 -- A script was run as `run` promises, whole or up to a fault. The reader had and has left, and the writer held and holds, these bytes, where
 -- they tell them.

@@ -1,14 +1,12 @@
 -- An access that met an object without bytes: which object that is, and its handle.
-use Rattle.w16_kernel.proofs.Common.{None, Option, Some, ◌%◌, ◌+◌, ◌/◌, IsAbsent, LacksBytes, handle_of, AreHandles, Bool, Discardable, FarAnswer, FarCommand, FarFault, FarReplies, Fill, Fixed, Handles, Kind, List, Moveable, Object, Read, Write, ap}
-use Rattle.w16_kernel.proofs.Common.{arith, bytes_at, cond, data_write, false, false≢true, far_fault, far_slot, is_some, length, object_at, offset_in, option_map, refl, refuses_write, selector_in, sym, true, unwrap_or, ℕ, ◌<◌, ◌∙◌, ◌≡◌, repeated}
-use Rattle.w16_kernel.proofs.Common.{names_law, reach_law, slots_none, global_handle, Part, dword_of, slots_at, selector_of, is_owned, Attributes}
-use Rattle.std.specs.FinMap as finmap
+use Rattle.w16_kernel.proofs
+use proofs.Common as C
+use proofs.Common.{None, Option, Some, ◌%◌, ◌+◌, ◌/◌, IsAbsent, handle_of, Bool, Discardable, FarAnswer, FarFault, Fill, Fixed, Handles, Kind, List, Moveable, Object, Read, Write, ap, arith, bytes_at, cond, false, false≢true, far_fault, length, object_at, offset_in, refl, selector_in, sym}
+use proofs.Common.{true, ℕ, ◌<◌, ◌∙◌, ◌≡◌, Part, dword_of}
 use Rattle.w16_model.specs.declared.FarFault.TheVariants.{BadSelector, ReadOnly, NotPresent, Limit}
-use Rattle.w16_model.specs.Effects.{pointer_in}
+use Rattle.w16_model.specs.{Effects.pointer_in, Far.is_past, Far.FarAnswer.Fault, Handles.part_of_selector}
+use Rattle.std.specs.FinMap as finmap
 use Rattle.w16_model.specs.Far as far
-use Rattle.w16_model.specs.Far.{is_past}
-use Rattle.w16_model.specs.Far.FarAnswer.{Fault}
-use Rattle.w16_model.specs.Handles.{part_of_selector}
 use Rattle.w16_loading.specs.Replies as replies
 
 -- An access whose fault is that its object has no bytes: its selector leads to one without.
@@ -44,47 +42,47 @@ module _ (handles : Handles) (selector : ℕ) where
   read_absent offset n e = by_answer offset n _ (λ e. cc) (far_fault handles selector offset n) refl e
 
   write_absent : (offset : ℕ) (slice : List ℕ) → Fault NotPresent ≡ (far.far_write handles selector offset slice).0 → IsAbsent handles selector
-  write_absent offset slice e = turn (refuses_write handles selector) e
+  write_absent offset slice e = turn (C.refuses_write handles selector) e
     where
-      turn : (b : Bool) → Fault NotPresent ≡ (cond b (Fault ReadOnly, handles) (data_write handles selector offset slice)).0 → IsAbsent handles selector
+      turn : (b : Bool) → Fault NotPresent ≡ (cond b (Fault ReadOnly, handles) (C.data_write handles selector offset slice)).0 → IsAbsent handles selector
       turn true e = cc
       turn false e = by_answer offset (length slice) _ (λ e. cc) (far_fault handles selector offset (length slice)) refl e
 
-pub met_absent : (old next : Handles) → next ≡ old → (selector : ℕ) (command : FarCommand) → selector ≡ selector_in (pointer_in command) → (fault : FarFault) → FarReplies old command (replies.Reply.Fault fault) next → fault ≡ NotPresent → IsAbsent next selector
+pub met_absent : (old next : Handles) → next ≡ old → (selector : ℕ) (command : C.FarCommand) → selector ≡ selector_in (pointer_in command) → (fault : FarFault) → C.FarReplies old command (replies.Reply.Fault fault) next → fault ≡ NotPresent → IsAbsent next selector
 met_absent old next same selector command named fault s e = rw (same, named) (here command s)
   where
-    here : (command : FarCommand) → FarReplies old command (replies.Reply.Fault fault) next → IsAbsent old (selector_in (pointer_in command))
+    here : (command : C.FarCommand) → C.FarReplies old command (replies.Reply.Fault fault) next → IsAbsent old (selector_in (pointer_in command))
     here (Read pointer count) s = read_absent old (selector_in pointer) (offset_in pointer) count (ap Fault (sym e) ∙ s.0)
     here (Write pointer bytes) s = write_absent old (selector_in pointer) (offset_in pointer) bytes (ap Fault (sym e) ∙ s.0)
-    here (Fill pointer count byte) s = write_absent old (selector_in pointer) (offset_in pointer) (repeated count byte) (ap Fault (sym e) ∙ s.0)
+    here (Fill pointer count byte) s = write_absent old (selector_in pointer) (offset_in pointer) (C.repeated count byte) (ap Fault (sym e) ∙ s.0)
 
 pub slot_in_handle : (kind : Kind) (slot : ℕ) → handle_of kind slot / 8 ≡ slot
 slot_in_handle Fixed slot = omega arith
 slot_in_handle Moveable slot = omega arith
 slot_in_handle Discardable slot = omega arith
 
-module _ (handles : Handles) (is : AreHandles handles) (selector : ℕ) (absent : IsAbsent handles selector) (few : selector < 65536) where
+module _ (handles : Handles) (is : C.AreHandles handles) (selector : ℕ) (absent : IsAbsent handles selector) (few : selector < 65536) where
   -- the selector is one of the object's
-  named : (selector ≡ selector_of (absent.place.slot + absent.place.number)) × (absent.place.number < slots_at handles.attributes absent.place.slot)
-  named = let r = rw absent.named at (reach_law handles selector is) in (r.0, r.1)
+  named : (selector ≡ C.selector_of (absent.place.slot + absent.place.number)) × (absent.place.number < C.slots_at handles.attributes absent.place.slot)
+  named = let r = rw absent.named at (C.reach_law handles selector is) in (r.0, r.1)
 
   object : (o : Object) × (object_at handles.heap absent.place.slot ≡ Some o)
   object = turn (object_at handles.heap absent.place.slot) refl (sym (is.attributed absent.place.slot) ∙ has (finmap.get handles.attributes absent.place.slot) refl)
     where
-      has : (p : Option Attributes) → finmap.get handles.attributes absent.place.slot ≡ p → is_some p ≡ true
-      has None e = absurd (omega (arith, named.1, slots_none handles.attributes absent.place.slot e))
+      has : (p : Option C.Attributes) → finmap.get handles.attributes absent.place.slot ≡ p → C.is_some p ≡ true
+      has None e = absurd (omega (arith, named.1, C.slots_none handles.attributes absent.place.slot e))
       has (Some a) e = refl
 
-      turn : (p : Option Object) → object_at handles.heap absent.place.slot ≡ p → is_some p ≡ true → (o : Object) × (object_at handles.heap absent.place.slot ≡ Some o)
+      turn : (p : Option Object) → object_at handles.heap absent.place.slot ≡ p → C.is_some p ≡ true → (o : Object) × (object_at handles.heap absent.place.slot ≡ Some o)
       turn None e t = absurd (false≢true t)
       turn (Some o) e t = (o, e)
 
   abbrev handle : ℕ
   handle = handle_of object.0.kind absent.place.slot
 
-  told : global_handle handles selector ≡ dword_of selector handle
-  told = ap (λ (p : Option Part). elim p as (λ _. ℕ) [ None ↦ 0 | Some p ↦ unwrap_or (option_map (λ (o : Object). dword_of selector (handle_of o.kind p.slot)) (object_at handles.heap p.slot)) 0 ]) absent.named
-      ∙ ap (λ (p : Option Object). unwrap_or (option_map (λ (o : Object). dword_of selector (handle_of o.kind absent.place.slot)) p) 0) object.1
+  told : C.global_handle handles selector ≡ dword_of selector handle
+  told = ap (λ (p : Option Part). elim p as (λ _. ℕ) [ None ↦ 0 | Some p ↦ C.unwrap_or (C.option_map (λ (o : Object). dword_of selector (handle_of o.kind p.slot)) (object_at handles.heap p.slot)) 0 ]) absent.named
+      ∙ ap (λ (p : Option Object). C.unwrap_or (C.option_map (λ (o : Object). dword_of selector (handle_of o.kind absent.place.slot)) p) 0) object.1
 
   low : (kind : Kind) → dword_of selector (handle_of kind absent.place.slot) % 65536 ≡ handle_of kind absent.place.slot
   low Fixed = omega (arith, named.0, few)
@@ -92,19 +90,19 @@ module _ (handles : Handles) (is : AreHandles handles) (selector : ℕ) (absent 
   low Discardable = omega (arith, named.0, few)
 
   -- Its handle is in the low word of what GlobalHandle tells of the selector.
-  module _ (name : ℕ) (name_is : name ≡ offset_in (global_handle handles selector)) where
+  module _ (name : ℕ) (name_is : name ≡ offset_in (C.global_handle handles selector)) where
     same : name ≡ handle
     same = name_is ∙ ap (λ n. n % 65536) told ∙ low object.0.kind
 
     at : name / 8 ≡ absent.place.slot
     at = ap (λ n. n / 8) same ∙ slot_in_handle object.0.kind _
 
-    pub slot_is : far_slot handles selector ≡ name / 8
-    slot_is = rw (absent.named, far_slot) (sym at)
+    pub slot_is : C.far_slot handles selector ≡ name / 8
+    slot_is = rw (absent.named, C.far_slot) (sym at)
 
-    pub lacks : is_owned handles (name / 8) ≡ true → LacksBytes handles name
+    pub lacks : C.is_owned handles (name / 8) ≡ true → C.LacksBytes handles name
     lacks owned = record {
-      named = (names_law handles name absent.place.slot).0.1 (rw object.1 same) ∙ ap Some (sym at);
+      named = (C.names_law handles name absent.place.slot).0.1 (rw object.1 same) ∙ ap Some (sym at);
       owned = owned;
       without_bytes = ap (bytes_at handles.heap) at ∙ absent.without_bytes;
     }

@@ -1,14 +1,10 @@
 -- A world stays one where a file comes under a name that no file had, and all that is loaded stays as its file says.
 use Rattle.w16_kernel.proofs.Common.{◌≡◌, ℕ, Bool, true, false, cond, List, [], ◌∷◌, Option, Some, None, Ok, Err, IsSomeAnd, is_some, subst, refl, sym, ap, ◌∙◌, false≢true, Module, module_at, ne_format, World, LoadingWorld, IsWorldOver, IsLoadingWorld}
-use Rattle.w16_store.proofs.Finding.{file_of-nil, file_of-cons}
-use Rattle.w16_store.proofs.Naming.{named_by}
-use Rattle.w16_store.specs.Files.{file_of, AreWith}
-use Rattle.w16_store.specs.Names.{is_named}
+use Rattle.w16_store.proofs.{Finding.file_of-nil, Finding.file_of-cons, Naming.named_by}
+use Rattle.w16_store.specs.{Files.file_of, Files.AreWith, Names.is_named}
 use Rattle.std.specs.Prelude.{Result, OnOk, OnErr}
-use Rattle.w16_kernel.specs.Growing.{Growing}
-use Rattle.w16_kernel.specs.declared.growing.AddFault.{AddFault}
-use Rattle.w16_loading.specs.File.{ModuleFile}
-use Rattle.w16_loading.specs.Law.{IsOfFiles}
+use Rattle.w16_kernel.specs.{Growing.Growing, declared.growing.AddFault.AddFault}
+use Rattle.w16_loading.specs.{File.ModuleFile, Law.IsOfFiles}
 use Rattle.w16_loading.proofs.Worlds.{follows, same_module, is_used, is_load, owner_stays}
 
 -- equal names are of the same file

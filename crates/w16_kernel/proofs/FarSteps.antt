@@ -1,19 +1,17 @@
 -- Far accesses over a store, with what they fetch.
-use Rattle.w16_kernel.proofs.Common.{Err, None, Option, Some, MatchBool, MatchOption, Ok, Result, ne_format, KernelFetch, Refetches, IsWorldOver, reply_of, write_of, Bool, Dword, Failed, FarAnswer, FarCommand, FarFault, FarReplies, FetchFault, Fill}
-use Rattle.w16_kernel.proofs.Common.{FinMap, Handles, LoadingWorld, OfFar, OfHandles, OfLoading, Read, Step, Table, World, Write, ap, false, false≢true, far_slot, gives, inl, inr, left_in, nat_cmp, needs_fetch, refl, reply_of_far, selector_in, subst}
-use Rattle.w16_kernel.proofs.Common.{sym, true, with_handles, ℕ, ◌∙◌, ◌≡◌, handles_step, Moved}
-use Rattle.w16_loading.specs.Answers.{FetchesOver}
-use Rattle.w16_loading.specs.Families.{access_of}
+use Rattle.w16_kernel.proofs
+use proofs.Common as C
+use proofs.Common.{Err, None, Some, Ok, ne_format, Refetches, IsWorldOver, reply_of, Bool, Dword, FarAnswer, FarCommand, FarFault, FarReplies, Fill, Handles, LoadingWorld, OfFar, Read, Step, Table, World, Write, ap, false, false≢true, far_slot, gives, inl, inr, left_in, needs_fetch, refl}
+use proofs.Common.{reply_of_far, selector_in, subst, sym, true, with_handles, ℕ, ◌∙◌, ◌≡◌, Moved}
+use proofs.Stepping.{stay}
+use Rattle.w16_loading.specs.{Answers.FetchesOver, Families.access_of, Replies.Reply.Bytes, Replies.Reply.Done, Replies.Reply.Fault}
 use Rattle.w16_model.specs.Effects.{pointer_in}
+use Rattle.w16_kernel.specs.{declared.call.Reply.Reply, declared.far.Written.Written}
 use Rattle.w16_loading.specs.Replies as printed
-use Rattle.w16_loading.specs.Replies.Reply.{Bytes, Done, Fault}
-use Rattle.w16_kernel.specs.declared.call.Reply.{Reply}
 use Rattle.w16_kernel.specs.declared.call.Reply.TheVariants as code
-use Rattle.w16_kernel.specs.declared.far.Written.{Written}
 use Rattle.w16_kernel.specs.declared.far.Written.TheVariants as writes
-use Rattle.w16_kernel.proofs.Stepping.{stay}
 
-pub selector_of_write : (pointer : ℕ) (written : Written) → selector_in (pointer_in (write_of pointer written)) ≡ selector_in pointer
+pub selector_of_write : (pointer : ℕ) (written : Written) → selector_in (pointer_in (C.write_of pointer written)) ≡ selector_in pointer
 selector_of_write pointer (writes.Bytes bytes) = refl
 selector_of_write pointer (writes.Repeated count byte) = refl
 
@@ -31,23 +29,23 @@ given old next (Fill pointer count byte) (Fault fault) s = (ap reply_of_far s.0,
 given old next command reply s = absurd s
 
 abbrev Makes : Type 0 → World → FarCommand → printed.Reply → World → Type 0
-Makes honest old command reply new = Step honest ne_format old (OfLoading (OfFar command)) reply new
+Makes honest old command reply new = Step honest ne_format old (C.OfLoading (OfFar command)) reply new
 
 module _ (honest : Type 0) (old : World) (is : IsWorldOver honest old) (command : FarCommand) (reply : printed.Reply) where
   -- what fetches nothing
   pub made_once : (next : Handles) → needs_fetch (access_of command old.loading).0 old.loading (selector_in (pointer_in command)) ≡ false → FarReplies old.loading.handles command reply next → Makes honest old command reply (record old { loading = with_handles old.loading next })
   made_once next none s =
-      let step = handles_step honest ne_format old.loading next (OfFar command) reply none s in
+      let step = C.handles_step honest ne_format old.loading next (OfFar command) reply none s in
       (step, (λ i. record { loading = with_handles old.loading next; heaps = sym (stay honest old is _ _ _ none step) i; ds = old.ds }))
 
   -- one that has to fetch
   abbrev Fetching : LoadingWorld → Bool → Type 0
-  Fetching new b = MatchBool b ((fault : Option FetchFault) × (next : LoadingWorld) × FetchesOver honest ne_format old.loading.failures new.failures old.loading (far_slot old.loading.handles (selector_in (pointer_in command))) fault next
-      × MatchOption fault (gives (access_of command next) reply (record new { failures = old.loading.failures })) (λ f. (reply ≡ Failed f) × (record new { failures = old.loading.failures } ≡ next))) (gives (access_of command old.loading) reply (record new { failures = old.loading.failures }))
+  Fetching new b = C.MatchBool b ((fault : C.Option C.FetchFault) × (next : LoadingWorld) × FetchesOver honest ne_format old.loading.failures new.failures old.loading (far_slot old.loading.handles (selector_in (pointer_in command))) fault next
+      × C.MatchOption fault (gives (access_of command next) reply (record new { failures = old.loading.failures })) (λ f. (reply ≡ C.Failed f) × (record new { failures = old.loading.failures } ≡ next))) (gives (access_of command old.loading) reply (record new { failures = old.loading.failures }))
 
   -- what is made again after a fetch, and the sweep
   pub made_again : (mid : LoadingWorld) (next : Handles) → needs_fetch (access_of command old.loading).0 old.loading (selector_in (pointer_in command)) ≡ true
-      → KernelFetch honest old.loading (far_slot old.loading.handles (selector_in (pointer_in command))) None mid → FarReplies mid.handles command reply next
+      → C.KernelFetch honest old.loading (far_slot old.loading.handles (selector_in (pointer_in command))) None mid → FarReplies mid.handles command reply next
       → Makes honest old command reply (record { loading = with_handles mid next; heaps = left_in next.heap old.heaps; ds = old.ds })
   made_again mid next needed f s =
       let m : LoadingWorld = record mid { failures = old.loading.failures } in (
@@ -56,8 +54,8 @@ module _ (honest : Type 0) (old : World) (is : IsWorldOver honest old) (command 
       )
 
   -- what can't be fetched
-  pub not_made : (fault : FetchFault) (new : LoadingWorld) → needs_fetch (access_of command old.loading).0 old.loading (selector_in (pointer_in command)) ≡ true
-      → KernelFetch honest old.loading (far_slot old.loading.handles (selector_in (pointer_in command))) (Some fault) new → reply ≡ Failed fault → new.handles ≡ old.loading.handles
+  pub not_made : (fault : C.FetchFault) (new : LoadingWorld) → needs_fetch (access_of command old.loading).0 old.loading (selector_in (pointer_in command)) ≡ true
+      → C.KernelFetch honest old.loading (far_slot old.loading.handles (selector_in (pointer_in command))) (Some fault) new → reply ≡ C.Failed fault → new.handles ≡ old.loading.handles
       → Makes honest old command reply (record { loading = new; heaps = old.heaps; ds = old.ds })
   not_made fault new needed f e same = (
     record { counted = f.0.counted; files = f.0.same; step = subst (Fetching new) (sym needed) (Some fault, record new { failures = old.loading.failures }, f.1, (e, refl)) },
@@ -65,7 +63,7 @@ module _ (honest : Type 0) (old : World) (is : IsWorldOver honest old) (command 
   )
     where
       still : left_in old.loading.handles.heap old.heaps ≡ old.heaps
-      still = stay honest old is _ _ _ refl (handles_step honest ne_format old.loading old.loading.handles (OfHandles Moved) (Dword old.loading.handles.moved) tt (refl, refl))
+      still = stay honest old is _ _ _ refl (C.handles_step honest ne_format old.loading old.loading.handles (C.OfHandles Moved) (Dword old.loading.handles.moved) tt (refl, refl))
 
 -- An access that met a fault, and what became of it then.
 met_fault : (old : LoadingWorld) (next : Handles) (command : FarCommand) (fault : FarFault) → FarReplies old.handles command (Fault fault) next → FarAnswer.Fault fault ≡ (access_of command old).0
@@ -111,13 +109,13 @@ module _ (honest : Type 0) (old : World) (command : FarCommand) where
     met_here : FarReplies old.loading.handles command (Fault fault) old.loading.handles
     met_here = rw same at met
 
-    refetched : (result : Result (Unit {0}) Reply) (new : LoadingWorld) → Refetches honest (with_handles old.loading next) selector fault result new → Refetches honest old.loading (selector_in (pointer_in command)) fault result new
+    refetched : (result : C.Result (Unit {0}) Reply) (new : LoadingWorld) → Refetches honest (with_handles old.loading next) selector fault result new → Refetches honest old.loading (selector_in (pointer_in command)) fault result new
     refetched result new f = rw (named, same) at f
 
     pub ended_by : IsWorldOver honest old → (reply : Reply) (new : LoadingWorld) → Refetches honest (with_handles old.loading next) selector fault (Err reply) new
         → Makes honest old command (reply_of reply) (record { loading = new; heaps = old.heaps; ds = old.ds })
     ended_by is reply new f = ended honest old is command fault met_here reply new (refetched (Err reply) new f)
 
-    pub remade_by : IsWorldOver honest old → (mid : LoadingWorld) (reply : printed.Reply) (last : Handles) (heaps : FinMap nat_cmp Table) → Refetches honest (with_handles old.loading next) selector fault (Ok tt) mid → FarReplies mid.handles command reply last
+    pub remade_by : IsWorldOver honest old → (mid : LoadingWorld) (reply : printed.Reply) (last : Handles) (heaps : C.FinMap C.nat_cmp Table) → Refetches honest (with_handles old.loading next) selector fault (Ok tt) mid → FarReplies mid.handles command reply last
         → heaps ≡ left_in last.heap old.heaps → Makes honest old command reply (record { loading = with_handles mid last; heaps = heaps; ds = old.ds })
     remade_by is mid reply last heaps f s left = rw left (remade honest old is command fault met_here mid reply last (refetched (Ok tt) mid f) s)

@@ -1,22 +1,22 @@
 -- Calls on modules and resources.
-use Rattle.w16_kernel.proofs.Common.{ne_format, load_command, Modules, FetchesFrom, LoadsFrom, StepOver, told, Fills, IsLater, FamilyStep, Bool, Handles, List, LoadingCommand, LoadingWorld, OfModules, arith, false, subst, sym, true, ℕ, ◌≡◌}
-use Rattle.w16_loading.specs.Families as families
-use Rattle.w16_loading.specs.Load.{Answer}
-use Rattle.w16_loading.specs.Replies as printed
-use Rattle.w16_loading.specs.Answers.{Answers, FillsFewest}
+use Rattle.w16_kernel.proofs.Common as C
+use Rattle.w16_kernel.proofs.Common.{ne_format, load_command, LoadsFrom, told, Fills, Bool, List, LoadingWorld, arith, false, subst, sym, true, ℕ, ◌≡◌}
+use Rattle.w16_loading.specs.{Load.Answer, Answers.Answers, Answers.FillsFewest}
 use Rattle.w16_machine.proofs.Stepped.{fetching, loading}
 use Rattle.w16_loading.proofs.Requests.{load_fills}
+use Rattle.w16_loading.specs.Families as families
+use Rattle.w16_loading.specs.Replies as printed
 
 -- a step that reads no file
-pub unread : (honest : Type 0) (old new : LoadingWorld) (command : LoadingCommand) (reply : printed.Reply) → new.files ≡ old.files → new.failures ≡ old.failures
-    → FamilyStep (fetching honest ne_format old new) (loading honest ne_format old new) old command reply (record new { failures = old.failures }) → StepOver honest ne_format old command reply new
+pub unread : (honest : Type 0) (old new : LoadingWorld) (command : C.LoadingCommand) (reply : printed.Reply) → new.files ≡ old.files → new.failures ≡ old.failures
+    → C.FamilyStep (fetching honest ne_format old new) (loading honest ne_format old new) old command reply (record new { failures = old.failures }) → C.StepOver honest ne_format old command reply new
 unread honest old new command reply files same s = record { counted = omega (arith, same); files = files; step = s }
 
 -- A load.
-module _ {honest : Type 0} {old : LoadingWorld} {next : Handles} {loaded : Modules} {left : List (List ℕ × List ℕ)} {count : ℕ} where
-  pub load_told : (is_load_module : Bool) {file : List ℕ} {answer : Answer} {reply : printed.Reply} → reply ≡ families.reply_of answer → IsLater old.files old.failures left count
+module _ {honest : Type 0} {old : LoadingWorld} {next : C.Handles} {loaded : C.Modules} {left : List (List ℕ × List ℕ)} {count : ℕ} where
+  pub load_told : (is_load_module : Bool) {file : List ℕ} {answer : Answer} {reply : printed.Reply} → reply ≡ families.reply_of answer → C.IsLater old.files old.failures left count
       → ((rest : LoadingWorld) → LoadsFrom FillsFewest (told honest ne_format old.files old.failures count) is_load_module (record old { loads = rest.loads }) file answer (record old { handles = next; modules = loaded; loads = rest.loads }))
-      → StepOver honest ne_format old (OfModules (load_command is_load_module file)) reply (record old { handles = next; modules = loaded; files = left; failures = count })
+      → C.StepOver honest ne_format old (C.OfModules (load_command is_load_module file)) reply (record old { handles = next; modules = loaded; files = left; failures = count })
   load_told is_load_module {file = file} {answer = answer} {reply = reply} e later over = record {
     counted = later.counted;
     files = later.same;
@@ -28,6 +28,6 @@ module _ {honest : Type 0} {old : LoadingWorld} {next : Handles} {loaded : Modul
       answers = told honest ne_format old.files old.failures count
 
       turn : (b : Bool) → LoadsFrom Fills answers b old file answer (record old { handles = next; modules = loaded; files = left })
-          → FamilyStep (FetchesFrom Fills answers) (LoadsFrom Fills answers) old (OfModules (load_command b file)) reply (record old { handles = next; modules = loaded; files = left })
+          → C.FamilyStep (C.FetchesFrom Fills answers) (LoadsFrom Fills answers) old (C.OfModules (load_command b file)) reply (record old { handles = next; modules = loaded; files = left })
       turn true f = (answer, e, f)
       turn false f = (answer, e, f)

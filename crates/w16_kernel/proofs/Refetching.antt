@@ -1,21 +1,18 @@
 -- What becomes of an access that met a fault: what the kernel fetches is the object that the access asked for.
-use Rattle.w16_kernel.proofs.Common.{None, Option, Some, length-map, slice_get_within, slice_get, IfNone, ◌-◌, ◌/◌, ne_format, segment_in, tables_in, IsAbsent, IsSourceFor, KernelFetch, IsLoadingOver, IsSourceOf, LacksBytes, owner_in}
-use Rattle.w16_kernel.proofs.Common.{IsSegmentOf, Module, Segment, Tables, module_at, segment_among, of_segment, owner_law, segment_owned, FetchesFrom, told, IsLater, owner_of, Bool, FarAnswer, FetchFault, Handles}
-use Rattle.w16_kernel.proofs.Common.{IsLoadingWorld, IsSomeAnd, List, LoadingWorld, ap, arith, false, far_slot, is_some, length, needs_fetch, offset_in, owned_at, refl, subst, sym, true, ℕ, ◌<◌, ◌∙◌, ◌≡◌, ◌≤◌, global_handle, is_owned, stays}
-use Rattle.std.specs.FinMap as finmap
-use Rattle.w16_loading.specs.Owner.Owner.{OfSegment, Script}
+use Rattle.w16_kernel.proofs
+use proofs.Common as C
+use proofs.Common.{None, Option, Some, slice_get, ◌-◌, ◌/◌, IsSourceFor, Module, segment_among, told, Bool, FarAnswer, List, LoadingWorld, ap, arith, false, far_slot, length, needs_fetch, refl, subst, sym, true, ℕ, ◌<◌, ◌∙◌, ◌≡◌, ◌≤◌, is_owned, stays}
+use proofs.Absent.{lacks, slot_is}
+use Rattle.w16_loading.specs.{Owner.Owner.OfSegment, Owner.Owner.Script, Answers.FillsFewest}
 use Rattle.w16_model.specs.declared.FarFault.TheVariants.{NotPresent}
-use Rattle.w16_loader.specs.declared.table.SegmentOf.{SegmentOf}
-use Rattle.w16_loader.specs.declared.segment_fetch.SegmentSource.{SegmentSource}
-use Rattle.w16_loader.specs.Fetching.{GivesSegment}
+use Rattle.w16_loader.specs.{declared.table.SegmentOf.SegmentOf, declared.segment_fetch.SegmentSource.SegmentSource, Fetching.GivesSegment}
 use Rattle.w16_loader.proofs.Fetches.{fetches}
-use Rattle.w16_loading.specs.Answers.{FillsFewest}
-use Rattle.w16_kernel.proofs.Absent.{lacks, slot_is}
 use Rattle.w16_loading.proofs.Requests.{fetch_fills}
+use Rattle.std.specs.FinMap as finmap
 
 -- Look-ups that find nothing, and a module.
 
-pub none_so : {A : Type 0} (r : Option A) {P : Type 0} → r ≡ None → P → IfNone r P
+pub none_so : {A : Type 0} (r : Option A) {P : Type 0} → r ≡ None → P → C.IfNone r P
 none_so None e h = h
 none_so (Some a) e h = tt
 
@@ -23,30 +20,30 @@ pub no_module : {m : Module} → ◌≡◌ {A = Option Module} None (Some m) →
 no_module e = cc
 
 -- the module of a segment is the one of its handle
-pub source_for : {A : Type 0} {world : LoadingWorld} {slot handle number : ℕ} {n m : Module} {source : SegmentSource A} → IsSegmentOf world slot handle number n → module_at world.modules handle ≡ Some m → number ≡ source.number
-    → IsSourceOf m number source.file.now source.values.now → m.tables ≡ tables_in source.module.now → IsSourceFor world slot source
+pub source_for : {A : Type 0} {world : LoadingWorld} {slot handle number : ℕ} {n m : Module} {source : SegmentSource A} → C.IsSegmentOf world slot handle number n → C.module_at world.modules handle ≡ Some m → number ≡ source.number
+    → C.IsSourceOf m number source.file.now source.values.now → m.tables ≡ C.tables_in source.module.now → IsSourceFor world slot source
 source_for {slot = slot} {handle = handle} {number = number} {n = n} {m = m} {source = source} segment loaded same of tables =
     let is : n ≡ m = (let e = sym segment.loaded ∙ loaded in cc) in record {
       handle = handle;
       m = m;
       segment = record { loaded = loaded; has = subst (λ k. (0 < k) × (slice_get m.slots (k - 1) ≡ Some slot)) same (subst (λ (m : Module). (0 < number) × (slice_get m.slots (number - 1) ≡ Some slot)) is segment.has) };
-      source_of = subst (λ n. IsSourceOf m n source.file.now source.values.now) same of;
+      source_of = subst (λ n. C.IsSourceOf m n source.file.now source.values.now) same of;
       tables = tables;
     }
 
 -- An object that is no resource is a module's segment or the script's.
-module _ {world : LoadingWorld} (slot : ℕ) (is : IsLoadingWorld world) (none : finmap.get world.loads slot ≡ None) where
-  owner_is : owner_of world slot ≡ segment_among (finmap.entries world.modules) slot
-  owner_is = rw (none, owner_of)
+module _ {world : LoadingWorld} (slot : ℕ) (is : C.IsLoadingWorld world) (none : finmap.get world.loads slot ≡ None) where
+  owner_is : C.owner_of world slot ≡ segment_among (finmap.entries world.modules) slot
+  owner_is = rw (none, C.owner_of)
 
-  pub unowned : owner_in None ≡ segment_among (finmap.entries world.modules) slot → owned_at world.handles slot ≡ None
-  unowned e = (owner_law world slot Script is).0 (owner_is ∙ sym e)
+  pub unowned : C.owner_in None ≡ segment_among (finmap.entries world.modules) slot → C.owned_at world.handles slot ≡ None
+  unowned e = (C.owner_law world slot Script is).0 (owner_is ∙ sym e)
 
-  pub segment_there : (place : SegmentOf) → owner_in (Some place) ≡ segment_among (finmap.entries world.modules) slot → (m : Module) × IsSegmentOf world slot place.handle place.number m
-  segment_there place e = (owner_law world slot (OfSegment place.handle place.number) is).0 (owner_is ∙ sym e)
+  pub segment_there : (place : SegmentOf) → C.owner_in (Some place) ≡ segment_among (finmap.entries world.modules) slot → (m : Module) × C.IsSegmentOf world slot place.handle place.number m
+  segment_there place e = (C.owner_law world slot (OfSegment place.handle place.number) is).0 (owner_is ∙ sym e)
 
 -- An access that met an object without bytes.
-module _ {honest : Type 0} {old : LoadingWorld} (is : IsLoadingOver honest old) {selector : ℕ} (absent : IsAbsent old.handles selector) (few : selector < 65536) {name : ℕ} (named : name ≡ offset_in (global_handle old.handles selector)) where
+module _ {honest : Type 0} {old : LoadingWorld} (is : C.IsLoadingOver honest old) {selector : ℕ} (absent : C.IsAbsent old.handles selector) (few : selector < 65536) {name : ℕ} (named : name ≡ C.offset_in (C.global_handle old.handles selector)) where
   pub here : far_slot old.handles selector ≡ name / 8
   here = slot_is old.handles is.0.handles selector absent few name named
 
@@ -55,39 +52,39 @@ module _ {honest : Type 0} {old : LoadingWorld} (is : IsLoadingOver honest old) 
   needs e = ap (is_owned old.handles) here ∙ e
 
   -- what is fetched is a module's
-  pub resource_fetched : is_owned old.handles (name / 8) ≡ true → (fault : Option FetchFault) {next : Handles} {left : List (List ℕ × List ℕ)} {count : ℕ} → IsLater old.files old.failures left count
-      → (LacksBytes old.handles name → FetchesFrom FillsFewest (told honest ne_format old.files old.failures count) old (name / 8) fault (record old { handles = next }))
-      → (needs_fetch (FarAnswer.Fault NotPresent) old selector ≡ true) × KernelFetch honest old (far_slot old.handles selector) fault (record old { handles = next; files = left; failures = count })
+  pub resource_fetched : is_owned old.handles (name / 8) ≡ true → (fault : Option C.FetchFault) {next : C.Handles} {left : List (List ℕ × List ℕ)} {count : ℕ} → C.IsLater old.files old.failures left count
+      → (C.LacksBytes old.handles name → C.FetchesFrom FillsFewest (told honest C.ne_format old.files old.failures count) old (name / 8) fault (record old { handles = next }))
+      → (needs_fetch (FarAnswer.Fault NotPresent) old selector ≡ true) × C.KernelFetch honest old (far_slot old.handles selector) fault (record old { handles = next; files = left; failures = count })
   resource_fetched owned fault stays fetch =
-      (needs owned, rw here (stays, rw stays.same (fetch_fills (told honest ne_format old.files old.failures _) old (name / 8) fault _ (fetch (lacks old.handles is.0.handles selector absent few name named owned)))))
+      (needs owned, rw here (stays, rw stays.same (fetch_fills (told honest C.ne_format old.files old.failures _) old (name / 8) fault _ (fetch (lacks old.handles is.0.handles selector absent few name named owned)))))
 
   -- or a segment
   module _ {slot : ℕ} (at : slot ≡ name / 8) (segment : finmap.get old.loads (far_slot old.handles selector) ≡ None) where
     unloaded : finmap.get old.loads slot ≡ None
     unloaded = ap (finmap.get old.loads) (at ∙ sym here) ∙ segment
 
-    pub not_needed : (finmap.get old.loads slot ≡ None → owned_at old.handles slot ≡ None) → needs_fetch (FarAnswer.Fault NotPresent) old selector ≡ false
-    not_needed none = needs (ap (is_owned old.handles) (sym at) ∙ ap is_some (none unloaded))
+    pub not_needed : (finmap.get old.loads slot ≡ None → C.owned_at old.handles slot ≡ None) → needs_fetch (FarAnswer.Fault NotPresent) old selector ≡ false
+    not_needed none = needs (ap (is_owned old.handles) (sym at) ∙ ap C.is_some (none unloaded))
 
     module _ {A : Type 0} {source : SegmentSource A} (found : finmap.get old.loads slot ≡ None → IsSourceFor old slot source) where
       -- its number is one of its file's
       pub within : (0 < source.number) × (source.number ≤ length source.module.now.segments)
-      within = let s = found unloaded in (s.segment.has.0, turn _ (slice_get s.m.tables.segments (source.number - 1)) refl (of_segment old is.0 slot s.handle source.number s.m s.segment))
+      within = let s = found unloaded in (s.segment.has.0, turn _ (slice_get s.m.tables.segments (source.number - 1)) refl (C.of_segment old is.0 slot s.handle source.number s.m s.segment))
         where
-          turn : (P : Segment → Type 0) (p : Option Segment) → slice_get (found unloaded).m.tables.segments (source.number - 1) ≡ p → IsSomeAnd p P → source.number ≤ length source.module.now.segments
+          turn : (P : C.Segment → Type 0) (p : Option C.Segment) → slice_get (found unloaded).m.tables.segments (source.number - 1) ≡ p → C.IsSomeAnd p P → source.number ≤ length source.module.now.segments
           turn P None e h = absurd h
           turn P (Some x) e h =
               let s = found unloaded in
-              let inside = slice_get_within s.m.tables.segments (source.number - 1) x e in
-              let as_long = ap (λ (t : Tables). length t.segments) s.tables ∙ length-map source.module.now.segments segment_in in
+              let inside = C.slice_get_within s.m.tables.segments (source.number - 1) x e in
+              let as_long = ap (λ (t : C.Tables). length t.segments) s.tables ∙ C.length-map source.module.now.segments C.segment_in in
               let some = s.segment.has.0 in
               omega (arith, inside, as_long, some)
 
-      pub fetched : (fault : Option FetchFault) {next : Handles} {left : List (List ℕ × List ℕ)} {count : ℕ} → IsLater old.files old.failures left count
-          → (LacksBytes old.handles name → GivesSegment honest old.files source.file.now source.module.now source.number source.values.now old.failures count old.handles (name / 8) fault next)
-          → (needs_fetch (FarAnswer.Fault NotPresent) old selector ≡ true) × KernelFetch honest old (far_slot old.handles selector) fault (record old { handles = next; files = left; failures = count })
+      pub fetched : (fault : Option C.FetchFault) {next : C.Handles} {left : List (List ℕ × List ℕ)} {count : ℕ} → C.IsLater old.files old.failures left count
+          → (C.LacksBytes old.handles name → GivesSegment honest old.files source.file.now source.module.now source.number source.values.now old.failures count old.handles (name / 8) fault next)
+          → (needs_fetch (FarAnswer.Fault NotPresent) old selector ≡ true) × C.KernelFetch honest old (far_slot old.handles selector) fault (record old { handles = next; files = left; failures = count })
       fetched fault {next = next} {count = count} stays given =
           let s : IsSourceFor old (name / 8) source = subst (λ q. IsSourceFor old q source) at (found unloaded) in
-          let owned = ap is_some (segment_owned old is.0 (name / 8) s.handle source.number s.m s.segment).1.owned in
+          let owned = ap C.is_some (C.segment_owned old is.0 (name / 8) s.handle source.number s.m s.segment).1.owned in
           resource_fetched owned fault stays (λ l. fetches honest old (name / 8) source.number source.file.now source.module.now source.values.now within.1
           (record { sound = is.0; of_files = is.1; handle = s.handle; m = s.m; segment = s.segment; source = s.source_of; tables = s.tables }) old.failures count fault next (given l))

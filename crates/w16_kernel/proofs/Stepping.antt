@@ -1,24 +1,23 @@
 -- A step over the kernel's parts, and the sweep after it, are one step of the machine.
-use Rattle.w16_kernel.proofs.Common.{ne_format, IsWorldOver, KernelStep, ReadsCode, Unswept, may_take_bytes, surviving_heaps, reply_of, code_reads_law, StepOver, Bool, Command, Dword, Heap, IsCommand, LoadingCommand, LoadingWorld, OfFar}
-use Rattle.w16_kernel.proofs.Common.{OfHandles, OfLoading, OfLocals, OfModules, OfResizes, OfResources, Step, World, [], after_loading, false, false≢true, left_in, refl, sym, true, ℕ, ◌∷◌, ◌≡◌, ◌≤◌, heaps_law, handles_step, files_law, world_law}
-use Rattle.w16_kernel.proofs.Common.{step_may_take, promised_step, Promises, Moved}
+use Rattle.w16_kernel.proofs
+use proofs.Common as C
+use proofs.Common.{ne_format, IsWorldOver, may_take_bytes, reply_of, StepOver, Bool, Command, Dword, Heap, IsCommand, LoadingCommand, LoadingWorld, OfFar, OfHandles, OfLoading, Step, World, [], false, false≢true, left_in, refl, sym, true, ℕ, ◌∷◌, ◌≡◌, ◌≤◌, step_may_take, Moved}
 use Rattle.w16_loading.proofs.Requests.{requests_fewest_law}
-use Rattle.w16_loading.specs.Answers.{FewestOver}
-use Rattle.w16_loading.specs.Replies as printed
-use Rattle.w16_loading.specs.Replies.Reply.{Bytes}
+use Rattle.w16_loading.specs.{Answers.FewestOver, Replies.Reply.Bytes}
 use Rattle.w16_model.specs.Far.FarCommand.{Read}
 use Rattle.w16_kernel.specs.declared.call.Reply.{Reply}
+use Rattle.w16_loading.specs.Replies as printed
 
 -- the world that the sweep leaves
 abbrev pub with_surviving : World → Command → World
-with_surviving w command = record w { heaps = surviving_heaps (may_take_bytes command) w.loading.handles.heap w.heaps }
+with_surviving w command = record w { heaps = C.surviving_heaps (may_take_bytes command) w.loading.handles.heap w.heaps }
 
 module _ (honest : Type 0) (old : World) (is : IsWorldOver honest old) where
   -- after a step that takes no bytes all heaps stay
   pub stay : (command : LoadingCommand) (reply : printed.Reply) (new : LoadingWorld) → step_may_take old.loading command ≡ false → StepOver honest ne_format old.loading command reply new → left_in new.handles.heap old.heaps ≡ old.heaps
-  stay command reply new none s = heaps_law honest ne_format old (after_loading old new) command reply is.0.heaps none (s, refl)
+  stay command reply new none s = C.heaps_law honest ne_format old (C.after_loading old new) command reply is.0.heaps none (s, refl)
 
-  survive : (b : Bool) (heap : Heap) → (b ≡ false → left_in heap old.heaps ≡ old.heaps) → surviving_heaps b heap old.heaps ≡ left_in heap old.heaps
+  survive : (b : Bool) (heap : Heap) → (b ≡ false → left_in heap old.heaps ≡ old.heaps) → C.surviving_heaps b heap old.heaps ≡ left_in heap old.heaps
   survive true heap same = refl
   survive false heap same = sym (same refl)
 
@@ -32,21 +31,21 @@ module _ (honest : Type 0) (old : World) (is : IsWorldOver honest old) where
       → StepOver honest ne_format old.loading command reply new → Step honest ne_format old (OfLoading command) reply (with_surviving mid (OfLoading command))
   unchanged command reply mid new same none s = rw same (swept command reply new none s)
 
-  swept_step : (command : Command) (reply : printed.Reply) (mid : World) → Unswept honest old command reply mid → Step honest ne_format old command reply (with_surviving mid command)
-  swept_step (OfLocals command) reply mid s = s
+  swept_step : (command : Command) (reply : printed.Reply) (mid : World) → C.Unswept honest old command reply mid → Step honest ne_format old command reply (with_surviving mid command)
+  swept_step (C.OfLocals command) reply mid s = s
   swept_step (OfLoading (OfHandles command)) reply mid s =
-      unchanged _ _ _ _ s.1 (λ e. e) (handles_step honest ne_format old.loading _ (OfHandles command) reply tt s.0)
-  swept_step (OfLoading (OfResizes command)) reply mid s =
-      unchanged _ _ _ _ s.1 (λ e. absurd (false≢true (sym e))) (handles_step honest ne_format old.loading _ (OfResizes command) reply tt s.0)
+      unchanged _ _ _ _ s.1 (λ e. e) (C.handles_step honest ne_format old.loading _ (OfHandles command) reply tt s.0)
+  swept_step (OfLoading (C.OfResizes command)) reply mid s =
+      unchanged _ _ _ _ s.1 (λ e. absurd (false≢true (sym e))) (C.handles_step honest ne_format old.loading _ (C.OfResizes command) reply tt s.0)
   swept_step (OfLoading (OfFar command)) reply mid s = s
-  swept_step (OfLoading (OfModules command)) reply mid s = unchanged _ _ _ _ s.1 (λ e. e) s.0
-  swept_step (OfLoading (OfResources command)) reply mid s = unchanged _ _ _ _ s.1 (λ e. e) s.0
+  swept_step (OfLoading (C.OfModules command)) reply mid s = unchanged _ _ _ _ s.1 (λ e. e) s.0
+  swept_step (OfLoading (C.OfResources command)) reply mid s = unchanged _ _ _ _ s.1 (λ e. e) s.0
 
   -- what an answered read of code tells
-  reads_code : (command : Command) (reply : printed.Reply) (new : World) → Step honest ne_format old command reply new → honest → ReadsCode old command reply
+  reads_code : (command : Command) (reply : printed.Reply) (new : World) → Step honest ne_format old command reply new → honest → C.ReadsCode old command reply
   reads_code command reply new s h = λ pointer count bytes slot handle number m c r named segment coded.
       let far : Step honest ne_format old (OfLoading (OfFar (Read pointer count))) (Bytes bytes) new = rw (c, r) at s in
-      code_reads_law honest ne_format old.loading new.loading pointer count bytes slot handle number m h is.0.loading (is.1 h) far.0 named segment coded
+      C.code_reads_law honest ne_format old.loading new.loading pointer count bytes slot handle number m h is.0.loading (is.1 h) far.0 named segment coded
 
   -- and what is asked room for
   asks : (command : Command) (reply : printed.Reply) (new : World) → Step honest ne_format old command reply new → (asked : LoadingCommand) → command ≡ OfLoading asked → FewestOver honest ne_format old.loading asked reply new.loading
@@ -57,8 +56,8 @@ module _ (honest : Type 0) (old : World) (is : IsWorldOver honest old) where
   -- a step leaves a world, of its files where the store is honest
   kept : (command : Command) (reply : printed.Reply) (new : World) → IsCommand command → Step honest ne_format old command reply new → IsWorldOver honest new
   kept command reply new known step = (
-    world_law honest ne_format old new command reply is.0 known step,
-    λ h. (files_law honest ne_format old new command reply h (is.0, is.1 h) known step).1,
+    C.world_law honest ne_format old new command reply is.0 known step,
+    λ h. (C.files_law honest ne_format old new command reply h (is.0, is.1 h) known step).1,
   )
 
   -- So does a call that did nothing but that the store failed meanwhile: it is as one that only tells a number.
@@ -69,15 +68,15 @@ module _ (honest : Type 0) (old : World) (is : IsWorldOver honest old) where
       kept (OfLoading (OfHandles Moved)) told (record old { loading = new }) tt (swept (OfHandles Moved) told new (λ e. e) (record { counted = counted; files = refl; step = (old.loading.handles, (refl, refl), refl) }))
 
   -- What the kernel tells of a reply: the step, what a run of it promises, and that it leaves a world.
-  module _ (command : Command) (reply : Reply) (mid : World) (step : Unswept honest old command (reply_of reply) mid) where
+  module _ (command : Command) (reply : Reply) (mid : World) (step : C.Unswept honest old command (reply_of reply) mid) where
     made : Step honest ne_format old command (reply_of reply) (with_surviving mid command)
     made = swept_step command _ mid step
 
-    pub told_step : KernelStep honest old command (reply_of reply) (with_surviving mid command)
+    pub told_step : C.KernelStep honest old command (reply_of reply) (with_surviving mid command)
     told_step = record { step = made; code = reads_code _ _ _ made; requests = asks _ _ _ made }
 
-    pub told_promises : IsCommand command → Promises old (record { command = command; reply = reply_of reply; after = with_surviving mid command } ∷ [])
-    told_promises known = promised_step honest ne_format old (with_surviving mid command) command (reply_of reply) is.0 known made
+    pub told_promises : IsCommand command → C.Promises old (record { command = command; reply = reply_of reply; after = with_surviving mid command } ∷ [])
+    told_promises known = C.promised_step honest ne_format old (with_surviving mid command) command (reply_of reply) is.0 known made
 
     pub told_world : IsCommand command → IsWorldOver honest (with_surviving mid command)
     told_world known = kept command _ _ known made

@@ -1,8 +1,7 @@
 -- A question that changes nothing.
 use Rattle.w16_kernel.proofs.Common.{ap, refl, sym, Handles, ℕ, ◌∙◌, ◌≡◌}
 use Rattle.w16_model.proofs.CallOutcomes.{none_moved}
-use Rattle.w16_model.specs.Calls.{GlobalCompacts}
-use Rattle.w16_model.specs.Request.{moved_bytes}
+use Rattle.w16_model.specs.{Calls.GlobalCompacts, Request.moved_bytes}
 
 -- GlobalCompact of size 0, where nothing was moved before
 pub unasked : (old new : Handles) (answer : ℕ) → old.moved ≡ 0 → GlobalCompacts old 0 answer new → new ≡ old

@@ -1,11 +1,7 @@
 -- By what a proof tells worlds apart, so that one can be the value of a model.
-use Rattle.std.specs.Prelude.{ℕ, refl}
-use Rattle.std.specs.Coded.{Coded, code_by, coded×, coded_ℕ}
-use Rattle.std.specs.Ordering.{nat_cmp}
-use Rattle.std.specs.FinMap.{FinMap}
+use Rattle.std.specs.{Prelude.ℕ, Prelude.refl, Coded.Coded, Coded.code_by, Coded.coded×, Coded.coded_ℕ, Ordering.nat_cmp, FinMap.FinMap}
 use Rattle.w16_model.specs.Table.{Table}
-use Rattle.w16_loading.specs.Codes.{world_code as loading_world_code}
-use Rattle.w16_loading.specs.Modules.{LoadingWorld}
+use Rattle.w16_loading.specs.{Codes.world_code as loading_world_code, Modules.LoadingWorld}
 use Rattle.w16_machine.specs.World.{World}
 use Rattle.w16_local.specs.Codes.{tables_code}
 

@@ -1,22 +1,13 @@
 -- Fetches that a far access asks for.
 use Rattle.std.specs.Prelude.{◌≡◌, ℕ, ◌⊎◌, true, false, Option, Some, None, Result, Ok, Err}
-use Rattle.w16_model.specs.declared.FarFault.{FarFault}
-use Rattle.w16_model.specs.Far.{far_slot}
-use Rattle.w16_model.specs.Far as far
-use Rattle.w16_model.specs.Handles.{Handles, Part, part_of_selector}
-use Rattle.w16_model.specs.Heap.{bytes_at}
+use Rattle.w16_model.specs.{declared.FarFault.FarFault, Far.far_slot, Handles.Handles, Handles.Part, Handles.part_of_selector, Heap.bytes_at}
 use Rattle.w16_store.specs.Later.{IsLater}
-use Rattle.w16_loading.specs.declared.FetchFault.{FetchFault}
-use Rattle.w16_loading.specs.Answers.{FetchesOver}
-use Rattle.w16_loading.specs.Fetch.{needs_fetch}
-use Rattle.w16_loading.specs.Modules.{IsSegmentOf, LoadingWorld, Module}
-use Rattle.w16_loading.specs.Replies.Reply.{Failed, Fault}
-use Rattle.w16_format.specs.Ne.{ne_format}
-use Rattle.w16_format.specs.Tables.{tables_in}
-use Rattle.w16_loader.specs.declared.segment_fetch.SegmentSource.{SegmentSource}
-use Rattle.w16_loader.specs.Fetching.{IsSourceOf}
-use Rattle.w16_kernel.specs.declared.call.Reply as code
+use Rattle.w16_loading.specs.{declared.FetchFault.FetchFault, Answers.FetchesOver, Fetch.needs_fetch, Modules.IsSegmentOf, Modules.LoadingWorld, Modules.Module, Replies.Reply.Failed, Replies.Reply.Fault}
+use Rattle.w16_format.specs.{Ne.ne_format, Tables.tables_in}
+use Rattle.w16_loader.specs.{declared.segment_fetch.SegmentSource.SegmentSource, Fetching.IsSourceOf}
 use Rattle.w16_kernel.specs.Runs.{reply_of}
+use Rattle.w16_model.specs.Far as far
+use Rattle.w16_kernel.specs.declared.call.Reply as code
 
 -- a selector leads to an object without bytes
 pub record IsAbsent (handles : Handles) (selector : ℕ) : Type 0 where

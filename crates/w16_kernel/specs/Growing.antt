@@ -1,13 +1,10 @@
 -- Files that come while a machine runs.
 use Rattle.std.specs.Prelude.{◌≡◌, ℕ, List, length, nat_lt, if◌then◌else◌, Option, Some, None, IsSome, Result, Err, refl}
 use Rattle.std.specs.Coded.{Coded, code_by, coded×, coded_ℕ, coded_list, coded_option}
-use Rattle.w16_store.specs.Files.{file_of, AreWith}
-use Rattle.w16_store.specs.declared.store.StoreFault.{StoreFault}
-use Rattle.w16_store.specs.declared.store.StoreFault.TheVariants.{Missing}
+use Rattle.w16_store.specs.{Files.file_of, Files.AreWith, declared.store.StoreFault.StoreFault, declared.store.StoreFault.TheVariants.Missing}
 use Rattle.w16_machine.specs.World.{World}
-use Rattle.w16_kernel.specs.declared.growing.AddFault.{AddFault}
 use Rattle.w16_kernel.specs.declared.growing.AddFault.TheVariants.{Exists, Memory}
-use Rattle.w16_kernel.specs.declared.growing.TheConstants.{MOST_NAME}
+use Rattle.w16_kernel.specs.{declared.growing.AddFault.AddFault, declared.growing.TheConstants.MOST_NAME}
 
 -- A store that grows: its files, and the name by which a length was last asked for and no file found, if it is kept.
 pub record Growing : Type 0 where

@@ -1,33 +1,17 @@
 -- A step over the parts of the machine that the kernel has.
 use Rattle.std.specs.Prelude.{◌≡◌, ◌≢◌, ◌≤◌, ℕ, ◌/◌, ◌==◌, ◌||◌, Bool, true, false, if◌then◌else◌, List, length, Option, Some, None, option_map, unwrap_or, IfSome, IsSomeAnd}
-use Rattle.std.specs.Ordering.{nat_cmp}
-use Rattle.std.specs.FinMap as finmap
-use Rattle.std.specs.FinMap.{FinMap}
-use Rattle.w16_model.specs.Bytes.{part}
+use Rattle.std.specs.{Ordering.nat_cmp, FinMap.FinMap}
 use Rattle.w16_model.specs.Calls.HandleCommand.{GlobalAlloc, GlobalFree, GlobalCompact}
-use Rattle.w16_model.specs.Changes.{without}
-use Rattle.w16_model.specs.Handles.{Handles, offset_in, selector_in, slot_of_selector}
-use Rattle.w16_model.specs.Heap.{Heap}
-use Rattle.w16_model.specs.Table.{Table}
-use Rattle.w16_model.specs.Far.FarCommand.{Read}
-use Rattle.w16_loading.specs.Answers.{FewestOver, StepOver}
-use Rattle.w16_loading.specs.Families.{LoadingCommand}
+use Rattle.w16_model.specs.{Bytes.part, Changes.without, Handles.Handles, Handles.offset_in, Handles.selector_in, Handles.slot_of_selector, Heap.Heap, Table.Table, Far.FarCommand.Read}
 use Rattle.w16_loading.specs.Families.LoadingCommand.{OfHandles, OfResizes, OfFar, OfModules, OfResources}
-use Rattle.w16_loading.specs.Fetch.{is_code, segment_bytes}
-use Rattle.w16_loading.specs.Law.{IsOfFiles}
 use Rattle.w16_loading.specs.Modules.{IsSegmentOf, Load, Module, Modules, with_handles}
-use Rattle.w16_loading.specs.Replies.{Reply}
-use Rattle.w16_loading.specs.Replies.Reply.{Bytes, Word}
 use Rattle.w16_loading.specs.Resizes.ResizeCommand.{GlobalReAlloc, GlobalDiscard}
+use Rattle.w16_loading.specs.{Answers.FewestOver, Answers.StepOver, Families.LoadingCommand, Fetch.is_code, Fetch.segment_bytes, Law.IsOfFiles, Replies.Reply, Replies.Reply.Bytes, Replies.Reply.Word}
 use Rattle.w16_format.specs.Ne.{ne_format}
 use Rattle.w16_resource.specs.Parts.{loading_of}
-use Rattle.w16_machine.specs.World.{World}
-use Rattle.w16_machine.specs.Law.{IsWorld}
-use Rattle.w16_machine.specs.Local.{has_range, left_in}
-use Rattle.w16_machine.specs.LocalCalls.{LocalStep}
 use Rattle.w16_machine.specs.LocalStays.{call_may_take, modules_may_take, resources_may_take}
-use Rattle.w16_machine.specs.Machine.{Command, OnHandles, Step}
-use Rattle.w16_machine.specs.Machine.Command.{OfLoading, OfLocals}
+use Rattle.w16_machine.specs.{World.World, Law.IsWorld, Local.has_range, Local.left_in, LocalCalls.LocalStep, Machine.Command, Machine.OnHandles, Machine.Step, Machine.Command.OfLoading, Machine.Command.OfLocals}
+use Rattle.std.specs.FinMap as finmap
 
 -- the world that these parts are
 abbrev pub world_of : Handles → Modules → FinMap nat_cmp Load → FinMap nat_cmp Table → ℕ → List (List ℕ × List ℕ) → ℕ → World

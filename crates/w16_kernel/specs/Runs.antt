@@ -1,30 +1,24 @@
 -- Calls and replies as the machine sees them.
+use Rattle.w16_kernel.specs
 use Rattle.std.specs.Prelude.{◌≤◌, ℕ, Bool, true, false, List, length, IsSome}
+use Rattle.w16_loading.specs.Families.LoadingCommand.{OfHandles, OfResizes, OfFar, OfModules, OfResources}
+use Rattle.w16_machine.specs.{World.World, Local.beginning, Machine.Command, Machine.Command.OfLoading, Machine.Command.OfLocals}
+use specs.declared.call.Call.TheVariants.{GlobalAlloc, GlobalFree, GlobalLock, GlobalUnlock, GlobalSize, GlobalFlags, GlobalHandle, GetSelectorBase, GetSelectorLimit, GlobalCompact, GlobalReAlloc, GlobalDiscard, GlobalLRUNewest, GlobalLRUOldest, Moved, Walk, Read, Write, Fill, LocalInit}
+use specs.declared.call.Call.TheVariants.{LocalAlloc, LocalReAlloc, LocalDiscard, LocalFree, LocalLock, LocalUnlock, LocalSize, LocalFlags, LocalHandle, LocalCompact, DS, Builtin, LoadModule, LoadLibrary, FreeLibrary, FreeModule, GetModuleHandle, GetModuleUsage, GetProcAddress}
+use specs.declared.call.Call.TheVariants.{FindResource, LoadResource, LockResource, FreeResource, SizeofResource}
+use specs.declared.call.TheConstants.{MOST_READ, MOST_FILLED}
+use specs.{declared.call.Call.Call, declared.call.Label.Label, declared.call.Reply.Reply, declared.call.Answer.Answer, declared.far.Written.Written}
 use Rattle.w16_model.specs.Calls as calls
 use Rattle.w16_model.specs.Far as far
 use Rattle.w16_loading.specs.Replies as printed
 use Rattle.w16_loading.specs.Families as families
-use Rattle.w16_loading.specs.Families.LoadingCommand.{OfHandles, OfResizes, OfFar, OfModules, OfResources}
 use Rattle.w16_loading.specs.File as files
 use Rattle.w16_loading.specs.Resizes as resizes
-use Rattle.w16_machine.specs.World.{World}
-use Rattle.w16_machine.specs.Local.{beginning}
 use Rattle.w16_machine.specs.LocalCalls as locals
-use Rattle.w16_machine.specs.Machine.{Command}
-use Rattle.w16_machine.specs.Machine.Command.{OfLoading, OfLocals}
-use Rattle.w16_kernel.specs.declared.call.Call.{Call}
-use Rattle.w16_kernel.specs.declared.call.Call.TheVariants.{GlobalAlloc, GlobalFree, GlobalLock, GlobalUnlock, GlobalSize, GlobalFlags, GlobalHandle, GetSelectorBase, GetSelectorLimit, GlobalCompact, GlobalReAlloc, GlobalDiscard, GlobalLRUNewest}
-use Rattle.w16_kernel.specs.declared.call.Call.TheVariants.{GlobalLRUOldest, Moved, Walk, Read, Write, Fill, LocalInit, LocalAlloc, LocalReAlloc, LocalDiscard, LocalFree, LocalLock, LocalUnlock, LocalSize, LocalFlags, LocalHandle, LocalCompact}
-use Rattle.w16_kernel.specs.declared.call.Call.TheVariants.{DS, Builtin, LoadModule, LoadLibrary, FreeLibrary, FreeModule, GetModuleHandle, GetModuleUsage, GetProcAddress, FindResource, LoadResource, LockResource, FreeResource, SizeofResource}
-use Rattle.w16_kernel.specs.declared.call.Label.{Label}
 use Rattle.w16_kernel.specs.declared.call.Label.TheVariants as labels
-use Rattle.w16_kernel.specs.declared.call.Reply.{Reply}
 use Rattle.w16_kernel.specs.declared.call.Reply.TheVariants as replies
-use Rattle.w16_kernel.specs.declared.call.Answer.{Answer}
 use Rattle.w16_kernel.specs.declared.call.Answer.TheVariants as answers
-use Rattle.w16_kernel.specs.declared.far.Written.{Written}
 use Rattle.w16_kernel.specs.declared.far.Written.TheVariants as written
-use Rattle.w16_kernel.specs.declared.call.TheConstants.{MOST_READ, MOST_FILLED}
 
 -- what a label is
 abbrev pub label_of : Label → files.Label

@@ -1,10 +1,8 @@
 -- A run that ended early for want of memory.
-use Rattle.w16_machine.specs.World.{World}
+use Rattle.w16_machine.specs.{World.World, Machine.Event, Machine.IsSame, Machine.Steps, Machine.Run}
 use Rattle.std.specs.Prelude.{◌≡◌, ℕ, ◌⊎◌, List, map, take, slice_get, IsSomeAnd}
-use Rattle.w16_machine.specs.Machine.{Event, IsSame, Steps, Run}
 use Rattle.w16_writes.specs.Promises.{Promises}
-use Rattle.w16_kernel.specs.declared.call.Call.{Call}
-use Rattle.w16_kernel.specs.Runs.{command_of, TakesMemory}
+use Rattle.w16_kernel.specs.{declared.call.Call.Call, Runs.command_of, Runs.TakesMemory}
 
 -- That many calls were done, from old to the last world, and no other: there was no memory before the first one, or for the next one, which takes
 -- some, and which left the world the same.

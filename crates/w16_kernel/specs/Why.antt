@@ -1,27 +1,16 @@
 -- Why calls are refused, by what the world answers to questions.
 use Rattle.std.specs.Prelude.{◌≡◌, ◌%◌, ◌<◌, ℕ, true, false, None, IsNone, IsSome, option_map, unwrap_or}
-use Rattle.std.specs.FinMap as finmap
-use Rattle.w16_model.specs.Calls.{global_flags, global_handle, global_size, has_flag, selector_limit}
 use Rattle.w16_model.specs.Calls.HandleCommand.{GlobalSize, GlobalFlags, GlobalHandle, GetSelectorBase, GetSelectorLimit}
-use Rattle.w16_model.specs.CallLaws.{handle_in}
-use Rattle.w16_model.specs.Outcomes.Call.{Calls}
 use Rattle.w16_model.specs.Far.FarCommand.{Read, Write, Fill}
-use Rattle.w16_model.specs.Handles.{selector_in, slot_of_handle}
-use Rattle.w16_model.specs.Owned.{owns}
-use Rattle.w16_model.specs.declared.TheConstants.{GMEM_DISCARDABLE}
+use Rattle.w16_model.specs.{Calls.global_flags, Calls.global_handle, Calls.global_size, Calls.has_flag, Calls.selector_limit, CallLaws.handle_in, Outcomes.Call.Calls, Handles.selector_in, Handles.slot_of_handle, Owned.owns, declared.TheConstants.GMEM_DISCARDABLE}
 use Rattle.w16_loading.specs.Families.LoadingCommand.{OfHandles, OfResizes, OfFar, OfModules, OfResources}
 use Rattle.w16_loading.specs.Families.ModuleCommand.{FreeLibrary, FreeModule, GetModuleUsage, GetProcAddress}
 use Rattle.w16_loading.specs.Families.ResourceCommand.{FindResource, LoadResource, SizeofResource}
 use Rattle.w16_loading.specs.Resizes.ResizeCommand.{GlobalReAlloc, GlobalDiscard}
-use Rattle.w16_machine.specs.Local.{current_heap, object_named}
-use Rattle.w16_machine.specs.LocalCalls.{asked_of, local_flags, local_size}
 use Rattle.w16_machine.specs.LocalCalls.LocalCommand.{LocalInit, DS}
-use Rattle.w16_machine.specs.LocalLaw.{named_by}
-use Rattle.w16_machine.specs.Machine.{Command}
-use Rattle.w16_machine.specs.Machine.Command.{OfLoading, OfLocals}
-use Rattle.w16_machine.specs.World.{World}
-use Rattle.w16_machine.specs.declared.local.TheConstants.{LMEM_DISCARDABLE}
+use Rattle.w16_machine.specs.{Local.current_heap, Local.object_named, LocalCalls.asked_of, LocalCalls.local_flags, LocalCalls.local_size, LocalLaw.named_by, Machine.Command, Machine.Command.OfLoading, Machine.Command.OfLocals, World.World, declared.local.TheConstants.LMEM_DISCARDABLE}
 use Rattle.w16_kernel.specs.declared.kernel.why.Why.{Why}
+use Rattle.std.specs.FinMap as finmap
 use Rattle.w16_kernel.specs.declared.kernel.why.Why.TheVariants as why
 
 -- what a command names, by which it may be refused

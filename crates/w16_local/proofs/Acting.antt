@@ -1,39 +1,39 @@
 -- An act in the object of a slot, as a call's step.
-use Rattle.w16_local.proofs.Common.{◌≡◌, ℕ, ◌<◌, ◌⊎◌, inl, inr, IsSomeAnd, List, length, Option, Some, None, option_map, refl, sym, ap, ◌∙◌, subst, nat_cmp, FinMap, put_part, after_write, Handles, Heap, Object, bytes_at, object_at, Table}
-use Rattle.w16_local.proofs.Common.{heap_in, counted, Global, Lends, World, LocalHeap, Acts, IsLocalTable, object_of, put_all, ByteOp, Acted, ActedIn, DoesAct, Done, Idle, IsLent, IsLentOnce, MayAct, MayActIn, MayActOver, IsIn, with_parts}
-use Rattle.w16_local.proofs.Common.{Kind, [], alone, arith, current_heap, local_options, rounded_up}
-use Rattle.w16_machine.proofs.Common.{bytes_in}
-use Rattle.std.specs.FinMap as finmap
-use Rattle.w16_machine.proofs.LocalFacts.{segment_after}
+use Rattle.w16_local.proofs
+use proofs.Common as C
+use proofs.Common.{◌≡◌, ℕ, ◌<◌, ◌⊎◌, inl, inr, IsSomeAnd, List, Option, Some, None, refl, sym, ap, ◌∙◌, subst, nat_cmp, FinMap, after_write, Handles, Heap, Object, bytes_at, Table, heap_in, Global, Lends, World, LocalHeap, Acts, Acted, ActedIn, Done, Idle, IsLent, IsIn, with_parts, Kind}
+use proofs.Common.{[], alone, arith}
+use Rattle.w16_machine.proofs.{Common.bytes_in, LocalFacts.segment_after}
 use Rattle.w16_machine.specs.World.{empty_world}
 use Rattle.w16_local.specs.Growth.{InSlot, IsLentOrGrown, WritesFor, WritesOnce, WritesServed, in_slot}
 use Rattle.w16_model.proofs.Maps.{put_same}
+use Rattle.std.specs.FinMap as finmap
 
 -- bytes that are written over themselves
 same_write : (heap : Heap) (slot : ℕ) (bytes : List ℕ) → bytes_at heap slot ≡ Some bytes → after_write heap slot 0 bytes ≡ heap
 same_write heap slot bytes had = λ i. record heap { objects = objects i }
   where
     over : Object → Object
-    over o = record o { bytes = option_map (λ bs. put_part bs 0 bytes) o.bytes }
+    over o = record o { bytes = C.option_map (λ bs. C.put_part bs 0 bytes) o.bytes }
 
-    o : (o : Object) × (object_at heap slot ≡ Some o) × (o.bytes ≡ Some bytes)
-    o = object_of heap slot bytes had
+    o : (o : Object) × (C.object_at heap slot ≡ Some o) × (o.bytes ≡ Some bytes)
+    o = C.object_of heap slot bytes had
 
     same : over o.0 ≡ o.0
-    same = λ i. record o.0 { bytes = (ap (option_map (λ bs. put_part bs 0 bytes)) o.2 ∙ ap Some (put_all bytes bytes refl) ∙ sym o.2) i }
+    same = λ i. record o.0 { bytes = (ap (C.option_map (λ bs. C.put_part bs 0 bytes)) o.2 ∙ ap Some (C.put_all bytes bytes refl) ∙ sym o.2) i }
 
     objects : (after_write heap slot 0 bytes).objects ≡ heap.objects
     objects = ap (λ p. elim p as (λ _. FinMap nat_cmp Object) [ Some o ↦ finmap.insert heap.objects slot (over o) | None ↦ heap.objects ]) o.1 ∙ ap (finmap.insert heap.objects slot) same ∙ put_same heap.objects slot o.0 o.1
 
 -- what may be done to the bytes of a slot's object
-pub may_lent : {handles : Handles} {tables : FinMap nat_cmp Table} {slot : ℕ} {so : Table → List ℕ → Type 0} (may : MayActIn handles tables slot so) (t : Table) → finmap.get tables slot ≡ Some t → IsSomeAnd (bytes_at handles.heap slot) (so t)
+pub may_lent : {handles : Handles} {tables : FinMap nat_cmp Table} {slot : ℕ} {so : Table → List ℕ → Type 0} (may : C.MayActIn handles tables slot so) (t : Table) → finmap.get tables slot ≡ Some t → IsSomeAnd (bytes_at handles.heap slot) (so t)
 may_lent {handles} {tables} {slot} {so} may t is =
     let both : ◌≡◌ {A = Option Table} (Some may.table) (Some t) = sym may.was ∙ is in
     let same : may.table ≡ t = cc in
     rw may.had (rw same at may.may)
 
 -- and what was done there
-pub acted_in : {handles : Handles} {tables : FinMap nat_cmp Table} {slot : ℕ} {does : Table → List ℕ → Table → List ℕ → Type 0} (t s : Table) → finmap.get tables slot ≡ Some t → IsLocalTable s
+pub acted_in : {handles : Handles} {tables : FinMap nat_cmp Table} {slot : ℕ} {does : Table → List ℕ → Table → List ℕ → Type 0} (t s : Table) → finmap.get tables slot ≡ Some t → C.IsLocalTable s
     → (lent : Lends handles.heap slot (λ bytes after. does t bytes s after)) (next : Handles) → next ≡ record handles { heap = after_write handles.heap slot 0 lent.after }
     → (new : FinMap nat_cmp Table) → new ≡ finmap.insert tables slot s → ActedIn handles tables slot does next new
 acted_in t s was is_local lent next next_is new new_is = record { before = t; bytes = lent.bytes; was = was; had = lent.had; table = s; after = lent.after; is_local = is_local; long = lent.long; are_bytes = lent.are_bytes; does = lent.does; rest = (new_is, next_is) }
@@ -57,18 +57,18 @@ held_here {so} {handles} {next} {tables} {new} {ds} {slot} {t} is s rest =
     same_bytes = let both : ◌≡◌ {A = Option (List ℕ)} (Some s.bytes) (Some is.bytes) = sym s.had ∙ is.had in cc
 
 -- what may be done in the heap that DS names
-pub may_in : {handles : Handles} {tables : FinMap nat_cmp Table} {ds slot : ℕ} {t : Table} (is : IsIn handles tables ds slot t) (act : ByteOp) → MayAct act (heap_in t is.bytes) → MayActIn handles tables slot (MayActOver act)
+pub may_in : {handles : Handles} {tables : FinMap nat_cmp Table} {ds slot : ℕ} {t : Table} (is : IsIn handles tables ds slot t) (act : C.ByteOp) → C.MayAct act (heap_in t is.bytes) → C.MayActIn handles tables slot (C.MayActOver act)
 may_in is act may = record { table = _; bytes = is.bytes; was = is.kept; had = is.had; may = (is.over.inside, may) }
 
 -- and the bytes that were lent for it are those of that heap
-pub lent_in : {old : Global} {tables : FinMap nat_cmp Table} {ds slot : ℕ} {t : Table} (is : IsIn old.handles tables ds slot t) (new : Global) → IsLent old slot new → IsLentOnce old tables ds new
+pub lent_in : {old : Global} {tables : FinMap nat_cmp Table} {ds slot : ℕ} {t : Table} (is : IsIn old.handles tables ds slot t) (new : Global) → IsLent old slot new → C.IsLentOnce old tables ds new
 lent_in is new lent = inr (rw is.is_current (rw is.had at lent))
 
 -- Their segment stays as long,
 pub once_in : (old new : Global) {tables left : FinMap nat_cmp Table} {slot : ℕ} {does : Table → List ℕ → Table → List ℕ → Type 0} (a : ActedIn old.handles tables slot does new.handles left)
     → IsLent old slot new → WritesOnce (in_slot a.before a.bytes slot) old.written new.handles new.written
 once_in old new {slot = slot} a lent =
-    let o : (o : Object) × (object_at old.handles.heap slot ≡ Some o) × (o.bytes ≡ Some a.bytes) = object_of old.handles.heap slot a.bytes a.had in
+    let o : (o : Object) × (C.object_at old.handles.heap slot ≡ Some o) × (o.bytes ≡ Some a.bytes) = C.object_of old.handles.heap slot a.bytes a.had in
     let now : bytes_at new.handles.heap slot ≡ Some a.after = ap (λ (h : Handles). bytes_at h.heap slot) a.rest.1 ∙ ap bytes_in (segment_after old.handles.heap slot o.0 o.1 a.bytes o.2 a.after a.long) in (
       rw now a.long,
       rw a.had at lent,
@@ -85,7 +85,7 @@ module _ {old : Global} {tables : FinMap nat_cmp Table} {ds slot : ℕ} {t : Tab
   written_in so = inr (rw is.is_current so)
 
   pub served_in : {left : FinMap nat_cmp Table} (kind : Option Kind) (id : ℕ) → is_for (in_slot t is.bytes slot) id → 0 < size
-      → InSlot old.handles tables slot new.handles left (λ before at after. WritesServed (record { id = id; size = rounded_up size; kind = kind; options = local_options flags }) before at old.written after.loading.handles new.written)
+      → InSlot old.handles tables slot new.handles left (λ before at after. WritesServed (record { id = id; size = C.rounded_up size; kind = kind; options = C.local_options flags }) before at old.written after.loading.handles new.written)
       → IsLentOrGrown is_for flags size old tables ds new
   served_in kind id so some s = written_in (elim (held_here is s (empty_world 0 0 [] 0)) [
     | inl once ↦ inl once
@@ -97,17 +97,17 @@ module _ {old : Global} {tables : FinMap nat_cmp Table} {ds slot : ℕ} {t : Tab
   once_lent a lent = written_in (inl (held_here is (once_slot old new a lent) (empty_world 0 0 [] 0)))
 
 -- a call of size 0 only lends
-pub only_lent : (old new : Global) (tables : FinMap nat_cmp Table) (ds flags : ℕ) (is_for : LocalHeap → ℕ → Type 0) → IsLentOrGrown is_for flags 0 old tables ds new → IsLentOnce old tables ds new
+pub only_lent : (old new : Global) (tables : FinMap nat_cmp Table) (ds flags : ℕ) (is_for : LocalHeap → ℕ → Type 0) → IsLentOrGrown is_for flags 0 old tables ds new → C.IsLentOnce old tables ds new
 only_lent old new tables ds flags is_for (inl same) = inl same
-only_lent old new tables ds flags is_for (inr so) = inr (turn (current_heap (alone old.handles tables ds)) so)
+only_lent old new tables ds flags is_for (inr so) = inr (turn (C.current_heap (alone old.handles tables ds)) so)
   where
-    turn : (m : Option LocalHeap) → IsSomeAnd m (WritesFor is_for flags 0 (alone old.handles tables ds) old.written new.handles new.written) → IsSomeAnd m (λ at. new.written ≡ counted old.written (length at.bytes))
+    turn : (m : Option LocalHeap) → IsSomeAnd m (WritesFor is_for flags 0 (alone old.handles tables ds) old.written new.handles new.written) → IsSomeAnd m (λ at. new.written ≡ C.counted old.written (C.length at.bytes))
     turn None h = h
     turn (Some at) (inl once) = once.1
     turn (Some at) (inr grown) = absurd (omega (arith, grown.0))
 
 -- and what that leaves: the same world, or one in which the heap acted
-module _ {handles : Handles} {tables : FinMap nat_cmp Table} {ds slot : ℕ} {t : Table} (is : IsIn handles tables ds slot t) {act : ByteOp} {answer : ℕ} {next : Handles} {new : FinMap nat_cmp Table} (a : ActedIn handles tables slot (DoesAct act answer) next new) (rest : World) where
+module _ {handles : Handles} {tables : FinMap nat_cmp Table} {ds slot : ℕ} {t : Table} (is : IsIn handles tables ds slot t) {act : C.ByteOp} {answer : ℕ} {next : Handles} {new : FinMap nat_cmp Table} (a : ActedIn handles tables slot (C.DoesAct act answer) next new) (rest : World) where
   same_table : a.before ≡ t
   same_table = let both : ◌≡◌ {A = Option Table} (Some a.before) (Some t) = sym a.was ∙ is.kept in cc
 
@@ -139,7 +139,7 @@ module _ {handles : Handles} {tables : FinMap nat_cmp Table} {ds slot : ℕ} {t 
         bytes = a.after;
         is_local = a.is_local;
         range = (acted.range.lo, acted.range.hi);
-        long = a.long ∙ ap length same_bytes;
+        long = a.long ∙ ap C.length same_bytes;
         outside = acted.outside;
         are_bytes = a.are_bytes;
         acted = done;

@@ -1,25 +1,21 @@
 -- The calls that act in a local heap.
-use Rattle.w16_local.proofs.Common.{◌≡◌, ℕ, ◌+◌, ◌*◌, ◌/◌, ◌<◌, ◌≤◌, ◌==◌, ◌&&◌, inl, inr, Bool, true, false, MatchBool, MatchOption, OnErr, IsSome, if◌then◌else◌, length, Option, Some, None, Result, Ok, Err, is_ok, is_some}
-use Rattle.w16_local.proofs.Common.{refl, sym, ap, ◌∙◌, subst, arith, eq-eqb, ne_eqb, nat_cmp, FinMap, cases_lt, false≢true, Kind, Discardable, Fixed, Moveable, Refusal, has_flag, with_newest, with_object, Handles, Heap, Object}
-use Rattle.w16_local.proofs.Common.{is_fixed, object_at, after_discard, after_free, after_modify, Allocates, IsNew, MakesRoom, most_room, discards_needed, Table, entry_at, heap_in, object_in, inserted_here, object_is, none_about}
-use Rattle.w16_local.proofs.Common.{not_asked, LMEM_DISCARDABLE, LMEM_MODIFY, LMEM_MOVEABLE, World, LocalHeap, LocalObject, Acts, Becomes, IsLowestFree, Stays, current_heap, heap_of, name_at, name_of, object_named, rounded_up}
-use Rattle.w16_local.proofs.Common.{AllocatesIn, AllocatesObject, CompactsIn, DiscardsObject, EntersObject, GivesUp, ModifiesObject, ResizesObject, SizesObject, local_kind, local_options, moveable_or_discardable, LocalAlloc, LocalCompact}
-use Rattle.w16_local.proofs.Common.{LocalFree, LocalReAlloc, names_law, Alloc, Compact, Discard, Free, Realloc, ActedIn, DoesAct, Done, MakesObject, IsSize, IsFull, IsLowest, Calls, IsIn, IsNamed, alone, with_parts, Stepped, answer_of}
-use Rattle.w16_local.proofs.Common.{outcome}
-use Rattle.std.specs.FinMap as finmap
+use Rattle.w16_local.proofs
+use proofs.Common as C
+use proofs.Common.{◌≡◌, ℕ, ◌+◌, ◌*◌, ◌/◌, ◌<◌, ◌≤◌, ◌==◌, ◌&&◌, inl, inr, Bool, true, false, MatchBool, MatchOption, OnErr, if◌then◌else◌, Option, Some, None, Result, Ok, Err, is_ok, is_some, refl, sym, ap, ◌∙◌, subst, arith, eq-eqb, ne_eqb, nat_cmp, FinMap, false≢true, Kind, Fixed}
+use proofs.Common.{Refusal, has_flag, with_object, Handles, Heap, Object, object_at, after_discard, after_free, IsNew, MakesRoom, most_room, Table, entry_at, heap_in, not_asked, LMEM_MODIFY, LMEM_MOVEABLE, World, LocalHeap, Acts, Stays, heap_of, rounded_up, AllocatesObject, CompactsIn}
+use proofs.Common.{DiscardsObject, EntersObject, GivesUp, local_kind, local_options, moveable_or_discardable, LocalAlloc, LocalFree, LocalReAlloc, Alloc, Free, ActedIn, DoesAct, Done, Calls, IsIn, alone, with_parts, outcome}
+use proofs.Stepping.{leaves, none_calls, on_named}
+use proofs.{Entries.mapped, Looks.heap_is}
 use Rattle.w16_machine.specs.LocalGrowth.{longer}
-use Rattle.w16_local.specs.declared.growth.Request.{Request}
-use Rattle.w16_local.specs.Growth.{InSlot, Served}
+use Rattle.w16_local.specs.{declared.growth.Request.Request, Growth.InSlot, Growth.Served}
+use Rattle.std.specs.FinMap as finmap
 use Rattle.w16_local.proofs.Acting as acting
-use Rattle.w16_local.proofs.Entries.{mapped}
-use Rattle.w16_local.proofs.Looks.{heap_is}
-use Rattle.w16_local.proofs.Stepping.{leaves, none_calls, on_named}
 
 -- a name's object is there
-pub named_there : {handles : Handles} {tables : FinMap nat_cmp Table} {ds name slot : ℕ} {t : Table} {id : ℕ} (n : IsNamed handles tables ds name slot t id) → IsSome (object_at (heap_in t n.heap.bytes) id)
-named_there {handles} {tables} {ds} {name} {slot} {t} {id} n = turn (object_at (heap_in t n.heap.bytes) id) ((names_law (heap_in t n.heap.bytes) name id (heap_is n.heap.over) n.heap.over.is_local.grain).0.0 n.has)
+pub named_there : {handles : Handles} {tables : FinMap nat_cmp Table} {ds name slot : ℕ} {t : Table} {id : ℕ} (n : C.IsNamed handles tables ds name slot t id) → C.IsSome (object_at (heap_in t n.heap.bytes) id)
+named_there {handles} {tables} {ds} {name} {slot} {t} {id} n = turn (object_at (heap_in t n.heap.bytes) id) ((C.names_law (heap_in t n.heap.bytes) name id (heap_is n.heap.over) n.heap.over.is_local.grain).0.0 n.has)
   where
-    turn : (p : Option Object) → (elim p as (λ _. Option ℕ) [ None ↦ None | Some o ↦ name_of (heap_in t n.heap.bytes) id o ]) ≡ Some name → IsSome p
+    turn : (p : Option Object) → (elim p as (λ _. Option ℕ) [ None ↦ None | Some o ↦ C.name_of (heap_in t n.heap.bytes) id o ]) ≡ Some name → C.IsSome p
     turn None e = cc
     turn (Some o) e = refl
 
@@ -42,7 +38,7 @@ gives_none : (old : World) (at : LocalHeap) (r : Result Heap Refusal) (taken ref
 gives_none old at (Ok heap) taken refused e = absurd (false≢true (sym e))
 gives_none old at (Err refusal) taken refused e = (refl, refl)
 
-module _ {handles : Handles} {tables : FinMap nat_cmp Table} {ds name slot : ℕ} {t : Table} {id : ℕ} (n : IsNamed handles tables ds name slot t id) where
+module _ {handles : Handles} {tables : FinMap nat_cmp Table} {ds name slot : ℕ} {t : Table} {id : ℕ} (n : C.IsNamed handles tables ds name slot t id) where
   abbrev before : Heap
   before = heap_in t n.heap.bytes
 
@@ -59,18 +55,18 @@ module _ {handles : Handles} {tables : FinMap nat_cmp Table} {ds name slot : ℕ
 
   -- LocalReAlloc
   module _ (size flags : ℕ) where
-    abbrev named_object : LocalObject
+    abbrev named_object : C.LocalObject
     named_object = record { heap = record { slot = slot; table = t; bytes = n.heap.bytes }; id = id }
 
-    abbrev Sizes : World → ℕ → World → LocalObject → Type 0
-    Sizes old answer new o = MatchBool (size == 0) (DiscardsObject old name flags answer new o) (SizesObject old size flags answer new o)
+    abbrev Sizes : World → ℕ → World → C.LocalObject → Type 0
+    Sizes old answer new o = MatchBool (size == 0) (DiscardsObject old name flags answer new o) (C.SizesObject old size flags answer new o)
 
-    pub modify_calls : has_flag flags LMEM_MODIFY ≡ true → {X : Type 0} (r : Result X Refusal) (new : FinMap nat_cmp Table) → Stepped tables slot (λ a b. after_modify a id (moveable_or_discardable flags) ≡ outcome r b) new → OnErr r (new ≡ tables)
+    pub modify_calls : has_flag flags LMEM_MODIFY ≡ true → {X : Type 0} (r : Result X Refusal) (new : FinMap nat_cmp Table) → C.Stepped tables slot (λ a b. C.after_modify a id (moveable_or_discardable flags) ≡ outcome r b) new → OnErr r (new ≡ tables)
         → Calls handles tables ds (LocalReAlloc name size flags) name handles new
     modify_calls f r new s same rest = on_named n rest _ _ _ _
-        (rw f (leaves n rest (λ h. after_modify h id (moveable_or_discardable flags)) r new s same (λ _. name) (λ _. name) name (told r)))
+        (rw f (leaves n rest (λ h. C.after_modify h id (moveable_or_discardable flags)) r new s same (λ _. name) (λ _. name) name (told r)))
       where
-        told : {X : Type 0} (r : Result X Refusal) → name ≡ answer_of r name (λ _. name)
+        told : {X : Type 0} (r : Result X Refusal) → name ≡ C.answer_of r name (λ _. name)
         told (Ok x) = refl
         told (Err e) = refl
 
@@ -92,15 +88,15 @@ module _ {handles : Handles} {tables : FinMap nat_cmp Table} {ds name slot : ℕ
             )
           ]))
         where
-          sizes : {old left : World} {at : LocalHeap} (heap : Heap) → Acts old at (Done (Realloc id (rounded_up size) (local_options flags)) heap answer) left → Acts old at (ResizesObject heap id size flags answer) left
-          sizes heap acts = acts_as (ResizesObject heap id size flags answer) acts (record { resized = acts.acted.0; named = acts.acted.1 })
+          sizes : {old left : World} {at : LocalHeap} (heap : Heap) → Acts old at (Done (C.Realloc id (rounded_up size) (local_options flags)) heap answer) left → Acts old at (C.ResizesObject heap id size flags answer) left
+          sizes heap acts = acts_as (C.ResizesObject heap id size flags answer) acts (record { resized = acts.acted.0; named = acts.acted.1 })
 
       module _ (none : size ≡ 0) where
         of_none : ((rest : World) → DiscardsObject (with_parts rest handles tables ds) name flags answer (with_parts rest next new ds) named_object) → Calls handles tables ds (LocalReAlloc name size flags) answer next new
         of_none so = not_modified (λ rest. rw (eq-eqb size 0 none) (so rest))
 
     module _ (f : has_flag flags LMEM_MODIFY ≡ false) (none : size ≡ 0) where
-      pub discard_calls : has_flag flags LMEM_MOVEABLE ≡ true → {answer : ℕ} {next : Handles} {new : FinMap nat_cmp Table} → ActedIn handles tables slot (DoesAct (Discard id) answer) next new → Calls handles tables ds (LocalReAlloc name size flags) name next new
+      pub discard_calls : has_flag flags LMEM_MOVEABLE ≡ true → {answer : ℕ} {next : Handles} {new : FinMap nat_cmp Table} → ActedIn handles tables slot (DoesAct (C.Discard id) answer) next new → Calls handles tables ds (LocalReAlloc name size flags) name next new
       discard_calls m a = of_none f _ _ _ none (λ rest. rw m (elim (acting.outcome n.heap a rest) [
         | inl same ↦ absurd same.0
         | inr acts ↦ gives_up (after_discard before id) name 0 acts
@@ -113,7 +109,7 @@ module _ {handles : Handles} {tables : FinMap nat_cmp Table} {ds name slot : ℕ
       discard_unasked m = of_none f _ _ _ none (λ rest. rw m (refl, refl))
 
 -- a size in whole grains may be asked for
-pub rounded_size : (size n : ℕ) → n ≡ rounded_up size → 0 < size → IsSize n
+pub rounded_size : (size n : ℕ) → n ≡ rounded_up size → 0 < size → C.IsSize n
 rounded_size size n is some = (omega (arith, is, some), ((size + 3) / 4, is))
 
 -- LocalAlloc
@@ -125,7 +121,7 @@ module _ {handles : Handles} {tables : FinMap nat_cmp Table} {ds slot : ℕ} {t 
   here = record { slot = slot; table = t; bytes = is.bytes }
 
   object_in_table : (q : ℕ) → is_some (object_at heap q) ≡ is_some (entry_at t q)
-  object_in_table q = ap is_some (object_is t is.over.is_local.sound.table is.bytes is.over.inside q) ∙ mapped (object_in t.blocks is.bytes q) (entry_at t q)
+  object_in_table q = ap is_some (C.object_is t is.over.is_local.sound.table is.bytes is.over.inside q) ∙ mapped (C.object_in t.blocks is.bytes q) (entry_at t q)
 
   none_if : {X Y : Type 0} (p : Option X) (q : Option Y) → is_some p ≡ is_some q → q ≡ None → p ≡ None
   none_if None q e n = refl
@@ -138,26 +134,26 @@ module _ {handles : Handles} {tables : FinMap nat_cmp Table} {ds slot : ℕ} {t 
   no_entry q none = none_if (entry_at t q) (object_at heap q) (sym (object_in_table q)) none
 
   module _ (flags size : ℕ) where
-    alloc_in : (answer : ℕ) (next : Handles) (new : FinMap nat_cmp Table) → ((rest : World) → AllocatesIn (with_parts rest handles tables ds) flags size answer (with_parts rest next new ds) here) → Calls handles tables ds (LocalAlloc flags size) answer next new
+    alloc_in : (answer : ℕ) (next : Handles) (new : FinMap nat_cmp Table) → ((rest : World) → C.AllocatesIn (with_parts rest handles tables ds) flags size answer (with_parts rest next new ds) here) → Calls handles tables ds (LocalAlloc flags size) answer next new
     alloc_in answer next new so rest = rw is.is_current (so rest)
 
-    pub alloc_full : IsFull t → Calls handles tables ds (LocalAlloc flags size) 0 handles tables
+    pub alloc_full : C.IsFull t → Calls handles tables ds (LocalAlloc flags size) 0 handles tables
     alloc_full full = alloc_in 0 handles tables (λ rest. inl (inr (λ q free. full q free.0 (no_entry q free.1)), (refl, refl)))
 
     pub alloc_empty : size ≡ 0 → has_flag flags LMEM_MOVEABLE ≡ false → Calls handles tables ds (LocalAlloc flags size) 0 handles tables
     alloc_empty none f = alloc_in 0 handles tables (λ rest. inl (inl (none, f), (refl, refl)))
 
-    module _ (id : ℕ) (lowest : IsLowest t id) where
-      pub is_lowest : IsLowestFree heap id
+    module _ (id : ℕ) (lowest : C.IsLowest t id) where
+      pub is_lowest : C.IsLowestFree heap id
       is_lowest = record {
         free = (lowest.known, no_object id lowest.free);
-        lowest = λ q free. elim (cases_lt q id) [
+        lowest = λ q free. elim (C.cases_lt q id) [
           | inl less ↦ absurd (lowest.lowest q less (no_entry q free.1))
           | inr not ↦ not
         ];
       }
 
-      makes : 0 < size → {answer : ℕ} {old left : World} {at : LocalHeap} → Acts old at (Done (Alloc id (rounded_up size) (local_kind flags) (local_options flags)) (heap_of at) answer) left → MakesObject old at flags size id answer left
+      makes : 0 < size → {answer : ℕ} {old left : World} {at : LocalHeap} → Acts old at (Done (Alloc id (rounded_up size) (local_kind flags) (local_options flags)) (heap_of at) answer) left → C.MakesObject old at flags size id answer left
       makes some acts = rw (ne_eqb size 0 (λ e. absurd (omega (arith, e, some)))) (acts_as _ acts (record { allocated = acts.acted.0; named = acts.acted.1 }))
 
       pub alloc_calls : 0 < size → {answer : ℕ} {next : Handles} {new : FinMap nat_cmp Table} → InSlot handles tables slot next new (λ old at left. Served (make id size flags) old at answer left) → Calls handles tables ds (LocalAlloc flags size) answer next new
@@ -176,23 +172,23 @@ module _ {handles : Handles} {tables : FinMap nat_cmp Table} {ds slot : ℕ} {t 
         ],
       ))
         where
-          room : Allocates heap id (rounded_up size) (local_kind flags) 0 (local_options flags) false heap → discards_needed heap (rounded_up size) None (local_options flags) ≡ None
-          room a = sym (none_about heap (heap_is is.over) id (no_object id lowest.free) (rounded_up size) (local_options flags))
-              ∙ (not_asked heap id (record { options = local_options flags; prefix = discards_needed heap (rounded_up size) (Some id) (local_options flags); becomes = IsNew (local_options flags).zero (rounded_up size) (local_kind flags) 0; order = with_newest id }) heap a.request).0
+          room : C.Allocates heap id (rounded_up size) (local_kind flags) 0 (local_options flags) false heap → C.discards_needed heap (rounded_up size) None (local_options flags) ≡ None
+          room a = sym (C.none_about heap (heap_is is.over) id (no_object id lowest.free) (rounded_up size) (local_options flags))
+              ∙ (not_asked heap id (record { options = local_options flags; prefix = C.discards_needed heap (rounded_up size) (Some id) (local_options flags); becomes = IsNew (local_options flags).zero (rounded_up size) (local_kind flags) 0; order = C.with_newest id }) heap a.request).0
 
       -- without bytes
       module _ (none : size ≡ 0) (m : has_flag flags LMEM_MOVEABLE ≡ true) where
         kind_is : moveable_or_discardable flags ≡ local_kind flags
         kind_is = sym (ap (λ b. if b then moveable_or_discardable flags else Fixed) m)
 
-        loose : is_fixed (moveable_or_discardable flags) ≡ false
-        loose = turn (has_flag flags LMEM_DISCARDABLE)
+        loose : C.is_fixed (moveable_or_discardable flags) ≡ false
+        loose = turn (has_flag flags C.LMEM_DISCARDABLE)
           where
-            turn : (b : Bool) → is_fixed (if b then Discardable else Moveable) ≡ false
+            turn : (b : Bool) → C.is_fixed (if b then C.Discardable else C.Moveable) ≡ false
             turn true = refl
             turn false = refl
 
-        module _ {X : Type 0} (r : Result X Refusal) (new : FinMap nat_cmp Table) (s : Stepped tables slot (λ a b. ◌≡◌ {A = Result Heap Refusal} (Ok (with_object a id (record { kind = moveable_or_discardable flags; locks = 0; bytes = None }))) (outcome r b)) new) where
+        module _ {X : Type 0} (r : Result X Refusal) (new : FinMap nat_cmp Table) (s : C.Stepped tables slot (λ a b. ◌≡◌ {A = Result Heap Refusal} (Ok (with_object a id (record { kind = moveable_or_discardable flags; locks = 0; bytes = None }))) (outcome r b)) new) where
           was_it : s.before ≡ t
           was_it = let both : ◌≡◌ {A = Option Table} (Some s.before) (Some t) = sym s.was ∙ is.kept in cc
 
@@ -203,18 +199,18 @@ module _ {handles : Handles} {tables : FinMap nat_cmp Table} {ds slot : ℕ} {t 
           object = record { kind = moveable_or_discardable flags; locks = 0; bytes = None }
 
           entered : made ≡ with_object heap id object
-          entered = turn r (subst (λ (b : Table). ◌≡◌ {A = Result Heap Refusal} (Ok (with_object (heap_in b is.bytes) id object)) (outcome r made)) was_it (s.heaps is.bytes (subst (λ (b : Table). b.hi ≤ length is.bytes) (sym was_it) is.over.inside)))
+          entered = turn r (subst (λ (b : Table). ◌≡◌ {A = Result Heap Refusal} (Ok (with_object (heap_in b is.bytes) id object)) (outcome r made)) was_it (s.heaps is.bytes (subst (λ (b : Table). b.hi ≤ C.length is.bytes) (sym was_it) is.over.inside)))
             where
               turn : {X : Type 0} (r : Result X Refusal) → ◌≡◌ {A = Result Heap Refusal} (Ok (with_object heap id object)) (outcome r made) → made ≡ with_object heap id object
               turn (Ok x) e = let same : with_object heap id object ≡ made = cc in sym same
               turn (Err x) e = cc
 
-          named : name_at made id ≡ Some (4 * id + 2)
-          named = ap (λ (h : Heap). name_at h id) entered
-              ∙ ap (λ (p : Option Object). elim p as (λ _. Option ℕ) [ None ↦ None | Some o ↦ name_of (with_object heap id object) id o ]) (inserted_here heap.objects id object id refl)
+          named : C.name_at made id ≡ Some (4 * id + 2)
+          named = ap (λ (h : Heap). C.name_at h id) entered
+              ∙ ap (λ (p : Option Object). elim p as (λ _. Option ℕ) [ None ↦ None | Some o ↦ C.name_of (with_object heap id object) id o ]) (C.inserted_here heap.objects id object id refl)
               ∙ ap (λ b. if b then finmap.get (with_object heap id object).places id else Some (4 * id + 2)) loose
 
-          becomes : (rest : World) → Becomes (with_parts rest handles tables ds) here made (with_parts rest handles new ds)
+          becomes : (rest : World) → C.Becomes (with_parts rest handles tables ds) here made (with_parts rest handles new ds)
           becomes rest = record {
             table = s.after;
             is_local = s.is_local;
@@ -232,23 +228,23 @@ module _ {handles : Handles} {tables : FinMap nat_cmp Table} {ds slot : ℕ} {t 
           ))
 
 -- where DS names no heap
-pub alloc_none : (handles : Handles) (tables : FinMap nat_cmp Table) (ds flags size : ℕ) → current_heap (alone handles tables ds) ≡ None → Calls handles tables ds (LocalAlloc flags size) 0 handles tables
+pub alloc_none : (handles : Handles) (tables : FinMap nat_cmp Table) (ds flags size : ℕ) → C.current_heap (alone handles tables ds) ≡ None → Calls handles tables ds (LocalAlloc flags size) 0 handles tables
 alloc_none handles tables ds flags size none rest = rw none (refl, refl)
 
 -- what a bad name leaves
-pub free_none : (handles : Handles) (tables : FinMap nat_cmp Table) (ds name : ℕ) → object_named (alone handles tables ds) name ≡ None → Calls handles tables ds (LocalFree name) name handles tables
+pub free_none : (handles : Handles) (tables : FinMap nat_cmp Table) (ds name : ℕ) → C.object_named (alone handles tables ds) name ≡ None → Calls handles tables ds (LocalFree name) name handles tables
 free_none handles tables ds name = none_calls handles tables ds name name (λ old o. GivesUp old o.heap (after_free (heap_of o.heap) o.id) 0 name name old)
 
-pub realloc_none : (handles : Handles) (tables : FinMap nat_cmp Table) (ds name size flags : ℕ) → object_named (alone handles tables ds) name ≡ None → Calls handles tables ds (LocalReAlloc name size flags) 0 handles tables
-realloc_none handles tables ds name size flags = none_calls handles tables ds name 0 (λ old o. MatchBool (has_flag flags LMEM_MODIFY) (ModifiesObject old name flags 0 old o) (MatchBool (size == 0) (DiscardsObject old name flags 0 old o) (SizesObject old size flags 0 old o)))
+pub realloc_none : (handles : Handles) (tables : FinMap nat_cmp Table) (ds name size flags : ℕ) → C.object_named (alone handles tables ds) name ≡ None → Calls handles tables ds (LocalReAlloc name size flags) 0 handles tables
+realloc_none handles tables ds name size flags = none_calls handles tables ds name 0 (λ old o. MatchBool (has_flag flags LMEM_MODIFY) (C.ModifiesObject old name flags 0 old o) (MatchBool (size == 0) (DiscardsObject old name flags 0 old o) (C.SizesObject old size flags 0 old o)))
 
 -- LocalCompact
-pub compact_calls : {handles : Handles} {tables : FinMap nat_cmp Table} {ds slot : ℕ} {t : Table} (is : IsIn handles tables ds slot t) (size : ℕ) {answer : ℕ} {next : Handles} {new : FinMap nat_cmp Table} → ActedIn handles tables slot (DoesAct (Compact size) answer) next new
-    → Calls handles tables ds (LocalCompact size) answer next new
+pub compact_calls : {handles : Handles} {tables : FinMap nat_cmp Table} {ds slot : ℕ} {t : Table} (is : IsIn handles tables ds slot t) (size : ℕ) {answer : ℕ} {next : Handles} {new : FinMap nat_cmp Table} → ActedIn handles tables slot (DoesAct (C.Compact size) answer) next new
+    → Calls handles tables ds (C.LocalCompact size) answer next new
 compact_calls is size a rest = rw is.is_current (elim (acting.outcome is a rest) [
   | inl same ↦ rw (eq-eqb size 0 same.0.0) (same.0.1, same.1)
   | inr acts ↦ rw (ne_eqb size 0 (λ e. absurd (let some = acts.acted.0 in omega (arith, e, some)))) (acts_as _ acts acts.acted.1)
 ])
 
-pub compact_none : (handles : Handles) (tables : FinMap nat_cmp Table) (ds size : ℕ) → current_heap (alone handles tables ds) ≡ None → Calls handles tables ds (LocalCompact size) 0 handles tables
+pub compact_none : (handles : Handles) (tables : FinMap nat_cmp Table) (ds size : ℕ) → C.current_heap (alone handles tables ds) ≡ None → Calls handles tables ds (C.LocalCompact size) 0 handles tables
 compact_none handles tables ds size none rest = rw none (refl, refl)

@@ -1,43 +1,38 @@
 -- A local heap that grows with its segment, as a call's step.
-use Rattle.w16_local.proofs.Common.{◌≡◌, ◌≢◌, ℕ, ◌*◌, inl, inr, true, false, cond, IsSomeAnd, List, length, Option, Some, None, refl, sym, ap, ◌∙◌, subst, arith, nat_cmp, nat_cmp_total}
-use Rattle.w16_local.proofs.Common.{nat_cmp-IsAntisymmetric, same_map, cases_eq, FinMap, Object, bytes_at, object_at, Handles, AreHandles, Table, heap_in, after_write, inserted_here, inserted_other}
-use Rattle.w16_local.proofs.Common.{counted, Global, World, LocalHeap, left_in, ActedIn, MayAct, MayActIn, Writes, object_of, ◌==◌, ◌||◌, ◌-◌, Bool, Heap, IsSome, is_some, if◌then◌else◌, alone}
-use Rattle.w16_local.proofs.Common.{with_parts}
-use Rattle.std.specs.FinMap as finmap
+use Rattle.w16_local.proofs
+use proofs.Common as C
+use proofs.Common.{◌≡◌, ◌≢◌, ℕ, ◌*◌, inl, inr, true, false, cond, List, length, Option, Some, None, refl, sym, ap, ◌∙◌, subst, arith, nat_cmp, FinMap, bytes_at, Handles, Table, heap_in, inserted_other, counted, World, left_in, MayAct, ◌==◌, ◌||◌, ◌-◌, Bool, Heap, if◌then◌else◌, alone}
+use proofs.Common.{with_parts}
+use proofs.Requests.{may_later, whole}
 use Rattle.std.proofs.lemmas.Bool.{le-leb}
-use Rattle.w16_model.specs.declared.RoomOptions.{RoomOptions}
 use Rattle.w16_model.specs.declared.TheConstants.{GMEM_MODIFY, GMEM_NODISCARD, GMEM_ZEROINIT}
-use Rattle.w16_model.specs.Calls.{global_size, has_flag, rounded_size}
-use Rattle.w16_model.specs.Ends.{ending, is_answered}
-use Rattle.w16_model.specs.Handles.{handle_of, slot_of_handle}
+use Rattle.w16_model.specs.{declared.RoomOptions.RoomOptions, Calls.global_size, Calls.has_flag, Calls.rounded_size, Ends.ending, Ends.is_answered, Handles.handle_of, Handles.slot_of_handle, Resizes.GlobalReAllocs}
 use Rattle.w16_model.proofs.Naming.{names_law}
-use Rattle.w16_model.specs.Resizes.{GlobalReAllocs}
 use Rattle.w16_global.proofs.Resizing.{counted_none}
 use Rattle.w16_global.specs.Joined.{zeroed_behind}
-use Rattle.w16_global.specs.Lengthened as global
 use Rattle.w16_machine.specs.LocalGrowth.{IsLongerSize, Lengthens, growth_flags}
-use Rattle.w16_machine.proofs.LocalFacts.{IsThere}
 use Rattle.w16_machine.proofs.LocalGrown.{IsGrownObject, bytes_of, grown_object, same_later}
-use Rattle.w16_machine.proofs.LocalLeft.{left_is, left_over}
+use Rattle.w16_machine.proofs.{LocalFacts.IsThere, LocalLeft.left_is, LocalLeft.left_over}
 use Rattle.w16_local.specs.declared.growth.Request.{Request}
 use Rattle.w16_local.specs.Growth.{Grown, InSlot, Later, MayEndLater, MayGrowIn, WritesGrown, act_of, in_slot}
-use Rattle.w16_local.proofs.Requests.{may_later, whole}
+use Rattle.std.specs.FinMap as finmap
+use Rattle.w16_global.specs.Lengthened as global
 
 -- an entry that is put twice
 put_twice : {X : Type 0} (m : FinMap nat_cmp X) (k : ℕ) (a b : X) → finmap.insert (finmap.insert m k a) k b ≡ finmap.insert m k b
-put_twice m k a b = same_map nat_cmp_total nat_cmp-IsAntisymmetric _ _ (λ q. elim (cases_eq q k) [
-  | inl e ↦ inserted_here (finmap.insert m k a) k b q e ∙ sym (inserted_here m k b q e)
+put_twice m k a b = C.same_map C.nat_cmp_total C.nat_cmp-IsAntisymmetric _ _ (λ q. elim (C.cases_eq q k) [
+  | inl e ↦ C.inserted_here (finmap.insert m k a) k b q e ∙ sym (C.inserted_here m k b q e)
   | inr d ↦ inserted_other (finmap.insert m k a) k b q d ∙ inserted_other m k a q d ∙ sym (inserted_other m k b q d)
 ])
 
 -- a segment is an object
-pub segment_there : (heap : Heap) (slot : ℕ) (bytes : List ℕ) → bytes_at heap slot ≡ Some bytes → IsSome (object_at heap slot)
-segment_there heap slot bytes had = ap is_some (object_of heap slot bytes had).1
+pub segment_there : (heap : Heap) (slot : ℕ) (bytes : List ℕ) → bytes_at heap slot ≡ Some bytes → C.IsSome (C.object_at heap slot)
+segment_there heap slot bytes had = ap C.is_some (C.object_of heap slot bytes had).1
 
 -- and has a handle
 handle_for : (handles : Handles) (slot : ℕ) (bytes : List ℕ) → bytes_at handles.heap slot ≡ Some bytes → (handle : ℕ) × (slot_of_handle handles handle ≡ Some slot)
 handle_for handles slot bytes had =
-    let o : (o : Object) × (object_at handles.heap slot ≡ Some o) × (o.bytes ≡ Some bytes) = object_of handles.heap slot bytes had in
+    let o : (o : C.Object) × (C.object_at handles.heap slot ≡ Some o) × (o.bytes ≡ Some bytes) = C.object_of handles.heap slot bytes had in
     (handle_of o.0.kind slot, (names_law handles (handle_of o.0.kind slot) slot).0.1 (rw o.1 refl))
 
 -- a growth sets nothing to zero
@@ -56,9 +51,9 @@ no_zeros options handles handle size answer = by_null (answer == 0)
         turn true = refl
         turn false = by_flag options.discard
 
-module _ {old : Global} {tables : FinMap nat_cmp Table} {slot size : ℕ} {r : Request} (m : MayGrowIn old.handles tables slot size r) (are : AreHandles old.handles) (flags : ℕ) (flags_are : flags ≡ growth_flags r.options) (answer : ℕ) (new : Global)
+module _ {old : C.Global} {tables : FinMap nat_cmp Table} {slot size : ℕ} {r : Request} (m : MayGrowIn old.handles tables slot size r) (are : C.AreHandles old.handles) (flags : ℕ) (flags_are : flags ≡ growth_flags r.options) (answer : ℕ) (new : C.Global)
     (step : (handle : ℕ) → slot_of_handle old.handles handle ≡ Some slot → global.Lengthens old handle size flags answer new) where
-  abbrev at : LocalHeap
+  abbrev at : C.LocalHeap
   at = in_slot m.table m.bytes slot
 
   is_size : IsLongerSize at size
@@ -135,12 +130,12 @@ module _ {old : Global} {tables : FinMap nat_cmp Table} {slot size : ℕ} {r : R
       was_now = ap (λ t. finmap.get t slot) left_here ∙ left_is l.left.heap tables slot ∙ (λ i. left_over (m.was i) (now.1 i))
           ∙ ap (λ b. cond {A = Option Table} b (Some m.table) None) (le-leb m.table.hi (length now.0) (omega (arith, m.growth.ends, is_size.more, grown.long)))
 
-      pub may_act : MayActIn new.handles left slot (MayEndLater r size)
+      pub may_act : C.MayActIn new.handles left slot (MayEndLater r size)
       may_act = record { table = m.table; bytes = now.0; was = was_now; had = has_now; may = may_end }
 
       module _ (result : ℕ) (next : Handles) (final : FinMap nat_cmp Table)
-          (a : ActedIn new.handles left slot (λ table bytes after_table after. (count : ℕ) ×
-          (Later r size table bytes result after_table after × Writes (act_of r)
+          (a : C.ActedIn new.handles left slot (λ table bytes after_table after. (count : ℕ) ×
+          (Later r size table bytes result after_table after × C.Writes (act_of r)
           (heap_in (record table { hi = size }) bytes) (heap_in after_table after) 0 count)) next final) where
         same_table : a.before ≡ m.table
         same_table = let both : ◌≡◌ {A = Option Table} (Some a.before) (Some m.table) = sym a.was ∙ was_now in cc
@@ -151,8 +146,8 @@ module _ {old : Global} {tables : FinMap nat_cmp Table} {slot size : ℕ} {r : R
         later : Later r size m.table now.0 result a.table a.after
         later = rw (same_table, same_bytes) at a.does.1.0
 
-        after_handles : next ≡ record l.left { heap = after_write l.left.heap slot 0 a.after; moved = old.handles.moved }
-        after_handles = a.rest.1 ∙ (λ i. record (l.handles i) { heap = after_write (l.handles i).heap slot 0 a.after })
+        after_handles : next ≡ record l.left { heap = C.after_write l.left.heap slot 0 a.after; moved = old.handles.moved }
+        after_handles = a.rest.1 ∙ (λ i. record (l.handles i) { heap = C.after_write (l.handles i).heap slot 0 a.after })
 
         pub has_grown : InSlot old.handles tables slot next final (λ before at after. Grown r size before at result after)
         unfolding lengthened now
@@ -181,7 +176,7 @@ module _ {old : Global} {tables : FinMap nat_cmp Table} {slot size : ℕ} {r : R
             after_tables = a.rest.0 ∙ ap (λ t. finmap.insert t slot a.table) left_here ∙ sym (put_twice (left_in l.left.heap tables) slot (record m.table { hi = size }) a.table)
 
         -- what is written: the bytes that were moved, and the longer segment's
-        pub grown_written : (count : ℕ) → IsSomeAnd (bytes_at new.handles.heap slot) (λ bytes. count ≡ counted new.written (length bytes))
+        pub grown_written : (count : ℕ) → C.IsSomeAnd (bytes_at new.handles.heap slot) (λ bytes. count ≡ counted new.written (length bytes))
             → InSlot old.handles tables slot next final (λ before at after. WritesGrown before at r.id r.size r.options old.written after.loading.handles count)
         unfolding lengthened now
         grown_written count lent = record {

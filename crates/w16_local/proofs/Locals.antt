@@ -1,15 +1,15 @@
 -- The local heaps in a list by slot, and their tables.
-use Rattle.w16_local.proofs.Common.{[], ◌≡◌, ℕ, ◌<◌, ◌≤◌, inl, inr, IsSome, List, ◌∷◌, ◌++◌, length, get_or, set, Option, Some, None, option_map, is_some, refl, sym, ap, ◌∙◌, subst, arith}
-use Rattle.w16_local.proofs.Common.{zero, suc, nat_cmp_total, nat_cmp, FinMap, get-empty, same_map, nat_cmp-IsAntisymmetric, cases_eq, false≢true, get_or-set_same, get_or-set_other}
-use Rattle.w16_local.proofs.Common.{get_or_append_left, length-append, set-set, get_or-append_seam, Table, get-by_id, inserted_here, inserted_other, taken_here, taken_other, tables_of, AreListed}
-use Rattle.w16_local.proofs.Common.{IsListed}
+use Rattle.w16_local.proofs
+use proofs.Common as C
+use proofs.Common.{[], ◌≡◌, ℕ, ◌<◌, ◌≤◌, inl, inr, IsSome, List, ◌∷◌, ◌++◌, length, get_or, set, Option, Some, None, option_map, is_some, refl, sym, ap, ◌∙◌, subst, arith, zero, suc, nat_cmp_total, nat_cmp, same_map, nat_cmp-IsAntisymmetric, cases_eq, false≢true, get_or-set_same}
+use proofs.Common.{get_or-set_other, Table, tables_of, AreListed, IsListed}
 use Rattle.std.specs.FinMap as finmap
 
 -- nothing is taken where there is none
-pub remove_nothing : (m : FinMap nat_cmp Table) (k : ℕ) → finmap.get m k ≡ None → finmap.remove m k ≡ m
+pub remove_nothing : (m : C.FinMap nat_cmp Table) (k : ℕ) → finmap.get m k ≡ None → finmap.remove m k ≡ m
 remove_nothing m k none = same_map nat_cmp_total nat_cmp-IsAntisymmetric (finmap.remove m k) m (λ q. elim (cases_eq q k) [
-  | inl e ↦ taken_here m k q e ∙ sym none ∙ ap (finmap.get m) (sym e)
-  | inr d ↦ taken_other m k q d
+  | inl e ↦ C.taken_here m k q e ∙ sym none ∙ ap (finmap.get m) (sym e)
+  | inr d ↦ C.taken_other m k q d
 ])
 
 module _ {X : Type 0} where
@@ -34,17 +34,17 @@ module _ {X : Type 0} where
   module _ (table : X → Table) where
     -- a slot's table is its heap's
     pub tables_at : (xs : List (Option X)) (slot : ℕ) → finmap.get (tables_of xs table) slot ≡ option_map table (get_or xs slot None)
-    tables_at xs slot = get-by_id (λ _ h. table h) xs slot
+    tables_at xs slot = C.get-by_id (λ _ h. table h) xs slot
 
     -- a list of no heaps
     pub no_tables : (xs : List (Option X)) → ((q : ℕ) → get_or xs q None ≡ None) → tables_of xs table ≡ finmap.empty
-    no_tables xs none = same_map nat_cmp_total nat_cmp-IsAntisymmetric (tables_of xs table) finmap.empty (λ q. tables_at xs q ∙ ap (option_map table) (none q) ∙ sym (get-empty nat_cmp q))
+    no_tables xs none = same_map nat_cmp_total nat_cmp-IsAntisymmetric (tables_of xs table) finmap.empty (λ q. tables_at xs q ∙ ap (option_map table) (none q) ∙ sym (C.get-empty nat_cmp q))
 
     -- a slot loses its own
     pub tables_unset : (xs : List (Option X)) (slot : ℕ) (gone : Option X) → gone ≡ None → slot < length xs → tables_of (set xs slot gone) table ≡ finmap.remove (tables_of xs table) slot
     tables_unset xs slot gone none lt = same_map nat_cmp_total nat_cmp-IsAntisymmetric (tables_of (set xs slot gone) table) (finmap.remove (tables_of xs table) slot) (λ q. elim (cases_eq q slot) [
-      | inl e ↦ tables_at (set xs slot gone) q ∙ ap (λ k. option_map table (get_or (set xs slot gone) k None)) e ∙ ap (option_map table) (get_or-set_same xs slot gone None lt ∙ none) ∙ sym (taken_here (tables_of xs table) slot q e)
-      | inr d ↦ tables_at (set xs slot gone) q ∙ ap (option_map table) (get_or-set_other xs slot q gone None d) ∙ sym (tables_at xs q) ∙ sym (taken_other (tables_of xs table) slot q d)
+      | inl e ↦ tables_at (set xs slot gone) q ∙ ap (λ k. option_map table (get_or (set xs slot gone) k None)) e ∙ ap (option_map table) (get_or-set_same xs slot gone None lt ∙ none) ∙ sym (C.taken_here (tables_of xs table) slot q e)
+      | inr d ↦ tables_at (set xs slot gone) q ∙ ap (option_map table) (get_or-set_other xs slot q gone None d) ∙ sym (tables_at xs q) ∙ sym (C.taken_other (tables_of xs table) slot q d)
     ])
 
     pub none_past : (xs : List (Option X)) (slot : ℕ) → length xs ≤ slot → finmap.get (tables_of xs table) slot ≡ None
@@ -53,16 +53,16 @@ module _ {X : Type 0} where
     -- a slot gets one
     pub tables_set : (xs : List (Option X)) (slot : ℕ) (h : X) → slot < length xs → tables_of (set xs slot (Some h)) table ≡ finmap.insert (tables_of xs table) slot (table h)
     tables_set xs slot h lt = same_map nat_cmp_total nat_cmp-IsAntisymmetric (tables_of (set xs slot (Some h)) table) (finmap.insert (tables_of xs table) slot (table h)) (λ q. elim (cases_eq q slot) [
-      | inl e ↦ tables_at (set xs slot (Some h)) q ∙ ap (λ k. option_map table (get_or (set xs slot (Some h)) k None)) e ∙ ap (option_map table) (get_or-set_same xs slot (Some h) None lt) ∙ sym (inserted_here (tables_of xs table) slot (table h) q e)
-      | inr d ↦ tables_at (set xs slot (Some h)) q ∙ ap (option_map table) (get_or-set_other xs slot q (Some h) None d) ∙ sym (tables_at xs q) ∙ sym (inserted_other (tables_of xs table) slot (table h) q d)
+      | inl e ↦ tables_at (set xs slot (Some h)) q ∙ ap (λ k. option_map table (get_or (set xs slot (Some h)) k None)) e ∙ ap (option_map table) (get_or-set_same xs slot (Some h) None lt) ∙ sym (C.inserted_here (tables_of xs table) slot (table h) q e)
+      | inr d ↦ tables_at (set xs slot (Some h)) q ∙ ap (option_map table) (get_or-set_other xs slot q (Some h) None d) ∙ sym (tables_at xs q) ∙ sym (C.inserted_other (tables_of xs table) slot (table h) q d)
     ])
 
     -- a heap is taken out, and another put in its place
     pub tables_replaced : (xs : List (Option X)) (slot : ℕ) (gone : Option X) (h : X) → slot < length xs → tables_of (set (set xs slot gone) slot (Some h)) table ≡ finmap.insert (tables_of xs table) slot (table h)
-    tables_replaced xs slot gone h lt = ap (λ ys. tables_of ys table) (set-set xs slot gone (Some h)) ∙ tables_set xs slot h lt
+    tables_replaced xs slot gone h lt = ap (λ ys. tables_of ys table) (C.set-set xs slot gone (Some h)) ∙ tables_set xs slot h lt
 
     -- A slot that has a table has its heap in the list.
-    module _ (xs : List (Option X)) {tables : FinMap nat_cmp Table} (shown : tables_of xs table ≡ tables) (slot : ℕ) where
+    module _ (xs : List (Option X)) {tables : C.FinMap nat_cmp Table} (shown : tables_of xs table ≡ tables) (slot : ℕ) where
       pub is_table : (p : Option X) → get_or xs slot None ≡ p → finmap.get tables slot ≡ option_map table p
       is_table p there = ap (λ m. finmap.get m slot) (sym shown) ∙ tables_at xs slot ∙ ap (option_map table) there
 
@@ -100,7 +100,7 @@ module _ {X : Type 0} where
 
   -- a slot that has one gets another in its place
   pub listed_replaced : (xs : List (Option X)) (slots : List ℕ) (slot : ℕ) (before : X) (gone : Option X) (h : X) → get_or xs slot None ≡ Some before → AreListed xs slots → AreListed (set (set xs slot gone) slot (Some h)) slots
-  listed_replaced xs slots slot before gone h there listed = subst (λ ys. AreListed ys slots) (sym (set-set xs slot gone (Some h))) (λ q some. elim (cases_eq q slot) [
+  listed_replaced xs slots slot before gone h there listed = subst (λ ys. AreListed ys slots) (sym (C.set-set xs slot gone (Some h))) (λ q some. elim (cases_eq q slot) [
     | inl e ↦ listed q (ap is_some (ap (λ k. get_or xs k None) e ∙ there))
     | inr d ↦ listed q (sym (ap is_some (get_or-set_other xs slot q (Some h) None d)) ∙ some)
   ])
@@ -114,7 +114,7 @@ module _ {X : Type 0} where
 
 -- A slot is put behind those that are listed.
 pub listed_more : (slots : List ℕ) (slot q : ℕ) → IsListed slots q → IsListed (slots ++ slot ∷ []) q
-listed_more slots slot q l = (l.0, omega (arith, l.1, length-append slots (slot ∷ [])), get_or_append_left slots (slot ∷ []) 0 l.0 l.1 ∙ l.2)
+listed_more slots slot q l = (l.0, omega (arith, l.1, C.length-append slots (slot ∷ [])), C.get_or_append_left slots (slot ∷ []) 0 l.0 l.1 ∙ l.2)
 
 pub listed_last : (slots : List ℕ) (slot : ℕ) → IsListed (slots ++ slot ∷ []) slot
-listed_last slots slot = (length slots, omega (arith, length-append slots (slot ∷ [])), get_or-append_seam slots slot [] 0)
+listed_last slots slot = (length slots, omega (arith, C.length-append slots (slot ∷ [])), C.get_or-append_seam slots slot [] 0)

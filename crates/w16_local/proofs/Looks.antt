@@ -1,14 +1,14 @@
 -- What a local heap's table tells of its heap: names, near pointers, sizes.
-use Rattle.w16_local.proofs.Common.{◌≡◌, ◌≢◌, ℕ, ◌+◌, ◌*◌, ◌/◌, ◌%◌, ◌<◌, ◌≤◌, ◌⊎◌, inl, inr, ◌==◌, nat_lt, lt-ltb, le-ltb, ne_eqb, eq-eqb, is_ok, Result, Ok, Err, Bool, true, false, not, cond, if◌then◌else◌, IfSome}
-use Rattle.w16_local.proofs.Common.{is_some, List, length, slice_range, Option, Some, None, option_map, unwrap_or, refl, sym, ap, ◌∙◌, subst, arith, cases_lt, Block, Entry, Refusal, locks_at, absent, removed, after_discard}
-use Rattle.w16_local.proofs.Common.{after_free, block_end, Heap, Object, IsHeap, object_at, bytes_at, is_fixed, is_discardable, IsMultiple, Table, block_with, entry_at, heap_in, object_in, Each-at, Each-from_All, laid_each}
-use Rattle.w16_local.proofs.Common.{member_with, AreParts, is_heap, object_here, place_here, size_here, IsLocalTable, id_at, id_named, name_at, name_of, LMEM_DISCARDABLE, LMEM_DISCARDED, local_flags_of, names_law, IsOver}
+use Rattle.w16_local.proofs
+use proofs.Common as C
+use proofs.Common.{◌≡◌, ◌≢◌, ℕ, ◌+◌, ◌*◌, ◌/◌, ◌%◌, ◌<◌, ◌≤◌, ◌⊎◌, inl, inr, ◌==◌, nat_lt, is_ok, Result, Ok, Err, Bool, true, false, not, cond, if◌then◌else◌, is_some, List, Option, Some, None, option_map, unwrap_or, refl, sym, ap, ◌∙◌, subst, arith, Block, Entry, Refusal, absent}
+use proofs.Common.{removed, Heap, Object, object_at, is_fixed, is_discardable, Table, block_with, entry_at, heap_in, object_in, object_here, place_here, IsLocalTable, id_at, id_named, name_at, LMEM_DISCARDED, local_flags_of, names_law}
 use Rattle.std.specs.FinMap as finmap
 use Rattle.w16_model.specs.declared.Refusal.TheVariants as refusals
 
 -- a block lies in the table's range
-pub block_inside : (t : Table) → IsLocalTable t → (id : ℕ) (x : Block) → block_with t.blocks id ≡ Some x → (t.lo ≤ x.at) × (0 < x.size) × (block_end x ≤ t.hi)
-block_inside t is id x e = Each-at (λ (y : Block). (t.lo ≤ y.at) × (0 < y.size) × (block_end y ≤ t.hi)) t.blocks (laid_each t.lo t.hi t.blocks is.sound.table.laid) x (member_with t.blocks id x e).0
+pub block_inside : (t : Table) → IsLocalTable t → (id : ℕ) (x : Block) → block_with t.blocks id ≡ Some x → (t.lo ≤ x.at) × (0 < x.size) × (C.block_end x ≤ t.hi)
+block_inside t is id x e = C.Each-at (λ (y : Block). (t.lo ≤ y.at) × (0 < y.size) × (C.block_end y ≤ t.hi)) t.blocks (C.laid_each t.lo t.hi t.blocks is.sound.table.laid) x (C.member_with t.blocks id x e).0
 
 -- and its places are words
 pub block_small : (t : Table) → IsLocalTable t → (id : ℕ) (x : Block) → block_with t.blocks id ≡ Some x → (x.at < 65536) × (x.size < 65536)
@@ -24,7 +24,7 @@ block_small t is id x e =
 -- at multiples of 4
 block_by_four : (t : Table) → IsLocalTable t → (id : ℕ) (x : Block) → block_with t.blocks id ≡ Some x → (m : ℕ) × (x.at ≡ 4 * m)
 block_by_four t is id x e =
-    let g = (Each-at (λ (y : Block). IsMultiple t.grain y.at × IsMultiple t.grain y.size) t.blocks (Each-from_All _ t.blocks is.sound.grained) x (member_with t.blocks id x e).0).0 in
+    let g = (C.Each-at (λ (y : Block). C.IsMultiple t.grain y.at × C.IsMultiple t.grain y.size) t.blocks (C.Each-from_All _ t.blocks is.sound.grained) x (C.member_with t.blocks id x e).0).0 in
     (g.0, g.1 ∙ ap (λ k. k * g.0) is.grain)
 
 pub none_some : {x : ℕ} → ◌≡◌ {A = Option ℕ} None (Some x) → ⊥
@@ -33,12 +33,12 @@ none_some e = cc
 pub some_other : {x y : ℕ} → x ≢ y → ◌≡◌ {A = Option ℕ} (Some x) (Some y) → ⊥
 some_other {x} {y} other e = let same : x ≡ y = cc in other same
 
-module _ {t : Table} {bytes : List ℕ} (over : IsOver t bytes) where
-  parts : AreParts t.entries (record { cap = length t.entries; lo = t.lo; hi = t.hi; grain = t.grain; blocks = t.blocks }) t.order bytes
+module _ {t : Table} {bytes : List ℕ} (over : C.IsOver t bytes) where
+  parts : C.AreParts t.entries (record { cap = C.length t.entries; lo = t.lo; hi = t.hi; grain = t.grain; blocks = t.blocks }) t.order bytes
   parts = record { sound = over.is_local.sound; ids = refl; high = over.inside }
 
-  pub heap_is : IsHeap (heap_in t bytes)
-  heap_is = is_heap parts over.are_bytes
+  pub heap_is : C.IsHeap (heap_in t bytes)
+  heap_is = C.is_heap parts over.are_bytes
 
   -- a place is a block's
   placed : (pointer id : ℕ) → finmap.get (heap_in t bytes).places id ≡ Some pointer → (x : Block) × (block_with t.blocks id ≡ Some x) × (x.at ≡ pointer)
@@ -56,19 +56,19 @@ module _ {t : Table} {bytes : List ℕ} (over : IsOver t bytes) where
     pub at_block : (b : Block) → block_with t.blocks b.id ≡ Some b → b.at ≡ pointer → id_at (heap_in t bytes) pointer ≡ Some b.id
     at_block b is at = at_place b.id (place_here parts b.id ∙ ap (option_map (λ (x : Block). x.at)) is ∙ ap Some at)
 
-    pub at_none : ((q : ℕ) → IfSome (block_with t.blocks q) (λ c. c.at ≢ pointer)) → id_at (heap_in t bytes) pointer ≡ None
+    pub at_none : ((q : ℕ) → C.IfSome (block_with t.blocks q) (λ c. c.at ≢ pointer)) → id_at (heap_in t bytes) pointer ≡ None
     at_none never = turn (id_at (heap_in t bytes) pointer) refl
       where
         turn : (p : Option ℕ) → id_at (heap_in t bytes) pointer ≡ p → p ≡ None
         turn None e = refl
         turn (Some id) e =
             let x : (x : Block) × (block_with t.blocks id ≡ Some x) × (x.at ≡ pointer) = placed pointer id ((names_law (heap_in t bytes) pointer id heap_is over.is_local.grain).1.0 e) in
-            absurd (subst (λ b. IfSome b (λ (c : Block). c.at ≢ pointer)) x.1 (never id) x.2)
+            absurd (subst (λ b. C.IfSome b (λ (c : Block). c.at ≢ pointer)) x.1 (never id) x.2)
 
   -- Names.
   module _ (id : ℕ) where
     abbrev name_in : Option Object → Option ℕ
-    name_in p = elim p [ None ↦ None | Some o ↦ name_of (heap_in t bytes) id o ]
+    name_in p = elim p [ None ↦ None | Some o ↦ C.name_of (heap_in t bytes) id o ]
 
     pub name_none : entry_at t id ≡ None → name_at (heap_in t bytes) id ≡ None
     name_none none = ap name_in (object_here parts id ∙ ap (option_map (object_in t.blocks bytes id)) none)
@@ -125,8 +125,8 @@ module _ {t : Table} {bytes : List ℕ} (over : IsOver t bytes) where
   not_named name id may r is other = named_none name (λ q e. let same : id ≡ q = (let both = may q e in cc) in other (sym is ∙ ap (name_at (heap_in t bytes)) same ∙ e))
 
   -- Sizes and flags.
-  pub size_in : (id : ℕ) (b : Option Block) → block_with t.blocks id ≡ b → unwrap_or (option_map (length {A = ℕ}) (bytes_at (heap_in t bytes) id)) 0 ≡ unwrap_or (option_map (λ (x : Block). x.size) b) 0
-  size_in id b is = ap (λ (n : Option ℕ). unwrap_or n 0) (size_here parts id ∙ ap (option_map (λ (x : Block). x.size)) is)
+  pub size_in : (id : ℕ) (b : Option Block) → block_with t.blocks id ≡ b → unwrap_or (option_map (C.length {A = ℕ}) (C.bytes_at (heap_in t bytes) id)) 0 ≡ unwrap_or (option_map (λ (x : Block). x.size) b) 0
+  size_in id b is = ap (λ (n : Option ℕ). unwrap_or n 0) (C.size_here parts id ∙ ap (option_map (λ (x : Block). x.size)) is)
 
   pub object_in_entry : (id : ℕ) (e : Option Entry) → entry_at t id ≡ e → object_at (heap_in t bytes) id ≡ option_map (object_in t.blocks bytes id) e
   object_in_entry id e is = object_here parts id ∙ ap (option_map (object_in t.blocks bytes id)) is
@@ -134,28 +134,28 @@ module _ {t : Table} {bytes : List ℕ} (over : IsOver t bytes) where
   pub place_in : (id : ℕ) (b : Option Block) → block_with t.blocks id ≡ b → unwrap_or (finmap.get (heap_in t bytes).places id) 0 ≡ unwrap_or (option_map (λ (x : Block). x.at) b) 0
   place_in id b is = ap (λ (n : Option ℕ). unwrap_or n 0) (place_here parts id ∙ ap (option_map (λ (x : Block). x.at)) is)
 
-  pub locks_in : (id : ℕ) (e : Option Entry) → entry_at t id ≡ e → locks_at (heap_in t bytes) id ≡ unwrap_or (option_map (λ (o : Object). o.locks) (option_map (object_in t.blocks bytes id) e)) 0
+  pub locks_in : (id : ℕ) (e : Option Entry) → entry_at t id ≡ e → C.locks_at (heap_in t bytes) id ≡ unwrap_or (option_map (λ (o : Object). o.locks) (option_map (object_in t.blocks bytes id) e)) 0
   locks_in id e is = ap (λ (p : Option Object). unwrap_or (option_map (λ (o : Object). o.locks) p) 0) (object_in_entry id e is)
 
   pub flags_in : (id : ℕ) (e : Option Entry) → entry_at t id ≡ e → unwrap_or (option_map local_flags_of (object_at (heap_in t bytes) id)) 0 ≡ unwrap_or (option_map local_flags_of (option_map (object_in t.blocks bytes id) e)) 0
   flags_in id e is = ap (λ (p : Option Object). unwrap_or (option_map local_flags_of p) 0) (object_in_entry id e is)
 
-  absent_bit : (b : Option Block) → (if is_some (option_map (λ (x : Block). slice_range bytes x.at (x.at + x.size)) b) then 0 else LMEM_DISCARDED) ≡ (if not (is_some b) then LMEM_DISCARDED else 0)
+  absent_bit : (b : Option Block) → (if is_some (option_map (λ (x : Block). C.slice_range bytes x.at (x.at + x.size)) b) then 0 else LMEM_DISCARDED) ≡ (if not (is_some b) then LMEM_DISCARDED else 0)
   absent_bit None = refl
   absent_bit (Some x) = refl
 
-  pub flags_told : (id : ℕ) (e : Entry) → entry_at t id ≡ Some e → (d a : ℕ) → d ≡ (if is_discardable e.kind then LMEM_DISCARDABLE else 0) → a ≡ (if not (is_some (block_with t.blocks id)) then LMEM_DISCARDED else 0)
+  pub flags_told : (id : ℕ) (e : Entry) → entry_at t id ≡ Some e → (d a : ℕ) → d ≡ (if is_discardable e.kind then C.LMEM_DISCARDABLE else 0) → a ≡ (if not (is_some (block_with t.blocks id)) then LMEM_DISCARDED else 0)
       → unwrap_or (option_map local_flags_of (object_at (heap_in t bytes) id)) 0 ≡ e.locks + d + a
   flags_told id e is d a d_is a_is = flags_in id (Some e) is ∙ (λ i. e.locks + sym d_is i + (absent_bit (block_with t.blocks id) ∙ sym a_is) i)
 
   -- What may be freed or discarded.
-  pub free_told : (id : ℕ) (e : Option Entry) → entry_at t id ≡ e → is_ok (after_free (heap_in t bytes) id) ≡ (elim e [ None ↦ true | Some e ↦ e.locks == 0 ])
+  pub free_told : (id : ℕ) (e : Option Entry) → entry_at t id ≡ e → is_ok (C.after_free (heap_in t bytes) id) ≡ (elim e [ None ↦ true | Some e ↦ e.locks == 0 ])
   free_told id e is = ap (λ (p : Option Object). is_ok (elim p as (λ _. Result Heap Refusal) [ None ↦ Ok (heap_in t bytes) | Some o ↦ cond (nat_lt 0 o.locks) (Err refusals.Locked) (Ok (removed (heap_in t bytes) id)) ])) (object_in_entry id e is) ∙ by_entry e
     where
       by_locks : (n : ℕ) → is_ok (cond {A = Result Heap Refusal} (nat_lt 0 n) (Err refusals.Locked) (Ok (removed (heap_in t bytes) id))) ≡ (n == 0)
-      by_locks n = elim (cases_lt 0 n) [
-        | inl some ↦ ap (λ b. is_ok (cond {A = Result Heap Refusal} b (Err refusals.Locked) (Ok (removed (heap_in t bytes) id)))) (lt-ltb 0 n some) ∙ sym (ne_eqb n 0 (λ e. absurd (omega (arith, e, some))))
-        | inr none ↦ ap (λ b. is_ok (cond {A = Result Heap Refusal} b (Err refusals.Locked) (Ok (removed (heap_in t bytes) id)))) (le-ltb 0 n none) ∙ sym (eq-eqb n 0 (omega (arith, none)))
+      by_locks n = elim (C.cases_lt 0 n) [
+        | inl some ↦ ap (λ b. is_ok (cond {A = Result Heap Refusal} b (Err refusals.Locked) (Ok (removed (heap_in t bytes) id)))) (C.lt-ltb 0 n some) ∙ sym (C.ne_eqb n 0 (λ e. absurd (omega (arith, e, some))))
+        | inr none ↦ ap (λ b. is_ok (cond {A = Result Heap Refusal} b (Err refusals.Locked) (Ok (removed (heap_in t bytes) id)))) (C.le-ltb 0 n none) ∙ sym (C.eq-eqb n 0 (omega (arith, none)))
       ]
 
       by_entry : (e : Option Entry) → is_ok (elim (option_map (object_in t.blocks bytes id) e) as (λ _. Result Heap Refusal) [ None ↦ Ok (heap_in t bytes) | Some o ↦ cond (nat_lt 0 o.locks) (Err refusals.Locked) (Ok (removed (heap_in t bytes) id)) ])
@@ -163,7 +163,7 @@ module _ {t : Table} {bytes : List ℕ} (over : IsOver t bytes) where
       by_entry None = refl
       by_entry (Some e) = by_locks e.locks
 
-  pub discard_told : (id : ℕ) (e : Option Entry) → entry_at t id ≡ e → is_ok (after_discard (heap_in t bytes) id) ≡ (elim e [ None ↦ false | Some e ↦ cond (nat_lt 0 e.locks) false (is_discardable e.kind) ])
+  pub discard_told : (id : ℕ) (e : Option Entry) → entry_at t id ≡ e → is_ok (C.after_discard (heap_in t bytes) id) ≡ (elim e [ None ↦ false | Some e ↦ cond (nat_lt 0 e.locks) false (is_discardable e.kind) ])
   discard_told id e is =
       ap (λ (p : Option Object). is_ok (elim p as (λ _. Result Heap Refusal) [ None ↦ Err refusals.NotDiscardable | Some o ↦ cond (nat_lt 0 o.locks) (Err refusals.Locked) (cond (is_discardable o.kind) (Ok (absent (heap_in t bytes) id)) (Err refusals.NotDiscardable)) ])) (object_in_entry id e is)
       ∙ by_entry e

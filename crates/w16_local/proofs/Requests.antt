@@ -1,31 +1,26 @@
 -- What becomes of a request for room in a heap, as it is or as it ends later.
-use Rattle.w16_local.proofs.Common.{◌≡◌, All, ℕ, ◌<◌, ◌≤◌, inl, inr, false, List, length, Option, Some, None, sym, ap, refl, unwrap_or, ◌∙◌, subst, arith, false≢true, Kind, Block, Heap, Object, IsHeap, IsMultiple, IsSameOutside}
-use Rattle.w16_local.proofs.Common.{IsBlockOf, Each-at, Each-from_All, blocks, bytes_at, object_at, Handles, AreHandles, Table, heap_in, IsLocalTable, name_at, object_of, ByteOp, Acted, Done, Idle, MayAct, MayActOver, Writes}
-use Rattle.std.specs.FinMap as finmap
-use Rattle.w16_model.specs.declared.TheConstants.{GRAIN}
-use Rattle.w16_model.specs.Ends.{ending, is_answered}
-use Rattle.w16_model.specs.Heap.{hold_of_object}
-use Rattle.w16_model.proofs.AtEnds.{answer_law}
-use Rattle.w16_model.proofs.Heaps.{block_member}
-use Rattle.w16_model.proofs.Sound.{sound_law}
+use Rattle.w16_local.proofs.Common as C
+use Rattle.w16_local.proofs.Common.{◌≡◌, All, ℕ, ◌<◌, ◌≤◌, inl, inr, false, List, length, Option, Some, None, sym, ap, refl, ◌∙◌, subst, arith, false≢true, Kind, Block, Heap, IsMultiple, Table, heap_in, Acted, Done, Idle, MayAct, Writes}
+use Rattle.w16_model.specs.{declared.TheConstants.GRAIN, Ends.ending, Ends.is_answered, Heap.hold_of_object}
+use Rattle.w16_model.proofs.{AtEnds.answer_law, Heaps.block_member, Sound.sound_law}
 use Rattle.w16_machine.proofs.LocalFewest.{some_name}
-use Rattle.w16_local.specs.declared.growth.Met.TheVariants.{Lacks}
-use Rattle.w16_local.specs.declared.growth.Request.{Request}
 use Rattle.w16_local.specs.Growth.{Later, MayEndLater, ServedOver, SizeTold, act_of}
+use Rattle.w16_local.specs.{declared.growth.Met.TheVariants.Lacks, declared.growth.Request.Request}
+use Rattle.std.specs.FinMap as finmap
 
 -- the bytes of a segment are whole grains of the global heap
-module _ (handles : Handles) (is : AreHandles handles) (slot : ℕ) (bytes : List ℕ) (had : bytes_at handles.heap slot ≡ Some bytes) where
-  abbrev its : Object → Block
-  its o = record { id = slot; at = unwrap_or (finmap.get handles.heap.places slot) 0; size = length bytes; hold = hold_of_object o }
+module _ (handles : C.Handles) (is : C.AreHandles handles) (slot : ℕ) (bytes : List ℕ) (had : C.bytes_at handles.heap slot ≡ Some bytes) where
+  abbrev its : C.Object → Block
+  its o = record { id = slot; at = C.unwrap_or (finmap.get handles.heap.places slot) 0; size = length bytes; hold = hold_of_object o }
 
   abbrev AreWhole : Block → Type 0
   AreWhole x = IsMultiple handles.heap.grain x.at × IsMultiple handles.heap.grain x.size
 
   pub whole : IsMultiple GRAIN (length bytes)
   whole =
-      let o : (o : Object) × (object_at handles.heap slot ≡ Some o) × (o.bytes ≡ Some bytes) = object_of handles.heap slot bytes had in
-      let block : IsBlockOf handles.heap (its o.0) = record { object = o.0; bytes = bytes; is_there = o.1; has_bytes = o.2; place = refl; size = refl; hold = refl } in
-      rw is.grain at (Each-at AreWhole (blocks handles.heap) (Each-from_All _ (blocks handles.heap) is.heap.grained) (its o.0) (block_member handles.heap (its o.0) block)).1
+      let o : (o : C.Object) × (C.object_at handles.heap slot ≡ Some o) × (o.bytes ≡ Some bytes) = C.object_of handles.heap slot bytes had in
+      let block : C.IsBlockOf handles.heap (its o.0) = record { object = o.0; bytes = bytes; is_there = o.1; has_bytes = o.2; place = refl; size = refl; hold = refl } in
+      rw is.grain at (C.Each-at AreWhole (C.blocks handles.heap) (C.Each-from_All _ (C.blocks handles.heap) is.heap.grained) (its o.0) (block_member handles.heap (its o.0) block)).1
 
 -- a refused one isn't answered
 pub idle_refused : (r : Request) (heap : Heap) → MayAct (act_of r) heap → (answer : ℕ) → Idle (act_of r) heap answer → is_answered heap r.id r.size r.options ≡ false
@@ -44,15 +39,15 @@ may_later r heap end = turn r.kind
     turn None m = m
 
 -- one that is done has a name for an answer
-done_named : (r : Request) (heap next : Heap) (answer : ℕ) → Done (act_of r) heap answer next → name_at next r.id ≡ Some answer
+done_named : (r : Request) (heap next : Heap) (answer : ℕ) → Done (act_of r) heap answer next → C.name_at next r.id ≡ Some answer
 done_named r heap next answer = turn r.kind
   where
-    turn : (k : Option Kind) → Done (act_of (record r { kind = k })) heap answer next → name_at next r.id ≡ Some answer
+    turn : (k : Option Kind) → Done (act_of (record r { kind = k })) heap answer next → C.name_at next r.id ≡ Some answer
     turn (Some kind) d = d.1
     turn None d = d.1
 
 -- which isn't 0, so that an answer of 0 is a refusal
-pub idle_of : (r : Request) {table left : Table} {bytes after : List ℕ} {answer : ℕ} → Acted (act_of r) table bytes answer left after → answer ≡ 0 → IsHeap (heap_in left after) → IsLocalTable left
+pub idle_of : (r : Request) {table left : Table} {bytes after : List ℕ} {answer : ℕ} → Acted (act_of r) table bytes answer left after → answer ≡ 0 → C.IsHeap (heap_in left after) → C.IsLocalTable left
     → Idle (act_of r) (heap_in table bytes) 0 × (left ≡ table) × (after ≡ bytes)
 idle_of r {table} {left} {bytes} {after} {answer} a none is is_local = elim a.act_is [
   | inl same ↦ (rw none at same.0, same.1, same.2)
@@ -61,7 +56,7 @@ idle_of r {table} {left} {bytes} {after} {answer} a none is is_local = elim a.ac
 
 -- An answered one is done where the heap ends later.
 pub later_done : (r : Request) (end : ℕ) {table left : Table} {bytes before after : List ℕ} {answer : ℕ} → MayEndLater r end table bytes → heap_in (record table { hi = end }) before ≡ heap_in (record table { hi = end }) bytes
-    → IsSameOutside table.lo end bytes before → Acted (act_of r) (record table { hi = end }) before answer left after → Later r end table bytes answer left after
+    → C.IsSameOutside table.lo end bytes before → Acted (act_of r) (record table { hi = end }) before answer left after → Later r end table bytes answer left after
 later_done r end {table} {left} {bytes} {before} {after} {answer} may same outside a = record {
   range = a.range;
   outside = record { below = a.outside.below ∙ outside.below; above = a.outside.above ∙ outside.above };
@@ -72,8 +67,8 @@ later_done r end {table} {left} {bytes} {before} {after} {answer} may same outsi
 }
 
 -- What a refused request leaves: the heap and its bytes, in which it isn't answered.
-module _ (r : Request) {act : ByteOp} (act_is : act ≡ act_of r) {t s : Table} {bytes after : List ℕ} {answer : ℕ} (may : MayActOver (act_of r) t bytes) (a : Acted act t bytes answer s after) (long : length after ≡ length bytes)
-    (is_local : IsLocalTable s) (are_bytes : All (λ b. b < 256) after) (none : answer ≡ 0) where
+module _ (r : Request) {act : C.ByteOp} (act_is : act ≡ act_of r) {t s : Table} {bytes after : List ℕ} {answer : ℕ} (may : C.MayActOver (act_of r) t bytes) (a : Acted act t bytes answer s after) (long : length after ≡ length bytes)
+    (is_local : C.IsLocalTable s) (are_bytes : All (λ b. b < 256) after) (none : answer ≡ 0) where
   pub request_idle : Idle (act_of r) (heap_in t bytes) 0 × (s ≡ t) × (after ≡ bytes)
   request_idle = idle_of r (rw act_is at a) none (sound_law s after is_local.sound (omega (arith, a.range.hi, long, may.0)) are_bytes) is_local
 
@@ -87,18 +82,18 @@ module _ (r : Request) {act : ByteOp} (act_is : act ≡ act_of r) {t s : Table} 
   )
 
 -- What is asked of a heap once its end has been moved: it may be, and what becomes of it.
-module _ (r : Request) {act : ByteOp} (act_is : act ≡ act_of r) {end : ℕ} {t now : Table} {bytes : List ℕ} (before : List ℕ) (may : MayEndLater r end t bytes) (now_is : now ≡ record t { hi = end }) (same : heap_in now before ≡ heap_in now bytes)
+module _ (r : Request) {act : C.ByteOp} (act_is : act ≡ act_of r) {end : ℕ} {t now : Table} {bytes : List ℕ} (before : List ℕ) (may : MayEndLater r end t bytes) (now_is : now ≡ record t { hi = end }) (same : heap_in now before ≡ heap_in now bytes)
     (long : length before ≡ length bytes) where
   same_heap : heap_in (record t { hi = end }) before ≡ heap_in (record t { hi = end }) bytes
   same_heap = rw now_is at same
 
-  pub later_may : MayActOver act now before
+  pub later_may : C.MayActOver act now before
   later_may = (
     rw now_is (omega (arith, may.ends, long)),
     rw (act_is, now_is, same_heap) may.may,
   )
 
-  pub later_served : {s : Table} {after : List ℕ} {answer : ℕ} → IsSameOutside t.lo end bytes before → Acted act now before answer s after → (moved count written : ℕ) → moved ≡ count → Writes act (heap_in now before) (heap_in s after) moved written
+  pub later_served : {s : Table} {after : List ℕ} {answer : ℕ} → C.IsSameOutside t.lo end bytes before → Acted act now before answer s after → (moved count written : ℕ) → moved ≡ count → Writes act (heap_in now before) (heap_in s after) moved written
       → Later r end t bytes answer s after × Writes (act_of r) (heap_in (record t { hi = end }) bytes) (heap_in s after) count written
   later_served {s} {after} {answer} outside acted moved count written none writes = (
     later_done r end may same_heap outside (rw (act_is, now_is) at acted),

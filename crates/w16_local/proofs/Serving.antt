@@ -1,12 +1,12 @@
 -- A request in the heap of a slot, as a call's step.
-use Rattle.w16_local.proofs.Common.{◌≡◌, ℕ, ◌⊎◌, inl, inr, List, length, Option, Some, None, refl, sym, ◌∙◌, subst, arith, nat_cmp, FinMap, Kind, Heap, Handles, Table}
-use Rattle.w16_local.proofs.Common.{heap_in, counted, Global, World, IsLocalTable, ActedIn, Acted, Done, Idle, IsLent, MayAct, MayActIn, MayActOver, Writes, with_parts}
+use Rattle.w16_local.proofs
+use Rattle.w16_local.specs
+use proofs.Common.{◌≡◌, ℕ, ◌⊎◌, inl, inr, List, length, Option, Some, None, refl, sym, ◌∙◌, subst, arith, nat_cmp, FinMap, Kind, Heap, Handles, Table, heap_in, counted, Global, World, IsLocalTable, ActedIn, Acted, Done, Idle, IsLent, MayAct, MayActIn, MayActOver, Writes, with_parts}
+use proofs.Acting.{acted_same, once_in}
 use Rattle.w16_machine.specs.LocalGrowth.{IsGrowth, IsKeptShort}
-use Rattle.w16_local.specs.declared.growth.Met.{Met}
-use Rattle.w16_local.specs.declared.growth.Met.TheVariants.{Answered, Lacks}
-use Rattle.w16_local.specs.declared.growth.Request.{Request}
-use Rattle.w16_local.specs.Growth.{Grown, InSlot, MayGrowIn, Served, ServedOver, SizeTold, WritesGrown, WritesOnce, WritesServed, act_of, in_slot}
-use Rattle.w16_local.proofs.Acting.{acted_same, once_in}
+use specs.declared.growth.Met.TheVariants.{Answered, Lacks}
+use specs.Growth.{Grown, InSlot, MayGrowIn, Served, ServedOver, SizeTold, WritesGrown, WritesOnce, WritesServed, act_of, in_slot}
+use specs.{declared.growth.Met.Met, declared.growth.Request.Request}
 
 -- a refusal answers 0
 idle_none : (r : Request) (heap : Heap) (answer : ℕ) → Idle (act_of r) heap answer → answer ≡ 0

@@ -1,35 +1,37 @@
 -- Heaps that go with the bytes of their segments, listed slot by listed slot.
-use Rattle.w16_local.proofs.Common.{◌≡◌, ◌≢◌, ℕ, ◌+◌, ◌-◌, ◌*◌, ◌<◌, ◌≤◌, inl, inr, Bool, true, false, cond, nat_le, IsSomeAnd, List, length, get_or, Option, Some, None, option_map, is_some, refl, sym, ap, ◌∙◌, subst, arith, nat_cmp_total, nat_cmp, FinMap, same_map}
-use Rattle.w16_local.proofs.Common.{nat_cmp-IsAntisymmetric, get-retain_keys, cases_Bool, cases_eq, false≢true, Handles, AreHandles, numbered, slot_of_selector, Heap, Object, bytes_at, object_at, Table, has_range, left_in, AreListed, IsListed, tables_of, AreSwept}
-use Rattle.std.specs.FinMap as finmap
+use Rattle.w16_local.proofs
+use proofs.Common as C
+use proofs.Common.{◌≡◌, ◌≢◌, ℕ, ◌+◌, ◌-◌, ◌*◌, ◌<◌, ◌≤◌, inl, inr, Bool, true, false, cond, nat_le, List, length, get_or, Option, Some, None, option_map, is_some, refl, sym, ap, ◌∙◌, subst, arith, nat_cmp, FinMap, cases_eq, false≢true, Heap, Object, bytes_at, object_at, Table, has_range}
+use proofs.Common.{left_in, IsListed, tables_of, AreSwept}
+use proofs.Locals.{tables_at}
 use Rattle.w16_model.proofs.Naming.{names_law}
-use Rattle.w16_local.proofs.Locals.{tables_at}
+use Rattle.std.specs.FinMap as finmap
 
 -- The object of a slot is that of its selector.
-module _ (h : Handles) (slot : ℕ) where
-  pub size_found : (s size : ℕ) → slot_of_selector h (8 * slot + 7) ≡ Some s → option_map (length {A = ℕ}) (bytes_at h.heap s) ≡ Some size → Some size ≡ option_map (length {A = ℕ}) (bytes_at h.heap slot)
+module _ (h : C.Handles) (slot : ℕ) where
+  pub size_found : (s size : ℕ) → C.slot_of_selector h (8 * slot + 7) ≡ Some s → option_map (length {A = ℕ}) (bytes_at h.heap s) ≡ Some size → Some size ≡ option_map (length {A = ℕ}) (bytes_at h.heap slot)
   size_found s size e long = sym (subst (λ k. option_map (length {A = ℕ}) (bytes_at h.heap k) ≡ Some size) (one (object_at h.heap s) ((names_law h (8 * slot + 7) s).1.0 e)) long)
     where
-      one : (p : Option Object) → IsSomeAnd p (λ _. 8 * slot + 7 ≡ 8 * s + 7) → s ≡ slot
+      one : (p : Option Object) → C.IsSomeAnd p (λ _. 8 * slot + 7 ≡ 8 * s + 7) → s ≡ slot
       one None h = absurd h
       one (Some o) h = omega (arith, h)
 
   without : object_at h.heap slot ≡ None → bytes_at h.heap slot ≡ None
   without none = ap (λ (p : Option Object). elim p as (λ _. Option (List ℕ)) [ Some o ↦ o.bytes | None ↦ None ]) none
 
-  pub size_none : ((s : ℕ) → slot_of_selector h (8 * slot + 7) ≡ Some s → bytes_at h.heap s ≡ None) → None ≡ option_map (length {A = ℕ}) (bytes_at h.heap slot)
+  pub size_none : ((s : ℕ) → C.slot_of_selector h (8 * slot + 7) ≡ Some s → bytes_at h.heap s ≡ None) → None ≡ option_map (length {A = ℕ}) (bytes_at h.heap slot)
   size_none none = turn (object_at h.heap slot) refl
     where
       turn : (p : Option Object) → object_at h.heap slot ≡ p → None ≡ option_map (length {A = ℕ}) (bytes_at h.heap slot)
       turn None there = sym (ap (option_map (length {A = ℕ})) (without there))
-      turn (Some o) there = sym (ap (option_map (length {A = ℕ})) (none slot ((names_law h (8 * slot + 7) slot).1.1 (subst (λ (p : Option Object). IsSomeAnd p (λ _. 8 * slot + 7 ≡ 8 * slot + 7)) (sym there) refl))))
+      turn (Some o) there = sym (ap (option_map (length {A = ℕ})) (none slot ((names_law h (8 * slot + 7) slot).1.1 (subst (λ (p : Option Object). C.IsSomeAnd p (λ _. 8 * slot + 7 ≡ 8 * slot + 7)) (sym there) refl))))
 
-  pub size_past : AreHandles h → 8192 ≤ slot → None ≡ option_map (length {A = ℕ}) (bytes_at h.heap slot)
+  pub size_past : C.AreHandles h → 8192 ≤ slot → None ≡ option_map (length {A = ℕ}) (bytes_at h.heap slot)
   size_past are past = turn (object_at h.heap slot) refl
     where
       turn : (p : Option Object) → object_at h.heap slot ≡ p → None ≡ option_map (length {A = ℕ}) (bytes_at h.heap slot)
       turn None there = sym (ap (option_map (length {A = ℕ})) (without there))
-      turn (Some o) there = absurd (let few = are.few in let below = (numbered h are slot (ap is_some there)).1 in omega (arith, few, below, past))
+      turn (Some o) there = absurd (let few = are.few in let below = (C.numbered h are slot (ap is_some there)).1 in omega (arith, few, below, past))
 
 module _ (heap : Heap) where
   -- whether these bytes have a table's range
@@ -56,14 +58,14 @@ module _ (heap : Heap) where
   told_none m slot none = sym (no_range m slot none)
 
   left_at : (m : FinMap nat_cmp Table) (slot : ℕ) → finmap.get (left_in heap m) slot ≡ cond (has_range heap m slot) (finmap.get m slot) None
-  left_at m slot = get-retain_keys m (has_range heap m) slot (λ x t. ap (has_range heap m) (sym (nat_cmp-IsAntisymmetric slot x t)))
+  left_at m slot = C.get-retain_keys m (has_range heap m) slot (λ x t. ap (has_range heap m) (sym (C.nat_cmp-IsAntisymmetric slot x t)))
 
   -- what a look at a listed slot tells
   pub looked : {X : Type 0} (table : X → Table) (xs ys : List (Option X)) → ys ≡ xs → (live : List ℕ) (i slot : ℕ) → slot ≡ get_or live i 0 → (r b : Bool) → r ≡ has_range heap (tables_of ys table) slot → r ≡ b → has_range heap (tables_of xs table) (get_or live i 0) ≡ b
   looked table xs ys same live i slot at r b told is = (λ j. has_range heap (tables_of (sym same j) table) (sym at j)) ∙ sym told ∙ is
 
   module _ {X : Type 0} (table : X → Table) (old : FinMap nat_cmp Table) where
-    pub swept_none : (heaps : List (Option X)) (live : List ℕ) → AreListed heaps live → tables_of heaps table ≡ old → (n : ℕ) → n ≡ length live → AreSwept heap table old n heaps live
+    pub swept_none : (heaps : List (Option X)) (live : List ℕ) → C.AreListed heaps live → tables_of heaps table ≡ old → (n : ℕ) → n ≡ length live → AreSwept heap table old n heaps live
     swept_none heaps live listed same n many = record { listed = listed; inside = omega (arith, many); ranged = λ k le lt. absurd (omega (arith, many, le, lt)); left = λ q. inl (ap (λ m. finmap.get m q) same) }
 
     pub swept_at : (i n : ℕ) → n ≡ i → (heaps : List (Option X)) (live : List ℕ) → AreSwept heap table old i heaps live → AreSwept heap table old n heaps live
@@ -71,7 +73,7 @@ module _ (heap : Heap) where
 
     -- once all have been looked at, what is left is what is to be
     pub swept_all : (heaps : List (Option X)) (live : List ℕ) → AreSwept heap table old 0 heaps live → tables_of heaps table ≡ left_in heap old
-    swept_all heaps live is = same_map nat_cmp_total nat_cmp-IsAntisymmetric (tables_of heaps table) (left_in heap old) (λ q. at q ∙ sym (left_at old q))
+    swept_all heaps live is = C.same_map C.nat_cmp_total C.nat_cmp-IsAntisymmetric (tables_of heaps table) (left_in heap old) (λ q. at q ∙ sym (left_at old q))
       where
         -- a slot that has a heap has its range
         has : (q : ℕ) → is_some (get_or heaps q None) ≡ true → has_range heap (tables_of heaps table) q ≡ true
@@ -83,7 +85,7 @@ module _ (heap : Heap) where
 
         at : (q : ℕ) → finmap.get (tables_of heaps table) q ≡ cond (has_range heap old q) (finmap.get old q) None
         at q = elim (is.left q) [
-          | inl e ↦ elim (cases_Bool (has_range heap old q)) [
+          | inl e ↦ elim (C.cases_Bool (has_range heap old q)) [
             | inl t ↦ e ∙ sym (ap (λ b. cond b (finmap.get old q) None) t)
             | inr f ↦ none_of q (get_or heaps q None) refl (ap (λ t. ranged_by t q) e ∙ f) ∙ sym (ap (λ b. cond b (finmap.get old q) None) f)
           ]

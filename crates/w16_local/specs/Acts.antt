@@ -1,22 +1,15 @@
 -- What is done to one local heap over the bytes of its segment.
 use Rattle.std.specs.Prelude.{◌≡◌, ◌-◌, ◌≤◌, ◌<◌, ◌⊎◌, ℕ, List, length, All, true, false, if◌then◌else◌, Some, Ok, IsOk, IsSome, IsSomeAnd, option_map, unwrap_or}
-use Rattle.std.specs.Ordering.{nat_cmp}
-use Rattle.std.specs.FinMap as finmap
-use Rattle.std.specs.FinMap.{FinMap}
-use Rattle.w16_model.specs.Far.{after_write}
-use Rattle.w16_model.specs.Handles.{Handles}
-use Rattle.w16_model.specs.Heap.{Heap, IsMultiple, bytes_at, object_at}
-use Rattle.w16_model.specs.OneObject.{after_discard, after_free}
+use Rattle.std.specs.{Ordering.nat_cmp, FinMap.FinMap}
 use Rattle.w16_model.specs.Request.{Allocates, MakesRoom, Reallocates, most_room, moved_bytes}
-use Rattle.w16_model.specs.Table.{Table, IsSameOutside, heap_in}
+use Rattle.w16_model.specs.{Far.after_write, Handles.Handles, Heap.Heap, Heap.IsMultiple, Heap.bytes_at, Heap.object_at, OneObject.after_discard, OneObject.after_free, Table.Table, Table.IsSameOutside, Table.heap_in}
 use Rattle.w16_region.specs.Bytes.{counted}
 use Rattle.w16_arena.specs.State.{IsSameRange}
 use Rattle.w16_global.specs.Joined.{Global}
-use Rattle.w16_machine.specs.declared.local.TheConstants.{LOCAL_GRAIN}
-use Rattle.w16_machine.specs.Local.{IsFreeEntry, IsLocalTable, current_heap, name_at}
-use Rattle.w16_local.specs.declared.acts.ByteOp.{ByteOp}
+use Rattle.w16_machine.specs.{declared.local.TheConstants.LOCAL_GRAIN, Local.IsFreeEntry, Local.IsLocalTable, Local.current_heap, Local.name_at}
 use Rattle.w16_local.specs.declared.acts.ByteOp.TheVariants.{Alloc, Compact, Discard, Free, Realloc}
-use Rattle.w16_local.specs.Parts.{alone}
+use Rattle.w16_local.specs.{declared.acts.ByteOp.ByteOp, Parts.alone}
+use Rattle.std.specs.FinMap as finmap
 
 -- a size that may be asked for
 abbrev pub IsSize : ℕ → Type 0

@@ -1,15 +1,8 @@
 -- What the calls for room promise of discards, in whatever world has these parts: the laws of the machine, of one call.
 use Rattle.std.specs.Prelude.{◌≡◌, ℕ, ◌<◌, false, Some}
-use Rattle.std.specs.Ordering.{nat_cmp}
-use Rattle.std.specs.FinMap.{FinMap}
-use Rattle.w16_model.specs.Calls.{has_flag}
-use Rattle.w16_model.specs.Fewest.{CompactsFewest}
-use Rattle.w16_model.specs.Handles.{Handles}
-use Rattle.w16_model.specs.Table.{Table}
-use Rattle.w16_machine.specs.declared.local.TheConstants.{LMEM_MODIFY}
-use Rattle.w16_machine.specs.World.{World}
-use Rattle.w16_machine.specs.Local.{LocalHeap, LocalObject, AreLocalHeaps, current_heap, heap_of, object_named}
-use Rattle.w16_machine.specs.LocalFewest.{AllocFewest, Left, ReallocFewest}
+use Rattle.std.specs.{Ordering.nat_cmp, FinMap.FinMap}
+use Rattle.w16_model.specs.{Calls.has_flag, Fewest.CompactsFewest, Handles.Handles, Table.Table}
+use Rattle.w16_machine.specs.{declared.local.TheConstants.LMEM_MODIFY, World.World, Local.LocalHeap, Local.LocalObject, Local.AreLocalHeaps, Local.current_heap, Local.heap_of, Local.object_named, LocalFewest.AllocFewest, LocalFewest.Left, LocalFewest.ReallocFewest}
 use Rattle.w16_local.specs.Parts.{with_parts}
 
 -- what is so of the worlds before and after a call, where the tables before it are local heaps in their segments

@@ -1,29 +1,19 @@
 -- Requests for room, in heaps that grow with their segments where they have none.
+use Rattle.w16_local.specs
 use Rattle.std.specs.Prelude.{◌≡◌, ◌≢◌, ◌<◌, ◌≤◌, ◌⊎◌, ℕ, List, length, true, Option, Some, None, IsSomeAnd, MatchOption}
-use Rattle.std.specs.Ordering.{nat_cmp}
-use Rattle.std.specs.FinMap as finmap
-use Rattle.std.specs.FinMap.{FinMap}
-use Rattle.w16_model.specs.Ends.{is_answered}
-use Rattle.w16_model.specs.Far.{after_write}
-use Rattle.w16_model.specs.Handles.{Handles}
-use Rattle.w16_model.specs.Heap.{IsMultiple, bytes_at}
-use Rattle.w16_model.specs.declared.RoomOptions.{RoomOptions}
-use Rattle.w16_model.specs.Table.{Table, IsSameOutside, heap_in}
+use Rattle.std.specs.{Ordering.nat_cmp, FinMap.FinMap}
+use Rattle.w16_model.specs.{Ends.is_answered, Far.after_write, Handles.Handles, Heap.IsMultiple, Heap.bytes_at, declared.RoomOptions.RoomOptions, Table.Table, Table.IsSameOutside, Table.heap_in}
 use Rattle.w16_region.specs.Bytes.{counted}
 use Rattle.w16_arena.specs.State.{IsSameRange}
 use Rattle.w16_global.specs.Joined.{Global}
 use Rattle.w16_machine.specs.declared.local.TheConstants.{LAST_LOCAL_END, LOCAL_GRAIN}
-use Rattle.w16_machine.specs.World.{World}
 use Rattle.w16_machine.specs.Local.{LocalHeap, Acts, IsLocalTable, Stays, current_heap, heap_of, rounded_up}
-use Rattle.w16_machine.specs.LocalCalls.{local_options}
 use Rattle.w16_machine.specs.LocalGrowth.{IsGrowth, IsKeptShort, Lengthens, OnceLonger, longer, with_longer}
-use Rattle.w16_local.specs.declared.acts.ByteOp.{ByteOp}
-use Rattle.w16_local.specs.declared.acts.ByteOp.TheVariants.{Alloc, Realloc}
-use Rattle.w16_local.specs.declared.growth.Met.{Met}
-use Rattle.w16_local.specs.declared.growth.Met.TheVariants.{Answered, Lacks}
-use Rattle.w16_local.specs.declared.growth.Request.{Request}
-use Rattle.w16_local.specs.Acts.{Acted, Done, Idle, MayAct}
-use Rattle.w16_local.specs.Parts.{alone, with_parts}
+use Rattle.w16_machine.specs.{World.World, LocalCalls.local_options}
+use specs.declared.acts.ByteOp.TheVariants.{Alloc, Realloc}
+use specs.declared.growth.Met.TheVariants.{Answered, Lacks}
+use specs.{declared.acts.ByteOp.ByteOp, declared.growth.Met.Met, declared.growth.Request.Request, Acts.Acted, Acts.Done, Acts.Idle, Acts.MayAct, Parts.alone, Parts.with_parts}
+use Rattle.std.specs.FinMap as finmap
 
 -- what a request does to a heap
 abbrev pub act_of : Request → ByteOp

@@ -1,11 +1,9 @@
 -- What the code of local heaps keeps.
 use Rattle.std.specs.Prelude.{◌≡◌, ◌<◌, ℕ, true, if◌then◌else◌, List, length, slice_index, slice_index_or, Option, None, is_some}
-use Rattle.std.specs.Ordering.{nat_cmp}
-use Rattle.std.specs.FinMap as finmap
-use Rattle.std.specs.FinMap.{FinMap}
+use Rattle.std.specs.{Ordering.nat_cmp, FinMap.FinMap}
 use Rattle.w16_model.specs.Table.{Table, by_id, entry_at}
-use Rattle.w16_machine.specs.declared.local.TheConstants.{LOCAL_ENTRIES}
-use Rattle.w16_machine.specs.Local.{IsLocalTable}
+use Rattle.w16_machine.specs.{declared.local.TheConstants.LOCAL_ENTRIES, Local.IsLocalTable}
+use Rattle.std.specs.FinMap as finmap
 
 -- for each entry 1 where it is free, else 0
 pub record AreFree (table : Table) (free : List ℕ) : Type 0 where

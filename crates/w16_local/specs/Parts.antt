@@ -1,15 +1,10 @@
 -- A step of the local calls in whatever world has these parts, and what is known of the heap that DS names there.
 use Rattle.std.specs.Prelude.{◌≡◌, ◌<◌, ◌≤◌, ℕ, List, [], length, All, Some, IsSome}
-use Rattle.std.specs.Ordering.{nat_cmp}
-use Rattle.std.specs.FinMap as finmap
-use Rattle.std.specs.FinMap.{FinMap}
-use Rattle.w16_model.specs.Handles.{Handles}
-use Rattle.w16_model.specs.Heap.{bytes_at}
-use Rattle.w16_model.specs.Table.{Table, heap_in}
+use Rattle.std.specs.{Ordering.nat_cmp, FinMap.FinMap}
+use Rattle.w16_model.specs.{Handles.Handles, Heap.bytes_at, Table.Table, Table.heap_in}
 use Rattle.w16_loading.specs.Modules.{with_handles}
-use Rattle.w16_machine.specs.World.{World, empty_world}
-use Rattle.w16_machine.specs.Local.{IsLocalTable, beginning, current_heap, id_named}
-use Rattle.w16_machine.specs.LocalCalls.{LocalCommand, Answers}
+use Rattle.w16_machine.specs.{World.World, World.empty_world, Local.IsLocalTable, Local.beginning, Local.current_heap, Local.id_named, LocalCalls.LocalCommand, LocalCalls.Answers}
+use Rattle.std.specs.FinMap as finmap
 
 -- a world with these handles, tables of local heaps, and DS
 abbrev pub with_parts : World → Handles → FinMap nat_cmp Table → ℕ → World

@@ -1,18 +1,12 @@
 -- Steps of one local heap that ask for no room and give up no byte.
 use Rattle.std.specs.Prelude.{◌≡◌, ◌≤◌, ◌<◌, ℕ, List, length, None, Some, Result, Ok, Err}
-use Rattle.std.specs.Ordering.{nat_cmp}
-use Rattle.std.specs.FinMap as finmap
-use Rattle.std.specs.FinMap.{FinMap}
-use Rattle.w16_model.specs.declared.Refusal.{Refusal}
-use Rattle.w16_model.specs.Changes.{with_object}
-use Rattle.w16_model.specs.Heap.{Heap}
-use Rattle.w16_model.specs.OneObject.{after_lock, after_modify, after_unlock}
-use Rattle.w16_model.specs.Table.{Table, entry_at, heap_in}
+use Rattle.std.specs.{Ordering.nat_cmp, FinMap.FinMap}
+use Rattle.w16_model.specs.{declared.Refusal.Refusal, Changes.with_object, Heap.Heap, OneObject.after_lock, OneObject.after_modify, OneObject.after_unlock, Table.Table, Table.entry_at, Table.heap_in}
 use Rattle.w16_arena.specs.State.{IsSameRange}
-use Rattle.w16_machine.specs.declared.local.TheConstants.{LOCAL_ENTRIES}
-use Rattle.w16_machine.specs.Local.{IsLocalTable}
+use Rattle.w16_machine.specs.{declared.local.TheConstants.LOCAL_ENTRIES, Local.IsLocalTable}
 use Rattle.w16_local.specs.declared.steps.TableOp.{TableOp}
 use Rattle.w16_local.specs.declared.steps.TableOp.TheVariants.{Enter, Lock, Modify, Unlock}
+use Rattle.std.specs.FinMap as finmap
 
 -- when a step may be taken: a new object needs an entry that is free
 abbrev pub MayStep : TableOp → ℕ → Table → Type 0

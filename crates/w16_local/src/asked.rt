@@ -20,12 +20,7 @@ impl<A: Allocator + Copy> LocalHeaps<A> {
     }
 
     /// The size and the flags of the object that has a name, if one has it.
-    pub fn size_and_flags(
-        &self,
-        global: &Global16<A>,
-        ds: u16,
-        name: u16,
-    ) -> Option<(u16, u16)>
+    pub fn size_and_flags(&self, global: &Global16<A>, ds: u16, name: u16) -> Option<(u16, u16)>
         ensures named { is_some result ≡ is_some (object_named (alone global.now.handles self.now ds) name) }
         ensures size { IfSome result (λ told. told.0 ≡ calls.asked_of (alone global.now.handles self.now ds) name calls.local_size) }
         ensures flags { IfSome result (λ told. told.1 ≡ calls.asked_of (alone global.now.handles self.now ds) name calls.local_flags) }

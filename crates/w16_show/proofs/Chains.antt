@@ -1,7 +1,6 @@
 -- Chains of sites.
 use Rattle.std.proofs.Common.{◌≡◌, ℕ, zero, suc, ◌+◌, ◌-◌, ◌<◌, List, [], ◌∷◌, ◌++◌, sym, ◌∙◌, ap, refl, arith, Bool, true, false, ◌==◌}
-use Rattle.std.proofs.lemmas.Bool.{eqb-true}
-use Rattle.std.proofs.lemmas.List.{append_assoc}
+use Rattle.std.proofs.{lemmas.Bool.eqb-true, lemmas.List.append_assoc}
 use Rattle.w16_ne.specs.Reading.{word_of}
 use Rattle.w16_reloc.specs.Naming.{chain_from}
 

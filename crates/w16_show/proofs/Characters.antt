@@ -1,13 +1,10 @@
 -- Characters as they stand in a string of JSON.
 use Rattle.std.proofs.Common.{⊎_elim, ◌≡◌, ℕ, ◌<◌, ◌≤◌, ◌++◌, List, [], ◌∷◌, refl, sym, ap, ◌∙◌, arith}
-use Rattle.std.proofs.lemmas.Grind.{flat_map-append}
-use Rattle.std.specs.Char.{encode_utf8}
-use Rattle.std.specs.List.{flat_map}
+use Rattle.std.proofs.lemmas.Bool.{cases_lt, le-ltb, lt-ltb}
+use Rattle.std.proofs.{lemmas.Grind.flat_map-append, lemmas.Str.encode_ascii}
+use Rattle.std.specs.{Char.encode_utf8, List.flat_map, Prelude.◌+◌, Prelude.◌/◌, Prelude.◌%◌}
 use Rattle.json.specs.Print.{escape, escape_byte}
 use Rattle.json.proofs.Printed.Strings.{escape_byte_plain}
-use Rattle.std.proofs.lemmas.Bool.{cases_lt, le-ltb, lt-ltb}
-use Rattle.std.proofs.lemmas.Str.{encode_ascii}
-use Rattle.std.specs.Prelude.{◌+◌, ◌/◌, ◌%◌}
 
 -- the characters of bytes, each written by itself
 pub escaped_characters : (bytes : List ℕ) → flat_map (λ b. escape (encode_utf8 b)) bytes ≡ escape (flat_map encode_utf8 bytes)

@@ -1,25 +1,14 @@
 -- What is printed nests less deep than a reader of JSON allows.
+use Rattle.w16_show.specs.Json as M
 use Rattle.std.proofs.Common.{ℕ, suc, ◌≤◌, Bool, true, false, List, [], ◌∷◌, ◌++◌, Option, Some, None, Result, Ok, Err, map, unwrap_or, option_map, arith}
-use Rattle.serde_json.specs.Data.{Data, null, string, depth, items_depth}
-use Rattle.serde_json.specs.View.{items_of}
-use Rattle.w16_ne.specs.declared.entry_table.Entry.{Entry}
+use Rattle.serde_json.specs.{Data.Data, Data.null, Data.string, Data.depth, Data.items_depth, View.items_of}
 use Rattle.w16_ne.specs.declared.entry_table.Entry.TheVariants.{InSegment, Constant}
-use Rattle.w16_ne.specs.declared.segment_table.Segment.{Segment}
-use Rattle.w16_ne.specs.Modules.{Tables, listed_resources}
-use Rattle.w16_ne.specs.Resources as resources
-use Rattle.w16_ne.specs.Resources.{Label, Number, Text}
-use Rattle.w16_reloc.specs.declared.fault.RelocFault.{RelocFault}
-use Rattle.w16_reloc.specs.declared.record.Fixup.{Fixup}
-use Rattle.w16_reloc.specs.declared.record.Record.{Record}
+use Rattle.w16_ne.specs.{declared.entry_table.Entry.Entry, declared.segment_table.Segment.Segment, Modules.Tables, Modules.listed_resources, Resources.Label, Resources.Number, Resources.Text}
 use Rattle.w16_reloc.specs.declared.record.Record.TheVariants.{Stored, Added, System}
-use Rattle.w16_reloc.specs.declared.record.Target.{Target}
+use Rattle.w16_reloc.specs.{declared.fault.RelocFault.RelocFault, declared.record.Fixup.Fixup, declared.record.Record.Record, declared.record.Target.Target, Naming.offsets_of, Segments.Held, Segments.checked}
+use Rattle.w16_show.specs.{Numbered.numbered, Words.kind_name, Imports.imports, Json.n}
+use Rattle.w16_ne.specs.Resources as resources
 use Rattle.w16_reloc.specs.declared.record.Target.TheVariants as target
-use Rattle.w16_reloc.specs.Naming.{offsets_of}
-use Rattle.w16_reloc.specs.Segments.{Held, checked}
-use Rattle.w16_show.specs.Numbered.{numbered}
-use Rattle.w16_show.specs.Words.{kind_name}
-use Rattle.w16_show.specs.Imports.{imports}
-use Rattle.w16_show.specs.Json.{n, target_json, fixup_json, relocation_json, segment_said, segment_json, entry_json, name_json, reference_json, label_json, kind_json, resource_object, resource_json, sizes_json, start_json, fields_json, header_json, module_json, whole_json}
 
 -- each nests at most so deep
 abbrev Shallow : ℕ → List Data → Type 0
@@ -45,35 +34,35 @@ in_map : {X : Type 0} (k : ℕ) (f : X → Data) → ((x : X) → depth (f x) �
 in_map k f each [] = omega arith
 in_map k f each (x ∷ xs) = let own = each x in let others = in_map k f each xs in omega (arith, own, others)
 
-target-depth : (file : List ℕ) (tables : Tables) (t : Target) → depth (target_json file tables t) ≤ 1
+target-depth : (file : List ℕ) (tables : Tables) (t : Target) → depth (M.target_json file tables t) ≤ 1
 target-depth file tables (target.Internal segment offset) = omega arith
 target-depth file tables (target.Entry ordinal) = omega arith
 target-depth file tables (target.ByOrdinal reference ordinal) = omega arith
 target-depth file tables (target.ByName reference name) = omega arith
 
-fixup-depth : (file : List ℕ) (tables : Tables) (sites : List ℕ) (add : Bool) (fixup : Fixup) → depth (fixup_json file tables sites add fixup) ≤ 2
+fixup-depth : (file : List ℕ) (tables : Tables) (sites : List ℕ) (add : Bool) (fixup : Fixup) → depth (M.fixup_json file tables sites add fixup) ≤ 2
 fixup-depth file tables sites add fixup =
     let offsets = in_map 0 n (λ x. omega arith) sites in
     let where_to = target-depth file tables fixup.target in
     omega (arith, offsets, where_to)
 
-relocation-depth : (file : List ℕ) (tables : Tables) (bytes : List ℕ) (r : Record) → depth (relocation_json file tables bytes r) ≤ 2
+relocation-depth : (file : List ℕ) (tables : Tables) (bytes : List ℕ) (r : Record) → depth (M.relocation_json file tables bytes r) ≤ 2
 relocation-depth file tables bytes (Stored fixup) = fixup-depth file tables (offsets_of bytes (Stored fixup)) false fixup
 relocation-depth file tables bytes (Added fixup) = fixup-depth file tables (offsets_of bytes (Added fixup)) true fixup
 relocation-depth file tables bytes System = omega arith
 
-segment-depth : (file : List ℕ) (tables : Tables) (i : ℕ) (s : Segment) (said : Result Held RelocFault) → depth (segment_said file tables i s said) ≤ 4
+segment-depth : (file : List ℕ) (tables : Tables) (i : ℕ) (s : Segment) (said : Result Held RelocFault) → depth (M.segment_said file tables i s said) ≤ 4
 segment-depth file tables i s (Ok held) =
-    let records = in_map 2 (relocation_json file tables held.bytes) (relocation-depth file tables held.bytes) held.records in
+    let records = in_map 2 (M.relocation_json file tables held.bytes) (relocation-depth file tables held.bytes) held.records in
     omega (arith, records)
 segment-depth file tables i s (Err fault) = omega arith
 
-entry-depth : (i : ℕ) (entry : Option Entry) → Shallow 4 (entry_json i entry)
+entry-depth : (i : ℕ) (entry : Option Entry) → Shallow 4 (M.entry_json i entry)
 entry-depth i None = tt
 entry-depth i (Some (InSegment segment offset)) = (omega arith, tt)
 entry-depth i (Some (Constant value)) = (omega arith, tt)
 
-label-depth : (l : Label) → depth (label_json l) ≤ 0
+label-depth : (l : Label) → depth (M.label_json l) ≤ 0
 label-depth (Number x) = omega arith
 label-depth (Text bytes) = omega arith
 
@@ -81,32 +70,32 @@ named-depth : (name : Option (List ℕ)) → depth (unwrap_or (option_map string
 named-depth None = omega arith
 named-depth (Some name) = omega arith
 
-kind-depth : (l : Label) → depth (kind_json l) ≤ 0
+kind-depth : (l : Label) → depth (M.kind_json l) ≤ 0
 kind-depth (Number x) = named-depth (kind_name x)
 kind-depth (Text bytes) = omega arith
 
-resource-depth : (r : Label × resources.Entry) → depth (resource_object r) ≤ 4
+resource-depth : (r : Label × resources.Entry) → depth (M.resource_object r) ≤ 4
 resource-depth r =
     let kind = label-depth r.0 in
     let id = label-depth r.1.id in
     let name = kind-depth r.0 in
     omega (arith, kind, id, name)
 
-header-depth : (tables : Tables) → depth (header_json tables) ≤ 4
-unfolding header_json fields_json sizes_json start_json
+header-depth : (tables : Tables) → depth (M.header_json tables) ≤ 4
+unfolding M.header_json M.fields_json M.sizes_json M.start_json
 header-depth tables = omega arith
 
-module-depth : (file : List ℕ) (tables : Tables) → depth (module_json file tables) ≤ 6
-unfolding module_json
+module-depth : (file : List ℕ) (tables : Tables) → depth (M.module_json file tables) ≤ 6
+unfolding M.module_json
 module-depth file tables =
-    let entries = in_numbered 4 entry_json entry-depth 1 tables.entries in
+    let entries = in_numbered 4 M.entry_json entry-depth 1 tables.entries in
     let header = header-depth tables in
-    let imported = in_map 4 (target_json file tables) (λ t. (let shallow = target-depth file tables t in omega (arith, shallow))) (imports file tables) in
-    let names = in_numbered 4 (name_json tables.resident) (λ i x. (omega arith, tt)) 0 tables.names in
-    let references = in_numbered 4 reference_json (λ i x. (omega arith, tt)) 1 tables.references in
-    let listed = in_numbered 4 resource_json (λ i x. (resource-depth x, tt)) 1 (listed_resources tables.resources) in
-    let segments = in_numbered 4 (segment_json file tables) (λ i s. (segment-depth file tables i s (checked file tables s), tt)) 1 tables.segments in
+    let imported = in_map 4 (M.target_json file tables) (λ t. (let shallow = target-depth file tables t in omega (arith, shallow))) (imports file tables) in
+    let names = in_numbered 4 (M.name_json tables.resident) (λ i x. (omega arith, tt)) 0 tables.names in
+    let references = in_numbered 4 M.reference_json (λ i x. (omega arith, tt)) 1 tables.references in
+    let listed = in_numbered 4 M.resource_json (λ i x. (resource-depth x, tt)) 1 (listed_resources tables.resources) in
+    let segments = in_numbered 4 (M.segment_json file tables) (λ i s. (segment-depth file tables i s (checked file tables s), tt)) 1 tables.segments in
     omega (arith, entries, header, imported, names, references, listed, segments)
 
-pub whole-depth : (name file : List ℕ) (tables : Tables) (sound : Bool) → depth (whole_json name file tables sound) ≤ 127
+pub whole-depth : (name file : List ℕ) (tables : Tables) (sound : Bool) → depth (M.whole_json name file tables sound) ≤ 127
 whole-depth name file tables sound = let inner = module-depth file tables in omega (arith, inner)

@@ -1,14 +1,10 @@
 -- Loops that go over things by their numbers.
 use Rattle.std.proofs.Common.{◌≡◌, ℕ, zero, suc, ◌+◌, ◌-◌, ◌<◌, ◌≤◌, List, [], ◌∷◌, ◌++◌, length, drop, slice_get, sum_by, Option, Some, None, sym, ◌∙◌, refl, ap, subst, add-one, map, length-append, arith}
 use Rattle.std.proofs.lemmas.List.{append_assoc, append-nil, length-map}
-use Rattle.std.proofs.lemmas.Option.{slice_get-get_or}
-use Rattle.std.proofs.lemmas.List.Sums.{sum_by-cons}
-use Rattle.std.proofs.Math.ListN.{drop_of_length-le}
-use Rattle.w16_ne.specs.declared.entry_table.Entry.{Entry}
-use Rattle.w16_ne.specs.Modules.{entry_at, listed_resources, resource_at}
-use Rattle.w16_ne.specs.Resources as resources
-use Rattle.w16_ne.specs.Resources.{Label, Typed, resource_count}
+use Rattle.std.proofs.{lemmas.Option.slice_get-get_or, lemmas.List.Sums.sum_by-cons, Math.ListN.drop_of_length-le}
+use Rattle.w16_ne.specs.{declared.entry_table.Entry.Entry, Modules.entry_at, Modules.listed_resources, Modules.resource_at, Resources.Label, Resources.Typed, Resources.resource_count}
 use Rattle.w16_show.specs.Numbered.{numbered}
+use Rattle.w16_ne.specs.Resources as resources
 
 -- what is left, with its first item
 pub left-from : {X : Type 0} (xs : List X) (i : ℕ) (x : X) → slice_get xs i ≡ Some x → drop i xs ≡ x ∷ drop (suc i) xs

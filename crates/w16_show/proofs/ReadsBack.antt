@@ -1,18 +1,14 @@
 -- What is plain reads back.
 use Rattle.std.proofs.Common.{append-nil, ◌≡◌, ◌≤◌, [], Some, false, option_map, option_and_then, refl, sym, ap, ◌∙◌, suc}
-use Rattle.json.specs.Json as json
-use Rattle.json.specs.Tree as tree
-use Rattle.json.specs.Tree.{json_tokens}
-use Rattle.json.proofs.Printed.Decimals.{IsNumber-decimal}
-use Rattle.json.specs.Lex.{tokens}
-use Rattle.json.proofs.Printed.Tokens.{tokens-print}
-use Rattle.json.proofs.Printed.Trees.{ArePrintable-json_tokens, value-json_tokens}
+use Rattle.json.specs.{Tree.json_tokens, Lex.tokens}
+use Rattle.json.proofs.{Printed.Decimals.IsNumber-decimal, Printed.Tokens.tokens-print, Printed.Trees.ArePrintable-json_tokens, Printed.Trees.value-json_tokens}
 use Rattle.serde_json.specs.Data.{unsigned, negative, float, Data, null, boolean, number, string, array, object, Items, no_items, item, Members, no_members, member, put, depth, items_depth, members_depth}
 use Rattle.serde_json.specs.Read.{read, max_depth, of_json, of_items, of_members}
 use Rattle.serde_json.specs.Written.{outline, items_outline, members_outline, compact_text, has_float, items_have_float, members_have_float}
-use Rattle.serde_json.proofs.Numbers.{number_of-decimal}
-use Rattle.serde_json.proofs.Texts.{print-outline}
+use Rattle.serde_json.proofs.{Numbers.number_of-decimal, Texts.print-outline}
 use Rattle.w16_show.specs.Plain.{IsPlain, ArePlain, HasPlain, put_all}
+use Rattle.json.specs.Json as json
+use Rattle.json.specs.Tree as tree
 
 mutual
   pub plain : (d : Data) → IsPlain d → tree.HasNumbers (outline d) × (tree.depth (outline d) ≡ depth d) × (of_json (outline d) ≡ Some d) × (has_float d ≡ false)

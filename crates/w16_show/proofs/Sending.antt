@@ -1,18 +1,11 @@
 -- What was sent of a text, and what is left of it.
 use Rattle.std.proofs.Common.{subst, ◌≡◌, ℕ, ◌++◌, List, [], ◌∷◌, Bool, true, false, Option, Some, None, refl, sym, ap, ◌∙◌, append_assoc, append-nil, Result, Ok, Err, ◌≤◌, ◌+◌, length, drop, slice_get, map, get_or, Fits, w16, suc, add-one, rules, arith}
-use Rattle.std.specs.Prelude.{OnOk, IsTrue, if◌then◌else◌}
-use Rattle.std.specs.Io.KnownBytes.{Appends}
-use Rattle.std.specs.Result.{is_ok}
-use Rattle.std.proofs.KnownBytes.{Appends-nil, Appends-trans}
-use Rattle.std.proofs.Math.ListN.{drop_of_length-le}
+use Rattle.std.proofs.{KnownBytes.Appends-nil, KnownBytes.Appends-trans, Math.ListN.drop_of_length-le}
+use Rattle.std.specs.{Prelude.OnOk, Prelude.IsTrue, Prelude.if◌then◌else◌, Io.KnownBytes.Appends, Result.is_ok}
 use Rattle.json.specs.Print.{escape_byte, quoted}
-use Rattle.serde_json.specs.Data.{Data, null, object, Members, no_members, member}
-use Rattle.serde_json.specs.View.{items_of}
-use Rattle.serde_json.specs.Written.{comma_if, compact_text, items_text, members_text}
+use Rattle.serde_json.specs.{Data.Data, Data.null, Data.object, Data.Members, Data.no_members, Data.member, View.items_of, Written.comma_if, Written.compact_text, Written.items_text, Written.members_text}
 use Rattle.w16_ne.specs.declared.segment_table.Segment.{Segment}
-use Rattle.w16_show.specs.Plain.{IsPlain, ArePlain, HasPlain, PassesOn, put_all}
-use Rattle.w16_show.specs.Json.{n, list, segment_object, segment_front}
-use Rattle.w16_show.specs.Numbered.{numbered}
+use Rattle.w16_show.specs.{Plain.IsPlain, Plain.ArePlain, Plain.HasPlain, Plain.PassesOn, Plain.put_all, Json.n, Json.list, Json.segment_object, Json.segment_front, Numbered.numbered}
 use Rattle.w16_show.proofs.Numbering.{left-from, numbered-next}
 
 -- some of the whole was sent, and this is the rest of it

@@ -1,13 +1,10 @@
 -- The first segment that isn't sound, segment by segment.
 use Rattle.std.proofs.Common.{◌≡◌, ℕ, List, ◌+◌, drop, slice_get, Option, Some, Result, Ok, Err, refl, add-one}
-use Rattle.w16_ne.specs.declared.segment_table.Segment.{Segment}
-use Rattle.w16_ne.specs.Modules.{Tables}
-use Rattle.w16_reloc.specs.declared.fault.RelocFault.{RelocFault}
-use Rattle.w16_reloc.specs.Segments as segments
-use Rattle.w16_reloc.specs.Segments.{Held, checked}
-use Rattle.w16_show.specs.declared.verdict.Unsound.{Unsound}
-use Rattle.w16_show.specs.Report.{first_unsound}
+use Rattle.w16_ne.specs.{declared.segment_table.Segment.Segment, Modules.Tables}
+use Rattle.w16_reloc.specs.{declared.fault.RelocFault.RelocFault, Segments.Held, Segments.checked}
+use Rattle.w16_show.specs.{declared.verdict.Unsound.Unsound, Report.first_unsound}
 use Rattle.w16_show.proofs.Numbering.{left-from}
+use Rattle.w16_reloc.specs.Segments as segments
 
 module _ (file : List ℕ) (tables : Tables) (s : Segment) where
   pub unsound-here : (n : ℕ) (segments : List Segment) (i : ℕ) (fault : RelocFault) → slice_get segments i ≡ Some s → checked file tables s ≡ Err fault

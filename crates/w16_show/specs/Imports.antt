@@ -1,15 +1,10 @@
 -- What a module imports, each import once.
 use Rattle.std.specs.Prelude.{ℕ, ◌+◌, ◌*◌, List, [], ◌∷◌, Result, Ok, Err, map}
-use Rattle.std.specs.BTreeMap.{insert_entry}
-use Rattle.std.specs.List.{flat_map, fold}
-use Rattle.std.specs.Ordering.{nat_cmp}
+use Rattle.std.specs.{BTreeMap.insert_entry, List.flat_map, List.fold, Ordering.nat_cmp}
 use Rattle.w16_ne.specs.Modules.{Tables}
-use Rattle.w16_reloc.specs.declared.fault.RelocFault.{RelocFault}
-use Rattle.w16_reloc.specs.declared.record.Record.{Record}
 use Rattle.w16_reloc.specs.declared.record.Record.TheVariants.{Stored, Added, System}
-use Rattle.w16_reloc.specs.declared.record.Target.{Target}
+use Rattle.w16_reloc.specs.{declared.fault.RelocFault.RelocFault, declared.record.Record.Record, declared.record.Target.Target, Segments.Held, Segments.checked}
 use Rattle.w16_reloc.specs.declared.record.Target.TheVariants as target
-use Rattle.w16_reloc.specs.Segments.{Held, checked}
 
 -- where a relocation record points, and all sound records of a segment; those of an unsound one aren't told
 abbrev pub targets_of : Record → List Target

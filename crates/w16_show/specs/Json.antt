@@ -2,29 +2,16 @@
 use Rattle.std.specs.Prelude.{ℕ, Bool, true, false, Option, Some, None, Result, Ok, Err, List, [], ◌∷◌, ◌++◌, codes, decimal, map, nat_lt, unwrap_or, option_map, slice_index}
 use Rattle.serde_json.specs.Data.{Data, null, boolean, number, unsigned, string, array, no_items, item, object, no_members, member}
 use Rattle.serde_json.specs.View.{items_of}
-use Rattle.w16_ne.specs.declared.entry_table.Entry.{Entry}
 use Rattle.w16_ne.specs.declared.entry_table.Entry.TheVariants.{InSegment, Constant}
-use Rattle.w16_ne.specs.declared.part.PartFault.{PartFault}
 use Rattle.w16_ne.specs.declared.segment_table.Segment.{Segment}
-use Rattle.w16_ne.specs.Header.{flags_of, is_library, shift_of, target_of}
-use Rattle.w16_ne.specs.Modules.{Tables, listed_resources}
-use Rattle.w16_ne.specs.Reading.{word_of}
-use Rattle.w16_ne.specs.Resources as resources
-use Rattle.w16_ne.specs.Resources.{Label, Number, Text}
-use Rattle.w16_reloc.specs.declared.fault.RelocFault.{RelocFault}
-use Rattle.w16_reloc.specs.declared.record.Fixup.{Fixup}
-use Rattle.w16_reloc.specs.declared.record.Record.{Record}
+use Rattle.w16_ne.specs.{declared.entry_table.Entry.Entry, declared.part.PartFault.PartFault, Header.flags_of, Header.is_library, Header.shift_of, Header.target_of, Modules.Tables, Modules.listed_resources, Reading.word_of, Resources.Label, Resources.Number, Resources.Text}
 use Rattle.w16_reloc.specs.declared.record.Record.TheVariants.{Stored, Added, System}
-use Rattle.w16_reloc.specs.declared.record.Target.{Target}
-use Rattle.w16_reloc.specs.declared.record.Target.TheVariants as target
-use Rattle.w16_reloc.specs.Naming.{offsets_of}
-use Rattle.w16_reloc.specs.Segments.{Held, checked}
-use Rattle.w16_show.specs.declared.verdict.Verdict.{Verdict}
-use Rattle.w16_show.specs.declared.verdict.Verdict.TheVariants as verdict
-use Rattle.w16_show.specs.Numbered.{numbered}
+use Rattle.w16_reloc.specs.{declared.fault.RelocFault.RelocFault, declared.record.Fixup.Fixup, declared.record.Record.Record, declared.record.Target.Target, Naming.offsets_of, Segments.Held, Segments.checked}
 use Rattle.w16_show.specs.Words.{characters, fault_text, file_part_text, unsound_text, part_text, kind_name}
-use Rattle.w16_show.specs.Imports.{imports}
-use Rattle.w16_show.specs.Text.{reference_name, imported_name}
+use Rattle.w16_show.specs.{declared.verdict.Verdict.Verdict, Numbered.numbered, Imports.imports, Text.reference_name, Text.imported_name}
+use Rattle.w16_ne.specs.Resources as resources
+use Rattle.w16_reloc.specs.declared.record.Target.TheVariants as target
+use Rattle.w16_show.specs.declared.verdict.Verdict.TheVariants as verdict
 
 -- a number; a text of these bytes, each a character of its code; a list
 abbrev pub n : ℕ → Data

@@ -1,12 +1,8 @@
 -- Values whose text reads back as they are: numbers are of 64 bits without a sign, and the members of an object stand in the order of their keys.
 use Rattle.std.specs.Prelude.{◌≡◌, ℕ, ◌<◌, ◌^◌, ⊤, Bool, true, Option, Some, Result, OnOk, IfOk, List, [], ◌∷◌, ◌++◌}
-use Rattle.std.specs.Io.KnownBytes.{Appends}
-use Rattle.std.specs.declared.alloc.AllocError.{AllocError}
+use Rattle.std.specs.{Io.KnownBytes.Appends, declared.alloc.AllocError.AllocError}
 use Rattle.serde_json.specs.Data.{unsigned, negative, float, Data, null, boolean, number, string, array, object, Items, no_items, item, Members, no_members, member, put}
-use Rattle.serde_json.specs.Read.{read}
-use Rattle.serde_json.specs.View.{view}
-use Rattle.serde_json.specs.Written.{comma_if, compact_text}
-use Rattle.serde_json.specs.declared.value.Value.{Value}
+use Rattle.serde_json.specs.{Read.read, View.view, Written.comma_if, Written.compact_text, declared.value.Value.Value}
 
 -- members that are put to others one after another
 abbrev pub put_all : Members → Members → Members

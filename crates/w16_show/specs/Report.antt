@@ -2,21 +2,12 @@
 use Rattle.std.specs.Prelude.{◌≡◌, ℕ, suc, Bool, Option, Some, None, Result, Ok, Err, List, [], ◌∷◌, ◌++◌, codes, decimal, if◌then◌else◌}
 use Rattle.std.specs.List.{flat_map}
 use Rattle.serde_json.specs.Data.{Data}
-use Rattle.w16_ne.specs.declared.segment_table.Segment.{Segment}
+use Rattle.w16_ne.specs.{declared.segment_table.Segment.Segment, Modules.Tables, Modules.listed_resources, Modules.tables_at, declared.part.PartFault.PartFault}
 use Rattle.w16_store.specs.Files.{file_of}
-use Rattle.w16_ne.specs.Modules.{Tables, listed_resources, tables_at}
-use Rattle.w16_ne.specs.declared.part.PartFault.{PartFault}
-use Rattle.w16_reloc.specs.declared.fault.RelocFault.{RelocFault}
-use Rattle.w16_reloc.specs.Segments.{Held, checked}
-use Rattle.w16_show.specs.declared.parts.Parts.{Parts}
-use Rattle.w16_show.specs.declared.verdict.Unsound.{Unsound}
-use Rattle.w16_show.specs.declared.verdict.Verdict.{Verdict}
-use Rattle.w16_show.specs.declared.verdict.Verdict.TheVariants as verdict
-use Rattle.w16_show.specs.Numbered.{numbered}
-use Rattle.w16_show.specs.Words.{line_end, fault_text, file_part_text, unsound_text}
-use Rattle.w16_show.specs.Json.{whole_json, fault_json, is_sound}
-use Rattle.w16_show.specs.Imports.{imports}
+use Rattle.w16_reloc.specs.{declared.fault.RelocFault.RelocFault, Segments.Held, Segments.checked}
 use Rattle.w16_show.specs.Text.{title_text, header_text, whole_segment, entry_text, name_text, reference_text, import_text, resource_text}
+use Rattle.w16_show.specs.{declared.parts.Parts.Parts, declared.verdict.Unsound.Unsound, declared.verdict.Verdict.Verdict, Numbered.numbered, Words.line_end, Words.fault_text, Words.file_part_text, Words.unsound_text, Json.whole_json, Json.fault_json, Json.is_sound, Imports.imports}
+use Rattle.w16_show.specs.declared.verdict.Verdict.TheVariants as verdict
 
 -- A store has this file under the name, and these are the tables of its module.
 pub record IsOpened (store : List (List ℕ × List ℕ)) (name file : List ℕ) (tables : Tables) : Type 0 where

@@ -1,24 +1,14 @@
 -- What is printed of a module as text, line by line.
 use Rattle.std.specs.Prelude.{ℕ, ◌+◌, ◌-◌, Bool, Option, Some, None, Result, Ok, Err, List, [], ◌++◌, codes, decimal, ◌==◌, nat_lt, if◌then◌else◌, length, slice_index, slice_index_or, unwrap_or}
 use Rattle.std.specs.List.{flat_map}
-use Rattle.w16_ne.specs.declared.entry_table.Entry.{Entry}
 use Rattle.w16_ne.specs.declared.entry_table.Entry.TheVariants.{InSegment, Constant}
 use Rattle.w16_ne.specs.declared.segment_table.Segment.{Segment}
-use Rattle.w16_ne.specs.Header.{flags_of, is_library, shift_of, target_of}
-use Rattle.w16_ne.specs.Modules.{Tables, imported_place}
-use Rattle.w16_ne.specs.Reading.{word_of}
-use Rattle.w16_ne.specs.Texts.{text_in}
-use Rattle.w16_ne.specs.Resources as resources
-use Rattle.w16_ne.specs.Resources.{Label, Number, Text}
-use Rattle.w16_reloc.specs.declared.fault.RelocFault.{RelocFault}
-use Rattle.w16_reloc.specs.declared.record.Fixup.{Fixup}
-use Rattle.w16_reloc.specs.declared.record.Record.{Record}
+use Rattle.w16_ne.specs.{declared.entry_table.Entry.Entry, Header.flags_of, Header.is_library, Header.shift_of, Header.target_of, Modules.Tables, Modules.imported_place, Reading.word_of, Texts.text_in, Resources.Label, Resources.Number, Resources.Text}
 use Rattle.w16_reloc.specs.declared.record.Record.TheVariants.{Stored, Added, System}
-use Rattle.w16_reloc.specs.declared.record.Target.{Target}
-use Rattle.w16_reloc.specs.declared.record.Target.TheVariants as target
-use Rattle.w16_reloc.specs.Naming.{offsets_of}
-use Rattle.w16_reloc.specs.Segments.{Held, checked}
+use Rattle.w16_reloc.specs.{declared.fault.RelocFault.RelocFault, declared.record.Fixup.Fixup, declared.record.Record.Record, declared.record.Target.Target, Naming.offsets_of, Segments.Held, Segments.checked}
 use Rattle.w16_show.specs.Words.{line_end, hex, escaped, flag_text, unsound_text, part_text, kind_name}
+use Rattle.w16_ne.specs.Resources as resources
+use Rattle.w16_reloc.specs.declared.record.Target.TheVariants as target
 
 -- the first line: the file, and which module it has
 unfoldable pub front_text : List ℕ → Bool → List ℕ

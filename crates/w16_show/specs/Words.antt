@@ -1,18 +1,12 @@
 -- How numbers, bytes and flags are printed, and the words for what has no text of its own.
 use Rattle.std.specs.Prelude.{◌≡◌, ℕ, ◌^◌, ◌-◌, Option, Some, None, Result, OnOk, List, [], ◌∷◌, ◌++◌, codes, false, ◌==◌, ◌||◌, nat_lt, decimal, if◌then◌else◌, bit_and}
-use Rattle.std.specs.Char.{encode_utf8}
-use Rattle.std.specs.Io.KnownBytes.{Appends}
-use Rattle.std.specs.Fmt.{digits, padded_integral, format_spec}
-use Rattle.std.specs.List.{flat_map}
-use Rattle.std.specs.declared.alloc.AllocError.{AllocError}
-use Rattle.w16_ne.specs.declared.fault.NeFault.{NeFault}
-use Rattle.w16_ne.specs.declared.fault.NeFault.TheVariants as files
-use Rattle.w16_ne.specs.declared.part.FilePart.{FilePart}
-use Rattle.w16_ne.specs.declared.part.FilePart.TheVariants as parts
-use Rattle.w16_reloc.specs.declared.fault.RelocFault.{RelocFault}
-use Rattle.w16_reloc.specs.declared.fault.RelocFault.TheVariants as relocs
-use Rattle.w16_reloc.specs.declared.record.Part.{Part}
+use Rattle.std.specs.{Char.encode_utf8, Io.KnownBytes.Appends, Fmt.digits, Fmt.padded_integral, Fmt.format_spec, List.flat_map, declared.alloc.AllocError.AllocError}
+use Rattle.w16_ne.specs.{declared.fault.NeFault.NeFault, declared.part.FilePart.FilePart}
 use Rattle.w16_reloc.specs.declared.record.Part.TheVariants.{LowByte, Selector, Pointer, Offset}
+use Rattle.w16_reloc.specs.{declared.fault.RelocFault.RelocFault, declared.record.Part.Part}
+use Rattle.w16_ne.specs.declared.fault.NeFault.TheVariants as files
+use Rattle.w16_ne.specs.declared.part.FilePart.TheVariants as parts
+use Rattle.w16_reloc.specs.declared.fault.RelocFault.TheVariants as relocs
 
 -- A call that answers `Ok` has put this text behind what was there.
 abbrev pub Adds : Result (Unit {0}) AllocError → List ℕ → List ℕ → List ℕ → Type 0

@@ -1,7 +1,8 @@
 -- An access is made once, or is ended by what it met, or is made again after a fetch.
-use Rattle.w16_kernel.proofs.Common.{ap, sym, ◌∙◌, Global, reply_of, write_of}
-use Rattle.w16_kernel.proofs.Absent.{met_absent}
-use Rattle.w16_kernel.proofs.FarSteps.{answered, ended_by, not_fault, remade_by, selector_of_write}
+use Rattle.w16_kernel.proofs
+use proofs.Common.{ap, sym, ◌∙◌, Global, reply_of, write_of}
+use proofs.Absent.{met_absent}
+use proofs.FarSteps.{answered, ended_by, not_fault, remade_by, selector_of_write}
 use Rattle.w16_kernel.proofs.far.write.Goals as goal
 
 pub returns-in_default-clause-step : goal.returns-in_default-clause-step

@@ -1,6 +1,5 @@
 -- A load over the kernel's parts.
-use Rattle.w16_kernel.proofs.Common.{ap, sym}
-use Rattle.w16_kernel.proofs.Modules.{load_told}
+use Rattle.w16_kernel.proofs.{Common.ap, Common.sym, Modules.load_told}
 use Rattle.w16_loading.specs.Families.{reply_of}
 use Rattle.w16_loader.specs.Loading.{answer_in}
 use Rattle.w16_kernel.proofs.load.load_reply.Goals as goal

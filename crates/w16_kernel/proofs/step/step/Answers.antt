@@ -1,7 +1,6 @@
 use Rattle.w16_kernel.proofs.Common.{◌≤◌, refl, ap, subst, arith, length-take-le, IsWorldOver, World, Word, Dword, on_any}
 use Rattle.w16_kernel.proofs.Modules.{unread}
-use Rattle.w16_kernel.specs.Runs.{IsCall}
-use Rattle.w16_kernel.specs.declared.call.TheConstants.{MOST_READ}
+use Rattle.w16_kernel.specs.{Runs.IsCall, declared.call.TheConstants.MOST_READ}
 use Rattle.w16_kernel.proofs.step.step.Goals as goal
 
 module _ {honest : Type 0} {w : World} (is : IsWorldOver honest w) where

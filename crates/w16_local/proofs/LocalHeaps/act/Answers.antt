@@ -1,7 +1,5 @@
 use Rattle.w16_local.proofs.Common.{◌≡◌, ℕ, List, length, IsSomeAnd, sym, subst, ◌∙◌, ap, is_some, arith, Some, counted, Global, IsLocalTable}
-use Rattle.w16_local.proofs.Acting.{acted_in, may_lent}
-use Rattle.w16_local.proofs.Locals.{here, in_range, not_none}
-use Rattle.w16_local.proofs.Stepping.{listed_stepped, tables_stepped}
+use Rattle.w16_local.proofs.{Acting.acted_in, Acting.may_lent, Locals.here, Locals.in_range, Locals.not_none, Stepping.listed_stepped, Stepping.tables_stepped}
 use Rattle.w16_local.proofs.LocalHeaps.act.Goals as goal
 
 pub index_mut-requires : goal.index_mut-requires

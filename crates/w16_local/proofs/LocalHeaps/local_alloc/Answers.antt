@@ -1,25 +1,25 @@
-use Rattle.w16_local.proofs.Common.{Ok, Result, Some, arith, subst, sym, ◌≡◌, ◌∙◌, IsSomeAnd, None, Option, Kind, Refusal, with_object, Heap, Table, IsFull, IsLowest, MayStep, Stepped, outcome, Alloc, Enter, IsLowestFree, heap_of, local_kind, local_alloc_law}
-use Rattle.w16_local.specs.declared.growth.Request.{Request}
-use Rattle.w16_local.specs.Growth.{InSlot, Served, WritesServed}
-use Rattle.w16_local.proofs.Acting.{may_in, served_in}
-use Rattle.w16_local.proofs.Calling.{alloc_calls, alloc_empty, alloc_full, alloc_none, enter_calls, is_lowest, no_object, rounded_size}
-use Rattle.w16_local.proofs.Stepping.{holds_in}
+use Rattle.w16_local.proofs
+use proofs.Common as C
+use proofs.Calling as M
+use proofs.Common.{Ok, Some, arith, subst, sym, ◌≡◌, ◌∙◌, None, Kind, Heap, Table, IsLowest, Alloc, Enter, local_alloc_law}
+use proofs.{Acting.may_in, Acting.served_in, Stepping.holds_in}
+use Rattle.w16_local.specs.{declared.growth.Request.Request, Growth.InSlot, Growth.Served, Growth.WritesServed}
 use Rattle.w16_local.proofs.LocalHeaps.local_alloc.Goals as goal
 
 pub returns-in_default-clause-step : goal.returns-in_default-clause-step
-returns-in_default-clause-step g c = alloc_none c.args.global.now.handles c.args.self.now c.args.ds c.args.flags.0 c.args.size c.in_default.ensures.none
+returns-in_default-clause-step g c = M.alloc_none c.args.global.now.handles c.args.self.now c.args.ds c.args.flags.0 c.args.size c.in_default.ensures.none
 
 pub returns-in_default-free_entry-clause-step : goal.returns-in_default-free_entry-clause-step
-returns-in_default-free_entry-clause-step g c = let is = c.in-Some.ensures.some in alloc_full is c.args.flags.0 c.args.size (holds_in IsFull is.kept c.in_default-free_entry.ensures.none)
+returns-in_default-free_entry-clause-step g c = let is = c.in-Some.ensures.some in M.alloc_full is c.args.flags.0 c.args.size (holds_in C.IsFull is.kept c.in_default-free_entry.ensures.none)
 
 pub returns-then-not-intersects-clause-step : goal.returns-then-not-intersects-clause-step
-returns-then-not-intersects-clause-step g c = alloc_empty c.in-Some.ensures.some c.args.flags.0 c.args.size c.if-size-eq0.true (sym (c.intersects.ensures tt) ∙ c.if-not-intersects.true)
+returns-then-not-intersects-clause-step g c = M.alloc_empty c.in-Some.ensures.some c.args.flags.0 c.args.size c.if-size-eq0.true (sym (c.intersects.ensures tt) ∙ c.if-not-intersects.true)
 
 pub step-requires : goal.step-requires
 step-requires g c =
     let is = c.in-Some.ensures.some in
     let lowest = holds_in (λ (t : Table). IsLowest t c.in-Some-free_entry.id) is.kept c.in-Some-free_entry.ensures.found in
-    subst (λ (m : Option Table). IsSomeAnd m (MayStep (Enter c.moveable_or_discardable.result) c.in-Some-free_entry.id)) (sym is.kept) (lowest.known, lowest.free)
+    subst (λ (m : C.Option Table). C.IsSomeAnd m (C.MayStep (Enter c.moveable_or_discardable.result) c.in-Some-free_entry.id)) (sym is.kept) (lowest.known, lowest.free)
 
 pub overflow_cast-result : goal.overflow_cast-result
 overflow_cast-result g c = let is = c.in-Some.ensures.some in let lowest = holds_in (λ (t : Table). IsLowest t c.in-Some-free_entry.id) is.kept c.in-Some-free_entry.ensures.found in let lt = lowest.known in omega (arith, lt)
@@ -28,10 +28,10 @@ pub returns-then-size-eq0-clause-step : goal.returns-then-size-eq0-clause-step
 returns-then-size-eq0-clause-step g c =
     let is = c.in-Some.ensures.some in
     let lowest = holds_in (λ (t : Table). IsLowest t c.in-Some-free_entry.id) is.kept c.in-Some-free_entry.ensures.found in
-    enter_calls is c.args.flags.0 c.args.size c.in-Some-free_entry.id lowest c.if-size-eq0.true (sym (c.intersects.ensures tt) ∙ c.if-not-intersects.false) c.step.result c.step.new.self
-    (subst (λ (k : Kind). Stepped c.args.self.now c.in-Some.field-0.slot
-    (λ a b. ◌≡◌ {A = Result Heap Refusal} (Ok (with_object a c.in-Some-free_entry.id
-    (record { kind = k; locks = 0; bytes = None }))) (outcome c.step.result b)) c.step.new.self)
+    M.enter_calls is c.args.flags.0 c.args.size c.in-Some-free_entry.id lowest c.if-size-eq0.true (sym (c.intersects.ensures tt) ∙ c.if-not-intersects.false) c.step.result c.step.new.self
+    (subst (λ (k : Kind). C.Stepped c.args.self.now c.in-Some.field-0.slot
+    (λ a b. ◌≡◌ {A = C.Result Heap C.Refusal} (Ok (C.with_object a c.in-Some-free_entry.id
+    (record { kind = k; locks = 0; bytes = None }))) (C.outcome c.step.result b)) c.step.new.self)
     c.moveable_or_discardable.ensures c.step.ensures.stepped)
 
 pub serve-requires : goal.serve-requires
@@ -39,13 +39,13 @@ serve-requires g c =
     let is = c.in-Some.ensures.some in
     let lowest = holds_in (λ (t : Table). IsLowest t c.in-Some-free_entry.id) is.kept c.in-Some-free_entry.ensures.found in
     may_in is (Alloc c.in-Some-free_entry.id c.rounded_up.result c.local_kind.result c.local_options.result)
-    ((lowest.known, no_object is c.in-Some-free_entry.id lowest.free), rounded_size c.args.size c.rounded_up.result c.rounded_up.ensures (let some = c.if-size-eq0.false in omega (arith, some)))
+    ((lowest.known, M.no_object is c.in-Some-free_entry.id lowest.free), M.rounded_size c.args.size c.rounded_up.result c.rounded_up.ensures (let some = c.if-size-eq0.false in omega (arith, some)))
 
 pub returns-clause-step : goal.returns-clause-step
 returns-clause-step g c =
     let is = c.in-Some.ensures.some in
     let lowest = holds_in (λ (t : Table). IsLowest t c.in-Some-free_entry.id) is.kept c.in-Some-free_entry.ensures.found in
-    alloc_calls is c.args.flags.0 c.args.size c.in-Some-free_entry.id lowest
+    M.alloc_calls is c.args.flags.0 c.args.size c.in-Some-free_entry.id lowest
     (let some = c.if-size-eq0.false in omega (arith, some))
     (subst (λ (r : Request). InSlot c.args.global.now.handles c.args.self.now c.in-Some.field-0.slot
     c.serve.new.global.handles c.serve.new.self (λ old at left. Served r old at c.serve.result left))
@@ -71,7 +71,7 @@ returns-clause-written g c =
     let is = c.in-Some.ensures.some in
     let lowest = holds_in (λ (t : Table). IsLowest t c.in-Some-free_entry.id) is.kept c.in-Some-free_entry.ensures.found in
     let some = c.if-size-eq0.false in
-    served_in is c.serve.new.global c.args.flags.0 c.args.size (λ at id. IsLowestFree (heap_of at) id) (Some (local_kind c.args.flags.0)) c.in-Some-free_entry.id (is_lowest is c.args.flags.0 c.args.size c.in-Some-free_entry.id lowest) (omega (arith, some))
+    served_in is c.serve.new.global c.args.flags.0 c.args.size (λ at id. C.IsLowestFree (C.heap_of at) id) (Some (C.local_kind c.args.flags.0)) c.in-Some-free_entry.id (M.is_lowest is c.args.flags.0 c.args.size c.in-Some-free_entry.id lowest) (omega (arith, some))
     (subst (λ (r : Request). InSlot c.args.global.now.handles c.args.self.now c.in-Some.field-0.slot
     c.serve.new.global.handles c.serve.new.self (λ old at left. WritesServed r old at c.args.global.now.written left.loading.handles c.serve.new.global.written))
     (λ i. record { id = c.in-Some-free_entry.id; size = c.rounded_up.ensures i; kind = Some (c.local_kind.ensures i); options = c.local_options.ensures i }) c.serve.ensures.written)

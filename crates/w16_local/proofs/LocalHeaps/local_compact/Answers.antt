@@ -1,6 +1,4 @@
-use Rattle.w16_local.proofs.Common.{Compact, local_compact_law}
-use Rattle.w16_local.proofs.Acting.{lent_in, may_in}
-use Rattle.w16_local.proofs.Calling.{compact_calls, compact_none}
+use Rattle.w16_local.proofs.{Common.Compact, Common.local_compact_law, Acting.lent_in, Acting.may_in, Calling.compact_calls, Calling.compact_none}
 use Rattle.w16_local.proofs.LocalHeaps.local_compact.Goals as goal
 
 pub returns-in_default-clause-step : goal.returns-in_default-clause-step

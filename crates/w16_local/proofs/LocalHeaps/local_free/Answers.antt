@@ -1,6 +1,4 @@
-use Rattle.w16_local.proofs.Common.{◌∙◌, Free}
-use Rattle.w16_local.proofs.Acting.{lent_in, may_in}
-use Rattle.w16_local.proofs.Calling.{free_calls, free_none, free_refused, named_there}
+use Rattle.w16_local.proofs.{Common.◌∙◌, Common.Free, Acting.lent_in, Acting.may_in, Calling.free_calls, Calling.free_none, Calling.free_refused, Calling.named_there}
 use Rattle.w16_local.proofs.LocalHeaps.local_free.Goals as goal
 
 pub returns-in_default-clause-step : goal.returns-in_default-clause-step

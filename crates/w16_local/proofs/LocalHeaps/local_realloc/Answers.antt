@@ -1,8 +1,8 @@
-use Rattle.w16_local.proofs.Common.{IsSomeAnd, None, Option, arith, subst, sym, ◌≡◌, ◌∙◌, Kind, after_modify, Table, MayStep, Stepped, outcome, Discard, Realloc, Modify, local_realloc_law, Some, heap_of, id_named}
-use Rattle.w16_local.specs.declared.growth.Request.{Request}
-use Rattle.w16_local.specs.Growth.{InSlot, Served, WritesServed}
-use Rattle.w16_local.proofs.Acting.{may_in, once_lent, served_in}
-use Rattle.w16_local.proofs.Calling.{discard_calls, discard_refused, discard_unasked, modify_calls, named_there, realloc_none, resize_calls, rounded_size}
+use Rattle.w16_local.proofs
+use proofs.Common.{IsSomeAnd, None, Option, arith, subst, sym, ◌≡◌, ◌∙◌, Kind, after_modify, Table, MayStep, Stepped, outcome, Discard, Realloc, Modify, local_realloc_law, Some, heap_of, id_named}
+use proofs.Acting.{may_in, once_lent, served_in}
+use proofs.Calling.{discard_calls, discard_refused, discard_unasked, modify_calls, named_there, realloc_none, resize_calls, rounded_size}
+use Rattle.w16_local.specs.{declared.growth.Request.Request, Growth.InSlot, Growth.Served, Growth.WritesServed}
 use Rattle.w16_local.proofs.LocalHeaps.local_realloc.Goals as goal
 
 pub returns-in_default-clause-step : goal.returns-in_default-clause-step

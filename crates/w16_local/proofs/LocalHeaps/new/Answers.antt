@@ -1,6 +1,5 @@
 use Rattle.std.proofs.Common.{None, ap, get_or, ◌∙◌}
-use Rattle.w16_local.proofs.Beginning.{nothing_more}
-use Rattle.w16_local.proofs.Locals.{listed_none, no_tables}
+use Rattle.w16_local.proofs.{Beginning.nothing_more, Locals.listed_none, Locals.no_tables}
 use Rattle.w16_local.proofs.LocalHeaps.new.Goals as goal
 
 pub invariant_of-result : goal.invariant_of-result

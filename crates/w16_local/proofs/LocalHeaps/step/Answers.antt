@@ -1,7 +1,8 @@
-use Rattle.w16_local.proofs.Common.{◌≡◌, OnErr, sym, subst, ◌∙◌, arith, Table, IsLocalTable, MayStep, Turns, after_step, outcome}
+use Rattle.w16_local.proofs
+use proofs.Common.{◌≡◌, OnErr, sym, subst, ◌∙◌, arith, Table, IsLocalTable, MayStep, Turns, after_step, outcome}
+use proofs.Locals.{here, in_range, not_none}
+use proofs.Stepping.{holds_in, known_in, listed_stepped, same_tables, stepped}
 use Rattle.std.specs.FinMap as finmap
-use Rattle.w16_local.proofs.Locals.{here, in_range, not_none}
-use Rattle.w16_local.proofs.Stepping.{holds_in, known_in, listed_stepped, same_tables, stepped}
 use Rattle.w16_local.proofs.LocalHeaps.step.Goals as goal
 
 pub index_mut-requires : goal.index_mut-requires

@@ -1,6 +1,5 @@
 use Rattle.std.proofs.Common.{◌≡◌, ◌++◌, ◌+◌, drop, string_bytes}
-use Rattle.w16_show.specs.Numbered.{numbered}
-use Rattle.w16_show.specs.Text.{entry_text}
+use Rattle.w16_show.specs.{Numbered.numbered, Text.entry_text}
 use Rattle.w16_show.proofs.entries.push_entries.Given as goal
 
 abbrev pub invariant-loop-i : goal.invariant-loop-i

@@ -1,5 +1,4 @@
-use Rattle.std.proofs.Common.{string_bytes, rules}
-use Rattle.std.proofs.lemmas.Result.{IfOk-equal}
+use Rattle.std.proofs.{Common.string_bytes, Common.rules, lemmas.Result.IfOk-equal}
 use Rattle.w16_show.specs.Text.{name_text}
 use Rattle.w16_show.proofs.Numbering.{numbered-step}
 use Rattle.w16_show.proofs.entries.push_names.Goals as goal

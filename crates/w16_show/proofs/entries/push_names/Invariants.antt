@@ -1,6 +1,5 @@
 use Rattle.std.proofs.Common.{◌≡◌, ◌++◌, drop, string_bytes}
-use Rattle.w16_show.specs.Numbered.{numbered}
-use Rattle.w16_show.specs.Text.{name_text}
+use Rattle.w16_show.specs.{Numbered.numbered, Text.name_text}
 use Rattle.w16_show.proofs.entries.push_names.Given as goal
 
 abbrev pub invariant-loop-i : goal.invariant-loop-i

@@ -1,8 +1,7 @@
 use Rattle.std.proofs.Common.{◌∙◌, arith}
 use Rattle.w16_reloc.specs.Segments.{checked}
 use Rattle.w16_show.specs.Imports.{targets_in}
-use Rattle.w16_show.proofs.Numbering.{got-some}
-use Rattle.w16_show.proofs.Imported.{next-imports}
+use Rattle.w16_show.proofs.{Numbering.got-some, Imported.next-imports}
 use Rattle.w16_show.proofs.imports.imports.Goals as goal
 
 pub loop-i-preserved : goal.loop-i-preserved

@@ -1,5 +1,4 @@
-use Rattle.std.specs.BTreeMap.{values}
-use Rattle.std.specs.List.{flat_map}
+use Rattle.std.specs.{BTreeMap.values, List.flat_map}
 use Rattle.w16_show.specs.Text.{import_text}
 use Rattle.w16_show.proofs.Sending.{Leaves}
 use Rattle.w16_show.proofs.imports.send_imports.Given as goal

@@ -1,11 +1,9 @@
 use Rattle.std.proofs.Common.{◌≡◌, refl, rules}
 use Rattle.json.specs.Print.{escape_byte}
-use Rattle.serde_json.specs.Data.{boolean}
-use Rattle.serde_json.specs.View.{view}
-use Rattle.serde_json.specs.declared.value.Value.{the_lemmas}
-use Rattle.serde_json.specs.declared.value.Value as declared
+use Rattle.serde_json.specs.{Data.boolean, View.view, declared.value.Value.the_lemmas}
 use Rattle.w16_show.specs.Json.{whole_json}
 use Rattle.w16_show.proofs.Sending.{members_in, object-sent, on-ok}
+use Rattle.serde_json.specs.declared.value.Value as declared
 use Rattle.w16_show.proofs.json_file.send_whole.Goals as goal
 
 pub returns : goal.returns

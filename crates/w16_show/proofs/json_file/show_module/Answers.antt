@@ -1,8 +1,6 @@
 use Rattle.std.proofs.Common.{Ok, ◌∙◌, ap}
-use Rattle.w16_show.specs.Json.{is_sound}
-use Rattle.w16_show.specs.Report.{json_of, verdict_of}
-use Rattle.w16_show.proofs.Depths.{whole-depth}
-use Rattle.w16_show.proofs.ReadsBack.{reads_back}
+use Rattle.w16_show.specs.{Json.is_sound, Report.json_of, Report.verdict_of}
+use Rattle.w16_show.proofs.{Depths.whole-depth, ReadsBack.reads_back}
 use Rattle.w16_show.proofs.json_file.show_module.Goals as goal
 
 pub returns-clause-text : goal.returns-clause-text

@@ -1,10 +1,8 @@
 use Rattle.std.proofs.Common.{refl, codes, map, string_bytes, ◌≡◌, ℕ, List, ◌++◌, ◌∙◌}
 use Rattle.std.proofs.lemmas.List.{append_assoc}
 use Rattle.json.specs.Print.{escape_byte}
-use Rattle.serde_json.specs.Data.{boolean, string}
-use Rattle.serde_json.specs.Written.{compact_text}
-use Rattle.w16_show.specs.Words.{part_text}
-use Rattle.w16_show.specs.Json.{n, list, target_json}
+use Rattle.serde_json.specs.{Data.boolean, Data.string, Written.compact_text}
+use Rattle.w16_show.specs.{Words.part_text, Json.n, Json.list, Json.target_json}
 use Rattle.w16_show.proofs.Sending.{on-pushed}
 use Rattle.w16_show.proofs.json_segments.push_fixup.Goals as goal
 

@@ -1,7 +1,5 @@
 use Rattle.std.proofs.Common.{◌≡◌, ◌+◌, drop}
-use Rattle.w16_show.specs.Report.{IsOpened}
-use Rattle.w16_show.specs.Numbered.{numbered}
-use Rattle.w16_show.specs.Json.{segment_json}
+use Rattle.w16_show.specs.{Report.IsOpened, Numbered.numbered, Json.segment_json}
 use Rattle.w16_show.proofs.Sending.{LeavesItems}
 use Rattle.w16_show.proofs.json_segments.send_segments.Given as goal
 

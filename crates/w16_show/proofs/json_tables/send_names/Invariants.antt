@@ -1,6 +1,5 @@
 use Rattle.std.proofs.Common.{drop}
-use Rattle.w16_show.specs.Numbered.{numbered}
-use Rattle.w16_show.specs.Json.{name_json}
+use Rattle.w16_show.specs.{Numbered.numbered, Json.name_json}
 use Rattle.w16_show.proofs.Sending.{LeavesItems}
 use Rattle.w16_show.proofs.json_tables.send_names.Given as goal
 

@@ -1,6 +1,5 @@
 use Rattle.std.proofs.Common.{◌+◌, drop}
-use Rattle.w16_show.specs.Numbered.{numbered}
-use Rattle.w16_show.specs.Json.{reference_json}
+use Rattle.w16_show.specs.{Numbered.numbered, Json.reference_json}
 use Rattle.w16_show.proofs.Sending.{LeavesItems}
 use Rattle.w16_show.proofs.json_tables.send_references.Given as goal
 

@@ -1,7 +1,6 @@
 use Rattle.std.proofs.Common.{◌+◌, drop}
 use Rattle.w16_ne.specs.Modules.{listed_resources}
-use Rattle.w16_show.specs.Numbered.{numbered}
-use Rattle.w16_show.specs.Json.{resource_json}
+use Rattle.w16_show.specs.{Numbered.numbered, Json.resource_json}
 use Rattle.w16_show.proofs.Sending.{LeavesItems}
 use Rattle.w16_show.proofs.json_tables.send_resources.Given as goal
 

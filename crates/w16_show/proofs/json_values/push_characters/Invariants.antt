@@ -1,6 +1,5 @@
 use Rattle.std.proofs.Common.{◌≡◌, ◌++◌, take, string_bytes}
-use Rattle.std.specs.Char.{encode_utf8}
-use Rattle.std.specs.List.{flat_map}
+use Rattle.std.specs.{Char.encode_utf8, List.flat_map}
 use Rattle.json.specs.Print.{escape}
 use Rattle.w16_show.proofs.json_values.push_characters.Given as goal
 

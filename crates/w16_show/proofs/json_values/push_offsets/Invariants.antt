@@ -1,6 +1,5 @@
 use Rattle.std.proofs.Common.{◌≡◌, ◌++◌, drop, map, nat_lt, string_bytes}
-use Rattle.serde_json.specs.View.{items_of}
-use Rattle.serde_json.specs.Written.{items_text, compact_text}
+use Rattle.serde_json.specs.{View.items_of, Written.items_text, Written.compact_text}
 use Rattle.w16_show.specs.Json.{n, list}
 use Rattle.w16_show.proofs.json_values.push_offsets.Given as goal
 

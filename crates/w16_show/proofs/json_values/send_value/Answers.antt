@@ -1,5 +1,4 @@
-use Rattle.std.proofs.Common.{refl}
-use Rattle.std.proofs.KnownBytes.{Appends-trans}
+use Rattle.std.proofs.{Common.refl, KnownBytes.Appends-trans}
 use Rattle.w16_show.proofs.ReadsBack.{plain}
 use Rattle.w16_show.proofs.json_values.send_value.Goals as goal
 

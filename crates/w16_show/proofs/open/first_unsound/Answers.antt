@@ -1,7 +1,5 @@
 use Rattle.std.proofs.Common.{◌+◌, sym, ◌∙◌, arith}
-use Rattle.w16_show.proofs.Numbering.{got-some}
-use Rattle.w16_show.proofs.Honest.{told_of_segment}
-use Rattle.w16_show.proofs.Verdicts.{unsound-here, unsound-later, passed}
+use Rattle.w16_show.proofs.{Numbering.got-some, Honest.told_of_segment, Verdicts.unsound-here, Verdicts.unsound-later, Verdicts.passed}
 use Rattle.w16_show.proofs.open.first_unsound.Goals as goal
 
 pub returns-in-Err-clause-first : goal.returns-in-Err-clause-first

@@ -1,6 +1,5 @@
 use Rattle.std.proofs.Common.{◌+◌, drop}
-use Rattle.w16_show.specs.Numbered.{numbered}
-use Rattle.w16_show.specs.Text.{reference_text}
+use Rattle.w16_show.specs.{Numbered.numbered, Text.reference_text}
 use Rattle.w16_show.proofs.Sending.{Leaves}
 use Rattle.w16_show.proofs.references.send_references.Given as goal
 

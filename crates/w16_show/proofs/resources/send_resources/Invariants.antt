@@ -1,7 +1,6 @@
 use Rattle.std.proofs.Common.{◌+◌, drop}
 use Rattle.w16_ne.specs.Modules.{listed_resources}
-use Rattle.w16_show.specs.Numbered.{numbered}
-use Rattle.w16_show.specs.Text.{resource_text}
+use Rattle.w16_show.specs.{Numbered.numbered, Text.resource_text}
 use Rattle.w16_show.proofs.Sending.{Leaves}
 use Rattle.w16_show.proofs.resources.send_resources.Given as goal
 

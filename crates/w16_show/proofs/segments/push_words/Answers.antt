@@ -1,6 +1,4 @@
-use Rattle.std.proofs.Common.{rules}
-use Rattle.std.proofs.lemmas.List.{append_assoc}
-use Rattle.std.proofs.lemmas.Result.{IfOk-equal}
+use Rattle.std.proofs.{Common.rules, lemmas.List.append_assoc, lemmas.Result.IfOk-equal}
 use Rattle.w16_show.specs.Text.{memory_words, segment_words}
 use Rattle.w16_show.proofs.segments.push_words.Goals as goal
 

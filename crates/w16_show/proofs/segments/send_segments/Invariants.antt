@@ -1,7 +1,5 @@
 use Rattle.std.proofs.Common.{◌≡◌, ◌+◌, drop}
-use Rattle.w16_show.specs.Report.{IsOpened}
-use Rattle.w16_show.specs.Numbered.{numbered}
-use Rattle.w16_show.specs.Text.{whole_segment}
+use Rattle.w16_show.specs.{Report.IsOpened, Numbered.numbered, Text.whole_segment}
 use Rattle.w16_show.proofs.Sending.{Leaves}
 use Rattle.w16_show.proofs.segments.send_segments.Given as goal
 

@@ -1,5 +1,4 @@
-use Rattle.w16_kernel.proofs.Common.{world_of}
-use Rattle.w16_kernel.proofs.Adding.{kept_grown}
+use Rattle.w16_kernel.proofs.{Common.world_of, Adding.kept_grown}
 use Rattle.w16_kernel.proofs.kernel.Kernel+GrowingStore+A.add_file.Goals as goal
 
 pub invariant_of-self : goal.invariant_of-self

@@ -1,6 +1,8 @@
-use Rattle.w16_kernel.proofs.Common.{get_or, IsSomeAnd, List, sym, subst, arith, take_more, slice_get-get_or, on_any, Call, KernelStep, command_of, TakesMemory}
+use Rattle.w16_kernel.proofs
+use proofs.Common as C
+use proofs.Common.{List, sym, subst, arith, Call}
+use proofs.Running.{Ran, ran_none, none_done, ran_all, ran_more, ran_stops}
 use Rattle.w16_kernel.specs.declared.call.Call.TheVariants.{GlobalAlloc}
-use Rattle.w16_kernel.proofs.Running.{Ran, ran_none, none_done, ran_all, ran_more, ran_stops}
 use Rattle.w16_kernel.proofs.kernel.Kernel.run_calls.Goals as goal
 
 pub loop-call-init : goal.loop-call-init
@@ -12,15 +14,15 @@ pub loop-call-preserved : goal.loop-call-preserved
 loop-call-preserved g c =
     let i = c.loop-call.call-index in
     let calls = c.args.calls.now in
-    let call = get_or calls i (GlobalAlloc (record { 0 = 0 }) 0) in
+    let call = C.get_or calls i (GlobalAlloc (record { 0 = 0 }) 0) in
     let step = rw (← c.of.ensures) at c.in_ok-reply.ensures.step in
     let promises = rw (← c.of.ensures) at c.in_ok-reply.ensures.promises in
     let longer = ran_more _ _ _ _ _ call c.of.result _ c.loop-call.invariant.ran step promises in
     let longest = c.push_reserved.ensures.capacity in let one = c.push_reserved.ensures.len in let count = c.loop-call.invariant.count in let room = c.loop-call.invariant.room in
-    record { count = omega arith; room = omega arith; ran = subst (λ (cs : List Call). Ran (KernelStep g.S.Store.is_honest) c.args.self.now cs c.push_reserved.new.self.items c.call.new.self) (sym (take_more calls i (GlobalAlloc (record { 0 = 0 }) 0) (omega arith))) (rw c.push_reserved.ensures.items longer) }
+    record { count = omega arith; room = omega arith; ran = subst (λ (cs : List Call). Ran (C.KernelStep g.S.Store.is_honest) c.args.self.now cs c.push_reserved.new.self.items c.call.new.self) (sym (C.take_more calls i (GlobalAlloc (record { 0 = 0 }) 0) (omega arith))) (rw c.push_reserved.ensures.items longer) }
 
 pub returns-in_err-answers-clause-refused : goal.returns-in_err-answers-clause-refused
-returns-in_err-answers-clause-refused g c = on_any c.from_residual.result _ (none_done _ _ _)
+returns-in_err-answers-clause-refused g c = C.on_any c.from_residual.result _ (none_done _ _ _)
 
 pub push_reserved-requires : goal.push_reserved-requires
 push_reserved-requires g c = let more = c.loop-call-test.true in let count = c.loop-call.invariant.count in let room = c.loop-call.invariant.room in omega arith
@@ -33,6 +35,6 @@ pub returns-in_err-reply-clause-refused : goal.returns-in_err-reply-clause-refus
 returns-in_err-reply-clause-refused g c =
     let i = c.loop-call.call-index in
     let calls = c.args.calls.now in
-    let next = slice_get-get_or calls i (GlobalAlloc (record { 0 = 0 }) 0) (omega arith) in
-    let wanted = subst (λ p. IsSomeAnd p (λ (call : Call). TakesMemory c.loop-call.self (command_of call))) (sym next) c.in_err-reply.ensures.wanted in
-    on_any c.from_residual-in_err-reply.result _ (ran_stops _ _ _ _ _ _ _ c.loop-call.invariant.ran wanted c.in_err-reply.ensures.refused)
+    let next = C.slice_get-get_or calls i (GlobalAlloc (record { 0 = 0 }) 0) (omega arith) in
+    let wanted = subst (λ p. C.IsSomeAnd p (λ (call : Call). C.TakesMemory c.loop-call.self (C.command_of call))) (sym next) c.in_err-reply.ensures.wanted in
+    C.on_any c.from_residual-in_err-reply.result _ (ran_stops _ _ _ _ _ _ _ c.loop-call.invariant.ran wanted c.in_err-reply.ensures.refused)

@@ -1,5 +1,4 @@
-use Rattle.w16_local.proofs.Common.{arith}
-use Rattle.w16_local.proofs.Requests.{request_done, request_refused}
+use Rattle.w16_local.proofs.{Common.arith, Requests.request_done, Requests.request_refused}
 use Rattle.w16_local.proofs.growth.RequestWorkLocalHeap.work.Goals as goal
 
 pub longer_size-requires-clause-refused : goal.longer_size-requires-clause-refused

@@ -1,6 +1,8 @@
-use Rattle.w16_local.proofs.Common.{List, ap, if◌then◌else◌, inl, inr, subst, sym, ◌∙◌, ℕ, Heap, moved_bytes, Table, heap_in, counted, ArenaState, Acted, LocalHeapInvariant, Alloc}
-use Rattle.w16_local.proofs.Entries.{is_local}
-use Rattle.w16_local.proofs.OneAct.{absent, grained, heap_after, known, may_shown, on_err, over_after, alloc_done, alloc_idle, alloc_kept, writes_ok}
+use Rattle.w16_local.proofs
+use proofs.OneAct as M
+use proofs.Common.{List, ap, if◌then◌else◌, inl, inr, subst, sym, ◌∙◌, ℕ, Heap, moved_bytes, Table, heap_in, counted, ArenaState, Acted, LocalHeapInvariant, Alloc}
+use proofs.Entries.{is_local}
+use proofs.OneAct.{absent, known, may_shown, on_err}
 use Rattle.w16_local.proofs.heap.LocalHeap.alloc.Goals as goal
 
 pub alloc-placed-requires : goal.alloc-placed-requires
@@ -12,7 +14,7 @@ alloc-placed-requires g c =
           c.self.invariant (g.S.Space.bytes c.args.space.now) may.0 c.args.id may.1.0.1;
       some = may.1.1.0;
       rounded =
-          grained c.self.invariant (g.S.Space.bytes c.args.space.now) may.0 c.args.size may.1.1.1;
+          M.grained c.self.invariant (g.S.Space.bytes c.args.space.now) may.0 c.args.size may.1.1.1;
       memory = record
           { kept = tt; inside = may.0 };
     }
@@ -28,7 +30,7 @@ returns-then-is_err-clause-acted g c =
     let is = sym c.is_err.ensures.value ∙ c.if-is_err.true in
     let same = on_err c.alloc-placed.result _ is c.alloc-placed.ensures.refused in
     let rest = c.alloc-placed.ensures.rest in
-    alloc_idle c.self.view_is (g.S.Space.bytes c.args.space.now) c.alloc-placed.new.self.table (g.S.Space.bytes c.alloc-placed.new.space) rest.range rest.memory.bytes.outside
+    M.alloc_idle c.self.view_is (g.S.Space.bytes c.args.space.now) c.alloc-placed.new.self.table (g.S.Space.bytes c.alloc-placed.new.space) rest.range rest.memory.bytes.outside
     c.alloc-placed.result is (ap (λ (s : ArenaState). s.table) same.0) (ap g.S.Space.bytes same.1) c.args.id c.args.size c.args.kind c.args.options c.alloc-placed.ensures.allocated
 
 pub returns-clause-acted : goal.returns-clause-acted
@@ -38,17 +40,17 @@ returns-clause-acted g c =
     let may = may_shown c.self.view_is bytes (Alloc c.args.id c.args.size c.args.kind c.args.options) c.requires in
     let is = sym c.is_err.ensures.value ∙ c.if-is_err.false in
     let rest = c.alloc-placed.ensures.rest in
-    let over = over_after c.self.invariant bytes may.0 c.reveal_bytes.ensures rest.range after rest.memory.bytes.long c.reveal_bytes-2.ensures in
+    let over = M.over_after c.self.invariant bytes may.0 c.reveal_bytes.ensures rest.range after rest.memory.bytes.long c.reveal_bytes-2.ensures in
     subst (λ n. Acted (Alloc c.args.id c.args.size c.args.kind c.args.options) c.args.self.now bytes n c.alloc-placed.new.self.table after) (sym c.unwrap_or.ensures)
-    (alloc_done c.self.view_is bytes c.alloc-placed.new.self.table after rest.range rest.memory.bytes.outside
-    c.alloc-placed.result is (heap_after c.self.invariant bytes may.0 c.reveal_bytes.ensures rest.range after rest.memory.bytes.long c.reveal_bytes-2.ensures) c.args.id c.args.size c.alloc-placed.ensures.placed c.name_at.result (c.name_at.ensures after over)
+    (M.alloc_done c.self.view_is bytes c.alloc-placed.new.self.table after rest.range rest.memory.bytes.outside
+    c.alloc-placed.result is (M.heap_after c.self.invariant bytes may.0 c.reveal_bytes.ensures rest.range after rest.memory.bytes.long c.reveal_bytes-2.ensures) c.args.id c.args.size c.alloc-placed.ensures.placed c.name_at.result (c.name_at.ensures after over)
     c.args.kind c.args.options c.alloc-placed.ensures.allocated)
 
 pub invariant_of-self-2 : goal.invariant_of-self-2
 invariant_of-self-2 g c =
     let may = may_shown c.self.view_is (g.S.Space.bytes c.args.space.now) (Alloc c.args.id c.args.size c.args.kind c.args.options) c.requires in
     subst (λ (free : List ℕ). LocalHeapInvariant c.alloc-placed.new.self.table free) (sym c.set.ensures)
-    (alloc_kept c.self.invariant (g.S.Space.bytes c.args.space.now) may.0 c.reveal_bytes.ensures c.alloc-placed.ensures.rest.range (g.S.Space.bytes c.alloc-placed.new.space) c.alloc-placed.ensures.rest.memory.bytes.long
+    (M.alloc_kept c.self.invariant (g.S.Space.bytes c.args.space.now) may.0 c.reveal_bytes.ensures c.alloc-placed.ensures.rest.range (g.S.Space.bytes c.alloc-placed.new.space) c.alloc-placed.ensures.rest.memory.bytes.long
     c.alloc-placed.result (sym c.is_err.ensures.value ∙ c.if-is_err.false) c.args.id c.args.size c.args.kind c.args.options may.1.0.0 c.alloc-placed.ensures.allocated c.alloc-placed.ensures.placed c.reveal_bytes-2.ensures)
 
 pub returns-then-is_err-clause-written : goal.returns-then-is_err-clause-written
@@ -63,5 +65,5 @@ returns-clause-written g c =
     let next : Heap = heap_in c.alloc-placed.new.self.table (g.S.Space.bytes c.alloc-placed.new.space) in
     let before : ℕ = g.S.Space.written c.args.space.now in
     let zeros : ℕ = if c.args.options.zero then c.args.size else 0 in
-    inr (writes_ok c.alloc-placed.result (heap_in c.self.inside.arena.table bytes) next c.args.id c.args.size before (g.S.Space.written c.alloc-placed.new.space) zeros (sym c.is_err.ensures.value ∙ c.if-is_err.false) c.alloc-placed.ensures.placed c.alloc-placed.ensures.written
+    inr (M.writes_ok c.alloc-placed.result (heap_in c.self.inside.arena.table bytes) next c.args.id c.args.size before (g.S.Space.written c.alloc-placed.new.space) zeros (sym c.is_err.ensures.value ∙ c.if-is_err.false) c.alloc-placed.ensures.placed c.alloc-placed.ensures.written
     ∙ ap (λ (t : Table). counted (counted before (moved_bytes (heap_in t bytes) next)) zeros) c.self.view_is)

@@ -1,25 +1,27 @@
-use Rattle.w16_local.proofs.Common.{List, ap, if◌then◌else◌, inl, inr, length, option_map, subst, sym, unwrap_or, ◌-◌, ◌∙◌, ℕ, Heap, bytes_at, moved_bytes, Table, heap_in, counted, ArenaState, Acted, LocalHeapInvariant, Realloc}
-use Rattle.w16_local.proofs.Entries.{is_local}
-use Rattle.w16_local.proofs.OneAct.{grained, has_entry, heap_after, may_shown, on_err, over_after, realloc_done, realloc_idle, realloc_kept, writes_ok}
+use Rattle.w16_local.proofs
+use proofs.Common as C
+use proofs.OneAct as M
+use proofs.Common.{List, ap, if◌then◌else◌, inl, inr, subst, sym, ◌-◌, ◌∙◌, ℕ, Heap, Table, heap_in, ArenaState, Acted, Realloc}
+use proofs.{Entries.is_local, OneAct.may_shown, OneAct.on_err}
 use Rattle.w16_local.proofs.heap.LocalHeap.realloc.Goals as goal
 
 pub realloc-placed-requires : goal.realloc-placed-requires
 realloc-placed-requires g c =
     let may = may_shown c.self.view_is (g.S.Space.bytes c.args.space.now) (Realloc c.args.id c.args.size c.args.options) c.requires in
-    record { object = has_entry c.self.invariant (g.S.Space.bytes c.args.space.now) may.0 c.args.id may.1.0; some = may.1.1.0; rounded = grained c.self.invariant (g.S.Space.bytes c.args.space.now) may.0 c.args.size may.1.1.1; memory = record { kept = tt; inside = may.0 } }
+    record { object = M.has_entry c.self.invariant (g.S.Space.bytes c.args.space.now) may.0 c.args.id may.1.0; some = may.1.1.0; rounded = M.grained c.self.invariant (g.S.Space.bytes c.args.space.now) may.0 c.args.size may.1.1.1; memory = record { kept = tt; inside = may.0 } }
 
 pub name_at-requires : goal.name_at-requires
 name_at-requires g c = is_local c.self.invariant c.realloc-placed.ensures.rest.range
 
 pub invariant_of-self : goal.invariant_of-self
-invariant_of-self g c = let same = on_err c.realloc-placed.result _ (sym c.is_err.ensures.value ∙ c.if-is_err.true) c.realloc-placed.ensures.refused in subst (λ (s : ArenaState). LocalHeapInvariant s.table c.self.inside.free) (sym same.0) c.self.invariant
+invariant_of-self g c = let same = on_err c.realloc-placed.result _ (sym c.is_err.ensures.value ∙ c.if-is_err.true) c.realloc-placed.ensures.refused in subst (λ (s : ArenaState). C.LocalHeapInvariant s.table c.self.inside.free) (sym same.0) c.self.invariant
 
 pub returns-then-is_err-clause-acted : goal.returns-then-is_err-clause-acted
 returns-then-is_err-clause-acted g c =
     let is = sym c.is_err.ensures.value ∙ c.if-is_err.true in
     let same = on_err c.realloc-placed.result _ is c.realloc-placed.ensures.refused in
     let rest = c.realloc-placed.ensures.rest in
-    realloc_idle c.self.view_is (g.S.Space.bytes c.args.space.now) c.realloc-placed.new.self.table (g.S.Space.bytes c.realloc-placed.new.space) rest.range rest.memory.bytes.outside
+    M.realloc_idle c.self.view_is (g.S.Space.bytes c.args.space.now) c.realloc-placed.new.self.table (g.S.Space.bytes c.realloc-placed.new.space) rest.range rest.memory.bytes.outside
     c.realloc-placed.result is (ap (λ (s : ArenaState). s.table) same.0) (ap g.S.Space.bytes same.1) c.args.id c.args.size c.args.options c.realloc-placed.ensures.reallocated
 
 pub returns-clause-acted : goal.returns-clause-acted
@@ -29,16 +31,16 @@ returns-clause-acted g c =
     let may = may_shown c.self.view_is bytes (Realloc c.args.id c.args.size c.args.options) c.requires in
     let is = sym c.is_err.ensures.value ∙ c.if-is_err.false in
     let rest = c.realloc-placed.ensures.rest in
-    let over = over_after c.self.invariant bytes may.0 c.reveal_bytes.ensures rest.range after rest.memory.bytes.long c.reveal_bytes-2.ensures in
+    let over = M.over_after c.self.invariant bytes may.0 c.reveal_bytes.ensures rest.range after rest.memory.bytes.long c.reveal_bytes-2.ensures in
     subst (λ n. Acted (Realloc c.args.id c.args.size c.args.options) c.args.self.now bytes n c.realloc-placed.new.self.table after) (sym c.unwrap_or.ensures)
-    (realloc_done c.self.view_is bytes c.realloc-placed.new.self.table after rest.range rest.memory.bytes.outside
-    c.realloc-placed.result is (heap_after c.self.invariant bytes may.0 c.reveal_bytes.ensures rest.range after rest.memory.bytes.long c.reveal_bytes-2.ensures) c.args.id c.args.size c.realloc-placed.ensures.placed c.name_at.result (c.name_at.ensures after over)
+    (M.realloc_done c.self.view_is bytes c.realloc-placed.new.self.table after rest.range rest.memory.bytes.outside
+    c.realloc-placed.result is (M.heap_after c.self.invariant bytes may.0 c.reveal_bytes.ensures rest.range after rest.memory.bytes.long c.reveal_bytes-2.ensures) c.args.id c.args.size c.realloc-placed.ensures.placed c.name_at.result (c.name_at.ensures after over)
     c.args.options c.realloc-placed.ensures.reallocated)
 
 pub invariant_of-self-2 : goal.invariant_of-self-2
 invariant_of-self-2 g c =
     let may = may_shown c.self.view_is (g.S.Space.bytes c.args.space.now) (Realloc c.args.id c.args.size c.args.options) c.requires in
-    realloc_kept c.self.invariant (g.S.Space.bytes c.args.space.now) may.0 c.reveal_bytes.ensures c.realloc-placed.ensures.rest.range (g.S.Space.bytes c.realloc-placed.new.space) c.realloc-placed.ensures.rest.memory.bytes.long
+    M.realloc_kept c.self.invariant (g.S.Space.bytes c.args.space.now) may.0 c.reveal_bytes.ensures c.realloc-placed.ensures.rest.range (g.S.Space.bytes c.realloc-placed.new.space) c.realloc-placed.ensures.rest.memory.bytes.long
     c.realloc-placed.result (sym c.is_err.ensures.value ∙ c.if-is_err.false) c.args.id c.args.size c.args.options c.realloc-placed.ensures.reallocated
 
 pub returns-then-is_err-clause-written : goal.returns-then-is_err-clause-written
@@ -52,5 +54,5 @@ returns-clause-written g c =
     let bytes : List ℕ = g.S.Space.bytes c.args.space.now in
     let next : Heap = heap_in c.realloc-placed.new.self.table (g.S.Space.bytes c.realloc-placed.new.space) in
     let before : ℕ = g.S.Space.written c.args.space.now in
-    inr (writes_ok c.realloc-placed.result (heap_in c.self.inside.arena.table bytes) next c.args.id c.args.size before (g.S.Space.written c.realloc-placed.new.space) _ (sym c.is_err.ensures.value ∙ c.if-is_err.false) c.realloc-placed.ensures.placed c.realloc-placed.ensures.written
-    ∙ ap (λ (t : Table). counted (counted before (moved_bytes (heap_in t bytes) next)) (if c.args.options.zero then c.args.size - unwrap_or (option_map length (bytes_at (heap_in t bytes) c.args.id)) 0 else 0)) c.self.view_is)
+    inr (M.writes_ok c.realloc-placed.result (heap_in c.self.inside.arena.table bytes) next c.args.id c.args.size before (g.S.Space.written c.realloc-placed.new.space) _ (sym c.is_err.ensures.value ∙ c.if-is_err.false) c.realloc-placed.ensures.placed c.realloc-placed.ensures.written
+    ∙ ap (λ (t : Table). C.counted (C.counted before (C.moved_bytes (heap_in t bytes) next)) (if c.args.options.zero then c.args.size - C.unwrap_or (C.option_map C.length (C.bytes_at (heap_in t bytes) c.args.id)) 0 else 0)) c.self.view_is)
