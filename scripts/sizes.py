@@ -11,7 +11,7 @@ import sys
 
 CHARACTERS, COLUMNS, EDITS, EDITS_OF_CRATE = 7_400_000, 300, 260, 12
 EDITS_OF_LARGE_CRATE = 20
-LARGE_CRATES = {"w16_arena", "w16_global", "w16_local", "w16_loader", "w16_ne"}
+LARGE_CRATES = {"w16_arena", "w16_global", "w16_kernel", "w16_local", "w16_loader", "w16_ne"}
 
 
 def sources(crate):

@@ -12,7 +12,8 @@ returns-in_ok-write_all-in-Ok-2-clause-value g c = λ s is got.
     let front = rw (c.as_bytes.ensures.value, c.in_ok-push_front-in-Ok.ensures.text, c.in_ok-front-in-Ok.ensures.ok, c.comma.ensures) at c.in_ok-write_all-in-Ok.ensures.bytes in
     let records = c.in_ok-send_relocations-in-Ok.ensures in
     let all = map (relocation_json c.args.file.now c.args.tables.now c.check.new.scratch.held.bytes) c.check.new.scratch.held.records in
-    rw (said, ← same, segment-text c.args.number c.segment-segment.result all) (sent-parts _ _ _ _ (comma_if c.args.later) (segment_front c.args.number c.segment-segment.result) (compact_text (list all)) _ front records.0 c.in_ok-write_all-in-Ok-2.ensures.bytes, c.in_ok-push_front-in-Ok.ensures.plain all records.1, refl)
+    let n = c.args.number in let segment = c.segment-segment.result in
+    rw (said, ← same, segment-text n segment all) (sent-parts _ _ _ _ (comma_if c.args.later) (segment_front n segment) (compact_text (list all)) _ front records.0 c.in_ok-write_all-in-Ok-2.ensures.bytes, c.in_ok-push_front-in-Ok.ensures.plain all records.1, refl)
 
 pub returns-in_ok-segment-in-Err-clause-value : goal.returns-in_ok-segment-in-Err-clause-value
 returns-in_ok-segment-in-Err-clause-value g c = λ s is got.

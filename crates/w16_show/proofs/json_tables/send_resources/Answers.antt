@@ -17,4 +17,5 @@ loop-i-preserved g c =
 
 pub returns : goal.returns
 returns g c =
-    on-ok c.write_all-2.result c.write_all-2.ensures.bytes (items-last resource_json _ _ _ _ _ (c.loop-i.i + 1) (listed_resources c.args.tables.now.resources) c.loop-i.i (omega (arith, c.loop-i-test.false, c.resource_count-i-end.ensures.count, listed-count c.args.tables.now.resources)) c.loop-i.invariant)
+    let xs = listed_resources c.args.tables.now.resources in
+    on-ok c.write_all-2.result c.write_all-2.ensures.bytes (items-last resource_json _ _ _ _ _ (c.loop-i.i + 1) xs c.loop-i.i (omega (arith, c.loop-i-test.false, c.resource_count-i-end.ensures.count, listed-count c.args.tables.now.resources)) c.loop-i.invariant)

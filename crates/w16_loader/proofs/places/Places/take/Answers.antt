@@ -13,7 +13,9 @@ pub invariant_of-self : goal.invariant_of-self
 invariant_of-self g c =
     let r = c.try_remove.ensures in
     let had = ap (λ l. get_or l c.args.place None) (sym c.as_slice.ensures.value) ∙ sym c.key_at.ensures ∙ c.in_ok-key.was in
-    (take_keyed c.self.invariant.0 c.args.place had r.updates r.value r.capacity r.len, subst (λ es. AreTags es c.self.inside.tags.items) (sym (take_placed c.self.invariant.0 c.args.place had r.updates)) (subst (AreTags _) (set-get_or c.self.inside.tags.items c.args.place 0) (set_tags _ _ c.args.place None _ c.self.invariant.1 tt)))
+    let tags = c.self.inside.tags.items in
+    let kept = subst (AreTags _) (set-get_or tags c.args.place 0) (set_tags _ _ c.args.place None _ c.self.invariant.1 tt) in
+    (take_keyed c.self.invariant.0 c.args.place had r.updates r.value r.capacity r.len, subst (λ es. AreTags es tags) (sym (take_placed c.self.invariant.0 c.args.place had r.updates)) kept)
 
 pub returns-clause-left : goal.returns-clause-left
 returns-clause-left g c =
