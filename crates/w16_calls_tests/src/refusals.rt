@@ -21,13 +21,13 @@ enum Machine {
 }
 
 /// Each, and how many growths it takes: a global heap its attributes, two of selectors, its memory, one of holes and nine of an arena;
-/// local heaps two lists; a kernel both, modules with a table of their keys and counts of their importers, a table of loads of resources, and five
+/// local heaps two lists; a kernel both, modules with tables of their keys and tags and counts of their importers, a table of loads of resources, and five
 /// lists of a segment's room; three calls the list of their answers, a built-in, and a local heap.
 static MACHINES: &[(Machine, u64)] = &[
     (Machine::GlobalHeap, 14),
     (Machine::LocalHeaps, 2),
-    (Machine::Kernel, 25),
-    (Machine::Calls, 39),
+    (Machine::Kernel, 26),
+    (Machine::Calls, 40),
 ];
 
 /// Makes a global heap, and it goes.
