@@ -1,7 +1,7 @@
 -- A local heap that grows with its segment, as a call's step.
 use Rattle.w16_local.proofs
 use proofs.Common as C
-use proofs.Common.{◌≡◌, ◌≢◌, ℕ, ◌*◌, inl, inr, true, false, cond, List, length, Option, Some, None, refl, sym, ap, ◌∙◌, subst, arith, nat_cmp, FinMap, bytes_at, Handles, Table, heap_in, inserted_other, counted, World, left_in, MayAct, ◌==◌, ◌||◌, ◌-◌, Bool, Heap, if◌then◌else◌, alone}
+use proofs.Common.{◌≡◌, ◌≢◌, ℕ, ◌*◌, inl, inr, true, false, cond, IsSomeAnd, List, length, Option, Some, None, refl, sym, ap, ◌∙◌, subst, arith, nat_cmp, FinMap, bytes_at, Handles, Table, heap_in, inserted_other, counted, World, left_in, ◌==◌, ◌||◌, ◌-◌, Bool, Heap, if◌then◌else◌, alone}
 use proofs.Common.{with_parts}
 use proofs.Requests.{may_later, whole}
 use Rattle.std.proofs.lemmas.Bool.{le-leb}
@@ -33,7 +33,7 @@ segment_there heap slot bytes had = ap C.is_some (C.object_of heap slot bytes ha
 handle_for : (handles : Handles) (slot : ℕ) (bytes : List ℕ) → bytes_at handles.heap slot ≡ Some bytes → (handle : ℕ) × (slot_of_handle handles handle ≡ Some slot)
 handle_for handles slot bytes had =
     let o : (o : C.Object) × (C.object_at handles.heap slot ≡ Some o) × (o.bytes ≡ Some bytes) = C.object_of handles.heap slot bytes had in
-    (handle_of o.0.kind slot, (names_law handles (handle_of o.0.kind slot) slot).0.1 (rw o.1 refl))
+    (handle_of o.0.kind slot, (names_law handles (handle_of o.0.kind slot) slot).0.1 (subst (λ p. IsSomeAnd p (λ (p : C.Object). handle_of o.0.kind slot ≡ handle_of p.kind slot)) (sym o.1) refl))
 
 -- a growth sets nothing to zero
 no_zeros : (options : RoomOptions) (handles : Handles) (handle size answer : ℕ) → zeroed_behind handles handle size (growth_flags options) answer ≡ 0
@@ -67,7 +67,7 @@ module _ {old : C.Global} {tables : FinMap nat_cmp Table} {slot size : ℕ} {r :
     was = m.was;
     had = m.had;
     holds = λ rest ds. inl (
-      (λ handle named. let l = step handle named in (l.left, rw (flags_are, null) at l.step)),
+      (λ handle named. let l = step handle named in (l.left, subst (λ (p : ℕ × ℕ). GlobalReAllocs old.handles handle size p.0 p.1 l.left) (λ i. (flags_are i, null i)) l.step)),
       (refl, λ i. with_parts rest (same i).handles tables ds),
     );
   }
@@ -87,7 +87,7 @@ module _ {old : C.Global} {tables : FinMap nat_cmp Table} {slot size : ℕ} {r :
     there = record { table = m.was; bytes = m.had; inside = omega (arith, m.growth.ends) }
 
     reallocated : GlobalReAllocs old.handles handle.0 size (growth_flags r.options) answer l.left
-    reallocated = rw flags_are at l.step
+    reallocated = subst (λ f. GlobalReAllocs old.handles handle.0 size f answer l.left) flags_are l.step
 
     now : (bytes : List ℕ) × (bytes_at l.left.heap slot ≡ Some bytes)
     now = bytes_of world are at there r.options size is_size handle.0 handle.1 answer answered l.left reallocated
@@ -115,8 +115,8 @@ module _ {old : C.Global} {tables : FinMap nat_cmp Table} {slot size : ℕ} {r :
       high = let w = is_size.whole in (8 * w.0, omega (arith, w.1));
       last = is_size.most;
       ends = sym grown.long;
-      may = rw later_heap (may_later r (heap_in m.table m.bytes) size m.may);
-      answered = rw later_heap m.growth.served.answered;
+      may = subst (C.MayAct (act_of r)) (sym later_heap) (may_later r (heap_in m.table m.bytes) size m.may);
+      answered = subst (λ h. is_answered h r.id r.size r.options ≡ true) (sym later_heap) m.growth.served.answered;
     }
 
     has_now : bytes_at new.handles.heap slot ≡ Some now.0
@@ -144,7 +144,7 @@ module _ {old : C.Global} {tables : FinMap nat_cmp Table} {slot size : ℕ} {r :
         same_bytes = let both : ◌≡◌ {A = Option (List ℕ)} (Some a.bytes) (Some now.0) = sym a.had ∙ has_now in cc
 
         later : Later r size m.table now.0 result a.table a.after
-        later = rw (same_table, same_bytes) at a.does.1.0
+        later = subst (λ (p : Table × List ℕ). Later r size p.0 p.1 result a.table a.after) (λ i. (same_table i, same_bytes i)) a.does.1.0
 
         after_handles : next ≡ record l.left { heap = C.after_write l.left.heap slot 0 a.after; moved = old.handles.moved }
         after_handles = a.rest.1 ∙ (λ i. record (l.handles i) { heap = C.after_write (l.handles i).heap slot 0 a.after })
@@ -176,7 +176,7 @@ module _ {old : C.Global} {tables : FinMap nat_cmp Table} {slot size : ℕ} {r :
             after_tables = a.rest.0 ∙ ap (λ t. finmap.insert t slot a.table) left_here ∙ sym (put_twice (left_in l.left.heap tables) slot (record m.table { hi = size }) a.table)
 
         -- what is written: the bytes that were moved, and the longer segment's
-        pub grown_written : (count : ℕ) → C.IsSomeAnd (bytes_at new.handles.heap slot) (λ bytes. count ≡ counted new.written (length bytes))
+        pub grown_written : (count : ℕ) → IsSomeAnd (bytes_at new.handles.heap slot) (λ bytes. count ≡ counted new.written (length bytes))
             → InSlot old.handles tables slot next final (λ before at after. WritesGrown before at r.id r.size r.options old.written after.loading.handles count)
         unfolding lengthened now
         grown_written count lent = record {
@@ -191,4 +191,4 @@ module _ {old : C.Global} {tables : FinMap nat_cmp Table} {slot size : ℕ} {r :
             written = l.written ∙ ap (λ k. counted (counted old.written l.left.moved) k) (ap (λ f. zeroed_behind old.handles handle.0 size f answer) flags_are ∙ no_zeros r.options old.handles handle.0 size answer) ∙ counted_none (counted old.written l.left.moved)
 
             count_is : count ≡ counted (counted old.written l.left.moved) size
-            count_is = (rw has_now at lent) ∙ (λ i. counted (written i) (grown.long i))
+            count_is = subst (λ b. IsSomeAnd b (λ (bytes : List ℕ). count ≡ counted new.written (length bytes))) has_now lent ∙ (λ i. counted (written i) (grown.long i))

@@ -1,7 +1,8 @@
 -- A request in the heap of a slot, as a call's step.
 use Rattle.w16_local.proofs
 use Rattle.w16_local.specs
-use proofs.Common.{◌≡◌, ℕ, ◌⊎◌, inl, inr, List, length, Option, Some, None, refl, sym, ◌∙◌, subst, arith, nat_cmp, FinMap, Kind, Heap, Handles, Table, heap_in, counted, Global, World, IsLocalTable, ActedIn, Acted, Done, Idle, IsLent, MayAct, MayActIn, MayActOver, Writes, with_parts}
+use proofs.Common as C
+use proofs.Common.{◌≡◌, ℕ, ◌⊎◌, inl, inr, List, Option, Some, None, refl, sym, ◌∙◌, subst, arith, nat_cmp, FinMap, Kind, Heap, Handles, Table, heap_in, Global, World, Acted, Done, Idle, with_parts}
 use proofs.Acting.{acted_same, once_in}
 use Rattle.w16_machine.specs.LocalGrowth.{IsGrowth, IsKeptShort}
 use specs.declared.growth.Met.TheVariants.{Answered, Lacks}
@@ -18,7 +19,7 @@ idle_none r heap answer = turn r.kind
 
 -- what is known once the request has been tried
 abbrev pub Tried : Handles → FinMap nat_cmp Table → ℕ → Request → Met → Handles → FinMap nat_cmp Table → Type 0
-Tried handles tables slot r met next new = ActedIn handles tables slot (λ table bytes left after. (count : ℕ) × (ServedOver r table bytes met left after × Writes (act_of r) (heap_in table bytes) (heap_in left after) 0 count)) next new
+Tried handles tables slot r met next new = C.ActedIn handles tables slot (λ table bytes left after. (count : ℕ) × (ServedOver r table bytes met left after × C.Writes (act_of r) (heap_in table bytes) (heap_in left after) 0 count)) next new
 
 module _ {handles : Handles} {tables : FinMap nat_cmp Table} {slot : ℕ} (r : Request) where
   -- It is answered.
@@ -71,22 +72,22 @@ module _ {handles : Handles} {tables : FinMap nat_cmp Table} {slot : ℕ} (r : R
       bytes = a.bytes;
       was = a.was;
       had = a.had;
-      holds = λ rest ds. inr (idle, inl ((λ size g. absurd ((rw none at told) slot size g)), (refl, same_world rest ds)));
+      holds = λ rest ds. inr (idle, inl ((λ size g. absurd (subst (SizeTold r a.before a.bytes) none told slot size g)), (refl, same_world rest ds)));
     }
 
     -- There is one.
     module _ (some : ℕ) (some_is : size ≡ Some some) where
       growth : IsGrowth (in_slot a.before a.bytes slot) r.id r.size r.options some
-      growth = (rw some_is at told) slot
+      growth = subst (SizeTold r a.before a.bytes) some_is told slot
 
-      pub may_grow : MayActIn handles tables slot (MayActOver (act_of r)) → MayGrowIn next new slot some r
-      may_grow may = rw (same.0, same.1) (record {
+      pub may_grow : C.MayActIn handles tables slot (C.MayActOver (act_of r)) → MayGrowIn next new slot some r
+      may_grow may = subst (λ (p : Handles × FinMap nat_cmp Table). MayGrowIn p.0 p.1 slot some r) (λ i. (sym same.1 i, sym same.0 i)) (record {
         table = a.before;
         bytes = a.bytes;
         was = a.was;
         had = a.had;
-        is_local = rw a.does.1.0.1 at a.is_local;
-        may = rw (table_is, bytes_are) at may.may.1;
+        is_local = subst C.IsLocalTable a.does.1.0.1 a.is_local;
+        may = subst (λ (p : Table × List ℕ). C.MayAct (act_of r) (heap_in p.0 p.1)) (λ i. (table_is i, bytes_are i)) may.may.1;
         growth = growth;
       })
         where
@@ -116,7 +117,7 @@ module _ {handles : Handles} {tables : FinMap nat_cmp Table} {slot : ℕ} (r : R
       }
         where
           there : InSlot handles tables slot last final (λ old at left. Grown r some old at answer left)
-          there = rw (same.0, same.1) at g
+          there = subst (λ (p : Handles × FinMap nat_cmp Table). InSlot p.0 p.1 slot last final (λ old at left. Grown r some old at answer left)) (λ i. (same.1 i, same.0 i)) g
 
           table_is : there.table ≡ a.before
           table_is = let both : ◌≡◌ {A = Option Table} (Some there.table) (Some a.before) = sym there.was ∙ a.was in cc
@@ -125,15 +126,15 @@ module _ {handles : Handles} {tables : FinMap nat_cmp Table} {slot : ℕ} (r : R
           bytes_are = let both : ◌≡◌ {A = Option (List ℕ)} (Some there.bytes) (Some a.bytes) = sym there.had ∙ a.had in cc
 
           grown : (rest : World) (ds : ℕ) → Grown r some (with_parts rest handles tables ds) (in_slot a.before a.bytes slot) answer (with_parts rest last final ds)
-          grown rest ds = rw (table_is, bytes_are) at (there.holds rest ds)
+          grown rest ds = subst (λ (p : Table × List ℕ). Grown r some (with_parts rest handles tables ds) (in_slot p.0 p.1 slot) answer (with_parts rest last final ds)) (λ i. (table_is i, bytes_are i)) (there.holds rest ds)
 
 -- What is written where the heap doesn't grow,
-pub once_writes : (old new : Global) {tables left : FinMap nat_cmp Table} {slot : ℕ} {does : Table → List ℕ → Table → List ℕ → Type 0} (r : Request) → ActedIn old.handles tables slot does new.handles left → IsLent old slot new
+pub once_writes : (old new : Global) {tables left : FinMap nat_cmp Table} {slot : ℕ} {does : Table → List ℕ → Table → List ℕ → Type 0} (r : Request) → C.ActedIn old.handles tables slot does new.handles left → C.IsLent old slot new
     → InSlot old.handles tables slot new.handles left (λ before at after. WritesServed r before at old.written after.loading.handles new.written)
 once_writes old new r a lent = record { table = a.before; bytes = a.bytes; was = a.was; had = a.had; holds = λ rest ds. inl (once_in old new a lent) }
 
 -- and where it may have grown.
-module _ (old between new : Global) {tables mid : FinMap nat_cmp Table} (left : FinMap nat_cmp Table) {slot : ℕ} (r : Request) (size : Option ℕ) (a : Tried old.handles tables slot r (Lacks size) between.handles mid) (lent : IsLent old slot between) where
+module _ (old between new : Global) {tables mid : FinMap nat_cmp Table} (left : FinMap nat_cmp Table) {slot : ℕ} (r : Request) (size : Option ℕ) (a : Tried old.handles tables slot r (Lacks size) between.handles mid) (lent : C.IsLent old slot between) where
   abbrev GrownFrom : (old : Handles) → FinMap nat_cmp Table → ℕ → Type 0
   GrownFrom handles tables count = InSlot handles tables slot new.handles left (λ before at after. WritesGrown before at r.id r.size r.options count after.loading.handles new.written)
 
@@ -141,14 +142,15 @@ module _ (old between new : Global) {tables mid : FinMap nat_cmp Table} (left : 
   grown_writes may = record { table = a.before; bytes = a.bytes; was = a.was; had = a.had; holds = λ rest ds. turn rest ds may }
     where
       turn : (rest : World) (ds : ℕ) → (new ≡ between) ⊎ GrownFrom between.handles mid between.written → WritesServed r (with_parts rest old.handles tables ds) (in_slot a.before a.bytes slot) old.written new.handles new.written
-      turn rest ds (inl still) = inl (rw still (once_in old between a lent))
-      turn rest ds (inr grown) = inr (rw (table_is, bytes_are) at (there.holds rest ds))
+      turn rest ds (inl still) = inl (subst (λ (g : Global). WritesOnce (in_slot a.before a.bytes slot) old.written g.handles g.written) (sym still) (once_in old between a lent))
+      turn rest ds (inr grown) = inr (subst (λ (p : Table × List ℕ). WritesGrown (with_parts rest old.handles tables ds) (in_slot p.0 p.1 slot) r.id r.size r.options (C.counted old.written (C.length a.bytes)) new.handles new.written)
+          (λ i. (table_is i, bytes_are i)) (there.holds rest ds))
         where
           kept : (mid ≡ tables) × (between.handles ≡ old.handles)
           kept = same r size a
 
-          there : GrownFrom old.handles tables (counted old.written (length a.bytes))
-          there = rw (kept.1, kept.0, (once_in old between a lent).1) at grown
+          there : GrownFrom old.handles tables (C.counted old.written (C.length a.bytes))
+          there = subst (λ (p : Handles × FinMap nat_cmp Table × ℕ). GrownFrom p.0 p.1 p.2) (λ i. (kept.1 i, kept.0 i, (once_in old between a lent).1 i)) grown
 
           table_is : there.table ≡ a.before
           table_is = let both : ◌≡◌ {A = Option Table} (Some there.table) (Some a.before) = sym there.was ∙ a.was in cc
