@@ -5,7 +5,7 @@ ghost use Rattle.w16_model.specs.Request.{most_room};
 ghost use Rattle.w16_local.specs.Parts.{alone};
 ghost use Rattle.w16_kernel.specs.Runs.{command_of};
 ghost use Rattle.w16_kernel.specs.Why.{IsThere, IsWhy, subject_of};
-ghost use Rattle.w16_kernel.specs.Why.Subject.{LocalObject, Object, Selector};
+ghost use Rattle.w16_kernel.specs.Why.Subject.{LocalHeap, LocalObject, Module, Object, Selector};
 
 use crate::call::Call;
 use crate::kernel::Kernel;
@@ -100,6 +100,37 @@ impl<S: Store + Drop, A: Allocator + Copy> Kernel<S, A> {
         }
     }
 
+    /// That no module has a handle, if none has it.
+    fn why_module(&self, handle: u16) -> Option<Why>
+        ensures holds { IfSome result (IsWhy self.now (Module handle)) }
+        ensures there { IfNone result (IsThere self.now (Module handle)) }
+    {
+        match self.library.registry.get(handle) {
+            None => Some(Why::BadModule),
+            Some(_) => None,
+        }
+    }
+
+    /// That DS names no local heap, if it names none.
+    fn why_heap(&self) -> Option<Why>
+        ensures holds { IfSome result (IsWhy self.now LocalHeap) }
+        ensures there { IfNone result (IsThere self.now LocalHeap) }
+    {
+        if self.locals.has_heap(&self.global, self.ds) {
+            None
+        } else {
+            Some(Why::NoLocalHeap)
+        }
+    }
+
+    /// Why a call is refused that names a local object of this machine.
+    fn why_local(&self, call: &Call<'_>, name: u16) -> Option<Why>
+        ensures holds { IfSome result (IsWhy self.now (LocalObject name)) }
+        ensures there { IfNone result (IsThere self.now (LocalObject name)) }
+    {
+        why_name(&self.locals, &self.global, self.ds, call, name)
+    }
+
     /// Why a call is refused, if it is, as far as what it names says: always where that isn't there, and of a selector.
     pub fn why(&self, call: &Call<'_>) -> Option<Why>
         ensures holds { IfSome result (IsWhy self.now (subject_of (command_of call.now))) }
@@ -128,24 +159,15 @@ impl<S: Store + Drop, A: Allocator + Copy> Kernel<S, A> {
             | GetProcAddress { handle, .. }
             | FindResource { handle, .. }
             | LoadResource { handle, .. }
-            | SizeofResource { handle, .. } => match self.library.registry.get(handle) {
-                None => Some(Why::BadModule),
-                Some(_) => None,
-            },
+            | SizeofResource { handle, .. } => self.why_module(handle),
             LocalReAlloc { name, .. }
             | LocalDiscard { name }
             | LocalFree { name }
             | LocalLock { name }
             | LocalUnlock { name }
             | LocalSize { name }
-            | LocalFlags { name } => why_name(&self.locals, &self.global, self.ds, call, name),
-            LocalAlloc { .. } | LocalCompact { .. } | LocalHandle { .. } => {
-                if self.locals.has_heap(&self.global, self.ds) {
-                    None
-                } else {
-                    Some(Why::NoLocalHeap)
-                }
-            }
+            | LocalFlags { name } => self.why_local(call, name),
+            LocalAlloc { .. } | LocalCompact { .. } | LocalHandle { .. } => self.why_heap(),
             _ => None,
         }
     }
