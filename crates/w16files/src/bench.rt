@@ -16,7 +16,7 @@
 //! | `text NAME`, `json NAME` | what is printed of it, and the verdict |
 //! | `resources` | the resources that are taken out of it |
 use crate::liar::Liar;
-use crate::read::{put_failures, put_fuse, put_resources, put_shown, put_sum, shown, store_of};
+use crate::read::{put_failures, put_fuse, put_resources, put_shown, put_sum, show, store_of};
 use crate::relocation::{lie_of, put_image, put_imported, put_part, put_scratch, targets_of};
 use crate::tables::{put_place, put_tables};
 use crate::words::{Put, Words, hexadecimal, number, split, word};
@@ -133,8 +133,8 @@ impl Bench {
             "fuse" => put_fuse(out, alloc, bytes, (number(words) % 65_536) as u32),
             "part" => put_part(out, store, scratch, number(words), number(words)),
             "scratch" => put_scratch(out, scratch),
-            "text" => put_shown(out, &shown(alloc, word(words), bytes, false)?),
-            "json" => put_shown(out, &shown(alloc, word(words), bytes, true)?),
+            "text" => put_shown(out, &show(alloc, word(words), bytes, false)?),
+            "json" => put_shown(out, &show(alloc, word(words), bytes, true)?),
             "resources" => put_resources(out, alloc, bytes),
             _ => self.ask_read(out, asked, words),
         }

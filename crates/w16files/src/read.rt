@@ -33,7 +33,7 @@ pub struct Shown {
 }
 
 /// What is printed of a file as text, or as JSON.
-pub fn shown(alloc: Global, name: &str, bytes: &[u8], json: bool) -> Result<Shown, AllocError> {
+pub fn show(alloc: Global, name: &str, bytes: &[u8], json: bool) -> Result<Shown, AllocError> {
     let mut text = Vec::new(alloc);
     let printed = if json {
         show_json(alloc, &mut text, name, bytes)
@@ -50,8 +50,8 @@ pub fn shown(alloc: Global, name: &str, bytes: &[u8], json: bool) -> Result<Show
 
 /// Whether a file's text and its JSON tell its fault, or a verdict where it has none.
 fn is_shown(alloc: Global, bytes: &[u8], fault: Option<NeFault>) -> Result<bool, AllocError> {
-    let text = shown(alloc, "F", bytes, false)?;
-    let json = shown(alloc, "F", bytes, true)?;
+    let text = show(alloc, "F", bytes, false)?;
+    let json = show(alloc, "F", bytes, true)?;
     let (told, begin, text_end, json_end) = match text.verdict {
         Verdict::NotAccepted(e) => (Some(e.fault), "{\"fault\":\"", "", ""),
         Verdict::NotSound(_) => (None, "{\"fault\":null", "", ",\"sound\":false}"),
