@@ -1,20 +1,28 @@
 -- A step's reply has the kind that its command's has.
-use Rattle.w16_c.proofs
-use proofs.Common as C
-use Rattle.w16_loading.specs.Families.ModuleCommand as M
-use Rattle.w16_loading.specs.Resource as K
-use proofs.Common.{◌≡◌, ℕ, ◌+◌, Bool, true, false, cond, List, [], Option, Some, None, Result, Ok, Err, refl, sym, subst, Refusal, part, Heap, Handles, slot_of_handle, selector_in, offset_in, owns, HandleCommand, Answer, global_lock, Moved, FarAnswer, far_fault, Read, Write, Fill}
-use proofs.Common.{FetchFault, Fetching, gives, reply_of_far, LoadingWorld, OfHandles, OfFar, Reply, Word, Dword, Done, Failed, DS, World, Command, OfLoading, OfLocals, KernelStep, AnswersWord, AnswersDword, IsWord, IsDword, IsDoneOrFault, IsBytes}
+use Rattle.w16_c.proofs.Common.{◌≡◌, ℕ, ◌+◌, Bool, true, false, MatchBool, MatchOption, cond, nat_lt, List, [], length, Option, Some, None, unwrap_or, Result, Ok, Err, refl, sym, subst, Refusal, FarFault}
+use Rattle.w16_c.proofs.Common.{part, repeated, Heap, bytes_at, after_free, after_lock, after_unlock, after_newest, after_oldest, after_touch, Handles, slot_of_handle, selector_of, selector_in, offset_in, far_pointer, owns}
+use Rattle.w16_c.proofs.Common.{refuses_write, length-part, HandleCommand, Answer, HandleStep, global_lock, handle_or_0, GlobalAlloc, GlobalFree, GlobalLock, GlobalUnlock, GlobalSize}
+use Rattle.w16_c.proofs.Common.{GlobalFlags, GlobalHandle, GetSelectorBase, GetSelectorLimit, GlobalCompact, GlobalLRUNewest, GlobalLRUOldest, Moved, FarAnswer, Reached, reached, far_fault, far_slot, Read, Write, Fill}
+use Rattle.w16_c.proofs.Common.{FetchFault, Fetching, Accesses, gives, needs_fetch, reply_of_far, LoadingWorld, OfHandles, OfResizes, OfFar, ResizeCommand, GlobalReAlloc, GlobalDiscard, Reply, HandleReplies}
+use Rattle.w16_c.proofs.Common.{ResizeReplies, Word, Dword, Done, Failed, Walked, LocalCommand, LocalStep, DS, World, Command, OfLoading, OfLocals, KernelStep, ne_format, AnswersWord, AnswersDword, IsWrite, IsWord, IsDword, IsDoneOrFault}
+use Rattle.w16_c.proofs.Common.{IsBytes}
 use Rattle.std.proofs.Common.{◌⊎◌, ◌∙◌, ap, inl, inr}
+use Rattle.w16_loading.specs.Replies.Reply.{Bytes, Fault}
+use Rattle.w16_loading.specs.Families as families
+use Rattle.w16_loading.specs.Families.LoadingCommand.{OfModules, OfResources}
+use Rattle.w16_loading.specs.Families.ModuleCommand.{Builtin, FreeLibrary, FreeModule, GetModuleHandle, GetModuleUsage, GetProcAddress, LoadLibrary, LoadModule}
 use Rattle.w16_loading.specs.Families.ResourceCommand.{FindResource, FreeResource, LoadResource, LockResource, SizeofResource}
-use Rattle.w16_loading.specs.{Replies.Reply.Bytes, Replies.Reply.Fault, Families.LoadingCommand.OfModules, Families.LoadingCommand.OfResources, File.Resource, Load.Answer.Says, Load.Answer.StoreFails, declared.TheConstants.MOST_USES}
+use Rattle.w16_loading.specs.File.{Resource}
+use Rattle.w16_loading.specs.Load as load
+use Rattle.w16_loading.specs.Load.Answer.{Says, StoreFails}
+use Rattle.w16_loading.specs.Resource.{AnswersNone, LoadsNewResource, LoadsResource, LocksResource, is_too_long, load_of, lock_outcome, reply_of_call, resource_at, resource_outcome, slot_of_resource}
+use Rattle.w16_loading.specs.declared.FetchFault.TheVariants as fetch
+use Rattle.w16_loading.specs.declared.TheConstants.{MOST_USES}
 use Rattle.w16_machine.proofs.Stepped.{fetching}
 use Rattle.w16_model.specs.Handles.{IsFreeSlot}
+use Rattle.w16_c.specs.Kinds.{FetchesWord, IsOrFailure}
 use Rattle.w16_c.specs.Makes.{FarCalls, FetchCalls, IsRead, IsStatus, Makes, Stays, Tells}
-use Rattle.w16_c.specs.{Kinds.FetchesWord, Kinds.IsOrFailure, declared.held.Held.Held}
-use Rattle.w16_loading.specs.Families as families
-use Rattle.w16_loading.specs.Load as load
-use Rattle.w16_loading.specs.declared.FetchFault.TheVariants as fetch
+use Rattle.w16_c.specs.declared.held.Held.{Held}
 use Rattle.w16_model.specs.declared.Refusal.TheVariants as refusals
 use Rattle.w16_model.specs.Calls as calls
 use Rattle.w16_model.specs.Far as far
@@ -41,15 +49,15 @@ if_both : {A B : Type 0} (P : A → Type 0) (b : Bool) (x y : A × B) → P x.0 
 if_both P true x y h k = h
 if_both P false x y h k = k
 
-order_word : (after : Heap → ℕ → Result Heap Refusal) (old : Handles) (handle : ℕ) → WordAnswer (C.handle_or_0 after old handle).0
+order_word : (after : Heap → ℕ → Result Heap Refusal) (old : Handles) (handle : ℕ) → WordAnswer (handle_or_0 after old handle).0
 order_word after old handle = by_name WordAnswer _ _ (tt) (λ slot. by_result _ _ tt (λ _. tt) (after old.heap slot)) (slot_of_handle old handle)
 
 lock_dword : (old : Handles) (handle : ℕ) → DwordAnswer (global_lock old handle).0
-lock_dword old handle = by_name DwordAnswer _ _ (tt) (λ slot. locked slot (C.after_lock old.heap slot)) (slot_of_handle old handle)
+lock_dword old handle = by_name DwordAnswer _ _ (tt) (λ slot. locked slot (after_lock old.heap slot)) (slot_of_handle old handle)
   where
     locked : (slot : ℕ) (s : Result Heap Refusal) → DwordAnswer (elim s as (λ _. Answer × Handles) [
-      | Ok heap ↦ (calls.Answer.Dword (C.far_pointer (C.selector_of slot) 0), record old { heap = heap })
-      | Err refusals.Fixed ↦ (calls.Answer.Dword (C.far_pointer (C.selector_of slot) 0), old)
+      | Ok heap ↦ (calls.Answer.Dword (far_pointer (selector_of slot) 0), record old { heap = heap })
+      | Err refusals.Fixed ↦ (calls.Answer.Dword (far_pointer (selector_of slot) 0), old)
       | Err _ ↦ (calls.Answer.Dword 0, old)
     ]).0
     locked slot (Ok heap) = tt
@@ -57,67 +65,67 @@ lock_dword old handle = by_name DwordAnswer _ _ (tt) (λ slot. locked slot (C.af
     locked slot (Err e) = tt
 
 module _ (old new : Handles) where
-  handle_word : (command : HandleCommand) (answer : Answer) → AnswersWord (OfLoading (OfHandles command)) → C.HandleStep old command answer new → WordAnswer answer
-  handle_word (C.GlobalAlloc flags size) (calls.Answer.Word n) k h = tt
-  handle_word (C.GlobalAlloc flags size) answer k h = absurd h
-  handle_word (C.GlobalFree handle) answer k h =
-      rw h.0 (if_both WordAnswer (owns old handle) _ _ tt (by_name WordAnswer _ _ (tt) (λ slot. by_result _ _ (tt) (λ _. tt) (C.after_free old.heap slot)) (slot_of_handle old handle)))
-  handle_word (C.GlobalUnlock handle) answer k h = rw h.0 (by_name WordAnswer _ _ (tt) (λ slot. by_result _ _ (tt) (λ _. tt) (C.after_unlock old.heap slot)) (slot_of_handle old handle))
-  handle_word (C.GlobalFlags handle) answer k h = rw h.0 tt
-  handle_word (C.GlobalLRUNewest handle) answer k h = rw h.0 (order_word C.after_newest old handle)
-  handle_word (C.GlobalLRUOldest handle) answer k h = rw h.0 (order_word C.after_oldest old handle)
+  handle_word : (command : HandleCommand) (answer : Answer) → AnswersWord (OfLoading (OfHandles command)) → HandleStep old command answer new → WordAnswer answer
+  handle_word (GlobalAlloc flags size) (calls.Answer.Word n) k h = tt
+  handle_word (GlobalAlloc flags size) answer k h = absurd h
+  handle_word (GlobalFree handle) answer k h =
+      rw h.0 (if_both WordAnswer (owns old handle) _ _ tt (by_name WordAnswer _ _ (tt) (λ slot. by_result _ _ (tt) (λ _. tt) (after_free old.heap slot)) (slot_of_handle old handle)))
+  handle_word (GlobalUnlock handle) answer k h = rw h.0 (by_name WordAnswer _ _ (tt) (λ slot. by_result _ _ (tt) (λ _. tt) (after_unlock old.heap slot)) (slot_of_handle old handle))
+  handle_word (GlobalFlags handle) answer k h = rw h.0 tt
+  handle_word (GlobalLRUNewest handle) answer k h = rw h.0 (order_word after_newest old handle)
+  handle_word (GlobalLRUOldest handle) answer k h = rw h.0 (order_word after_oldest old handle)
   handle_word command answer k h = absurd k
 
-  handle_dword : (command : HandleCommand) (answer : Answer) → AnswersDword (OfLoading (OfHandles command)) → C.HandleStep old command answer new → DwordAnswer answer
-  handle_dword (C.GlobalLock handle) answer k h = rw h.0 (lock_dword old handle)
-  handle_dword (C.GlobalSize handle) answer k h = rw h.0 tt
-  handle_dword (C.GlobalHandle selector) answer k h = rw h.0 tt
-  handle_dword (C.GetSelectorBase selector) answer k h = rw h.0 tt
-  handle_dword (C.GetSelectorLimit selector) answer k h = rw h.0 tt
-  handle_dword (C.GlobalCompact size) (calls.Answer.Dword n) k h = tt
-  handle_dword (C.GlobalCompact size) answer k h = absurd h
+  handle_dword : (command : HandleCommand) (answer : Answer) → AnswersDword (OfLoading (OfHandles command)) → HandleStep old command answer new → DwordAnswer answer
+  handle_dword (GlobalLock handle) answer k h = rw h.0 (lock_dword old handle)
+  handle_dword (GlobalSize handle) answer k h = rw h.0 tt
+  handle_dword (GlobalHandle selector) answer k h = rw h.0 tt
+  handle_dword (GetSelectorBase selector) answer k h = rw h.0 tt
+  handle_dword (GetSelectorLimit selector) answer k h = rw h.0 tt
+  handle_dword (GlobalCompact size) (calls.Answer.Dword n) k h = tt
+  handle_dword (GlobalCompact size) answer k h = absurd h
   handle_dword Moved answer k h = rw h.0 tt
   handle_dword command answer k h = absurd k
 
-  handles_word : (command : HandleCommand) (reply : Reply) → AnswersWord (OfLoading (OfHandles command)) → C.HandleReplies old command reply new → IsWord reply
+  handles_word : (command : HandleCommand) (reply : Reply) → AnswersWord (OfLoading (OfHandles command)) → HandleReplies old command reply new → IsWord reply
   handles_word command (Word n) k h = tt
   handles_word command (Dword n) k h = handle_word command (calls.Answer.Dword n) k h
-  handles_word command (C.Walked n) k h = handle_word command (calls.Answer.Walked n) k h
+  handles_word command (Walked n) k h = handle_word command (calls.Answer.Walked n) k h
   handles_word command reply k h = absurd h
 
-  handles_dword : (command : HandleCommand) (reply : Reply) → AnswersDword (OfLoading (OfHandles command)) → C.HandleReplies old command reply new → IsDword reply
+  handles_dword : (command : HandleCommand) (reply : Reply) → AnswersDword (OfLoading (OfHandles command)) → HandleReplies old command reply new → IsDword reply
   handles_dword command (Word n) k h = handle_dword command (calls.Answer.Word n) k h
   handles_dword command (Dword n) k h = tt
-  handles_dword command (C.Walked n) k h = handle_dword command (calls.Answer.Walked n) k h
+  handles_dword command (Walked n) k h = handle_dword command (calls.Answer.Walked n) k h
   handles_dword command reply k h = absurd h
 
-  resizes_word : (command : C.ResizeCommand) (reply : Reply) → C.ResizeReplies old command reply new → IsWord reply
+  resizes_word : (command : ResizeCommand) (reply : Reply) → ResizeReplies old command reply new → IsWord reply
   resizes_word command (Word n) h = tt
-  resizes_word (C.GlobalReAlloc handle size flags) reply h = absurd h
-  resizes_word (C.GlobalDiscard handle) reply h = absurd h
+  resizes_word (GlobalReAlloc handle size flags) reply h = absurd h
+  resizes_word (GlobalDiscard handle) reply h = absurd h
 
 module _ (old new : World) where
-  local_word : (command : C.LocalCommand) (reply : Reply) → AnswersWord (OfLocals command) → C.LocalStep old command reply new → IsWord reply
+  local_word : (command : LocalCommand) (reply : Reply) → AnswersWord (OfLocals command) → LocalStep old command reply new → IsWord reply
   local_word (DS selector) Done k h = absurd k
   local_word command (Word n) k h = tt
   local_word command reply k h = absurd h
 
   pub word_reply : (command : Command) (reply : Reply) → AnswersWord command → KernelStep (Unit {0}) old command reply new → IsWord reply
   word_reply (OfLoading (OfHandles command)) reply k step = let h = step.step.0.step in handles_word old.loading.handles h.0 command reply k h.1
-  word_reply (OfLoading (C.OfResizes command)) reply k step = let h = step.step.0.step in resizes_word old.loading.handles h.0 command reply h.1
+  word_reply (OfLoading (OfResizes command)) reply k step = let h = step.step.0.step in resizes_word old.loading.handles h.0 command reply h.1
   word_reply (OfLocals command) reply k step = local_word command reply k step.step
-  word_reply (OfLoading (OfModules (M.Builtin name))) reply k step = rw step.step.0.step.1 tt
-  word_reply (OfLoading (OfModules (M.FreeLibrary handle))) reply k step = rw step.step.0.step.1 tt
-  word_reply (OfLoading (OfModules (M.FreeModule handle))) reply k step = rw step.step.0.step.1 tt
-  word_reply (OfLoading (OfModules (M.GetModuleHandle name))) reply k step = rw step.step.0.step.0 tt
-  word_reply (OfLoading (OfModules (M.GetModuleUsage handle))) reply k step = rw step.step.0.step.0 tt
+  word_reply (OfLoading (OfModules (Builtin name))) reply k step = rw step.step.0.step.1 tt
+  word_reply (OfLoading (OfModules (FreeLibrary handle))) reply k step = rw step.step.0.step.1 tt
+  word_reply (OfLoading (OfModules (FreeModule handle))) reply k step = rw step.step.0.step.1 tt
+  word_reply (OfLoading (OfModules (GetModuleHandle name))) reply k step = rw step.step.0.step.0 tt
+  word_reply (OfLoading (OfModules (GetModuleUsage handle))) reply k step = rw step.step.0.step.0 tt
   word_reply (OfLoading (OfResources (FindResource handle name kind))) reply k step = rw step.step.0.step.0 tt
   word_reply (OfLoading (OfResources (FreeResource handle))) reply k step = rw step.step.0.step.0 tt
   word_reply command reply k step = absurd k
 
   pub dword_reply : (command : Command) (reply : Reply) → AnswersDword command → KernelStep (Unit {0}) old command reply new → IsDword reply
   dword_reply (OfLoading (OfHandles command)) reply k step = let h = step.step.0.step in handles_dword old.loading.handles h.0 command reply k h.1
-  dword_reply (OfLoading (OfModules (M.GetProcAddress handle label))) reply k step = rw step.step.0.step.0 tt
+  dword_reply (OfLoading (OfModules (GetProcAddress handle label))) reply k step = rw step.step.0.step.0 tt
   dword_reply (OfLoading (OfResources (SizeofResource handle place))) reply k step = rw step.step.0.step.0 tt
   dword_reply command reply k step = absurd k
 
@@ -125,17 +133,17 @@ module _ (old new : World) where
 
 -- the fetches of a step
 abbrev over : World → World → Fetching
-over old new = fetching (Unit {0}) C.ne_format old.loading new.loading
+over old new = fetching (Unit {0}) ne_format old.loading new.loading
 
 load_answer : (answer : load.Answer) → IsOrFailure IsWord (families.reply_of answer)
 load_answer (Says n) = tt
 load_answer StoreFails = tt
 
-either : (b : Bool) (A B P : Type 0) → (A → P) → (B → P) → C.MatchBool b A B → P
+either : (b : Bool) (A B P : Type 0) → (A → P) → (B → P) → MatchBool b A B → P
 either true A B P f g h = f h
 either false A B P f g h = g h
 
-by_option : {A : Type 0} (p : Option A) (N : Type 0) (S : A → Type 0) (P : Type 0) → (N → P) → ((x : A) → S x → P) → C.MatchOption p N S → P
+by_option : {A : Type 0} (p : Option A) (N : Type 0) (S : A → Type 0) (P : Type 0) → (N → P) → ((x : A) → S x → P) → MatchOption p N S → P
 by_option None N S P f g h = f h
 by_option (Some x) N S P f g h = g x h
 
@@ -144,41 +152,41 @@ module _ (F : Fetching) (old : LoadingWorld) (reply : Reply) (new : LoadingWorld
   of_outcome : (P : Reply → Type 0) (x : Reply × LoadingWorld) → (reply, new) ≡ x → P x.0 → P reply
   of_outcome P x e h = subst P (sym (ap (λ p. p.0) e)) h
 
-  none_word : K.AnswersNone old reply new → IsOrFailure IsWord reply
+  none_word : AnswersNone old reply new → IsOrFailure IsWord reply
   none_word h = rw h.0 tt
 
-  outcome_word : (fault : Option FetchFault) (handle : ℕ) (next : LoadingWorld) → IsOrFailure IsWord (K.resource_outcome fault handle next old).0
+  outcome_word : (fault : Option FetchFault) (handle : ℕ) (next : LoadingWorld) → IsOrFailure IsWord (resource_outcome fault handle next old).0
   outcome_word None handle next = tt
   outcome_word (Some fetch.NoRoom) handle next = tt
   outcome_word (Some fault) handle next = tt
 
-  load_word : (handle place : ℕ) → K.LoadsResource F old handle place reply new → IsOrFailure IsWord reply
+  load_word : (handle place : ℕ) → LoadsResource F old handle place reply new → IsOrFailure IsWord reply
   load_word handle place =
-      by_option (K.resource_at old handle place) _ _ _ none_word (λ r. either (K.is_too_long r) _ _ _ none_word (by_option (K.load_of old handle place) _ _ _ (fresh r)
-      (λ x e. of_outcome (IsOrFailure IsWord) _ e (if_both (IsOrFailure IsWord) (C.nat_lt x.1.loads MOST_USES) _ _ tt tt))))
+      by_option (resource_at old handle place) _ _ _ none_word (λ r. either (is_too_long r) _ _ _ none_word (by_option (load_of old handle place) _ _ _ (fresh r)
+      (λ x e. of_outcome (IsOrFailure IsWord) _ e (if_both (IsOrFailure IsWord) (nat_lt x.1.loads MOST_USES) _ _ tt tt))))
     where
-      fresh : (r : Resource) → (((slot : ℕ) → IsFreeSlot old.handles slot → ⊥) × K.AnswersNone old reply new) ⊎ K.LoadsNewResource F old handle place r reply new → IsOrFailure IsWord reply
+      fresh : (r : Resource) → (((slot : ℕ) → IsFreeSlot old.handles slot → ⊥) × AnswersNone old reply new) ⊎ LoadsNewResource F old handle place r reply new → IsOrFailure IsWord reply
       fresh r (inl h) = none_word h.1
       fresh r (inr l) = of_outcome (IsOrFailure IsWord) _ l.outcome (outcome_word l.fault _ l.next)
 
-  told_dword : (answer : Answer) → DwordAnswer answer → IsOrFailure IsDword (K.reply_of_call answer)
+  told_dword : (answer : Answer) → DwordAnswer answer → IsOrFailure IsDword (reply_of_call answer)
   told_dword (calls.Answer.Dword n) h = tt
   told_dword answer h = absurd h
 
-  outcome_dword : (fault : Option FetchFault) (handle : ℕ) (next : LoadingWorld) → IsOrFailure IsDword (K.lock_outcome fault handle next).0
+  outcome_dword : (fault : Option FetchFault) (handle : ℕ) (next : LoadingWorld) → IsOrFailure IsDword (lock_outcome fault handle next).0
   outcome_dword None handle next = told_dword (global_lock next.handles handle).0 (lock_dword next.handles handle)
   outcome_dword (Some fetch.NoRoom) handle next = tt
   outcome_dword (Some fault) handle next = tt
 
-  locked_dword : (handle : ℕ) → K.LocksResource F old handle reply new → IsOrFailure IsDword reply
+  locked_dword : (handle : ℕ) → LocksResource F old handle reply new → IsOrFailure IsDword reply
   locked_dword handle =
-      by_option (K.slot_of_resource old handle) _ _ _ (λ h. subst (IsOrFailure IsDword) (sym h.0) tt) (λ x. by_option (C.bytes_at old.handles.heap x.0) _ _ _
+      by_option (slot_of_resource old handle) _ _ _ (λ h. subst (IsOrFailure IsDword) (sym h.0) tt) (λ x. by_option (bytes_at old.handles.heap x.0) _ _ _
       (λ h. of_outcome (IsOrFailure IsDword) _ h.3 (outcome_dword h.0 handle h.1)) (λ b e. of_outcome (IsOrFailure IsDword) _ e (told_dword (global_lock old.handles handle).0 (lock_dword old.handles handle))))
 
 module _ (old new : World) where
   pub fetched_reply : (command : Command) (reply : Reply) → FetchesWord command → KernelStep (Unit {0}) old command reply new → IsOrFailure IsWord reply
-  fetched_reply (OfLoading (OfModules (M.LoadModule file))) reply k step = let h = step.step.0.step in rw h.1 (load_answer h.0)
-  fetched_reply (OfLoading (OfModules (M.LoadLibrary file))) reply k step = let h = step.step.0.step in rw h.1 (load_answer h.0)
+  fetched_reply (OfLoading (OfModules (LoadModule file))) reply k step = let h = step.step.0.step in rw h.1 (load_answer h.0)
+  fetched_reply (OfLoading (OfModules (LoadLibrary file))) reply k step = let h = step.step.0.step in rw h.1 (load_answer h.0)
   fetched_reply (OfLoading (OfResources (LoadResource handle place))) reply k step = load_word (over old new) old.loading reply _ handle place step.step.0.step
   fetched_reply command reply k step = absurd k
 
@@ -195,19 +203,19 @@ fetches made old command status reply before answer new tells makes = (inl (inl 
 
 -- what is true of each answer of an access, and of each fault of a fetch, is true of what is replied
 accessed : (P : Reply → Type 0) (fetches : Fetching) (access : LoadingWorld → FarAnswer × LoadingWorld) (old : LoadingWorld) (selector : ℕ) (reply : Reply) (new : LoadingWorld)
-    → ((w : LoadingWorld) → P (reply_of_far (access w).0)) → ((f : FetchFault) → P (Failed f)) → C.Accesses fetches access old selector reply new → P reply
+    → ((w : LoadingWorld) → P (reply_of_far (access w).0)) → ((f : FetchFault) → P (Failed f)) → Accesses fetches access old selector reply new → P reply
 accessed P fetches access old selector reply new each fails =
-    either (C.needs_fetch (access old).0 old selector) _ _ (P reply) (λ h. fetched h.0 h.1 h.3) (λ h. subst P (sym h.0) (each old))
+    either (needs_fetch (access old).0 old selector) _ _ (P reply) (λ h. fetched h.0 h.1 h.3) (λ h. subst P (sym h.0) (each old))
   where
-    fetched : (fault : Option FetchFault) (next : LoadingWorld) → C.MatchOption fault (gives (access next) reply new) (λ f. (reply ≡ Failed f) × (new ≡ next)) → P reply
+    fetched : (fault : Option FetchFault) (next : LoadingWorld) → MatchOption fault (gives (access next) reply new) (λ f. (reply ≡ Failed f) × (new ≡ next)) → P reply
     fetched None next h = subst P (sym h.0) (each next)
     fetched (Some f) next h = subst P (sym h.0) (fails f)
 
 -- a write is done, or has a fault
 write_done : (old : Handles) (selector offset : ℕ) (slice : List ℕ) → IsDoneOrFault (reply_of_far (far.far_write old selector offset slice).0)
-write_done old selector offset slice = if_both (λ a. IsDoneOrFault (reply_of_far a)) (C.refuses_write old selector) _ _ tt (turn _ (far_fault old selector offset (C.length slice)))
+write_done old selector offset slice = if_both (λ a. IsDoneOrFault (reply_of_far a)) (refuses_write old selector) _ _ tt (turn _ (far_fault old selector offset (length slice)))
   where
-    turn : (done : Handles) (p : Option C.FarFault) → IsDoneOrFault (reply_of_far (elim p as (λ _. FarAnswer × Handles) [ Some fault ↦ (FarAnswer.Fault fault, old) | None ↦ (FarAnswer.Done, done) ]).0)
+    turn : (done : Handles) (p : Option FarFault) → IsDoneOrFault (reply_of_far (elim p as (λ _. FarAnswer × Handles) [ Some fault ↦ (FarAnswer.Fault fault, old) | None ↦ (FarAnswer.Done, done) ]).0)
     turn done None = tt
     turn done (Some fault) = tt
 
@@ -215,25 +223,25 @@ write_done old selector offset slice = if_both (λ a. IsDoneOrFault (reply_of_fa
 read_bytes : (old : Handles) (selector offset n : ℕ) → IsBytes n (reply_of_far (far.far_read old selector offset n).0)
 read_bytes old selector offset n = turn (far_fault old selector offset n) refl
   where
-    turn : (p : Option C.FarFault) → far_fault old selector offset n ≡ p → IsBytes n (reply_of_far (elim p as (λ _. FarAnswer × Handles) [
+    turn : (p : Option FarFault) → far_fault old selector offset n ≡ p → IsBytes n (reply_of_far (elim p as (λ _. FarAnswer × Handles) [
       | Some fault ↦ (FarAnswer.Fault fault, old)
-      | None ↦ (FarAnswer.Bytes (part (far.far_bytes old selector) (far.far_at old selector offset) n), record old { heap = C.after_touch old.heap (C.far_slot old selector) })
+      | None ↦ (FarAnswer.Bytes (part (far.far_bytes old selector) (far.far_at old selector offset) n), record old { heap = after_touch old.heap (far_slot old selector) })
     ]).0)
     turn (Some fault) e = tt
     turn None e =
-        let r : C.Reached old (C.far_slot old selector) (far.far_at old selector offset + n) = C.reached old selector offset n e in
-        ap (λ b. C.length (part (C.unwrap_or b []) (far.far_at old selector offset) n)) r.here ∙ C.length-part r.bytes (far.far_at old selector offset) n r.fits
+        let r : Reached old (far_slot old selector) (far.far_at old selector offset + n) = reached old selector offset n e in
+        ap (λ b. length (part (unwrap_or b []) (far.far_at old selector offset) n)) r.here ∙ length-part r.bytes (far.far_at old selector offset) n r.fits
 
 module _ (old new : World) where
-  local_done : (command : C.LocalCommand) (reply : Reply) → C.IsWrite (OfLocals command) → C.LocalStep old command reply new → IsDoneOrFault reply
+  local_done : (command : LocalCommand) (reply : Reply) → IsWrite (OfLocals command) → LocalStep old command reply new → IsDoneOrFault reply
   local_done (DS selector) Done k h = tt
   local_done (DS selector) (Word n) k h = absurd h
   local_done (DS selector) reply k h = absurd h
   local_done command reply k h = absurd k
 
-  pub write_reply : (command : Command) (reply : Reply) → C.IsWrite command → KernelStep (Unit {0}) old command reply new → IsDoneOrFault reply
+  pub write_reply : (command : Command) (reply : Reply) → IsWrite command → KernelStep (Unit {0}) old command reply new → IsDoneOrFault reply
   write_reply (OfLoading (OfFar (Write pointer bytes))) reply k step = accessed IsDoneOrFault (over old new) _ _ _ _ _ (λ w. write_done w.handles (selector_in pointer) (offset_in pointer) bytes) (λ f. tt) step.step.0.step
-  write_reply (OfLoading (OfFar (Fill pointer count byte))) reply k step = accessed IsDoneOrFault (over old new) _ _ _ _ _ (λ w. write_done w.handles (selector_in pointer) (offset_in pointer) (C.repeated count byte)) (λ f. tt) step.step.0.step
+  write_reply (OfLoading (OfFar (Fill pointer count byte))) reply k step = accessed IsDoneOrFault (over old new) _ _ _ _ _ (λ w. write_done w.handles (selector_in pointer) (offset_in pointer) (repeated count byte)) (λ f. tt) step.step.0.step
   write_reply (OfLocals command) reply k step = local_done command reply k step.step
   write_reply command reply k step = absurd k
 
