@@ -19,9 +19,9 @@ pub AppendsFront_rest : {a b c xs ys : _} (n : _) → Appends a b (take n xs) �
 AppendsFront_rest {a} {c} {xs} n p is q = record {
   front = take n xs ++ q.front;
   back = q.back;
-  whole = sym (take-append-drop n xs) ∙ ap (λ l. take n xs ++ l) (sym is ∙ q.whole) ∙ sym (append_assoc (take n xs) q.front q.back);
+  whole = sym (C.take-append-drop n xs) ∙ ap (λ l. take n xs ++ l) (sym is ∙ q.whole) ∙ sym (C.append_assoc (take n xs) q.front q.back);
   left = q.left;
-  appends = Appends-trans _ _ _ _ q.front p q.appends;
+  appends = C.Appends-trans _ _ _ _ q.front p q.appends;
 }
 
 -- something before it was written whole, and something is left after it
