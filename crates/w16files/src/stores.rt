@@ -83,11 +83,12 @@ fn put_read<S: Store>(out: &mut String, store: &mut S, name: &[u8], words: &mut 
     }
 }
 
-/// Puts what a store answers to a question behind an answer.
+/// Puts what a store answers to a question, as to a call's first read, behind an answer.
 fn put_answer<S: Store>(out: &mut String, alloc: Global, store: &mut S, question: &str) -> Put {
     let mut words = question.split(' ');
     let asked = word(&mut words);
     let name = name_of(alloc, word(&mut words))?;
+    store.refresh();
     match asked {
         "read" => put_read(out, store, &name, &mut words),
         _ => write!(out, "{:?}", store.len_of(&name)),
