@@ -1,24 +1,33 @@
 -- The leaves of a tree are its list.
 use Rattle.std.proofs.lemmas.List as M
-use Rattle.std.proofs.Common.{ℕ, zero, suc, ◌≡◌, ◌≢◌, ◌<◌, ◌≤◌, ◌+◌, ◌-◌, ◌*◌, ◌/◌, ◌%◌, max, List, [], ◌∷◌, length, take, drop, set, replicate, nat_le, Option, Some, None, arith, refl, sym, ap, ◌∙◌, subst, inl, inr, le-leb, lit<}
+use Rattle.std.proofs.Common.{ℕ, zero, suc, ◌≡◌, ◌≢◌, ◌<◌, ◌≤◌, ◌+◌, ◌-◌, ◌*◌, ◌/◌, ◌%◌, max, min, List, [], ◌∷◌, ◌++◌, length, take, drop, set, replicate, nat_le, Option, Some, None, arith, refl, sym, ap, ◌∙◌, subst, inl, inr, le-leb, lit<}
 use Rattle.std.proofs.lemmas.Bool.{cases_lt, cases_eq, lt-leb, lt-ltb, le-ltb}
 use Rattle.std.proofs.{lemmas.List.get_or-drop, lemmas.List.get_or-set_other, lemmas.List.Sums.position_or_len_is}
 use Rattle.std.specs.{Prelude.slice_index, List.position, List.position_or_len, List.fold}
 use Rattle.w16_tree.specs.Last.{last_below}
-use Rattle.w16_tree.specs.Tree.{row, begin, number, IsMost, IsUpheld, IsTree, IsFirstLeaf, IsLastLeaf}
+use Rattle.w16_tree.specs.Tree.{row, begin, number, list_of, IsMost, IsUpheld, IsTree, IsFirstLeaf, IsLastLeaf}
 use Rattle.w16_tree.proofs.Tree.{below_nodes, reached, begin_rising, begin_end}
-
-abbrev pub list_of : ℕ → ℕ → List ℕ → List ℕ
-list_of len leaves nodes = take len (drop leaves nodes)
-
-pub read : (len leaves k : ℕ) (nodes : List ℕ) → k < len → slice_index (list_of len leaves nodes) k ≡ slice_index nodes (leaves + k)
-read len leaves k nodes lt = M.get_or-take len (drop leaves nodes) k 0 lt ∙ get_or-drop leaves nodes k 0
 
 pub zero_read : (n k : ℕ) → slice_index (replicate n 0) k ≡ 0
 zero_read n k = elim (cases_lt k n) [
   | inl lt ↦ M.get_or-replicate n k 0 0 lt
   | inr le ↦ M.get_or_past (replicate n 0) k 0 (let zs : List ℕ = replicate n 0 in let e : length zs ≡ n = M.length-replicate n 0 in omega arith)
 ]
+
+-- zeros at the end read as what isn't there
+pub padded : (xs : List ℕ) (n k : ℕ) → slice_index (xs ++ replicate n 0) k ≡ slice_index xs k
+padded [] n k = zero_read n k
+padded (x ∷ xs) n zero = refl
+padded (x ∷ xs) n (suc k) = padded xs n k
+
+pub read : (len leaves k : ℕ) (nodes : List ℕ) → k < len → slice_index (list_of len leaves nodes) k ≡ slice_index nodes (leaves + k)
+read len leaves k nodes lt = M.get_or-take len (drop leaves nodes ++ replicate len 0) k 0 lt ∙ padded (drop leaves nodes) len k ∙ get_or-drop leaves nodes k 0
+
+pub list_zeros : (len leaves n : ℕ) → list_of len leaves (replicate n 0) ≡ replicate len 0
+list_zeros len leaves n =
+    ap (λ xs. take len (xs ++ replicate len 0)) (M.drop-replicate leaves n 0)
+    ∙ ap (take len) (M.replicate-append-replicate (n - leaves) len 0)
+    ∙ M.take-replicate len (n - leaves + len) 0 (omega arith)
 
 -- a place whose number is not 0 is in the list
 pub some_inside : (nodes : List ℕ) (p : ℕ) → 0 < slice_index nodes p → p < length nodes
@@ -28,7 +37,7 @@ some_inside nodes p some = elim (cases_lt p (length nodes)) [ inl lt ↦ lt | in
 pub row_inside : (nodes : List ℕ) (at p : ℕ) → length nodes % 16 ≡ 0 → at % 16 ≡ 0 → at ≤ p → p < at + 16 → 0 < slice_index nodes p → at + 16 ≤ length nodes
 row_inside nodes at p rows even from to some = let lt = some_inside nodes p some in omega arith
 
-pub IsTree-zeros : (height len leaves n : ℕ) → begin height 0 ≡ leaves → len < 15 * leaves + 16 → n % 16 ≡ 0 → leaves + len < n → IsTree height len leaves (replicate n 0)
+pub IsTree-zeros : (height len leaves n : ℕ) → begin height 0 ≡ leaves → len < 15 * leaves + 16 → n % 16 ≡ 0 → leaves + 16 ≤ n → IsTree height len leaves (replicate n 0)
 IsTree-zeros height len leaves n wide room rows long = let zs : List ℕ = replicate n 0 in let e : length zs ≡ n = M.length-replicate n 0 in record {
   wide = wide;
   room = room;
@@ -41,9 +50,15 @@ IsTree-zeros height len leaves n wide room rows long = let zs : List ℕ = repli
   };
 }
 
+pub IsMost-along : (f g : ℕ → ℕ) (at m : ℕ) → ((p : ℕ) → at ≤ p → p < at + 16 → f p ≡ g p) → IsMost f at m → IsMost g at m
+IsMost-along f g at m same most = record {
+  bound = λ p from to. let b = most.bound p from to in let e = same p from to in omega arith;
+  met = (most.met.0, most.met.1, most.met.2, sym (same most.met.0 most.met.1 most.met.2) ∙ most.met.3);
+}
+
 module _ (height len leaves : ℕ) (nodes : List ℕ) (tree : IsTree height len leaves nodes) where
   pub list_length : length (list_of len leaves nodes) ≡ len
-  list_length = let a = M.length-take len (drop leaves nodes) in let b = M.length-drop leaves nodes in let long = tree.long in omega arith
+  list_length = let zs : List ℕ = replicate len 0 in let e : length zs ≡ len = M.length-replicate len 0 in let a = M.length-take len (drop leaves nodes ++ zs) in let b = M.length-append (drop leaves nodes) zs in omega arith
 
   -- a leaf above 0 is in the list
   pub in_list : (k : ℕ) → 0 < slice_index nodes (leaves + k) → k < len
@@ -88,6 +103,28 @@ module _ (height len leaves : ℕ) (nodes : List ℕ) (tree : IsTree height len 
   last_is i (Some k) le is = last_some i k le (let lt = is.0 in omega arith) is.1 is.2
   last_is i None le is = last_none i le is
 
+  -- what is last before the end of the nodes is last before each later place
+  pub last_there : (to : ℕ) (r : Option ℕ) → IsLastLeaf leaves (number nodes) (min (length nodes) to) r → IsLastLeaf leaves (number nodes) to r
+  last_there to (Some k) is = let lt = is.0 in (omega arith, is.1, λ p from less. elim (cases_lt p (min (length nodes) to)) [ inl inside ↦ is.2 p from inside | inr past ↦ M.get_or_past nodes p 0 (omega arith) ])
+  last_there to None is = λ p from less. elim (cases_lt p (min (length nodes) to)) [ inl inside ↦ is p from inside | inr past ↦ M.get_or_past nodes p 0 (omega arith) ]
+
+  -- further zeros of the nodes are as those that aren't there
+  IsTree-lengthened : (n : ℕ) → (length nodes + n) % 16 ≡ 0 → IsTree height len leaves (nodes ++ replicate n 0)
+  IsTree-lengthened n rows = let long = tree.long in let zs : List ℕ = replicate n 0 in let e : length zs ≡ n = M.length-replicate n 0 in let a = M.length-append nodes zs in record {
+    wide = tree.wide;
+    room = tree.room;
+    rows = omega arith;
+    long = omega arith;
+    rest = λ k le. padded nodes n (leaves + k) ∙ tree.rest k le;
+    upheld = λ j lt. subst (λ (m : ℕ). IsMost (number (nodes ++ zs)) (row j) m) (sym (padded nodes n j)) (IsMost-along (number nodes) (number (nodes ++ zs)) (row j) (slice_index nodes j) (λ p from to. sym (padded nodes n p)) (tree.upheld j lt));
+  }
+
+  -- so they reach a leaf
+  pub reaches : (i : ℕ) (new : List ℕ) → new ≡ nodes ++ replicate (i / 16 * 16 + 16 - length nodes) 0 → IsTree height len leaves new × (i < length new)
+  reaches i new is =
+      let n : ℕ = i / 16 * 16 + 16 - length nodes in let zs : List ℕ = replicate n 0 in let e : length zs ≡ n = M.length-replicate n 0 in let a = M.length-append nodes zs in let f = ap length is in let rows = tree.rows in
+      (subst (λ (ns : List ℕ). IsTree height len leaves ns) (sym is) (IsTree-lengthened n (omega arith)), omega arith)
+
   -- a leaf changed, and the nodes above it: the list has the new number
   pub IsTree-set : (k y : ℕ) (new : List ℕ) → k < len → IsUpheld leaves (number new) → drop leaves new ≡ drop leaves (set nodes (leaves + k) y) → length new ≡ length nodes → IsTree height len leaves new
   IsTree-set k y new lt up same long = let rows = tree.rows in let inside = tree.long in record {
@@ -105,12 +142,6 @@ module _ (height len leaves : ℕ) (nodes : List ℕ) (tree : IsTree height len 
 put_back : (nodes : List ℕ) (i y : ℕ) → nodes ≡ set (set nodes i y) i (slice_index nodes i)
 put_back nodes i y = sym (M.set-set nodes i y (slice_index nodes i) ∙ M.set-get_or nodes i 0)
 
-pub IsMost-along : (f g : ℕ → ℕ) (at m : ℕ) → ((p : ℕ) → at ≤ p → p < at + 16 → f p ≡ g p) → IsMost f at m → IsMost g at m
-IsMost-along f g at m same most = record {
-  bound = λ p from to. let b = most.bound p from to in let e = same p from to in omega arith;
-  met = (most.met.0, most.met.1, most.met.2, sym (same most.met.0 most.met.1 most.met.2) ∙ most.met.3);
-}
-
 -- where a leaf changed, the nodes are upheld with the number that was there
 pub upheld_but : (leaves i y : ℕ) (nodes : List ℕ) → IsUpheld leaves (number nodes) → leaves ≤ i
     → (j : ℕ) → j < leaves → IsMost (number (set (set nodes i y) i (slice_index nodes i))) (row j) (slice_index (set nodes i y) j)
@@ -118,14 +149,33 @@ upheld_but leaves i y nodes up from j less =
     subst (λ (m : ℕ). IsMost (number (set (set nodes i y) i (slice_index nodes i))) (row j) m) (sym (get_or-set_other nodes i j y 0 (omega arith)))
     (subst (λ (ns : List ℕ). IsMost (number ns) (row j) (slice_index nodes j)) (put_back nodes i y) (up j less))
 
+-- further zeros of the nodes don't change the list
+pub list_lengthened : (len leaves n : ℕ) (nodes : List ℕ) → leaves ≤ length nodes → list_of len leaves (nodes ++ replicate n 0) ≡ list_of len leaves nodes
+list_lengthened len leaves n nodes le =
+    let d : List ℕ = drop leaves nodes in let ls : List ℕ = replicate len 0 in let ns : List ℕ = replicate n 0 in
+    let e : length ls ≡ len = M.length-replicate len 0 in let a = M.length-append d ls in
+    let turned : ns ++ ls ≡ ls ++ ns = M.replicate-append-replicate n len 0 ∙ ap (λ (k : ℕ). replicate k 0) (omega arith) ∙ sym (M.replicate-append-replicate len n 0) in
+    ap (λ (xs : List ℕ). take len (xs ++ ls)) (M.drop-append-le leaves nodes ns le)
+    ∙ ap (take len) (M.append_assoc d ns ls ∙ ap (λ (xs : List ℕ). d ++ xs) turned ∙ sym (M.append_assoc d ls ns))
+    ∙ M.take-append-le len (d ++ ls) ns (omega arith)
+
 take_set : (len k y : ℕ) (xs : List ℕ) → take len (set xs k y) ≡ set (take len xs) k y
 take_set zero k y xs = refl
 take_set (suc len) k y [] = refl
 take_set (suc len) zero y (x ∷ xs) = refl
 take_set (suc len) (suc k) y (x ∷ xs) = ap (λ ys. x ∷ ys) (take_set len k y xs)
 
-pub list_set : (len leaves k y : ℕ) (nodes new : List ℕ) → drop leaves new ≡ drop leaves (set nodes (leaves + k) y) → list_of len leaves new ≡ set (list_of len leaves nodes) k y
-list_set len leaves k y nodes new same = ap (take len) (same ∙ M.drop-set-add leaves nodes k y) ∙ take_set len k y (drop leaves nodes)
+set_append : (k y : ℕ) (xs ys : List ℕ) → k < length xs → set (xs ++ ys) k y ≡ set xs k y ++ ys
+set_append k y [] ys lt = absurd (omega arith)
+set_append zero y (x ∷ xs) ys lt = refl
+set_append (suc k) y (x ∷ xs) ys lt = ap (λ zs. x ∷ zs) (set_append k y xs ys (omega arith))
+
+pub list_set : (len leaves k y : ℕ) (nodes new : List ℕ) → leaves + k < length nodes → drop leaves new ≡ drop leaves (set nodes (leaves + k) y) → list_of len leaves new ≡ set (list_of len leaves nodes) k y
+list_set len leaves k y nodes new lt same =
+    let d = M.length-drop leaves nodes in
+    ap (λ xs. take len (xs ++ replicate len 0)) (same ∙ M.drop-set-add leaves nodes k y)
+    ∙ ap (take len) (sym (set_append k y (drop leaves nodes) (replicate len 0) (omega arith)))
+    ∙ take_set len k y (drop leaves nodes ++ replicate len 0)
 
 -- The maximum by a fold: a bound that is reached.
 fold_most : (xs : List ℕ) (a m : ℕ) → a ≤ m → ((k : ℕ) → k < length xs → slice_index xs k ≤ m) → fold max a xs ≤ m

@@ -62,7 +62,7 @@ module _ (leaves : ℕ) (nodes : List ℕ) (up : IsUpheld leaves (number nodes))
   whole (suc g) = let e = M.begin_row g 0 in omega arith
 
   module _ (end height : ℕ) (wide : begin height 0 ≡ leaves) (to : end < 16 * leaves + 16) where
-    pub side : (h i : ℕ) → IsBlank (number nodes) end height h i → (r : ℕ) → r ≤ i % 16 → 0 < r → 0 < slice_index nodes (i / 16 * 16 + r - 1) → ((p : ℕ) → i / 16 * 16 + r ≤ p → p < i / 16 * 16 + i % 16 → slice_index nodes p ≡ 0) → HasLast leaves (number nodes) end h (i / 16 * 16 + r - 1)
+    pub side : (h i : ℕ) → IsBlank (number nodes) end height h i → (r : ℕ) → r ≤ i % 16 → 0 < r → 0 < slice_index nodes (i / 16 * 16 + r - 1) → ((p : ℕ) → i / 16 * 16 + r ≤ p → p < i → slice_index nodes p ≡ 0) → HasLast leaves (number nodes) end h (i / 16 * 16 + r - 1)
     side h i blank r inside some found behind =
         let g = height - h in
         let level = blank.level in
@@ -72,7 +72,7 @@ module _ (leaves : ℕ) (nodes : List ℕ) (up : IsUpheld leaves (number nodes))
         let first : begin h (begin g 0) ≡ leaves = M.begin_sum h g 0 ∙ ap (λ (k : ℕ). begin k 0) e ∙ wide in
         M.HasLast-beside leaves (number nodes) up end height wide (omega arith) h i (i / 16 * 16) (i / 16 * 16 + r - 1) blank (omega arith) (omega arith) (omega arith) (λ p from less. behind p (omega arith) (omega arith)) found
 
-    pub blank_step : (h i : ℕ) → IsBlank (number nodes) end height h i → (r : ℕ) → r ≡ 0 → 16 ≤ i → ((p : ℕ) → i / 16 * 16 + r ≤ p → p < i / 16 * 16 + i % 16 → slice_index nodes p ≡ 0) → IsBlank (number nodes) end height (h + 1) (i / 16 - 1)
+    pub blank_step : (h i : ℕ) → IsBlank (number nodes) end height h i → (r : ℕ) → r ≡ 0 → 16 ≤ i → ((p : ℕ) → i / 16 * 16 + r ≤ p → p < i → slice_index nodes p ≡ 0) → IsBlank (number nodes) end height (h + 1) (i / 16 - 1)
     blank_step h i blank r none from behind =
         let e : suc h ≡ h + 1 = omega arith in
         subst (λ (k : ℕ). IsBlank (number nodes) end height k (i / 16 - 1)) e

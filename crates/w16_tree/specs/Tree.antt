@@ -1,5 +1,5 @@
 -- How the numbers are kept: a tree of rows in a list. Row 0 is the top, the row below node i begins at place `row i`, and the leaves are the last level.
-use Rattle.std.specs.Prelude.{ℕ, zero, suc, ◌<◌, ◌≤◌, ◌≡◌, ◌+◌, ◌*◌, ◌%◌, List, Option, Some, None, length, slice_index}
+use Rattle.std.specs.Prelude.{ℕ, zero, suc, ◌<◌, ◌≤◌, ◌≡◌, ◌+◌, ◌++◌, ◌*◌, ◌/◌, ◌%◌, List, Option, Some, None, length, take, drop, replicate, slice_index}
 
 -- where the row below a node begins
 abbrev pub row : ℕ → ℕ
@@ -23,12 +23,20 @@ pub record IsMost (f : ℕ → ℕ) (at m : ℕ) : Type 0 where
 abbrev pub IsUpheld : ℕ → (ℕ → ℕ) → Type 0
 IsUpheld leaves f = (j : ℕ) → j < leaves → IsMost f (row j) (f j)
 
--- a tree of a height in whole rows, whose first leaves are the list and whose other leaves, of which there is one at least, are 0
+-- the first leaves are the list; those that the nodes don't have are 0
+abbrev pub list_of : ℕ → ℕ → List ℕ → List ℕ
+list_of len leaves nodes = take len (drop leaves nodes ++ replicate len 0)
+
+-- how many nodes there are in whole rows, if all these leaves, and one more, are there
+abbrev pub nodes_for : ℕ → ℕ → ℕ
+nodes_for leaves len = (leaves + len) / 16 * 16 + 16
+
+-- a tree of a height in whole rows, of which each inner node and a row of leaves are there; leaves that aren't in the list are 0
 pub record IsTree (height len leaves : ℕ) (nodes : List ℕ) : Type 0 where
   pub wide : begin height 0 ≡ leaves
   pub room : len < 15 * leaves + 16
   pub rows : length nodes % 16 ≡ 0
-  pub long : leaves + len < length nodes
+  pub long : leaves + 16 ≤ length nodes
   pub rest : (k : ℕ) → len ≤ k → slice_index nodes (leaves + k) ≡ 0
   pub upheld : IsUpheld leaves (number nodes)
 

@@ -2,14 +2,15 @@
 //!
 //! It has a fixed length. To change a number, to find the first of at least a bound, or the last
 //! before a place that isn't 0, takes as many steps as the list's length has hexadecimal digits. No
-//! call but the constructor takes memory.
+//! call but the constructor takes memory, and zeros at the end cost the host none until a number
+//! there is changed.
 //!
 //! - [`Maxima`] is the list. It lies in the leaves of a tree whose nodes have sixteen children, and
 //!   are their maxima.
 //! - `rows` asks one row of sixteen numbers, and `paths` has the ways up and down the tree.
 #![tactic(auto)]
 
-ghost use Rattle.std.specs.Prelude.{◌≡◌, ◌+◌, ◌<◌, ◌≤◌, ◌^◌, List, ℕ, length, take, drop, set, replicate, slice_index, max, nat_le, IfOk};
+ghost use Rattle.std.specs.Prelude.{◌≡◌, ◌+◌, ◌-◌, ◌++◌, ◌<◌, ◌≤◌, ◌^◌, List, ℕ, length, set, replicate, slice_index, vec_capacity, max, nat_le, IfOk};
 ghost use Rattle.std.specs.List.{position, fold};
 
 mod paths;
@@ -23,6 +24,8 @@ use std::marker::Model;
 /// A list of numbers that knows its maximum. A contract sees the list alone.
 #[derive(Drop)]
 pub struct Maxima<A: Allocator = Global> {
+    /// The inner nodes, and after them the leaves as far as one was changed: further ones are 0. It
+    /// has the capacity for all.
     nodes: Vec<u32, A>,
     leaves: usize,
     height: usize,
@@ -30,14 +33,28 @@ pub struct Maxima<A: Allocator = Global> {
 }
 
 impl<A: Allocator> Model for Maxima<A> {
-    ghost use Rattle.std.specs.Prelude.{◌≤◌, ◌^◌, List, ℕ, take, drop};
-    ghost use Rattle.w16_tree.specs.Tree.{IsTree};
+    ghost use Rattle.std.specs.Prelude.{◌≤◌, ◌^◌, List, ℕ, vec_capacity};
+    ghost use Rattle.w16_tree.specs.Tree.{IsTree, list_of, nodes_for};
 
     ghost Value = { List ℕ };
 
-    ghost view = { λ s. take s.len (drop s.leaves s.nodes.items) };
+    ghost view = { λ s. list_of s.len s.leaves s.nodes.items };
 
-    ghost invariant = { λ s. (s.leaves ≤ 2 ^ 40) × IsTree s.height s.len s.leaves s.nodes.items };
+    ghost invariant = { λ s. (s.leaves ≤ 2 ^ 40) × IsTree s.height s.len s.leaves s.nodes.items × (nodes_for s.leaves s.len ≤ vec_capacity s.nodes) };
+}
+
+/// Gives a list at least so many numbers, for which it has the capacity. The new ones are 0. No
+/// memory is taken.
+fn lengthen<A: Allocator>(nodes: &mut Vec<u32, A>, count: usize)
+    requires { count ≤ vec_capacity nodes.old }
+    ensures items { nodes.new.items ≡ nodes.old.items ++ replicate (count - length nodes.old.items) 0 }
+    ensures capacity { vec_capacity nodes.old ≤ vec_capacity nodes.new }
+{
+    if nodes.len() < count {
+        let Ok(()) = nodes.resize(count, 0) else {
+            unreachable!()
+        };
+    }
 }
 
 impl<A: Allocator> Maxima<A> {
@@ -55,7 +72,8 @@ impl<A: Allocator> Maxima<A> {
             leaves = 16 * (leaves + 1);
             height += 1;
         }
-        let nodes = vec![in alloc; 0u32; (leaves + len) / 16 * 16 + 16]?;
+        let mut nodes = Vec::with_capacity(alloc, (leaves + len) / 16 * 16 + 16)?;
+        lengthen(&mut nodes, leaves + 16);
         Ok(Maxima {
             nodes,
             leaves,
@@ -76,7 +94,7 @@ impl<A: Allocator> Maxima<A> {
         requires { index < length self.now }
         ensures { result ≡ slice_index self.now index }
     {
-        self.nodes[self.leaves + index]
+        self.nodes.get(self.leaves + index).copied().unwrap_or(0)
     }
 
     /// Puts a number at an index. It goes up the tree no further than a maximum changes.
@@ -85,6 +103,7 @@ impl<A: Allocator> Maxima<A> {
         ensures { self.new ≡ set self.old index value }
     {
         let leaf = self.leaves + index;
+        lengthen(&mut self.nodes, leaf / 16 * 16 + 16);
         let was = self.nodes[leaf];
         self.nodes[leaf] = value;
         carry_up(&mut self.nodes, self.leaves, leaf, was);
@@ -110,6 +129,7 @@ impl<A: Allocator> Maxima<A> {
         requires { index ≤ length self.now }
         ensures { result ≡ last_below self.now index }
     {
-        last_leaf_before(&self.nodes, self.height, self.leaves, self.leaves + index)
+        let end = self.nodes.len().min(self.leaves + index);
+        last_leaf_before(&self.nodes, self.height, self.leaves, end)
     }
 }

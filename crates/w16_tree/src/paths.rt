@@ -85,6 +85,21 @@ fn last_leaf(nodes: &[u32], height: usize, leaves: usize, node: usize) -> usize
     i - leaves
 }
 
+/// Where the last number above 0 before a place ends in the place's row: 0, where there is none. The
+/// place may be where the list ends.
+fn last_beside(nodes: &[u32], place: usize) -> usize
+    requires rows { length nodes.now % 16 ≡ 0 }
+    requires inside { place ≤ length nodes.now }
+    ensures inside { result ≤ place % 16 }
+    ensures found { 0 < result → 0 < slice_index nodes.now (place / 16 * 16 + result - 1) }
+    ensures behind { (p : ℕ) → place / 16 * 16 + result ≤ p → p < place → slice_index nodes.now p ≡ 0 }
+{
+    if place % 16 == 0 {
+        return 0;
+    }
+    last_in_row(nodes, place / 16 * 16, place % 16)
+}
+
 /// The place among the leaves of the last number above 0 before a leaf.
 pub(crate) fn last_leaf_before(
     nodes: &[u32],
@@ -94,7 +109,7 @@ pub(crate) fn last_leaf_before(
 ) -> Option<usize>
     requires small { leaves ≤ 2 ^ 40 }
     requires rows { length nodes.now % 16 ≡ 0 }
-    requires long { end < length nodes.now }
+    requires long { end ≤ length nodes.now }
     requires wide { begin height 0 ≡ leaves }
     requires upheld { IsUpheld leaves (number nodes.now) }
     requires from { leaves ≤ end }
@@ -104,10 +119,9 @@ pub(crate) fn last_leaf_before(
     let mut i = end;
     let mut level = 0;
     'up: loop {
-        let at = i / 16 * 16;
-        let last = last_in_row(nodes, at, i % 16);
+        let last = last_beside(nodes, i);
         if last > 0 {
-            return Some(last_leaf(nodes, level, leaves, at + last - 1));
+            return Some(last_leaf(nodes, level, leaves, i / 16 * 16 + last - 1));
         }
         if i < 16 {
             return None;
