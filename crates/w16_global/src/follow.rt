@@ -61,6 +61,9 @@ fn follow_slid<A: Allocator + Copy>(
     ensures told { (slot : ℕ) → descriptor_at selectors.new slot ≡ told objects.now.heap attributes.now (begins_in objects.now.heap slid.from slid.to) selectors.old slot }
     ensures many { length selectors.new ≡ length selectors.old }
 {
+    if slid.to <= slid.from {
+        return;
+    }
     let mut from = slid.from;
     'objects: while let Some(block) = next_within(objects, from, slid.to) {
         place_run(selectors, attributes, block.id as u16, block.at, block.size);
