@@ -202,9 +202,8 @@ fn pair_of(
     }
 }
 
-/// From how far on a slide goes in pieces: a copy of bytes that don't overlap is several times as fast as one of bytes that do, but each
-/// costs a call.
-const FAR: usize = 128;
+/// The most bytes that are copied at once.
+const PIECE: usize = 4096;
 
 /// Copies the `size` bytes from `from` on to the place `to`, also where the two ranges overlap.
 fn slide_within(bytes: &mut [u8], from: usize, to: usize, size: usize)
@@ -212,16 +211,14 @@ fn slide_within(bytes: &mut [u8], from: usize, to: usize, size: usize)
     requires target { to + size ≤ length bytes.old }
     ensures { bytes.new ≡ put_part bytes.old to (part bytes.old from size) }
 {
-    if to < from && from - to >= FAR {
+    if to < from {
         slide_down(bytes, from, to, size);
-    } else if from < to && to - from >= FAR {
-        slide_up(bytes, from, to, size);
     } else {
-        bytes.copy_within(from..from + size, to);
+        slide_up(bytes, from, to, size);
     }
 }
 
-/// The same downwards, in pieces as long as the way, so that no piece overlaps its new place.
+/// The same downwards, from the first piece on.
 fn slide_down(bytes: &mut [u8], from: usize, to: usize, size: usize)
     requires source { from + size ≤ length bytes.old }
     requires down { to < from }
@@ -229,9 +226,8 @@ fn slide_down(bytes: &mut [u8], from: usize, to: usize, size: usize)
 {
     let mut done = 0;
     while done < size {
-        let piece = (from - to).min(size - done);
-        let (front, back) = bytes.split_at_mut(from + done);
-        front[to + done..to + done + piece].copy_from_slice(&back[..piece]);
+        let piece = PIECE.min(size - done);
+        slide_piece(bytes, from + done, to + done, piece);
         done += piece;
     }
 }
@@ -239,14 +235,25 @@ fn slide_down(bytes: &mut [u8], from: usize, to: usize, size: usize)
 /// The same upwards, from the last piece on.
 fn slide_up(bytes: &mut [u8], from: usize, to: usize, size: usize)
     requires target { to + size ≤ length bytes.old }
-    requires up { from < to }
+    requires up { from ≤ to }
     ensures { bytes.new ≡ put_part bytes.old to (part bytes.old from size) }
 {
     let mut left = size;
     while left > 0 {
-        let piece = (to - from).min(left);
+        let piece = PIECE.min(left);
         left -= piece;
-        let (front, back) = bytes.split_at_mut(to + left);
-        back[..piece].copy_from_slice(&front[from + left..from + left + piece]);
+        slide_piece(bytes, from + left, to + left, piece);
     }
+}
+
+/// The same for one piece, by two copies of bytes that don't overlap. The compiler joins them into one that may, and drops the buffer.
+fn slide_piece(bytes: &mut [u8], from: usize, to: usize, size: usize)
+    requires source { from + size ≤ length bytes.old }
+    requires target { to + size ≤ length bytes.old }
+    requires short { size ≤ 4096 }
+    ensures { bytes.new ≡ put_part bytes.old to (part bytes.old from size) }
+{
+    let mut buffer = [0; PIECE];
+    buffer[..size].copy_from_slice(&bytes[from..from + size]);
+    bytes[to..to + size].copy_from_slice(&buffer[..size]);
 }
