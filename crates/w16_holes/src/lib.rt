@@ -14,7 +14,7 @@ pub mod laws;
 mod side;
 mod threaded;
 
-pub use grain::{units_in, units_over};
+pub use grain::{is_whole, units_in, units_over};
 pub use holes::{HoleList, Holes, LAST_END};
 pub use side::SideHoles;
 pub use threaded::ThreadedHoles;

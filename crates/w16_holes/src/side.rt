@@ -38,10 +38,10 @@ pub(crate) struct Below {
     pub(crate) begin: Option<u32>,
 }
 
-/// The unit where the last hole begins that begins in a unit or below it, by the one below it.
+/// The unit where the last hole begins that begins in a unit or below it, by the one below it, which only counts where none begins there.
 fn last_to<A: Allocator>(lengths: &Maxima<A>, unit: usize, below: Option<usize>) -> Option<usize>
     requires inside { unit < length lengths.now }
-    requires below { below ≡ last_below lengths.now unit }
+    requires below { slice_index lengths.now unit ≡ 0 → below ≡ last_below lengths.now unit }
     ensures { result ≡ last_below lengths.now (unit + 1) }
 {
     if lengths.get(unit) > 0 {
@@ -145,9 +145,9 @@ impl<A: Allocator> SideHoles<A> {
         place - self.lo - bytes_before(begin, self.grain)
     }
 
-    /// Takes `n` bytes from a place on, which are a part of one hole. The last hole below the place is known.
+    /// Takes `n` bytes from a place on, which are a part of one hole. The last hole below the place is known, or a hole begins there.
     pub(crate) fn take_out(&mut self, place: u32, n: u32, below: Option<usize>)
-        requires below { option_map (λ k. self.old.range.lo + self.old.range.grain * k) below ≡ last_before place self.old.holes }
+        requires below { length_at place self.old.holes ≡ 0 → option_map (λ k. self.old.range.lo + self.old.range.grain * k) below ≡ last_before place self.old.holes }
         requires part { IsPart self.old.range place n }
         requires free { IsFree place (place + n) self.old.holes }
         ensures holes { self.new.holes ≡ taken place (place + n) self.old.holes }
@@ -250,9 +250,13 @@ impl<S: Space, A: Allocator + Copy> Holes<S> for SideHoles<A> {
         self.lengths.max()
     }
 
-    fn take(&mut self, _space: &mut S, place: u32, n: u32) {
-        let below = self.below(place);
-        self.take_out(place, n, below.unit);
+    fn take(&mut self, space: &mut S, place: u32, n: u32) {
+        if self.at(space, place) > 0 {
+            self.take_out(place, n, None);
+        } else {
+            let below = self.below(place);
+            self.take_out(place, n, below.unit);
+        }
     }
 
     fn put(&mut self, _space: &mut S, place: u32, n: u32) {

@@ -6,4 +6,4 @@ pub returns-then-get-gt0 : goal.returns-then-get-gt0
 returns-then-get-gt0 g c = let is = c.get.ensures in let has = c.if-get-gt0.true in last_here c.args.lengths.now c.args.unit (omega arith)
 
 pub returns-else-get-gt0 : goal.returns-else-get-gt0
-returns-else-get-gt0 g c = let is = c.get.ensures in let none = c.if-get-gt0.false in c.requires.below ∙ last_lower_down c.args.lengths.now c.args.unit (omega arith)
+returns-else-get-gt0 g c = let is = c.get.ensures in let none = c.if-get-gt0.false in c.requires.below (omega arith) ∙ last_lower_down c.args.lengths.now c.args.unit (omega arith)

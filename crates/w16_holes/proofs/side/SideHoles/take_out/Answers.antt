@@ -3,7 +3,7 @@ use proofs.Common as C
 use proofs.Told as M
 use proofs.Common.{ℕ, ◌≡◌, ◌+◌, ◌*◌, ◌-◌, arith, sym, ap, ◌∙◌, subst, slice_index, Range, Free, spans}
 use proofs.Steps.{two_sets, sets_apart, is_take, AreCells-take}
-use proofs.{Units.multiple_sum, Last.last_cell}
+use proofs.{Units.multiple_sum, Last.last_cell, Look.at_is}
 use Rattle.w16_holes.proofs.side.SideHoles.take_out.Goals as goal
 
 abbrev range : {Z : Type 0} → C.Inside Z → Range
@@ -18,8 +18,9 @@ pub last_to-requires-clause-below : goal.last_to-requires-clause-below
 last_to-requires-clause-below g c =
     let s = c.self.inside in
     let low = ap (λ (f : Free). f.range.lo) c.self.view_is in let from = c.requires.part.from in let is = c.unit_of-unit.ensures in
-    last_cell s.grain s.lo c.unit_of-unit.result c.args.place s.lengths c.args.below c.self.invariant.some (omega arith)
-    (subst (λ (f : Free). C.option_map (λ (k : ℕ). f.range.lo + f.range.grain * k) c.args.below ≡ C.last_before c.args.place f.holes) (sym c.self.view_is) c.requires.below)
+    λ none. last_cell s.grain s.lo c.unit_of-unit.result c.args.place s.lengths c.args.below c.self.invariant.some (omega arith)
+    (subst (λ (f : Free). C.length_at c.args.place f.holes ≡ 0 → C.option_map (λ (k : ℕ). f.range.lo + f.range.grain * k) c.args.below ≡ C.last_before c.args.place f.holes) (sym c.self.view_is) c.requires.below
+    (sym (at_is s.grain c.self.invariant.some s.lengths s.lo c.unit_of-unit.result c.args.place (omega arith)) ∙ none))
 
 pub bytes_before-from-requires-clause-small : goal.bytes_before-from-requires-clause-small
 bytes_before-from-requires-clause-small g c =
