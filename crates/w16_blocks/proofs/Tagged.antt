@@ -4,7 +4,7 @@ use proofs.Common as C
 use Rattle.std.proofs.lemmas.Nat.{mod-mul-add}
 use Rattle.std.specs.Prelude.{◌%◌}
 use proofs.Common.{ℕ, zero, suc, ◌≡◌, ◌≢◌, ◌+◌, ◌-◌, ◌*◌, ◌<◌, ◌≤◌, List, [], ◌∷◌, get_or, Some, arith, refl, sym, ap, ◌∙◌, subst, slice_index, AllByRecursion, Block, block_with, Layout, blocks_in}
-use proofs.Cells.{All-told, told_with, with_cell}
+use proofs.Cells.{All-told, told_with}
 use proofs.Tables.{same_unit}
 
 -- what is read inside a table doesn't depend on what is read outside it
@@ -12,12 +12,6 @@ read_any : (slots : List Block) (i : ℕ) (c d : Block) → i < C.length slots �
 read_any [] i c d lt = absurd (omega arith)
 read_any (s ∷ slots) zero c d lt = refl
 read_any (s ∷ slots) (suc i) c d lt = read_any slots i c d (omega arith)
-
--- the entry of a block's id is the block
-pub entry_is : {cap lo hi g : ℕ} {slots : List Block} {cells : List ℕ} → C.AreTables cap lo hi g slots cells → (id : ℕ) (x : Block) → block_with (blocks_in slots cells) id ≡ Some x → (d : Block) → get_or slots id d ≡ x
-entry_is {cap} {lo} {hi} {g} {slots} {cells} t id x known d =
-    let cell = with_cell lo g slots cells id x t.begun known in
-    read_any slots id d C.no_block (t.begun cell.0 id cell.1).inside ∙ cell.2
 
 module _ {cap lo hi g : ℕ} {slots : List Block} {cells : List ℕ} (t : C.AreTables cap lo hi g slots cells) {place : ℕ} (u : ℕ) (at : place ≡ lo + g * u) where
   pub none_at : slice_index cells u ≡ 0 → AllByRecursion (λ b. b.at ≢ place) (blocks_in slots cells)

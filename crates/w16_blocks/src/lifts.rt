@@ -8,7 +8,7 @@ ghost use Rattle.w16_blocks.specs.Runs.{IsRun, IsBare, slid_with};
 
 use crate::below::block_below;
 use crate::runs::retag;
-use crate::{Block, Blocks, Span};
+use crate::{Block, Blocks, Span, unit_of};
 use w16_holes::{HoleList, Holes};
 use w16_region::Space;
 
@@ -44,8 +44,11 @@ fn retag_run_up(
             ends,
             bounds,
             grain,
-            block,
-            to + (at - run.from),
+            unit_of(at, bounds.from, grain),
+            Block {
+                at: to + (at - run.from),
+                ..block
+            },
         );
     }
 }

@@ -1,5 +1,5 @@
 //! Runs of blocks that stand one behind another, which slide as one.
-ghost use Rattle.std.specs.Prelude.{◌≡◌, ◌≢◌, ◌+◌, ◌-◌, ◌%◌, ◌<◌, ◌≤◌, ◌↔◌, IsTrue, Some, length, map, MatchOption};
+ghost use Rattle.std.specs.Prelude.{◌≡◌, ◌≢◌, ◌+◌, ◌-◌, ◌<◌, ◌≤◌, suc, Some, length, map, slice_index, MatchOption};
 ghost use Rattle.std.specs.List.{AllByRecursion};
 ghost use Rattle.w16_model.specs.Heap.{IsMultiple};
 ghost use Rattle.w16_model.specs.Table.{block_with};
@@ -9,16 +9,8 @@ ghost use Rattle.w16_blocks.specs.Runs.{IsCut, IsRun, IsBare, EndsAt, slid_with}
 
 use crate::ends::note_end;
 use crate::{Block, Blocks, Span, unit_of};
-use w16_holes::{HoleList, Holes, units_in};
+use w16_holes::{HoleList, Holes, is_whole};
 use w16_region::Space;
-
-/// Whether a place is a multiple of the grain, by a shift and no division where [`units_in`] takes one.
-fn is_grained(place: u32, grain: u32) -> bool
-    requires { 0 < grain }
-    ensures { IsTrue result ↔ (place % grain ≡ 0) }
-{
-    units_in(place, grain) * grain == place
-}
 
 /// The block that begins at a place of the range.
 fn block_at(slots: &[Block], begins: &[u32], bounds: Span, grain: u32, place: u32) -> Option<Block>
@@ -37,28 +29,28 @@ fn block_at(slots: &[Block], begins: &[u32], bounds: Span, grain: u32, place: u3
     Some(slots[begin - 1])
 }
 
-/// The table, the cells and the notes of ends, with a block at another place.
+/// The table, the cells and the notes of ends, with a block in place of the one of its id, which begins in a unit.
 pub(crate) fn retag(
     slots: &mut [Block],
     begins: &mut [u32],
     ends: &mut [u16],
     bounds: Span,
     grain: u32,
+    unit: usize,
     block: Block,
-    to: u32,
 )
     requires tables { AreTables (length slots.old) bounds.from bounds.to grain slots.old begins.old }
-    requires known { block_with (blocks_in slots.old begins.old) block.id ≡ Some block }
-    requires fits { FitsFor (layout_in (length slots.old) bounds.from bounds.to grain slots.old begins.old) (record block { at = to }) }
+    requires told { slice_index begins.old unit ≡ suc block.id }
+    requires fits { FitsFor (layout_in (length slots.old) bounds.from bounds.to grain slots.old begins.old) block }
     ensures tables { AreTables (length slots.old) bounds.from bounds.to grain slots.new begins.new }
-    ensures blocks { blocks_in slots.new begins.new ≡ replaced (record block { at = to }) (blocks_in slots.old begins.old) }
+    ensures blocks { blocks_in slots.new begins.new ≡ replaced block (blocks_in slots.old begins.old) }
     ensures slots { length slots.new ≡ length slots.old }
     ensures begins { length begins.new ≡ length begins.old }
 {
-    begins[unit_of(block.at, bounds.from, grain)] = 0;
-    begins[unit_of(to, bounds.from, grain)] = block.id + 1;
-    slots[block.id as usize].at = to;
-    note_end(ends, bounds.from, grain, Block { at: to, ..block });
+    begins[unit] = 0;
+    begins[unit_of(block.at, bounds.from, grain)] = block.id + 1;
+    slots[block.id as usize] = block;
+    note_end(ends, bounds.from, grain, block);
 }
 
 /// The table and the cells, where the run of blocks that begins a part of the range has slid to a place, one after another, each as it is
@@ -87,17 +79,21 @@ fn retag_run(
 {
     let mut at = within.from;
     while at < within.to {
-        let Some(block) = block_at(slots, begins, bounds, grain, at) else {
+        let unit = unit_of(at, bounds.from, grain);
+        let begin = begins[unit] as usize;
+        if begin == 0 {
             return at;
-        };
+        }
+        let block = slots[begin - 1];
+        let place = to + (at - within.from);
         retag(
             slots,
             begins,
             ends,
             bounds,
             grain,
-            block,
-            to + (at - within.from),
+            unit,
+            Block { at: place, ..block },
         );
         at += block.size;
     }
@@ -124,7 +120,7 @@ impl<H: HoleList> Blocks<H> {
         ensures ordered { IsOrdered self.now }
     {
         let bounds = self.bounds();
-        if place < bounds.from || place > bounds.to || !is_grained(place, self.grain) {
+        if place < bounds.from || place > bounds.to || !is_whole(place, self.grain) {
             return None;
         }
         block_at(&self.slots, &self.begins, bounds, self.grain, place)

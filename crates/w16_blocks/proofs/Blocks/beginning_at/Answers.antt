@@ -2,7 +2,7 @@ use Rattle.w16_blocks.proofs
 use Rattle.std.specs.Prelude.{◌%◌}
 use proofs.Common.{false≢true, ◌≡◌, ◌≢◌, ◌∙◌, ap, arith, sym, subst, Some, MatchOption, List, ℕ, AllByRecursion, Block, Span, Layout, block_with, blocks_in}
 use proofs.Tagged.{none_off}
-use proofs.Blocks.beginning_at.Goals.{then-place-bounds-via-then-place-bounds, then-place-bounds-via-else-place-bounds+then-place-bounds-2, then-place-bounds-via-else-place-bounds+else-place-bounds-2+then-not-is_grained}
+use proofs.Blocks.beginning_at.Goals.{then-place-bounds-via-then-place-bounds, then-place-bounds-via-else-place-bounds+then-place-bounds-2, then-place-bounds-via-else-place-bounds+else-place-bounds-2+then-not-is_whole}
 use Rattle.w16_blocks.proofs.Blocks.beginning_at.Goals as goal
 
 pub returns-then-place-bounds-clause-value : goal.returns-then-place-bounds-clause-value
@@ -12,7 +12,7 @@ returns-then-place-bounds-clause-value g c =
     none_off c.args.self.now c.args.place bounds.ordered (omega arith) (λ low high whole. elim c.then-place-bounds.branch [
       | then-place-bounds-via-then-place-bounds w ↦ let below = w.if-place-bounds.true in omega arith
       | then-place-bounds-via-else-place-bounds+then-place-bounds-2 w ↦ let above = w.if-place-bounds-2.true in omega arith
-      | then-place-bounds-via-else-place-bounds+else-place-bounds-2+then-not-is_grained w ↦ false≢true (sym w.if-not-is_grained.true ∙ w.is_grained.ensures.1 (subst (λ k. c.args.place % k ≡ 0) (sym grain) whole))
+      | then-place-bounds-via-else-place-bounds+else-place-bounds-2+then-not-is_whole w ↦ false≢true (sym w.if-not-is_whole.true ∙ w.is_whole.ensures.1 (subst (λ k. c.args.place % k ≡ 0) (sym grain) whole))
     ])
 
 pub returns-clause-value : goal.returns-clause-value

@@ -1,7 +1,7 @@
 use Rattle.w16_blocks.proofs
 use proofs.Common.{ℕ, ◌≡◌, ◌+◌, ◌-◌, ◌∙◌, ◌≤◌, List, length, arith, refl, sym, subst, AllByRecursion, Block, IsOrdered, blocks_in, layout_in, AreTables}
 use proofs.Rising.{begins_in, fits_next, list_next, cut_next, none_before}
-use proofs.Sliding.{slid_none}
+use proofs.{Sliding.slid_none, Step.lies, Step.grained_known, Tables.cell_at}
 use Rattle.w16_blocks.proofs.lifts.retag_run_up.Goals as goal
 
 -- the tables at some turn, whose number of ids is that of the start
@@ -43,6 +43,17 @@ overflow_sub-at c =
       blocks =
           inv.list i;
     }) c.in-Some.block c.in-Some.ensures
+
+pub unit_of-requires-clause-from : goal.unit_of-requires-clause-from
+unit_of-requires-clause-from c =
+    (lies (layout_in (length c.args.slots.now) c.args.bounds.from c.args.bounds.to c.args.grain c.loop-at.slots c.loop-at.begins) c.in-Some.block.id c.in-Some.block c.in-Some.ensures.known c.loop-at.invariant.tables.ordered).0
+
+pub unit_of-requires-clause-grained : goal.unit_of-requires-clause-grained
+unit_of-requires-clause-grained c =
+    (grained_known (layout_in (length c.args.slots.now) c.args.bounds.from c.args.bounds.to c.args.grain c.loop-at.slots c.loop-at.begins) c.in-Some.block.id c.in-Some.block c.in-Some.ensures.known c.loop-at.invariant.tables.ordered).0
+
+pub retag-requires-clause-told : goal.retag-requires-clause-told
+retag-requires-clause-told c = let inv = c.loop-at.invariant in cell_at inv.tables (sym inv.slots) c.unit_of.result c.in-Some.ensures.known c.unit_of.ensures
 
 pub retag-requires-clause-fits : goal.retag-requires-clause-fits
 retag-requires-clause-fits c =
