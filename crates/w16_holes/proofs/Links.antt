@@ -5,7 +5,9 @@ use proofs.Common.{ℕ, suc, ◌≡◌, ◌<◌, ◌≤◌, ◌+◌, ◌-◌, �
 use proofs.Common.{taken, joined, add_span, last_before, length_at, length_to, HasWords, IsThread, AreThreaded, no_hole, first_of, put_words, put_hole, put_link, room}
 use proofs.Units.{multiple_sum}
 use proofs.Thread.{IsKept, kept_refl, kept_trans, kept_wider, kept_word, kept_word_in, kept_words, word_kept, thread_kept, thread_join, thread_front, thread_back, free_front, free_back, used_trans, used_kept, relink, link_kept, link_used, link_fits}
-use proofs.Cuts.{IsTakenFrom, IsPutAt, HasHole, cut_taken, cut_put}
+use proofs.Cuts.{IsTakenFrom, IsPutAt, IsPassed, HasHole, cut_taken, cut_put, cut_passed}
+use proofs.Slid.{part_slid, others_stay}
+use Rattle.w16_holes.specs.Thread.{MayPass}
 
 -- a hole's words, just written
 words_put : (from to next : ℕ) (bytes : List ℕ) → IsMultiple 8 from → IsMultiple 8 to → from < to → to ≤ length bytes → next < 2 ^ 32 → to < 2 ^ 32
@@ -29,6 +31,17 @@ words_put from to next bytes low high some inside small top =
 first_small : (lo hi : ℕ) (hs : List Span) → hi < 2 ^ 32 → AreHoles lo hi hs → first_of no_hole hs < 2 ^ 32
 first_small lo hi [] small holes = omega arith
 first_small lo hi (h ∷ hs) small holes = let some = holes.1 in let to = holes.2 in omega arith
+
+-- and before and behind it what is a thread already
+between : (lo mid hi from to : ℕ) (front back : List Span) (bytes : List ℕ) → IsMultiple 8 from → IsMultiple 8 to → from < to → to ≤ length bytes → mid ≤ from → to ≤ hi → hi < 2 ^ 32 → AreHoles lo mid front → AreHoles (suc to) hi back
+    → IsThread from front bytes → IsThread no_hole back bytes → AreThreaded (front ++ record { from = from; to = to } ∷ back) (put_words bytes from (to - from) (first_of no_hole back))
+between lo mid hi from to front back bytes low_8 high_8 some inside low top small lower higher linked rest =
+    let next : ℕ = first_of no_hole back in
+    let wide = room from to low_8 high_8 some in
+    let kept = kept_words bytes from (to - from) next (omega arith) in
+    thread_join no_hole front (record { from = from; to = to } ∷ back) (put_words bytes from (to - from) next)
+    (thread_kept from front lo mid from (from + 8) bytes (put_words bytes from (to - from) next) kept lower (inl low) linked)
+    (words_put from to next bytes low_8 high_8 some inside (first_small (suc to) hi back small higher) (omega arith), thread_kept no_hole back (suc to) hi from (from + 8) bytes (put_words bytes from (to - from) next) kept higher (inr (omega arith)) rest)
 
 holes_lower : (lo low hi : ℕ) (hs : List Span) → low ≤ lo → AreHoles lo hi hs → AreHoles low hi hs
 holes_lower lo low hi [] le holes = tt
@@ -311,11 +324,7 @@ module _ (lo hi a b : ℕ) (hs : List Span) (bytes : List ℕ) (front : List Spa
         let low = c.low in
         let w = wide_enough in
         let top = c.high in
-        let whole : IsKept lo (from + 8) bytes put = kept_trans lo (from + 8) bytes one put kept (kept_wider from (from + 8) lo (from + 8) one put low (omega arith) put_kept) in
-        let threaded : AreThreaded all put =
-        thread_join no_hole front (record { from = from; to = to } ∷ back) put
-        (thread_kept from front lo from from (from + 8) one put put_kept c.lower (inl (omega arith)) linked)
-        (words_put from to put_next one from_8 to_8 from_to long_there (first_small (suc to) hi back small c.higher) (omega arith), thread_kept no_hole back (suc to) hi lo (from + 8) bytes put whole c.higher (inr (omega arith)) put_high) in
+        let threaded : AreThreaded all put = between lo from hi from to front back one from_8 to_8 from_to long_there (omega arith) top small c.lower c.higher linked (thread_kept no_hole back (suc to) hi lo (from + 8) bytes one kept c.higher (inr (omega arith)) put_high) in
         let outside : AreSameOutside all bytes put =
         used_trans all bytes one put same (used_kept from (from + 8) all one put (free_back from (from + 8) front (record { from = from; to = to } ∷ back) (inl (omega arith, omega arith))) put_kept) in
         subst (λ (l : List Span). AreThreaded l put × AreSameOutside l bytes put) (sym c.made) (threaded, outside)
@@ -496,3 +505,99 @@ module _ (r : Range) (hs : List Span) (bytes : List ℕ) (a n : ℕ) (roomy : C.
         ∙ ap (λ (m : ℕ). put_words (put_link bytes (last_before a hs) c.1) c.1 (c.2 - c.1) m) link in
         subst (λ (l : List ℕ). AreThreaded (joined a (a + n) hs) l × AreSameOutside (joined a (a + n) hs) bytes l) (sym second)
         (put_done r.lo r.hi a (a + n) hs bytes c.0 c.1 c.2 c.3 c.4 c.5 some low_8 high_8 roomy.small inside thread)
+
+-- n used bytes slide over a whole hole
+module _ {f : C.Free} {bytes : List ℕ} {from to n : ℕ} (p : MayPass f bytes from to n) where
+  abbrev lo : ℕ
+  lo = f.range.lo
+
+  abbrev pass_at : (front : List Span) × (end : ℕ) × (back joins : List Span) × IsPassed lo f.range.hi from to n f.holes front end back joins
+  pass_at = cut_passed f.range.hi from to n p.down p.new.some p.old.to lo f.holes p.ordered p.whole p.used
+
+  abbrev hole : Span
+  hole = record { from = to; to = from }
+
+  pass_cut : IsThread no_hole (pass_at.0 ++ hole ∷ (pass_at.3 ++ pass_at.2)) bytes
+  pass_cut = subst (λ (l : List Span). IsThread no_hole l bytes) pass_at.4.whole p.kept
+
+  pass_low : IsThread to pass_at.0 bytes
+  pass_low = let c = pass_at in thread_front no_hole c.0 (hole ∷ (c.3 ++ c.2)) bytes pass_cut
+
+  pass_high : IsThread no_hole pass_at.2 bytes
+  pass_high = let c = pass_at in thread_back no_hole c.3 c.2 bytes (thread_back no_hole c.0 (hole ∷ (c.3 ++ c.2)) bytes pass_cut).1
+
+  pass_low_8 : IsMultiple 8 (to + n)
+  pass_low_8 = multiple_of_8 f.range.grain (to + n) p.roomy.wide (multiple_sum f.range.grain to n p.new.grained p.new.rounded)
+
+  pass_high_8 : IsMultiple 8 pass_at.1 × (pass_at.1 ≤ length bytes)
+  pass_high_8 = let inside = p.inside in elim pass_at.4.ends [
+    | inl alone ↦ (subst (IsMultiple 8) (sym alone) (multiple_of_8 f.range.grain (from + n) p.roomy.wide (multiple_sum f.range.grain from n p.old.grained p.old.rounded)), omega arith)
+    | inr there ↦ let w = hole_words no_hole (from + n) pass_at.1 f.holes bytes there p.kept in (w.1, w.2)
+  ]
+
+  pub pass_end : from + n + length_at (from + n) f.holes ≡ pass_at.1
+  pass_end = let is = pass_at.4.at in let above = pass_at.4.above in omega arith
+
+  pub pass_top : from + n + length_at (from + n) f.holes ≤ f.range.hi
+  pass_top = let e = pass_end in let top = pass_at.4.high in omega arith
+
+  pass_fits : to + n + 8 ≤ pass_at.1
+  pass_fits = let down = p.down in let above = pass_at.4.above in room (to + n) pass_at.1 pass_low_8 pass_high_8.0 (omega arith)
+
+  pub pass_room : to + n + 8 ≤ length bytes
+  pass_room = let fits = pass_fits in let inside = pass_high_8.1 in omega arith
+
+  pub pass_below : Some to ≡ last_before (from + n) f.holes
+  pass_below = sym pass_at.4.last
+
+  pub pass_link : IfSome (last_before to f.holes) (λ (x : ℕ). x + 8 ≤ length bytes)
+  pass_link = let c = pass_at in subst (λ (o : Option ℕ). IfSome o (λ (x : ℕ). x + 8 ≤ length bytes)) (sym c.4.begin) (link_fits to lo to c.0 bytes c.4.lower pass_low)
+
+  abbrev pass_linked : List ℕ
+  pass_linked = put_link bytes (last_before to pass_at.0) (to + n)
+
+  abbrev pass_slid : List ℕ
+  pass_slid = C.put_part pass_linked to (C.part pass_linked from n)
+
+  abbrev pass_left : List ℕ
+  pass_left = put_words pass_slid (to + n) (pass_at.1 - (to + n)) (first_of no_hole pass_at.2)
+
+  link_stays : IsKept lo to bytes pass_linked
+  link_stays = let c = pass_at in link_kept to (to + n) lo to c.0 bytes c.4.lower pass_low
+
+  slid_stays : IsKept to (to + n) pass_linked pass_slid
+  slid_stays =
+      let long = link_stays.long in let inside = p.inside in let down = p.down in let size = C.length-part pass_linked from n (omega arith) in record {
+        long = C.length-put_part pass_linked to (C.part pass_linked from n) (omega arith);
+        outside = record {
+          below = C.take-put_part pass_linked to (C.part pass_linked from n) to (omega arith) (omega arith);
+          above = C.drop-put_part pass_linked to (C.part pass_linked from n) (to + n) (omega arith) (omega arith);
+        };
+      }
+
+  left_stays : IsKept (to + n) (to + n + 8) pass_slid pass_left
+  left_stays = let one = link_stays.long in let two = slid_stays.long in let fits = pass_room in kept_words pass_slid (to + n) (pass_at.1 - (to + n)) (first_of no_hole pass_at.2) (omega arith)
+
+  passed : AreThreaded (C.slid_down from to n f.holes) pass_left × C.AreSameBut to n f.holes (C.slid_down from to n f.holes) bytes pass_left × (C.part pass_left to n ≡ C.part bytes from n)
+  passed =
+      let c = pass_at in let is = c.4 in let one = link_stays.long in let two = slid_stays.long in let fits = pass_fits in let inside = pass_high_8.1 in
+      let low = is.low in let top = is.high in let small = p.roomy.small in let within = p.inside in let down = p.down in
+      let new : Span = record { from = to + n; to = c.1 } in
+      let same : AreSameOutside f.holes bytes pass_linked =
+      link_used to (to + n) lo to c.0 f.holes bytes (λ x y free. subst (λ (l : List Span). IsFree x y l) (sym is.whole) (free_front x y c.0 (hole ∷ (c.3 ++ c.2)) free)) is.lower pass_low in
+      let front : IsThread (to + n) c.0 pass_slid = thread_kept (to + n) c.0 lo to to (to + n) pass_linked pass_slid slid_stays is.lower (inl (omega arith)) (relink to (to + n) lo to c.0 bytes (omega arith) is.lower pass_low) in
+      let back : IsThread no_hole c.2 pass_slid = thread_kept no_hole c.2 (suc c.1) f.range.hi to (to + n) pass_linked pass_slid slid_stays is.higher (inr (omega arith)) (thread_kept no_hole c.2 (suc c.1) f.range.hi lo to bytes pass_linked link_stays is.higher (inr (omega arith)) pass_high) in
+      let after : AreSameOutside (c.0 ++ new ∷ c.2) pass_slid pass_left = used_kept (to + n) (to + n + 8) (c.0 ++ new ∷ c.2) pass_slid pass_left (free_back (to + n) (to + n + 8) c.0 (new ∷ c.2) (inl (omega arith, omega arith))) left_stays in (
+        subst (λ (l : List Span). AreThreaded l pass_left) (sym is.made) (between lo to f.range.hi (to + n) c.1 c.0 c.2 pass_slid pass_low_8 pass_high_8.0 (omega arith) (omega arith) (omega arith) top small is.lower is.higher front back),
+        others_stay from to n bytes pass_linked pass_slid pass_left f.holes (C.slid_down from to n f.holes) same refl (subst (λ (l : List Span). AreSameOutside l pass_slid pass_left) (sym is.made) after) (omega arith) (omega arith),
+        C.part_below pass_left pass_slid to n (to + n) (omega arith) left_stays.outside.below ∙ part_slid from to n pass_linked pass_slid refl (omega arith) (omega arith) ∙ same.same from n p.used,
+      )
+
+  pub pass_all : (onward above : ℕ) (one two three : List ℕ) → onward ≡ C.next_above (from + n) f.holes → above ≡ length_at (from + n) f.holes → one ≡ put_link bytes (last_before to f.holes) (to + n) → two ≡ C.put_part one to (C.part one from n)
+      → three ≡ put_words two (to + n) (from + n + above - (to + n)) onward → AreThreaded (C.slid_down from to n f.holes) three × C.AreSameBut to n f.holes (C.slid_down from to n f.holes) bytes three × (C.part three to n ≡ C.part bytes from n)
+  pass_all onward above one two three onward_is above_is one_is two_is three_is =
+      let c = pass_at in
+      let first : one ≡ pass_linked = one_is ∙ ap (λ (o : Option ℕ). put_link bytes o (to + n)) c.4.begin in
+      let second : two ≡ pass_slid = two_is ∙ ap (λ (l : List ℕ). C.put_part l to (C.part l from n)) first in
+      let third : three ≡ pass_left = three_is ∙ (λ i. put_words (second i) (to + n) ((ap (λ (m : ℕ). from + n + m) above_is ∙ pass_end) i - (to + n)) ((onward_is ∙ c.4.next) i)) in
+      subst (λ (l : List ℕ). AreThreaded (C.slid_down from to n f.holes) l × C.AreSameBut to n f.holes (C.slid_down from to n f.holes) bytes l × (C.part l to n ≡ C.part bytes from n)) (sym third) passed

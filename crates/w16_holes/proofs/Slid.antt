@@ -12,7 +12,7 @@ module _ (at to size : ℕ) (second third : List ℕ) (slid : third ≡ put_part
   long_slid : length third ≡ length second
   long_slid = ap length slid ∙ length-put_part second to (part second at size) (let n = size_is in omega arith)
 
-  part_slid : part third to size ≡ part second at size
+  pub part_slid : part third to size ≡ part second at size
   part_slid = ap (λ (ys : List ℕ). part ys to size) slid ∙ C.part-put_part second to (part second at size) size size_is (omega arith)
 
   -- what is not the target stays

@@ -4,7 +4,7 @@ use Rattle.std.proofs.Common.{arith, ◌∙◌, inl, inr}
 use Rattle.w16_model.specs.{declared.Span.Span, Bytes.part, Heap.IsMultiple}
 use Rattle.w16_region.specs.Bytes.{word_in, put_word}
 use Rattle.w16_region.proofs.Words.{word_in-same}
-use Rattle.w16_holes.specs.Holes.{Range, IsFree, AreSameIn}
+use Rattle.w16_holes.specs.Holes.{Range, Free, AreHoles, IsFree, IsUsed, IsPart, AreSameIn, length_at}
 
 -- what the last hole has in place of the next
 abbrev pub no_hole : ℕ
@@ -37,6 +37,18 @@ AreThreaded hs bytes = IsThread no_hole hs bytes
 pub record HasRoom (r : Range) : Type 0 where
   pub wide : IsMultiple 8 r.grain
   pub small : r.hi < 2 ^ 32
+
+-- n used bytes may slide from one place down to another, over the whole hole that lies between
+pub record MayPass (f : Free) (bytes : List ℕ) (from to n : ℕ) : Type 0 where
+  pub roomy : HasRoom f.range
+  pub ordered : AreHoles f.range.lo f.range.hi f.holes
+  pub kept : AreThreaded f.holes bytes
+  pub down : to < from
+  pub new : IsPart f.range to n
+  pub old : IsPart f.range from n
+  pub whole : length_at to f.holes ≡ from - to
+  pub used : IsUsed from (from + n) f.holes
+  pub inside : from + n ≤ length bytes
 
 -- What is looked up and written on the way.
 

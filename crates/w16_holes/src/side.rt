@@ -195,7 +195,7 @@ impl<A: Allocator> SideHoles<A> {
 
     /// Moves the `size` used bytes at `from` down to `to`, over the whole hole that lies between. The hole then lies behind them, joined with
     /// the hole that began there, if one did.
-    fn pass(&mut self, from: u32, to: u32, size: u32)
+    pub(crate) fn pass(&mut self, from: u32, to: u32, size: u32)
         requires down { to < from }
         requires whole { length_at to self.old.holes ≡ from - to }
         requires new { IsPart self.old.range to size }

@@ -2,8 +2,10 @@
 ghost use Rattle.std.specs.Prelude.{◌≡◌, ◌+◌, ◌-◌, ◌<◌, ◌≤◌, [], length, IfOk, IfErr, IfSome};
 ghost use Rattle.w16_model.specs.Heap.{IsMultiple};
 ghost use Rattle.w16_model.specs.Table.{IsSameOutside};
-ghost use Rattle.w16_holes.specs.Holes.{AreHoles, IsFree, IsPart, IsPlace, last_before, length_to, add_span};
-ghost use Rattle.w16_holes.specs.Thread.{AreThreaded, first_of, next_above, put_words, put_hole, put_link, threaded_stay};
+ghost use Rattle.w16_model.specs.Bytes.{part};
+ghost use Rattle.w16_region.specs.Bytes.{counted};
+ghost use Rattle.w16_holes.specs.Holes.{AreHoles, AreSameBut, IsFree, IsPart, IsPlace, last_before, slid_down, add_span};
+ghost use Rattle.w16_holes.specs.Thread.{AreThreaded, MayPass, first_of, next_above, put_words, put_hole, put_link, threaded_stay};
 
 use crate::{HoleList, Holes, SideHoles};
 use std::alloc::{AllocError, Allocator, Global};
@@ -93,6 +95,32 @@ fn hole_of<A: Allocator + Copy>(
         return Some(place);
     }
     below
+}
+
+/// Slides `n` used bytes down over the whole hole that lies between. The hole then lies behind them, joined with the one that began there, if one
+/// did: so one link changes, and its words are written there.
+fn pass<A: Allocator + Copy>(
+    side: &mut SideHoles<A>,
+    space: &mut Region<A>,
+    from: u32,
+    to: u32,
+    n: u32,
+)
+    requires { MayPass side.old space.old.bytes.items from to n }
+    ensures holes { side.new.holes ≡ slid_down from to n side.old.holes }
+    ensures range { side.new.range ≡ side.old.range }
+    ensures kept { AreThreaded side.new.holes space.new.bytes.items }
+    ensures contents { part space.new.bytes.items to n ≡ part space.old.bytes.items from n }
+    ensures bytes { AreSameBut to n side.old.holes side.new.holes space.old.bytes.items space.new.bytes.items }
+    ensures written { space.new.written ≡ counted space.old.written n }
+{
+    let below = side.below(to);
+    let next = next_above(side, space, from + n, Some(to));
+    let end = from + n + side.at(space, from + n);
+    link(space, below.begin, to + n);
+    space.slide(from, to, n);
+    set_words(space, to + n, end - (to + n), next);
+    side.pass(from, to, n);
 }
 
 /// Holes in the memory itself, as a thread through the free bytes: each hole has its size as a
@@ -207,9 +235,13 @@ impl<A: Allocator + Copy> Holes<Region<A>> for ThreadedHoles<A> {
 
     fn slide_down(&mut self, space: &mut Region<A>, from: u32, to: u32, size: u32) {
         self.side.reveal_order();
-        let apart = size.min(from - to);
-        self.take(space, to, apart);
-        space.slide(from, to, size);
-        self.put(space, from + size - apart, apart);
+        if self.side.at(space, to) == from - to {
+            pass(&mut self.side, space, from, to, size);
+        } else {
+            let apart = size.min(from - to);
+            self.take(space, to, apart);
+            space.slide(from, to, size);
+            self.put(space, from + size - apart, apart);
+        }
     }
 }

@@ -29,8 +29,8 @@ put-requires-clause-used g c = let r = c.requires in rw c.take.ensures.holes (M.
 once_put : (g : given.Over) (c : goal.After-put g) → c.put.new.self.holes ≡ joined (c.args.from + c.args.size - c.min-apart.result) (c.args.from + c.args.size - c.min-apart.result + c.min-apart.result) (taken c.args.to (c.args.to + c.min-apart.result) c.args.self.now.holes)
 once_put g c = c.put.ensures.holes ∙ ap (joined (c.args.from + c.args.size - c.min-apart.result) (c.args.from + c.args.size - c.min-apart.result + c.min-apart.result)) c.take.ensures.holes
 
-pub returns-clause-contents : goal.returns-clause-contents
-returns-clause-contents g c =
+pub returns-else-at-from-clause-contents : goal.returns-else-at-from-clause-contents
+returns-else-at-from-clause-contents g c =
     let r = c.requires in
     M.come_too c.args.self.now.range c.args.self.now.holes (rw (← c.self.view_is) c.reveal_order.ensures.ordered)
     c.args.from c.args.to c.args.size r.down r.new r.old r.free r.used c.min-apart.result c.min-apart.ensures
@@ -38,8 +38,8 @@ returns-clause-contents g c =
     c.take.ensures.bytes
     (subst (λ (hs : List Span). AreSameOutside hs c.slide.new.self.bytes.items c.put.new.space.bytes.items) (once_put g c) c.put.ensures.bytes)
 
-pub returns-clause-bytes : goal.returns-clause-bytes
-returns-clause-bytes g c =
+pub returns-else-at-from-clause-bytes : goal.returns-else-at-from-clause-bytes
+returns-else-at-from-clause-bytes g c =
     let r = c.requires in
     subst (λ (hs : List Span). AreSameBut c.args.to c.args.size c.args.self.now.holes hs c.args.space.now.bytes.items c.put.new.space.bytes.items) (sym (once_put g c))
     (M.others_same c.args.self.now.range c.args.self.now.holes (rw (← c.self.view_is) c.reveal_order.ensures.ordered)
