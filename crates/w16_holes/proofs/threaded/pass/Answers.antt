@@ -24,7 +24,9 @@ set_words-requires g c = let room = pass_room c.requires in let one = c.link.ens
 all : (g : given.Over) (c : goal.After-pass g) → AreThreaded (slid_down c.args.from c.args.to c.args.n c.args.side.now.holes) c.set_words.new.space.bytes.items
     × AreSameBut c.args.to c.args.n c.args.side.now.holes (slid_down c.args.from c.args.to c.args.n c.args.side.now.holes) c.args.space.now.bytes.items c.set_words.new.space.bytes.items
     × (part c.set_words.new.space.bytes.items c.args.to c.args.n ≡ part c.args.space.now.bytes.items c.args.from c.args.n)
-all g c = pass_all c.requires c.next_above-next.result c.at.result c.link.new.space.bytes.items c.slide.new.self.bytes.items c.set_words.new.space.bytes.items c.next_above-next.ensures c.at.ensures (rw c.below-below.ensures.value at c.link.ensures.bytes) c.slide.ensures.bytes c.set_words.ensures.bytes
+all g c =
+    let link = rw c.below-below.ensures.value at c.link.ensures.bytes in
+    pass_all c.requires c.next_above-next.result c.at.result c.link.new.space.bytes.items c.slide.new.self.bytes.items c.set_words.new.space.bytes.items c.next_above-next.ensures c.at.ensures link c.slide.ensures.bytes c.set_words.ensures.bytes
 
 pub returns-clause-kept : goal.returns-clause-kept
 returns-clause-kept g c = rw c.pass.ensures.holes (all g c).0
