@@ -119,6 +119,13 @@ impl<H: HoleList> Arena<H> {
         self.order.len_without(id)
     }
 
+    /// The i-th object of the order of use, the least recently used first, from 0; none after the last. It goes over those before it.
+    pub fn in_order(&self, i: usize) -> Option<u32>
+        ensures { result ≡ slice_get self.now.table.order i }
+    {
+        self.order.nth(i)
+    }
+
     /// What is known of an object beside its bytes, if it is there.
     pub fn entry(&self, id: u32) -> Option<Entry>
         ensures value { result ≡ entry_at self.now.table id }

@@ -2,6 +2,7 @@ pub mod Common
 pub mod Slotwise
 pub mod Written
 pub mod Parts
+pub mod Ordered
 pub mod Owners
 pub mod Slots
 pub mod Joined

@@ -1,7 +1,8 @@
 //! The calls of programs, as the manual of Windows 3.1 names them.
-ghost use Rattle.std.specs.Prelude.{◌≡◌, ◌+◌, ◌^◌, ◌<◌, ◌≤◌, ℕ, if◌then◌else◌, IfSome, IfNone, None, length, option_map};
+ghost use Rattle.std.specs.Prelude.{◌≡◌, ◌+◌, ◌^◌, ◌<◌, ◌≤◌, ℕ, if◌then◌else◌, IfSome, IfNone, None, length, option_map, slice_get};
 ghost use Rattle.std.specs.FinMap as finmap;
 ghost use Rattle.w16_model.specs.Changes.{without};
+ghost use Rattle.w16_model.specs.declared.Kind.TheVariants.{Discardable};
 ghost use Rattle.w16_model.specs.Heap.{is_discardable};
 ghost use Rattle.w16_model.specs.Calls.{GlobalAllocs, GlobalCompacts, locks_at, is_shared};
 ghost use Rattle.w16_model.specs.Handles.{AreHandles, Gives, HasNoRun, IsFreeRun, IsFreeSlot};
@@ -78,6 +79,14 @@ impl<A: Allocator + Copy> Global16<A> {
         ensures { result ≡ length (without slot self.now.handles.heap.order) }
     {
         self.objects.discardable_beside(slot as u32)
+    }
+
+    /// The handle of the i-th object of the order of use, the least recently used first, from 0; none after the last. It goes over those before it.
+    pub fn in_order(&self, i: usize) -> Option<u16>
+        ensures { result ≡ option_map (handles.handle_of Discardable) (slice_get self.now.handles.heap.order i) }
+    {
+        let slot = self.objects.in_order(i)?;
+        Some(handle_of(Kind::Discardable, slot as u16))
     }
 
     /// The lowest slot that no object has.

@@ -1,5 +1,5 @@
 //! The objects of the global heap: an arena over memory of its own.
-ghost use Rattle.std.specs.Prelude.{◌≡◌, ◌≢◌, ◌+◌, ◌-◌, ◌%◌, ◌^◌, ◌<◌, ◌≤◌, ◌⊎◌, ℕ, [], Ok, Err, None, Some, length, IfOk, IfErr, OnOk, IfSome, IfNone, IsSomeAnd, option_map, unwrap_or, is_some, take, if◌then◌else◌, IsSome};
+ghost use Rattle.std.specs.Prelude.{◌≡◌, ◌≢◌, ◌+◌, ◌-◌, ◌%◌, ◌^◌, ◌<◌, ◌≤◌, ◌⊎◌, ℕ, [], Ok, Err, None, Some, length, IfOk, IfErr, OnOk, IfSome, IfNone, IsSomeAnd, option_map, unwrap_or, is_some, take, if◌then◌else◌, IsSome, slice_get};
 ghost use Rattle.std.specs.FinMap as finmap;
 ghost use Rattle.w16_model.specs.Heap.{IsHeap, object_at, bytes_at, empty_heap, IsMultiple};
 ghost use Rattle.w16_model.specs.Changes.{with_object, removed, without};
@@ -78,6 +78,13 @@ impl<A: Allocator + Copy> Objects<A> {
         ensures { result ≡ length (without id self.now.heap.order) }
     {
         self.arena.order_len_without(id)
+    }
+
+    /// The i-th object of the order of use, the least recently used first, from 0; none after the last.
+    pub fn in_order(&self, i: usize) -> Option<u32>
+        ensures { result ≡ slice_get self.now.heap.order i }
+    {
+        self.arena.in_order(i)
     }
 
     /// The lowest block at or above an address, if there is one.
