@@ -99,6 +99,12 @@ at_none b lo hi (h ∷ hs) lt holes =
       | inr other ↦ rw (other.0) (at_none b (suc h.to) hi hs (omega arith) holes.3)
     ]
 
+at_later : (b : ℕ) (h : Span) (hs : List Span) → h.from < b → length_at b (h ∷ hs) ≡ length_at b hs
+at_later b h hs lt = elim (eqb_tells h.from b) [
+  | inl same ↦ let e = same.1 in absurd (omega arith)
+  | inr other ↦ rw (other.0) refl
+]
+
 -- nothing touches it
 joined_first : (a b lo hi : ℕ) (hs : List Span) → a ≤ b → b < lo → AreHoles lo hi hs → joined a b hs ≡ record { from = a; to = b } ∷ hs
 joined_first a b lo hi [] le lt holes = refl
@@ -253,10 +259,7 @@ put_behind lo hi a b h hs some top e holes rest =
           | inr hole ↦ inr (inr hole)
         ];
         ending = rw (eq-eqb h.to a e) (ap (λ (n : ℕ). n - h.from) e);
-        at = elim (eqb_tells h.from b) [
-          | inl same ↦ let f = same.1 in absurd (omega arith)
-          | inr other ↦ rw (other.0) is.at
-        ];
+        at = at_later b h hs (omega arith) ∙ is.at;
         next = rw (le-ltb b h.from (omega arith)) is.next;
       },
     )
@@ -274,10 +277,6 @@ cut_put lo hi a b (h ∷ hs) some low top holes used =
             let is = c.5 in
             let from = is.low in
             let no_end : (h.to == a) ≡ false = elim (eqb_tells h.to a) [
-              | inl same ↦ let e = same.1 in absurd (omega arith)
-              | inr other ↦ other.0
-            ] in
-            let no_begin : (h.from == b) ≡ false = elim (eqb_tells h.from b) [
               | inl same ↦ let e = same.1 in absurd (omega arith)
               | inr other ↦ other.0
             ] in (
@@ -304,29 +303,26 @@ cut_put lo hi a b (h ∷ hs) some low top holes used =
                   | inr hole ↦ inr (inr hole)
                 ];
                 ending = rw (no_end) is.ending;
-                at = rw (no_begin) is.at;
+                at = at_later b h hs (omega arith) ∙ is.at;
                 next = rw (le-ltb b h.from (omega arith)) is.next;
               },
             )
       ]
     ]
 
--- n used bytes follow the hole [to, from), which goes behind them and then ends at `end`
-pub record IsPassed (lo hi from to n : ℕ) (hs front : List Span) (end : ℕ) (back joins : List Span) : Type 0 where
-  pub whole : hs ≡ front ++ record { from = to; to = from } ∷ (joins ++ back)
+-- n used bytes follow the hole [to, from), and go before it
+pub record IsPassed (hi from to n lo : ℕ) (hs front rest : List Span) : Type 0 where
+  pub whole : hs ≡ front ++ record { from = to; to = from } ∷ rest
   pub low : lo ≤ to
-  pub above : from + n ≤ end
-  pub high : end ≤ hi
   pub lower : AreHoles lo to front
-  pub higher : AreHoles (suc end) hi back
-  pub made : slid_down from to n hs ≡ front ++ record { from = to + n; to = end } ∷ back
+  pub higher : AreHoles (from + n) hi rest
+  pub made : slid_down from to n hs ≡ front ++ joined (to + n) (from + n) rest
   pub begin : last_before to hs ≡ last_before to front
   pub last : last_before (from + n) hs ≡ Some to
-  pub ends : (end ≡ from + n) ⊎ HasHole (from + n) end hs
-  pub at : length_at (from + n) hs ≡ end - (from + n)
-  pub next : next_above (from + n) hs ≡ first_of no_hole back
+  pub at : length_at (from + n) hs ≡ length_at (from + n) rest
+  pub next : next_above (from + n) hs ≡ next_above (from + n) rest
 
-module _ (hi from to n : ℕ) (down : to < from) (some : 0 < n) (top : from + n ≤ hi) where
+module _ (hi from to n : ℕ) (down : to < from) (some : 0 < n) where
   slid_first : (hs : List Span) → slid_down from to n (record { from = to; to = from } ∷ hs) ≡ joined (to + n) (from + n) hs
   slid_first hs = elim (cases_lt n (from - to)) [
     | inl lt ↦
@@ -337,73 +333,43 @@ module _ (hi from to n : ℕ) (down : to < from) (some : 0 < n) (top : from + n 
         rw (lt-ltb to from down, le-ltb to to (omega arith), one, le-ltb (to + (from - to)) from (omega arith), low) refl
   ]
 
-  pub cut_passed : (lo : ℕ) (hs : List Span) → AreHoles lo hi hs → length_at to hs ≡ from - to → IsUsed from (from + n) hs → (front : List Span) × (end : ℕ) × (back joins : List Span) × IsPassed lo hi from to n hs front end back joins
+  pub cut_passed : (lo : ℕ) (hs : List Span) → AreHoles lo hi hs → length_at to hs ≡ from - to → IsUsed from (from + n) hs → (front rest : List Span) × IsPassed hi from to n lo hs front rest
   cut_passed lo [] holes here used = absurd (omega arith)
-  cut_passed lo (h ∷ hs) holes here used = let has = holes.1 in let first = holes.0 in elim (eqb_tells h.from to) [
+  cut_passed lo (h ∷ hs) holes here used = let first = holes.0 in let has = holes.1 in elim (eqb_tells h.from to) [
     | inl same ↦
-        let e = same.1 in
-        let size : h.to - h.from ≡ from - to = rw same.0 at here in
-        let f : h.to ≡ from = omega arith in
+        let e = same.1 in let size : h.to - h.from ≡ from - to = rw same.0 at here in let f : h.to ≡ from = omega arith in
         let is_h : h ≡ record { from = to; to = from } = λ i. record { from = e i; to = f i } in
-        let rest = used_above from (from + n) (suc h.to) hi hs (omega arith) (omega arith) holes.3 used.1 in
-        let c = cut_below (to + n) (from + n) hi hs (omega arith) top rest in
-        let is = c.3 in (
+        let rest = used_above from (from + n) (suc h.to) hi hs (omega arith) (omega arith) holes.3 used.1 in (
           [],
-          c.0,
-          c.1,
-          c.2,
+          hs,
           record {
-            whole = λ i. is_h i ∷ is.whole i;
+            whole = λ i. is_h i ∷ hs;
             low = omega arith;
-            above = is.from;
-            high = is.high;
             lower = tt;
-            higher = is.above;
-            made = ap (λ (x : Span). slid_down from to n (x ∷ hs)) is_h ∙ slid_first hs ∙ is.made;
+            higher = rest;
+            made = ap (λ (x : Span). slid_down from to n (x ∷ hs)) is_h ∙ slid_first hs;
             begin = last_none to h.from hi (h ∷ hs) (omega arith) (omega arith, has, holes.2, holes.3);
             last = last_first (from + n) h hs (omega arith) (last_none (from + n) (from + n) hi hs (omega arith) rest) ∙ ap (λ (x : ℕ). Some x) e;
-            ends = elim is.end [
-              | inl alone ↦ inl alone.0
-              | inr hole ↦ inr (inr hole)
-            ];
-            at = elim (eqb_tells h.from (from + n)) [
-              | inl begins ↦ let g = begins.1 in absurd (omega arith)
-              | inr other ↦ rw (other.0) is.at
-            ];
-            next = rw (le-ltb (from + n) h.from (omega arith)) is.next;
+            at = at_later (from + n) h hs (omega arith);
+            next = rw (le-ltb (from + n) h.from (omega arith)) refl;
           },
         )
     | inr other ↦
         let there : length_at to hs ≡ from - to = rw other.0 at here in
-        elim (cases_lt to (suc h.to)) [
-          | inl near ↦ let z = at_none to (suc h.to) hi hs near holes.3 in absurd (omega arith)
-          | inr far ↦
-              let c = cut_passed (suc h.to) hs holes.3 there used.1 in
-              let is = c.4 in (
-                h ∷ c.0,
-                c.1,
-                c.2,
-                c.3,
-                record {
-                  whole = ap (λ (l : List Span). h ∷ l) is.whole;
-                  low = omega arith;
-                  above = is.above;
-                  high = is.high;
-                  lower = (first, has, omega arith, is.lower);
-                  higher = is.higher;
-                  made = rw (le-ltb to h.to (omega arith), lt-ltb h.to (from + n - min n (from - to)) (omega arith)) (ap (λ (l : List Span). h ∷ l) is.made);
-                  begin = rw (lt-ltb h.from to (omega arith)) (ap (λ (o : Option ℕ). Some (unwrap_or o h.from)) is.begin);
-                  last = last_cons (from + n) to h hs (omega arith) is.last;
-                  ends = elim is.ends [
-                    | inl alone ↦ inl alone
-                    | inr hole ↦ inr (inr hole)
-                  ];
-                  at = elim (eqb_tells h.from (from + n)) [
-                    | inl begins ↦ let g = begins.1 in absurd (omega arith)
-                    | inr apart ↦ rw (apart.0) is.at
-                  ];
-                  next = rw (le-ltb (from + n) h.from (omega arith)) is.next;
-                },
-              )
-        ]
+        let far : h.to < to = elim (cases_lt to (suc h.to)) [ inl near ↦ let z = at_none to (suc h.to) hi hs near holes.3 in absurd (omega arith) | inr far ↦ omega arith ] in
+        let c = cut_passed (suc h.to) hs holes.3 there used.1 in let is = c.2 in (
+          h ∷ c.0,
+          c.1,
+          record {
+            whole = ap (λ (l : List Span). h ∷ l) is.whole;
+            low = omega arith;
+            lower = (first, has, omega arith, is.lower);
+            higher = is.higher;
+            made = rw (le-ltb to h.to (omega arith), lt-ltb h.to (from + n - min n (from - to)) (omega arith)) (ap (λ (l : List Span). h ∷ l) is.made);
+            begin = rw (lt-ltb h.from to (omega arith)) (ap (λ (o : Option ℕ). Some (unwrap_or o h.from)) is.begin);
+            last = last_cons (from + n) to h hs (omega arith) is.last;
+            at = at_later (from + n) h hs (omega arith) ∙ is.at;
+            next = rw (le-ltb (from + n) h.from (omega arith)) is.next;
+          },
+        )
   ]

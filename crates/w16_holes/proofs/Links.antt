@@ -5,7 +5,7 @@ use proofs.Common.{ℕ, suc, ◌≡◌, ◌<◌, ◌≤◌, ◌+◌, ◌-◌, �
 use proofs.Common.{taken, joined, add_span, last_before, length_at, length_to, HasWords, IsThread, AreThreaded, no_hole, first_of, put_words, put_hole, put_link, room}
 use proofs.Units.{multiple_sum}
 use proofs.Thread.{IsKept, kept_refl, kept_trans, kept_wider, kept_word, kept_word_in, kept_words, word_kept, thread_kept, thread_join, thread_front, thread_back, free_front, free_back, used_trans, used_kept, relink, link_kept, link_used, link_fits}
-use proofs.Cuts.{IsTakenFrom, IsPutAt, IsPassed, HasHole, cut_taken, cut_put, cut_passed}
+use proofs.Cuts.{IsTakenFrom, IsPutAt, IsPutBelow, IsPassed, HasHole, cut_taken, cut_below, cut_put, cut_passed}
 use proofs.Slid.{part_slid, others_stay}
 use Rattle.w16_holes.specs.Thread.{MayPass}
 
@@ -367,8 +367,8 @@ module _ (lo hi a b : ℕ) (hs : List Span) (bytes : List ℕ) (front : List Spa
 
 -- What the calls need, by the holes beside the memory.
 
-pub place_behind : (r : Range) (a n : ℕ) → C.IsPart r a n → C.IsPlace r (a + n)
-place_behind r a n part = let from = part.from in record {
+pub place_behind : {r : Range} {a n : ℕ} → C.IsPart r a n → C.IsPlace r (a + n)
+place_behind {r} {a} {n} part = let from = part.from in record {
   from = omega arith;
   to = part.to;
   grained = multiple_sum r.grain a n part.grained part.rounded;
@@ -377,227 +377,219 @@ place_behind r a n part = let from = part.from in record {
 pub multiple_of_8 : (g a : ℕ) → IsMultiple 8 g → IsMultiple g a → IsMultiple 8 a
 multiple_of_8 g a wide grained = (wide.0 * grained.0, grained.1 ∙ ap (λ (n : ℕ). n * grained.0) wide.1 ∙ C.mul_assoc 8 wide.0 grained.0)
 
-module _ (r : Range) (hs : List Span) (bytes : List ℕ) (a n : ℕ) (roomy : C.HasRoom r) (part : C.IsPart r a n) (holes : AreHoles r.lo r.hi hs) (thread : AreThreaded hs bytes) where
-  some : a < a + n
-  some = let has = part.some in omega arith
+some_of : {r : Range} {a n : ℕ} → C.IsPart r a n → a < a + n
+some_of part = let has = part.some in omega arith
 
-  low_8 : IsMultiple 8 a
-  low_8 = multiple_of_8 r.grain a roomy.wide part.grained
+start_8 : {r : Range} {a n : ℕ} → C.HasRoom r → C.IsPart r a n → IsMultiple 8 a
+start_8 {r} {a} {n} roomy part = multiple_of_8 r.grain a roomy.wide part.grained
 
-  high_8 : IsMultiple 8 (a + n)
-  high_8 = multiple_of_8 r.grain (a + n) roomy.wide (multiple_sum r.grain a n part.grained part.rounded)
+end_8 : {r : Range} {a n : ℕ} → C.HasRoom r → C.IsPart r a n → IsMultiple 8 (a + n)
+end_8 {r} {a} {n} roomy part = multiple_of_8 r.grain (a + n) roomy.wide (multiple_sum r.grain a n part.grained part.rounded)
 
-  module _ (free_part : IsFree a (a + n) hs) where
-    abbrev taken_cut : (front : List Span) × (h : Span) × (back : List Span) × IsTakenFrom r.lo r.hi a (a + n) hs front h back
-    taken_cut = cut_taken r.lo r.hi a (a + n) hs some holes free_part
+-- what is asked for a part, which is free or used
+pub record Asked (Is : ℕ → ℕ → List Span → Type 0) (r : Range) (hs : List Span) (bytes : List ℕ) (a n : ℕ) : Type 0 where
+  pub roomy : C.HasRoom r
+  pub part : C.IsPart r a n
+  pub holes : AreHoles r.lo r.hi hs
+  pub thread : AreThreaded hs bytes
+  pub is : Is a (a + n) hs
 
-    pub take_there : None ≡ last_before (a + n) hs → ⊥
-    take_there is = let c = taken_cut in C.none-some c.1.from (is ∙ c.3.at)
+pub asked : (Is : ℕ → ℕ → List Span → Type 0) (bytes : List ℕ) {f now : C.Free} {a n : ℕ} → f ≡ now → C.HasRoom f.range → AreHoles f.range.lo f.range.hi f.holes → C.IsPart now.range a n → AreThreaded now.holes bytes → Is a (a + n) now.holes → Asked Is f.range f.holes bytes a n
+asked Is bytes {f} {now} {a} {n} same roomy holes part thread is = record {
+  roomy = roomy;
+  part = subst (λ (g : C.Free). C.IsPart g.range a n) (sym same) part;
+  holes = holes;
+  thread = subst (λ (g : C.Free). AreThreaded g.holes bytes) (sym same) thread;
+  is = subst (λ (g : C.Free). Is a (a + n) g.holes) (sym same) is;
+}
 
-    module _ (begin : ℕ) (at : Some begin ≡ last_before (a + n) hs) where
-      begin_is : begin ≡ taken_cut.1.from
-      begin_is = C.same_Some begin taken_cut.1.from (at ∙ taken_cut.3.at)
+module _ {r : Range} {hs : List Span} {bytes : List ℕ} {a n : ℕ} (p : Asked IsFree r hs bytes a n) where
+  abbrev taken_cut : (front : List Span) × (h : Span) × (back : List Span) × IsTakenFrom r.lo r.hi a (a + n) hs front h back
+  taken_cut = cut_taken r.lo r.hi a (a + n) hs (some_of p.part) p.holes p.is
 
-      words : HasWords taken_cut.1 (first_of no_hole taken_cut.2) bytes
-      words = let c = taken_cut in taken_words r.lo r.hi a (a + n) hs bytes c.0 c.1 c.2 c.3 some low_8 high_8 roomy.small thread
+  pub take_there : None ≡ last_before (a + n) hs → ⊥
+  take_there is = let c = taken_cut in C.none-some c.1.from (is ∙ c.3.at)
 
-      pub take_from : begin ≤ a
-      take_from = let e = begin_is in let from = taken_cut.3.from in omega arith
+  module _ (begin : ℕ) (at : Some begin ≡ last_before (a + n) hs) where
+    begin_is : begin ≡ taken_cut.1.from
+    begin_is = C.same_Some begin taken_cut.1.from (at ∙ taken_cut.3.at)
 
-      pub take_fits : begin + 8 ≤ length bytes
-      take_fits = let e = begin_is in let w = words in let fits = room taken_cut.1.from taken_cut.1.to w.low w.high w.some in let inside = w.inside in omega arith
+    words : HasWords taken_cut.1 (first_of no_hole taken_cut.2) bytes
+    words = let c = taken_cut in taken_words r.lo r.hi a (a + n) hs bytes c.0 c.1 c.2 c.3 (some_of p.part) (start_8 p.roomy p.part) (end_8 p.roomy p.part) p.roomy.small p.thread
 
-      take_size : word_in bytes begin ≡ taken_cut.1.to - taken_cut.1.from
-      take_size = ap (λ (x : ℕ). word_in bytes x) begin_is ∙ words.size
+    pub take_from : begin ≤ a
+    take_from = let e = begin_is in let from = taken_cut.3.from in omega arith
 
-      take_next : word_in bytes (begin + 4) ≡ first_of no_hole taken_cut.2
-      take_next = ap (λ (x : ℕ). word_in bytes (x + 4)) begin_is ∙ words.link
+    pub take_fits : begin + 8 ≤ length bytes
+    take_fits = let e = begin_is in let w = words in let fits = room taken_cut.1.from taken_cut.1.to w.low w.high w.some in let inside = w.inside in omega arith
 
-      -- where the hole ends
-      take_end : begin + word_in bytes begin ≡ taken_cut.1.to
-      take_end = let e = begin_is in let f = take_size in let has = words.some in omega arith
+    take_size : word_in bytes begin ≡ taken_cut.1.to - taken_cut.1.from
+    take_size = ap (λ (x : ℕ). word_in bytes x) begin_is ∙ words.size
 
-      pub take_top : begin + word_in bytes begin ≤ r.hi
-      take_top = let e = take_end in let top = taken_cut.3.high in omega arith
+    take_next : word_in bytes (begin + 4) ≡ first_of no_hole taken_cut.2
+    take_next = ap (λ (x : ℕ). word_in bytes (x + 4)) begin_is ∙ words.link
 
-      pub take_room : a + n < begin + word_in bytes begin → a + n + 8 ≤ length bytes
-      take_room lt =
-          let e = take_end in
-          let w = words in
-          let inside = w.inside in
-          let fits = room (a + n) taken_cut.1.to high_8 w.high (omega arith) in omega arith
+    -- where the hole ends
+    take_end : begin + word_in bytes begin ≡ taken_cut.1.to
+    take_end = let e = begin_is in let f = take_size in let has = words.some in omega arith
 
-      -- the words of the last hole below
-      pub take_link : IfSome (last_before a hs) (λ (x : ℕ). x + 8 ≤ length bytes)
-      take_link =
-          let c = taken_cut in
-          let cut : IsThread no_hole (c.0 ++ c.1 ∷ c.2) bytes = subst (λ (l : List Span). IsThread no_hole l bytes) c.3.whole thread in
-          elim (cases_lt c.1.from a) [
-            | inl lt ↦ let e = begin_is in let fits = take_fits in subst (λ (o : Option ℕ). IfSome o (λ (x : ℕ). x + 8 ≤ length bytes)) (sym (c.3.inside lt)) (omega arith)
-            | inr le ↦
-                let from = c.3.from in
-                let e : c.1.from ≡ a = omega arith in
-                subst (λ (o : Option ℕ). IfSome o (λ (x : ℕ). x + 8 ≤ length bytes)) (sym (c.3.begins e ∙ ap (λ (x : ℕ). last_before x c.0) (sym e)))
-                (link_fits c.1.from r.lo c.1.from c.0 bytes c.3.below (thread_front no_hole c.0 (c.1 ∷ c.2) bytes cut))
-          ]
+    pub take_top : begin + word_in bytes begin ≤ r.hi
+    take_top = let e = take_end in let top = taken_cut.3.high in omega arith
 
-      pub take_written : (size next behind : ℕ) (made tied left : List ℕ) → size ≡ word_in bytes begin → next ≡ word_in bytes (begin + 4) → made ≡ put_hole bytes (a + n) (begin + size) next
-          → behind ≡ first_of next (add_span (a + n) (begin + size) []) → tied ≡ put_link made (last_before a hs) behind → left ≡ put_word tied begin (a - begin)
-          → AreThreaded (taken a (a + n) hs) left × AreSameOutside hs bytes left
-      take_written size next behind made tied left size_is next_is made_is behind_is tied_is left_is =
-          let c = taken_cut in
-          let end : begin + size ≡ c.1.to = ap (λ (m : ℕ). begin + m) size_is ∙ take_end in
-          let link : next ≡ first_of no_hole c.2 = next_is ∙ take_next in
-          let first : made ≡ put_hole bytes (a + n) c.1.to (first_of no_hole c.2) = made_is ∙ ap (λ (m : ℕ). put_hole bytes (a + n) m next) end ∙ ap (λ (m : ℕ). put_hole bytes (a + n) c.1.to m) link in
-          let onward : behind ≡ first_of (first_of no_hole c.2) (add_span (a + n) c.1.to []) = behind_is ∙ ap (λ (m : ℕ). first_of next (add_span (a + n) m [])) end ∙ ap (λ (m : ℕ). first_of m (add_span (a + n) c.1.to [])) link in
-          let second = tied_is ∙ ap (λ (l : List ℕ). put_link l (last_before a hs) behind) first ∙ ap (λ (m : ℕ). put_link (put_hole bytes (a + n) c.1.to (first_of no_hole c.2)) (last_before a hs) m) onward in
-          let third = left_is ∙ ap (λ (l : List ℕ). put_word l begin (a - begin)) second
-          ∙ ap (λ (m : ℕ). put_word (put_link (put_hole bytes (a + n) c.1.to (first_of no_hole c.2)) (last_before a hs) (first_of (first_of no_hole c.2) (add_span (a + n) c.1.to []))) m (a - m)) begin_is in
-          subst (λ (l : List ℕ). AreThreaded (taken a (a + n) hs) l × AreSameOutside hs bytes l) (sym third)
-          (taken_done r.lo r.hi a (a + n) hs bytes c.0 c.1 c.2 c.3 some low_8 high_8 roomy.small thread)
+    pub take_room : a + n < begin + word_in bytes begin → a + n + 8 ≤ length bytes
+    take_room lt =
+        let e = take_end in
+        let w = words in
+        let inside = w.inside in
+        let fits = room (a + n) taken_cut.1.to (end_8 p.roomy p.part) w.high (omega arith) in omega arith
 
-  module _ (used_part : C.IsUsed a (a + n) hs) (inside : a + n ≤ length bytes) where
-    abbrev put_at : (front : List Span) × (from to : ℕ) × (back joins : List Span) × IsPutAt r.lo r.hi a (a + n) hs front from to back joins
-    put_at = cut_put r.lo r.hi a (a + n) hs some part.from part.to holes used_part
-
-    put_from : a - length_to a hs ≡ put_at.1
-    put_from = let c = put_at in let e = c.5.ending in let le = c.5.below in omega arith
-
-    pub put_less : length_to a hs ≤ a
-    put_less = let c = put_at in let e = c.5.ending in omega arith
-
-    put_end : a + n + length_at (a + n) hs ≡ put_at.2
-    put_end = let c = put_at in let e = c.5.at in let le = c.5.above in omega arith
-
-    pub put_top : a + n + length_at (a + n) hs ≤ r.hi
-    put_top = let e = put_end in let top = put_at.5.high in omega arith
-
-    put_wide : put_at.1 + 8 ≤ put_at.2
-    put_wide = let c = put_at in wide_enough r.lo r.hi a (a + n) hs bytes c.0 c.1 c.2 c.3 c.4 c.5 some low_8 high_8 roomy.small inside thread
-
-    put_inside : put_at.2 ≤ length bytes
-    put_inside = let c = put_at in to_inside r.lo r.hi a (a + n) hs bytes c.0 c.1 c.2 c.3 c.4 c.5 some low_8 high_8 roomy.small inside thread
-
-    pub put_fits : a - length_to a hs + 8 ≤ length bytes
-    put_fits = let e = put_from in let w = put_wide in let i = put_inside in omega arith
-
-    pub put_room : IfSome (last_before a hs) (λ (x : ℕ). x + 8 ≤ length bytes)
-    put_room =
-        let c = put_at in
-        let cut : IsThread no_hole (c.0 ++ (c.4 ++ c.3)) bytes = subst (λ (l : List Span). IsThread no_hole l bytes) c.5.whole thread in
-        elim c.5.begin [
-          | inl alone ↦ subst (λ (o : Option ℕ). IfSome o (λ (x : ℕ). x + 8 ≤ length bytes)) (sym (alone.1 ∙ ap (λ (x : ℕ). last_before x c.0) (sym alone.0)))
-              (link_fits (first_of no_hole (c.4 ++ c.3)) r.lo c.1 c.0 bytes c.5.lower (thread_front no_hole c.0 (c.4 ++ c.3) bytes cut))
-          | inr hole ↦ let w = put_wide in let i = put_inside in subst (λ (o : Option ℕ). IfSome o (λ (x : ℕ). x + 8 ≤ length bytes)) (sym hole.2) (omega arith)
+    -- the words of the last hole below
+    pub take_link : IfSome (last_before a hs) (λ (x : ℕ). x + 8 ≤ length bytes)
+    take_link =
+        let c = taken_cut in
+        let cut : IsThread no_hole (c.0 ++ c.1 ∷ c.2) bytes = subst (λ (l : List Span). IsThread no_hole l bytes) c.3.whole p.thread in
+        elim (cases_lt c.1.from a) [
+          | inl lt ↦ let e = begin_is in let fits = take_fits in subst (λ (o : Option ℕ). IfSome o (λ (x : ℕ). x + 8 ≤ length bytes)) (sym (c.3.inside lt)) (omega arith)
+          | inr le ↦
+              let from = c.3.from in
+              let e : c.1.from ≡ a = omega arith in
+              subst (λ (o : Option ℕ). IfSome o (λ (x : ℕ). x + 8 ≤ length bytes)) (sym (c.3.begins e ∙ ap (λ (x : ℕ). last_before x c.0) (sym e)))
+              (link_fits c.1.from r.lo c.1.from c.0 bytes c.3.below (thread_front no_hole c.0 (c.1 ∷ c.2) bytes cut))
         ]
 
-    pub put_all : (next end ending : ℕ) (tied left : List ℕ) → next ≡ C.next_above (a + n) hs → end ≡ length_at (a + n) hs → ending ≡ length_to a hs → tied ≡ put_link bytes (last_before a hs) (a - ending)
-        → left ≡ put_words tied (a - ending) (a + n + end - (a - ending)) next → AreThreaded (joined a (a + n) hs) left × AreSameOutside (joined a (a + n) hs) bytes left
-    put_all next end ending tied left next_is end_is ending_is tied_is left_is =
-        let c = put_at in
-        let from : a - ending ≡ c.1 = ap (λ (m : ℕ). a - m) ending_is ∙ put_from in
-        let to : a + n + end ≡ c.2 = ap (λ (m : ℕ). a + n + m) end_is ∙ put_end in
-        let link : next ≡ first_of no_hole c.3 = next_is ∙ c.5.next in
-        let first : tied ≡ put_link bytes (last_before a hs) c.1 = tied_is ∙ ap (λ (m : ℕ). put_link bytes (last_before a hs) m) from in
-        let second = left_is ∙ ap (λ (l : List ℕ). put_words l (a - ending) (a + n + end - (a - ending)) next) first
-        ∙ ap (λ (m : ℕ). put_words (put_link bytes (last_before a hs) c.1) m (a + n + end - m) next) from
-        ∙ ap (λ (m : ℕ). put_words (put_link bytes (last_before a hs) c.1) c.1 (m - c.1) next) to
-        ∙ ap (λ (m : ℕ). put_words (put_link bytes (last_before a hs) c.1) c.1 (c.2 - c.1) m) link in
-        subst (λ (l : List ℕ). AreThreaded (joined a (a + n) hs) l × AreSameOutside (joined a (a + n) hs) bytes l) (sym second)
-        (put_done r.lo r.hi a (a + n) hs bytes c.0 c.1 c.2 c.3 c.4 c.5 some low_8 high_8 roomy.small inside thread)
+    pub take_written : (size next behind : ℕ) (made tied left : List ℕ) → size ≡ word_in bytes begin → next ≡ word_in bytes (begin + 4) → made ≡ put_hole bytes (a + n) (begin + size) next
+        → behind ≡ first_of next (add_span (a + n) (begin + size) []) → tied ≡ put_link made (last_before a hs) behind → left ≡ put_word tied begin (a - begin)
+        → AreThreaded (taken a (a + n) hs) left × AreSameOutside hs bytes left
+    take_written size next behind made tied left size_is next_is made_is behind_is tied_is left_is =
+        let c = taken_cut in
+        let end : begin + size ≡ c.1.to = ap (λ (m : ℕ). begin + m) size_is ∙ take_end in
+        let link : next ≡ first_of no_hole c.2 = next_is ∙ take_next in
+        let first : made ≡ put_hole bytes (a + n) c.1.to (first_of no_hole c.2) = made_is ∙ ap (λ (m : ℕ). put_hole bytes (a + n) m next) end ∙ ap (λ (m : ℕ). put_hole bytes (a + n) c.1.to m) link in
+        let onward : behind ≡ first_of (first_of no_hole c.2) (add_span (a + n) c.1.to []) = behind_is ∙ ap (λ (m : ℕ). first_of next (add_span (a + n) m [])) end ∙ ap (λ (m : ℕ). first_of m (add_span (a + n) c.1.to [])) link in
+        let second = tied_is ∙ ap (λ (l : List ℕ). put_link l (last_before a hs) behind) first ∙ ap (λ (m : ℕ). put_link (put_hole bytes (a + n) c.1.to (first_of no_hole c.2)) (last_before a hs) m) onward in
+        let third = left_is ∙ ap (λ (l : List ℕ). put_word l begin (a - begin)) second
+        ∙ ap (λ (m : ℕ). put_word (put_link (put_hole bytes (a + n) c.1.to (first_of no_hole c.2)) (last_before a hs) (first_of (first_of no_hole c.2) (add_span (a + n) c.1.to []))) m (a - m)) begin_is in
+        subst (λ (l : List ℕ). AreThreaded (taken a (a + n) hs) l × AreSameOutside hs bytes l) (sym third)
+        (taken_done r.lo r.hi a (a + n) hs bytes c.0 c.1 c.2 c.3 (some_of p.part) (start_8 p.roomy p.part) (end_8 p.roomy p.part) p.roomy.small p.thread)
+
+module _ {r : Range} {hs : List Span} {bytes : List ℕ} {a n : ℕ} (p : Asked C.IsUsed r hs bytes a n) (inside : a + n ≤ length bytes) where
+  abbrev put_at : (front : List Span) × (from to : ℕ) × (back joins : List Span) × IsPutAt r.lo r.hi a (a + n) hs front from to back joins
+  put_at = cut_put r.lo r.hi a (a + n) hs (some_of p.part) p.part.from p.part.to p.holes p.is
+
+  put_from : a - length_to a hs ≡ put_at.1
+  put_from = let c = put_at in let e = c.5.ending in let le = c.5.below in omega arith
+
+  pub put_less : length_to a hs ≤ a
+  put_less = let c = put_at in let e = c.5.ending in omega arith
+
+  put_end : a + n + length_at (a + n) hs ≡ put_at.2
+  put_end = let c = put_at in let e = c.5.at in let le = c.5.above in omega arith
+
+  pub put_top : a + n + length_at (a + n) hs ≤ r.hi
+  put_top = let e = put_end in let top = put_at.5.high in omega arith
+
+  put_wide : put_at.1 + 8 ≤ put_at.2
+  put_wide = let c = put_at in wide_enough r.lo r.hi a (a + n) hs bytes c.0 c.1 c.2 c.3 c.4 c.5 (some_of p.part) (start_8 p.roomy p.part) (end_8 p.roomy p.part) p.roomy.small inside p.thread
+
+  put_inside : put_at.2 ≤ length bytes
+  put_inside = let c = put_at in to_inside r.lo r.hi a (a + n) hs bytes c.0 c.1 c.2 c.3 c.4 c.5 (some_of p.part) (start_8 p.roomy p.part) (end_8 p.roomy p.part) p.roomy.small inside p.thread
+
+  pub put_fits : a - length_to a hs + 8 ≤ length bytes
+  put_fits = let e = put_from in let w = put_wide in let i = put_inside in omega arith
+
+  pub put_room : IfSome (last_before a hs) (λ (x : ℕ). x + 8 ≤ length bytes)
+  put_room =
+      let c = put_at in
+      let cut : IsThread no_hole (c.0 ++ (c.4 ++ c.3)) bytes = subst (λ (l : List Span). IsThread no_hole l bytes) c.5.whole p.thread in
+      elim c.5.begin [
+        | inl alone ↦ subst (λ (o : Option ℕ). IfSome o (λ (x : ℕ). x + 8 ≤ length bytes)) (sym (alone.1 ∙ ap (λ (x : ℕ). last_before x c.0) (sym alone.0)))
+            (link_fits (first_of no_hole (c.4 ++ c.3)) r.lo c.1 c.0 bytes c.5.lower (thread_front no_hole c.0 (c.4 ++ c.3) bytes cut))
+        | inr hole ↦ let w = put_wide in let i = put_inside in subst (λ (o : Option ℕ). IfSome o (λ (x : ℕ). x + 8 ≤ length bytes)) (sym hole.2) (omega arith)
+      ]
+
+  pub put_all : (next end ending : ℕ) (tied left : List ℕ) → next ≡ C.next_above (a + n) hs → end ≡ length_at (a + n) hs → ending ≡ length_to a hs → tied ≡ put_link bytes (last_before a hs) (a - ending)
+      → left ≡ put_words tied (a - ending) (a + n + end - (a - ending)) next → AreThreaded (joined a (a + n) hs) left × AreSameOutside (joined a (a + n) hs) bytes left
+  put_all next end ending tied left next_is end_is ending_is tied_is left_is =
+      let c = put_at in
+      let from : a - ending ≡ c.1 = ap (λ (m : ℕ). a - m) ending_is ∙ put_from in
+      let to : a + n + end ≡ c.2 = ap (λ (m : ℕ). a + n + m) end_is ∙ put_end in
+      let link : next ≡ first_of no_hole c.3 = next_is ∙ c.5.next in
+      let first : tied ≡ put_link bytes (last_before a hs) c.1 = tied_is ∙ ap (λ (m : ℕ). put_link bytes (last_before a hs) m) from in
+      let second = left_is ∙ ap (λ (l : List ℕ). put_words l (a - ending) (a + n + end - (a - ending)) next) first
+      ∙ ap (λ (m : ℕ). put_words (put_link bytes (last_before a hs) c.1) m (a + n + end - m) next) from
+      ∙ ap (λ (m : ℕ). put_words (put_link bytes (last_before a hs) c.1) c.1 (m - c.1) next) to
+      ∙ ap (λ (m : ℕ). put_words (put_link bytes (last_before a hs) c.1) c.1 (c.2 - c.1) m) link in
+      subst (λ (l : List ℕ). AreThreaded (joined a (a + n) hs) l × AreSameOutside (joined a (a + n) hs) bytes l) (sym second)
+      (put_done r.lo r.hi a (a + n) hs bytes c.0 c.1 c.2 c.3 c.4 c.5 (some_of p.part) (start_8 p.roomy p.part) (end_8 p.roomy p.part) p.roomy.small inside p.thread)
 
 -- n used bytes slide over a whole hole
 module _ {f : C.Free} {bytes : List ℕ} {from to n : ℕ} (p : MayPass f bytes from to n) where
-  abbrev lo : ℕ
-  lo = f.range.lo
+  pub pass_at : (front rest : List Span) × IsPassed f.range.hi from to n f.range.lo f.holes front rest
+  pass_at = cut_passed f.range.hi from to n p.down p.new.some f.range.lo f.holes p.ordered p.whole p.used
 
-  abbrev pass_at : (front : List Span) × (end : ℕ) × (back joins : List Span) × IsPassed lo f.range.hi from to n f.holes front end back joins
-  pass_at = cut_passed f.range.hi from to n p.down p.new.some p.old.to lo f.holes p.ordered p.whole p.used
+  pub pass_put : (end : ℕ) × (back joins : List Span) × IsPutBelow (to + n) (from + n) f.range.hi pass_at.1 end back joins
+  pass_put = let down = p.down in cut_below (to + n) (from + n) f.range.hi pass_at.1 (omega arith) p.old.to pass_at.2.higher
 
-  abbrev hole : Span
-  hole = record { from = to; to = from }
+  pass_threads : IsThread to pass_at.0 bytes × IsThread no_hole pass_at.1 bytes
+  pass_threads =
+      let c = pass_at in let h : Span = record { from = to; to = from } in let cut = subst (λ (l : List Span). IsThread no_hole l bytes) c.2.whole p.kept in
+      (thread_front no_hole c.0 (h ∷ c.1) bytes cut, (thread_back no_hole c.0 (h ∷ c.1) bytes cut).1)
 
-  pass_cut : IsThread no_hole (pass_at.0 ++ hole ∷ (pass_at.3 ++ pass_at.2)) bytes
-  pass_cut = subst (λ (l : List Span). IsThread no_hole l bytes) pass_at.4.whole p.kept
-
-  pass_low : IsThread to pass_at.0 bytes
-  pass_low = let c = pass_at in thread_front no_hole c.0 (hole ∷ (c.3 ++ c.2)) bytes pass_cut
-
-  pass_high : IsThread no_hole pass_at.2 bytes
-  pass_high = let c = pass_at in thread_back no_hole c.3 c.2 bytes (thread_back no_hole c.0 (hole ∷ (c.3 ++ c.2)) bytes pass_cut).1
-
-  pass_low_8 : IsMultiple 8 (to + n)
-  pass_low_8 = multiple_of_8 f.range.grain (to + n) p.roomy.wide (multiple_sum f.range.grain to n p.new.grained p.new.rounded)
-
-  pass_high_8 : IsMultiple 8 pass_at.1 × (pass_at.1 ≤ length bytes)
-  pass_high_8 = let inside = p.inside in elim pass_at.4.ends [
-    | inl alone ↦ (subst (IsMultiple 8) (sym alone) (multiple_of_8 f.range.grain (from + n) p.roomy.wide (multiple_sum f.range.grain from n p.old.grained p.old.rounded)), omega arith)
-    | inr there ↦ let w = hole_words no_hole (from + n) pass_at.1 f.holes bytes there p.kept in (w.1, w.2)
+  pass_high_8 : IsMultiple 8 pass_put.0 × (pass_put.0 ≤ length bytes)
+  pass_high_8 = let inside = p.inside in elim pass_put.3.end [
+    | inl alone ↦ (subst (IsMultiple 8) (sym alone.0) (end_8 p.roomy p.old), let e = alone.0 in omega arith)
+    | inr there ↦ let w = hole_words no_hole (from + n) pass_put.0 pass_at.1 bytes there pass_threads.1 in (w.1, w.2)
   ]
 
-  pub pass_end : from + n + length_at (from + n) f.holes ≡ pass_at.1
-  pass_end = let is = pass_at.4.at in let above = pass_at.4.above in omega arith
-
-  pub pass_top : from + n + length_at (from + n) f.holes ≤ f.range.hi
-  pass_top = let e = pass_end in let top = pass_at.4.high in omega arith
-
-  pass_fits : to + n + 8 ≤ pass_at.1
-  pass_fits = let down = p.down in let above = pass_at.4.above in room (to + n) pass_at.1 pass_low_8 pass_high_8.0 (omega arith)
-
-  pub pass_room : to + n + 8 ≤ length bytes
-  pass_room = let fits = pass_fits in let inside = pass_high_8.1 in omega arith
+  pub pass_fits : (from + n + length_at (from + n) f.holes ≡ pass_put.0) × (pass_put.0 ≤ f.range.hi) × (to + n + 8 ≤ pass_put.0) × (pass_put.0 ≤ length bytes)
+  pass_fits =
+      let put = pass_put.3 in let above = put.from in let one = pass_at.2.at in let two = put.at in let down = p.down in
+      (omega arith, put.high, room (to + n) pass_put.0 (end_8 p.roomy p.new) pass_high_8.0 (omega arith), pass_high_8.1)
 
   pub pass_below : Some to ≡ last_before (from + n) f.holes
-  pass_below = sym pass_at.4.last
+  pass_below = sym pass_at.2.last
 
   pub pass_link : IfSome (last_before to f.holes) (λ (x : ℕ). x + 8 ≤ length bytes)
-  pass_link = let c = pass_at in subst (λ (o : Option ℕ). IfSome o (λ (x : ℕ). x + 8 ≤ length bytes)) (sym c.4.begin) (link_fits to lo to c.0 bytes c.4.lower pass_low)
+  pass_link = let c = pass_at in subst (λ (o : Option ℕ). IfSome o (λ (x : ℕ). x + 8 ≤ length bytes)) (sym c.2.begin) (link_fits to f.range.lo to c.0 bytes c.2.lower pass_threads.0)
 
-  abbrev pass_linked : List ℕ
-  pass_linked = put_link bytes (last_before to pass_at.0) (to + n)
+  abbrev pass_one : List ℕ
+  pass_one = put_link bytes (last_before to f.holes) (to + n)
 
-  abbrev pass_slid : List ℕ
-  pass_slid = C.put_part pass_linked to (C.part pass_linked from n)
+  abbrev pass_two : List ℕ
+  pass_two = C.put_part pass_one to (C.part pass_one from n)
 
-  abbrev pass_left : List ℕ
-  pass_left = put_words pass_slid (to + n) (pass_at.1 - (to + n)) (first_of no_hole pass_at.2)
+  abbrev pub pass_three : List ℕ
+  pass_three = put_words pass_two (to + n) (from + n + length_at (from + n) f.holes - (to + n)) (C.next_above (from + n) f.holes)
 
-  link_stays : IsKept lo to bytes pass_linked
-  link_stays = let c = pass_at in link_kept to (to + n) lo to c.0 bytes c.4.lower pass_low
+  abbrev pub Passes : List ℕ → Type 0
+  Passes last = AreThreaded (C.slid_down from to n f.holes) last × C.AreSameBut to n f.holes (C.slid_down from to n f.holes) bytes last × (C.part last to n ≡ C.part bytes from n)
 
-  slid_stays : IsKept to (to + n) pass_linked pass_slid
-  slid_stays =
-      let long = link_stays.long in let inside = p.inside in let down = p.down in let size = C.length-part pass_linked from n (omega arith) in record {
-        long = C.length-put_part pass_linked to (C.part pass_linked from n) (omega arith);
-        outside = record {
-          below = C.take-put_part pass_linked to (C.part pass_linked from n) to (omega arith) (omega arith);
-          above = C.drop-put_part pass_linked to (C.part pass_linked from n) (to + n) (omega arith) (omega arith);
-        };
-      }
-
-  left_stays : IsKept (to + n) (to + n + 8) pass_slid pass_left
-  left_stays = let one = link_stays.long in let two = slid_stays.long in let fits = pass_room in kept_words pass_slid (to + n) (pass_at.1 - (to + n)) (first_of no_hole pass_at.2) (omega arith)
-
-  passed : AreThreaded (C.slid_down from to n f.holes) pass_left × C.AreSameBut to n f.holes (C.slid_down from to n f.holes) bytes pass_left × (C.part pass_left to n ≡ C.part bytes from n)
+  pub passed : Passes pass_three
   passed =
-      let c = pass_at in let is = c.4 in let one = link_stays.long in let two = slid_stays.long in let fits = pass_fits in let inside = pass_high_8.1 in
-      let low = is.low in let top = is.high in let small = p.roomy.small in let within = p.inside in let down = p.down in
-      let new : Span = record { from = to + n; to = c.1 } in
-      let same : AreSameOutside f.holes bytes pass_linked =
-      link_used to (to + n) lo to c.0 f.holes bytes (λ x y free. subst (λ (l : List Span). IsFree x y l) (sym is.whole) (free_front x y c.0 (hole ∷ (c.3 ++ c.2)) free)) is.lower pass_low in
-      let front : IsThread (to + n) c.0 pass_slid = thread_kept (to + n) c.0 lo to to (to + n) pass_linked pass_slid slid_stays is.lower (inl (omega arith)) (relink to (to + n) lo to c.0 bytes (omega arith) is.lower pass_low) in
-      let back : IsThread no_hole c.2 pass_slid = thread_kept no_hole c.2 (suc c.1) f.range.hi to (to + n) pass_linked pass_slid slid_stays is.higher (inr (omega arith)) (thread_kept no_hole c.2 (suc c.1) f.range.hi lo to bytes pass_linked link_stays is.higher (inr (omega arith)) pass_high) in
-      let after : AreSameOutside (c.0 ++ new ∷ c.2) pass_slid pass_left = used_kept (to + n) (to + n + 8) (c.0 ++ new ∷ c.2) pass_slid pass_left (free_back (to + n) (to + n + 8) c.0 (new ∷ c.2) (inl (omega arith, omega arith))) left_stays in (
-        subst (λ (l : List Span). AreThreaded l pass_left) (sym is.made) (between lo to f.range.hi (to + n) c.1 c.0 c.2 pass_slid pass_low_8 pass_high_8.0 (omega arith) (omega arith) (omega arith) top small is.lower is.higher front back),
-        others_stay from to n bytes pass_linked pass_slid pass_left f.holes (C.slid_down from to n f.holes) same refl (subst (λ (l : List Span). AreSameOutside l pass_slid pass_left) (sym is.made) after) (omega arith) (omega arith),
-        C.part_below pass_left pass_slid to n (to + n) (omega arith) left_stays.outside.below ∙ part_slid from to n pass_linked pass_slid refl (omega arith) (omega arith) ∙ same.same from n p.used,
+      let c = pass_at in let is = c.2 in let end = pass_put.0 in let back = pass_put.1 in let put = pass_put.3 in let lo = f.range.lo in
+      let fits = pass_fits.2 in let inside = pass_fits.3 in let low = is.low in let small = p.roomy.small in let top = put.high in let within = p.inside in let down = p.down in
+      let all : List Span = c.0 ++ record { from = to + n; to = end } ∷ back in
+      let made : C.slid_down from to n f.holes ≡ all = is.made ∙ ap (λ (l : List Span). c.0 ++ l) put.made in
+      let link = ap (λ (o : Option ℕ). put_link bytes o (to + n)) (sym is.begin) in
+      let linked : IsKept lo to bytes pass_one = subst (IsKept lo to bytes) link (link_kept to (to + n) lo to c.0 bytes is.lower pass_threads.0) in
+      let same : AreSameOutside f.holes bytes pass_one = subst (AreSameOutside f.holes bytes) link
+      (link_used to (to + n) lo to c.0 f.holes bytes (λ x y free. subst (λ (l : List Span). IsFree x y l) (sym is.whole) (free_front x y c.0 (record { from = to; to = from } ∷ c.1) free)) is.lower pass_threads.0) in
+      let long = linked.long in let size = C.length-part pass_one from n (omega arith) in let target : to + n ≤ length pass_one = omega arith in
+      let slid : IsKept to (to + n) pass_one pass_two = record {
+        long = C.length-put_part pass_one to (C.part pass_one from n) (omega arith);
+        outside = record {
+          below = C.take-put_part pass_one to (C.part pass_one from n) to (omega arith) (omega arith);
+          above = C.drop-put_part pass_one to (C.part pass_one from n) (to + n) (omega arith) (omega arith);
+        };
+      } in
+      let longer = slid.long in
+      let last : IsKept (to + n) (to + n + 8) pass_two pass_three = kept_words pass_two (to + n) (from + n + length_at (from + n) f.holes - (to + n)) (C.next_above (from + n) f.holes) (omega arith) in
+      let front = thread_kept (to + n) c.0 lo to to (to + n) pass_one pass_two slid is.lower (inl (omega arith)) (subst (IsThread (to + n) c.0) link (relink to (to + n) lo to c.0 bytes (omega arith) is.lower pass_threads.0)) in
+      let behind = thread_kept no_hole back (suc end) f.range.hi lo (to + n) bytes pass_two (kept_trans lo (to + n) bytes pass_one pass_two (kept_wider lo to lo (to + n) bytes pass_one (omega arith) (omega arith) linked) (kept_wider to (to + n) lo (to + n) pass_one pass_two low (omega arith) slid))
+      put.above (inr (omega arith)) (thread_back no_hole pass_put.2 back bytes (subst (λ (l : List Span). IsThread no_hole l bytes) put.whole pass_threads.1)) in
+      let threaded = between lo to f.range.hi (to + n) end c.0 back pass_two (end_8 p.roomy p.new) pass_high_8.0 (omega arith) (omega arith) (omega arith) top small is.lower put.above front behind in (
+        subst (λ (l : List Span). AreThreaded l pass_three) (sym made) (subst (AreThreaded all) (λ i. put_words pass_two (to + n) (sym pass_fits.0 i - (to + n)) (sym (is.next ∙ put.next) i)) threaded),
+        others_stay from to n bytes pass_one pass_two pass_three f.holes (C.slid_down from to n f.holes) same refl
+            (subst (λ (l : List Span). AreSameOutside l pass_two pass_three) (sym made) (used_kept (to + n) (to + n + 8) all pass_two pass_three (free_back (to + n) (to + n + 8) c.0 (record { from = to + n; to = end } ∷ back) (inl (omega arith, omega arith))) last)) (omega arith) (omega arith),
+        C.part_below pass_three pass_two to n (to + n) (omega arith) last.outside.below ∙ part_slid from to n pass_one pass_two refl (omega arith) target ∙ same.same from n p.used,
       )
-
-  pub pass_all : (onward above : ℕ) (one two three : List ℕ) → onward ≡ C.next_above (from + n) f.holes → above ≡ length_at (from + n) f.holes → one ≡ put_link bytes (last_before to f.holes) (to + n) → two ≡ C.put_part one to (C.part one from n)
-      → three ≡ put_words two (to + n) (from + n + above - (to + n)) onward → AreThreaded (C.slid_down from to n f.holes) three × C.AreSameBut to n f.holes (C.slid_down from to n f.holes) bytes three × (C.part three to n ≡ C.part bytes from n)
-  pass_all onward above one two three onward_is above_is one_is two_is three_is =
-      let c = pass_at in
-      let first : one ≡ pass_linked = one_is ∙ ap (λ (o : Option ℕ). put_link bytes o (to + n)) c.4.begin in
-      let second : two ≡ pass_slid = two_is ∙ ap (λ (l : List ℕ). C.put_part l to (C.part l from n)) first in
-      let third : three ≡ pass_left = three_is ∙ (λ i. put_words (second i) (to + n) ((ap (λ (m : ℕ). from + n + m) above_is ∙ pass_end) i - (to + n)) ((onward_is ∙ c.4.next) i)) in
-      subst (λ (l : List ℕ). AreThreaded (C.slid_down from to n f.holes) l × C.AreSameBut to n f.holes (C.slid_down from to n f.holes) bytes l × (C.part l to n ≡ C.part bytes from n)) (sym third) passed

@@ -87,7 +87,7 @@ module _ (r : Range) (ns : List ℕ) (cells : AreCells r ns) (from to n p m w e 
       let spans_one : spans g r.lo (set ns p 0) ≡ taken to (to + l) hs = ap (spans g r.lo) (sym one_is) ∙ take_spans t p (last_here ns p hole) ∙ ap (λ b. taken to b hs) (let x : from ≡ to + l = omega (arith, down) in x) in
       let cells_one : AreCells r (set ns p 0) = subst (AreCells r) one_is (AreCells-take r ns to from p m cells t p (last_here ns p hole)) in
       let there = AreHoles-cells r ns cells in
-      let mid = used_mid r hs there from to n down new old free used l least in
+      let mid = used_mid hs there down new old free used least in
       let put : IsPut g r.lo (r.hi - r.lo) (set ns p 0) (from + n - l) (from + n - l + l) w e w = record {
         wide = cells.some;
         apart = cells_one.apart;
@@ -97,7 +97,7 @@ module _ (r : Range) (ns : List ℕ) (cells : AreCells r ns) (from to n p m w e 
         end = omega (arith, ends, down);
         some = omega (arith, down);
         last = let top = old.to in omega (arith, ends, top);
-        used = subst (IsUsed (from + n - l) (from + n - l + l)) (sym spans_one) (used_put r hs there from to n down new old free used l least);
+        used = subst (IsUsed (from + n - l) (from + n - l + l)) (sym spans_one) (used_put hs there down new old free used least);
         begin = inr (
           refl,
           λ j lt has. elim (used_cells g (set ns p 0) r.lo to (to + n) (subst (IsUsed to (to + n)) (sym spans_one) mid) j has) [
@@ -129,7 +129,7 @@ module _ (r : Range) (ns : List ℕ) (cells : AreCells r ns) (from to n p m w e 
         end = omega (arith, ends);
         some = omega (arith, some);
         last = let top = old.to in omega (arith, ends, top);
-        used = subst (IsUsed (from + n - n) (from + n - n + n)) (sym spans_one) (used_put r hs there from to n down new old free used n least);
+        used = subst (IsUsed (from + n - n) (from + n - n + n)) (sym spans_one) (used_put hs there down new old free used least);
         begin = inl (below g w m (omega (arith, front, begins, lt)), omega (arith, left, lt), omega (arith, left, front, begins, lt));
       } in
       let same : slice_index (set (set ns p 0) w (l - n)) e ≡ slice_index ns e = get_or-set_other (set ns p 0) w e (l - n) 0 (λ q. omega (arith, q, w_e)) ∙ get_or-set_other ns p e 0 0 (λ q. omega (arith, q, p_w, w_e)) in
@@ -143,7 +143,7 @@ module _ (r : Range) (ns : List ℕ) (cells : AreCells r ns) (from to n p m w e 
   passes = elim (cases_lt n l) [ inl lt ↦ long lt | inr le ↦ short le ]
 
 -- the same of holes that callers know as a value
-module _ (r : Range) (ns : List ℕ) (now : Free) (is : record { range = r; holes = spans r.grain r.lo ns } ≡ now) (cells : AreCells r ns) (from to n p w e : ℕ) (at : r.grain * p ≡ to - r.lo) (front : r.grain * w ≡ to + n - r.lo) (ends : r.grain * e ≡ from + n - r.lo)
+module _ {r : Range} {ns : List ℕ} {now : Free} (cells : AreCells r ns) (is : record { range = r; holes = spans r.grain r.lo ns } ≡ now) {from to n : ℕ} (p w e : ℕ) (at : r.grain * p ≡ to - r.lo) (front : r.grain * w ≡ to + n - r.lo) (ends : r.grain * e ≡ from + n - r.lo)
     (down : to < from) (whole : C.length_at to now.holes ≡ from - to) (new : IsPart now.range to n) (old : IsPart now.range from n) (used : IsUsed from (from + n) now.holes) where
   pub passes_so : (spans r.grain r.lo (set (set (set ns w (from - to + slice_index ns e)) p 0) e 0) ≡ slid_down from to n now.holes) × AreCells r (set (set (set ns w (from - to + slice_index ns e)) p 0) e 0)
   passes_so =

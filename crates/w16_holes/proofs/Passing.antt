@@ -71,7 +71,7 @@ used_joined a b x y (h ∷ hs) some out used = elim (cases_lt h.to a) [
 ]
 
 -- n used bytes that slide from one place down to another
-module _ (r : Range) (hs : List Span) (are : AreHoles r.lo r.hi hs) (from to n : ℕ) (down : to < from) (new : IsPart r to n) (old : IsPart r from n) (free : IsFree to from hs) (used : IsUsed from (from + n) hs) (apart : ℕ) (least : apart ≡ min n (from - to)) where
+module _ {r : Range} (hs : List Span) (are : AreHoles r.lo r.hi hs) {from to n : ℕ} (down : to < from) (new : IsPart r to n) (old : IsPart r from n) (free : IsFree to from hs) (used : IsUsed from (from + n) hs) {apart : ℕ} (least : apart ≡ min n (from - to)) where
   bounds : (0 < apart) × (apart ≤ n) × (apart ≤ from - to) × ((apart ≡ n) ⊎ (apart ≡ from - to))
   bounds = let some = new.some in elim (cases_lt (from - to) n) [
     | inl less ↦ (omega arith, omega arith, omega arith, inr (omega arith))

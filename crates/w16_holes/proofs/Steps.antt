@@ -33,7 +33,7 @@ AreCells-sets r ns i j v w cells apart inside = record {
   inside = inside;
 }
 
-module _ (r : Range) (ns : List ℕ) (now : Free) (is : record { range = r; holes = spans r.grain r.lo ns } ≡ now) (cells : AreCells r ns) (a n p q : ℕ)
+module _ {r : Range} {ns : List ℕ} {now : Free} (cells : AreCells r ns) (is : record { range = r; holes = spans r.grain r.lo ns } ≡ now) {a n : ℕ} (p q : ℕ)
     (asked : IsPart now.range a n) (at : r.grain * p ≡ a - r.lo) (end : r.grain * q ≡ a + n - r.lo) where
   part : IsPart r a n
   part = subst (λ (f : Free). IsPart f.range a n) (sym is) asked

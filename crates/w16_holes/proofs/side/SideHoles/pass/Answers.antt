@@ -19,15 +19,11 @@ cells g c = c.set-3.ensures ∙ ap (λ (xs : List ℕ). set xs c.unit_of-next.re
 pub invariant_of-self : goal.invariant_of-self
 invariant_of-self g c =
     let s = c.self.inside in let r = c.requires in
-    subst (AreCells (range s)) (sym (cells g c)) (passes_so (range s) s.lengths c.args.self.now c.self.view_is
-    c.self.invariant c.args.from c.args.to c.args.size c.unit_of-unit.result c.unit_of-behind.result
-    c.unit_of-next.result c.unit_of-unit.ensures c.unit_of-behind.ensures c.unit_of-next.ensures r.down r.whole r.new
+    subst (AreCells (range s)) (sym (cells g c)) (passes_so c.self.invariant c.self.view_is _ _ _ c.unit_of-unit.ensures c.unit_of-behind.ensures c.unit_of-next.ensures r.down r.whole r.new
     r.old r.used).1
 
 pub returns-clause-holes : goal.returns-clause-holes
 returns-clause-holes g c =
     let s = c.self.inside in let r = c.requires in
-    ap (spans s.grain s.lo) (cells g c) ∙ (passes_so (range s) s.lengths c.args.self.now c.self.view_is
-    c.self.invariant c.args.from c.args.to c.args.size c.unit_of-unit.result c.unit_of-behind.result
-    c.unit_of-next.result c.unit_of-unit.ensures c.unit_of-behind.ensures c.unit_of-next.ensures r.down r.whole r.new
+    ap (spans s.grain s.lo) (cells g c) ∙ (passes_so c.self.invariant c.self.view_is _ _ _ c.unit_of-unit.ensures c.unit_of-behind.ensures c.unit_of-next.ensures r.down r.whole r.new
     r.old r.used).0

@@ -23,24 +23,18 @@ begin_of-begin-requires-clause-below g c =
 
 pub set-requires : goal.set-requires
 set-requires g c =
-    let t = is_put (range c.self.inside) c.self.inside.lengths c.args.self.now c.self.view_is c.self.invariant
-    c.args.place c.args.n c.unit_of-unit.result c.unit_of-next.result c.requires.part c.unit_of-unit.ensures
-    c.unit_of-next.ensures c.begin_of-begin.result c.begin_of-begin.ensures c.requires.used in
+    let t = is_put c.self.invariant c.self.view_is _ _ c.requires.part c.unit_of-unit.ensures c.unit_of-next.ensures c.begin_of-begin.result c.begin_of-begin.ensures c.requires.used in
     put_lt t
 
 pub set-requires-2 : goal.set-requires-2
 set-requires-2 g c =
-    let t = is_put (range c.self.inside) c.self.inside.lengths c.args.self.now c.self.view_is c.self.invariant
-    c.args.place c.args.n c.unit_of-unit.result c.unit_of-next.result c.requires.part c.unit_of-unit.ensures
-    c.unit_of-next.ensures c.begin_of-begin.result c.begin_of-begin.ensures c.requires.used in
+    let t = is_put c.self.invariant c.self.view_is _ _ c.requires.part c.unit_of-unit.ensures c.unit_of-next.ensures c.begin_of-begin.result c.begin_of-begin.ensures c.requires.used in
     let lt = put_next t in let e = ap length c.set.ensures in omega (arith, C.length-set {A = ℕ})
 
 pub invariant_of-self : goal.invariant_of-self
 invariant_of-self g c =
     let s = c.self.inside in let k = c.begin_of-begin.result in let p = c.unit_of-unit.result in let q = c.unit_of-next.result in
-    let t = is_put (range c.self.inside) c.self.inside.lengths c.args.self.now c.self.view_is c.self.invariant
-    c.args.place c.args.n c.unit_of-unit.result c.unit_of-next.result c.requires.part c.unit_of-unit.ensures
-    c.unit_of-next.ensures c.begin_of-begin.result c.begin_of-begin.ensures c.requires.used in
+    let t = is_put c.self.invariant c.self.view_is _ _ c.requires.part c.unit_of-unit.ensures c.unit_of-next.ensures c.begin_of-begin.result c.begin_of-begin.ensures c.requires.used in
     let less = put_before t in
     let cells = two_sets s.lengths c.set.new.self c.set-2.new.self k q (c.args.place + c.args.n - s.lo + c.get.result - c.bytes_before.result) 0 (s.grain * q + slice_index s.lengths q - s.grain * k) 0
     c.set.ensures c.set-2.ensures (omega arith) (omega arith) ∙ sets_apart s.lengths k q (s.grain * q + slice_index s.lengths q - s.grain * k) 0 (λ e. omega arith) in
@@ -49,9 +43,7 @@ invariant_of-self g c =
 pub returns-clause-holes : goal.returns-clause-holes
 returns-clause-holes g c =
     let s = c.self.inside in let k = c.begin_of-begin.result in let p = c.unit_of-unit.result in let q = c.unit_of-next.result in
-    let t = is_put (range c.self.inside) c.self.inside.lengths c.args.self.now c.self.view_is c.self.invariant
-    c.args.place c.args.n c.unit_of-unit.result c.unit_of-next.result c.requires.part c.unit_of-unit.ensures
-    c.unit_of-next.ensures c.begin_of-begin.result c.begin_of-begin.ensures c.requires.used in
+    let t = is_put c.self.invariant c.self.view_is _ _ c.requires.part c.unit_of-unit.ensures c.unit_of-next.ensures c.begin_of-begin.result c.begin_of-begin.ensures c.requires.used in
     let less = put_before t in
     let cells = two_sets s.lengths c.set.new.self c.set-2.new.self k q (c.args.place + c.args.n - s.lo + c.get.result - c.bytes_before.result) 0 (s.grain * q + slice_index s.lengths q - s.grain * k) 0
     c.set.ensures c.set-2.ensures (omega arith) (omega arith) ∙ sets_apart s.lengths k q (s.grain * q + slice_index s.lengths q - s.grain * k) 0 (λ e. omega arith) in

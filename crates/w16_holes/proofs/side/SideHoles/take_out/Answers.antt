@@ -24,38 +24,38 @@ last_to-requires-clause-below g c =
 
 pub bytes_before-from-requires-clause-small : goal.bytes_before-from-requires-clause-small
 bytes_before-from-requires-clause-small g c =
-    let t = is_take (range c.self.inside) c.self.inside.lengths c.args.self.now c.self.view_is c.self.invariant c.args.place c.args.n c.unit_of-unit.result c.unit_of-next.result c.requires.part c.unit_of-unit.ensures c.unit_of-next.ensures c.requires.free in
+    let t = is_take c.self.invariant c.self.view_is _ _ c.requires.part c.unit_of-unit.ensures c.unit_of-next.ensures c.requires.free in
     let to = M.take_inside t c.in-Some.begin c.in-Some.ensures in let small = c.self.invariant.small in omega arith
 
 pub get-requires : goal.get-requires
 get-requires g c =
-    let t = is_take (range c.self.inside) c.self.inside.lengths c.args.self.now c.self.view_is c.self.invariant c.args.place c.args.n c.unit_of-unit.result c.unit_of-next.result c.requires.part c.unit_of-unit.ensures c.unit_of-next.ensures c.requires.free in
+    let t = is_take c.self.invariant c.self.view_is _ _ c.requires.part c.unit_of-unit.ensures c.unit_of-next.ensures c.requires.free in
     M.take_lt t c.in-Some.begin c.in-Some.ensures
 
 pub overflow_sub-place-in-Some-2 : goal.overflow_sub-place-in-Some-2
 overflow_sub-place-in-Some-2 g c =
-    let t = is_take (range c.self.inside) c.self.inside.lengths c.args.self.now c.self.view_is c.self.invariant c.args.place c.args.n c.unit_of-unit.result c.unit_of-next.result c.requires.part c.unit_of-unit.ensures c.unit_of-next.ensures c.requires.free in
+    let t = is_take c.self.invariant c.self.view_is _ _ c.requires.part c.unit_of-unit.ensures c.unit_of-next.ensures c.requires.free in
     let from = M.take_from t c.in-Some.begin c.in-Some.ensures in omega arith
 
 pub set-requires : goal.set-requires
 set-requires g c =
-    let t = is_take (range c.self.inside) c.self.inside.lengths c.args.self.now c.self.view_is c.self.invariant c.args.place c.args.n c.unit_of-unit.result c.unit_of-next.result c.requires.part c.unit_of-unit.ensures c.unit_of-next.ensures c.requires.free in
+    let t = is_take c.self.invariant c.self.view_is _ _ c.requires.part c.unit_of-unit.ensures c.unit_of-next.ensures c.requires.free in
     M.take_next t
 
 pub set-requires-in-Some : goal.set-requires-in-Some
 set-requires-in-Some g c =
-    let t = is_take (range c.self.inside) c.self.inside.lengths c.args.self.now c.self.view_is c.self.invariant c.args.place c.args.n c.unit_of-unit.result c.unit_of-next.result c.requires.part c.unit_of-unit.ensures c.unit_of-next.ensures c.requires.free in
+    let t = is_take c.self.invariant c.self.view_is _ _ c.requires.part c.unit_of-unit.ensures c.unit_of-next.ensures c.requires.free in
     let lt = M.take_lt t c.in-Some.begin c.in-Some.ensures in let e = ap C.length c.set.ensures in omega (arith, C.length-set {A = ℕ})
 
 pub overflow_sub-end : goal.overflow_sub-end
 overflow_sub-end g c =
-    let t = is_take (range c.self.inside) c.self.inside.lengths c.args.self.now c.self.view_is c.self.invariant c.args.place c.args.n c.unit_of-unit.result c.unit_of-next.result c.requires.part c.unit_of-unit.ensures c.unit_of-next.ensures c.requires.free in
+    let t = is_take c.self.invariant c.self.view_is _ _ c.requires.part c.unit_of-unit.ensures c.unit_of-next.ensures c.requires.free in
     let to = M.take_to t c.in-Some.begin c.in-Some.ensures in omega arith
 
 pub invariant_of-self : goal.invariant_of-self
 invariant_of-self g c =
     let s = c.self.inside in let k = c.in-Some.begin in let p = c.unit_of-unit.result in let q = c.unit_of-next.result in
-    let t = is_take (range c.self.inside) c.self.inside.lengths c.args.self.now c.self.view_is c.self.invariant c.args.place c.args.n c.unit_of-unit.result c.unit_of-next.result c.requires.part c.unit_of-unit.ensures c.unit_of-next.ensures c.requires.free in
+    let t = is_take c.self.invariant c.self.view_is _ _ c.requires.part c.unit_of-unit.ensures c.unit_of-next.ensures c.requires.free in
     let less = M.k_below_q t k c.in-Some.ensures in
     let cells = two_sets s.lengths c.set.new.self c.set-in-Some.new.self q k (c.bytes_before-from.result + c.get.result - (c.args.place + c.args.n - s.lo)) (c.args.place - s.lo - c.bytes_before-from.result) (s.grain * k + slice_index s.lengths k - s.grain * q) (s.grain * p - s.grain * k)
     c.set.ensures c.set-in-Some.ensures (omega arith) (omega arith) ∙ sets_apart s.lengths q k (s.grain * k + slice_index s.lengths k - s.grain * q) (s.grain * p - s.grain * k) (λ e. omega arith) in
@@ -64,7 +64,7 @@ invariant_of-self g c =
 pub returns-in-Some-clause-holes : goal.returns-in-Some-clause-holes
 returns-in-Some-clause-holes g c =
     let s = c.self.inside in let k = c.in-Some.begin in let p = c.unit_of-unit.result in let q = c.unit_of-next.result in
-    let t = is_take (range c.self.inside) c.self.inside.lengths c.args.self.now c.self.view_is c.self.invariant c.args.place c.args.n c.unit_of-unit.result c.unit_of-next.result c.requires.part c.unit_of-unit.ensures c.unit_of-next.ensures c.requires.free in
+    let t = is_take c.self.invariant c.self.view_is _ _ c.requires.part c.unit_of-unit.ensures c.unit_of-next.ensures c.requires.free in
     let less = M.k_below_q t k c.in-Some.ensures in
     let cells = two_sets s.lengths c.set.new.self c.set-in-Some.new.self q k (c.bytes_before-from.result + c.get.result - (c.args.place + c.args.n - s.lo)) (c.args.place - s.lo - c.bytes_before-from.result) (s.grain * k + slice_index s.lengths k - s.grain * q) (s.grain * p - s.grain * k)
     c.set.ensures c.set-in-Some.ensures (omega arith) (omega arith) ∙ sets_apart s.lengths q k (s.grain * k + slice_index s.lengths k - s.grain * q) (s.grain * p - s.grain * k) (λ e. omega arith) in
@@ -72,5 +72,5 @@ returns-in-Some-clause-holes g c =
 
 pub returns-in_default-clause-holes : goal.returns-in_default-clause-holes
 returns-in_default-clause-holes g c =
-    let t = is_take (range c.self.inside) c.self.inside.lengths c.args.self.now c.self.view_is c.self.invariant c.args.place c.args.n c.unit_of-unit.result c.unit_of-next.result c.requires.part c.unit_of-unit.ensures c.unit_of-next.ensures c.requires.free in
+    let t = is_take c.self.invariant c.self.view_is _ _ c.requires.part c.unit_of-unit.ensures c.unit_of-next.ensures c.requires.free in
     absurd (M.take_none t c.in_default.ensures)

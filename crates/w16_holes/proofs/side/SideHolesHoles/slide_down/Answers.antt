@@ -6,16 +6,16 @@ use Rattle.w16_holes.proofs.side.SideHolesHoles.slide_down.Given as given
 use Rattle.w16_holes.proofs.side.SideHolesHoles.slide_down.Goals as goal
 
 pub take-requires-clause-part : goal.take-requires-clause-part
-take-requires-clause-part g c = let r = c.requires in part_taken c.args.self.now.range c.args.self.now.holes c.reveal_order.ensures.ordered c.args.from c.args.to c.args.size r.down r.new r.old r.free r.used c.min-apart.result c.min-apart.ensures
+take-requires-clause-part g c = let r = c.requires in part_taken c.args.self.now.holes c.reveal_order.ensures.ordered r.down r.new r.old r.free r.used c.min-apart.ensures
 
 pub take-requires-clause-free : goal.take-requires-clause-free
-take-requires-clause-free g c = let r = c.requires in free_taken c.args.self.now.range c.args.self.now.holes c.reveal_order.ensures.ordered c.args.from c.args.to c.args.size r.down r.new r.old r.free r.used c.min-apart.result c.min-apart.ensures
+take-requires-clause-free g c = let r = c.requires in free_taken c.args.self.now.holes c.reveal_order.ensures.ordered r.down r.new r.old r.free r.used c.min-apart.ensures
 
 pub put-requires-clause-part : goal.put-requires-clause-part
-put-requires-clause-part g c = let r = c.requires in rw c.take.ensures.range (part_put c.args.self.now.range c.args.self.now.holes c.reveal_order.ensures.ordered c.args.from c.args.to c.args.size r.down r.new r.old r.free r.used c.min-apart.result c.min-apart.ensures)
+put-requires-clause-part g c = let r = c.requires in rw c.take.ensures.range (part_put c.args.self.now.holes c.reveal_order.ensures.ordered r.down r.new r.old r.free r.used c.min-apart.ensures)
 
 pub put-requires-clause-used : goal.put-requires-clause-used
-put-requires-clause-used g c = let r = c.requires in rw c.take.ensures.holes (used_put c.args.self.now.range c.args.self.now.holes c.reveal_order.ensures.ordered c.args.from c.args.to c.args.size r.down r.new r.old r.free r.used c.min-apart.result c.min-apart.ensures)
+put-requires-clause-used g c = let r = c.requires in rw c.take.ensures.holes (used_put c.args.self.now.holes c.reveal_order.ensures.ordered r.down r.new r.old r.free r.used c.min-apart.ensures)
 
 -- where the hole begins there
 pub returns-then-at-from-clause-bytes : goal.returns-then-at-from-clause-bytes
@@ -30,8 +30,7 @@ once_put g c = c.put.ensures.holes ∙ ap (joined (c.args.from + c.args.size - c
 pub returns-else-at-from-clause-contents : goal.returns-else-at-from-clause-contents
 returns-else-at-from-clause-contents g c =
     let r = c.requires in
-    come_too c.args.self.now.range c.args.self.now.holes c.reveal_order.ensures.ordered c.args.from c.args.to
-    c.args.size r.down r.new r.old r.free r.used c.min-apart.result c.min-apart.ensures
+    come_too c.args.self.now.holes c.reveal_order.ensures.ordered r.down r.new r.old r.free r.used c.min-apart.ensures
     (length (g.S.Space.bytes c.args.space.now)) r.inside c.take.ensures.bytes.long c.slide-else-at-from.ensures.bytes
     refl c.take.ensures.bytes
     (subst (λ (hs : List Span). AreSameOutside hs (g.S.Space.bytes c.slide-else-at-from.new.self) (g.S.Space.bytes c.put.new._space)) (once_put g c) c.put.ensures.bytes)
@@ -40,8 +39,7 @@ pub returns-else-at-from-clause-bytes : goal.returns-else-at-from-clause-bytes
 returns-else-at-from-clause-bytes g c =
     let r = c.requires in
     subst (λ (hs : List Span). AreSameBut c.args.to c.args.size c.args.self.now.holes hs (g.S.Space.bytes c.args.space.now) (g.S.Space.bytes c.put.new._space)) (sym (once_put g c))
-    (others_same c.args.self.now.range c.args.self.now.holes c.reveal_order.ensures.ordered c.args.from c.args.to
-    c.args.size r.down r.new r.old r.free r.used c.min-apart.result c.min-apart.ensures
+    (others_same c.args.self.now.holes c.reveal_order.ensures.ordered r.down r.new r.old r.free r.used c.min-apart.ensures
     (length (g.S.Space.bytes c.args.space.now)) r.inside c.take.ensures.bytes.long c.slide-else-at-from.ensures.bytes
     refl c.take.ensures.bytes
     (subst (λ (hs : List Span). AreSameOutside hs (g.S.Space.bytes c.slide-else-at-from.new.self) (g.S.Space.bytes c.put.new._space)) (once_put g c) c.put.ensures.bytes))

@@ -1,76 +1,56 @@
 use Rattle.w16_holes.proofs
-use proofs.Common.{ℕ, List, ◌+◌, ◌-◌, ◌≤◌, length, Option, IfSome, arith, sym, ap, ◌∙◌, subst, Span, Free, IsPart, IsUsed, AreSameOutside, AreThreaded, put_link}
+use proofs.Common.{ℕ, List, ◌+◌, ◌-◌, ◌≤◌, length, Option, IfSome, arith, sym, ap, ◌∙◌, subst, Span, IsUsed, AreSameOutside, AreThreaded, put_link}
 use proofs.Below.{last_used}
-use proofs.Links.{place_behind, put_less, put_top, put_fits, put_room, put_all}
+use proofs.Links.{asked, place_behind, put_less, put_top, put_fits, put_room, put_all}
 use Rattle.w16_holes.proofs.threaded.ThreadedHolesHolesRegion.put.Goals as goal
 
 pub next_above-next-requires-clause-place : goal.next_above-next-requires-clause-place
 next_above-next-requires-clause-place g c =
-    let f = c.self.inside.side in
-    let part : IsPart f.range c.args.place c.args.n = subst (λ (g : Free). IsPart g.range c.args.place c.args.n) (sym c.self.view_is) c.requires.part in
-    place_behind f.range c.args.place c.args.n part
+    let p = asked IsUsed c.args.space.now.bytes.items c.self.view_is c.self.invariant c.below-below.ensures.ordered c.requires.part c.requires.kept c.requires.used in
+    place_behind p.part
 
 pub next_above-next-requires-clause-below : goal.next_above-next-requires-clause-below
 next_above-next-requires-clause-below g c =
-    let f = c.self.inside.side in
-    let part : IsPart f.range c.args.place c.args.n = subst (λ (g : Free). IsPart g.range c.args.place c.args.n) (sym c.self.view_is) c.requires.part in
-    let used : IsUsed c.args.place (c.args.place + c.args.n) f.holes = subst (λ (g : Free). IsUsed c.args.place (c.args.place + c.args.n) g.holes) (sym c.self.view_is) c.requires.used in
-    let some = part.some in
-    c.below-below.ensures.value ∙ sym (last_used c.args.place (c.args.place + c.args.n) f.range.lo f.range.hi f.holes (omega arith) c.below-below.ensures.ordered used)
+    let p = asked IsUsed c.args.space.now.bytes.items c.self.view_is c.self.invariant c.below-below.ensures.ordered c.requires.part c.requires.kept c.requires.used in
+    let f = c.self.inside.side in let some = p.part.some in
+    c.below-below.ensures.value ∙ sym (last_used c.args.place (c.args.place + c.args.n) f.range.lo f.range.hi f.holes (omega arith) p.holes p.is)
 
 pub at-requires-clause-place : goal.at-requires-clause-place
 at-requires-clause-place g c =
-    let f = c.self.inside.side in
-    let part : IsPart f.range c.args.place c.args.n = subst (λ (g : Free). IsPart g.range c.args.place c.args.n) (sym c.self.view_is) c.requires.part in
-    place_behind f.range c.args.place c.args.n part
+    let p = asked IsUsed c.args.space.now.bytes.items c.self.view_is c.self.invariant c.below-below.ensures.ordered c.requires.part c.requires.kept c.requires.used in
+    place_behind p.part
 
 pub overflow_add-end-2 : goal.overflow_add-end-2
 overflow_add-end-2 g c =
-    let f = c.self.inside.side in
-    let part : IsPart f.range c.args.place c.args.n = subst (λ (g : Free). IsPart g.range c.args.place c.args.n) (sym c.self.view_is) c.requires.part in
-    let thread : AreThreaded f.holes c.args.space.now.bytes.items = subst (λ (g : Free). AreThreaded g.holes c.args.space.now.bytes.items) (sym c.self.view_is) c.requires.kept in
-    let used : IsUsed c.args.place (c.args.place + c.args.n) f.holes = subst (λ (g : Free). IsUsed c.args.place (c.args.place + c.args.n) g.holes) (sym c.self.view_is) c.requires.used in
-    let top = put_top f.range f.holes c.args.space.now.bytes.items c.args.place c.args.n c.self.invariant part c.below-below.ensures.ordered thread used c.requires.inside in
+    let p = asked IsUsed c.args.space.now.bytes.items c.self.view_is c.self.invariant c.below-below.ensures.ordered c.requires.part c.requires.kept c.requires.used in
+    let top = put_top p c.requires.inside in
     let is = c.at.ensures in
     let small = c.self.invariant.small in
     record { fits = omega arith }
 
 pub overflow_sub-from : goal.overflow_sub-from
 overflow_sub-from g c =
-    let f = c.self.inside.side in
-    let part : IsPart f.range c.args.place c.args.n = subst (λ (g : Free). IsPart g.range c.args.place c.args.n) (sym c.self.view_is) c.requires.part in
-    let thread : AreThreaded f.holes c.args.space.now.bytes.items = subst (λ (g : Free). AreThreaded g.holes c.args.space.now.bytes.items) (sym c.self.view_is) c.requires.kept in
-    let used : IsUsed c.args.place (c.args.place + c.args.n) f.holes = subst (λ (g : Free). IsUsed c.args.place (c.args.place + c.args.n) g.holes) (sym c.self.view_is) c.requires.used in
-    let le = put_less f.range f.holes c.args.space.now.bytes.items c.args.place c.args.n c.self.invariant part c.below-below.ensures.ordered thread used c.requires.inside in
+    let p = asked IsUsed c.args.space.now.bytes.items c.self.view_is c.self.invariant c.below-below.ensures.ordered c.requires.part c.requires.kept c.requires.used in
+    let le = put_less p c.requires.inside in
     let is = c.length_below.ensures in omega arith
 
 pub link-requires : goal.link-requires
 link-requires g c =
-    let f = c.self.inside.side in
-    let part : IsPart f.range c.args.place c.args.n = subst (λ (g : Free). IsPart g.range c.args.place c.args.n) (sym c.self.view_is) c.requires.part in
-    let thread : AreThreaded f.holes c.args.space.now.bytes.items = subst (λ (g : Free). AreThreaded g.holes c.args.space.now.bytes.items) (sym c.self.view_is) c.requires.kept in
-    let used : IsUsed c.args.place (c.args.place + c.args.n) f.holes = subst (λ (g : Free). IsUsed c.args.place (c.args.place + c.args.n) g.holes) (sym c.self.view_is) c.requires.used in
+    let p = asked IsUsed c.args.space.now.bytes.items c.self.view_is c.self.invariant c.below-below.ensures.ordered c.requires.part c.requires.kept c.requires.used in
     subst (λ (o : Option ℕ). IfSome o (λ (x : ℕ). x + 8 ≤ length c.args.space.now.bytes.items)) (sym c.below-below.ensures.value)
-    (put_room f.range f.holes c.args.space.now.bytes.items c.args.place c.args.n c.self.invariant part c.below-below.ensures.ordered thread used c.requires.inside)
+    (put_room p c.requires.inside)
 
 pub set_words-requires : goal.set_words-requires
 set_words-requires g c =
-    let f = c.self.inside.side in
-    let part : IsPart f.range c.args.place c.args.n = subst (λ (g : Free). IsPart g.range c.args.place c.args.n) (sym c.self.view_is) c.requires.part in
-    let thread : AreThreaded f.holes c.args.space.now.bytes.items = subst (λ (g : Free). AreThreaded g.holes c.args.space.now.bytes.items) (sym c.self.view_is) c.requires.kept in
-    let used : IsUsed c.args.place (c.args.place + c.args.n) f.holes = subst (λ (g : Free). IsUsed c.args.place (c.args.place + c.args.n) g.holes) (sym c.self.view_is) c.requires.used in
-    let fits = put_fits f.range f.holes c.args.space.now.bytes.items c.args.place c.args.n c.self.invariant part c.below-below.ensures.ordered thread used c.requires.inside in
+    let p = asked IsUsed c.args.space.now.bytes.items c.self.view_is c.self.invariant c.below-below.ensures.ordered c.requires.part c.requires.kept c.requires.used in
+    let fits = put_fits p c.requires.inside in
     let is = c.length_below.ensures in
     let long = c.link.ensures.length in omega arith
 
 pub returns-clause-kept : goal.returns-clause-kept
 returns-clause-kept g c =
-    let f = c.self.inside.side in
-    let part : IsPart f.range c.args.place c.args.n = subst (λ (g : Free). IsPart g.range c.args.place c.args.n) (sym c.self.view_is) c.requires.part in
-    let thread : AreThreaded f.holes c.args.space.now.bytes.items = subst (λ (g : Free). AreThreaded g.holes c.args.space.now.bytes.items) (sym c.self.view_is) c.requires.kept in
-    let used : IsUsed c.args.place (c.args.place + c.args.n) f.holes = subst (λ (g : Free). IsUsed c.args.place (c.args.place + c.args.n) g.holes) (sym c.self.view_is) c.requires.used in
-    let written = put_all f.range f.holes c.args.space.now.bytes.items c.args.place c.args.n c.self.invariant part
-    c.below-below.ensures.ordered thread used c.requires.inside c.next_above-next.result c.at.result
+    let p = asked IsUsed c.args.space.now.bytes.items c.self.view_is c.self.invariant c.below-below.ensures.ordered c.requires.part c.requires.kept c.requires.used in
+    let written = put_all p c.requires.inside c.next_above-next.result c.at.result
     c.length_below.result c.link.new.space.bytes.items c.set_words.new.space.bytes.items c.next_above-next.ensures
     c.at.ensures c.length_below.ensures (c.link.ensures.bytes ∙ ap
     (λ (o : Option ℕ). put_link c.args.space.now.bytes.items o (c.args.place - c.length_below.result))
@@ -79,12 +59,8 @@ returns-clause-kept g c =
 
 pub returns-clause-bytes : goal.returns-clause-bytes
 returns-clause-bytes g c =
-    let f = c.self.inside.side in
-    let part : IsPart f.range c.args.place c.args.n = subst (λ (g : Free). IsPart g.range c.args.place c.args.n) (sym c.self.view_is) c.requires.part in
-    let thread : AreThreaded f.holes c.args.space.now.bytes.items = subst (λ (g : Free). AreThreaded g.holes c.args.space.now.bytes.items) (sym c.self.view_is) c.requires.kept in
-    let used : IsUsed c.args.place (c.args.place + c.args.n) f.holes = subst (λ (g : Free). IsUsed c.args.place (c.args.place + c.args.n) g.holes) (sym c.self.view_is) c.requires.used in
-    let written = put_all f.range f.holes c.args.space.now.bytes.items c.args.place c.args.n c.self.invariant part
-    c.below-below.ensures.ordered thread used c.requires.inside c.next_above-next.result c.at.result
+    let p = asked IsUsed c.args.space.now.bytes.items c.self.view_is c.self.invariant c.below-below.ensures.ordered c.requires.part c.requires.kept c.requires.used in
+    let written = put_all p c.requires.inside c.next_above-next.result c.at.result
     c.length_below.result c.link.new.space.bytes.items c.set_words.new.space.bytes.items c.next_above-next.ensures
     c.at.ensures c.length_below.ensures (c.link.ensures.bytes ∙ ap
     (λ (o : Option ℕ). put_link c.args.space.now.bytes.items o (c.args.place - c.length_below.result))

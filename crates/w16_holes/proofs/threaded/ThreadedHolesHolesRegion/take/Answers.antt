@@ -1,89 +1,60 @@
-use Rattle.w16_holes.proofs.Common.{ℕ, List, ◌+◌, ◌≤◌, length, Option, arith, sym, ap, ◌∙◌, subst, IfSome, Span, Free, IsPart, IsFree, AreSameOutside, last_before, AreThreaded, put_link}
-use Rattle.w16_holes.proofs.Links.{take_there, take_from, take_fits, take_top, take_room, take_link, take_written}
+use Rattle.w16_holes.proofs.Common.{ℕ, List, ◌+◌, ◌≤◌, length, Option, arith, sym, ap, ◌∙◌, subst, IfSome, Span, Free, IsFree, AreSameOutside, last_before, AreThreaded, put_link}
+use Rattle.w16_holes.proofs.Links.{asked, take_there, take_from, take_fits, take_top, take_room, take_link, take_written}
 use Rattle.w16_holes.proofs.threaded.ThreadedHolesHolesRegion.take.Goals as goal
 
 pub word_at-requires : goal.word_at-requires
 word_at-requires g c =
-    let f = c.self.inside.side in
-    let part : IsPart f.range c.args.place c.args.n = subst (λ (g : Free). IsPart g.range c.args.place c.args.n) (sym c.self.view_is) c.requires.part in
-    let thread : AreThreaded f.holes c.args.space.now.bytes.items = subst (λ (g : Free). AreThreaded g.holes c.args.space.now.bytes.items) (sym c.self.view_is) c.requires.kept in
-    let free : IsFree c.args.place (c.args.place + c.args.n) f.holes = subst (λ (g : Free). IsFree c.args.place (c.args.place + c.args.n) g.holes) (sym c.self.view_is) c.requires.free in
-    let fits = take_fits f.range f.holes c.args.space.now.bytes.items c.args.place c.args.n c.self.invariant part c.below-below.ensures.ordered thread free c.in-Some.begin c.in-Some.ensures in omega arith
+    let p = asked IsFree c.args.space.now.bytes.items c.self.view_is c.self.invariant c.below-below.ensures.ordered c.requires.part c.requires.kept c.requires.free in
+    let fits = take_fits p c.in-Some.begin c.in-Some.ensures in omega arith
 
 pub overflow_add-end : goal.overflow_add-end
 overflow_add-end g c =
-    let f = c.self.inside.side in
-    let part : IsPart f.range c.args.place c.args.n = subst (λ (g : Free). IsPart g.range c.args.place c.args.n) (sym c.self.view_is) c.requires.part in
-    let thread : AreThreaded f.holes c.args.space.now.bytes.items = subst (λ (g : Free). AreThreaded g.holes c.args.space.now.bytes.items) (sym c.self.view_is) c.requires.kept in
-    let free : IsFree c.args.place (c.args.place + c.args.n) f.holes = subst (λ (g : Free). IsFree c.args.place (c.args.place + c.args.n) g.holes) (sym c.self.view_is) c.requires.free in
-    let top = take_top f.range f.holes c.args.space.now.bytes.items c.args.place c.args.n c.self.invariant part c.below-below.ensures.ordered thread free c.in-Some.begin c.in-Some.ensures in
+    let p = asked IsFree c.args.space.now.bytes.items c.self.view_is c.self.invariant c.below-below.ensures.ordered c.requires.part c.requires.kept c.requires.free in
+    let top = take_top p c.in-Some.begin c.in-Some.ensures in
     let is = c.word_at.ensures in
     let small = c.self.invariant.small in
     record { fits = omega arith }
 
 pub overflow_add-begin : goal.overflow_add-begin
 overflow_add-begin g c =
-    let f = c.self.inside.side in
-    let part : IsPart f.range c.args.place c.args.n = subst (λ (g : Free). IsPart g.range c.args.place c.args.n) (sym c.self.view_is) c.requires.part in
-    let thread : AreThreaded f.holes c.args.space.now.bytes.items = subst (λ (g : Free). AreThreaded g.holes c.args.space.now.bytes.items) (sym c.self.view_is) c.requires.kept in
-    let free : IsFree c.args.place (c.args.place + c.args.n) f.holes = subst (λ (g : Free). IsFree c.args.place (c.args.place + c.args.n) g.holes) (sym c.self.view_is) c.requires.free in
-    let fits = take_fits f.range f.holes c.args.space.now.bytes.items c.args.place c.args.n c.self.invariant part c.below-below.ensures.ordered thread free c.in-Some.begin c.in-Some.ensures in
+    let p = asked IsFree c.args.space.now.bytes.items c.self.view_is c.self.invariant c.below-below.ensures.ordered c.requires.part c.requires.kept c.requires.free in
+    let fits = take_fits p c.in-Some.begin c.in-Some.ensures in
     let small = c.args.space.now.small in
     record { fits = omega arith }
 
 pub word_at-next-requires : goal.word_at-next-requires
 word_at-next-requires g c =
-    let f = c.self.inside.side in
-    let part : IsPart f.range c.args.place c.args.n = subst (λ (g : Free). IsPart g.range c.args.place c.args.n) (sym c.self.view_is) c.requires.part in
-    let thread : AreThreaded f.holes c.args.space.now.bytes.items = subst (λ (g : Free). AreThreaded g.holes c.args.space.now.bytes.items) (sym c.self.view_is) c.requires.kept in
-    let free : IsFree c.args.place (c.args.place + c.args.n) f.holes = subst (λ (g : Free). IsFree c.args.place (c.args.place + c.args.n) g.holes) (sym c.self.view_is) c.requires.free in
-    let fits = take_fits f.range f.holes c.args.space.now.bytes.items c.args.place c.args.n c.self.invariant part c.below-below.ensures.ordered thread free c.in-Some.begin c.in-Some.ensures in omega arith
+    let p = asked IsFree c.args.space.now.bytes.items c.self.view_is c.self.invariant c.below-below.ensures.ordered c.requires.part c.requires.kept c.requires.free in
+    let fits = take_fits p c.in-Some.begin c.in-Some.ensures in omega arith
 
 pub set_hole-behind-requires : goal.set_hole-behind-requires
 set_hole-behind-requires g c =
-    let f = c.self.inside.side in
-    let part : IsPart f.range c.args.place c.args.n = subst (λ (g : Free). IsPart g.range c.args.place c.args.n) (sym c.self.view_is) c.requires.part in
-    let thread : AreThreaded f.holes c.args.space.now.bytes.items = subst (λ (g : Free). AreThreaded g.holes c.args.space.now.bytes.items) (sym c.self.view_is) c.requires.kept in
-    let free : IsFree c.args.place (c.args.place + c.args.n) f.holes = subst (λ (g : Free). IsFree c.args.place (c.args.place + c.args.n) g.holes) (sym c.self.view_is) c.requires.free in
-    let is = c.word_at.ensures in λ lt. take_room f.range f.holes c.args.space.now.bytes.items c.args.place c.args.n c.self.invariant part c.below-below.ensures.ordered thread free c.in-Some.begin c.in-Some.ensures (omega arith)
+    let p = asked IsFree c.args.space.now.bytes.items c.self.view_is c.self.invariant c.below-below.ensures.ordered c.requires.part c.requires.kept c.requires.free in
+    let is = c.word_at.ensures in λ lt. take_room p c.in-Some.begin c.in-Some.ensures (omega arith)
 
 pub link-requires : goal.link-requires
 link-requires g c =
-    let f = c.self.inside.side in
-    let part : IsPart f.range c.args.place c.args.n = subst (λ (g : Free). IsPart g.range c.args.place c.args.n) (sym c.self.view_is) c.requires.part in
-    let thread : AreThreaded f.holes c.args.space.now.bytes.items = subst (λ (g : Free). AreThreaded g.holes c.args.space.now.bytes.items) (sym c.self.view_is) c.requires.kept in
-    let free : IsFree c.args.place (c.args.place + c.args.n) f.holes = subst (λ (g : Free). IsFree c.args.place (c.args.place + c.args.n) g.holes) (sym c.self.view_is) c.requires.free in
+    let p = asked IsFree c.args.space.now.bytes.items c.self.view_is c.self.invariant c.below-below.ensures.ordered c.requires.part c.requires.kept c.requires.free in
     subst (λ (o : Option ℕ). IfSome o (λ (x : ℕ). x + 8 ≤ length c.set_hole-behind.new.space.bytes.items)) (sym c.below-below.ensures.value)
-    (subst (λ (m : ℕ). IfSome (last_before c.args.place f.holes) (λ (x : ℕ). x + 8 ≤ m))
-    (sym c.set_hole-behind.ensures.length) (take_link f.range f.holes c.args.space.now.bytes.items c.args.place
-    c.args.n c.self.invariant part c.below-below.ensures.ordered thread free c.in-Some.begin c.in-Some.ensures))
+    (subst (λ (m : ℕ). IfSome (last_before c.args.place c.self.inside.side.holes) (λ (x : ℕ). x + 8 ≤ m))
+    (sym c.set_hole-behind.ensures.length) (take_link p c.in-Some.begin c.in-Some.ensures))
 
 pub overflow_sub-place : goal.overflow_sub-place
 overflow_sub-place g c =
-    let f = c.self.inside.side in
-    let part : IsPart f.range c.args.place c.args.n = subst (λ (g : Free). IsPart g.range c.args.place c.args.n) (sym c.self.view_is) c.requires.part in
-    let thread : AreThreaded f.holes c.args.space.now.bytes.items = subst (λ (g : Free). AreThreaded g.holes c.args.space.now.bytes.items) (sym c.self.view_is) c.requires.kept in
-    let free : IsFree c.args.place (c.args.place + c.args.n) f.holes = subst (λ (g : Free). IsFree c.args.place (c.args.place + c.args.n) g.holes) (sym c.self.view_is) c.requires.free in
-    take_from f.range f.holes c.args.space.now.bytes.items c.args.place c.args.n c.self.invariant part c.below-below.ensures.ordered thread free c.in-Some.begin c.in-Some.ensures
+    let p = asked IsFree c.args.space.now.bytes.items c.self.view_is c.self.invariant c.below-below.ensures.ordered c.requires.part c.requires.kept c.requires.free in
+    take_from p c.in-Some.begin c.in-Some.ensures
 
 pub set_word-requires : goal.set_word-requires
 set_word-requires g c =
-    let f = c.self.inside.side in
-    let part : IsPart f.range c.args.place c.args.n = subst (λ (g : Free). IsPart g.range c.args.place c.args.n) (sym c.self.view_is) c.requires.part in
-    let thread : AreThreaded f.holes c.args.space.now.bytes.items = subst (λ (g : Free). AreThreaded g.holes c.args.space.now.bytes.items) (sym c.self.view_is) c.requires.kept in
-    let free : IsFree c.args.place (c.args.place + c.args.n) f.holes = subst (λ (g : Free). IsFree c.args.place (c.args.place + c.args.n) g.holes) (sym c.self.view_is) c.requires.free in
-    let fits = take_fits f.range f.holes c.args.space.now.bytes.items c.args.place c.args.n c.self.invariant part c.below-below.ensures.ordered thread free c.in-Some.begin c.in-Some.ensures in
+    let p = asked IsFree c.args.space.now.bytes.items c.self.view_is c.self.invariant c.below-below.ensures.ordered c.requires.part c.requires.kept c.requires.free in
+    let fits = take_fits p c.in-Some.begin c.in-Some.ensures in
     let long = c.link.ensures.length in
     let longer = c.set_hole-behind.ensures.length in omega arith
 
 pub returns-in-Some-clause-kept : goal.returns-in-Some-clause-kept
 returns-in-Some-clause-kept g c =
-    let f = c.self.inside.side in
-    let part : IsPart f.range c.args.place c.args.n = subst (λ (g : Free). IsPart g.range c.args.place c.args.n) (sym c.self.view_is) c.requires.part in
-    let thread : AreThreaded f.holes c.args.space.now.bytes.items = subst (λ (g : Free). AreThreaded g.holes c.args.space.now.bytes.items) (sym c.self.view_is) c.requires.kept in
-    let free : IsFree c.args.place (c.args.place + c.args.n) f.holes = subst (λ (g : Free). IsFree c.args.place (c.args.place + c.args.n) g.holes) (sym c.self.view_is) c.requires.free in
-    let written = take_written f.range f.holes c.args.space.now.bytes.items c.args.place c.args.n c.self.invariant part
-    c.below-below.ensures.ordered thread free c.in-Some.begin c.in-Some.ensures c.word_at.result
+    let p = asked IsFree c.args.space.now.bytes.items c.self.view_is c.self.invariant c.below-below.ensures.ordered c.requires.part c.requires.kept c.requires.free in
+    let written = take_written p c.in-Some.begin c.in-Some.ensures c.word_at.result
     c.word_at-next.result c.set_hole-behind.result c.set_hole-behind.new.space.bytes.items
     c.link.new.space.bytes.items c.set_word.new.self.bytes.items c.word_at.ensures c.word_at-next.ensures
     c.set_hole-behind.ensures.bytes c.set_hole-behind.ensures.first
@@ -93,12 +64,8 @@ returns-in-Some-clause-kept g c =
 
 pub returns-in-Some-clause-bytes : goal.returns-in-Some-clause-bytes
 returns-in-Some-clause-bytes g c =
-    let f = c.self.inside.side in
-    let part : IsPart f.range c.args.place c.args.n = subst (λ (g : Free). IsPart g.range c.args.place c.args.n) (sym c.self.view_is) c.requires.part in
-    let thread : AreThreaded f.holes c.args.space.now.bytes.items = subst (λ (g : Free). AreThreaded g.holes c.args.space.now.bytes.items) (sym c.self.view_is) c.requires.kept in
-    let free : IsFree c.args.place (c.args.place + c.args.n) f.holes = subst (λ (g : Free). IsFree c.args.place (c.args.place + c.args.n) g.holes) (sym c.self.view_is) c.requires.free in
-    let written = take_written f.range f.holes c.args.space.now.bytes.items c.args.place c.args.n c.self.invariant part
-    c.below-below.ensures.ordered thread free c.in-Some.begin c.in-Some.ensures c.word_at.result
+    let p = asked IsFree c.args.space.now.bytes.items c.self.view_is c.self.invariant c.below-below.ensures.ordered c.requires.part c.requires.kept c.requires.free in
+    let written = take_written p c.in-Some.begin c.in-Some.ensures c.word_at.result
     c.word_at-next.result c.set_hole-behind.result c.set_hole-behind.new.space.bytes.items
     c.link.new.space.bytes.items c.set_word.new.self.bytes.items c.word_at.ensures c.word_at-next.ensures
     c.set_hole-behind.ensures.bytes c.set_hole-behind.ensures.first
@@ -108,8 +75,5 @@ returns-in-Some-clause-bytes g c =
 
 pub returns-in_default-clause-holes : goal.returns-in_default-clause-holes
 returns-in_default-clause-holes g c =
-    let f = c.self.inside.side in
-    let part : IsPart f.range c.args.place c.args.n = subst (λ (g : Free). IsPart g.range c.args.place c.args.n) (sym c.self.view_is) c.requires.part in
-    let thread : AreThreaded f.holes c.args.space.now.bytes.items = subst (λ (g : Free). AreThreaded g.holes c.args.space.now.bytes.items) (sym c.self.view_is) c.requires.kept in
-    let free : IsFree c.args.place (c.args.place + c.args.n) f.holes = subst (λ (g : Free). IsFree c.args.place (c.args.place + c.args.n) g.holes) (sym c.self.view_is) c.requires.free in
-    absurd (take_there f.range f.holes c.args.space.now.bytes.items c.args.place c.args.n c.self.invariant part c.below-below.ensures.ordered thread free c.in_default.ensures)
+    let p = asked IsFree c.args.space.now.bytes.items c.self.view_is c.self.invariant c.below-below.ensures.ordered c.requires.part c.requires.kept c.requires.free in
+    absurd (take_there p c.in_default.ensures)
