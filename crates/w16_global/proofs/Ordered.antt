@@ -1,6 +1,6 @@
 -- The order of use has objects, whose slots are few.
 use Rattle.w16_global.proofs
-use proofs.Common.{ℕ, zero, suc, ◌≡◌, ◌+◌, ◌<◌, inl, inr, List, [], ◌∷◌, Option, None, Some, true, is_some, slice_get, sym, refl, ap, ◌∙◌, arith, Handles, AreHandles, Member, Object, object_at}
+use proofs.Common.{ℕ, zero, suc, ◌≡◌, ◌<◌, inl, inr, List, [], ◌∷◌, Option, None, Some, true, is_some, slice_get, sym, refl, ◌∙◌, arith, Handles, AreHandles, Member, Object, object_at}
 use proofs.Owners.{run_there}
 use Rattle.w16_model.proofs.Discards.{true-is_member}
 use Rattle.w16_model.specs.Heap.{is_in_order}
