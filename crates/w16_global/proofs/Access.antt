@@ -38,10 +38,14 @@ module _ {h : Holding} {xs : List (Option C.Attributes)} {t : selectors.Descript
       let fits = f.fits in
       ap (λ (b : Option (List ℕ)). length (part (unwrap_or b []) at n)) (ap (λ (k : Heap). bytes_at k slot) heap_is ∙ f.here) ∙ simp (C.length-take, C.length-drop) (omega (arith, fits))
 
+  -- the part itself
+  pub part_known : part (unwrap_or (bytes_at h.heap slot) []) at n ≡ part (C.far_bytes w selector) (C.far_at w selector offset) n
+  part_known = λ i. part (unwrap_or (bytes_at (heap_is i) (reaches.0 i)) []) (reaches.1 i) n
+
   -- Read
   pub read_known : (after : Handles) → after ≡ record w { heap = after_touch w.heap slot } → Gives (C.far_read w selector offset n) (access.FarAnswer.Bytes (part (unwrap_or (bytes_at h.heap slot) []) at n)) after
   read_known after then_is = rw (fine, C.far_read) (
-    ap access.FarAnswer.Bytes (λ i. part (unwrap_or (bytes_at (heap_is i) (reaches.0 i)) []) (reaches.1 i) n),
+    ap access.FarAnswer.Bytes part_known,
     then_is ∙ ap (λ k. record w { heap = after_touch w.heap k }) reaches.0,
   )
 

@@ -5,10 +5,10 @@ use Rattle.std.proofs.lemmas.List.{get_or_past}
 use proofs.Common.{◌≡◌, ℕ, ◌+◌, ◌-◌, ◌*◌, ◌/◌, ◌<◌, ◌≤◌, inl, inr, Bool, true, false, if◌then◌else◌, not, ◌&&◌, ◌||◌, nat_lt, List, length, Option, Some, None, Result, Ok, Err, option_map, is_some, unwrap_or, refl, sym, ap, ◌∙◌, subst, arith, min, IfErr, FarFault, BadSelector, ReadOnly}
 use proofs.Common.{Limit, REACH, bytes_at, Part, part_of_selector, bytes_in, false≢true, far_fault, Owned, near, descriptor_of, place_of, unset, is_code, Descriptor, SelKind, Data, Code, access_fault, handles_of, kind_in}
 use proofs.Owners.{Has, attributes_at, by_owner}
-use Rattle.w16_model.specs.{Handles.reached, Owned.is_code as handles_is_code}
+use Rattle.w16_model.specs.{Calls.global_handle, Handles.offset_in, Handles.reached, Owned.is_code as handles_is_code}
 use Rattle.w16_model.proofs.Runs.{reach_law}
 use Rattle.w16_selectors.specs.Descriptors.{number_at, number_of}
-use Rattle.w16_global.specs.Runs.{reaching}
+use Rattle.w16_global.specs.{Peek.selector_descriptor, Runs.reaching, declared.peek.Descriptor.Descriptor as Told}
 use Rattle.std.specs.FinMap as finmap
 use Rattle.w16_selectors.specs.Descriptors as selectors
 
@@ -173,3 +173,41 @@ module _ {h : C.Holding} {xs : List (Option C.Attributes)} {t : selectors.Descri
           → (elim b as (λ _. Descriptor) [ None ↦ unset holds number | Some bytes ↦ reaching holds at (length bytes) number ]).limit ≡ unwrap_or (option_map (λ bytes. min REACH (length bytes - REACH * number) - 1) b) 0
       limited holds at number None = refl
       limited holds at number (Some bytes) = refl
+
+  -- whether its object has bytes, and whether it is code
+  abbrev in_table : Descriptor → Bool × Bool
+  in_table d = (d.present, is_code d.kind)
+
+  abbrev in_handles : C.Handles → Part → Bool × Bool
+  in_handles v p = (is_some (bytes_at v.heap p.slot), handles_is_code v p.slot)
+
+  present_known : option_map in_table (descriptor_of t selector) ≡ option_map (in_handles w) (part_of_selector w selector)
+  present_known = subst (λ v. option_map in_table (descriptor_of t selector) ≡ option_map (in_handles v) (part_of_selector v selector)) shown
+      (by_owner are selector (λ p d. option_map in_table d ≡ option_map (in_handles (handles_of h xs m)) p) refl (λ first o.
+      let present : o.descriptor.present ≡ is_some (bytes_at h.heap first) = ap (λ (d : Descriptor). d.present) o.is ∙ presented (kind_in xs first) (unwrap_or (finmap.get h.heap.places first) 0) (selector / 8 - first) o.object.bytes ∙ ap (λ p. is_some (bytes_in p)) (sym o.there) in
+      let code : is_code o.descriptor.kind ≡ handles_is_code (handles_of h xs m) first = ap is_code o.kind ∙ sym (code_is h xs m first) in
+      λ i. Some (present i, code i)))
+    where
+      presented : (holds : SelKind) (at number : ℕ) (b : Option (List ℕ)) → (elim b as (λ _. Descriptor) [ None ↦ unset holds number | Some bytes ↦ reaching holds at (length bytes) number ]).present ≡ is_some b
+      presented holds at number None = refl
+      presented holds at number (Some bytes) = refl
+
+  -- all that it tells
+  abbrev by_descriptor : Descriptor → Told
+  by_descriptor d = record { base = d.base; limit = d.limit; object = offset_in (global_handle w selector); present = d.present; code = is_code d.kind }
+
+  abbrev by_part : Part → Told
+  by_part p = record { base = C.selector_base w selector; limit = C.selector_limit w selector; object = offset_in (global_handle w selector); present = is_some (bytes_at w.heap p.slot); code = handles_is_code w p.slot }
+
+  pub descriptor_known : (r : Option Descriptor) → r ≡ descriptor_of t selector → selector_descriptor w selector ≡ option_map by_descriptor r
+  descriptor_known r is = turn (part_of_selector w selector) r (ap (λ r. unwrap_or (option_map (λ (d : Descriptor). d.base) r) 0) is ∙ base_known) (ap (λ r. unwrap_or (option_map (λ (d : Descriptor). d.limit) r) 0) is ∙ limit_known)
+      (ap (option_map in_table) is ∙ present_known)
+    where
+      turn : (p : Option Part) (r : Option Descriptor) → unwrap_or (option_map (λ (d : Descriptor). d.base) r) 0 ≡ C.selector_base w selector → unwrap_or (option_map (λ (d : Descriptor). d.limit) r) 0 ≡ C.selector_limit w selector
+          → option_map in_table r ≡ option_map (in_handles w) p → option_map by_part p ≡ option_map by_descriptor r
+      turn None None base limit e = refl
+      turn None (Some d) base limit e = cc
+      turn (Some p) None base limit e = cc
+      turn (Some p) (Some d) base limit e =
+          let same : in_handles w p ≡ in_table d = cc in
+          λ i. Some (record { base = sym base i; limit = sym limit i; object = offset_in (global_handle w selector); present = (same i).0; code = (same i).1 })

@@ -6,3 +6,4 @@ pub mod Housed
 pub mod Lent
 pub mod Access
 pub mod Owned
+pub mod Peek

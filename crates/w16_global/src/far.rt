@@ -14,14 +14,20 @@ use w16_model::{FarFault, REACH};
 
 /// Where an access begins: in an object, by its first slot, at so many bytes behind its begin.
 #[derive(Clone, Copy, Debug)]
-struct Reached {
-    slot: u16,
-    at: u32,
+pub(crate) struct Reached {
+    pub slot: u16,
+    pub at: u32,
 }
 
 impl<A: Allocator + Copy> Global16<A> {
     /// Where an access to `n` bytes begins, or its first fault.
-    fn reach(&self, selector: u16, offset: u16, n: usize, write: bool) -> Result<Reached, FarFault>
+    pub(crate) fn reach(
+        &self,
+        selector: u16,
+        offset: u16,
+        n: usize,
+        write: bool,
+    ) -> Result<Reached, FarFault>
         ensures ok { IfOk result (λ r. (r.slot ≡ far_slot self.now.handles selector) × (r.at ≡ far_at self.now.handles selector offset) × (access_fault self.now.handles write selector offset n ≡ None)) }
         ensures few { OnOk result (n < 2 ^ 32) }
         ensures err { IfErr result (λ fault. access_fault self.now.handles write selector offset n ≡ Some fault) }

@@ -9,10 +9,12 @@ mod global;
 mod lend;
 mod objects;
 mod owned;
+mod peek;
 mod realloc;
 mod runs;
 
 pub use flags::{GlobalAllocFlags, GlobalReAllocFlags};
 pub use global::Global16;
 pub use lend::{Segment, Work};
+pub use peek::Descriptor;
 pub use w16_model::FarFault;
