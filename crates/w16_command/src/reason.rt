@@ -29,6 +29,9 @@ fn of_reply(call: &Call<'_>, reply: &Reply<'_>) -> Option<&'static str> {
         (GlobalAlloc { size, .. } | GlobalReAlloc { size, .. }, Reply::Word(0))
             if size > LARGEST_SIZE => { Some("more than 16711680 bytes") }
         (GlobalReAlloc { .. }, Reply::Word(0)) => Some("no room to grow, or no selector is free"),
+        (GlobalLock { .. }, Reply::Dword(0)) | (LocalLock { .. }, Reply::Word(0)) => {
+            Some("255 locks")
+        }
         (LocalInit { .. }, Reply::Word(0)) => {
             Some("no such segment or range, or it is code or has a local heap")
         }
@@ -37,9 +40,18 @@ fn of_reply(call: &Call<'_>, reply: &Reply<'_>) -> Option<&'static str> {
         }
         (LocalReAlloc { .. }, Reply::Word(0)) => Some("no room to grow"),
         (LocalHandle { .. }, Reply::Word(0)) => Some("no local object begins there"),
+        (Builtin { .. }, Reply::Word(0)) => {
+            Some("a loaded module has the name, or no module handle is free")
+        }
         (GetModuleHandle { .. }, Reply::Word(0)) => Some("no module has the name"),
         (GetProcAddress { .. }, Reply::Dword(0)) => Some("no such entry"),
         (FindResource { .. }, Reply::Word(0)) => Some("no such resource"),
+        (LoadResource { .. }, Reply::Word(0)) => {
+            Some("no such resource, its length, no room, no selector, or 65000 loads")
+        }
+        (LockResource { .. }, Reply::Dword(0)) => {
+            Some("no loaded resource, no room for its bytes, or 255 locks")
+        }
         (SizeofResource { .. }, Reply::Dword(0)) => Some("no such resource, or an empty one"),
         (FreeResource { .. }, Reply::Word(1)) => Some("no loaded resource, or locked"),
         _ => None,

@@ -38,7 +38,8 @@ LocalLock 2
 LocalFree 2
 LocalAlloc 2 0
 LocalLock 6
-Moved 1";
+Moved 1
+LockResource 0x106";
 
 const EXPLAINED: &str = "line 2: GlobalAlloc takes FLAGS SIZE
 line 4: bad handle
@@ -60,12 +61,13 @@ line 26: not discardable
 line 28: locked
 line 30: the object has no bytes
 line 31: Moved takes no arguments
+line 32: no loaded resource, no room for its bytes, or 255 locks
 ";
 
 const REPLIES: &str =
     "error syntax\n0106\n00000000\n01070000\nerror syntax\n0106\n0000\nerror syntax
 fault limit\nfault selector\nerror syntax\n0000\n0000\n0000\n010e\n0000\n0002\n0000\n0000\n0001
-ok\n0000\n0002\n0000\n0004\n0002\n0006\n0000\nerror syntax\n";
+ok\n0000\n0002\n0000\n0004\n0002\n0006\n0000\nerror syntax\n00000000\n";
 
 /// A text that is read at most that many bytes at once.
 #[derive(Drop)]
@@ -102,11 +104,11 @@ fn ends_so(alloc: Global, explain: bool, at_once: usize, room: &mut [u8]) -> Res
 #[test]
 fn replies_are_written_and_refusals_explained(rt: HostRuntime) -> Result<(), Fail> {
     for (explain, at_once, count) in [
-        (true, 1, 208),
-        (true, 7, 208),
-        (true, 100_000, 208),
-        (false, 100_000, 208),
-        (false, 100_000, 203),
+        (true, 1, 217),
+        (true, 7, 217),
+        (true, 100_000, 217),
+        (false, 100_000, 217),
+        (false, 100_000, 212),
         (true, 7, 20),
     ] {
         let mut room = vec![in rt.alloc(); 0u8; count]?;
