@@ -87,5 +87,9 @@ impl Store for Hostile {
         count_failure(&mut self.failures, len)
     }
 
-    fn refresh(&mut self) {}
+    fn refresh(&mut self) {
+        if let Harm::Turning(store) = &mut self.harm {
+            store.refresh();
+        }
+    }
 }

@@ -1,12 +1,15 @@
 //! A store whose files become others, and come back.
 use w16_store::{MemStore, Store, StoreFault};
 
-/// Files in memory, and others that take their place where a file TURN is asked for, until a file BACK is.
+/// Files in memory, and others that take their place where a file TURN is asked for, until a file BACK is. As with a folder's files, that is
+/// seen once the store is told that a call begins.
 #[derive(Drop)]
 pub struct Turning {
     first: MemStore,
     second: MemStore,
     turned: bool,
+    /// Whether they are the others from the next call on.
+    turns: bool,
 }
 
 impl Turning {
@@ -15,7 +18,12 @@ impl Turning {
             first,
             second,
             turned: false,
+            turns: false,
         }
+    }
+
+    pub fn refresh(&mut self) {
+        self.turned = self.turns;
     }
 
     pub fn read_at(&mut self, name: &[u8], at: u64, buf: &mut [u8]) -> Result<(), StoreFault> {
@@ -28,8 +36,8 @@ impl Turning {
 
     pub fn len_of(&mut self, name: &[u8]) -> Result<u64, StoreFault> {
         match name {
-            b"TURN" => self.turned = true,
-            b"BACK" => self.turned = false,
+            b"TURN" => self.turns = true,
+            b"BACK" => self.turns = false,
             _ => {}
         }
         if self.turned {
