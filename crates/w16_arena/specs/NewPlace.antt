@@ -38,7 +38,7 @@ pub record AreFreeBytes (l : Layout) (n at : ℕ) : Type 0 where
 abbrev pub most_for : Layout → Bool → ℕ
 most_for l compact = if compact then room l.lo l.hi l.blocks else longest_hole l.lo l.hi l.blocks
 
--- directly behind the loose blocks of the lowest gap with room for n bytes, gathered
+-- directly after the loose blocks of the lowest gap with room for n bytes, gathered
 abbrev pub IsLowestGathered : Layout → ℕ → ℕ → Type 0
 IsLowestGathered l n at = (gap : Gap) × HasRoom l n gap × IsLowest l n gap.low × (at ≡ gap.low + gap.loose)
 

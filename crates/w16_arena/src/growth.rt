@@ -1,4 +1,4 @@
-//! A block gets longer: over the hole behind it, in another hole, or in a gap whose other blocks slide.
+//! A block gets longer: over the hole after it, in another hole, or in a gap whose other blocks slide.
 ghost use Rattle.std.specs.Prelude.{◌≡◌, ◌+◌, ◌<◌, ◌≤◌, ◌≢◌, ◌⊎◌, ℕ, false, length, Some, IsTrue, IfSome, IfNone, All};
 ghost use Rattle.w16_model.specs.Bytes.{part};
 ghost use Rattle.w16_model.specs.Gap.{is_any, IsClear, room};
@@ -20,8 +20,8 @@ use w16_compact::{Gap, gap_for, gather, open, packed_to};
 use w16_holes::{HoleList, Holes};
 use w16_region::{Space, reveal_bytes};
 
-/// Gives a block more bytes, whatever its hold is: where it stands, if the hole behind it is long enough; in the lowest hole of that size; or,
-/// where blocks may slide, in the lowest gap with room for it when it is left out, which is opened behind it where it stands in it. The block
+/// Gives a block more bytes, whatever its hold is: where it stands, if the hole after it is long enough; in the lowest hole of that size; or,
+/// where blocks may slide, in the lowest gap with room for it when it is left out, which is opened after it where it stands in it. The block
 /// keeps its hold and its bytes. Nothing is changed where there is no place.
 pub(crate) fn grow_block<S: Space, H: Holes<S>>(
     blocks: &mut Blocks<H>,
@@ -115,7 +115,7 @@ fn slide_for<S: Space, H: Holes<S>>(
     }
 }
 
-/// Opens the gap in which a block stands behind it, and gives it `size` bytes there.
+/// Opens the gap in which a block stands, directly after it, and gives it `size` bytes there.
 fn open_own<S: Space, H: Holes<S>>(
     blocks: &mut Blocks<H>,
     space: &mut S,
@@ -150,7 +150,7 @@ fn open_own<S: Space, H: Holes<S>>(
     }
 }
 
-/// The last multiple of the grain up to a place: no block ends behind it and at the place or below.
+/// The last multiple of the grain up to a place: no block ends between it and the place.
 fn whole_grains<H: HoleList>(blocks: &Blocks<H>, block: Block, high: u32) -> u32
     requires known { block_with blocks.now.blocks block.id ≡ Some block }
     ensures grained { IsMultiple blocks.now.grain result }
@@ -162,7 +162,7 @@ fn whole_grains<H: HoleList>(blocks: &Blocks<H>, block: Block, high: u32) -> u32
     high - high % blocks.grain()
 }
 
-/// Gathers a gap in which a block doesn't stand, and moves it behind the blocks there, where it gets `size` bytes.
+/// Gathers a gap in which a block doesn't stand, and moves it after the blocks there, where it gets `size` bytes.
 fn move_to_gap<S: Space, H: Holes<S>>(
     blocks: &mut Blocks<H>,
     space: &mut S,

@@ -47,7 +47,7 @@ impl<H: HoleList> Arena<H> {
         }
     }
 
-    /// An object that may not move gets more bytes, from the hole behind it.
+    /// An object that may not move gets more bytes, from the hole after it.
     pub(crate) fn grow_in_place<S: Space>(
         &mut self,
         space: &mut S,

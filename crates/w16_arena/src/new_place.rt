@@ -27,7 +27,7 @@ pub struct Placed {
 /// The range of a slide that moved nothing.
 pub(crate) const NOTHING: Span = Span { from: 0, to: 0 };
 
-/// A place of `size` bytes: in the lowest hole that is long enough, or else, where blocks may slide, behind the blocks of the lowest gap
+/// A place of `size` bytes: in the lowest hole that is long enough, or else, where blocks may slide, after the blocks of the lowest gap
 /// with room, gathered. Nothing is changed where there is none.
 pub(crate) fn make_room<S: Space, H: Holes<S>>(
     blocks: &mut Blocks<H>,
@@ -62,7 +62,7 @@ pub(crate) fn make_room<S: Space, H: Holes<S>>(
     }
 }
 
-/// A place of `size` bytes behind the blocks of the lowest gap with room, gathered.
+/// A place of `size` bytes after the blocks of the lowest gap with room, gathered.
 fn gather_for<S: Space, H: Holes<S>>(
     blocks: &mut Blocks<H>,
     space: &mut S,

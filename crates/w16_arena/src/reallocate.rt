@@ -20,7 +20,7 @@ use w16_region::{Space, reveal_bytes};
 
 impl<H: HoleList> Arena<H> {
     /// An object gets another size, above 0 and a multiple of the grain (GlobalReAlloc). One without bytes gets them as a new object does;
-    /// one that has as many or more is cut where it stands; one that is fixed or locked grows into the hole behind it, unless the options let
+    /// one that has as many or more is cut where it stands; one that is fixed or locked grows into the hole after it, unless the options let
     /// it move; any other grows where it stands, or in the lowest hole, or in the lowest gap with room for it, and where the options let others
     /// be discarded, by as few of the least recently used as are needed. `NoRoom` where none of that is possible, and nothing has changed
     /// then. An object keeps its place in the order of use, but one that had no bytes and is discardable becomes the newest.

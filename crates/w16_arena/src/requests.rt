@@ -26,7 +26,7 @@ pub struct NoRoom;
 
 impl<H: HoleList> Arena<H> {
     /// So many bytes, a multiple of the grain, for an id that has none: a new object, or an absent one again. They stand in the lowest hole
-    /// that is long enough, or else, where the options let others slide, behind the blocks of the lowest gap with room; where there is none and
+    /// that is long enough, or else, where the options let others slide, after the blocks of the lowest gap with room; where there is none and
     /// the options let others be discarded, as few of the least recently used as are needed. A discardable object becomes the newest.
     pub fn alloc<S: Space>(
         &mut self,

@@ -11,7 +11,7 @@ use w16_model::{Block, Item, Owner};
 use w16_region::Space;
 
 impl<H: HoleList> Arena<H> {
-    /// The i-th part of the heap by address, from 0 on, an object's bytes or a hole; none behind the last. Objects are named by their ids. It
+    /// The i-th part of the heap by address, from 0 on, an object's bytes or a hole; none after the last. Objects are named by their ids. It
     /// goes over the parts before it: a whole walk is quicker by [`Arena::walk_from`].
     pub fn walk<S: Space>(&self, space: &S, i: usize) -> Option<Item>
     where
@@ -27,7 +27,7 @@ impl<H: HoleList> Arena<H> {
         self.walk_from(space, from)
     }
 
-    /// The first part of the heap that begins at an address or above it; none behind the last. A whole walk asks from 0 on, and then each
+    /// The first part of the heap that begins at an address or above it; none after the last. A whole walk asks from 0 on, and then each
     /// time from where the last part ends. From inside a part the next is sought unit by unit.
     pub fn walk_from<S: Space>(&self, space: &S, from: u32) -> Option<Item>
     where

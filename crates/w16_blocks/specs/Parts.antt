@@ -20,7 +20,7 @@ pub record IsFirstHole (l : Layout) (at : ℕ) (s : Span) : Type 0 where
   pub above : at ≤ s.from
   pub first : All (λ b. (b.at < at) ⊎ (s.to ≤ b.at)) l.blocks
 
--- the first block that begins at an address or above it, and each such hole is behind it
+-- the first block that begins at an address or above it, and each such hole is after it
 pub record IsFirstBlock (l : Layout) (at : ℕ) (b : Block) : Type 0 where
   pub block : slice_get l.blocks (rank at l.blocks) ≡ Some b
   pub first : (a e : ℕ) → IsHole l.lo l.hi l.blocks a e → at ≤ a → b.at < a

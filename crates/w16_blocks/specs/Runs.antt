@@ -9,7 +9,7 @@ use Rattle.w16_blocks.specs.Layout.{Layout, holes_of}
 abbrev pub IsCut : ℕ → List Block → Type 0
 IsCut p bs = AllByRecursion (λ b. (block_end b ≤ p) ⊎ (p ≤ b.at)) bs
 
--- a part of the range that is whole blocks, one behind another: no block reaches over an end of it, and no byte of it is free
+-- a part of the range that is whole blocks, one after another: no block reaches over an end of it, and no byte of it is free
 pub record IsRun (l : Layout) (s : Span) : Type 0 where
   pub inside : (l.lo ≤ s.from) × (s.from ≤ s.to) × (s.to ≤ l.hi)
   pub grained : IsMultiple l.grain s.from × IsMultiple l.grain s.to

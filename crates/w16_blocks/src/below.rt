@@ -19,7 +19,7 @@ fn are_blank(cells: &[u32; TOGETHER]) -> bool
     (a | b | c | d) | (e | f | g | h) == 0
 }
 
-/// Up to which cell below another a block may begin: those behind it were looked at together, and none does.
+/// Up to which cell below another a block may begin: those after it were looked at together, and none does.
 fn last_filled(begins: &[u32], below: usize) -> usize
     requires { below ≤ length begins.now }
     ensures within { result ≤ below }

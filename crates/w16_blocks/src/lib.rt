@@ -221,7 +221,7 @@ impl<H: HoleList> Blocks<H> {
         self.pinned -= pins_of(block.hold);
     }
 
-    /// Gives an id's block another size, with which it meets no other block. What it has more is taken from the hole behind it, and what it
+    /// Gives an id's block another size, with which it meets no other block. What it has more is taken from the hole after it, and what it
     /// has less joins the holes. Bytes outside the holes of before and after stay.
     pub fn resize<S: Space>(&mut self, space: &mut S, id: u32, size: u32)
     where
@@ -419,7 +419,7 @@ impl<H: HoleList> Blocks<H> {
         None
     }
 
-    /// How many units of grain begin inside the range. Behind them nothing begins.
+    /// How many units of grain begin inside the range. After them nothing begins.
     pub(crate) fn units(&self) -> usize
         ensures value { result ≡ div_ceil (self.now.hi - self.now.lo) self.now.grain }
         ensures ordered { IsOrdered self.now }

@@ -61,7 +61,7 @@ impl<H: HoleList> Blocks<H> {
     ghost use Rattle.w16_blocks.specs.Stay.{HasRange, Leaves};
     ghost use Rattle.w16_blocks.specs.Runs.{IsCut, BeginsAt};
 
-    /// Where the run of blocks begins that stand one behind another up to a place: at `low` at the earliest, which no block reaches over,
+    /// Where the run of blocks begins that stand one after another up to a place: at `low` at the earliest, which no block reaches over,
     /// and at the place itself where no block ends there.
     pub fn run_begin(&self, to: u32, low: u32) -> u32
         requires inside { (self.now.lo ≤ low) × (low ≤ to) × (to ≤ self.now.hi) }
@@ -84,7 +84,7 @@ impl<H: HoleList> Blocks<H> {
         begin
     }
 
-    /// Slides a run of blocks up to a place up to whose end no block has a byte behind the run, and their bytes with them, in one move. What
+    /// Slides a run of blocks up to a place up to whose end no block has a byte after the run, and their bytes with them, in one move. What
     /// the new place has beyond the old one is taken from the holes, and what the old one has beyond the new joins them. The size of the run
     /// counts as written, once. Bytes outside the holes of before and after stay, but for those of the new place.
     pub fn lift_run<S: Space>(&mut self, space: &mut S, run: Span, to: u32)

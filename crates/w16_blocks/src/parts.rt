@@ -15,7 +15,7 @@ impl<H: HoleList> Blocks<H> {
     ghost use Rattle.w16_blocks.specs.Layout.{IsOrdered, holes_of};
     ghost use Rattle.w16_blocks.specs.Parts.{IfHole, IfBlock, IsFirstHole, IsFirstBlock, IsBehindAll};
 
-    /// The first block or hole that begins at an address or above it; none behind the last. It looks at each unit of grain from there on, so
+    /// The first block or hole that begins at an address or above it; none after the last. It looks at each unit of grain from there on, so
     /// a walk asks from the end of the part before.
     pub fn part_from<S: Space>(&self, space: &S, at: u32) -> Option<Part>
     where

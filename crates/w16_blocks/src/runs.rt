@@ -1,4 +1,4 @@
-//! Runs of blocks that stand one behind another, which slide as one.
+//! Runs of blocks that stand one after another, which slide as one.
 ghost use Rattle.std.specs.Prelude.{◌≡◌, ◌≢◌, ◌+◌, ◌-◌, ◌<◌, ◌≤◌, suc, Some, length, map, slice_index, MatchOption};
 ghost use Rattle.std.specs.List.{AllByRecursion};
 ghost use Rattle.w16_model.specs.Heap.{IsMultiple};
@@ -126,7 +126,7 @@ impl<H: HoleList> Blocks<H> {
         block_at(&self.slots, &self.begins, bounds, self.grain, place)
     }
 
-    /// Where the run of blocks ends that stand one behind another from a place on: at `high` at the latest, which no block reaches over, and
+    /// Where the run of blocks ends that stand one after another from a place on: at `high` at the latest, which no block reaches over, and
     /// at the place itself where no block begins there.
     pub fn run_end(&self, from: u32, high: u32) -> u32
         requires inside { (self.now.lo ≤ from) × (from ≤ high) × (high ≤ self.now.hi) }

@@ -1,4 +1,4 @@
--- Blocks slid to the high end of an interval, and a gap that is opened behind one of its blocks.
+-- Blocks slid to the high end of an interval, and a gap that is opened after one of its blocks.
 use Rattle.std.specs.Prelude.{ℕ, ◌+◌, ◌-◌, if◌then◌else◌, List, map, Some}
 use Rattle.w16_model.specs.{declared.Block.Block, Gap.begins_in, Gap.loose_bytes, Reallocation.loosened}
 use Rattle.w16_blocks.specs.Layout.{Layout}
@@ -16,7 +16,7 @@ raised low high bs = map (raised_in bs low high) bs
 abbrev pub opened : ℕ → ℕ → ℕ → List Block → List Block
 opened low end high bs = raised end high (gathered low end bs)
 
--- where a block ends that slides down to `low` behind the loose blocks that stand below it
+-- where a block ends that slides down to `low` after the loose blocks that stand below it
 abbrev pub end_in : List Block → ℕ → Block → ℕ
 end_in bs low b = low + loose_bytes bs low b.at + b.size
 

@@ -4,7 +4,7 @@ use Rattle.w16_model.specs.{declared.Block.Block, Gap.is_pinned, Gap.block_end}
 use Rattle.w16_blocks.specs.Layout.{Layout}
 
 -- The table is right for blocks by address, where the gap that they begin in has this number, begins at `low` and has so many bytes of
--- loose blocks before them. A gap ends at the next pinned block, or at hi; the one behind a pinned block has that block's id as its number.
+-- loose blocks before them. A gap ends at the next pinned block, or at hi; the one after a pinned block has that block's id as its number.
 abbrev pub Tells : ℕ → ℕ → ℕ → ℕ → List Block → List ℕ → List ℕ → Type 0
 Tells hi low loose gap [] gap_of rooms = low + loose + slice_index rooms gap ≡ hi
 Tells hi low loose gap (x ∷ xs) gap_of rooms =

@@ -14,7 +14,7 @@ use w16_region::Space;
 pub struct Gap {
     /// Its first byte.
     pub low: u32,
-    /// The place behind its last byte.
+    /// The place after its last byte.
     pub high: u32,
     /// The bytes of its loose blocks together, at most `high - low`.
     pub loose: u32,

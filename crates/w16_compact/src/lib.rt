@@ -1,7 +1,7 @@
 //! Compaction: the loose blocks of a gap slide together, so that one hole is left there.
 //!
 //! - [`gap_for`] tells where it can make enough room.
-//! - [`gather`] makes it there, behind the blocks that [`packed_to`] tells, and [`open`] directly behind one of the blocks.
+//! - [`gather`] makes it there, after the blocks that [`packed_to`] tells, and [`open`] directly after one of the blocks.
 //! - [`least_prefix`] tells how many discards it takes first, [`room_after`] how much room a number of them leaves, and [`is_eligible`]
 //!   which objects they may be.
 //! - [`stretch_for`] tells how much room there would be if the range ended later.

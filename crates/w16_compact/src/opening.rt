@@ -1,4 +1,4 @@
-//! A gap is opened behind one of its blocks.
+//! A gap is opened after one of its blocks.
 ghost use Rattle.std.specs.Prelude.{◌≡◌, ℕ, ◌+◌, ◌<◌, ◌≤◌, ◌⊎◌, ◌-◌, ◌==◌, length, map, Some, IsSome, IfSome, if◌then◌else◌, MatchOption};
 ghost use Rattle.std.specs.List.{AllByRecursion};
 ghost use Rattle.w16_region.specs.Bytes.{counted};
@@ -18,9 +18,9 @@ use w16_blocks::{Block, Blocks, Hold, Span};
 use w16_holes::{HoleList, Holes};
 use w16_region::Space;
 
-/// Opens the gap from `low` to `high`, two addresses, behind an id's block, which stands in it and counts as loose there, whatever its hold
+/// Opens the gap from `low` to `high`, two addresses, after an id's block, which stands in it and counts as loose there, whatever its hold
 /// is: the loose blocks up to and with it slide down to `low`, and those above it slide up to `high`, both in their order (profile). So one
-/// hole is left in a gap, directly behind the block, as long as the gap less its loose blocks; none where they fill it. The block keeps its
+/// hole is left in a gap, directly after the block, as long as the gap less its loose blocks; none where they fill it. The block keeps its
 /// hold.
 ///
 /// Answers how many bytes were moved: the sizes of the blocks whose address changed, together. As
@@ -63,7 +63,7 @@ pub fn open<S: Space, H: Holes<S>>(
     moved
 }
 
-/// Opens a gap behind a block that is loose, as [`open`] does.
+/// Opens a gap after a block that is loose, as [`open`] does.
 fn open_loose<S: Space, H: Holes<S>>(
     blocks: &mut Blocks<H>,
     space: &mut S,
@@ -145,7 +145,7 @@ fn last_between<H: HoleList>(blocks: &Blocks<H>, low: u32, below: u32) -> Option
     if low <= block.at { Some(block) } else { None }
 }
 
-/// Slides a run of blocks up to a place that the blocks behind it leave free. Answers how many bytes were moved, which is none where it
+/// Slides a run of blocks up to a place that the blocks after it leave free. Answers how many bytes were moved, which is none where it
 /// stands there.
 fn lift<S: Space, H: Holes<S>>(blocks: &mut Blocks<H>, space: &mut S, run: Span, to: u32) -> u32
     requires ordered { IsOrdered blocks.old }

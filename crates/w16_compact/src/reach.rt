@@ -13,7 +13,7 @@ pub(crate) struct Reached {
 }
 
 impl Reached {
-    /// Behind one more block. A pinned block ends the gap, and the next one begins behind it.
+    /// After one more block. A pinned block ends the gap, and the next one begins after it.
     pub(crate) fn passing(self, block: &Block) -> Reached
         requires end { block_end block.now < 2 ^ 32 }
         requires sum { self.loose + block.now.size < 2 ^ 32 }

@@ -16,7 +16,7 @@ use w16_holes::{HoleList, Holes};
 use w16_region::Space;
 
 /// Slides the loose blocks of `low` up to `high`, two addresses, down to `low`, in their order
-/// (profile), so that what is free there lies behind them. Of a gap one hole is left, or none where
+/// (profile), so that what is free there lies after them. Of a gap one hole is left, or none where
 /// they fill it.
 ///
 /// Answers how many bytes were moved: the sizes of the blocks whose address changed, together. As
@@ -44,7 +44,7 @@ pub fn gather<S: Space, H: Holes<S>>(
     reveal_order(blocks);
     let mut to = packed_to(blocks, space, low, high);
     let mut moved = 0;
-    // What is free lies directly behind the settled ones, so the next is found in one step. Those that stand directly behind it slide as far,
+    // What is free lies directly after the settled ones, so the next is found in one step. Those that stand directly after it slide as far,
     // so they go with it.
     while let Some(block) = block_between(blocks, space, to, high) {
         let within = Span {

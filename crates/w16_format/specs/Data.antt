@@ -50,7 +50,7 @@ data_in file tables s = record {
   image = λ values. image_of (data_of file s) (records_in (checked file tables s)) (map far_in values) s.size;
 }
 
--- so many bytes, zeros behind those that are there
+-- so many bytes, zeros after those that are there
 abbrev pub padded : List ℕ → ℕ → List ℕ
 padded bytes size = map (λ o. slice_index bytes o) (range_with_len 0 size)
 

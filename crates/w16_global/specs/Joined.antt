@@ -30,7 +30,7 @@ global_code = code_by (Handles × ℕ) (coded× handles_code coded_ℕ) (λ g. (
 abbrev pub zeroed : ℕ → ℕ → ℕ → ℕ
 zeroed flags size handle = if handle == 0 then 0 else (if has_flag flags GMEM_ZEROINIT then rounded_size size else 0)
 
--- and behind the bytes of an object that GlobalReAlloc lengthens
+-- and after the bytes of an object that GlobalReAlloc lengthens
 abbrev pub zeroed_behind : Handles → ℕ → ℕ → ℕ → ℕ → ℕ
 zeroed_behind old handle size flags answer = if (answer == 0) || has_flag flags GMEM_MODIFY then 0
     else (if has_flag flags GMEM_ZEROINIT then rounded_size size - global_size old handle else 0)

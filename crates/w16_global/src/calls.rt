@@ -286,7 +286,7 @@ impl<A: Allocator + Copy> Global16<A> {
         }
     }
 
-    /// The i-th part of the heap by address, from 0 on, an object's bytes or a hole; objects are named by their handles. None behind the last.
+    /// The i-th part of the heap by address, from 0 on, an object's bytes or a hole; objects are named by their handles. None after the last.
     /// It goes over the parts before it: a whole walk is quicker by [`Global16::walk_from`] (profile).
     pub fn walk(&self, i: usize) -> Option<Item>
         ensures { IsItemAt handles.handle_of self.now.handles.heap i result }
@@ -319,7 +319,7 @@ impl<A: Allocator + Copy> Global16<A> {
         count
     }
 
-    /// The first part of the heap that begins at an address or above it; none behind the last. A walk of the whole heap asks from 0 on, then
+    /// The first part of the heap that begins at an address or above it; none after the last. A walk of the whole heap asks from 0 on, then
     /// from the end of each part.
     pub fn walk_from(&self, from: u32) -> Option<Item>
         ensures found { IsFirstItem handles.handle_of self.now.handles.heap from result }

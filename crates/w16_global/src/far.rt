@@ -12,7 +12,7 @@ use std::alloc::Allocator;
 use w16_model::names::slot_of;
 use w16_model::{FarFault, REACH};
 
-/// Where an access begins: in an object, by its first slot, at so many bytes behind its begin.
+/// Where an access begins: in an object, by its first slot, at so many bytes after its begin.
 #[derive(Clone, Copy, Debug)]
 pub(crate) struct Reached {
     pub slot: u16,
@@ -65,7 +65,7 @@ impl<A: Allocator + Copy> Global16<A> {
         Ok(())
     }
 
-    /// Writes bytes over those that are there. It tells the first fault as `far_read` does, `ReadOnly` behind `BadSelector` where the object is
+    /// Writes bytes over those that are there. It tells the first fault as `far_read` does, `ReadOnly` after `BadSelector` where the object is
     /// code, with bytes or without; then nothing was written.
     pub fn far_write(&mut self, selector: u16, offset: u16, bytes: &[u8]) -> Result<(), FarFault>
         ensures ok { OnOk result (Gives (access.far_write self.old.handles selector offset bytes.now) access.FarAnswer.Done self.new.handles) }

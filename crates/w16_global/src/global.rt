@@ -135,7 +135,7 @@ impl<A: Allocator + Copy> Global16<A> {
     }
 
     /// So many bytes, above 0 and a multiple of the grain, for an object that is there, if it gets as many slots as these need, and there is room
-    /// for them as the options have it: the slot that it has then. Where its own slots and those behind them don't do, that is another one. Its
+    /// for them as the options have it: the slot that it has then. Where its own slots and those after them don't do, that is another one. Its
     /// selectors follow, and so do those of objects that were discarded for it, or have slid.
     pub(crate) fn reallocate(&mut self, slot: u16, size: u32, options: RoomOptions) -> Option<u16>
         requires object { IsSome (object_at self.old.handles.heap slot) }
@@ -181,7 +181,7 @@ impl<A: Allocator + Copy> Global16<A> {
     }
 
     /// Where the run of so many slots begins that an object gets for another size: where its own does, if it has as many already, or those directly
-    /// behind it are free; else where as many are free, unless it may not leave its slot. None where there are none for it.
+    /// after it are free; else where as many are free, unless it may not leave its slot. None where there are none for it.
     fn run_for(&self, slot: u16, count: u16, options: RoomOptions) -> Option<u16>
         requires object { IsSome (object_at self.now.handles.heap slot) }
         requires some { 0 < count }
@@ -199,7 +199,7 @@ impl<A: Allocator + Copy> Global16<A> {
         }
     }
 
-    /// Whether an object has so many slots, or gets them by those directly behind its own.
+    /// Whether an object has so many slots, or gets them by those directly after its own.
     fn can_extend(&self, slot: u16, count: u16) -> bool
         requires { IsSome (object_at self.now.handles.heap slot) }
         ensures value { IsTrue result ↔ CanExtend self.now.handles slot count }

@@ -21,12 +21,12 @@ impl<A: Allocator + Copy> Global16<A> {
     ///
     /// With `GMEM_MODIFY` the size isn't looked at: an object that isn't fixed becomes discardable with `GMEM_DISCARDABLE`, else moveable. A
     /// size of 0 with `GMEM_MOVEABLE` discards a discardable object that isn't locked, as it may be already; a size of 0 is refused
-    /// otherwise, and so is one over the limit. The size is rounded up to 32 bytes: the object keeps its first bytes, and more come behind
+    /// otherwise, and so is one over the limit. The size is rounded up to 32 bytes: the object keeps its first bytes, and more come after
     /// them, zeros with `GMEM_ZEROINIT`; one without bytes gets new ones. It is cut where it stands. To grow, it may move, and others
     /// slide and are discarded, as in [`Global16::global_alloc`]; a fixed or locked one moves with `GMEM_MOVEABLE` alone, and grows
-    /// into the hole behind it without.
+    /// into the hole after it without.
     ///
-    /// The object then has as many slots as the size needs. It gives up its last ones, or gets those directly behind its own. Where these
+    /// The object then has as many slots as the size needs. It gives up its last ones, or gets those directly after its own. Where these
     /// aren't free it gets as many others, the lowest in a row, and the handle of the first, and its old handle is bad: not if it is
     /// locked, and if it is fixed with `GMEM_MOVEABLE` alone. It is refused where there are none for it.
     pub fn global_realloc(&mut self, handle: u16, size: u32, flags: GlobalReAllocFlags) -> u16

@@ -1,4 +1,4 @@
-//! Runs of slots: an object's selectors one behind another, each of which reaches up to 65,536 of its bytes.
+//! Runs of slots: an object's selectors one after another, each of which reaches up to 65,536 of its bytes.
 ghost use Rattle.std.specs.Prelude.{◌≡◌, ◌≢◌, ◌+◌, ◌-◌, ◌^◌, ◌<◌, ◌≤◌, ℕ, IsSome, None, Some, length, slice_index_or, true};
 ghost use Rattle.w16_model.specs.Handles as handles;
 ghost use Rattle.w16_model.specs.Heap.{object_at};

@@ -51,7 +51,7 @@ fn sweep_listed<A: Allocator + Copy>(
     }
 }
 
-/// Looks at the heap of the slot at a place of the list, where those of the places behind have been looked at.
+/// Looks at the heap of the slot at a place of the list, where those of the later places have been looked at.
 fn look_at<A: Allocator + Copy>(
     heaps: &mut Vec<HeldHeap<A>, A>,
     live: &mut Vec<u16, A>,

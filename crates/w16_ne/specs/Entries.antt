@@ -28,7 +28,7 @@ is_astray segments (Some (InSegment segment offset)) = segment == 0 || nat_lt se
 abbrev pub sound_entry : ℕ → Option Entry → Reading (Option Entry)
 sound_entry segments entry = if is_astray segments entry then Err BadTable else Ok entry
 
--- where a bundle ends: behind its count, its indicator and its entries
+-- where a bundle ends: after its count, its indicator and its entries
 abbrev pub bundle_end : List ℕ → ℕ → ℕ
 bundle_end table at = at + 2 + slice_index table at * entry_size (slice_index table (at + 1))
 

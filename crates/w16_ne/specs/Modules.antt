@@ -40,7 +40,7 @@ tables_of place header segments resident references entries nonresident resource
   resources = resources;
 }
 
--- the tables behind a header
+-- the tables after a header
 unfoldable pub tables_behind : Option (List ℕ) → ℕ → List ℕ → Reading Tables
 tables_behind file ne header = do
   segments ← segments_at file ne header

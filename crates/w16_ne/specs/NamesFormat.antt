@@ -10,7 +10,7 @@ pub record IsName (file : List ℕ) (at : ℕ) (e : Entry) : Type 0 where
   pub text : take (length e.0) (drop (at + 1) file) ≡ e.0
   pub ordinal : word_of file (at + 1 + length e.0) ≡ e.1
 
--- names one directly after the other, and a 0 behind the last
+-- names one directly after the other, and a 0 after the last
 abbrev pub AreNames : List ℕ → ℕ → List Entry → Type 0
 AreNames file at [] = (at < length file) × (slice_index file at ≡ 0)
 AreNames file at (e ∷ es) = IsName file at e × AreNames file (at + size e) es

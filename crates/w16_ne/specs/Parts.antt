@@ -10,7 +10,7 @@ abbrev pub reads : {Y Z : Type 0} → FilePart → Reading Y → (Y → Result Z
 reads part (Ok y) next = next y
 reads part (Err fault) next = Err (record { part = part; fault = fault })
 
--- the tables behind a header
+-- the tables after a header
 unfoldable pub parts_behind : Option (List ℕ) → ℕ → List ℕ → Result Tables PartFault
 parts_behind file ne header =
     reads SegmentTable (segments_at file ne header) (λ segments.

@@ -31,7 +31,7 @@ pub record IsBlock (file : List ℕ) (table shift at : ℕ) (t : Typed) : Type 0
   pub kind : IsLabel file table (word_of file at) t.0
   pub are : AreResources file table shift (at + 8) t.1
 
--- blocks one directly after the other, and a type of 0 behind the last
+-- blocks one directly after the other, and a type of 0 after the last
 abbrev pub AreBlocks : List ℕ → ℕ → ℕ → ℕ → List Typed → Type 0
 AreBlocks file table shift at [] = (at + 2 ≤ length file) × (word_of file at ≡ 0)
 AreBlocks file table shift at (t ∷ ts) = IsBlock file table shift at t × AreBlocks file table shift (at + 8 + 12 * length t.1) ts

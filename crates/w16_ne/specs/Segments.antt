@@ -23,7 +23,7 @@ pub record IsSized (s : Segment) : Type 0 where
   pub small : s.size ≤ LARGEST_SEGMENT
   pub whole : s.size % SEGMENT_UNIT ≡ 0
 
--- how many relocation records stand directly after the data, behind their count: none without flag 0100
+-- how many relocation records stand directly after the data, after their count: none without flag 0100
 unfoldable pub records_at : Option (List ℕ) → ℕ → ℕ → Reading ℕ
 records_at file flags end = if bit_and flags 0x100 == 0 then Ok 0 else do
   count ← bytes_or Truncated file end 2

@@ -8,7 +8,7 @@ AreRecords file flags end records =
     (bit_and flags 0x100 ≡ 0) × (records ≡ 0)
     ⊎ (bit_and flags 0x100 ≢ 0) × (records ≡ word_of file end) × (end + 2 + 8 * records ≤ length file)
 
--- a segment's data: none for sector 0, or so many bytes at the sector times the unit, with the records behind them
+-- a segment's data: none for sector 0, or so many bytes at the sector times the unit, with the records after them
 abbrev pub IsData : List ℕ → ℕ → ℕ → Segment → Type 0
 IsData file shift at s =
     (word_of file at ≡ 0) × (s.place ≡ 0) × (s.len ≡ 0) × (s.records ≡ 0)

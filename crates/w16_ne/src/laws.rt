@@ -19,7 +19,7 @@ pub fn names_are_read_where_they_are()
     ensures { NamesFormatLaw }
 {}
 
-/// Segments are read exactly where they are: their entries in the table, their data and the relocation records behind them.
+/// Segments are read exactly where they are: their entries in the table, their data and the relocation records after them.
 pub fn segments_are_read_where_they_are()
     ensures { SegmentsFormatLaw }
 {}

@@ -8,7 +8,7 @@ use crate::fault::NeFault;
 use crate::names::Names;
 use std::alloc::Allocator;
 
-/// The first name of a table, empty while there is none, and behind names that were there before all its others.
+/// The first name of a table, empty while there is none, and after names that were there before all its others.
 #[derive(Drop)]
 pub struct Listing<A: Allocator> {
     alloc: A,
@@ -18,7 +18,7 @@ pub struct Listing<A: Allocator> {
 }
 
 impl<A: Allocator + Copy> Listing<A> {
-    /// A table of no names, behind these.
+    /// A table of no names, after these.
     pub fn new(alloc: A, names: Names<A>) -> Listing<A>
         ensures { IsListing names [] result }
     {

@@ -22,7 +22,7 @@ use crate::segment_table::segments;
 use std::alloc::Allocator;
 use w16_store::Store;
 
-/// The tables behind a header.
+/// The tables after a header.
 #[tactic(auto, unfolding(crate::specs::Modules::tables_behind, crate::specs::Parts::parts_behind))]
 fn tables<A: Allocator + Copy, S: Store>(
     alloc: A,

@@ -143,7 +143,7 @@ fn blocks_before<A: Allocator + Copy, S: Store>(
     Err(NeFault::Truncated)
 }
 
-/// The blocks of the table that begins at an offset, behind its shift word, in a file of so many bytes. They are gone over twice: room for all of
+/// The blocks of the table that begins at an offset, after its shift word, in a file of so many bytes. They are gone over twice: room for all of
 /// them is taken once their number is known.
 #[tactic(auto, unfolding(crate::specs::Resources::blocks_at))]
 pub fn blocks<A: Allocator + Copy, S: Store>(

@@ -29,7 +29,7 @@ pub struct Segment {
     pub flags: SegmentFlags,
     /// The bytes of its object, a multiple of 32 from 32 to 65,536.
     pub size: u32,
-    /// How many relocation records stand behind the data.
+    /// How many relocation records stand after the data.
     pub records: u16,
 }
 

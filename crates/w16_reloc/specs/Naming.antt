@@ -19,6 +19,6 @@ offsets_of bytes System = []
 abbrev pub naming : List ℕ → List Record → List (List ℕ)
 naming bytes records = map (offsets_of bytes) records
 
--- so many bytes: the file's data and zeros behind them, with the values written
+-- so many bytes: the file's data and zeros after them, with the values written
 abbrev pub image_of : List ℕ → List Record → List Far → ℕ → List ℕ
 image_of file records values size = map (image_at (patches file records values (naming file records)) (byte file)) (range_with_len 0 size)

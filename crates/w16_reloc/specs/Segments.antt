@@ -22,7 +22,7 @@ offer_in texts segments references = record { segments = segments; references = 
 abbrev pub any_offer : ℕ → ℕ → Offer
 any_offer segments references = record { segments = segments; references = references; has_name = λ name. true }
 
--- a segment's data in the file, and its records: directly behind the data and their count
+-- a segment's data in the file, and its records: directly after the data and their count
 abbrev pub data_of : List ℕ → Segment → List ℕ
 data_of file s = take s.len (drop s.place file)
 

@@ -19,7 +19,7 @@ pub fn word(bytes: &[u8], at: usize) -> u16
     LittleEndian::read_u16(&bytes[at..at + 2])
 }
 
-/// Marks the sites of a chain behind its first, fewer than the data's bytes.
+/// Marks the sites of a chain after its first, fewer than the data's bytes.
 fn take_links(bytes: &[u8], width: usize, head: u16, marks: &mut [bool]) -> Result<(), RelocFault>
     requires wide { 2 ≤ width }
     requires narrow { width ≤ 4 }

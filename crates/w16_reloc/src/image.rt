@@ -55,7 +55,7 @@ fn write_record(bytes: &mut [u8], relocation: &Record, far: Far)
     }
 }
 
-/// Relocates a segment in place: over bytes that begin with its file's data, and are zero behind it, the values of its records are written, one
+/// Relocates a segment in place: over bytes that begin with its file's data, and are zero after it, the values of its records are written, one
 /// target for each. Where the records are not sound in those data, the bytes are any afterwards.
 pub fn apply(bytes: &mut [u8], records: &[Record], targets: &[Far])
     requires { length records.now ≡ length targets.now }

@@ -32,7 +32,7 @@ abbrev mutual
 abbrev pub Makes : Result Value AllocError → Data → Type 0
 Makes result d = IfOk result (λ v. (view v ≡ d) × IsPlain d)
 
--- A call that answers `Ok` has put the text of such a value behind what was there, or has sent it to a writer.
+-- A call that answers `Ok` has put the text of such a value after what was there, or has sent it to a writer.
 abbrev pub AddsJson : Result (Unit {0}) AllocError → List ℕ → List ℕ → Data → Type 0
 AddsJson result old new d = OnOk result ((new ≡ old ++ compact_text d) × IsPlain d)
 

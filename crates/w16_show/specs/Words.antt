@@ -8,7 +8,7 @@ use Rattle.w16_ne.specs.declared.fault.NeFault.TheVariants as files
 use Rattle.w16_ne.specs.declared.part.FilePart.TheVariants as parts
 use Rattle.w16_reloc.specs.declared.fault.RelocFault.TheVariants as relocs
 
--- A call that answers `Ok` has put this text behind what was there.
+-- A call that answers `Ok` has put this text after what was there.
 abbrev pub Adds : Result (Unit {0}) AllocError → List ℕ → List ℕ → List ℕ → Type 0
 Adds result old new text = OnOk result (new ≡ old ++ text)
 

@@ -20,7 +20,7 @@ pub fn word(bytes: &[u8], at: usize) -> u16
     u16::from(byte(bytes, at)) + 256 * u16::from(byte(bytes, at + 1))
 }
 
-/// Puts a byte behind a text: as it is where ASCII prints it, and no quote or backslash, else by its code.
+/// Adds a byte to a text: as it is where ASCII prints it, and no quote or backslash, else by its code.
 #[tactic(auto, unfolding(crate::specs::Words::byte_text))]
 fn push_byte(out: &mut String, byte: u8) -> Result<(), AllocError>
     ensures { Adds result (string_bytes out.old) (string_bytes out.new) (byte_text byte) }
@@ -32,7 +32,7 @@ fn push_byte(out: &mut String, byte: u8) -> Result<(), AllocError>
     }
 }
 
-/// Puts bytes behind a text, each so.
+/// Adds bytes to a text, each so.
 pub fn push_escaped(out: &mut String, bytes: &[u8]) -> Result<(), AllocError>
     ensures { Adds result (string_bytes out.old) (string_bytes out.new) (escaped bytes.now) }
 {
@@ -42,7 +42,7 @@ pub fn push_escaped(out: &mut String, bytes: &[u8]) -> Result<(), AllocError>
     Ok(())
 }
 
-/// Puts a flag's word behind a text, where the flag is set.
+/// Adds a flag's word to a text, where the flag is set.
 #[tactic(auto, unfolding(crate::specs::Words::flag_text))]
 pub fn push_flag(out: &mut String, flags: u16, bit: u16, word: &str) -> Result<(), AllocError>
     ensures { Adds result (string_bytes out.old) (string_bytes out.new) (flag_text flags bit word.now) }

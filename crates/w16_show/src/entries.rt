@@ -9,7 +9,7 @@ use crate::bytes::push_escaped;
 use std::alloc::AllocError;
 use w16_ne::{Entry, Module};
 
-/// Puts the line of a constant behind a text.
+/// Adds the line of a constant to a text.
 #[tactic(auto, unfolding(crate::specs::Text::entry_text))]
 fn push_constant(out: &mut String, ordinal: u16, value: u16) -> Result<(), AllocError>
     ensures { Adds result (string_bytes out.old) (string_bytes out.new) (entry_text ordinal (Some (Constant value))) }
@@ -17,7 +17,7 @@ fn push_constant(out: &mut String, ordinal: u16, value: u16) -> Result<(), Alloc
     writeln!(out, "entry {ordinal}: constant {value:04x}")
 }
 
-/// Puts the line of an ordinal behind a text, where it has an entry.
+/// Adds the line of an ordinal to a text, where it has an entry.
 #[tactic(auto, unfolding(crate::specs::Text::entry_text))]
 fn push_entry(out: &mut String, ordinal: u16, entry: Option<Entry>) -> Result<(), AllocError>
     ensures { Adds result (string_bytes out.old) (string_bytes out.new) (entry_text ordinal entry) }
@@ -31,7 +31,7 @@ fn push_entry(out: &mut String, ordinal: u16, entry: Option<Entry>) -> Result<()
     }
 }
 
-/// Puts the lines of all entries behind a text.
+/// Adds the lines of all entries to a text.
 pub fn push_entries(out: &mut String, tables: &Module) -> Result<(), AllocError>
     ensures { Adds result (string_bytes out.old) (string_bytes out.new) (numbered entry_text 1 tables.now.entries) }
 {
@@ -41,7 +41,7 @@ pub fn push_entries(out: &mut String, tables: &Module) -> Result<(), AllocError>
     Ok(())
 }
 
-/// Puts how a name stands in the file behind a text.
+/// Adds how a name stands in the file to a text.
 #[tactic(auto, unfolding(crate::specs::Text::standing_text))]
 fn push_standing(out: &mut String, resident: bool) -> Result<(), AllocError>
     ensures { Adds result (string_bytes out.old) (string_bytes out.new) (standing_text resident) }
@@ -53,7 +53,7 @@ fn push_standing(out: &mut String, resident: bool) -> Result<(), AllocError>
     }
 }
 
-/// Puts the line of a name, by its number from 0, behind a text: of a module with so many resident ones.
+/// Adds to a text the line of a name, by its number from 0: of a module with so many resident ones.
 #[tactic(auto, unfolding(crate::specs::Text::name_text))]
 fn push_name(
     out: &mut String,
@@ -69,7 +69,7 @@ fn push_name(
     writeln!(out, ": entry {ordinal}")
 }
 
-/// Puts the lines of all names of entries behind a text.
+/// Adds the lines of all names of entries to a text.
 pub fn push_names(out: &mut String, tables: &Module) -> Result<(), AllocError>
     ensures { Adds result (string_bytes out.old) (string_bytes out.new) (numbered (name_text tables.now.resident) 0 tables.now.names) }
 {

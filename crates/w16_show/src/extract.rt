@@ -27,7 +27,7 @@ impl Model for Resources {
     ghost view = { λ s. s.tables };
 }
 
-/// Puts a byte behind a file's name.
+/// Adds a byte to a file's name.
 fn push_byte(out: &mut String, byte: u8) -> Result<(), AllocError>
     ensures { Adds result (string_bytes out.old) (string_bytes out.new) (name_byte byte) }
 {
@@ -37,7 +37,7 @@ fn push_byte(out: &mut String, byte: u8) -> Result<(), AllocError>
     }
 }
 
-/// Puts a text behind a file's name.
+/// Adds a text to a file's name.
 fn push_text(out: &mut String, text: &[u8]) -> Result<(), AllocError>
     ensures { Adds result (string_bytes out.old) (string_bytes out.new) (flat_map name_byte text.now) }
 {
@@ -47,7 +47,7 @@ fn push_text(out: &mut String, text: &[u8]) -> Result<(), AllocError>
     Ok(())
 }
 
-/// Puts a type or an id behind a file's name.
+/// Adds a type or an id to a file's name.
 fn push_label(out: &mut String, label: ResourceName<'_>) -> Result<(), AllocError>
     ensures { Adds result (string_bytes out.old) (string_bytes out.new) (label_part (label_of label.entry)) }
 {
@@ -60,7 +60,7 @@ fn push_label(out: &mut String, label: ResourceName<'_>) -> Result<(), AllocErro
     }
 }
 
-/// Puts a type behind a file's name: the manual's name for it, where it has one.
+/// Adds a type to a file's name: the manual's name for it, where it has one.
 fn push_kind(out: &mut String, kind: ResourceName<'_>) -> Result<(), AllocError>
     ensures { Adds result (string_bytes out.old) (string_bytes out.new) (kind_part (label_of kind.entry)) }
 {

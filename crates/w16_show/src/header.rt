@@ -8,7 +8,7 @@ use crate::bytes::{byte, push_escaped, push_flag, word};
 use std::alloc::AllocError;
 use w16_ne::Module;
 
-/// Puts the file's name and what its module is behind a text.
+/// Adds the file's name and what its module is to a text.
 #[tactic(auto, unfolding(crate::specs::Text::front_text))]
 fn push_front(out: &mut String, name: &str, library: bool) -> Result<(), AllocError>
     ensures { Adds result (string_bytes out.old) (string_bytes out.new) (front_text name.now library) }
@@ -20,7 +20,7 @@ fn push_front(out: &mut String, name: &str, library: bool) -> Result<(), AllocEr
     out.push_str("application ")
 }
 
-/// Puts a description behind a text, where there is one.
+/// Adds a description to a text, where there is one.
 #[tactic(auto, unfolding(crate::specs::Text::description_text))]
 fn push_description(out: &mut String, text: &[u8]) -> Result<(), AllocError>
     ensures { Adds result (string_bytes out.old) (string_bytes out.new) (description_text text.now) }
@@ -32,7 +32,7 @@ fn push_description(out: &mut String, text: &[u8]) -> Result<(), AllocError>
     push_escaped(out, text)
 }
 
-/// Puts a module's title behind a text: the file's name, what the module is, its name and its description.
+/// Adds a module's title to a text: the file's name, what the module is, its name and its description.
 pub fn push_title(out: &mut String, name: &str, tables: &Module) -> Result<(), AllocError>
     ensures { Adds result (string_bytes out.old) (string_bytes out.new) (title_text name.now tables.now) }
 {
@@ -42,7 +42,7 @@ pub fn push_title(out: &mut String, name: &str, tables: &Module) -> Result<(), A
     out.push_str("\n")
 }
 
-/// Puts the place and the linker's version of a header behind a text.
+/// Adds the place and the linker's version of a header to a text.
 #[tactic(auto, unfolding(crate::specs::Text::linker_text))]
 fn push_linker(out: &mut String, place: u32, header: &[u8]) -> Result<(), AllocError>
     ensures { Adds result (string_bytes out.old) (string_bytes out.new) (linker_text place header.now) }
@@ -51,7 +51,7 @@ fn push_linker(out: &mut String, place: u32, header: &[u8]) -> Result<(), AllocE
     write!(out, "header at {place:08x}: linker {major}.{minor}")
 }
 
-/// Puts the sizes of a heap and a stack behind a text.
+/// Adds the sizes of a heap and a stack to a text.
 #[tactic(auto, unfolding(crate::specs::Text::heap_text))]
 fn push_heap(out: &mut String, heap: u16, stack: u16) -> Result<(), AllocError>
     ensures { Adds result (string_bytes out.old) (string_bytes out.new) (heap_text heap stack) }
@@ -59,7 +59,7 @@ fn push_heap(out: &mut String, heap: u16, stack: u16) -> Result<(), AllocError>
     write!(out, ", heap {heap:04x}, stack {stack:04x}")
 }
 
-/// Puts the segment of automatic data and the sizes of a header behind a text.
+/// Adds the segment of automatic data and the sizes of a header to a text.
 #[tactic(auto, unfolding(crate::specs::Text::sizes_text))]
 fn push_sizes(out: &mut String, segment: u16, heap: u16, stack: u16) -> Result<(), AllocError>
     ensures { Adds result (string_bytes out.old) (string_bytes out.new) (sizes_text segment heap stack) }
@@ -69,7 +69,7 @@ fn push_sizes(out: &mut String, segment: u16, heap: u16, stack: u16) -> Result<(
     push_heap(out, heap, stack)
 }
 
-/// Puts an offset in a segment behind a text.
+/// Adds an offset in a segment to a text.
 #[tactic(auto, unfolding(crate::specs::Text::far_text))]
 fn push_far(out: &mut String, segment: u16, offset: u16) -> Result<(), AllocError>
     ensures { Adds result (string_bytes out.old) (string_bytes out.new) (far_text segment offset) }
@@ -77,7 +77,7 @@ fn push_far(out: &mut String, segment: u16, offset: u16) -> Result<(), AllocErro
     write!(out, "{segment}:{offset:04x}")
 }
 
-/// Puts the entry point of a header behind a text.
+/// Adds the entry point of a header to a text.
 #[tactic(auto, unfolding(crate::specs::Text::entry_point))]
 fn push_entry_point(out: &mut String, segment: u16, offset: u16) -> Result<(), AllocError>
     ensures { Adds result (string_bytes out.old) (string_bytes out.new) (entry_point segment offset) }
@@ -86,7 +86,7 @@ fn push_entry_point(out: &mut String, segment: u16, offset: u16) -> Result<(), A
     push_far(out, segment, offset)
 }
 
-/// Puts the stack's top of a header behind a text.
+/// Adds the stack's top of a header to a text.
 #[tactic(auto, unfolding(crate::specs::Text::stack_top))]
 fn push_stack_top(out: &mut String, segment: u16, offset: u16) -> Result<(), AllocError>
     ensures { Adds result (string_bytes out.old) (string_bytes out.new) (stack_top segment offset) }
@@ -95,7 +95,7 @@ fn push_stack_top(out: &mut String, segment: u16, offset: u16) -> Result<(), All
     push_far(out, segment, offset)
 }
 
-/// Puts the words of a header behind a text: its sizes, its entry point and its stack's top.
+/// Adds the words of a header to a text: its sizes, its entry point and its stack's top.
 #[tactic(auto, unfolding(crate::specs::Text::words_text))]
 fn push_words(out: &mut String, header: &[u8]) -> Result<(), AllocError>
     ensures { Adds result (string_bytes out.old) (string_bytes out.new) (words_text header.now) }
@@ -120,7 +120,7 @@ pub fn shift(header: &[u8]) -> u16
     }
 }
 
-/// Puts the shift, the target system and the version of Windows of a header behind a text.
+/// Adds the shift, the target system and the version of Windows of a header to a text.
 #[tactic(auto, unfolding(crate::specs::Text::versions_text))]
 fn push_versions(out: &mut String, header: &[u8]) -> Result<(), AllocError>
     ensures { Adds result (string_bytes out.old) (string_bytes out.new) (versions_text header.now) }
@@ -133,7 +133,7 @@ fn push_versions(out: &mut String, header: &[u8]) -> Result<(), AllocError>
     )
 }
 
-/// Puts a header's flags behind a text, and the words of those that are set.
+/// Adds a header's flags to a text, and the words of those that are set.
 #[tactic(auto, unfolding(crate::specs::Text::header_flags))]
 fn push_flags(out: &mut String, flags: u16) -> Result<(), AllocError>
     ensures { Adds result (string_bytes out.old) (string_bytes out.new) (header_flags flags) }
@@ -145,7 +145,7 @@ fn push_flags(out: &mut String, flags: u16) -> Result<(), AllocError>
     out.push_str("\n")
 }
 
-/// Puts the line of a module's header behind a text.
+/// Adds the line of a module's header to a text.
 pub fn push_header(out: &mut String, tables: &Module) -> Result<(), AllocError>
     ensures { Adds result (string_bytes out.old) (string_bytes out.new) (header_text tables.now.place tables.now.header) }
 {

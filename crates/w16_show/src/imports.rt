@@ -97,7 +97,7 @@ pub fn imports(
     Ok(imports)
 }
 
-/// Puts the line of an import behind a text.
+/// Adds the line of an import to a text.
 fn push_import(
     out: &mut String,
     file: &[u8],

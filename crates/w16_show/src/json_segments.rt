@@ -23,7 +23,7 @@ use w16_ne::{Module, Segment};
 use w16_reloc::{Fixup, Part, Record, Scratch, Target, check};
 use w16_store::MemStore;
 
-/// Puts a target in another module, by its ordinal, behind a text.
+/// Adds to a text a target in another module, by its ordinal.
 #[tactic(auto, unfolding(json::specs::Print::escape_byte))]
 fn push_by_ordinal(
     out: &mut String,
@@ -38,7 +38,7 @@ fn push_by_ordinal(
     write!(out, ",\"ordinal\":{ordinal}}}")
 }
 
-/// Puts a target in another module, by its name, behind a text.
+/// Adds to a text a target in another module, by its name.
 #[tactic(auto, unfolding(json::specs::Print::escape_byte))]
 fn push_by_name(
     out: &mut String,
@@ -56,7 +56,7 @@ fn push_by_name(
     out.push_str("}")
 }
 
-/// Puts where a record points behind a text.
+/// Adds where a record points to a text.
 #[tactic(auto, unfolding(json::specs::Print::escape_byte))]
 fn push_target(
     out: &mut String,
@@ -119,7 +119,7 @@ pub fn send_imports<W: Write>(
     send_targets(alloc, writer, file, tables, &imports)
 }
 
-/// Puts a truth value behind a text.
+/// Adds a truth value to a text.
 fn push_bool(out: &mut String, is_true: bool) -> Result<(), AllocError>
     ensures { AddsJson result (string_bytes out.old) (string_bytes out.new) (boolean is_true) }
 {
@@ -130,7 +130,7 @@ fn push_bool(out: &mut String, is_true: bool) -> Result<(), AllocError>
     }
 }
 
-/// Puts what of its target a record writes behind a text.
+/// Adds what of its target a record writes to a text.
 #[tactic(auto, unfolding(crate::specs::Words::part_text, json::specs::Print::escape_byte))]
 fn push_part(out: &mut String, part: Part) -> Result<(), AllocError>
     ensures { AddsJson result (string_bytes out.old) (string_bytes out.new) (string (part_text part)) }
@@ -143,7 +143,7 @@ fn push_part(out: &mut String, part: Part) -> Result<(), AllocError>
     }
 }
 
-/// Puts a fixup, with its sites, and whether its value is added, behind a text.
+/// Adds to a text a fixup, with its sites, and whether its value is added.
 fn push_fixup(
     out: &mut String,
     file: &[u8],
@@ -165,7 +165,7 @@ fn push_fixup(
     out.push_str("}")
 }
 
-/// Puts a record behind a text. The vector is room for its sites.
+/// Adds a record to a text. The vector is room for its sites.
 #[tactic(auto, unfolding(json::specs::Print::escape_byte))]
 fn push_relocation(
     out: &mut String,
@@ -237,7 +237,7 @@ fn segment_value(
     })
 }
 
-/// Puts a segment that is sound behind a text, up to its records.
+/// Adds a segment that is sound to a text, up to its records.
 fn push_front(out: &mut String, number: usize, segment: &Segment) -> Result<(), AllocError>
     ensures text { Adds result (string_bytes out.old) (string_bytes out.new) (segment_front number segment.now) }
     ensures plain { (records : List Data) → ArePlain (items_of records) → IsPlain (segment_object number segment.now null records) }

@@ -35,7 +35,7 @@ pub fn word_value(alloc: Global, word: &str) -> Result<Value, AllocError>
     Ok(Value::String(String::from_str(alloc, word)?))
 }
 
-/// Puts a digit of base 16 behind a text.
+/// Adds a digit of base 16 to a text.
 fn push_digit(out: &mut String, digit: u8) -> Result<(), AllocError>
     requires { digit < 16 }
     ensures { Adds result (string_bytes out.old) (string_bytes out.new) (digit_char digit ∷ []) }
@@ -47,7 +47,7 @@ fn push_digit(out: &mut String, digit: u8) -> Result<(), AllocError>
     }
 }
 
-/// Puts the character of a byte's code behind a text, as it stands in a string of JSON.
+/// Adds the character of a byte's code to a text, as it stands in a string of JSON.
 #[tactic(auto, using(crate::proofs::Characters::as_it_is), unfolding(json::specs::Print::escape_byte))]
 fn push_character(out: &mut String, byte: u8) -> Result<(), AllocError>
     ensures { Adds result (string_bytes out.old) (string_bytes out.new) (escape (encode_utf8 byte)) }
@@ -69,7 +69,7 @@ fn push_character(out: &mut String, byte: u8) -> Result<(), AllocError>
     }
 }
 
-/// Puts the characters of bytes behind a text, as they stand in a string of JSON.
+/// Adds the characters of bytes to a text, as they stand in a string of JSON.
 fn push_characters(out: &mut String, bytes: &[u8]) -> Result<(), AllocError>
     ensures { Adds result (string_bytes out.old) (string_bytes out.new) (flat_map (λ b. escape (encode_utf8 b)) bytes.now) }
 {
@@ -79,7 +79,7 @@ fn push_characters(out: &mut String, bytes: &[u8]) -> Result<(), AllocError>
     Ok(())
 }
 
-/// Puts a string of bytes, each as the character of its code, behind a text.
+/// Adds to a text a string of bytes, each as the character of its code.
 pub fn push_text(out: &mut String, bytes: &[u8]) -> Result<(), AllocError>
     ensures { AddsJson result (string_bytes out.old) (string_bytes out.new) (text bytes.now) }
 {
@@ -88,7 +88,7 @@ pub fn push_text(out: &mut String, bytes: &[u8]) -> Result<(), AllocError>
     out.push_str("\"")
 }
 
-/// Puts an offset of a list behind a text.
+/// Adds an offset of a list to a text.
 fn push_offset(out: &mut String, later: bool, offset: u16) -> Result<(), AllocError>
     ensures { Adds result (string_bytes out.old) (string_bytes out.new) (comma_if later ++ compact_text (n offset)) }
 {
@@ -96,7 +96,7 @@ fn push_offset(out: &mut String, later: bool, offset: u16) -> Result<(), AllocEr
     write!(out, "{offset}")
 }
 
-/// Puts a list of offsets behind a text.
+/// Adds a list of offsets to a text.
 pub fn push_offsets(out: &mut String, offsets: &[u16]) -> Result<(), AllocError>
     ensures { AddsJson result (string_bytes out.old) (string_bytes out.new) (list (map n offsets.now)) }
 {

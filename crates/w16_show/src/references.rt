@@ -9,7 +9,7 @@ use std::alloc::AllocError;
 use std::io::{self, Write};
 use w16_ne::Module;
 
-/// Puts the line of a reference behind a text.
+/// Adds the line of a reference to a text.
 #[tactic(auto, unfolding(crate::specs::Text::reference_text))]
 fn push_reference(out: &mut String, number: usize, name: &[u8]) -> Result<(), AllocError>
     ensures { Adds result (string_bytes out.old) (string_bytes out.new) (reference_text number name.now) }

@@ -37,7 +37,7 @@ pub fn imported_name<'a>(file: &'a [u8], tables: &Module, offset: u16) -> &'a [u
     }
 }
 
-/// Puts where a record points behind a text.
+/// Adds where a record points to a text.
 #[tactic(auto, unfolding(crate::specs::Text::target_text))]
 pub fn push_target(
     out: &mut String,
@@ -62,7 +62,7 @@ pub fn push_target(
     }
 }
 
-/// Puts the sites of a record behind a text.
+/// Adds the sites of a record to a text.
 fn push_sites(out: &mut String, sites: &[u16]) -> Result<(), AllocError>
     ensures { Adds result (string_bytes out.old) (string_bytes out.new) (flat_map site_text sites.now) }
 {
@@ -73,7 +73,7 @@ fn push_sites(out: &mut String, sites: &[u16]) -> Result<(), AllocError>
     Ok(())
 }
 
-/// Puts the line of a fixup behind a text, with the sign for how it is written.
+/// Adds the line of a fixup to a text, with the sign for how it is written.
 fn push_fixup(
     out: &mut String,
     file: &[u8],
@@ -92,7 +92,7 @@ fn push_fixup(
     out.push_str("\n")
 }
 
-/// Puts the line of a record behind a text. The vector is room for its sites.
+/// Adds the line of a record to a text. The vector is room for its sites.
 fn push_relocation(
     out: &mut String,
     file: &[u8],

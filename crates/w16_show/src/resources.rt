@@ -12,7 +12,7 @@ use std::alloc::AllocError;
 use std::io::{self, Write};
 use w16_ne::{Module, Resource, ResourceName};
 
-/// Puts a type or an id behind a text: its number, or its text in quotes.
+/// Adds a type or an id to a text: its number, or its text in quotes.
 #[tactic(auto, unfolding(crate::specs::Text::label_text))]
 pub fn push_label(out: &mut String, label: ResourceName<'_>) -> Result<(), AllocError>
     ensures { Adds result (string_bytes out.old) (string_bytes out.new) (label_text (label_of label.entry)) }
@@ -27,7 +27,7 @@ pub fn push_label(out: &mut String, label: ResourceName<'_>) -> Result<(), Alloc
     }
 }
 
-/// Puts a type behind a text: the manual's name for it, where it has one.
+/// Adds a type to a text: the manual's name for it, where it has one.
 #[tactic(auto, unfolding(crate::specs::Text::kind_text))]
 pub fn push_kind(out: &mut String, kind: ResourceName<'_>) -> Result<(), AllocError>
     ensures { Adds result (string_bytes out.old) (string_bytes out.new) (kind_text (label_of kind.entry)) }
@@ -40,7 +40,7 @@ pub fn push_kind(out: &mut String, kind: ResourceName<'_>) -> Result<(), AllocEr
     push_label(out, kind)
 }
 
-/// Puts the words of a resource's flags behind a text.
+/// Adds the words of a resource's flags to a text.
 #[tactic(auto, unfolding(crate::specs::Text::resource_words))]
 fn push_words(out: &mut String, flags: u16) -> Result<(), AllocError>
     ensures { Adds result (string_bytes out.old) (string_bytes out.new) (resource_words flags) }
@@ -51,7 +51,7 @@ fn push_words(out: &mut String, flags: u16) -> Result<(), AllocError>
     push_flag(out, flags, 0x1000, "discardable")
 }
 
-/// Puts a resource's number, its type and its id behind a text.
+/// Adds a resource's number, its type and its id to a text.
 #[tactic(auto, unfolding(crate::specs::Text::labels_text))]
 fn push_labels(
     out: &mut String,
@@ -67,7 +67,7 @@ fn push_labels(
     push_label(out, id)
 }
 
-/// Puts where a resource lies, and its flags, behind a text.
+/// Adds to a text where a resource lies, and its flags.
 #[tactic(auto, unfolding(crate::specs::Text::place_text))]
 fn push_place(out: &mut String, place: u32, len: u32, flags: u16) -> Result<(), AllocError>
     ensures { (r : Entry) → r.place ≡ place → r.len ≡ len → r.flags ≡ flags → Adds result (string_bytes out.old) (string_bytes out.new) (place_text r) }
@@ -78,7 +78,7 @@ fn push_place(out: &mut String, place: u32, len: u32, flags: u16) -> Result<(), 
     )
 }
 
-/// Puts the line of a resource behind a text.
+/// Adds the line of a resource to a text.
 #[tactic(auto, unfolding(crate::specs::Text::resource_text))]
 fn push_resource(
     out: &mut String,
@@ -94,7 +94,7 @@ fn push_resource(
     out.push_str("\n")
 }
 
-/// Puts the line of the resource of a number, from 1, behind a text.
+/// Adds to a text the line of the resource of a number, from 1.
 fn push_numbered(out: &mut String, tables: &Module, number: usize) -> Result<(), AllocError>
     ensures { (r : Label × Entry) → resource_at tables.now.resources number ≡ Some r → Adds result (string_bytes out.old) (string_bytes out.new) (resource_text number r) }
 {

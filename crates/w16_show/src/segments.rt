@@ -16,7 +16,7 @@ use w16_ne::{Module, Segment};
 use w16_reloc::{Scratch, check};
 use w16_store::MemStore;
 
-/// Puts the words of those flags behind a text that say what a segment is in memory.
+/// Adds the words of those flags to a text that say what a segment is in memory.
 #[tactic(auto, unfolding(crate::specs::Text::memory_words))]
 fn push_memory_words(out: &mut String, flags: u16) -> Result<(), AllocError>
     ensures { Adds result (string_bytes out.old) (string_bytes out.new) (memory_words flags) }
@@ -27,7 +27,7 @@ fn push_memory_words(out: &mut String, flags: u16) -> Result<(), AllocError>
     push_flag(out, flags, 0x0040, "preload")
 }
 
-/// Puts the words of a segment's flags behind a text.
+/// Adds the words of a segment's flags to a text.
 #[tactic(auto, unfolding(crate::specs::Text::segment_words))]
 fn push_words(out: &mut String, flags: u16) -> Result<(), AllocError>
     ensures { Adds result (string_bytes out.old) (string_bytes out.new) (segment_words flags) }
@@ -38,7 +38,7 @@ fn push_words(out: &mut String, flags: u16) -> Result<(), AllocError>
     push_flag(out, flags, 0x1000, "discardable")
 }
 
-/// Puts where a segment's data lie in the file behind a text.
+/// Adds where a segment's data lie in the file to a text.
 #[tactic(auto, unfolding(crate::specs::Text::data_text))]
 fn push_data(out: &mut String, number: usize, segment: &Segment) -> Result<(), AllocError>
     ensures { Adds result (string_bytes out.old) (string_bytes out.new) (data_text number segment.now) }
@@ -47,7 +47,7 @@ fn push_data(out: &mut String, number: usize, segment: &Segment) -> Result<(), A
     write!(out, "segment {number}: place {place:08x}, length {len:05x}")
 }
 
-/// Puts the size of a segment's object and the segment's flags behind a text.
+/// Adds the size of a segment's object and the segment's flags to a text.
 #[tactic(auto, unfolding(crate::specs::Text::object_text))]
 fn push_object(out: &mut String, segment: &Segment) -> Result<(), AllocError>
     ensures { Adds result (string_bytes out.old) (string_bytes out.new) (object_text segment.now) }
@@ -56,7 +56,7 @@ fn push_object(out: &mut String, segment: &Segment) -> Result<(), AllocError>
     write!(out, ", object {size:05x}, flags {flags:04x}")
 }
 
-/// Puts the line of a segment behind a text.
+/// Adds the line of a segment to a text.
 fn push_line(out: &mut String, number: usize, segment: &Segment) -> Result<(), AllocError>
     ensures { Adds result (string_bytes out.old) (string_bytes out.new) (segment_text number segment.now) }
 {

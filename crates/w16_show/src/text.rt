@@ -26,7 +26,7 @@ use w16_ne::{Module, PartFault};
 use w16_reloc::Scratch;
 use w16_store::MemStore;
 
-/// Puts the line of a verdict behind a text.
+/// Adds the line of a verdict to a text.
 fn push_verdict(out: &mut String, verdict: &Verdict) -> Result<(), AllocError>
     ensures { Adds result (string_bytes out.old) (string_bytes out.new) (verdict_text verdict.now) }
 {
@@ -47,7 +47,7 @@ fn push_verdict(out: &mut String, verdict: &Verdict) -> Result<(), AllocError>
     }
 }
 
-/// Puts the header behind a text, where it is asked for.
+/// Adds the header to a text, where it is asked for.
 #[tactic(auto, unfolding(crate::specs::Report::part))]
 fn push_header_part(out: &mut String, asked: bool, tables: &Module) -> Result<(), AllocError>
     ensures { Adds result (string_bytes out.old) (string_bytes out.new) (part asked (header_text tables.now.place tables.now.header)) }
@@ -79,7 +79,7 @@ fn send_segments_part<W: Write>(
     send_segments(writer, line, file, store, FILE, tables, scratch)
 }
 
-/// Puts the entries and their names behind a text, where they are asked for.
+/// Adds the entries and their names to a text, where they are asked for.
 #[tactic(auto, unfolding(crate::specs::Report::part))]
 fn push_entries_part(out: &mut String, asked: bool, tables: &Module) -> Result<(), AllocError>
     ensures { Adds result (string_bytes out.old) (string_bytes out.new) (part asked (numbered entry_text 1 tables.now.entries ++ numbered (name_text tables.now.resident) 0 tables.now.names)) }

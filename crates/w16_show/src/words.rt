@@ -71,7 +71,7 @@ pub fn file_part_word(part: FilePart) -> &'static str
     }
 }
 
-/// Puts a file's first fault behind a text.
+/// Adds a file's first fault to a text.
 #[tactic(auto, unfolding(crate::specs::Words::fault_text))]
 pub fn push_fault(out: &mut String, fault: NeFault) -> Result<(), AllocError>
     ensures { Adds result (string_bytes out.old) (string_bytes out.new) (fault_text fault) }

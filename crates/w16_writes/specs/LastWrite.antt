@@ -34,7 +34,7 @@ byte_at w p = elim p.entry [
 abbrev pub IsThere : World → Position → Type 0
 IsThere w p = is_some (byte_at w p) ≡ true
 
--- Where it lies in the slot's object: at its offset, or so far behind the near pointer that the local object has in this world.
+-- Where it lies in the slot's object: at its offset, or so far after the near pointer that the local object has in this world.
 abbrev pub place_at : World → Position → Option ℕ
 place_at w p = elim p.entry [
   | None ↦ Some p.offset

@@ -157,7 +157,7 @@ impl Bench {
     }
 }
 
-/// Puts the answers of lines, one of each, behind others.
+/// Adds to others the answers of lines, one of each.
 pub fn put_answers(rt: &HostRuntime, lines: &str, out: &mut String) -> io::Result<()> {
     let mut bench = Bench::new(rt.alloc())?;
     for line in lines.split('\n') {

@@ -1,6 +1,6 @@
 //! Files of rows, played one after another.
 //!
-//! A row has a name, and then lines, each with an arrow and its answer behind it, where it has one. Lines that are empty, or that begin with `# `,
+//! A row has a name, and then lines, each with an arrow and its answer after it, where it has one. Lines that are empty, or that begin with `# `,
 //! say nothing:
 //!
 //! ```text
@@ -46,7 +46,7 @@ fn is_played_right(row: &Row<'_>, name: &str, kinds: &str) -> io::Result<bool> {
     Ok(is_right)
 }
 
-/// Plays the row of a text, which begins behind the bracket before its name. Whether all its answers are right.
+/// Plays the row of a text, which begins after the bracket before its name. Whether all its answers are right.
 fn is_row_right(rt: &HostRuntime, text: &str) -> io::Result<bool> {
     let (name, rest) = text.split_once("]\n").unwrap_or((text, ""));
     let Some((made, rest)) = rest.split_once("stores ") else {

@@ -14,7 +14,7 @@ pub fn store_of(alloc: Global, bytes: &[u8]) -> Result<MemStore, AllocError> {
     Ok(store)
 }
 
-/// Puts a sum over all that a module's readers give behind an answer. The order counts.
+/// Adds a sum over all that a module's readers give to an answer. The order counts.
 fn put_sum_of(out: &mut String, alloc: Global, module: &Module) -> Put {
     let mut text = String::new(alloc);
     put_tables(&mut text, module)?;
@@ -67,7 +67,7 @@ fn is_shown(alloc: Global, bytes: &[u8], fault: Option<NeFault>) -> Result<bool,
     )
 }
 
-/// Puts what is read of a file behind an answer: the sum, or the fault; and a sign where its text or its JSON says otherwise.
+/// Adds what is read of a file to an answer: the sum, or the fault; and a sign where its text or its JSON says otherwise.
 pub fn put_sum(out: &mut String, alloc: Global, bytes: &[u8]) -> Put {
     let mut fault = None;
     match read_module(alloc, &mut store_of(alloc, bytes)?, b"file") {
@@ -83,7 +83,7 @@ pub fn put_sum(out: &mut String, alloc: Global, bytes: &[u8]) -> Put {
     Ok(())
 }
 
-/// Puts whether a file is read, but for each of its reads failing in turn, which is told each time as it is, behind an answer.
+/// Adds to an answer whether a file is read, but for each of its reads failing in turn, which is told each time as it is.
 pub fn put_failures(out: &mut String, alloc: Global, store: &mut Liar) -> Put {
     let told = Err(StoreFault::Device);
     for read in 1..101u64 {
@@ -99,7 +99,7 @@ pub fn put_failures(out: &mut String, alloc: Global, store: &mut Liar) -> Put {
     Ok(())
 }
 
-/// Puts five lengths and reads of a byte behind an answer, and how many reads there were, where the read of this number fails.
+/// Adds five lengths and reads of a byte to an answer, and how many reads there were, where the read of this number fails.
 pub fn put_fuse(out: &mut String, alloc: Global, bytes: &[u8], fuse: u32) -> Put {
     let mut store = FuseStore::new(store_of(alloc, bytes)?, fuse);
     for _ in 0..5u32 {
@@ -111,7 +111,7 @@ pub fn put_fuse(out: &mut String, alloc: Global, bytes: &[u8], fuse: u32) -> Put
     Ok(())
 }
 
-/// Puts what is printed of a file behind an answer, and the verdict.
+/// Adds what is printed of a file to an answer, and the verdict.
 pub fn put_shown(out: &mut String, shown: &Shown) -> Put {
     for line in shown.text.split('\n') {
         if !line.is_empty() {
@@ -121,7 +121,7 @@ pub fn put_shown(out: &mut String, shown: &Shown) -> Put {
     write!(out, "{:?}", shown.verdict)
 }
 
-/// Puts the names and the bytes of resources behind an answer, up to the first number that has none.
+/// Adds the names and the bytes of resources to an answer, up to the first number that has none.
 fn put_each(out: &mut String, alloc: Global, resources: &Resources, bytes: &[u8]) -> Put {
     for i in 0..resources.len() {
         write!(out, "{:?} ", resources.file_name(alloc, i + 1)?)?;
@@ -137,7 +137,7 @@ fn put_each(out: &mut String, alloc: Global, resources: &Resources, bytes: &[u8]
     write!(out, "{:?}", resources.file_name(alloc, next)?)
 }
 
-/// Puts the resources that are taken out of a file behind an answer.
+/// Adds the resources that are taken out of a file to an answer.
 pub fn put_resources(out: &mut String, alloc: Global, bytes: &[u8]) -> Put {
     match Resources::of(alloc, bytes)? {
         Some(resources) => put_each(out, alloc, &resources, bytes),

@@ -30,7 +30,7 @@ pub fn targets_of(alloc: Global, words: &mut Words<'_>) -> Result<Vec<Far>, Allo
     Ok(targets)
 }
 
-/// Puts the bytes of a segment that was checked behind an answer, relocated with these targets.
+/// Adds the bytes of a segment that was checked to an answer, relocated with these targets.
 pub fn put_image(out: &mut String, alloc: Global, scratch: &Scratch, targets: &[Far]) -> Put {
     let records = scratch.records();
     if records.len() != targets.len() {
@@ -41,13 +41,13 @@ pub fn put_image(out: &mut String, alloc: Global, scratch: &Scratch, targets: &[
     put_hexadecimal(out, &bytes)
 }
 
-/// Puts what a scratch holds behind an answer.
+/// Adds what a scratch holds to an answer.
 pub fn put_scratch(out: &mut String, scratch: &Scratch) -> Put {
     put_quoted(out, scratch.bytes())?;
     write!(out, ", {} records", scratch.records().len())
 }
 
-/// Puts what a scratch holds behind an answer, when a part of a file was read into it.
+/// Adds what a scratch holds to an answer, when a part of a file was read into it.
 pub fn put_part(
     out: &mut String,
     store: &mut Liar,
@@ -60,7 +60,7 @@ pub fn put_part(
     put_scratch(out, scratch)
 }
 
-/// Puts an imported name behind an answer.
+/// Adds an imported name to an answer.
 pub fn put_imported(out: &mut String, store: &mut Liar, module: &Module, offset: u64) -> Put {
     let mut room = [0u8; 255];
     match imported_name(store, b"FILE", module, (offset % 65_536) as u16, &mut room) {

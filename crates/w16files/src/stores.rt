@@ -72,7 +72,7 @@ fn name_of(alloc: Global, word: &str) -> Result<Vec<u8>, AllocError> {
     Ok(name)
 }
 
-/// Puts what a read of up to 8 bytes answers behind an answer.
+/// Adds what a read of up to 8 bytes answers to an answer.
 fn put_read<S: Store>(out: &mut String, store: &mut S, name: &[u8], words: &mut Words<'_>) -> Put {
     let (at, count) = (number(words), number(words));
     let mut room = [0u8; 8];
@@ -83,7 +83,7 @@ fn put_read<S: Store>(out: &mut String, store: &mut S, name: &[u8], words: &mut 
     }
 }
 
-/// Puts what a store answers to a question, as to a call's first read, behind an answer.
+/// Adds to an answer what a store answers to a question, as to a call's first read.
 fn put_answer<S: Store>(out: &mut String, alloc: Global, store: &mut S, question: &str) -> Put {
     let mut words = question.split(' ');
     let asked = word(&mut words);
@@ -95,7 +95,7 @@ fn put_answer<S: Store>(out: &mut String, alloc: Global, store: &mut S, question
     }
 }
 
-/// Puts the answers of a store to lines, one of each, behind others.
+/// Adds to others the answers of a store to lines, one of each.
 fn put_all<S: Store>(out: &mut String, row: &Row<'_>, store: &mut S) -> io::Result<()> {
     for line in row.lines.split('\n') {
         let question = split(line).0;
@@ -143,7 +143,7 @@ fn put_of(out: &mut String, row: &Row<'_>, kind: &str) -> io::Result<()> {
     }
 }
 
-/// Puts the answers of a store of a kind to a row behind others. The folder is made for it, and gone afterwards.
+/// Adds the answers of a store of a kind to a row to others. The folder is made for it, and gone afterwards.
 pub fn put_answers_of(out: &mut String, row: &Row<'_>, kind: &str) -> io::Result<()> {
     let _ = fs::remove_dir_all(row.rt, "store_files");
     fs::create_dir_all(row.rt, "store_files/FOLDER")?;

@@ -7,7 +7,7 @@ static PROBES: &[&str] = &[
     "GETA", "getb", "getB", "GET", "TLIB", "TAPP", "TRES", "T", "",
 ];
 
-/// Puts the numbers and texts of a header behind an answer.
+/// Adds the numbers and texts of a header to an answer.
 fn put_header(out: &mut String, module: &Module) -> Put {
     write!(out, "header {} ", module.place())?;
     put_hexadecimal(out, module.header())?;
@@ -18,7 +18,7 @@ fn put_header(out: &mut String, module: &Module) -> Put {
     put_text(out, module.description())
 }
 
-/// Puts the segments and what it refers to behind an answer.
+/// Adds the segments and what it refers to to an answer.
 fn put_segments(out: &mut String, module: &Module) -> Put {
     for i in 0..module.segment_count() {
         write!(out, " / {:?}", module.segment(i + 1))?;
@@ -30,7 +30,7 @@ fn put_segments(out: &mut String, module: &Module) -> Put {
     Ok(())
 }
 
-/// Puts where ordinals lead behind an answer, from 0 to the first behind the last.
+/// Adds where ordinals lead to an answer, from 0 to the first behind the last.
 fn put_entries(out: &mut String, module: &Module) -> Put {
     for ordinal in 0..u16::MAX {
         write!(out, " / {ordinal}: {:?}", module.entry(ordinal))?;
@@ -41,7 +41,7 @@ fn put_entries(out: &mut String, module: &Module) -> Put {
     Ok(())
 }
 
-/// Puts the names of entries behind an answer, and how many of them are resident.
+/// Adds the names of entries to an answer, and how many of them are resident.
 fn put_names(out: &mut String, module: &Module) -> Put {
     for i in 0..module.name_count() {
         let (name, ordinal) = module.entry_name(i);
@@ -55,7 +55,7 @@ fn put_names(out: &mut String, module: &Module) -> Put {
     Ok(())
 }
 
-/// Puts the resources behind an answer, from number 0 to the first behind the last.
+/// Adds the resources to an answer, from number 0 to the first behind the last.
 fn put_resources(out: &mut String, module: &Module) -> Put {
     for number in 0..usize::MAX {
         write!(out, " / {:?}", module.resource(number))?;
@@ -66,7 +66,7 @@ fn put_resources(out: &mut String, module: &Module) -> Put {
     Ok(())
 }
 
-/// Puts all that a module's readers give behind an answer.
+/// Adds all that a module's readers give to an answer.
 pub fn put_tables(out: &mut String, module: &Module) -> Put {
     put_header(out, module)?;
     put_segments(out, module)?;
@@ -84,7 +84,7 @@ fn label<'a>(word: &str, room: &'a mut [u8; 8]) -> ResourceName<'a> {
     ResourceName::Text(&room[8usize.saturating_sub(word.len() / 2)..])
 }
 
-/// Puts the number of the resource of a type and an id behind an answer.
+/// Adds the number of the resource of a type and an id to an answer.
 pub fn put_place(out: &mut String, module: &Module, words: &mut Words<'_>) -> Put {
     let (mut kind, mut id) = ([0u8; 8], [0u8; 8]);
     let (kind, id) = (label(word(words), &mut kind), label(word(words), &mut id));

@@ -5,7 +5,7 @@ use std::str::Split;
 /// What is left of the words of a line.
 pub type Words<'a> = Split<'a, char>;
 
-/// An answer was put behind a text, or there was no memory.
+/// An answer was added to a text, or there was no memory.
 pub type Put = Result<(), AllocError>;
 
 /// What a line asks, and the answer that it must have; empty where it has none.
@@ -28,7 +28,7 @@ pub fn hexadecimal(digits: &str) -> u64 {
     u64::from_str_radix(digits, 16).unwrap_or(u64::MAX)
 }
 
-/// Puts bytes behind an answer: each as it is where ASCII prints it, and no backslash, else by its code.
+/// Adds bytes to an answer: each as it is where ASCII prints it, and no backslash, else by its code.
 pub fn put_text(out: &mut String, bytes: &[u8]) -> Put {
     for byte in bytes {
         if *byte < 32 || 126 < *byte || *byte == b'\\' {
@@ -47,7 +47,7 @@ pub fn put_quoted(out: &mut String, bytes: &[u8]) -> Put {
     out.push_str("'")
 }
 
-/// Puts bytes behind an answer in hexadecimal.
+/// Adds bytes to an answer in hexadecimal.
 pub fn put_hexadecimal(out: &mut String, bytes: &[u8]) -> Put {
     for byte in bytes {
         write!(out, "{byte:02x}")?;
