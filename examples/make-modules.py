@@ -1,6 +1,6 @@
 #!/usr/bin/env python3
 """Writes the module files of the examples into a folder: TLIB.DLL, a library, TAPP.EXE, an application that imports from it, TRES.DLL, a library of a
-resource, and TDATA.DLL, a library with two fixed segments.
+resource, TDATA.DLL, a library with two fixed segments, TMAIN.EXE, an application with a stack, and KERNEL.DLL, a stub of KERNEL.
 
 usage: make-modules.py FOLDER
 """
@@ -35,8 +35,9 @@ def record(writes, leads_to, site, first, second):
     return bytes([writes, leads_to]) + words(site, first, second)
 
 
-def module(flags, segments, names, references, imported, entries, moveable, description, resources=()):
-    """A module file, from its tables. A segment is its flags, its bytes and its records, a resource its type, its id, its flags and its bytes."""
+def module(flags, segments, names, references, imported, entries, moveable, description, resources=(), program=bytes(14)):
+    """A module file, from its tables. A segment is its flags, its bytes and its records, a resource its type, its id, its flags and its bytes.
+    The program is the automatic data segment, the sizes of heap and stack, and where a program begins: ip, cs, sp and ss."""
     resources_at = HEAD + 8 * len(segments)
     names_at = resources_at + (4 + 20 * len(resources) if resources else 0)
     references_at = names_at + len(names)
@@ -54,7 +55,7 @@ def module(flags, segments, names, references, imported, entries, moveable, desc
         data += content
     listed = words(SHIFT) + listed + words(0) if resources else b""
     old = b"MZ" + bytes(58) + struct.pack("<L", OLD)
-    head = b"NE" + bytes([5, 10]) + words(entries_at, len(entries), 0, 0, flags) + bytes(14)
+    head = b"NE" + bytes([5, 10]) + words(entries_at, len(entries), 0, 0, flags) + program
     head += words(len(segments), len(references), len(description))
     head += words(HEAD, resources_at, names_at, references_at, imported_at)
     head += struct.pack("<L", start if description else 0) + words(moveable, SHIFT, 0)
@@ -89,9 +90,44 @@ def resources():
     return module(LIBRARY, [], names(b"TRES"), [], b"", b"\0", 0, b"", [resource])
 
 
+def application_with_stack():
+    """A program without imports: it begins in segment 1, and segment 2 is its automatic data segment, to which a heap of 256 and a stack of 1024 bytes
+    are to be added."""
+    segments = [(MOVEABLE | PRELOAD, bytes.fromhex("9090 cb 90"), []), (DATA | MOVEABLE | PRELOAD, b"data" + bytes(28), [])]
+    return module(2, segments, names(b"TMAIN"), [], b"", b"\0", 0, b"", program=words(2, 256, 1024, 1, 1, 0, 2))
+
+
 def fixed_data():
     """Two fixed segments of 64 bytes, and nothing else."""
     return module(LIBRARY, [(DATA, bytes(64), []), (DATA, bytes(64), [])], names(b"TDATA"), [], b"", b"\0", 0, b"")
+
+
+# Entries of KERNEL, by their ordinals in Windows 3.1, as far as this machine has their calls; and the constants by which pointers go on from one
+# selector of an object to the next.
+KERNEL = {
+    5: b"LOCALALLOC", 6: b"LOCALREALLOC", 7: b"LOCALFREE", 8: b"LOCALLOCK", 9: b"LOCALUNLOCK", 10: b"LOCALSIZE", 11: b"LOCALHANDLE",
+    12: b"LOCALFLAGS", 13: b"LOCALCOMPACT", 15: b"GLOBALALLOC", 16: b"GLOBALREALLOC", 17: b"GLOBALFREE", 18: b"GLOBALLOCK", 19: b"GLOBALUNLOCK",
+    20: b"GLOBALSIZE", 21: b"GLOBALHANDLE", 22: b"GLOBALFLAGS", 25: b"GLOBALCOMPACT", 47: b"GETMODULEHANDLE", 48: b"GETMODULEUSAGE",
+    50: b"GETPROCADDRESS", 60: b"FINDRESOURCE", 61: b"LOADRESOURCE", 62: b"LOCKRESOURCE", 63: b"FREERESOURCE", 65: b"SIZEOFRESOURCE",
+    95: b"LOADLIBRARY", 96: b"FREELIBRARY", 163: b"GLOBALLRUOLDEST", 164: b"GLOBALLRUNEWEST", 186: b"GETSELECTORBASE", 188: b"GETSELECTORLIMIT",
+}
+CONSTANTS = {113: (b"__AHSHIFT", 3), 114: (b"__AHINCR", 8)}
+
+
+def kernel():
+    """Entry N is a breakpoint, CC, at offset N of one fixed segment: a processor that stops there knows by its offset which call it has to answer."""
+    code = b"\xcc" * 0x100
+    entries, last = b"", 0
+    for ordinal in sorted(KERNEL | CONSTANTS):
+        if ordinal > last + 1:
+            entries += bytes([ordinal - last - 1, 0])
+        if ordinal in KERNEL:
+            entries += bytes([1, 1, 1]) + words(ordinal)
+        else:
+            entries += bytes([1, 0xFE, 1]) + words(CONSTANTS[ordinal][1])
+        last = ordinal
+    listed = [(name, ordinal) for ordinal, name in KERNEL.items()] + [(name, ordinal) for ordinal, (name, _) in CONSTANTS.items()]
+    return module(LIBRARY, [(PRELOAD, code, [])], names(b"KERNEL", listed), [], b"\0", entries + b"\0", 0, b"")
 
 
 def main():
@@ -103,6 +139,8 @@ def main():
     (folder / "TAPP.EXE").write_bytes(application())
     (folder / "TRES.DLL").write_bytes(resources())
     (folder / "TDATA.DLL").write_bytes(fixed_data())
+    (folder / "TMAIN.EXE").write_bytes(application_with_stack())
+    (folder / "KERNEL.DLL").write_bytes(kernel())
 
 
 if __name__ == "__main__":

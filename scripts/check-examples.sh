@@ -64,6 +64,7 @@ check local "$heap" local.txt
 check growth "$heap" --memory 256 growth.txt
 check selectors "$heap" --memory 262144 selectors.txt
 check modules "$heap" --memory 4096 --dir "$room/modules" modules.txt
+check stub "$heap" --dir "$room/modules" stub.txt
 check refused "$heap" --memory 128 --dir "$room/modules" refused.txt
 check dialogue ./dialogue.py "$heap"
 if [ -n "$ne" ]; then
