@@ -29,7 +29,7 @@ use std::marker::Model;
 use w16_arena::Arena;
 use w16_global::Global16;
 use w16_holes::SideHoles;
-use w16_model::{FIRST_SLOT, MOST_SLOTS};
+use w16_model::{FIRST_SLOT, MOST_SLOTS, Span};
 
 /// A slot's heap, if it has one.
 pub(crate) type HeldHeap<A> = Option<Box<LocalHeap<A>, A>>;
@@ -93,6 +93,16 @@ impl<A: Allocator + Copy> LocalHeaps<A> {
         let slot = global.slot_of_handle(handle)?;
         let heap = self.heap_of(slot)?;
         Some(heap.bounds().to)
+    }
+
+    /// The range of the heap in the object whose handle this is, exactly: offsets of at most 65,536. None where no object has the handle, or the
+    /// object has no heap.
+    pub fn heap_range(&self, global: &Global16<A>, handle: u16) -> Option<Span>
+        ensures { MatchOption (slot_of_handle global.now.handles handle) (result ≡ None) (λ slot. result ≡ option_map (λ (t : Table). record { from = t.lo; to = t.hi }) (finmap.get self.now slot)) }
+    {
+        let slot = global.slot_of_handle(handle)?;
+        let heap = self.heap_of(slot)?;
+        Some(heap.bounds())
     }
 
     /// Takes a slot's heap away, if it has one.

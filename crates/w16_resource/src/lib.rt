@@ -10,4 +10,5 @@ mod locking;
 mod resources;
 
 pub use finding::{find_resource, size_of_resource};
+pub use listing::Load;
 pub use resources::Resources;

@@ -55,7 +55,7 @@ impl<A: Allocator> Resources<A> {
     }
 
     /// The load of a slot's object; none where it is no resource.
-    pub(crate) fn load_at(&self, slot: u16) -> Option<Load>
+    pub fn load_at(&self, slot: u16) -> Option<Load>
         ensures { option_map load_in result ≡ finmap.get self.now slot }
     {
         self.loads.get(usize::from(slot)).copied().flatten()
