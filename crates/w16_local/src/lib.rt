@@ -85,16 +85,6 @@ impl<A: Allocator + Copy> LocalHeaps<A> {
         }
     }
 
-    /// The offset after the last byte of the heap in the object whose handle this is, exactly: at most 65,536. None where no object has the
-    /// handle, or the object has no heap.
-    pub fn heap_end(&self, global: &Global16<A>, handle: u16) -> Option<u32>
-        ensures { MatchOption (slot_of_handle global.now.handles handle) (result ≡ None) (λ slot. result ≡ option_map (λ (t : Table). t.hi) (finmap.get self.now slot)) }
-    {
-        let slot = global.slot_of_handle(handle)?;
-        let heap = self.heap_of(slot)?;
-        Some(heap.bounds().to)
-    }
-
     /// The range of the heap in the object whose handle this is, exactly: offsets of at most 65,536. None where no object has the handle, or the
     /// object has no heap.
     pub fn heap_range(&self, global: &Global16<A>, handle: u16) -> Option<Span>
