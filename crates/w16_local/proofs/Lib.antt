@@ -2,6 +2,7 @@ pub mod Common
 pub mod Locals
 pub mod Looks
 pub mod Choices
+pub mod FreeEntries
 pub mod Entries
 pub mod Alike
 pub mod OneHeap

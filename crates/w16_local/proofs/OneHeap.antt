@@ -1,17 +1,18 @@
 -- One local heap: its free entries, and steps that ask for no room.
 use Rattle.w16_local.proofs
 use proofs.Common as C
-use proofs.Common.{◌≡◌, ℕ, ◌<◌, ◌≤◌, inl, inr, Bool, true, false, nat_le, if◌then◌else◌, IfErr, OnErr, OnOk, List, length, get_or, set, Option, Some, None, is_some, Result, Ok, Err, refl, sym, ap, ◌∙◌, subst, arith, position_or_len, false≢true, Entry, Kind, Refusal, Span, Heap, Table}
+use proofs.Common.{◌≡◌, ℕ, ◌<◌, ◌≤◌, inl, inr, Bool, true, false, nat_le, if◌then◌else◌, IfErr, OnErr, OnOk, List, length, get_or, replicate, set, Option, Some, None, is_some, Result, Ok, Err, refl, sym, ap, ◌∙◌, subst, arith, position_or_len, false≢true, Entry, Kind, Refusal, Span, Heap, Table}
 use proofs.Common.{entry_at, heap_in, ArenaState, Steps, sound, LOCAL_ENTRIES, LocalHeapInvariant, Turns}
 use proofs.Entries.{HasSame, any_inside, any_memory, bit, put_here, put_others, same_free, set_free}
 use Rattle.std.proofs.lemmas.Bool.{lt-ltb}
+use Rattle.std.proofs.lemmas.List.{get_or-replicate}
 use Rattle.w16_arena.proofs.Fresh.{no_entry}
 
 -- A new heap.
-pub kept_new : (range : Span) → 4 ≤ range.from → range.from < range.to → range.to ≤ 65536 → C.IsMultiple 4 range.from → (free : List ℕ) → length free ≡ 1024 → ((q : ℕ) → q < 1024 → get_or free q 0 ≡ 1) → LocalHeapInvariant (C.empty_table LOCAL_ENTRIES range.from range.to 4) free
-kept_new range low some high grained free many ones = record {
+pub kept_new : (range : Span) → 4 ≤ range.from → range.from < range.to → range.to ≤ 65536 → C.IsMultiple 4 range.from → LocalHeapInvariant (C.empty_table LOCAL_ENTRIES range.from range.to 4) (replicate 1024 1)
+kept_new range low some high grained = record {
   is_local = record { sound = sound LOCAL_ENTRIES range.from range.to 4 (omega arith) grained; grain = refl; entries = C.length-replicate {A = Option Entry} LOCAL_ENTRIES None; low = low; high = high };
-  free_entries = record { many = many; says = λ q lt. ones q lt ∙ sym (ap (λ (e : Option Entry). bit (is_some e)) (no_entry LOCAL_ENTRIES q)) };
+  free_entries = record { many = C.length-replicate {A = ℕ} 1024 1; says = λ q lt. get_or-replicate 1024 q 1 0 lt ∙ sym (ap (λ (e : Option Entry). bit (is_some e)) (no_entry LOCAL_ENTRIES q)) };
 }
 
 -- Free entries.

@@ -1,5 +1,6 @@
 pub mod Acts
 pub mod Codes
+pub mod FreeEntries
 pub mod Fewest
 pub mod Growth
 pub mod Kept

@@ -1,5 +1,5 @@
 //! One local heap, without the bytes that it is over.
-ghost use Rattle.std.specs.Prelude.{◌≡◌, ◌≤◌, ◌<◌, ℕ, None, length, replicate, slice_index_or, IfOk, IfSome, IfNone, OnErr};
+ghost use Rattle.std.specs.Prelude.{◌≡◌, ◌≤◌, ◌<◌, None, IfOk, IfSome, IfNone, OnErr};
 ghost use Rattle.w16_model.specs.Heap.{IsMultiple};
 ghost use Rattle.w16_model.specs.Table.{entry_at};
 ghost use Rattle.w16_model.specs.OneObject.{Enters, after_lock, after_modify, after_unlock};
@@ -8,6 +8,7 @@ ghost use Rattle.w16_machine.specs.Local.{IsLocalTable, new_table};
 ghost use Rattle.w16_local.specs.Kept.{IsFull, IsLowest};
 ghost use Rattle.w16_local.specs.Steps.{MayStep, Turns, after_step, outcome};
 
+use crate::free_entries::FreeEntries;
 use crate::steps::TableOp;
 use std::alloc::{AllocError, Allocator};
 use std::marker::Model;
@@ -15,14 +16,12 @@ use w16_arena::Arena;
 use w16_holes::SideHoles;
 use w16_machine::local::{LOCAL_ENTRIES, LOCAL_GRAIN};
 use w16_model::{Kind, Refusal, Span};
-use w16_tree::Maxima;
 
 /// A local heap. Its value is its table.
 #[derive(Drop)]
 pub(crate) struct LocalHeap<A: Allocator + Copy> {
     pub(crate) arena: Arena<SideHoles<A>>,
-    /// For each entry 1 where it is free, else 0: so the lowest is found in as many steps as their number has binary digits.
-    pub(crate) free: Maxima<A>,
+    pub(crate) free: FreeEntries<A>,
 }
 
 impl<A: Allocator + Copy> Model for LocalHeap<A> {
@@ -57,7 +56,7 @@ impl<A: Allocator + Copy> LocalHeap<A> {
             range.to,
             LOCAL_GRAIN,
         )?;
-        let free = all_free(alloc)?;
+        let free = FreeEntries::new(alloc)?;
         Ok(LocalHeap { arena, free })
     }
 
@@ -80,7 +79,7 @@ impl<A: Allocator + Copy> LocalHeap<A> {
         ensures found { IfSome result (λ id. IsLowest self.now id) }
         ensures none { IfNone result (IsFull self.now) }
     {
-        let id = self.free.first_at_least(1)?;
+        let id = self.free.lowest()?;
         Some(id as u32)
     }
 
@@ -134,15 +133,4 @@ impl<A: Allocator + Copy> LocalHeap<A> {
     {
         self.arena.modify(id, kind)
     }
-}
-
-/// That all entries are free.
-fn all_free<A: Allocator>(alloc: A) -> Result<Maxima<A>, AllocError>
-    ensures { IfOk result (λ free. (length free ≡ LOCAL_ENTRIES) × ((q : ℕ) → q < LOCAL_ENTRIES → slice_index_or free q 0 ≡ 1)) }
-{
-    let mut free = Maxima::zeros(alloc, LOCAL_ENTRIES as usize)?;
-    for id in 0..LOCAL_ENTRIES {
-        free.set(id as usize, 1);
-    }
-    Ok(free)
 }

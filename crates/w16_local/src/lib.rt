@@ -15,6 +15,7 @@ mod asked;
 mod calls;
 mod current;
 mod flags;
+mod free_entries;
 mod growth;
 mod heap;
 mod init;

@@ -5,7 +5,7 @@ use Rattle.w16_local.proofs.heap.LocalHeap.new.Goals as goal
 pub invariant_of-result : goal.invariant_of-result
 invariant_of-result g c =
     subst (λ (s : ArenaState). LocalHeapInvariant s.table c.in_ok-free.free) (sym c.in_ok-arena.ensures)
-    (kept_new c.args.range c.requires.low c.requires.some c.requires.high c.requires.grained c.in_ok-free.free c.in_ok-free.ensures.0 c.in_ok-free.ensures.1)
+    (rw c.in_ok-free.ensures (kept_new c.args.range c.requires.low c.requires.some c.requires.high c.requires.grained))
 
 pub returns : goal.returns
 returns g c = ap (λ (s : ArenaState). s.table) c.in_ok-arena.ensures
