@@ -42,12 +42,13 @@ enum {
     W16_FAULT_READ_ONLY = 5,   /* the object's bytes are code, which can't be written */
     W16_FAULT_NOT_PRESENT = 6, /* the object has no bytes */
     W16_FAULT_LIMIT = 7,       /* the access goes past the last byte that the selector reaches */
-    W16_END = 8,               /* no part of the heap begins at the address or above it */
+    W16_END = 8,               /* nothing is left of what is asked for one by one */
     W16_FAULT_ROOM = 9,        /* there is no room for the bytes of a module's object */
     W16_FAULT_STORE = 10,      /* a module's file can't be read */
     W16_FAULT_DAMAGED = 11,    /* a module's file reads otherwise than it did at the load */
     W16_EXISTS = 12,           /* a file has the name already: nothing was done */
-    W16_NONE_MISSING = 13      /* no file is known to be missing */
+    W16_NONE_MISSING = 13,     /* no file is known to be missing */
+    W16_NO_MODULE = 14         /* no module has the handle, or only a built-in has it */
 };
 
 /* What a status says, as a text that ends with a zero. */
@@ -61,12 +62,13 @@ static inline const char *w16_status_text(uint8_t status) {
     case W16_FAULT_READ_ONLY: return "the object is code, which can't be written";
     case W16_FAULT_NOT_PRESENT: return "the object has no bytes";
     case W16_FAULT_LIMIT: return "the access goes past the object's end";
-    case W16_END: return "no part of the heap is left";
+    case W16_END: return "nothing is left";
     case W16_FAULT_ROOM: return "no room for the bytes of a module's object";
     case W16_FAULT_STORE: return "a module's file can't be read";
     case W16_FAULT_DAMAGED: return "a module's file isn't what it was at load";
     case W16_EXISTS: return "there is a file of that name";
     case W16_NONE_MISSING: return "no file is missing";
+    case W16_NO_MODULE: return "no module has the handle";
     default: return "no status";
     }
 }
@@ -209,6 +211,34 @@ uint8_t w16_get_module_handle(w16 *machine, const char *name, size_t length, uin
 uint8_t w16_get_module_usage(w16 *machine, uint16_t handle, uint16_t *uses);
 /* A far pointer to an entry, by W16_TEXT(name) or W16_NUMBER(ordinal); or 0. */
 uint8_t w16_get_proc_address(w16 *machine, uint16_t handle, const char *name, size_t length, uint16_t ordinal, uint32_t *pointer);
+
+/* Where the program of a module begins, by its file's header. The sizes of heap and stack are only said: a load adds neither to the automatic data
+ * segment, nor can that be made longer once it is loaded, since a module owns it. A client that wants them in it raises the segment's least size, the last
+ * word of the eight bytes for it in the segment table, and SP, in the file's bytes before w16_add_file. */
+typedef struct w16_start {
+    uint32_t entry;      /* cs:ip, a far pointer; 0 where the header names no segment of the file */
+    uint32_t stack;      /* ss:sp, likewise */
+    uint16_t data;       /* the selector of the automatic data segment, or 0 */
+    uint16_t heap;       /* how long the local heap is to be at first, in bytes */
+    uint16_t stack_size; /* how long the stack is to be */
+    uint16_t flags;      /* the header's flags; 0x8000 for a library */
+} w16_start;
+
+/* What is asked about modules below changes nothing. W16_NO_MODULE: the handle is bad; but for w16_module_name, also where it is a built-in's. */
+
+uint8_t w16_module_start(w16 *machine, uint16_t handle, w16_start *start);
+/* The selector of a segment, by its number from 1; W16_END: the module has no segment of the number. */
+uint8_t w16_module_segment(w16 *machine, uint16_t handle, uint16_t number, uint16_t *selector);
+/* The first handle from a number on that names a module or a built-in; W16_END after the last. All of them go from 0 to one after each:
+ *     for (from = 0; w16_module_from(&machine, from, &handle) == W16_DONE; from = handle + 1) */
+uint8_t w16_module_from(w16 *machine, uint16_t from, uint16_t *handle);
+/* The name of a module or a built-in, and the name of the file that a module was loaded from. No zero ends them.
+ * W16_BAD_SIZE: the buffer is shorter. A module's name has at most 255 bytes. */
+uint8_t w16_module_name(w16 *machine, uint16_t handle, char *name, size_t room, size_t *length);
+uint8_t w16_module_file(w16 *machine, uint16_t handle, char *name, size_t room, size_t *length);
+/* The names of a module's entries, by an index from 0, in the order of the file: a name of at most 255 bytes, its ordinal, and the far pointer that
+ * w16_get_proc_address answers for this ordinal. W16_END after the last; W16_BAD_SIZE: the buffer is shorter. */
+uint8_t w16_export_from(w16 *machine, uint16_t handle, size_t index, char *name, size_t room, size_t *length, uint16_t *ordinal, uint32_t *pointer);
 
 /* Resources. Name and type are each a W16_TEXT or a W16_NUMBER. */
 

@@ -20,16 +20,16 @@ AddCalls old name bytes status new =
     ⊎ ((status ≡ NO_MEMORY) × IsNotAdded old.world.loading.files name Memory × SameMachine old new)
 
 -- A name goes to the begin of a buffer, and its length beside it; both stay as they were where there is none, or where it doesn't fit.
-abbrev pub TellsName : Option (List ℕ) → ℕ → List ℕ → List ℕ → ℕ → ℕ → Type 0
-TellsName None status before after was is = (status ≡ NONE_MISSING) × (after ≡ before) × (is ≡ was)
-TellsName (Some name) status before after was is = MatchBool (nat_lt (length before) (length name))
+abbrev pub TellsName : (nothing : ℕ) → Option (List ℕ) → ℕ → List ℕ → List ℕ → ℕ → ℕ → Type 0
+TellsName nothing None status before after was is = (status ≡ nothing) × (after ≡ before) × (is ≡ was)
+TellsName nothing (Some name) status before after was is = MatchBool (nat_lt (length before) (length name))
     ((status ≡ BAD_SIZE) × (after ≡ before) × (is ≡ was))
     ((status ≡ DONE) × (after ≡ name ++ drop (length name) before) × (is ≡ length name))
 
 -- the name of a file that a held machine doesn't have
 abbrev pub TellsMissing : Held → ℕ → List ℕ → List ℕ → ℕ → ℕ → Type 0
 TellsMissing held status before after was is =
-    (name : Option (List ℕ)) × IfSome name (λ n. file_of held.world.loading.files n ≡ None) × TellsName name status before after was is
+    (name : Option (List ℕ)) × IfSome name (λ n. file_of held.world.loading.files n ≡ None) × TellsName NONE_MISSING name status before after was is
 
 -- what names an entry, a resource or a type: a text, or where that has no bytes a number
 abbrev pub label_in : List ℕ → ℕ → Label

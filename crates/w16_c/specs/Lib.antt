@@ -4,3 +4,4 @@ pub mod Makes
 pub mod Kinds
 pub mod Walks
 pub mod Files
+pub mod Listing

@@ -27,12 +27,12 @@ pub extern "C" fn w16_add_file(alloc: Global, held: &mut Held, name: &[u8], byte
     }
 }
 
-/// Puts a name to the begin of a buffer, if there is one.
-fn told(name: Option<&[u8]>, into: &mut [u8], length: &mut usize) -> u8
-    ensures { TellsName (option_map (λ n. n.now) name.entry) result into.old into.new length.old length.new }
+/// Puts a name to the begin of a buffer, if there is one; else it answers what says that there is nothing.
+pub fn told_name(nothing: u8, name: Option<&[u8]>, into: &mut [u8], length: &mut usize) -> u8
+    ensures { TellsName nothing (option_map (λ n. n.now) name.entry) result into.old into.new length.old length.new }
 {
     let Some(name) = name else {
-        return NONE_MISSING;
+        return nothing;
     };
     if into.len() < name.len() {
         return BAD_SIZE;
@@ -58,7 +58,7 @@ pub extern "C" fn w16_missing_file(
     let Some(kernel) = taken(held, alloc) else {
         return NO_MACHINE;
     };
-    let status = told(kernel.missed_file(), into, length);
+    let status = told_name(NONE_MISSING, kernel.missed_file(), into, length);
     put_back(held, alloc, kernel);
     status
 }

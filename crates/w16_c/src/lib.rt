@@ -8,6 +8,7 @@ mod global;
 mod held;
 pub mod laws;
 mod life;
+mod listing;
 mod local;
 mod modules;
 mod part;
@@ -25,6 +26,10 @@ pub use global::{
 };
 pub use held::Held;
 pub use life::{w16_free, w16_new};
+pub use listing::{
+    w16_export_from, w16_module_file, w16_module_from, w16_module_name, w16_module_segment,
+    w16_module_start,
+};
 pub use local::{
     w16_ds, w16_local_alloc, w16_local_compact, w16_local_discard, w16_local_flags, w16_local_free,
     w16_local_handle, w16_local_init, w16_local_lock, w16_local_realloc, w16_local_size,
@@ -40,7 +45,7 @@ pub use resources::{
 };
 pub use status::{
     BAD_SIZE, DONE, END, EXISTS, FAULT_DAMAGED, FAULT_LIMIT, FAULT_NOT_PRESENT, FAULT_READ_ONLY,
-    FAULT_ROOM, FAULT_SELECTOR, FAULT_STORE, NO_MACHINE, NO_MEMORY, NONE_MISSING,
+    FAULT_ROOM, FAULT_SELECTOR, FAULT_STORE, NO_MACHINE, NO_MEMORY, NO_MODULE, NONE_MISSING,
 };
 
 #[cfg(test)]

@@ -47,6 +47,9 @@ pub const EXISTS: u8 = 12;
 /// No file is known to be missing.
 pub const NONE_MISSING: u8 = 13;
 
+/// No module that was loaded from a file has the handle.
+pub const NO_MODULE: u8 = 14;
+
 /// A fault of a far access, as a status.
 pub fn status_of(fault: FarFault) -> u8
     ensures { result ≡ fault_status fault }

@@ -1,6 +1,7 @@
 //! Tests of the functions that C calls.
 use super::*;
 use std::alloc::Global;
+use w16_kernel::Start;
 
 /// Frees what is held, which is then none.
 fn is_freed(alloc: Global, mut held: Held) -> bool {
@@ -255,4 +256,74 @@ fn a_load_tells_which_file_it_misses(rt: HostRuntime) {
         && misses(alloc, &mut held, NONE_MISSING, b"");
     let good = modules_answer(alloc, &mut held) && resources_answer(alloc, &mut held);
     assert!(rt; is_freed(alloc, held) && is_begun && first && second && good && length == 7);
+}
+
+/// An application that begins at 1:2 with the stack at 2:40, whose second segment is the automatic data segment, with an entry GO.
+static TGO: &[u8] =
+    b"MZ\0\0\0\0\0\0\0\0\0\0\0\0\0\0\0\0\0\0\0\0\0\0\0\0\0\0\0\0\0\0\0\0\0\0\0\0\0\0\0\0\0\0\0\0\0\0\0\0\0\0\0\
+    \0\0\0\0\0\0\0@\0\0\0NE\x05\x0a\x5c\0\x06\0\0\0\0\0\x02\x03\x02\0\0\x01\0\x02\x02\0\x01\0@\0\x02\0\x02\0\
+    \0\0\0\0@\0P\0P\0\x5c\0\x5c\0\0\0\0\0\0\0\x04\0\0\0\x02\0\0\0\0\0\0\0\x0a\x03\x0b\0\x04\0\x10\x10\x04\0\
+    \x0c\0\x04\0\x11\0\x04\0\x03TGO\0\0\x02GO\x01\0\0\x01\x01\x01\x02\0\0\0\0\0\0\0\0\0\0\0\0\0\0\0\0\x90\
+    \xf4\x90\xf4\0\0\0\0\0\0\0\0\0\0\0\0data";
+
+/// Whether a machine says of TGO where it begins, and which handles and selectors there are beside a built-in.
+fn modules_are_told(alloc: Global, held: &mut Held) -> bool {
+    let mut start = Start {
+        entry: 0,
+        stack: 0,
+        automatic_data: 0,
+        heap: 0,
+        stack_size: 0,
+        flags: 0,
+    };
+    let mut words = [0; 4];
+    let statuses = [
+        w16_load_module(alloc, held, b"TGO.EXE", &mut words[0]),
+        w16_builtin(alloc, held, b"KERNEL", &mut words[1]),
+        w16_module_start(alloc, held, 0x21, &mut start),
+        w16_module_segment(alloc, held, 0x21, 2, &mut words[2]),
+        w16_module_from(alloc, held, 0x22, &mut words[3]),
+        w16_module_from(alloc, held, 0x23, &mut words[0]),
+        w16_module_segment(alloc, held, 0x21, 3, &mut words[0]),
+        w16_module_start(alloc, held, 0x22, &mut start),
+    ];
+    statuses == [DONE, DONE, DONE, DONE, DONE, END, END, NO_MODULE]
+        && words == [0x21, 0x22, 0x010f, 0x22]
+        && (start.entry, start.stack, start.automatic_data) == (0x0107_0002, 0x010f_0040, 0x010f)
+        && (start.heap, start.stack_size, start.flags) == (0x100, 0x200, 0x0302)
+}
+
+/// Whether it says the names of both, of TGO's file and of its entry, with that entry's ordinal and pointer.
+fn names_are_told(alloc: Global, held: &mut Held) -> bool {
+    let mut names = [[0; 7]; 3];
+    let mut length = 0;
+    let (mut ordinal, mut pointer) = (0, 0);
+    let [built_in, file, entry] = &mut names;
+    let statuses = [
+        w16_module_name(alloc, held, 0x21, &mut [0; 2], &mut length),
+        w16_module_name(alloc, held, 0x22, built_in, &mut length),
+        w16_module_file(alloc, held, 0x21, file, &mut length),
+        w16_export_from(
+            alloc,
+            held,
+            0x21,
+            0,
+            entry,
+            &mut length,
+            &mut ordinal,
+            &mut pointer,
+        ),
+    ];
+    statuses == [BAD_SIZE, DONE, DONE, DONE]
+        && names == [*b"KERNEL\0", *b"TGO.EXE", *b"GO\0\0\0\0\0"]
+        && (length, ordinal, pointer) == (2, 1, 0x0107_0002)
+}
+
+#[test]
+fn modules_are_told_one_by_one(rt: HostRuntime) {
+    let alloc = rt.alloc();
+    let (mut held, is_begun) = begun(alloc, 4096);
+    let added = w16_add_file(alloc, &mut held, b"TGO.EXE", TGO) == DONE;
+    let good = modules_are_told(alloc, &mut held) && names_are_told(alloc, &mut held);
+    assert!(rt; is_freed(alloc, held) && is_begun && added && good);
 }

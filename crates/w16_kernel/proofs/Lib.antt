@@ -1,5 +1,6 @@
 pub mod Absent
 pub mod Adding
+pub mod Asked
 pub mod Common
 pub mod FarSteps
 pub mod Modules

@@ -11,6 +11,7 @@ ghost use Rattle.w16_kernel.specs.Parts.{KernelStep};
 ghost use Rattle.w16_kernel.specs.Runs.{command_of, reply_of, answer_of, IsCall, IsReply, TakesMemory};
 ghost use Rattle.w16_kernel.specs.Stops.{StopsEarly};
 
+pub mod modules;
 pub mod why;
 
 use crate::call::{Answer, Call, MOST_READ, Reply};
