@@ -167,16 +167,49 @@ uint8_t w16_global_handle(w16 *machine, uint16_t selector, uint32_t *both);
 /* Selectors and far memory. A fault reads and writes nothing, and leaves all as it was, but for one: where a module's object had no bytes, an access
  * past its end, W16_FAULT_LIMIT, leaves it with its bytes, and what was discarded and moved for them. */
 
-/* The address in the machine's memory of the first byte that the selector reaches, or 0. */
+/* A use makes a discardable object the last to be discarded. Uses are w16_read, w16_write and w16_fill that answer W16_DONE, of no bytes too,
+ * w16_global_lock, w16_lock_resource and w16_global_lru_newest; and an object that gets its bytes, or becomes discardable, is the last then. The
+ * same three far accesses and w16_lock_resource fetch: a module's segment or resource that has no bytes gets them first. Else only loads give such
+ * objects bytes. Questions, w16_peek and descriptors are no use and fetch nothing. */
+
+/* The address in the machine's memory of the first byte that the selector reaches; 0 is an address too, and also says that the selector is bad or its
+ * object has no bytes: w16_get_descriptor tells these apart. */
 uint8_t w16_get_selector_base(w16 *machine, uint16_t selector, uint32_t *base);
 /* The offset of the last byte that it reaches, or 0. */
 uint8_t w16_get_selector_limit(w16 *machine, uint16_t selector, uint32_t *limit);
 /* Reads count bytes from a far pointer on; W16_BAD_SIZE for more than 1,024. */
 uint8_t w16_read(w16 *machine, uint32_t pointer, uint8_t *into, size_t count);
-/* Writes count bytes from a far pointer on, all or none: W16_FAULT_LIMIT where the selector reaches fewer. */
+/* Writes count bytes from a far pointer on, all or none: W16_FAULT_LIMIT where the selector reaches fewer, and none reaches more than 65,536;
+ * W16_FAULT_READ_ONLY for code. */
 uint8_t w16_write(w16 *machine, uint32_t pointer, const uint8_t *bytes, size_t count);
 /* Writes the same byte count times from a far pointer on; W16_BAD_SIZE for more than 65,536. */
 uint8_t w16_fill(w16 *machine, uint32_t pointer, uint32_t count, uint8_t byte);
+/* Reads any number of bytes without a use or a fetch: W16_FAULT_NOT_PRESENT where the object has no bytes. */
+uint8_t w16_peek(w16 *machine, uint32_t pointer, uint8_t *into, size_t count);
+/* Fetches the selector's object where it has no bytes, and is a use of it: a read of no bytes. */
+static inline uint8_t w16_fetch(w16 *machine, uint16_t selector) {
+    uint8_t none = 0;
+    return w16_read(machine, W16_FAR(selector, 0), &none, 0);
+}
+
+/* What a selector tells, by which a client may reach the bytes itself. All is 0 where no object has it. */
+typedef struct w16_descriptor {
+    uint32_t base;   /* the address in the machine's memory of the first byte that it reaches */
+    uint32_t limit;  /* the offset of the last byte that it reaches */
+    uint16_t object; /* the object's handle */
+    uint8_t present; /* 1 where the object has bytes, else base and limit are 0 */
+    uint8_t code;    /* 1 for code, which can't be written */
+} w16_descriptor;
+
+/* W16_FAULT_SELECTOR: no object has the selector. */
+uint8_t w16_get_descriptor(w16 *machine, uint16_t selector, w16_descriptor *told);
+/* What has changed since. The client has a table of count descriptors by slot, which is selector >> 3, zeros at first; of more than 8,192 the rest is
+ * left alone. The next slot, from *slot on, whose descriptor isn't the table's is set there and answered; W16_END: none is left, and *slot stays. So
+ * after a call by which descriptors may change:
+ *     for (slot = 0; w16_next_changed(&machine, known, count, &slot) == W16_DONE; )
+ * Such calls are w16_global_alloc, _free, _compact, _realloc and _discard, loads, calls that free modules, and those that load, lock and free
+ * resources; far accesses that fetch; and w16_local_alloc and w16_local_realloc, by which a segment may grow. No other changes any. */
+uint8_t w16_next_changed(w16 *machine, w16_descriptor *known, size_t count, uint16_t *slot);
 
 /* Module files. They are kept in memory. A file's name is length bytes of text; letters of ASCII may differ in case. */
 
@@ -268,7 +301,8 @@ typedef struct w16_part {
 /* The first part that begins at an address or above it; W16_END after the last. A whole walk goes from 0 to each part's end:
  *     for (at = 0; w16_walk_from(&machine, at, &part) == W16_DONE; at = part.at + part.size) */
 uint8_t w16_walk_from(w16 *machine, uint32_t from, w16_part *part);
-/* How many bytes the last w16_global_alloc, _realloc, _discard or _compact moved. Where it isn't 0, selectors have other bases. */
+/* How many bytes the last w16_global_alloc, _realloc, _discard or _compact moved. It says nothing of what loads, fetches and segments that grow move:
+ * a client that keeps addresses compares descriptors (w16_next_changed). */
 uint8_t w16_moved(w16 *machine, uint32_t *bytes);
 
 /* Local heaps, in the segment that w16_ds names. Every name that is answered is 0 where the call is refused. */

@@ -5,3 +5,4 @@ pub mod Kinds
 pub mod Walks
 pub mod Files
 pub mod Listing
+pub mod Descriptors

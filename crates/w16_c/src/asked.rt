@@ -1,7 +1,7 @@
 //! One call on a holder, and its answer by the kind of its reply.
 ghost use Rattle.std.specs.Prelude.{◌≡◌, IfOk, IfErr};
 ghost use Rattle.w16_loading.specs.Replies as replies;
-ghost use Rattle.w16_kernel.specs.Runs.{command_of, reply_of, IsCall};
+ghost use Rattle.w16_kernel.specs.Runs.{command_of, reply_of, HasRoom, IsCall};
 ghost use Rattle.w16_c.specs.Makes.{Makes, Refuses, WordCalls, DwordCalls, WordFetches, FarCalls, IsStatus, Tells};
 ghost use Rattle.w16_c.specs.Kinds.{AnswersWord, AnswersDword, FetchesWord, IsWrite, IsWord, IsDword, IsOrFailure, IsDoneOrFault};
 
@@ -21,7 +21,7 @@ pub enum Refusal {
 }
 
 /// One step of the machine that is held. Bytes that are read are put into the room.
-pub fn asked<'r>(
+pub fn asked_with_room<'r>(
     alloc: Global,
     held: &mut Held,
     call: &Call<'_>,
@@ -35,6 +35,21 @@ pub fn asked<'r>(
         return Err(Refusal::NoMachine);
     };
     let reply = kernel.call(call, room);
+    put_back(held, alloc, kernel);
+    reply.map_err(|_| Refusal::NoMemory)
+}
+
+/// The same of a call that reads no bytes.
+pub fn asked(alloc: Global, held: &mut Held, call: &Call<'_>) -> Result<Reply<'static>, Refusal>
+    requires call { IsCall call.now }
+    requires room { HasRoom call.now 0 }
+    ensures made { IfOk result (λ reply. Makes held.old (command_of call.now) (reply_of reply) held.new) }
+    ensures refused { IfErr result (λ refusal. Refuses held.old (command_of call.now) refusal held.new) }
+{
+    let Some(mut kernel) = taken(held, alloc) else {
+        return Err(Refusal::NoMachine);
+    };
+    let reply = kernel.ask(call);
     put_back(held, alloc, kernel);
     reply.map_err(|_| Refusal::NoMemory)
 }
@@ -67,8 +82,7 @@ pub fn word(alloc: Global, held: &mut Held, call: &Call<'_>, answer: &mut u16) -
     requires kind { AnswersWord (command_of call.now) }
     ensures { WordCalls held.old (command_of call.now) result answer.old answer.new held.new }
 {
-    let mut room = [0; MOST_READ];
-    match asked(alloc, held, call, &mut room) {
+    match asked(alloc, held, call) {
         Ok(reply) => {
             *answer = word_in(reply);
             DONE
@@ -84,8 +98,7 @@ pub fn dword(alloc: Global, held: &mut Held, call: &Call<'_>, answer: &mut u32) 
     requires kind { AnswersDword (command_of call.now) }
     ensures { DwordCalls held.old (command_of call.now) result answer.old answer.new held.new }
 {
-    let mut room = [0; MOST_READ];
-    match asked(alloc, held, call, &mut room) {
+    match asked(alloc, held, call) {
         Ok(reply) => {
             *answer = dword_in(reply);
             DONE
@@ -116,8 +129,7 @@ pub fn fetched_word(alloc: Global, held: &mut Held, call: &Call<'_>, answer: &mu
     requires kind { FetchesWord (command_of call.now) }
     ensures { WordFetches held.old (command_of call.now) result answer.old answer.new held.new }
 {
-    let mut room = [0; MOST_READ];
-    match asked(alloc, held, call, &mut room) {
+    match asked(alloc, held, call) {
         Ok(reply) => word_told(reply, answer),
         Err(Refusal::NoMachine) => NO_MACHINE,
         Err(Refusal::NoMemory) => NO_MEMORY,
@@ -142,8 +154,7 @@ pub fn done(alloc: Global, held: &mut Held, call: &Call<'_>) -> u8
     requires kind { IsWrite (command_of call.now) }
     ensures { FarCalls held.old (command_of call.now) result replies.Reply.Done held.new }
 {
-    let mut room = [0; MOST_READ];
-    match asked(alloc, held, call, &mut room) {
+    match asked(alloc, held, call) {
         Ok(reply) => written(reply),
         Err(Refusal::NoMachine) => NO_MACHINE,
         Err(Refusal::NoMemory) => NO_MEMORY,

@@ -9,7 +9,7 @@ ghost use Rattle.w16_kernel.specs.declared.call.Call.TheVariants as calls;
 ghost use Rattle.w16_c.specs.Kinds.{IsBytes};
 ghost use Rattle.w16_c.specs.Makes.{FarCalls, IsRead, Stays, AsksTooMuch};
 
-use crate::asked::{Refusal, asked, done};
+use crate::asked::{Refusal, asked_with_room, done};
 use crate::held::Held;
 use crate::status::{BAD_SIZE, DONE, NO_MACHINE, NO_MEMORY, status_of, status_of_fetch};
 use std::alloc::Global;
@@ -46,7 +46,7 @@ pub extern "C" fn w16_read(alloc: Global, held: &mut Held, pointer: u32, into: &
         count: into.len() as u32,
     };
     let mut room = [0; MOST_READ];
-    match asked(alloc, held, &call, &mut room) {
+    match asked_with_room(alloc, held, &call, &mut room) {
         Ok(reply) => copied(reply, into),
         Err(Refusal::NoMachine) => NO_MACHINE,
         Err(Refusal::NoMemory) => NO_MEMORY,

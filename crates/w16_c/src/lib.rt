@@ -2,6 +2,7 @@
 #![tactic(auto)]
 
 mod asked;
+mod descriptors;
 mod far;
 mod files;
 mod global;
@@ -16,6 +17,7 @@ mod parts;
 mod resources;
 mod status;
 
+pub use descriptors::{Descriptor, w16_get_descriptor, w16_next_changed, w16_peek};
 pub use far::{w16_fill, w16_read, w16_write};
 pub use files::{w16_add_file, w16_missing_file};
 pub use global::{

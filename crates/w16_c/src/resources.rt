@@ -14,7 +14,7 @@ use crate::held::Held;
 use crate::modules::label;
 use crate::status::{DONE, NO_MACHINE, NO_MEMORY, status_of_fetch};
 use std::alloc::Global;
-use w16_kernel::{Call, MOST_READ, Reply};
+use w16_kernel::{Call, Reply};
 
 /// `FindResource`: the place of a resource in its module's table, from 1, by its name and its type, each a text, or where that has no bytes a number; 0 where
 /// there is none.
@@ -82,13 +82,7 @@ pub extern "C" fn w16_lock_resource(
 ) -> u8
     ensures { DwordFetches held.old (command_of (calls.LockResource object)) result pointer.old pointer.new held.new }
 {
-    let mut room = [0; MOST_READ];
-    match asked(
-        alloc,
-        held,
-        &Call::LockResource { handle: object },
-        &mut room,
-    ) {
+    match asked(alloc, held, &Call::LockResource { handle: object }) {
         Ok(reply) => dword_told(reply, pointer),
         Err(Refusal::NoMachine) => NO_MACHINE,
         Err(Refusal::NoMemory) => NO_MEMORY,

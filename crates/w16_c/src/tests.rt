@@ -327,3 +327,72 @@ fn modules_are_told_one_by_one(rt: HostRuntime) {
     let good = modules_are_told(alloc, &mut held) && names_are_told(alloc, &mut held);
     assert!(rt; is_freed(alloc, held) && is_begun && added && good);
 }
+
+/// What nothing tells.
+const NOTHING: Descriptor = Descriptor {
+    base: 0,
+    limit: 0,
+    object: 0,
+    present: 0,
+    code: 0,
+};
+
+/// Whether descriptors answer as they should, of two discardable objects of 128 bytes in a heap of 256.
+fn descriptors_answer(alloc: Global, held: &mut Held) -> bool {
+    let mut known = [NOTHING; 64];
+    let mut slots = [32, 32, 33, 34];
+    let mut told = NOTHING;
+    let statuses = [
+        w16_next_changed(alloc, held, &mut known, &mut slots[0]),
+        w16_next_changed(alloc, held, &mut known, &mut slots[1]),
+        w16_next_changed(alloc, held, &mut known, &mut slots[2]),
+        w16_next_changed(alloc, held, &mut known, &mut slots[3]),
+        w16_get_descriptor(alloc, held, 0x010f, &mut told),
+        w16_get_descriptor(alloc, held, 0x010e, &mut told),
+    ];
+    let second = Descriptor {
+        base: 128,
+        limit: 127,
+        object: 0x010e,
+        present: 1,
+        code: 0,
+    };
+    statuses == [DONE, DONE, END, END, DONE, FAULT_SELECTOR]
+        && slots == [32, 33, 33, 34]
+        && told == second
+        && known[33] == second
+        && known[32].object == 0x0106
+}
+
+/// Whether a look at the older of them leaves it the older: a third object takes its bytes.
+fn looks_are_no_use(alloc: Global, held: &mut Held) -> bool {
+    let mut bytes = [0; 2];
+    let mut handle = 0;
+    let mut told = NOTHING;
+    let statuses = [
+        w16_peek(alloc, held, 0x0107_0001, &mut bytes),
+        w16_peek(alloc, held, 0x0107_007f, &mut bytes),
+        w16_global_alloc(alloc, held, 2, 128, &mut handle),
+        w16_peek(alloc, held, 0x0107_0001, &mut bytes),
+        w16_get_descriptor(alloc, held, 0x0107, &mut told),
+        w16_get_descriptor(alloc, held, 0x0117, &mut told),
+    ];
+    statuses == [DONE, FAULT_LIMIT, DONE, FAULT_NOT_PRESENT, DONE, DONE]
+        && (handle, bytes) == (0x0116, *b"i!")
+        && (told.base, told.object) == (0, 0x0116)
+}
+
+#[test]
+fn looks_tell_and_change_nothing(rt: HostRuntime) {
+    let alloc = rt.alloc();
+    let (mut held, is_begun) = begun(alloc, 256);
+    let mut handle = 0;
+    let made = [
+        w16_global_alloc(alloc, &mut held, 0x102, 128, &mut handle),
+        w16_global_alloc(alloc, &mut held, 0x102, 128, &mut handle),
+        w16_write(alloc, &mut held, 0x0107_0000, b"hi!"),
+        w16_write(alloc, &mut held, 0x010f_0000, b"ho!"),
+    ];
+    let good = descriptors_answer(alloc, &mut held) && looks_are_no_use(alloc, &mut held);
+    assert!(rt; is_freed(alloc, held) && is_begun && made == [DONE; 4] && good);
+}

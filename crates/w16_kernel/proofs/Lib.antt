@@ -5,6 +5,7 @@ pub mod Common
 pub mod FarSteps
 pub mod Modules
 pub mod Refetching
+pub mod Rooms
 pub mod Running
 pub mod Spared
 pub mod Stepping

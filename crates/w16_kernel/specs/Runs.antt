@@ -108,6 +108,11 @@ IsCall (Read pointer count) = count ≤ MOST_READ
 IsCall (Fill pointer count byte) = count ≤ MOST_FILLED
 IsCall call = Unit {0}
 
+-- a room of so many bytes is enough for those that a call reads
+abbrev pub HasRoom : Call → ℕ → Type 0
+HasRoom (Read pointer count) room = count ≤ room
+HasRoom call room = Unit {0}
+
 -- a reply has no more bytes than may be asked for
 abbrev pub IsReply : Reply → Type 0
 IsReply (replies.Bytes bytes) = length bytes.now ≤ MOST_READ

@@ -11,13 +11,14 @@ ghost use Rattle.w16_kernel.specs.Parts.{KernelStep};
 ghost use Rattle.w16_kernel.specs.Runs.{command_of, reply_of, answer_of, IsCall, IsReply, TakesMemory};
 ghost use Rattle.w16_kernel.specs.Stops.{StopsEarly};
 
+mod ask;
 pub mod modules;
+mod peek;
 pub mod why;
 
 use crate::call::{Answer, Call, MOST_READ, Reply};
 use crate::growing::{AddFault, GrowingStore};
 use crate::library::Library;
-use crate::step::{discardable_beside, step, sweep};
 use std::alloc::{AllocError, Allocator, Global};
 use std::marker::Model;
 use w16_global::Global16;
@@ -101,20 +102,7 @@ impl<S: Store + Drop, A: Allocator + Copy> Kernel<S, A> {
         ensures wanted { OnErr result (TakesMemory self.old (command_of call.now)) }
         ensures refused { OnErr result (IsSame self.old self.new) }
     {
-        self.library.store.refresh();
-        let before = discardable_beside(&self.global, call.object_slot(0));
-        let reply = step(
-            &mut self.global,
-            &mut self.locals,
-            &mut self.library,
-            &mut self.ds,
-            call,
-            room,
-        )?;
-        self.global.reveal_handles();
-        let slot = call.object_slot(reply.word());
-        sweep(&mut self.locals, &self.global, call, slot, before);
-        Ok(reply)
+        self.made(call, room)
     }
 
     /// The i-th part of the heap by address, from 0 on: an object's bytes, the object named by its handle, or a hole. None after the last. It

@@ -3,11 +3,11 @@ ghost use Rattle.std.specs.Prelude.{◌≡◌, List, length, IfOk, OnOk, OnErr};
 ghost use Rattle.w16_model.specs.Handles.{handle_of};
 ghost use Rattle.w16_model.specs.Walk.{IsWalk};
 ghost use Rattle.w16_machine.specs.Machine.{IsCommand, IsSame};
-ghost use Rattle.w16_kernel.specs.Runs.{command_of, reply_of, IsCall, IsReply, TakesMemory};
+ghost use Rattle.w16_kernel.specs.Runs.{command_of, reply_of, HasRoom, IsCall, IsReply, TakesMemory};
 ghost use Rattle.w16_kernel.specs.Parts as parts;
 ghost use Rattle.w16_kernel.specs.Parts.{IsWorldOver, OthersStay, Unswept, may_take_bytes, surviving_heaps, world_of};
 
-use crate::call::{Call, MOST_READ, Reply};
+use crate::call::{Call, Reply};
 use crate::far::{Written, read, write};
 use crate::library::Library;
 use crate::load::{free_module, load_reply, proc_address};
@@ -70,10 +70,11 @@ pub fn step<'r, S: Store + Drop, A: Allocator + Copy>(
     library: &mut Library<S, A>,
     ds: &mut u16,
     call: &Call<'_>,
-    room: &'r mut [u8; MOST_READ],
+    room: &'r mut [u8],
 ) -> Result<Reply<'r>, AllocError>
     requires world { IsWorldOver S.is_honest (world_of global.old.handles library.old.registry library.old.resources locals.old ds.old (S.files library.old.store) (S.failures library.old.store)) }
     requires call { IsCall call.now }
+    requires room { HasRoom call.now (length room.old) }
     ensures step { IfOk result (λ reply. Unswept S.is_honest (world_of global.old.handles library.old.registry library.old.resources locals.old ds.old (S.files library.old.store) (S.failures library.old.store)) (command_of call.now) (reply_of reply)
         (world_of global.new.handles library.new.registry library.new.resources locals.new ds.new (S.files library.new.store) (S.failures library.new.store))) }
     ensures ranged { OnOk result (IsCommand (command_of call.now)) }

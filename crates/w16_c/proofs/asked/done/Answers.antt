@@ -1,4 +1,6 @@
 use Rattle.w16_c.proofs.ReplyKinds.{done_calls, write_reply}
+use Rattle.w16_c.proofs.Roomless.{roomless}
+use Rattle.w16_c.specs.Kinds.{IsWrite}
 use Rattle.w16_c.proofs.asked.done.Goals as goal
 
 pub written-requires : goal.written-requires
@@ -6,3 +8,6 @@ written-requires c = write_reply _ _ _ _ c.requires.kind c.in-Ok.ensures.made.st
 
 pub returns-in-Ok : goal.returns-in-Ok
 returns-in-Ok c = done_calls _ _ _ _ _ c.written.ensures c.in-Ok.ensures.made
+
+pub asked-requires-clause-room : goal.asked-requires-clause-room
+asked-requires-clause-room c = roomless IsWrite (λ _ _ k. k) c.args.call.now c.requires.kind

@@ -1,6 +1,6 @@
-use Rattle.w16_kernel.proofs.Common.{◌≤◌, refl, ap, subst, arith, length-take-le, IsWorldOver, World, Word, Dword, on_any}
+use Rattle.w16_kernel.proofs.Common.{◌≤◌, refl, ap, subst, length, length-take-le, IsWorldOver, World, Word, Dword, on_any}
 use Rattle.w16_kernel.proofs.Modules.{unread}
-use Rattle.w16_kernel.specs.{Runs.IsCall, declared.call.TheConstants.MOST_READ}
+use Rattle.w16_kernel.specs.Runs.{HasRoom}
 use Rattle.w16_kernel.proofs.step.step.Goals as goal
 
 module _ {honest : Type 0} {w : World} (is : IsWorldOver honest w) where
@@ -48,9 +48,8 @@ returns-in_err-local_init-in-LocalInit-clause-wanted g c = on_any c.from_residua
 
 pub returns-in-Read-clause-step : goal.returns-in-Read-clause-step
 returns-in-Read-clause-step g c =
-    let few : c.in-Read.count ≤ MOST_READ = subst IsCall c.in-Read.is c.requires.call in
-    let room = c.told-room in
-    rw c.in-Read.is (rw (length-take-le c.in-Read.count c.args.room.now (omega (arith, few, room))) at (c.read.ensures.step _ c.requires.world))
+    let few : c.in-Read.count ≤ length c.args.room.now = subst (λ k. HasRoom k (length c.args.room.now)) c.in-Read.is c.requires.room in
+    rw c.in-Read.is (rw (length-take-le c.in-Read.count c.args.room.now few) at (c.read.ensures.step _ c.requires.world))
 
 pub returns-in-Write-clause-step : goal.returns-in-Write-clause-step
 returns-in-Write-clause-step g c = rw c.in-Write.is (c.write.ensures.step _ c.requires.world)
