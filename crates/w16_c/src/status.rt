@@ -29,7 +29,7 @@ pub const FAULT_NOT_PRESENT: u8 = 6;
 /// The access goes past the object's end.
 pub const FAULT_LIMIT: u8 = 7;
 
-/// No part of the heap begins at the address or above it.
+/// Nothing is left of what is asked for one by one.
 pub const END: u8 = 8;
 
 /// There is no room for the bytes of a module's object.

@@ -295,27 +295,25 @@ fn modules_are_told(alloc: Global, held: &mut Held) -> bool {
 
 /// Whether it says the names of both, of TGO's file and of its entry, with that entry's ordinal and pointer.
 fn names_are_told(alloc: Global, held: &mut Held) -> bool {
-    let mut names = [[0; 7]; 3];
-    let mut length = 0;
-    let (mut ordinal, mut pointer) = (0, 0);
-    let [built_in, file, entry] = &mut names;
+    let (mut built_in, mut file, mut entry) = ([0; 6], [0; 7], [0; 2]);
+    let (mut length, mut ordinal, mut pointer) = (0, 0, 0);
     let statuses = [
         w16_module_name(alloc, held, 0x21, &mut [0; 2], &mut length),
-        w16_module_name(alloc, held, 0x22, built_in, &mut length),
-        w16_module_file(alloc, held, 0x21, file, &mut length),
+        w16_module_name(alloc, held, 0x22, &mut built_in, &mut length),
+        w16_module_file(alloc, held, 0x21, &mut file, &mut length),
         w16_export_from(
             alloc,
             held,
             0x21,
             0,
-            entry,
+            &mut entry,
             &mut length,
             &mut ordinal,
             &mut pointer,
         ),
     ];
     statuses == [BAD_SIZE, DONE, DONE, DONE]
-        && names == [*b"KERNEL\0", *b"TGO.EXE", *b"GO\0\0\0\0\0"]
+        && (built_in == *b"KERNEL" && file == *b"TGO.EXE" && entry == *b"GO")
         && (length, ordinal, pointer) == (2, 1, 0x0107_0002)
 }
 

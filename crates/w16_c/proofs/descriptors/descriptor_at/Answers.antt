@@ -1,5 +1,4 @@
 use Rattle.std.proofs.Common.{◌≡◌, ◌∙◌, None, Some, ap, subst}
-use Rattle.w16_model.specs.Handles.{selector_of}
 use Rattle.w16_global.specs.Peek.{selector_descriptor}
 use Rattle.w16_c.specs.Descriptors.{descriptor_at, descriptor_or_none}
 use Rattle.w16_c.proofs.descriptors.descriptor_at.Goals as goal
