@@ -56,7 +56,7 @@ int main(int count, char **words) {
     if (w16_new(&machine, 65536, 16) != W16_DONE || w16_add_file(&machine, "MODULE", 6, bytes, length) != W16_DONE)
         return 1;
     if (w16_load_module(&machine, "MODULE", 6, &module) == W16_DONE && w16_module_start(&machine, module, &start) == W16_DONE)
-        printf("cs:ip %08x, ss:sp %08x, ds %04x, heap %u, stack %u\n", (unsigned)start.entry, (unsigned)start.stack, start.automatic_data,
+        printf("cs:ip %08x, ss:sp %08x, ds %04x, heap %u, stack %u\n", (unsigned)start.entry, (unsigned)start.stack, start.data,
                start.heap, start.stack_size);
     w16_free(&machine);
     return 0;
