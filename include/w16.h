@@ -164,7 +164,7 @@ uint8_t w16_global_flags(w16 *machine, uint16_t handle, uint16_t *flags);
 /* The selector in the high word and its object's handle in the low one, or 0. */
 uint8_t w16_global_handle(w16 *machine, uint16_t selector, uint32_t *both);
 
-/* Selectors and far memory. A fault reads and writes nothing, and leaves all as it was, but for one: where a module's object had no bytes, an access
+/* Selectors and far memory. A fault reads and writes nothing, and leaves all as it was, except one: where a module's object had no bytes, an access
  * past its end, W16_FAULT_LIMIT, leaves it with its bytes, and what was discarded and moved for them. */
 
 /* A use makes a discardable object the last to be discarded. Uses are w16_read, w16_write and w16_fill that answer W16_DONE, of no bytes too,
@@ -257,7 +257,8 @@ typedef struct w16_start {
     uint16_t flags;      /* the header's flags; 0x8000 for a library */
 } w16_start;
 
-/* What is asked about modules below changes nothing. W16_NO_MODULE: the handle is bad; but for w16_module_name, also where it is a built-in's. */
+/* What is asked about modules below changes nothing. W16_NO_MODULE: no module has the handle; a built-in's counts for w16_module_name
+ * and w16_module_from alone. */
 
 uint8_t w16_module_start(w16 *machine, uint16_t handle, w16_start *start);
 /* The selector of a segment, by its number from 1; W16_END: the module has no segment of the number. */
