@@ -43,17 +43,30 @@ impl<A: Allocator> Model for Maxima<A> {
     ghost invariant = { λ s. (s.leaves ≤ 2 ^ 40) × IsTree s.height s.len s.leaves s.nodes.items × (nodes_for s.leaves s.len ≤ vec_capacity s.nodes) };
 }
 
+/// Gives a list more numbers, for which it has the capacity. It stands apart so that a change of a
+/// number stays short enough to be inlined.
+#[cold]
+#[inline(never)]
+fn grow<A: Allocator>(nodes: &mut Vec<u32, A>, count: usize)
+    requires { count ≤ vec_capacity nodes.old }
+    ensures items { length nodes.old.items ≤ count → nodes.new.items ≡ nodes.old.items ++ replicate (count - length nodes.old.items) 0 }
+    ensures capacity { vec_capacity nodes.old ≤ vec_capacity nodes.new }
+{
+    let Ok(()) = nodes.resize(count, 0) else {
+        unreachable!()
+    };
+}
+
 /// Gives a list at least so many numbers, for which it has the capacity. The new ones are 0. No
 /// memory is taken.
+#[inline(always)]
 fn lengthen<A: Allocator>(nodes: &mut Vec<u32, A>, count: usize)
     requires { count ≤ vec_capacity nodes.old }
     ensures items { nodes.new.items ≡ nodes.old.items ++ replicate (count - length nodes.old.items) 0 }
     ensures capacity { vec_capacity nodes.old ≤ vec_capacity nodes.new }
 {
     if nodes.len() < count {
-        let Ok(()) = nodes.resize(count, 0) else {
-            unreachable!()
-        };
+        grow(nodes, count);
     }
 }
 
