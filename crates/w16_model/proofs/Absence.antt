@@ -78,7 +78,7 @@ discard_heap_law old id is = turn (object_at old id) refl
 
 -- where it is answered the object is absent
 pub discard_absent : (old new : Heap) (id : ℕ) → after_discard old id ≡ Ok new → new ≡ absent old id
-discard_absent old new id done = turn (object_at old id) refl
+discard_absent old new id done = turn _ refl
   where
     by_test : (locked discardable : Bool) → answer old id locked discardable ≡ Ok new → new ≡ absent old id
     by_test true discardable e = cc
@@ -87,4 +87,4 @@ discard_absent old new id done = turn (object_at old id) refl
 
     turn : (p : Option Object) → object_at old id ≡ p → new ≡ absent old id
     turn None there = let both : ◌≡◌ {A = Result Heap Refusal} (Err refusals.NotDiscardable) (Ok new) = sym (discard_is old id None there) ∙ done in cc
-    turn (Some o) there = by_test (nat_lt 0 o.locks) (is_discardable o.kind) (sym (discard_is old id (Some o) there) ∙ done)
+    turn (Some o) there = by_test _ _ (sym (discard_is old id _ there) ∙ done)

@@ -181,10 +181,10 @@ module _ (old new : Handles) (is : AreHandles old) (call : Call) (answer : Answe
       (ap (λ (h : Handles). h.slots) r.rest, ap (λ (h : Heap). h.lo) (heap_is old new is call answer r) ∙ same.0 ∙ k.low, ap (λ (h : Heap). h.hi) (heap_is old new is call answer r) ∙ same.1 ∙ k.high)
 
 pub contents_law : C.ContentsLaw
-contents_law old new call answer is m step = contents old new call answer (outcome old new call answer is step) m
+contents_law old new call answer is m step = contents old new call answer (outcome old new call _ is step) m
 
 pub slots_law : C.SlotsLaw
-slots_law old new call answer is step = slots old new is call answer (outcome old new call answer is step)
+slots_law old new call answer is step = slots old new is call answer (outcome old new call _ is step)
 
 -- The bytes moved to a heap, from which each object of old goes on to its next slot.
 module _ (old mid new : Heap) (is : C.IsHeap old) (next : ℕ → ℕ) (goes : (q : ℕ) → is_some (finmap.get old.places q) ≡ true → finmap.get new.places (next q) ≡ finmap.get mid.places q) where
@@ -338,9 +338,9 @@ module _ (old new : Handles) (is : AreHandles old) (call : Call) (answer : Answe
 
 pub moved_law : C.MovedLaw
 moved_law old new call answer is step =
-    let o : Outcome old call answer new = outcome old new call answer is step in
-    record { counted = λ c. by_slot o c (followed old new call answer is step); refused = refused old new is call answer o; other = other old new is call answer o }
+    let o : Outcome old call answer new = outcome old new call _ is step in
+    record { counted = λ c. by_slot o c (followed old new call _ is step); refused = refused old new is call _ o; other = other old new is call _ o }
   where
     by_slot : Outcome old call answer new → counts_moved call ≡ true → ((q : ℕ) → next_slot old call answer new q ≡ q) ⊎ Resized old call answer new → Sum old new is call answer
-    by_slot o c (inl stays) = counted old new is call answer stays o c
-    by_slot o c (inr r) = sized_again old new is call answer r
+    by_slot o c (inl stays) = counted old new is call _ stays o c
+    by_slot o c (inr r) = sized_again old new is call _ r

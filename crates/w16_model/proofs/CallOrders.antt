@@ -18,7 +18,7 @@ newest_rest : (id : ℕ) (l : List ℕ) → without id (newest id l) ≡ without
 newest_rest id l = rest_order id l false true true
 
 pub touched_rest : (id : ℕ) (l : List ℕ) → without id (touched id l) ≡ without id l
-touched_rest id l = turn (is_member id l)
+touched_rest id l = turn _
   where
     turn : (b : Bool) → without id (cond {A = List ℕ} b (newest id l) l) ≡ without id l
     turn true = newest_rest id l
@@ -28,14 +28,14 @@ oldest_rest : (id : ℕ) (l : List ℕ) → without id (C.oldest id l) ≡ witho
 oldest_rest id l = ap (λ b. cond {A = List ℕ} (not b) (id ∷ without id (without id l)) (without id (without id l))) (C.eq-eqb id id refl) ∙ twice_out id l
 
 placed_rest : (id : ℕ) (o : Object) (l : List ℕ) → without id (with_newest id o l) ≡ without id l
-placed_rest id o l = turn (is_in_order (Some o))
+placed_rest id o l = turn _
   where
     turn : (b : Bool) → without id (cond {A = List ℕ} b (newest id l) (without id l)) ≡ without id l
     turn true = newest_rest id l
     turn false = twice_out id l
 
 tail_rest : (id : ℕ) (b : Bool) (l : List ℕ) → without id (l ++ cond {A = List ℕ} b (id ∷ []) []) ≡ without id l
-tail_rest id true l = C.filter-append (λ q. not (q == id)) l (id ∷ []) ∙ (λ i. without id l ++ cond {A = List ℕ} (not (C.eq-eqb id id refl i)) (id ∷ []) []) ∙ no_more (without id l)
+tail_rest id true l = C.filter-append (λ q. not _) l _ ∙ (λ i. without id l ++ cond {A = List ℕ} (not (C.eq-eqb id id refl i)) (id ∷ []) []) ∙ no_more _
 tail_rest id false l = ap (without id) (no_more l)
 
 -- what loses its bytes
@@ -163,12 +163,12 @@ module _ (old new : Handles) (is : C.AreHandles old) (call : Call) (answer : Ans
     others (C.IsResized r) = others_resized r
 
 pub unordered_law : C.UnorderedLaw
-unordered_law old new call answer is m step = unordered old new is call answer (outcome old new call answer is step) m
+unordered_law old new call answer is m step = unordered old new is call answer (outcome old new call _ is step) m
 
 pub others_order_law : C.OthersOrderLaw
-others_order_law old new call answer is step = elim (followed old new call answer is step) [
-  | inl same_slot ↦ others old new is call answer same_slot (outcome old new call answer is step)
-  | inr r ↦ others_resized old new is call answer r
+others_order_law old new call answer is step = elim (followed old new call _ is step) [
+  | inl same_slot ↦ others old new is call _ same_slot (outcome old new call _ is step)
+  | inr r ↦ others_resized old new is call _ r
 ]
 
 -- A new object.
@@ -254,7 +254,7 @@ module _ (old new : Handles) (is : C.AreHandles old) (handle slot : ℕ) (o : Ob
 
 pub use_law : C.UseLaw
 use_law old new handle slot o answer is found there listed = (
-  (λ few step. use_lock old new is handle slot o found there listed few step.1),
-  (λ step. use_order old new is handle slot o found there listed newest step.1),
-  (λ step. use_order old new is handle slot o found there listed C.oldest step.1),
+  (λ few step. use_lock old new is _ slot o found there listed few step.1),
+  (λ step. use_order old new is _ slot o found there listed newest step.1),
+  (λ step. use_order old new is _ slot o found there listed C.oldest step.1),
 )

@@ -77,9 +77,9 @@ allocation_law old new id n kind locks options answered is step = turn (C.discar
 -- the most that sliding makes free is the room
 most_after : (old : Heap) → C.IsHeap old → (k answer : ℕ) → answer ≡ room_for (snapshot_of old) k None → C.IsMostAfter old k answer
 most_after old is k answer e =
-    let left : List Block = C.blocks_without (blocks old) (take k (C.eligible (blocks old) old.order None)) None in
-    subst (C.IsLongestStretch old.lo old.hi left) (sym e)
-    (room_is_longest old.lo old.hi left (placed_filter old.lo old.hi (λ x. not (C.is_member x.id (take k (C.eligible (blocks old) old.order None)) || C.is_about None x.id)) (blocks old) is.placed))
+    let left : List Block = C.blocks_without (blocks old) (take k _) None in
+    subst (C.IsLongestStretch _ _ left) (sym e)
+    (room_is_longest old.lo old.hi left (placed_filter _ _ (λ x. not (C.is_member x.id _ || C.is_about None x.id)) (blocks old) is.placed))
 
 pub compaction_law : C.CompactionLaw
 compaction_law old new n answer is step = turn (n == 0) step
@@ -106,7 +106,7 @@ compaction_law old new n answer is step = turn (n == 0) step
     }
 
 pub global_compact_law : C.GlobalCompactLaw
-global_compact_law old new size answer are step = compaction_law old.heap new.heap size answer are.heap step.compacted
+global_compact_law old new size answer are step = compaction_law _ _ size _ are.heap step.compacted
 
 -- a handle isn't 0
 pub some_handle : (kind : Kind) (slot : ℕ) → C.handle_of kind slot ≡ 0 → ⊥

@@ -77,8 +77,8 @@ pub sizes_fit : (lo hi : ℕ) (p : Block → Bool) (xs : List Block) → ArePlac
 sizes_fit lo hi p xs placed =
     let some : ArePlaced lo hi (filter p xs) = placed_filter lo hi p xs placed in
     let packed : 0 + C.sum_by (λ x. x.size) (filter p xs) ≤ hi = pack (λ x. x.size) (filter p xs) (λ x. x.at) 0 hi (omega arith)
-    (Each-map (λ x. (lo ≤ x.at) × (0 < x.size) × (block_end x ≤ hi)) (λ x. (0 ≤ x.at) × (x.at + x.size ≤ hi)) (λ x f. (omega arith, f.2)) (filter p xs) (Each-from_All _ (filter p xs) some.inside))
-    (EachPair-from_AllPairs (λ x y. C.Misses x.at x.size y.at (block_end y)) (filter p xs) some.apart) in
+    (Each-map (λ x. (lo ≤ x.at) × (0 < x.size) × (block_end x ≤ hi)) (λ x. (0 ≤ x.at) × (x.at + x.size ≤ hi)) (λ x f. (omega arith, f.2)) _ (Each-from_All _ _ some.inside))
+    (EachPair-from_AllPairs (λ x y. C.Misses x.at _ y.at _) _ some.apart) in
     omega (arith, packed)
 
 -- one block more beside those before it

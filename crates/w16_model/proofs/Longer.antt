@@ -19,10 +19,10 @@ none_above : (hi b : ℕ) (xs : List Block) → Each (λ x. x.at < hi) xs → lo
 none_above hi b [] h = refl
 none_above hi b (x ∷ xs) h =
     let out : (is_loose x && begins_in hi b x) ≡ false = C.and_right (is_loose x) (begins_in hi b x) (C.and_left (C.nat_le hi x.at) (C.nat_lt x.at b) (C.lt-leb hi x.at h.0)) in
-    sum_filter (λ y. is_loose y && begins_in hi b y) x xs ∙ ap (λ v. cond v x.size 0 + loose_bytes xs hi b) out ∙ C.zero-add (loose_bytes xs hi b) ∙ none_above hi b xs h.1
+    sum_filter (λ y. is_loose y && begins_in hi b y) x xs ∙ ap (λ v. cond v x.size 0 + loose_bytes xs hi b) out ∙ C.zero-add _ ∙ none_above hi b xs h.1
 
 from_longer : (hi end : ℕ) (xs : List Block) → hi ≤ end → Each (λ x. x.at < hi) xs → (a : ℕ) → room_from hi xs a ≤ room_from end xs a
-from_longer hi end xs h below a = by_end (first_from is_pinned hi xs a) (first_from is_pinned end xs a) (first_shorter hi end xs a h)
+from_longer hi end xs h below a = by_end _ _ (first_shorter hi end xs a h)
   where
     by_end : (e f : ℕ) → e ≡ min hi f → e - a - loose_bytes xs a e ≤ f - a - loose_bytes xs a f
     by_end e f is = elim (C.cases_lt hi f) [
@@ -40,4 +40,4 @@ from_longer hi end xs h below a = by_end (first_from is_pinned hi xs a) (first_f
 pub longer_law : C.LongerLaw
 longer_law lo hi end xs placed h =
     let below : Each (λ x. x.at < hi) xs = Each-from (λ x. x.at < hi) xs (λ x m. omega (arith, inside lo hi xs placed x m)) in
-    largest_le (room_from hi xs) (room_from end xs) (C.starts is_pinned lo xs) (from_longer hi end xs h below)
+    largest_le (room_from hi xs) (room_from end xs) (C.starts _ lo xs) (from_longer hi end xs h below)

@@ -61,8 +61,8 @@ unpinned false h k = false≢true h
 
 range_of : (a b : ℕ) (y : Block) → IsTrue (is_loose y && begins_in a b y) → (a ≤ y.at) × (y.at < b)
 range_of a b y t =
-    let r : IsTrue (nat_le a y.at && nat_lt y.at b) = (and_parts (is_loose y) (begins_in a b y) t).1 in
-    (C.leb-true a y.at (and_parts (nat_le a y.at) (nat_lt y.at b) r).0, C.ltb-true y.at b (and_parts (nat_le a y.at) (nat_lt y.at b) r).1)
+    let r : IsTrue (nat_le a y.at && nat_lt y.at b) = (and_parts _ _ t).1 in
+    (C.leb-true a y.at (and_parts _ _ r).0, C.ltb-true y.at b (and_parts _ _ r).1)
 
 module _ (lo hi : ℕ) (xs : List Block) (placed : ArePlaced lo hi xs) where
   -- every loose block slid down: its gap's begin, and the loose blocks of the gap below it

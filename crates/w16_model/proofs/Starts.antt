@@ -115,8 +115,8 @@ module _ (lo hi : ℕ) (xs : List Block) (placed : C.ArePlaced lo hi xs) where
   )
 
 pub gap_list_law : C.GapListLaw
-gap_list_law lo hi xs placed = (spans_are lo hi xs placed C.is_pinned, spans_are lo hi xs placed is_any)
+gap_list_law lo hi xs placed = (spans_are lo hi xs placed _, spans_are lo hi xs placed _)
 
 pub hole_after_law : C.HoleAfterLaw
 hole_after_law lo hi xs placed = M.All-from_Each (λ x. (n : ℕ) → 0 < n → IsHole lo hi xs (block_end x) (block_end x + n) ↔ (hole_after hi xs (block_end x) ≡ n)) xs
-    (M.Each-from (λ x. (n : ℕ) → 0 < n → IsHole lo hi xs (block_end x) (block_end x + n) ↔ (hole_after hi xs (block_end x) ≡ n)) xs (hole_after_is lo hi xs placed))
+    (M.Each-from (λ x. (n : ℕ) → 0 < n → IsHole lo hi xs _ _ ↔ (hole_after hi xs _ ≡ n)) xs (hole_after_is lo hi xs placed))
