@@ -62,7 +62,7 @@ answer old id locked discardable = cond {A = Result Heap Refusal} locked (Err re
 -- it is this one
 pub discard_is : (old : Heap) (id : ℕ) (p : Option Object) → object_at old id ≡ p
     → after_discard old id ≡ elim p [ None ↦ Err refusals.NotDiscardable | Some o ↦ answer old id (nat_lt 0 o.locks) (is_discardable o.kind) ]
-discard_is old id p there = ap (λ (p : Option Object). elim p [ None ↦ Err refusals.NotDiscardable | Some o ↦ answer old id (nat_lt 0 o.locks) (is_discardable o.kind) ]) there
+discard_is old id p there = ap (λ p. elim p [ None ↦ Err refusals.NotDiscardable | Some o ↦ answer old id (nat_lt 0 o.locks) (is_discardable o.kind) ]) there
 
 pub discard_heap_law : DiscardHeapLaw
 discard_heap_law old id is = turn (object_at old id) refl
@@ -70,11 +70,11 @@ discard_heap_law old id is = turn (object_at old id) refl
     by_test : (o : Object) → object_at old id ≡ Some o → (locked discardable : Bool) → nat_lt 0 o.locks ≡ locked → IfOk (answer old id locked discardable) IsHeap
     by_test o there true discardable t = tt
     by_test o there false false t = tt
-    by_test o there false true t = absent_heap old is id o there (let le : o.locks ≤ 0 = ltb-false 0 o.locks t in omega arith)
+    by_test o there false true t = absent_heap old is id o there (let le = ltb-false 0 o.locks t in omega arith)
 
     turn : (p : Option Object) → object_at old id ≡ p → IfOk (after_discard old id) IsHeap
-    turn None there = subst (λ (r : Result Heap Refusal). IfOk r IsHeap) (sym (discard_is old id None there)) tt
-    turn (Some o) there = subst (λ (r : Result Heap Refusal). IfOk r IsHeap) (sym (discard_is old id (Some o) there)) (by_test o there (nat_lt 0 o.locks) (is_discardable o.kind) refl)
+    turn None there = subst (λ r. IfOk r IsHeap) (sym (discard_is old id None there)) tt
+    turn (Some o) there = subst (λ r. IfOk r IsHeap) (sym (discard_is old id (Some o) there)) (by_test o there (nat_lt 0 o.locks) (is_discardable o.kind) refl)
 
 -- where it is answered the object is absent
 pub discard_absent : (old new : Heap) (id : ℕ) → after_discard old id ≡ Ok new → new ≡ absent old id

@@ -42,7 +42,7 @@ both_reached handles selector offset n = turn _
     of_bytes : (p : Part) (o : Object) → object_at handles.heap p.slot ≡ Some o → (b : Option (List ℕ)) → o.bytes ≡ b → IsNone (bytes_fault p (offset + n) b) → Both handles offset n p
     of_bytes p o there None has e = cc
     of_bytes p o there (Some bytes) has e =
-        let fits : (REACH * p.number + offset + n ≤ length bytes) × (offset + n ≤ REACH) = inside p bytes _ _ refl refl e in
+        let fits = inside p bytes _ _ refl refl e in
         (record { object = o; bytes = bytes; there = there; has = has; here = ap bytes_in there ∙ has; fits = fits.0 }, fits.1)
 
     of_object : (p : Part) (q : Option Object) → object_at handles.heap p.slot ≡ q → IsNone (bytes_fault p (offset + n) (bytes_in q)) → Both handles offset n p
@@ -63,7 +63,7 @@ near handles selector offset n free = (both_reached handles _ _ n free).1
 pub reached_fault : (handles : Handles) (selector offset n : ℕ) (p : Part) (bytes : List ℕ) → C.part_of_selector handles selector ≡ Some p → bytes_at handles.heap p.slot ≡ Some bytes → offset + n ≤ REACH → REACH * p.number + (offset + n) ≤ length bytes
     → far_fault handles selector offset n ≡ None
 reached_fault handles selector offset n p bytes found has near fits =
-    ap (λ (s : Option Part). elim s as (λ _. Option _) [ None ↦ Some C.BadSelector | Some p ↦ bytes_fault p (offset + n) (bytes_at handles.heap p.slot) ]) found
+    ap (λ s. elim s as (λ _. Option _) [ None ↦ Some C.BadSelector | Some p ↦ bytes_fault p (offset + n) (bytes_at handles.heap p.slot) ]) found
     ∙ ap (bytes_fault p _) has
     ∙ ap (λ b. cond {A = Option _} b (Some Limit) None) (ap (λ b. b || nat_lt (length bytes) (REACH * p.number + (offset + n))) (short REACH _ near) ∙ short _ _ fits)
   where

@@ -338,7 +338,7 @@ module _ (old new : Handles) (is : AreHandles old) (call : Call) (answer : Answe
 
 pub moved_law : C.MovedLaw
 moved_law old new call answer is step =
-    let o : Outcome old call answer new = outcome old new call _ is step in
+    let o = outcome old new call _ is step in
     record { counted = λ c. by_slot o c (followed old new call _ is step); refused = refused old new is call _ o; other = other old new is call _ o }
   where
     by_slot : Outcome old call answer new → counts_moved call ≡ true → ((q : ℕ) → next_slot old call answer new q ≡ q) ⊎ Resized old call answer new → Sum old new is call answer

@@ -181,15 +181,15 @@ new_object_law old new flags size handle is a listed = made (C.is_absent_asked f
 
     made : (b : Bool) → C.MatchBool b (C.Enters old.heap a.slot (kind_asked flags) new.heap) (C.Allocates old.heap a.slot (rounded_size size) (kind_asked flags) 0 (alloc_options flags) true new.heap)
         → (left : List ℕ) × OnlyLeave new.heap old.heap.order left × C.IsNewestOf a.slot left new.heap.order
-    made true e = absurd (never (is_discardable (kind_asked flags)) (ap is_in_order (sym (ap (λ (h : Heap). object_at h a.slot) e.entered ∙ inserted_here old.heap.objects a.slot (record { kind = kind_asked flags; locks = 0; bytes = None }) a.slot refl)) ∙ listed))
+    made true e = absurd (never (is_discardable (kind_asked flags)) (ap is_in_order (sym (ap (λ h. object_at h a.slot) e.entered ∙ inserted_here old.heap.objects a.slot (record { kind = kind_asked flags; locks = 0; bytes = None }) a.slot refl)) ∙ listed))
     made false m =
         let s : (k : ℕ) × (o : Object) × Settles old.heap (C.stays_for a.slot (alloc_options flags)) (with_ordered (discarded old.heap k (Some a.slot)) a.slot o (with_newest a.slot o)) new.heap =
         settled old.heap a.slot (alloc_options flags) (C.discards_needed old.heap (rounded_size size) (Some a.slot) (alloc_options flags)) (IsNew (alloc_options flags).zero (rounded_size size) (kind_asked flags) 0) (with_newest a.slot) new.heap m.request in
-        let ids : List ℕ = take s.0 (eligible (blocks old.heap) old.heap.order (Some a.slot)) in
-        let here : object_at new.heap a.slot ≡ Some s.1 = ap (λ (h : Heap). object_at h a.slot) s.2.same ∙ inserted_here (discarded old.heap s.0 (Some a.slot)).objects a.slot s.1 a.slot refl in (
+        let ids = take s.0 (eligible (blocks old.heap) old.heap.order (Some a.slot)) in
+        let here = ap (λ h. object_at h a.slot) s.2.same ∙ inserted_here (discarded old.heap s.0 (Some a.slot)).objects a.slot s.1 a.slot refl in (
           without_all ids old.heap.order,
           record { gone = ids; without_bytes = gone_bytes old.heap new.heap (Some a.slot) s.0 ((others_law old.heap new.heap is.heap s.0).0 a.slot (alloc_options flags) s.1 (with_newest a.slot s.1) s.2); order_is = refl },
-          ap (λ (h : Heap). h.order) s.2.same ∙ ap (λ b. cond {A = List ℕ} b (newest a.slot (discarded old.heap s.0 (Some a.slot)).order) (without a.slot (discarded old.heap s.0 (Some a.slot)).order)) (sym (ap is_in_order here) ∙ listed)
+          ap (λ h. h.order) s.2.same ∙ ap (λ b. cond {A = List ℕ} b (newest a.slot (discarded old.heap s.0 (Some a.slot)).order) (without a.slot (discarded old.heap s.0 (Some a.slot)).order)) (sym (ap is_in_order here) ∙ listed)
               ∙ ap (newest a.slot) (absents_order ids old.heap),
         )
 

@@ -19,8 +19,8 @@ none_elsewhere at None e = refl
 none_elsewhere at (Some now) e = ap not (C.eq-eqb now at (sym e))
 
 pub none_moved : (heap new : Heap) → new.places ≡ heap.places → moved_bytes heap new ≡ 0
-none_moved heap new same = ap (λ (xs : List Block). C.sum_by (λ (x : Block). x.size) xs) (filter_none (λ (x : Block). is_elsewhere x.at _) _
-    (λ x m. ap (λ places. is_elsewhere x.at (finmap.get places x.id)) same ∙ none_elsewhere x.at (finmap.get _ x.id) (let b : IsBlockOf heap x = member_block heap x m in b.place)))
+none_moved heap new same = ap (λ xs. C.sum_by (λ x. x.size) xs) (filter_none (λ x. is_elsewhere x.at _) _
+    (λ x m. ap (λ places. is_elsewhere x.at (finmap.get places x.id)) same ∙ none_elsewhere x.at (finmap.get _ x.id) (let b = member_block heap x m in b.place)))
 
 -- a choice of two results is good where each is that may be chosen
 if_ok : (P : Heap → Type 0) (b : Bool) (r s : Result Heap Refusal) → (b ≡ true → IfOk r P) → (b ≡ false → IfOk s P) → IfOk (cond b r s) P
@@ -32,7 +32,7 @@ not_false true e = refl
 not_false false e = absurd (false≢true (sym e))
 
 none_locked : (n : ℕ) → nat_lt 0 n ≡ false → n ≡ 0
-none_locked n f = let le : n ≤ 0 = C.ltb-false 0 n f in omega arith
+none_locked n f = let le = C.ltb-false 0 n f in omega arith
 
 -- another fact of each heap that a step may leave
 pub ok_map : (P Q : Heap → Type 0) (r : Result Heap Refusal) → ((heap : Heap) → P heap → Q heap) → IfOk r P → IfOk r Q
@@ -60,7 +60,7 @@ lock_is heap id = turn _ refl
     ]) (LockOf heap id)
     turn None e = tt
     turn (Some o) e =
-        let locked : Result Heap Refusal = Ok (with_ordered heap id (record o { locks = o.locks + 1 }) (touched id)) in
+        let locked = Ok (with_ordered heap id (record o { locks = o.locks + 1 }) (touched id)) in
         if_ok _ _ _ _ (λ _. tt) (λ has.
         if_ok _ _ _ _ (λ _. tt) (λ loose.
         if_ok (LockOf heap id) (o.locks == 255) (Err _) locked (λ _. tt) (λ some. (o, e, not_false (is_some _) has, loose, some, refl))))

@@ -15,7 +15,7 @@ empty_heap_is hi grain = record {
   are_bytes = λ id. subst (λ (o : Option Object). IfSome (elim o [ Some o ↦ o.bytes | None ↦ None ]) (All (λ b. b < 256))) (sym (get-empty _ id)) tt;
   in_order = λ id. ap is_in_order (sym (get-empty _ id));
   no_repeats = λ i j d l m. absurd (omega arith);
-  counted = λ id. subst (λ (o : Option Object). IfSome o IsCounted) (sym (get-empty _ id)) tt;
+  counted = λ id. subst (λ o. IfSome o IsCounted) (sym (get-empty _ id)) tt;
 }
 
 pub empty_law : EmptyLaw
@@ -25,9 +25,9 @@ empty_law memory slots few = record {
   grain = refl;
   few = few;
   runs = record {
-    each = λ q. subst (λ (a : Option Attributes). IfSome a (IsRun slots q)) (sym (get-empty _ q)) tt;
+    each = λ q. subst (λ a. IfSome a (IsRun slots q)) (sym (get-empty _ q)) tt;
     apart = λ q other less some. absurd (false≢true (sym (ap is_some (get-empty {X = Attributes} _ other)) ∙ some));
   };
-  attributed = λ q. ap is_some (get-empty _ q) ∙ ap (λ (o : Option Object). is_some o) (sym (get-empty _ q));
+  attributed = λ q. ap is_some (get-empty _ q) ∙ ap (λ o. is_some o) (sym (get-empty _ q));
   sized = λ q. subst (λ (o : Option Object). IsSized (slots_at finmap.empty q) (elim o [ Some o ↦ o.bytes | None ↦ None ])) (sym (get-empty _ q)) tt;
 }

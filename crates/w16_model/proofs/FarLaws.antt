@@ -117,15 +117,15 @@ WrittenTo old mid pointer slice = Reaches old (selector_in pointer) (offset_in p
 
 pub read_back_law : C.ReadBackLaw
 read_back_law old mid new pointer slice answer is written step =
-    let r : WrittenTo old mid pointer slice = far_effect_law old mid (Write _ slice) Done is written in step.0 ∙ by_object r (object_at old.heap _) r.object
+    let r = far_effect_law old mid (Write _ slice) Done is written in step.0 ∙ by_object r (object_at old.heap _) r.object
   where
     by_bytes : (r : WrittenTo old mid pointer slice) (o : Object) (b : Option (List ℕ)) → IsSomeAnd b (λ bytes. (after : List ℕ) × IsWritten bytes (REACH * r.number + offset_in pointer) slice after × (object_at mid.heap r.slot ≡ Some (record o { bytes = Some after })))
         → (far_read mid (selector_in pointer) (offset_in pointer) (length slice)).0 ≡ Bytes slice
     by_bytes r o None h = absurd h
     by_bytes r o (Some bytes) h =
-        let w : IsWritten bytes (REACH * r.number + offset_in pointer) slice h.0 = h.1 in
+        let w = h.1 in
         reads mid _ _ slice (record { slot = r.slot; number = r.number }) (record o { bytes = Some h.0 }) h.0
-        (ap (λ (h : Handles). part_of_selector h (selector_in pointer)) r.rest ∙ r.found) h.2 refl r.near (omega (arith, w.fits, w.long)) ∙ ap Bytes w.written
+        (ap (λ h. part_of_selector h (selector_in pointer)) r.rest ∙ r.found) h.2 refl r.near (omega (arith, w.fits, w.long)) ∙ ap Bytes w.written
 
     by_object : (r : WrittenTo old mid pointer slice) (p : Option Object) → IsSomeAnd p (λ o. IsSomeAnd o.bytes (λ bytes. (after : List ℕ) × IsWritten bytes (REACH * r.number + offset_in pointer) slice after × (object_at mid.heap r.slot ≡ Some (record o { bytes = Some after }))))
         → (far_read mid (selector_in pointer) (offset_in pointer) (length slice)).0 ≡ Bytes slice

@@ -44,7 +44,7 @@ pub pack : {X : Type 0} (size : X → ℕ) (xs : List X) (pos : X → ℕ) (a b 
 pack size [] pos a b h inside apart = omega arith
 pack {X} size (x ∷ xs) pos a b h inside apart =
     let moved : X → ℕ = λ y. shift (pos x) (size x) (pos y) in
-    let rest : a + sum_by size xs ≤ b - size x = pack size xs moved a _ (omega (arith, inside.0))
+    let rest = pack size xs moved a _ (omega (arith, inside.0))
     (Each-both _ _ _ (λ y inside_y apart_y. shift_in (pos x) _ a b (pos y) (size y) inside.0.0 inside.0.1 inside_y.0 inside_y.1 apart_y) xs inside.1 apart.0)
     (pairs_moved X size xs pos _ _ apart.0 apart.1) in
     omega (arith, C.sum_by-cons size x xs, rest, inside.0)
@@ -58,7 +58,7 @@ pub pack_around : {X : Type 0} (size : X → ℕ) (xs : List X) (pos : X → ℕ
 pack_around {X} size xs pos a b p q h1 h2 h3 inside apart free =
     let moved : X → ℕ = λ y. shift p _ _ in
     let away : Each (λ y. Misses p (q - p) (pos y) (pos y + size y)) xs = Each-map _ _ (λ y f. turned p q _ _ h2 f) xs free in
-    let rest : a + sum_by size xs ≤ b - (q - p) = pack size xs moved a _ (omega arith)
+    let rest = pack size xs moved a _ (omega arith)
     (Each-both _ _ _ (λ y i f. shift_in p (q - p) a b (pos y) (size y) h1 (omega arith) i.0 i.1 f) xs inside away)
     (pairs_moved X size xs pos p _ away apart) in
     omega (arith, rest)
@@ -73,7 +73,7 @@ below_turn true false v w m h = ((λ _ e. absurd (false≢true e)), h)
 below_turn false u v w m h = ((λ e _. absurd (false≢true e)), h)
 
 greatest_turn : (t u : Bool) (v w m : ℕ) → (IsTrue t → IsTrue u → m ≤ v) → m ≤ w → m ≤ cond (t && u) (min v w) w
-greatest_turn true true v w m f h = let first : m ≤ v = f refl refl in omega arith
+greatest_turn true true v w m f h = let first = f refl refl in omega arith
 greatest_turn true false v w m f h = h
 greatest_turn false u v w m f h = h
 
@@ -83,7 +83,7 @@ above_turn true false v w m h = ((λ _ e. absurd (false≢true e)), h)
 above_turn false u v w m h = ((λ e _. absurd (false≢true e)), h)
 
 least_turn : (t u : Bool) (v w m : ℕ) → (IsTrue t → IsTrue u → v ≤ m) → w ≤ m → cond (t && u) (max v w) w ≤ m
-least_turn true true v w m f h = let first : v ≤ m = f refl refl in omega arith
+least_turn true true v w m f h = let first = f refl refl in omega arith
 least_turn true false v w m f h = h
 least_turn false u v w m f h = h
 
@@ -136,7 +136,7 @@ module _ (test : Block → Bool) where
 pub largest_reached : (f : ℕ → ℕ) (P : ℕ → Type 0) (ns : List ℕ) → Each P ns → 0 < largest (map f ns) → (n : ℕ) × P n × (f n ≡ largest (map f ns))
 largest_reached f P [] each h = absurd (omega arith)
 largest_reached f P (n ∷ ns) each h = elim (C.cases_lt (f n) (largest (map f ns))) [
-  | inl l ↦ let rest : (m : ℕ) × P m × (f m ≡ largest (map f ns)) = largest_reached f P ns each.1 (omega arith) in (rest.0, rest.1, omega (arith, rest.2))
+  | inl l ↦ let rest = largest_reached f P ns each.1 (omega arith) in (rest.0, rest.1, omega (arith, rest.2))
   | inr l ↦ (n, each.0, omega arith)
 ]
 
@@ -222,8 +222,8 @@ pub member_filter : {X : Type 0} (p : X → Bool) (xs : List X) (x : X) → Memb
 member_filter p [] x m = absurd m
 member_filter {X} p (y ∷ ys) x m =
     elim (p y) as (λ b. p y ≡ b → Member x (cond {A = List X} b (y ∷ filter p ys) (filter p ys)) → Member x (y ∷ ys) × IsTrue (p x)) [
-      | true ↦ λ t n. elim n [ inl e ↦ (inl e, ap p e ∙ t) | inr k ↦ let r : Member x ys × IsTrue (p x) = member_filter p ys x k in (inr r.0, r.1) ]
-      | false ↦ λ t n. let r : Member x ys × IsTrue (p x) = member_filter p ys x n in (inr r.0, r.1)
+      | true ↦ λ t n. elim n [ inl e ↦ (inl e, ap p e ∙ t) | inr k ↦ let r = member_filter p ys x k in (inr r.0, r.1) ]
+      | false ↦ λ t n. let r = member_filter p ys x n in (inr r.0, r.1)
     ] refl m
 
 pub filter_member : {X : Type 0} (p : X → Bool) (xs : List X) (x : X) → Member x xs → IsTrue (p x) → Member x (filter p xs)

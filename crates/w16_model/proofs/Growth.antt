@@ -230,5 +230,5 @@ one_outcome_law old new id n options step = turn _ refl step.object
     turn : (p : Option Object) → object_at old id ≡ p → IsSomeAnd p (λ o. ReallocatesObject old id o n options false new) → (new ≡ old) × ((other : Heap) → C.Reallocates old id n options true other → ⊥)
     turn None there r = absurd r
     turn (Some o) there r =
-        let one : (new ≡ old) × ((other : Heap) → ReallocatesObject old id o n options true other → ⊥) = one_outcome old id n o _ new r in
+        let one = one_outcome old id n o _ new r in
         (one.0, λ other h. one.1 other (subst (λ p. IsSomeAnd p (λ o. ReallocatesObject old id o n options true other)) there h.object))

@@ -98,23 +98,23 @@ pub block_member : (heap : Heap) (x : Block) → IsBlockOf heap x → Member x (
 block_member heap x is =
     mapped_member (block_of _) (finmap.entries _) x (x.id, is.object)
     (found_member _ x.id _ (sym (C.get-entries _ x.id) ∙ is.is_there))
-    (ap (option_map (λ (bytes : List ℕ). record { id = x.id; at = unwrap_or (finmap.get _ x.id) 0; size = length bytes; hold = hold_of_object is.object })) is.has_bytes
+    (ap (option_map (λ bytes. record { id = x.id; at = unwrap_or (finmap.get _ x.id) 0; size = length bytes; hold = hold_of_object is.object })) is.has_bytes
     ∙ ap Some (λ i. record { id = x.id; at = sym is.place i; size = sym is.size i; hold = sym is.hold i }))
 
 pub member_block : (heap : Heap) (x : Block) → Member x (blocks heap) → IsBlockOf heap x
 member_block heap x m =
-    let at : (e : ℕ × Object) × Member e (finmap.entries heap.objects) × (block_of heap.places e ≡ Some x) = member_mapped (block_of _) (finmap.entries _) x m in
+    let at = member_mapped (block_of _) (finmap.entries _) x m in
     from at.0.0 at.0.1 at.1 at.0.1.bytes refl at.2
   where
-    block_is : (id : ℕ) (o : Object) → option_map (λ (bytes : List ℕ). record { id = id; at = unwrap_or (finmap.get heap.places id) 0; size = length bytes; hold = hold_of_object o }) o.bytes ≡ Some x
-        → option_map (λ (bytes : List ℕ). block_from heap.places id o bytes) o.bytes ≡ Some x
+    block_is : (id : ℕ) (o : Object) → option_map (λ bytes. record { id = id; at = unwrap_or (finmap.get heap.places id) 0; size = length bytes; hold = hold_of_object o }) o.bytes ≡ Some x
+        → option_map (λ bytes. block_from heap.places id o bytes) o.bytes ≡ Some x
     block_is id o h = h
 
     from : (id : ℕ) (o : Object) → Member (id, o) (finmap.entries heap.objects) → (b : Option (List ℕ)) → o.bytes ≡ b
-        → option_map (λ (bytes : List ℕ). record { id = id; at = unwrap_or (finmap.get heap.places id) 0; size = length bytes; hold = hold_of_object o }) o.bytes ≡ Some x → IsBlockOf heap x
+        → option_map (λ bytes. record { id = id; at = unwrap_or (finmap.get heap.places id) 0; size = length bytes; hold = hold_of_object o }) o.bytes ≡ Some x → IsBlockOf heap x
     from id o n None e h = let none : ◌≡◌ {A = Option Block} None (Some x) = ap (option_map (λ (bytes : List ℕ). block_from heap.places id o bytes)) (sym e) ∙ block_is id o h in cc
     from id o n (Some bytes) e h =
-        let y : Block = block_from heap.places id o bytes in
+        let y = block_from heap.places id o bytes in
         let some : ◌≡◌ {A = Option Block} (Some y) (Some x) = ap (option_map (λ (bytes : List ℕ). block_from heap.places id o bytes)) (sym e) ∙ block_is id o h in
         let same : y ≡ x = cc in
         subst (IsBlockOf heap) same (record {
@@ -131,7 +131,7 @@ member_block heap x m =
 block_of_id : (places : FinMap nat_cmp ℕ) (e : ℕ × Object) (x : Block) → block_of places e ≡ Some x → x.id ≡ e.0
 block_of_id places e x h = turn _ h
   where
-    turn : (b : Option (List ℕ)) → option_map (λ (bytes : List ℕ). block_from places e.0 e.1 bytes) b ≡ Some x → x.id ≡ e.0
+    turn : (b : Option (List ℕ)) → option_map (λ bytes. block_from places e.0 e.1 bytes) b ≡ Some x → x.id ≡ e.0
     turn None k = cc
     turn (Some bytes) k = let same : block_from places e.0 e.1 bytes ≡ x = cc in ap (λ (y : Block). y.id) (sym same)
 
@@ -140,15 +140,15 @@ blocks_rise places [] h = tt
 blocks_rise places (e ∷ es) h =
     let rest : EachPair (λ x y. x.id < y.id) (filter_map (block_of places) es) = blocks_rise places es h.1 in
     let above : (y : Block) → Member y (filter_map (block_of places) es) → e.0 < y.id = λ y m.
-    let from : (d : ℕ × Object) × Member d es × (block_of places d ≡ Some y) = member_mapped (block_of places) es y m in
-    omega (arith, Each-at (λ (d : ℕ × Object). e.0 < d.0) es h.0 from.0 from.1, block_of_id places from.0 y from.2) in
-    elim (block_of places e) as (λ o. block_of places e ≡ o → EachPair (λ (x y : Block). x.id < y.id) (cons_option o (filter_map (block_of places) es))) [
+    let from = member_mapped (block_of places) es y m in
+    omega (arith, Each-at (λ d. e.0 < d.0) es h.0 from.0 from.1, block_of_id places from.0 y from.2) in
+    elim (block_of places e) as (λ o. block_of places e ≡ o → EachPair (λ x y. x.id < y.id) (cons_option o (filter_map (block_of places) es))) [
       | None ↦ λ _. rest
       | Some x ↦ λ is. (Each-from (λ y. x.id < y.id) (filter_map (block_of places) es) (λ y m. omega (arith, block_of_id places e x is, above y m)), rest)
     ] refl
 
 pub blocks_differ : (heap : Heap) → AllDiffer (blocks heap)
-blocks_differ heap = EachPair-map (λ x y. x.id < y.id) (λ x y. x ≢ y) (λ x y l e. let same : x.id ≡ y.id = ap (λ (z : Block). z.id) e in omega (arith, l, same)) _
+blocks_differ heap = EachPair-map (λ x y. x.id < y.id) (λ x y. x ≢ y) (λ x y l e. let same = ap (λ z. z.id) e in omega (arith, l, same)) _
     (blocks_rise heap.places (finmap.entries _) (keys_rise _ (C.entries_sorted _)))
 
 -- Any list of blocks that says what the heap says is the heap's, in another order.

@@ -61,8 +61,8 @@ no_bytes (Some o) = refl
 
 pub absent_sized : (heap : Heap) (id q n : ℕ) → IsSized n (bytes_at heap q) → IsSized n (bytes_at (absent heap id) q)
 absent_sized heap id q n h = elim (cases_eq q id) [
-  | inl e ↦ subst (IsSized n) (sym (ap (bytes_at (absent heap id)) e ∙ ap bytes_in (get-update_same heap.objects id (λ (o : Object). record o { bytes = None })) ∙ no_bytes (object_at heap id))) tt
-  | inr d ↦ subst (IsSized n) (sym (ap bytes_in (get-update_other heap.objects id (λ (o : Object). record o { bytes = None }) q d))) h
+  | inl e ↦ subst (IsSized n) (sym (ap (bytes_at (absent heap id)) e ∙ ap bytes_in (get-update_same heap.objects id (λ o. record o { bytes = None })) ∙ no_bytes (object_at heap id))) tt
+  | inr d ↦ subst (IsSized n) (sym (ap bytes_in (get-update_other heap.objects id (λ o. record o { bytes = None }) q d))) h
 ]
 
 absents_sized : (ids : List ℕ) (heap : Heap) (q n : ℕ) → IsSized n (bytes_at heap q) → IsSized n (bytes_at (fold absent heap ids) q)

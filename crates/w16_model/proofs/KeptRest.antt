@@ -13,7 +13,7 @@ use Rattle.w16_model.specs.Reallocation.{IsResized}
 -- all stay where none goes
 pub all_stay : (order : List ℕ) → filter (λ q. true) order ≡ order
 all_stay [] = refl
-all_stay (q ∷ order) = ap (λ (l : List ℕ). q ∷ l) (all_stay order)
+all_stay (q ∷ order) = ap (λ l. q ∷ l) (all_stay order)
 
 -- equality either way round
 turned : (q id : ℕ) → (q == id) ≡ (id == q)
@@ -46,7 +46,7 @@ absents_rest (id ∷ ids) heap = absents_rest ids _
 
 pub no_more : (l : List ℕ) → l ++ [] ≡ l
 no_more [] = refl
-no_more (q ∷ l) = ap (λ (m : List ℕ). q ∷ m) (no_more l)
+no_more (q ∷ l) = ap (λ m. q ∷ m) (no_more l)
 
 -- The bytes.
 

@@ -32,7 +32,7 @@ laid_placed lo hi xs h = record { inside = All-from_Each _ xs (laid_each lo hi x
 pub first_after : (lo hi : ℕ) (xs : List Block) (a m : ℕ) → IsLaid lo hi xs → m ≤ lo → m ≤ first_from is_any hi xs a
 first_after lo hi [] a m h k = omega arith
 first_after lo hi (x ∷ xs) a m h k =
-    let rest : m ≤ first_from is_any hi xs a = first_after (block_end x) hi xs a m h.2 (omega (arith, h)) in
+    let rest = first_after (block_end x) hi xs a m h.2 (omega (arith, h)) in
     elim (nat_le a x.at) as (λ b. m ≤ cond b (min x.at (first_from is_any hi xs a)) (first_from is_any hi xs a)) [ true ↦ omega (arith, h.0, rest, k) | false ↦ rest ]
 
 ends_after : (lo hi : ℕ) (xs : List Block) → IsLaid lo hi xs → Each (λ s. lo ≤ s) (map block_end (filter is_any xs))
@@ -80,14 +80,14 @@ holes_from lo hi [] laid = one_span (λ s. lo ≤ s.from) _ (record { from = lo;
 holes_from lo hi (x ∷ xs) laid =
     subst (Each (λ s. lo ≤ s.from)) (sym (holes-cons lo hi x xs laid))
     (one_span (λ s. lo ≤ s.from) (nat_lt lo x.at) (record { from = lo; to = x.at }) (holes _ hi xs) (omega arith)
-    (Each-map (λ (s : Span). block_end x ≤ s.from) (λ (s : Span). lo ≤ s.from) (λ s l. omega (arith, l, laid)) (holes (block_end x) hi xs) (holes_from (block_end x) hi xs laid.2)))
+    (Each-map (λ s. block_end x ≤ s.from) (λ s. lo ≤ s.from) (λ s l. omega (arith, l, laid)) (holes (block_end x) hi xs) (holes_from (block_end x) hi xs laid.2)))
 
 holes_rise : (lo hi : ℕ) (xs : List Block) → IsLaid lo hi xs → EachPair (λ s t. s.to < t.from) (holes lo hi xs)
 holes_rise lo hi [] laid = two_spans (λ s t. s.to < t.from) _ (record { from = lo; to = hi }) [] tt tt
 holes_rise lo hi (x ∷ xs) laid =
     subst (EachPair (λ s t. s.to < t.from)) (sym (holes-cons lo hi x xs laid))
     (two_spans (λ s t. s.to < t.from) (nat_lt lo x.at) (record { from = lo; to = x.at }) (holes _ hi xs)
-    (Each-map (λ (s : Span). block_end x ≤ s.from) (λ (s : Span). x.at < s.from) (λ s l. omega (arith, l, laid)) (holes _ hi xs) (holes_from _ hi xs laid.2))
+    (Each-map (λ s. block_end x ≤ s.from) (λ s. x.at < s.from) (λ s l. omega (arith, l, laid)) (holes _ hi xs) (holes_from _ hi xs laid.2))
     (holes_rise (block_end x) hi xs laid.2))
 
 pub rising_law : RisingLaw

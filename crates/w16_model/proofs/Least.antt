@@ -20,7 +20,7 @@ find_first p (suc m) a k h =
     elim (p a) as (λ b. p a ≡ b → cond b (Some a) (find p (range_with_len (a + 1) m)) ≡ Some k → (a ≤ k) × (p k ≡ true) × ((j : ℕ) → a ≤ j → j < k → p j ≡ false)) [
       | true ↦ λ t e. let same : a ≡ k = cc in (omega (arith, same), subst (λ v. p v ≡ true) same t, λ j l1 l2. absurd (omega (arith, same)))
       | false ↦ λ t e.
-          let rest : (a + 1 ≤ k) × (p k ≡ true) × ((j : ℕ) → a + 1 ≤ j → j < k → p j ≡ false) = find_first p m _ k e in
+          let rest = find_first p m _ k e in
           (omega (arith, rest.0), rest.1, λ j l1 l2. elim (cases_lt a j) [ inl l ↦ rest.2 j (omega arith) l2 | inr l ↦ let same : a ≡ j = omega arith in subst (λ v. p v ≡ false) same t ])
     ] refl h
 

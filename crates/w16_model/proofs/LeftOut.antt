@@ -120,7 +120,7 @@ module _ (lo hi : ℕ) (xs : List Block) (ids : List ℕ) (h : C.Option ℕ) (lo
 
 pub left_out_law : C.LeftOutLaw
 left_out_law lo hi xs order k h placed =
-    let ids : List ℕ = take k _ in
+    let ids = take k _ in
     longest_without lo hi xs ids h
     (λ x m t. elim (C.cases_Bool _) [ inl p ↦ absurd (eligible_loose xs order h x m (from_take k _ x.id (is_member-true x.id ids t)) p) | inr p ↦ p ])
     _

@@ -77,10 +77,10 @@ each_permutation P xs ys perm h = M.Each-from_All P ys (C.All-permutation P xs y
 
 bytes_by : (p : Block → Bool) (xs : List Block) → sum_by (λ x. x.size) (filter p xs) ≡ sum_by (λ x. cond (p x) x.size 0) xs
 bytes_by p [] = refl
-bytes_by p (x ∷ xs) = omega (arith, sum_filter p x xs, bytes_by p xs, C.sum_by-cons (λ (y : Block). cond (p y) y.size 0) x xs)
+bytes_by p (x ∷ xs) = omega (arith, sum_filter p x xs, bytes_by p xs, C.sum_by-cons (λ y. cond (p y) y.size 0) x xs)
 
 bytes_permutation : (p : Block → Bool) (xs ys : List Block) → IsPermutation xs ys → sum_by (λ x. x.size) (filter p xs) ≡ sum_by (λ x. x.size) (filter p ys)
-bytes_permutation p xs ys perm = bytes_by p xs ∙ sym (C.sum_by-IsPermutation (λ (x : Block). cond (p x) _ 0) xs ys perm) ∙ sym (bytes_by p ys)
+bytes_permutation p xs ys perm = bytes_by p xs ∙ sym (C.sum_by-IsPermutation (λ x. cond (p x) _ 0) xs ys perm) ∙ sym (bytes_by p ys)
 
 module _ (hi : ℕ) (xs ys : List Block) (perm : IsPermutation xs ys) where
   first_le : (a : ℕ) → first_from is_pinned hi xs a ≤ first_from is_pinned hi ys a
@@ -90,7 +90,7 @@ module _ (hi : ℕ) (xs ys : List Block) (perm : IsPermutation xs ys) where
 
 largest_at_most : (f : ℕ → ℕ) (ns : List ℕ) (m : ℕ) → Each (λ n. f n ≤ m) ns → largest (map f ns) ≤ m
 largest_at_most f [] m h = omega arith
-largest_at_most f (n ∷ ns) m h = let rest : largest (map f ns) ≤ m = largest_at_most f ns m h.1 in omega (arith, h.0, rest)
+largest_at_most f (n ∷ ns) m h = let rest = largest_at_most f ns m h.1 in omega (arith, h.0, rest)
 
 at_most_largest : (f : ℕ → ℕ) (ns : List ℕ) (m : ℕ) → largest (map f ns) ≤ m → Each (λ n. f n ≤ m) ns
 at_most_largest f [] m h = tt

@@ -98,7 +98,7 @@ module _ (old : Heap) (is : C.IsHeap old) (k : ℕ) (h : Option ℕ) where
 pub others_law : C.OthersLaw
 others_law old new is k = (
   (λ h options o order step. keeps old is k _ new (λ q other.
-      ap (λ (heap : Heap). object_at heap q) step.same
+      ap (λ heap. object_at heap q) step.same
       ∙ C.get-insert C.nat_cmp_total (discarded old k (Some h)).objects h o q ∙ ap (λ b. cond b (Some o) (object_at (discarded old k (Some h)) q)) (untied q h (λ e. other (ap Some (sym e)))))),
-  (λ step. keeps old is k None new (λ q other. ap (λ (heap : Heap). object_at heap q) step.same)),
+  (λ step. keeps old is k None new (λ q other. ap (λ heap. object_at heap q) step.same)),
 )

@@ -8,12 +8,12 @@ use Rattle.w16_model.specs.Bytes.{part, put_part, repeated}
 pub length-put_part : (bytes : List ℕ) (at : ℕ) (new : List ℕ) → at + length new ≤ length bytes
     → length (put_part bytes at new) ≡ length bytes
 length-put_part bytes at new le =
-    let rest : List ℕ = drop (length new) (drop at bytes) in
+    let rest = drop (length new) (drop at bytes) in
     let whole = length-append (take at bytes) (new ++ rest) in
     let after = length-append new rest in
     let behind = length-drop (length new) (drop at bytes) in
     let from_at = length-drop at bytes in
-    let before : length (take at bytes) ≡ at = length-take-le at bytes (omega arith) in
+    let before = length-take-le at bytes (omega arith) in
     omega arith
 
 pub length-repeated : (size byte : ℕ) → length (repeated size byte) ≡ size
@@ -34,12 +34,12 @@ part-put_part bytes at new n e le =
 
 pub drop-put_part : (bytes : List ℕ) (at : ℕ) (new : List ℕ) (a : ℕ) → at + length new ≤ a → at + length new ≤ length bytes → drop a (put_part bytes at new) ≡ drop a bytes
 drop-put_part bytes at new a above le =
-    let front : List ℕ = take at bytes in
-    let rest : List ℕ = drop (length new) (drop at bytes) in
-    let k : ℕ = a - (at + length new) in
+    let front = take at bytes in
+    let rest = drop (length new) (drop at bytes) in
+    let k = a - (at + length new) in
     let long : length (front ++ new) ≡ at + length new = let one = length-append front new in let two = length-take-le at bytes (omega arith) in omega arith in
     let sum : at + length new + k ≡ a = omega arith in
-    let one : drop (at + length new) (front ++ (new ++ rest)) ≡ rest = ap (drop (at + length new)) (sym (append_assoc front new rest)) ∙ drop_at _ rest _ long in
+    let one = ap (drop (at + length new)) (sym (append_assoc front new rest)) ∙ drop_at _ rest _ long in
     ap (λ j. drop j (front ++ (new ++ rest))) (sym sum)
     ∙ sym (drop-drop k _ _)
     ∙ ap (drop k) one

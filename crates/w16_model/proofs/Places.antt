@@ -31,7 +31,7 @@ pub same_id : (heap : Heap) (x y : Block) → IsBlockOf heap x → IsBlockOf hea
 same_id heap x y b c e =
     let same_object : b.object ≡ c.object = (let some : ◌≡◌ {A = C.Option C.Object} (Some b.object) (Some c.object) = sym b.is_there ∙ ap (C.object_at heap) e ∙ c.is_there in cc) in
     let same_bytes : b.bytes ≡ c.bytes = (let some : ◌≡◌ {A = C.Option (List ℕ)} (Some b.bytes) (Some c.bytes) = sym b.has_bytes ∙ ap (λ (p : C.Object). p.bytes) same_object ∙ c.has_bytes in cc) in
-    let at : x.at ≡ y.at = b.place ∙ ap (λ q. C.unwrap_or (finmap.get heap.places q) 0) e ∙ sym c.place in
-    let size : x.size ≡ y.size = b.size ∙ ap C.length same_bytes ∙ sym c.size in
-    let hold : x.hold ≡ y.hold = b.hold ∙ ap C.hold_of_object same_object ∙ sym c.hold in
+    let at = b.place ∙ ap (λ q. C.unwrap_or (finmap.get heap.places q) 0) e ∙ sym c.place in
+    let size = b.size ∙ ap C.length same_bytes ∙ sym c.size in
+    let hold = b.hold ∙ ap C.hold_of_object same_object ∙ sym c.hold in
     λ i. record { id = e i; at = at i; size = size i; hold = hold i }

@@ -91,7 +91,7 @@ pub room_by_members : (lo hi : ℕ) (xs ys : List Block) → IsPermutation xs ys
 room_by_members lo hi xs ys perm order k h =
     let stays : List ℕ → Block → Bool = λ ids x. not (is_member x.id ids || is_about h x.id) in
     sym (room-permutation lo hi (filter _ xs) (filter _ ys) (filter_permutation _ xs ys perm))
-    ∙ ap (λ (ids : List ℕ). room lo hi (filter (stays (take k ids)) ys)) (eligible_by_members xs ys perm order h)
+    ∙ ap (λ ids. room lo hi (filter (stays (take k ids)) ys)) (eligible_by_members xs ys perm order h)
 
 -- two requests need as many discards where they have as many to discard and as much room at each number
 pub needed_same : (lo hi : ℕ) (xs ys : List Block) (order others : List ℕ) (n : ℕ) (g h : Option ℕ) → length (eligible xs order g) ≡ length (eligible ys others h)

@@ -132,7 +132,7 @@ all_still old new same q = turn _ refl
   where
     turn : (p : Option ℕ) → finmap.get old.places q ≡ p → C.IfSome p (λ at. finmap.get new.places q ≡ Some at)
     turn None e = tt
-    turn (Some at) e = ap (λ (m : C.FinMap C.nat_cmp ℕ). finmap.get m q) same ∙ e
+    turn (Some at) e = ap (λ m. finmap.get m q) same ∙ e
 
 module _ (old : Heap) (is : IsHeap old) (id n : ℕ) (o : Object) (there : object_at old id ≡ Some o) (options : RoomOptions) (new : Heap) where
   -- with all addresses kept little is moved

@@ -64,7 +64,7 @@ new_sized zeroed n None h = tt
 new_sized zeroed n (Some bytes) h = ap slots_for (sym h.0)
 
 -- what is not owned has no size of its own
-none_owned : (p : Option Owned) (n : ℕ) → is_some p ≡ false → C.IfSome p (λ (owned : Owned). owned.size ≡ n)
+none_owned : (p : Option Owned) (n : ℕ) → is_some p ≡ false → C.IfSome p (λ owned. owned.size ≡ n)
 none_owned None n e = tt
 none_owned (Some owned) n e = absurd (false≢true (sym e))
 
@@ -85,7 +85,7 @@ kept_by old new call answer is (C.IsAllocated a) = subst AreHandles (sym a.rest)
     _ a.is_new.new_bytes) a.settled) (moved_bytes old.heap new.heap))
 kept_by old new call answer is (C.IsCompacted c) = subst AreHandles (sym c.rest) (moved_handles _ (M.settled_handles old is c.count _ c.settled) (moved_bytes old.heap new.heap))
 kept_by old new call answer is (C.IsModified m) = subst AreHandles (sym m.rest) (moved_handles _
-    (kind_handles old is m.slot (kind_modified _) m.object new.heap m.named.there (subst (λ (r : Result Heap Refusal). IfOk r IsHeap) m.modified (kind_heap_law _ _ _ is.heap)) m.changes) (moved_bytes old.heap new.heap))
+    (kind_handles old is m.slot (kind_modified _) m.object new.heap m.named.there (subst (λ r. IfOk r IsHeap) m.modified (kind_heap_law _ _ _ is.heap)) m.changes) (moved_bytes old.heap new.heap))
 kept_by old new call answer is (C.IsDiscarded d) = subst AreHandles (sym d.rest) (moved_handles _ (absent_handles old is _ d.object d.named.there d.unlocked) (moved_bytes old.heap (absent old.heap _)))
 kept_by old new call answer is (C.IsResized r) = subst AreHandles (sym r.rest) (moved_handles _ (anew_handles old is r.slot (rounded_size _) (realloc_options _) r.object r.named.there r.first r.gets r.heap r.resized
     (none_owned _ _ (sym (ap (λ p. C.unwrap_or (C.option_map (C.is_owned old) p) false) r.named.found) ∙ r.own))) (moved_bytes old.heap r.heap))
@@ -108,7 +108,7 @@ found_some old handle slot found none = turn (object_at old.heap slot) ((names_l
 
 -- NULL leaves the heap
 null_heap : (old new : Handles) (answer : ℕ) → IsNull old answer new → new.heap ≡ old.heap
-null_heap old new answer null = ap (λ (h : Handles). h.heap) null.1
+null_heap old new answer null = ap (λ h. h.heap) null.1
 
 pub null_law : C.NullLaw
 null_law old new handle size flags is step = turn (outcome old new (ReAllocs handle size flags) (Word 0) is step)
@@ -121,8 +121,8 @@ null_law old new handle size flags is step = turn (outcome old new (ReAllocs han
     never named slot found says = let none : 0 ≡ named = cc in absurd (found_some old named slot found (sym none))
 
     turn : C.Outcome old (ReAllocs handle size flags) (Word 0) new → new.heap ≡ old.heap
-    turn (C.IsSame s e) = ap (λ (h : Handles). h.heap) e
-    turn (C.IsUnmoved s e) = ap (λ (h : Handles). h.heap) e
+    turn (C.IsSame s e) = ap (λ h. h.heap) e
+    turn (C.IsUnmoved s e) = ap (λ h. h.heap) e
     turn (C.IsModified m) = never m.handle m.slot m.named.found m.answered
     turn (C.IsDiscarded d) = never d.handle d.slot d.named.found d.answered
     turn (C.IsResized r) = let none : 0 ≡ handle_of r.object.kind r.first = (let e = r.answered in cc) in absurd (some_handle r.object.kind r.first (sym none))
@@ -169,7 +169,7 @@ resize_fewest_law old new handle size flags answer is step slot found free same 
     (subst (λ b. MatchBool b (IsNull old answer new) (C.ReAllocsOwn old handle size flags answer new)) (ap (λ p. C.unwrap_or (C.option_map (C.is_owned old) p) false) found ∙ free) step)
   where
     resizes : (long : Bool) → C.nat_lt LARGEST_SIZE size ≡ long → MatchBool long (IsNull old answer new) (IsSomeAnd (object_at old.heap slot) (C.ResizesObject old slot flags size answer new)) → Few old new is handle size flags answer slot
-    resizes true long g = let over : LARGEST_SIZE < size = C.ltb-true LARGEST_SIZE size long in absurd (omega (arith, over, small))
+    resizes true long g = let over = C.ltb-true LARGEST_SIZE size long in absurd (omega (arith, over, small))
     resizes false long g = object_fewest old new is handle size flags answer slot (object_at old.heap slot) refl g
 
     sized : (none : Bool) → (size == 0) ≡ none → MatchBool none (Empties old handle slot flags answer new) (Resizes old slot flags size answer new) → Few old new is handle size flags answer slot
@@ -189,7 +189,7 @@ resize_fewest_law old new handle size flags answer is step slot found free same 
         (MatchBool (size == 0) (Empties old handle slot flags answer new) (Resizes old slot flags size answer new))) →
         Few old new is handle size flags answer slot
     turn p e g = modifies (has_flag flags GMEM_MODIFY) refl
-        (subst (λ (p : Option ℕ). C.MatchOption p (IsNull old answer new)
+        (subst (λ p. C.MatchOption p (IsNull old answer new)
         (λ slot. MatchBool (has_flag flags GMEM_MODIFY) (AnswersHandle old handle
         (modified old.heap slot (kind_modified flags)) answer new)
         (MatchBool (size == 0) (Empties old handle slot flags answer new) (Resizes old slot flags size answer new)))) e g)
@@ -246,5 +246,5 @@ old_handle_law old new handle size flags answer is step some d = elim (answered 
         there : (p : Option Object) → object_at new.heap q ≡ p → IsSomeAnd p (λ o. handle ≡ handle_of o.kind q) → ⊥
         there None at h = h
         there (Some o) at h =
-            let same : q ≡ r.slot = sym (slot_in_handle _ q) ∙ ap (λ n. n / 8) (sym h ∙ sym named ∙ handle_is old new is _ _ r) ∙ slot_in_handle r.object.kind _ in
+            let same = sym (slot_in_handle _ q) ∙ ap (λ n. n / 8) (sym h ∙ sym named ∙ handle_is old new is _ _ r) ∙ slot_in_handle r.object.kind _ in
             let none : ◌≡◌ {A = Option Object} (Some o) None = sym at ∙ ap (object_at new.heap) same ∙ gone old new is _ _ r (moves old new is _ _ r _ _ refl named d) in cc

@@ -144,7 +144,7 @@ first_in slots m are first some = turn _ refl some (are.each first)
   where
     turn : (p : Option Attributes) → finmap.get m first ≡ p → is_some p ≡ true → IfSome p (IsRun slots first) → IsIn m first first
     turn None e t h = absurd (false≢true t)
-    turn (Some a) e t h = let many : slots_at m first ≡ a.slots = slots_of m first a e in (omega arith, omega (arith, many, h.0))
+    turn (Some a) e t h = let many = slots_of m first a e in (omega arith, omega (arith, many, h.0))
 
 -- a slot beside a new run of one has no owner still
 pub unowned_beside : (m : FinMap nat_cmp Attributes) (first : ℕ) (a : Attributes) (s : ℕ) → a.slots ≡ 1 → s ≢ first → owner_of m s ≡ None → owner_of (finmap.insert m first a) s ≡ None
