@@ -9,7 +9,7 @@ use proofs.Common.{counts_moved, IsSame, IsUnmoved, IsLocked, IsUnlocked, IsFree
 use proofs.Heaps.{IsBlockOf, block_member, member_block, blocks_rise, keys_rise}
 use proofs.KeptHeaps.{bytes_in, inserted_other, taken_other}
 use proofs.CallOutcomes.{outcome, none_moved, reallocates}
-use proofs.{Gaps.Member, Starts.member_map, Discards.is_member-true, Discards.true-is_member, KeptHandles.put_bytes, Housed.given, Housed.keeps, KeptRest.absents_rest, Naming.names_law, Naming.slot_in_handle, Reallocations.moves_law, Fewest.some_handle, ResizedHandles.found_some}
+use proofs.{Gaps.Member, Starts.member_map, Discards.is_member-true, Discards.true-is_member, KeptHandles.put_bytes, KeptHandles.put_same, Housed.given, Housed.keeps, KeptRest.absents_rest, Naming.names_law, Naming.slot_in_handle, Reallocations.moves_law, Fewest.some_handle, ResizedHandles.found_some}
 use Rattle.std.specs.List.{AllByRecursion as Each}
 use Rattle.w16_model.specs.Reallocation.{IsResized as IsObjectResized}
 use Rattle.std.specs.FinMap as finmap
@@ -17,12 +17,12 @@ use Rattle.std.specs.FinMap as finmap
 -- What is kept.
 module _ (old new : Handles) (call : Call) (answer : Answer) where
   pub contents : Outcome old call answer new → may_change call ≡ false → KeepsContents old new
-  contents (IsSame s e) m = subst (KeepsContents old) (sym e) (record { addresses = refl; bytes = λ q. refl; attributes = refl })
-  contents (IsUnmoved s e) m = subst (KeepsContents old) (sym e) (record { addresses = refl; bytes = λ q. refl; attributes = refl })
-  contents (IsLocked l) m = subst (KeepsContents old) (sym l.rest) (record { addresses = refl; bytes = put_bytes old.heap l.slot l.object (record l.object { locks = l.object.locks + 1 }) l.named.there refl; attributes = refl })
-  contents (IsUnlocked u) m = subst (KeepsContents old) (sym u.rest) (record { addresses = refl; bytes = put_bytes old.heap u.slot u.object (record u.object { locks = u.object.locks - 1 }) u.named.there refl; attributes = refl })
-  contents (IsNewest n) m = subst (KeepsContents old) (sym n.rest) (record { addresses = refl; bytes = λ q. refl; attributes = refl })
-  contents (IsOldest n) m = subst (KeepsContents old) (sym n.rest) (record { addresses = refl; bytes = λ q. refl; attributes = refl })
+  contents (IsSame s e) m = subst (KeepsContents old) (sym e) (record { addresses = refl; bytes = λ q. refl; kinds = λ q. refl; attributes = refl })
+  contents (IsUnmoved s e) m = subst (KeepsContents old) (sym e) (record { addresses = refl; bytes = λ q. refl; kinds = λ q. refl; attributes = refl })
+  contents (IsLocked l) m = subst (KeepsContents old) (sym l.rest) (record { addresses = refl; bytes = put_bytes old.heap l.slot l.object (record l.object { locks = l.object.locks + 1 }) l.named.there refl; kinds = put_same _ old.heap l.slot l.object _ l.named.there refl; attributes = refl })
+  contents (IsUnlocked u) m = subst (KeepsContents old) (sym u.rest) (record { addresses = refl; bytes = put_bytes old.heap u.slot u.object (record u.object { locks = u.object.locks - 1 }) u.named.there refl; kinds = put_same _ old.heap u.slot u.object _ u.named.there refl; attributes = refl })
+  contents (IsNewest n) m = subst (KeepsContents old) (sym n.rest) (record { addresses = refl; bytes = λ q. refl; kinds = λ q. refl; attributes = refl })
+  contents (IsOldest n) m = subst (KeepsContents old) (sym n.rest) (record { addresses = refl; bytes = λ q. refl; kinds = λ q. refl; attributes = refl })
   contents (IsFreed f) m = absurd (false≢true (sym m ∙ ap may_change f.asked))
   contents (IsEntered e) m = absurd (false≢true (sym m ∙ ap may_change e.asked))
   contents (IsAllocated a) m = absurd (false≢true (sym m ∙ ap may_change a.asked))

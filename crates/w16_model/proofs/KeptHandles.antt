@@ -54,6 +54,14 @@ put_bytes heap id before after there same q = elim (cases_eq q id) [
   | inr d ↦ ap bytes_in (inserted_other _ id after q d)
 ]
 
+-- and so with whatever else of it stays
+pub put_same : {X : Type 0} (f : Object → X) (heap : Heap) (id : ℕ) (before after : Object) → object_at heap id ≡ Some before → f after ≡ f before → (q : ℕ)
+    → option_map f (object_at (C.with_object heap id after) q) ≡ option_map f (object_at heap q)
+put_same f heap id before after there same q = elim (cases_eq q id) [
+  | inl e ↦ ap (option_map f) (inserted_here _ id after q e) ∙ ap Some same ∙ sym (ap (option_map f) (ap (object_at heap) e ∙ there))
+  | inr d ↦ ap (option_map f) (inserted_other _ id after q d)
+]
+
 -- discards leave what they don't take
 no_bytes : (p : Option Object) → bytes_in (option_map (λ (o : Object). record o { bytes = None }) p) ≡ None
 no_bytes None = refl
