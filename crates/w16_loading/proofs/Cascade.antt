@@ -17,15 +17,15 @@ went world handle m e = ap (λ p. world_without world handle (C.module_in p)) e
 stays_idle : (world : LoadingWorld) (handle k : ℕ) (m : Module) → k ≢ handle → Idle world.modules k → Idle (gone_with world handle m).modules k
 stays_idle world handle k m d h = record {
   idle = h.idle;
-  loaded = taken_other world.modules handle k d ∙ h.loaded;
+  loaded = taken_other _ _ k d ∙ h.loaded;
   unused = h.unused;
   alone = λ i. h.alone (record { who = i.who; importer = i.importer; there = before i; other = i.other; uses = i.uses });
 }
   where
     before : (i : HasImporter (finmap.remove world.modules handle) k) → finmap.get world.modules i.who ≡ Some i.importer
-    before i = elim (C.cases_eq i.who handle) [
-      | inl e ↦ absurd (none (sym (C.taken_here world.modules handle i.who e) ∙ i.there))
-      | inr f ↦ sym (taken_other world.modules handle i.who f) ∙ i.there
+    before i = elim (C.cases_eq i.who _) [
+      | inl e ↦ absurd (none (sym (C.taken_here _ _ i.who e) ∙ i.there))
+      | inr f ↦ sym (taken_other _ _ i.who f) ∙ i.there
     ]
       where
         none : ◌≡◌ {A = C.Option Named} None (Some i.importer) → ⊥
@@ -84,5 +84,5 @@ pub one_end_law : C.OneEndLaw
 one_end_law old a b [] [] go other = go.1 ∙ sym other.1
 one_end_law old a b (x ∷ xs) [] go other = absurd (false≢true (sym (other.0 x) ∙ go.0))
 one_end_law old a b xs (y ∷ ys) go other =
-    let rest : (rest : List ℕ) × Go (without_module old y) rest a = goes_first old y (idle_parts old.modules y other.0) xs a go in
+    let rest : (rest : List ℕ) × Go (without_module old y) rest a = goes_first old y (idle_parts _ y other.0) xs a go in
     one_end_law (without_module old y) a b rest.0 ys rest.1 other.1

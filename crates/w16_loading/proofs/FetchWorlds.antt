@@ -8,7 +8,7 @@ use proofs.KeptWorlds.{IsOwned, kept_left, left_owned, world_stays}
 -- An object that is filled with as many bytes as it is to have.
 
 pub owned_is : (heap : Heap) (q : ℕ) (kind : Kind) (size : ℕ) → IsOwned heap q kind size → C.is_some (object_at heap q) ≡ true
-owned_is heap q kind size h = some (object_at heap q) h
+owned_is heap q kind size h = some _ h
   where
     some : (p : Option C.Object) → IsSomeAnd p (λ o. (o.kind ≡ kind) × IfSome o.bytes (λ b. length b ≡ size)) → C.is_some p ≡ true
     some None h = absurd h
@@ -48,5 +48,5 @@ filled_world old is slot read heap sized g = world_stays old is (record old.hand
 pub fetched_world : {answers : C.Answers} {old : LoadingWorld} {slot : ℕ} {fault : Option C.FetchFault} {new : LoadingWorld} → IsLoadingWorld old → C.FetchesFrom Fills answers old slot fault new → IsLoadingWorld new
 fetched_world {answers} {old} {slot} {fault} {new} is f = elim (M.fetch_outcome f).1 [
   | inl e ↦ subst IsLoadingWorld (sym e) is
-  | inr (read, sized, given, g) ↦ subst IsLoadingWorld (sym f.rest) (filled_world old is slot read new.handles.heap sized g)
+  | inr (read, sized, given, g) ↦ subst IsLoadingWorld (sym f.rest) (filled_world old is slot read _ sized g)
 ]

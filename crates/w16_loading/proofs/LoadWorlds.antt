@@ -17,7 +17,7 @@ use Rattle.std.specs.FinMap as finmap
 -- What is filled has its size, and all else what it had.
 all_owned : (answers : C.Answers) (old new : Heap) (xs : List Filling) → C.IsHeap old → C.InTurn (C.GivesFrom Fills answers) old xs None new → (q : ℕ) (kind : Kind) (size : ℕ) → ((x : Filling) → Member x xs → q ≡ x.slot → length x.bytes ≡ size) → IsOwned old q kind size → IsOwned new q kind size
 all_owned answers old new xs is f q kind size long = (any_do answers (λ a b. IsOwned a q kind size → IsOwned b q kind size) (λ a k. k) (λ a b c x y k. y (x k)) old new xs None is
-    (λ x m a b h read same again g. filled_owned a x.slot read b h g q kind size (λ e. same ∙ long x m e)) f).0
+    (λ x m a b h read same again g. filled_owned a _ read b h g q kind size (λ e. same ∙ long x m e)) f).0
 
 -- Names.
 

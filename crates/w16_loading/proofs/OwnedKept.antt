@@ -78,5 +78,5 @@ module _ (old : Handles) (is : C.AreHandles old) (call : Call) (answer : Answer)
 pub locked : (old : Handles) (handle : ℕ) → SameOwned old (global_lock old handle).1
 locked old handle q =
     let new : Handles = (global_lock old handle).1 in
-    let k : C.KeepsContents old new = C.contents old new (Calls (C.GlobalLock handle)) (global_lock old handle).0 (C.call_outcome old new (C.GlobalLock handle) (global_lock old handle).0 (refl, refl)) refl in
+    let k : C.KeepsContents old new = C.contents old new (Calls (C.GlobalLock _)) (global_lock old handle).0 (C.call_outcome old new _ (global_lock old _).0 (refl, refl)) refl in
     ap (λ a. owned_in (finmap.get a q)) k.attributes

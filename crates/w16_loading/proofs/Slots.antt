@@ -31,15 +31,15 @@ fits (x ∷ xs) ys apart inside =
 in_range : (n a q : ℕ) → Member q (range_with_len a n) → (a ≤ q) × (q < a + n)
 in_range zero a q m = absurd m
 in_range (suc n) a q (inl e) = (omega (arith, e), omega (arith, e))
-in_range (suc n) a q (inr m) = let r : (a + 1 ≤ q) × (q < a + 1 + n) = in_range n (a + 1) q m in let le : a + 1 ≤ q = r.0 in let lt : q < a + 1 + n = r.1 in (omega (arith, le), omega (arith, lt))
+in_range (suc n) a q (inr m) = let r : (a + 1 ≤ q) × (q < a + 1 + n) = in_range n _ q m in let le : a + 1 ≤ q = r.0 in let lt : q < a + 1 + n = r.1 in (omega (arith, le), omega (arith, lt))
 
 range_has : (n a q : ℕ) → a ≤ q → q < a + n → Member q (range_with_len a n)
 range_has zero a q le lt = absurd (omega (arith, le, lt))
-range_has (suc n) a q le lt = elim (C.cases_eq q a) [ inl e ↦ inl e | inr d ↦ inr (range_has n (a + 1) q (let f : q ≡ a → ⊥ = d in omega (arith, le, f)) (omega (arith, lt))) ]
+range_has (suc n) a q le lt = elim (C.cases_eq q a) [ inl e ↦ inl e | inr d ↦ inr (range_has n _ q (let f : q ≡ a → ⊥ = d in omega (arith, le, f)) (omega (arith, lt))) ]
 
 range_apart : (n a : ℕ) → EachPair (λ a b. a ≢ b) (range_with_len a n)
 range_apart zero a = tt
-range_apart (suc n) a = (C.Each-from (λ b. a ≢ b) (range_with_len (a + 1) n) (λ q m e. let r : (a + 1 ≤ q) × _ = in_range n (a + 1) q m in let le : a + 1 ≤ q = r.0 in absurd (omega (arith, le, e))), range_apart n (a + 1))
+range_apart (suc n) a = (C.Each-from (λ b. a ≢ b) _ (λ q m e. let r : (a + 1 ≤ q) × _ = in_range n _ q m in let le : a + 1 ≤ q = r.0 in absurd (omega (arith, le, e))), range_apart n _)
 
 module _ (handles : C.Handles) where
   abbrev is_free : ℕ → Bool
@@ -64,14 +64,14 @@ AreMany found slots = C.AllZip (λ (f : Found) (s : List ℕ). length s ≡ leng
 split : (found : List Found) (xs : List ℕ) → segments_in found ≤ length xs → (slots : List (List ℕ)) × (rest : List ℕ) × AreMany found slots × (flat_map (λ s. s) slots ++ rest ≡ xs)
 split [] xs le = ([], xs, tt, refl)
 split (f ∷ fs) xs le =
-    let n : segments_in (f ∷ fs) ≡ length f.read.tables.segments + segments_in fs = C.sum_by-cons (λ (g : Found). length g.read.tables.segments) f fs in
+    let n : segments_in (f ∷ fs) ≡ length f.read.tables.segments + segments_in fs = C.sum_by-cons (λ (g : Found). length _) f fs in
     let k : length f.read.tables.segments ≤ length xs = omega (arith, n, le) in
-    let d : length (drop (length f.read.tables.segments) xs) ≡ length xs - length f.read.tables.segments = C.length-drop (length f.read.tables.segments) xs in
-    let r : (slots : List (List ℕ)) × (rest : List ℕ) × AreMany fs slots × (flat_map (λ s. s) slots ++ rest ≡ drop (length f.read.tables.segments) xs) = split fs (drop (length f.read.tables.segments) xs) (omega (arith, n, le, d)) in (
-      take (length f.read.tables.segments) xs ∷ r.0,
+    let d : length (drop (length f.read.tables.segments) xs) ≡ length xs - length f.read.tables.segments = C.length-drop _ xs in
+    let r : (slots : List (List ℕ)) × (rest : List ℕ) × AreMany fs slots × (flat_map (λ s. s) slots ++ rest ≡ drop (length f.read.tables.segments) xs) = split fs _ (omega (arith, n, le, d)) in (
+      take _ xs ∷ r.0,
       r.1,
-      (C.length-take-le (length f.read.tables.segments) xs k, r.2),
-      C.append_assoc (take (length f.read.tables.segments) xs) (flat_map (λ s. s) r.0) r.1 ∙ ap (λ ys. take (length f.read.tables.segments) xs ++ ys) r.3 ∙ C.take-append-drop (length f.read.tables.segments) xs,
+      (C.length-take-le _ xs k, r.2),
+      C.append_assoc _ (flat_map (λ s. s) r.0) r.1 ∙ ap (λ ys. take (length f.read.tables.segments) xs ++ ys) r.3 ∙ C.take-append-drop (length f.read.tables.segments) xs,
     )
 
 counted : (found : List Found) (slots : List (List ℕ)) → AreMany found slots → length (flat_map (λ s. s) slots) ≡ segments_in found
@@ -81,7 +81,7 @@ counted (f ∷ fs) [] h = absurd h
 counted (f ∷ fs) (s ∷ ss) h =
     let e : length s ≡ length f.read.tables.segments = h.0 in
     let m : length (s ++ flat_map (λ s. s) ss) ≡ length s + length (flat_map (λ s. s) ss) = C.length-append s (flat_map (λ s. s) ss) in
-    m ∙ (λ i. e i + counted fs ss h.1 i) ∙ sym (C.sum_by-cons (λ (g : Found). length g.read.tables.segments) f fs)
+    m ∙ (λ i. e i + counted fs ss h.1 i) ∙ sym (C.sum_by-cons (λ (g : Found). length _) f fs)
 
 first_each : (P : ℕ → Type 0) (s more : List ℕ) → Each P (s ++ more) → Each P s
 first_each P [] more h = tt
