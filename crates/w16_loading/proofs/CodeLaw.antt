@@ -48,6 +48,6 @@ counted format world failures good = record { code = λ slot handle number m s c
 
 pub code_law : (honest : Type 0) → C.CodeLaw honest
 code_law honest format old new command reply truly is good step =
-    let answers : Answers = told honest format old.files old.failures new.failures in
+    let answers = told honest format old.files old.failures new.failures in
     counted _ new old.failures (family (FetchesFrom Fills _) (LoadsFrom Fills answers) (λ slice. Unit {0}) old (IsOfFiles _)
     (parts _ truly _ old is good _ _) (record new { failures = old.failures }) reply command (nothing_asked _) step.step)

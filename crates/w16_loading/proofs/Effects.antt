@@ -37,7 +37,7 @@ named_law honest format old new name answer is step = turn _ refl step.step.0
 pub built_in_law : (honest : Type 0) → BuiltInLaw honest
 built_in_law honest format old new name answer step some =
     let says : step.step.0 ≡ answer = (let e = step.step.1 in cc) in
-    subst (λ (a : ℕ). (own : List ℕ) × (finmap.get new.modules a ≡ Some (BuiltIn own)) × (is_named own name ≡ true)) says
+    subst (λ a. (own : List ℕ) × (finmap.get new.modules a ≡ Some (BuiltIn own)) × (is_named own name ≡ true)) says
     (turn step.step.0 (λ none. some (sym says ∙ none)) (handle_named old.modules name) refl step.step.2)
   where
     is_own : is_named name name ≡ true
@@ -49,16 +49,16 @@ built_in_law honest format old new name answer step some =
     there a some handle n at named (Some (C.Loaded m)) e says same = absurd (some says)
     there a some handle n at named (Some (BuiltIn own)) e says same =
         let is : n ≡ BuiltIn own = (let f = sym at ∙ e in cc) in
-        (own, ap (λ (ms : C.Modules). finmap.get ms a) same ∙ ap (finmap.get old.modules) says ∙ e, subst (λ (m : Named). is_named (name_of m) name ≡ true) is named)
+        (own, ap (λ ms. finmap.get ms a) same ∙ ap (finmap.get old.modules) says ∙ e, subst (λ m. is_named (name_of m) name ≡ true) is named)
 
     turn : (a : ℕ) → a ≢ 0 → (p : Option ℕ) → handle_named old.modules name ≡ p
         → C.MatchOption p (C.AddsBuiltIn old name a (record new { failures = old.failures })) (λ handle. (a ≡ C.built_in (finmap.get old.modules handle) handle) × (record new { failures = old.failures } ≡ old))
         → (own : List ℕ) × (finmap.get new.modules a ≡ Some (BuiltIn own)) × (is_named own name ≡ true)
     turn a some None e (inl full) = absurd (some full.1)
-    turn a some None e (inr added) = (name, ap (λ (w : LoadingWorld). finmap.get w.modules a) added.1 ∙ C.inserted_here old.modules a (BuiltIn name) a refl, is_own)
+    turn a some None e (inr added) = (name, ap (λ w. finmap.get w.modules a) added.1 ∙ C.inserted_here old.modules a (BuiltIn name) a refl, is_own)
     turn a some (Some handle) e gives =
         let h = named_there old.modules name handle e in
-        there a some handle h.0 h.1 h.2 (finmap.get old.modules handle) refl gives.0 (ap (λ (w : LoadingWorld). w.modules) gives.1)
+        there a some handle h.0 h.1 h.2 (finmap.get old.modules handle) refl gives.0 (ap (λ w. w.modules) gives.1)
 
 -- Resources.
 
@@ -79,7 +79,7 @@ find_law honest format old new handle answer name kind m there step = turn _ ref
     turn (Some i) e says =
         let is : answer ≡ i + 1 = cc in
         let h = C.position-Some fits _ i any e in
-        let parts : C.IsTrue (is_label (get_or m.tables.resources i any).label name) × C.IsTrue (is_label (get_or m.tables.resources i any).kind_of kind) = C.and_parts _ _ h.1 in
+        let parts = C.and_parts _ _ h.1 in
         let less : answer - 1 ≡ i = omega (arith, is) in (
           λ _. (get_or _ i any, ap (slice_get _) less ∙ C.slice_get-get_or _ i any h.0, parts.0, parts.1),
           λ none. absurd (omega (arith, is, none)),
@@ -87,7 +87,7 @@ find_law honest format old new handle answer name kind m there step = turn _ ref
 
 pub sizeof_law : (honest : Type 0) → SizeofLaw honest
 sizeof_law honest format old new handle place answer m r there some at step =
-    let numbered_is : numbered m.tables.resources place ≡ Some r = ap (λ b. cond {A = Option _} b None (slice_get m.tables.resources (place - 1))) (C.ne_eqb place 0 (λ e. absurd (omega (arith, e, some)))) ∙ at in
+    let numbered_is = ap (λ b. cond {A = Option _} b None (slice_get m.tables.resources (place - 1))) (C.ne_eqb place 0 (λ e. absurd (omega (arith, e, some)))) ∙ at in
     let says : answer ≡ unwrap_or (option_map {T = Resource} {U = ℕ} (λ r. r.length_in) (elim (C.module_at old.modules handle) [ None ↦ None | Some n ↦ numbered n.tables.resources place ])) 0 = (let e = step.step.0 in cc) in
     says ∙ ap (λ p. unwrap_or (option_map {T = Resource} {U = ℕ} (λ r. r.length_in) (elim p as (λ _. Option Resource) [ None ↦ None | Some n ↦ numbered n.tables.resources place ])) 0) there
     ∙ ap (λ p. unwrap_or (option_map {T = Resource} {U = ℕ} (λ r. r.length_in) p) 0) numbered_is
@@ -112,21 +112,21 @@ free_law honest format old new handle slot answer load found there step = (
       let is = freed old _ slot load found there ∙ ap (λ b. cond {A = ℕ × LoadingWorld} b (0, one_less old _ slot load found there) (if nat_lt 0 (locks_at old.handles.heap slot) then (1, old) else (0, gone old _ slot load found there))) (lt-ltb 1 _ more) in
       let all = step.step.1 ∙ ap (λ p. p.1) is in (
         says ∙ ap (λ p. p.0) is,
-        ap (λ (w : LoadingWorld). w.handles) all,
-        ap (λ (w : LoadingWorld). w.modules) all,
-        ap (λ (w : LoadingWorld). finmap.get w.loads slot) all ∙ C.inserted_here old.loads slot (record load { loads = load.loads - 1 }) slot refl,
+        ap (λ w. w.handles) all,
+        ap (λ w. w.modules) all,
+        ap (λ w. finmap.get w.loads slot) all ∙ C.inserted_here old.loads slot (record load { loads = load.loads - 1 }) slot refl,
       ),
   λ last locked.
       let is = last_is last ∙ ap (λ b. cond {A = ℕ × LoadingWorld} b (1, old) (0, gone old _ slot load found there)) (lt-ltb 0 _ locked) in
       let all = step.step.1 ∙ ap (λ p. p.1) is in
-      (says ∙ ap (λ p. p.0) is, ap (λ (w : LoadingWorld). w.handles) all, ap (λ (w : LoadingWorld). w.modules) all, ap (λ (w : LoadingWorld). w.loads) all),
+      (says ∙ ap (λ p. p.0) is, ap (λ w. w.handles) all, ap (λ w. w.modules) all, ap (λ w. w.loads) all),
   λ last loose.
       let is = last_is last ∙ ap (λ b. cond {A = ℕ × LoadingWorld} b (1, old) (0, gone old _ slot load found there)) (le-ltb 0 _ (omega (arith, loose))) in
       let all = step.step.1 ∙ ap (λ p. p.1) is in (
         says ∙ ap (λ p. p.0) is,
-        ap (λ (w : LoadingWorld). C.object_at w.handles.heap slot) all ∙ value_gone old.handles.heap.objects (λ q. q == slot) slot (C.eq-eqb slot slot refl),
-        ap (λ (w : LoadingWorld). finmap.get w.loads slot) all ∙ C.taken_here old.loads slot slot refl,
-        ap (λ (w : LoadingWorld). w.modules) all,
+        ap (λ w. C.object_at w.handles.heap slot) all ∙ value_gone old.handles.heap.objects (λ q. q == slot) slot (C.eq-eqb slot slot refl),
+        ap (λ w. finmap.get w.loads slot) all ∙ C.taken_here old.loads slot slot refl,
+        ap (λ w. w.modules) all,
       ),
 )
   where

@@ -7,7 +7,7 @@ pub fill_allocates : (old : Heap) (slot : ℕ) (bytes : List ℕ) (answered : Bo
 fill_allocates old slot bytes answered new f = record {
   some = f.some;
   rounded = f.rounded;
-  without_bytes = ap (λ (p : C.Option C.Object). elim p [ Some o ↦ o.bytes | None ↦ None ]) f.there ∙ f.absent;
+  without_bytes = ap (λ p. elim p [ Some o ↦ o.bytes | None ↦ None ]) f.there ∙ f.absent;
   request = turn _ f.request;
 }
   where

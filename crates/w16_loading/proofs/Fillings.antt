@@ -18,7 +18,7 @@ refused old h asked new = turn _
 pub one_outcome : (MayFail : FetchFault → Type 0) (IsSized IsRead : List ℕ → Type 0) (old : Heap) (slot : ℕ) (fault : Option FetchFault) (new : Heap) → GivesRead Fills MayFail IsSized IsRead old slot fault new
     → (is_some fault ≡ true → new ≡ old) × ((new ≡ old) ⊎ ((read : List ℕ) × IsSized read × IsRead read × Fills old slot read true new))
 one_outcome MayFail IsSized IsRead old slot None new f = (λ t. absurd (false≢true t), inr f)
-one_outcome MayFail IsSized IsRead old slot (Some C.NoRoom) new (read, sized, f) = let e : new ≡ old = refused old slot (C.asked_of old slot f.before read) new f.request in (λ t. e, inl e)
+one_outcome MayFail IsSized IsRead old slot (Some C.NoRoom) new (read, sized, f) = let e = refused old slot (C.asked_of old slot f.before read) new f.request in (λ t. e, inl e)
 one_outcome MayFail IsSized IsRead old slot (Some Store) new f = (λ t. f.1, inl f.1)
 one_outcome MayFail IsSized IsRead old slot (Some C.Damaged) new f = (λ t. f.1, inl f.1)
 
@@ -84,7 +84,7 @@ pub in_turn_so : (f g : C.Giving) (Is : Heap → Type 0) → ((old : Heap) (slot
     → (old new : Heap) (xs : List Filling) (failure : Option Failure) → Is old → InTurn f old xs failure new → InTurn g old xs failure new
 in_turn_so f g Is turns old new [] failure is h = h
 in_turn_so f g Is turns old new (x ∷ xs) failure is (None, next, one, rest) =
-    let r : g old x.slot x.bytes None next × Is next = turns old _ _ None next is one in (None, next, r.0, in_turn_so f g Is turns next new xs _ r.1 rest)
+    let r = turns old _ _ None next is one in (None, next, r.0, in_turn_so f g Is turns next new xs _ r.1 rest)
 in_turn_so f g Is turns old new (x ∷ xs) failure is (Some fault, next, one, rest) = (Some fault, next, (turns old _ _ _ next is one).0, rest)
 
 pub in_turn_as : (f g : C.Giving) → ((old : Heap) (slot : ℕ) (bytes : List ℕ) (fault : Option FetchFault) (new : Heap) → IsHeap old → f old slot bytes fault new → g old slot bytes fault new × IsHeap new)
@@ -164,9 +164,9 @@ absents_range (id ∷ ids) heap = ranges heap (absent heap id) _ (record { lo = 
 
 pub filled_range : (old : Heap) (slot : ℕ) (bytes : List ℕ) (new : Heap) → Fills old slot bytes true new → SameRange old new
 filled_range old slot bytes new f =
-    let s : (k : ℕ) × (o : Object) × C.Settles old (C.stays_for slot revival_options) (C.with_ordered (discarded old k (Some slot)) slot o (with_newest slot o)) new = settled_so old slot bytes new f in
-    let d : SameRange old (discarded old s.0 (Some slot)) = absents_range (take s.0 _) old in
-    record { lo = ap (λ (h : Heap). h.lo) s.2.same ∙ d.lo; hi = ap (λ (h : Heap). h.hi) s.2.same ∙ d.hi; grain = ap (λ (h : Heap). h.grain) s.2.same ∙ d.grain }
+    let s = settled_so old slot bytes new f in
+    let d = absents_range (take s.0 _) old in
+    record { lo = ap (λ h. h.lo) s.2.same ∙ d.lo; hi = ap (λ h. h.hi) s.2.same ∙ d.hi; grain = ap (λ h. h.grain) s.2.same ∙ d.grain }
 
 -- All of a load's.
 module _ (answers : Answers) (old new : Heap) (xs : List Filling) (failure : Option Failure) (is : IsHeap old) (f : InTurn (GivesFrom Fills answers) old xs failure new) where

@@ -169,7 +169,7 @@ module _ (old : LoadingWorld) (is : IsLoadingWorld old) where
 
 -- in the end none is idle
 none_left : (now end : LoadingWorld) (handles : List ℕ) → Go now handles end → (handle : ℕ) → is_idle end.modules handle ≡ false
-none_left now end [] go handle = ap (λ (w : LoadingWorld). is_idle w.modules handle) go.1 ∙ go.0 handle
+none_left now end [] go handle = ap (λ w. is_idle w.modules handle) go.1 ∙ go.0 handle
 none_left now end (k ∷ handles) go handle = none_left (C.without_module now k) end handles go.1 handle
 
 -- The sweep.

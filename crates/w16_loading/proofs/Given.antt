@@ -28,7 +28,7 @@ no_place p xs e x m = turn _ refl e
 pub member_place : {X : Type 0} (xs : List X) (x : X) → Member x xs → (i : ℕ) × (slice_get xs i ≡ Some x)
 member_place [] x m = absurd m
 member_place (y ∷ xs) x (inl e) = (0, ap Some (sym e))
-member_place (y ∷ xs) x (inr m) = let r : (i : ℕ) × (slice_get xs i ≡ Some x) = member_place xs x m in (suc r.0, r.1)
+member_place (y ∷ xs) x (inr m) = let r = member_place xs x m in (suc r.0, r.1)
 
 pub place_member : {X : Type 0} (xs : List X) (i : ℕ) (x : X) → slice_get xs i ≡ Some x → Member x xs
 place_member [] i x e = cc
@@ -73,7 +73,7 @@ pub given_slot : (place : ℕ) (fs : List Found) (hs : List ℕ) (ss : List (Lis
 given_slot place [] hs ss g q m n = absurd m
 given_slot place (f ∷ fs) [] ss g q m n = absurd m
 given_slot place (f ∷ fs) (h ∷ hs) [] g q m n = absurd m
-given_slot place (f ∷ fs) (h ∷ hs) (s ∷ ss) g q (inl e) n = in_first q s (flat_map (λ s. s) ss) (subst (λ (x : Given). Member q x.slots) e n)
+given_slot place (f ∷ fs) (h ∷ hs) (s ∷ ss) g q (inl e) n = in_first q s (flat_map (λ s. s) ss) (subst (λ x. Member q x.slots) e n)
 given_slot place (f ∷ fs) (h ∷ hs) (s ∷ ss) g q (inr m) n = in_second q s (flat_map (λ s. s) ss) (given_slot (place + 1) fs hs ss g q m n)
 
 -- a slot is one module's
@@ -96,8 +96,8 @@ one_given place [] hs ss g h q differ m n a b = absurd m
 one_given place (f ∷ fs) [] ss g h q differ m n a b = absurd m
 one_given place (f ∷ fs) (k ∷ hs) [] g h q differ m n a b = absurd m
 one_given place (f ∷ fs) (k ∷ hs) (s ∷ ss) g h q differ (inl e) (inl d) a b = d ∙ sym e
-one_given place (f ∷ fs) (k ∷ hs) (s ∷ ss) g h q differ (inl e) (inr n) a b = absurd (apart_from s (flat_map (λ s. s) ss) q differ (subst (λ (x : Given). Member q x.slots) e a) (given_slot _ fs hs ss h q n b))
-one_given place (f ∷ fs) (k ∷ hs) (s ∷ ss) g h q differ (inr m) (inl d) a b = absurd (apart_from s (flat_map (λ s. s) ss) q differ (subst (λ (x : Given). Member q x.slots) d b) (given_slot _ fs hs ss g q m a))
+one_given place (f ∷ fs) (k ∷ hs) (s ∷ ss) g h q differ (inl e) (inr n) a b = absurd (apart_from s (flat_map (λ s. s) ss) q differ (subst (λ x. Member q x.slots) e a) (given_slot _ fs hs ss h q n b))
+one_given place (f ∷ fs) (k ∷ hs) (s ∷ ss) g h q differ (inr m) (inl d) a b = absurd (apart_from s (flat_map (λ s. s) ss) q differ (subst (λ x. Member q x.slots) d b) (given_slot _ fs hs ss g q m a))
 one_given place (f ∷ fs) (k ∷ hs) (s ∷ ss) g h q differ (inr m) (inr n) a b = one_given (place + 1) fs hs ss g h q (apart_after s (flat_map (λ s. s) ss) differ) m n a b
 
 -- its slots differ
@@ -105,16 +105,16 @@ pub given_slots_differ : (place : ℕ) (fs : List Found) (hs : List ℕ) (ss : L
 given_slots_differ place [] hs ss g differ m = absurd m
 given_slots_differ place (f ∷ fs) [] ss g differ m = absurd m
 given_slots_differ place (f ∷ fs) (h ∷ hs) [] g differ m = absurd m
-given_slots_differ place (f ∷ fs) (h ∷ hs) (s ∷ ss) g differ (inl e) = subst (λ (x : Given). EachPair (λ a b. a ≢ b) x.slots) (sym e) (first_apart s (flat_map (λ s. s) ss) differ)
+given_slots_differ place (f ∷ fs) (h ∷ hs) (s ∷ ss) g differ (inl e) = subst (λ x. EachPair (λ a b. a ≢ b) x.slots) (sym e) (first_apart s (flat_map (λ s. s) ss) differ)
 given_slots_differ place (f ∷ fs) (h ∷ hs) (s ∷ ss) g differ (inr m) = given_slots_differ (place + 1) fs hs ss g (apart_after s (flat_map (λ s. s) ss) differ) m
 
 -- Modules that are given.
 
-pub given_long : (place : ℕ) (fs : List Found) (hs : List ℕ) (ss : List (List ℕ)) → C.AllZip (λ (f : Found) (s : List ℕ). length s ≡ length f.read.tables.segments) fs ss → (g : Given) → Member g (given_from place fs hs ss) → length g.slots ≡ length g.found.read.tables.segments
+pub given_long : (place : ℕ) (fs : List Found) (hs : List ℕ) (ss : List (List ℕ)) → C.AllZip (λ f s. length s ≡ length f.read.tables.segments) fs ss → (g : Given) → Member g (given_from place fs hs ss) → length g.slots ≡ length g.found.read.tables.segments
 given_long place [] hs ss long g m = absurd m
 given_long place (f ∷ fs) [] ss long g m = absurd m
 given_long place (f ∷ fs) (h ∷ hs) [] long g m = absurd m
-given_long place (f ∷ fs) (h ∷ hs) (s ∷ ss) long g (inl e) = subst (λ (x : Given). length x.slots ≡ length x.found.read.tables.segments) (sym e) long.0
+given_long place (f ∷ fs) (h ∷ hs) (s ∷ ss) long g (inl e) = subst (λ x. length x.slots ≡ length x.found.read.tables.segments) (sym e) long.0
 given_long place (f ∷ fs) (h ∷ hs) (s ∷ ss) long g (inr m) = given_long (place + 1) fs hs ss long.1 g m
 
 pub given_handle : (place : ℕ) (fs : List Found) (hs : List ℕ) (ss : List (List ℕ)) (g : Given) → Member g (given_from place fs hs ss) → Member g.handle hs
@@ -127,26 +127,26 @@ given_handle place (f ∷ fs) (h ∷ hs) (s ∷ ss) g (inr m) = inr (given_handl
 -- the segments of a module that is given
 pub given_segment : (gs : List Given) (g : Given) (x : ℕ × Segment) → Member g gs → Member x (zip g.slots g.found.read.tables.segments) → Member x (segments_of gs)
 given_segment [] g x m n = absurd m
-given_segment (h ∷ gs) g x (inl e) n = in_first x (zip _ _) (segments_of gs) (subst (λ (y : Given). Member x (zip y.slots y.found.read.tables.segments)) e n)
+given_segment (h ∷ gs) g x (inl e) n = in_first x (zip _ _) (segments_of gs) (subst (λ y. Member x (zip y.slots y.found.read.tables.segments)) e n)
 given_segment (h ∷ gs) g x (inr m) n = in_second x (zip _ _) (segments_of gs) (given_segment gs g x m n)
 
 pub segment_given : (gs : List Given) (x : ℕ × Segment) → Member x (segments_of gs) → (g : Given) × Member g gs × Member x (zip g.slots g.found.read.tables.segments)
 segment_given [] x m = absurd m
 segment_given (h ∷ gs) x m = elim (parted x _ _ m) [
   | inl a ↦ (h, inl refl, a)
-  | inr b ↦ let r : (g : Given) × Member g gs × Member x (zip g.slots g.found.read.tables.segments) = segment_given gs x b in (r.0, inr r.1, r.2)
+  | inr b ↦ let r = segment_given gs x b in (r.0, inr r.1, r.2)
 ]
 
 -- the module at a place
-pub at_place : (first : ℕ) (fs : List Found) (hs : List ℕ) (ss : List (List ℕ)) → length hs ≡ length fs → C.AllZip (λ (f : Found) (s : List ℕ). length s ≡ length f.read.tables.segments) fs ss → (i : ℕ) → i < length fs
+pub at_place : (first : ℕ) (fs : List Found) (hs : List ℕ) (ss : List (List ℕ)) → length hs ≡ length fs → C.AllZip (λ f s. length s ≡ length f.read.tables.segments) fs ss → (i : ℕ) → i < length fs
     → (g : Given) × Member g (given_from first fs hs ss) × (g.place ≡ first + i) × (slice_get hs i ≡ Some g.handle)
 at_place first [] hs ss same long i lt = absurd (omega (arith, lt))
 at_place first (f ∷ fs) [] ss same long i lt = absurd (omega (arith, same))
 at_place first (f ∷ fs) (h ∷ hs) [] same long i lt = absurd long
 at_place first (f ∷ fs) (h ∷ hs) (s ∷ ss) same long zero lt = (record { place = first; found = f; handle = h; slots = s }, inl refl, omega arith, refl)
 at_place first (f ∷ fs) (h ∷ hs) (s ∷ ss) same long (suc i) lt =
-    let r : (g : Given) × Member g (given_from (first + 1) fs hs ss) × (g.place ≡ first + 1 + i) × (slice_get hs i ≡ Some g.handle) = at_place (first + 1) fs hs ss (omega (arith, same)) long.1 i (omega (arith, lt)) in
-    let e : r.0.place ≡ first + 1 + i = r.2 in
+    let r = at_place (first + 1) fs hs ss (omega (arith, same)) long.1 i (omega (arith, lt)) in
+    let e = r.2 in
     (r.0, inr r.1, omega (arith, e), r.3)
 
 -- its place is its index
@@ -156,27 +156,27 @@ given_index first (f ∷ fs) [] ss g m = absurd m
 given_index first (f ∷ fs) (h ∷ hs) [] g m = absurd m
 given_index first (f ∷ fs) (h ∷ hs) (s ∷ ss) g (inl e) = let same : g.place ≡ first = λ i. (e i).place in (0, omega (arith, same), omega arith, ap Some (sym (λ i. (e i).handle)))
 given_index first (f ∷ fs) (h ∷ hs) (s ∷ ss) g (inr m) =
-    let r : (i : ℕ) × (g.place ≡ first + 1 + i) × (i < length fs) × (slice_get hs i ≡ Some g.handle) = given_index (first + 1) fs hs ss g m in
-    let e : g.place ≡ first + 1 + r.0 = r.1 in
-    let lt : r.0 < length fs = r.2 in
+    let r = given_index (first + 1) fs hs ss g m in
+    let e = r.1 in
+    let lt = r.2 in
     (suc r.0, omega (arith, e), omega (arith, lt), r.3)
 
 pub named_back : (a b : List ℕ) → is_named a b ≡ true → is_named b a ≡ true
 named_back a b t = (C.is_named-Decides b a).1 (sym ((C.is_named-Decides a b).0 t))
 
 -- modules of equal names are one
-pub one_named : (first : ℕ) (fs : List Found) (hs : List ℕ) (ss : List (List ℕ)) → EachPair (λ (f g : Found). is_named f.read.tables.name g.read.tables.name ≡ false) fs → (g h : Given) → Member g (given_from first fs hs ss) → Member h (given_from first fs hs ss)
+pub one_named : (first : ℕ) (fs : List Found) (hs : List ℕ) (ss : List (List ℕ)) → EachPair (λ f g. is_named f.read.tables.name g.read.tables.name ≡ false) fs → (g h : Given) → Member g (given_from first fs hs ss) → Member h (given_from first fs hs ss)
     → is_named g.found.read.tables.name h.found.read.tables.name ≡ true → g ≡ h
 one_named first [] hs ss apart g h m n t = absurd m
 one_named first (f ∷ fs) [] ss apart g h m n t = absurd m
 one_named first (f ∷ fs) (k ∷ hs) [] apart g h m n t = absurd m
 one_named first (f ∷ fs) (k ∷ hs) (s ∷ ss) apart g h (inl d) (inl e) t = d ∙ sym e
 one_named first (f ∷ fs) (k ∷ hs) (s ∷ ss) apart g h (inl d) (inr n) t = absurd
-    (false≢true (sym (Each-at (λ (x : Found). is_named f.read.tables.name x.read.tables.name ≡ false) fs apart.0
+    (false≢true (sym (Each-at (λ x. is_named f.read.tables.name x.read.tables.name ≡ false) fs apart.0
     h.found (given_found _ fs hs ss h n)) ∙ subst
-    (λ (x : Given). is_named x.found.read.tables.name h.found.read.tables.name ≡ true) d t))
-one_named first (f ∷ fs) (k ∷ hs) (s ∷ ss) apart g h (inr m) (inl e) t = absurd (false≢true (sym (Each-at (λ (x : Found). is_named f.read.tables.name x.read.tables.name ≡ false) fs apart.0 g.found (given_found _ fs hs ss g m))
-    ∙ subst (λ (x : Given). is_named x.found.read.tables.name g.found.read.tables.name ≡ true) e (named_back _ _ t)))
+    (λ x. is_named x.found.read.tables.name h.found.read.tables.name ≡ true) d t))
+one_named first (f ∷ fs) (k ∷ hs) (s ∷ ss) apart g h (inr m) (inl e) t = absurd (false≢true (sym (Each-at (λ x. is_named f.read.tables.name x.read.tables.name ≡ false) fs apart.0 g.found (given_found _ fs hs ss g m))
+    ∙ subst (λ x. is_named x.found.read.tables.name g.found.read.tables.name ≡ true) e (named_back _ _ t)))
 one_named first (f ∷ fs) (k ∷ hs) (s ∷ ss) apart g h (inr m) (inr n) t = one_named (first + 1) fs hs ss apart.1 g h m n t
 
 -- what a handle names once all have names
@@ -264,11 +264,11 @@ pub filled_by : (module_of : Given → Module) (gs : List Given) (x : Filling) �
 filled_by module_of [] x m = absurd m
 filled_by module_of (g ∷ gs) x m = elim (parted x _ _ m) [
   | inl a ↦ (g, inl refl, fill_of g.place g.slots g.found.read.tables.segments g.found.read.segments (module_of g).values x a)
-  | inr b ↦ let r : (h : Given) × Member h gs × IsFilledBy module_of h x = filled_by module_of gs x b in (r.0, inr r.1, r.2)
+  | inr b ↦ let r = filled_by module_of gs x b in (r.0, inr r.1, r.2)
 ]
 
 -- so its slot was chosen
 pub filled_chosen : (module_of : Given → Module) (fs : List Found) (hs : List ℕ) (ss : List (List ℕ)) (x : Filling) → Member x (flat_map (fills_of module_of) (given_from 0 fs hs ss)) → Member x.slot (flat_map (λ s. s) ss)
 filled_chosen module_of fs hs ss x m =
-    let r : (g : Given) × Member g (given_from 0 fs hs ss) × IsFilledBy module_of g x = filled_by module_of _ x m in
+    let r = filled_by module_of _ x m in
     given_slot 0 fs hs ss r.0 _ r.1 (place_member _ r.2.place _ r.2.slot_at)

@@ -23,14 +23,14 @@ found_passes p (y ∷ ys) x e = turn (p y) refl e (found_passes p ys x)
 
 -- a handle that a name leads to names something of this name
 pub named_there : (modules : Modules) (name : List ℕ) (handle : ℕ) → C.handle_named modules name ≡ Some handle → (n : Named) × (finmap.get modules handle ≡ Some n) × (is_named (name_of n) name ≡ true)
-named_there modules name handle e = turn (find (λ (x : ℕ × Named). is_named _ name) _) refl e
+named_there modules name handle e = turn (find (λ x. is_named _ name) _) refl e
   where
-    turn : (p : C.Option (ℕ × Named)) → find (λ (x : ℕ × Named). is_named (name_of x.1) name) (finmap.entries modules) ≡ p → C.option_map (λ (x : ℕ × Named). x.0) p ≡ Some handle
+    turn : (p : C.Option (ℕ × Named)) → find (λ x. is_named (name_of x.1) name) (finmap.entries modules) ≡ p → C.option_map (λ x. x.0) p ≡ Some handle
         → (n : Named) × (finmap.get modules handle ≡ Some n) × (is_named (name_of n) name ≡ true)
     turn None f e = cc
     turn (Some x) f e =
         let same : x.0 ≡ handle = cc in
-        let h = found_passes (λ (x : ℕ × Named). is_named _ name) _ x f in
+        let h = found_passes (λ x. is_named _ name) _ x f in
         (x.1, ap (finmap.get _) (sym same) ∙ entry_there _ x.0 x.1 h.0, h.1)
 
 -- some are counted where one passes
@@ -39,7 +39,7 @@ counted_some p xs lt = turn (filter p xs) refl (subst (λ n. 0 < n) (sym (C.leng
   where
     turn : (ys : List _) → filter p xs ≡ ys → 0 < C.length ys → (x : _) × Member x xs × (p x ≡ true)
     turn [] e lt = absurd (omega (arith, lt))
-    turn (y ∷ ys) e lt = let m : Member y xs × IsTrue (p y) = C.member_filter p xs y (subst (Member y) (sym e) (inl refl)) in (y, m.0, m.1)
+    turn (y ∷ ys) e lt = let m = C.member_filter p xs y (subst (Member y) (sym e) (inl refl)) in (y, m.0, m.1)
 
 some_counted : {X : Type 0} (p : X → Bool) (xs : List X) (x : X) → Member x xs → p x ≡ true → 0 < C.count_by p xs
 some_counted p xs x m t = subst (λ n. 0 < n) (C.length-filter p xs) (turn _ (C.filter_member p xs x m t))
@@ -58,7 +58,7 @@ pub record HasImporter (modules : Modules) (handle : ℕ) : Type 0 where
 
 pub importer_of : (modules : Modules) (handle : ℕ) → 0 < importers modules handle → HasImporter modules handle
 importer_of modules handle lt =
-    let x : (e : ℕ × Named) × Member e (finmap.entries modules) × ((not (e.0 == handle) && imports e.1 handle) ≡ true) = counted_some (λ (e : ℕ × Named). not _ && imports e.1 _) _ lt in
+    let x : (e : ℕ × Named) × Member e (finmap.entries modules) × ((not (e.0 == handle) && imports e.1 handle) ≡ true) = counted_some (λ e. not _ && imports e.1 _) _ lt in
     let parts : IsTrue (not (x.0.0 == handle)) × IsTrue (imports x.0.1 handle) = C.and_parts _ _ x.2 in
     record {
       who = x.0.0;
@@ -69,7 +69,7 @@ importer_of modules handle lt =
     }
 
 pub of_importer : (modules : Modules) (handle : ℕ) → HasImporter modules handle → 0 < importers modules handle
-of_importer modules handle h = some_counted (λ (e : ℕ × Named). not (e.0 == handle) && imports e.1 handle) (finmap.entries _) (h.who, h.importer) (there_entry _ h.who _ h.there)
+of_importer modules handle h = some_counted (λ e. not (e.0 == handle) && imports e.1 handle) (finmap.entries _) (h.who, h.importer) (there_entry _ h.who _ h.there)
     (ap (λ b. not b && imports h.importer handle) (C.ne_eqb h.who _ h.other) ∙ h.uses)
 
 -- What it is to be idle.
@@ -86,7 +86,7 @@ idle_parts modules handle t = turn _ refl (C.and_parts _ _ t)
     turn None e h = absurd (false≢true h.0)
     turn (Some (C.BuiltIn name)) e h = absurd (false≢true h.0)
     turn (Some (C.Loaded m)) e h =
-        let zero : m.uses + importers modules handle ≡ 0 = C.eqb-true _ 0 h.1 in
+        let zero = C.eqb-true _ 0 h.1 in
         record { idle = m; loaded = e; unused = omega (arith, zero); alone = λ i. let some = of_importer _ _ i in absurd (omega (arith, zero, some)) }
 
 pub is_then_idle : (modules : Modules) (handle : ℕ) → Idle modules handle → C.is_idle modules handle ≡ true
@@ -99,6 +99,6 @@ is_then_idle modules handle h = ap (λ p. is_some (module_in p) && (usage_with p
 -- in a world no module is idle
 pub none_idle : (world : C.LoadingWorld) → C.IsLoadingWorld world → (handle : ℕ) → Idle world.modules handle → ⊥
 none_idle world is handle h =
-    let m : C.IsModule world handle h.idle = subst (λ p. C.IfSome (module_in p) (C.IsModule world handle)) h.loaded (is.modules _) in
-    let used : 0 < h.idle.uses + importers world.modules handle = subst (λ p. 0 < usage_with p (importers world.modules handle)) h.loaded m.used in
+    let m = subst (λ p. C.IfSome (module_in p) (C.IsModule world handle)) h.loaded (is.modules _) in
+    let used = subst (λ p. 0 < usage_with p (importers world.modules handle)) h.loaded m.used in
     h.alone (importer_of _ _ (omega (arith, used, h.unused)))

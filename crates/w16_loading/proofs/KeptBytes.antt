@@ -36,6 +36,6 @@ kept_bytes old new q (inr h) = turn _ h
 -- a lock keeps them in any handles
 pub locked : (old : Handles) (q handle : ℕ) → KeepsBytes old.heap (global_lock old handle).1.heap q
 locked old q handle =
-    let new : Handles = (global_lock old handle).1 in
-    let k : C.KeepsContents old new = C.contents old new (Calls (C.GlobalLock _)) (global_lock old handle).0 (C.call_outcome old new _ (global_lock old _).0 (refl, refl)) refl in
+    let new = (global_lock old handle).1 in
+    let k = C.contents old new (Calls (C.GlobalLock _)) (global_lock old handle).0 (C.call_outcome old new _ (global_lock old _).0 (refl, refl)) refl in
     same_bytes old.heap new.heap q (k.bytes q)

@@ -40,7 +40,7 @@ bytes_kept format old new keeps code slot handle number m segment coded = turn (
     was = keeps.modules handle m segment.loaded
 
     before : IsSegmentOf old slot handle number was.0
-    before = record { loaded = was.1; has = (segment.has.0, ap (λ (s : List ℕ). C.slice_get s (number - 1)) (sym was.2.slots) ∙ segment.has.1) }
+    before = record { loaded = was.1; has = (segment.has.0, ap (λ s. C.slice_get s (number - 1)) (sym was.2.slots) ∙ segment.has.1) }
 
     same : segment_bytes format new m number ≡ segment_bytes format old was.0 number
     same = λ i. image_of format (keeps.files i) (was.2.file i) (was.2.values i) number
@@ -52,14 +52,14 @@ bytes_kept format old new keeps code slot handle number m segment coded = turn (
 
 modules_kept : (format : Format) (old new : LoadingWorld) → KeepsCode format old new → C.ModulesAreItsFiles format old → C.ModulesAreItsFiles format new
 modules_kept format old new keeps modules handle m loaded =
-    let was : (before : Module) × (module_at old.modules handle ≡ Some before) × SameSource m before = keeps.modules handle m loaded in
+    let was = keeps.modules handle m loaded in
     turn was.0 was.2 (read_of format old was.0) (λ i. read_in format (keeps.files i) (was.2.file i)) (modules handle was.0 was.1)
   where
     turn : (before : Module) → SameSource m before → (p : Option C.ModuleFile) → read_of format new m ≡ p → IsSomeAnd p (IsItsFiles before) → IsSomeAnd (read_of format new m) (IsItsFiles m)
     turn before same None e h = absurd h
     turn before same (Some read) e h = subst (λ p. IsSomeAnd p (IsItsFiles m)) (sym e) (record {
       tables = h.tables ∙ sym same.tables;
-      values = subst (λ v. C.AllZip (λ (s : C.SegmentData) (values : List Far). IsSomeAnd s.targets (λ targets. C.length values ≡ C.length targets)) read.segments v) (sym same.values) h.values;
+      values = subst (λ v. C.AllZip (λ s values. IsSomeAnd s.targets (λ targets. C.length values ≡ C.length targets)) read.segments v) (sym same.values) h.values;
     })
 
 pub code_kept : (format : Format) (old new : LoadingWorld) → KeepsCode format old new → C.IsOfFiles format old → C.IsOfFiles format new
@@ -117,7 +117,7 @@ fetched_code {answers} {old} {slot} {fault} {new} format is fetches f = subst (K
   where
     bytes : (q handle number : ℕ) (m : Module) → IsSegmentOf old q handle number m → is_code old q ≡ true → IfSome (bytes_at new.handles.heap q) (λ b. (bytes_at old.handles.heap q ≡ Some b) ⊎ (segment_bytes format old m number ≡ Some b))
     bytes q handle number m s coded = elim (fetch_outcome f).1 [
-      | inl e ↦ as_it_was format old new.handles.heap q number m (same_bytes old.handles.heap new.handles.heap q (ap (λ (w : LoadingWorld). bytes_at w.handles.heap q) e))
+      | inl e ↦ as_it_was format old new.handles.heap q number m (same_bytes old.handles.heap new.handles.heap q (ap (λ w. bytes_at w.handles.heap q) e))
       | inr (read, sized, given, g) ↦ if_some (bytes_at new.handles.heap q) (λ b k. elim k [
         | inl e ↦ inl e
         | inr e ↦ inr (fetches handle number m read (subst (λ k. IsSegmentOf old k handle number m) e.0 s) (subst (λ k. is_code old k ≡ true) e.0 coded) given ∙ ap Some (sym e.1))

@@ -62,7 +62,7 @@ fill_there f place (q ∷ qs) (g ∷ gs) (d ∷ ds) all zero slot s at there t =
     let same : g ≡ s = cc in
     let its : q ≡ slot = cc in
     subst (λ b. (x : Filling) × Member x (cond {A = List _} b (record { place = place; slot = q; bytes = d.image (f d) } ∷ fills_from place qs gs ds (map f ds)) (fills_from place qs gs ds (map f ds))) × (x.slot ≡ slot))
-    (sym (ap (λ (z : Segment). is_fixed z.kind || z.is_preload) same ∙ t)) (record { place = place; slot = q; bytes = d.image (f d) }, inl refl, its)
+    (sym (ap (λ z. is_fixed z.kind || z.is_preload) same ∙ t)) (record { place = place; slot = q; bytes = d.image (f d) }, inl refl, its)
 fill_there f place (q ∷ qs) (g ∷ gs) (d ∷ ds) all (suc i) slot s at there t = later _ (fill_there f place qs gs ds all.1 i slot s at there t)
   where
     later : (b : Bool) → (x : Filling) × Member x (fills_from place qs gs ds (map f ds)) × (x.slot ≡ slot)

@@ -107,7 +107,7 @@ any_step_law honest format old new command reply = step_as Fills Fills (λ heap.
 
 pub requests_fewest_law : (honest : Type 0) → C.RequestsFewestLaw honest
 requests_fewest_law honest format old new command reply is =
-    let a : Answers = told _ format _ _ _ in
+    let a = told _ format _ _ _ in
     step_as Fills _ _ (λ old slot bytes answered new is f. (f, fill_fewest old slot bytes _ new is f)) a a (itself a) (one_heap a) old (λ closure choice good. named_heap old closure _ is.handles good) new _ reply is.handles.heap
     (λ slot handle place r free at none. (made_world old is slot free handle place r at.0 at.1 none).handles.heap)
 

@@ -333,6 +333,6 @@ module _ (answers : Answers) (old : LoadingWorld) (is : C.IsLoadingWorld old) (h
 
 pub lock_resource_law : (honest : Type 0) → M.LockResourceLaw honest
 lock_resource_law honest format old new handle answer is step =
-    let answers : Answers = told honest format old.files old.failures new.failures in
+    let answers = told honest format old.files old.failures new.failures in
     let l = locks answers old is _ _ (record new { failures = old.failures }) step.step in
     (l.0, l.1, l.2, l.3, λ slot load o found loaded there bytes few. answered answers old is _ _ (record new { failures = old.failures }) slot load o found loaded there bytes few step.step)

@@ -37,7 +37,7 @@ released_handles old is gone = record {
     apart = λ q other less some. elim (cases_Bool (gone other)) [
       | inl t ↦ absurd (false≢true (sym (ap is_some (value_gone _ gone other t)) ∙ some))
       | inr t ↦
-          let bound : q + slots_at old.attributes q ≤ other = is.runs.apart q other less (sym (ap is_some (value_left _ gone other t)) ∙ some) in
+          let bound = is.runs.apart q other less (sym (ap is_some (value_left _ gone other t)) ∙ some) in
           omega (arith, bound, fewer_slots old gone q)
     ];
   };

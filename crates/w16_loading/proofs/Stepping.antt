@@ -10,7 +10,7 @@ use Rattle.w16_loading.specs.declared.FetchFault.TheVariants as faults
 
 -- what is found among entries is there
 pub found_load : (old : LoadingWorld) (handle place : ℕ) (x : ℕ × Load) → load_of old handle place ≡ Some x → finmap.get old.loads x.0 ≡ Some x.1
-found_load old handle place x e = entry_there _ x.0 x.1 (found_passes (λ (y : ℕ × Load). (y.1.handle == handle) && (y.1.place == place)) _ x e).0
+found_load old handle place x e = entry_there _ x.0 x.1 (found_passes (λ y. (y.1.handle == handle) && (y.1.place == place)) _ x e).0
 
 -- the slot of a resource has its load
 pub resource_load : (old : LoadingWorld) (handle : ℕ) (x : ℕ × Load) → slot_of_resource old handle ≡ Some x → finmap.get old.loads x.0 ≡ Some x.1
@@ -20,7 +20,7 @@ resource_load old handle x = turn _
     by_load slot None e f = cc
     by_load slot (Some load) e f =
         let same : ◌≡◌ {A = ℕ × Load} (slot, load) x = cc in
-        ap (finmap.get _) (sym (ap (λ (y : ℕ × Load). y.0) same)) ∙ e ∙ ap (λ (y : ℕ × Load). Some y.1) same
+        ap (finmap.get _) (sym (ap (λ y. y.0) same)) ∙ e ∙ ap (λ y. Some y.1) same
 
     turn : (p : Option ℕ) → ◌≡◌ {A = Option (ℕ × Load)} (elim p [ None ↦ None | Some slot ↦ C.option_map (λ load. (slot, load)) (finmap.get old.loads slot) ]) (Some x) → finmap.get old.loads x.0 ≡ Some x.1
     turn None e = cc

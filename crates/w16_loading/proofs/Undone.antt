@@ -45,7 +45,7 @@ pub record IsNamed (old new : LoadingWorld) (xs : List (ℕ × Segment)) : Type 
 
 pub fold_named : (w : LoadingWorld) (xs : List (ℕ × Segment)) → IsNamed w (fold with_segment w xs) xs
 fold_named w [] = record { rest = refl; others = λ q out. refl; attributes = λ q out. refl }
-fold_named w (x ∷ xs) = let r : IsNamed (with_segment w x) (fold with_segment (with_segment w x) xs) xs = fold_named (with_segment w x) xs in record {
+fold_named w (x ∷ xs) = let r = fold_named (with_segment w x) xs in record {
   rest = r.rest;
   others = λ q out. r.others q (λ y m. out y (inr m)) ∙ inserted_other _ x.0 (record { kind = x.1.kind; locks = 0; bytes = None }) q (out x (inl refl));
   attributes = λ q out. r.attributes q (λ y m. out y (inr m)) ∙ inserted_other _ x.0 _ q (out x (inl refl));
@@ -57,7 +57,7 @@ same_owned w xs q out = ap C.owned_in ((fold_named w xs).attributes q out)
 -- What isn't there needn't go.
 pub kept_all : (gone : ℕ → Bool) (ids : List ℕ) → ((q : ℕ) → Member q ids → gone q ≡ false) → filter (λ q. not (gone q)) ids ≡ ids
 kept_all gone [] out = refl
-kept_all gone (q ∷ ids) out = ap (λ b. cond {A = List ℕ} (not b) (q ∷ filter (λ q. not (gone q)) ids) (filter (λ q. not (gone q)) ids)) (out q (inl refl)) ∙ ap (λ (r : List ℕ). q ∷ r) (kept_all gone ids (λ p m. out p (inr m)))
+kept_all gone (q ∷ ids) out = ap (λ b. cond {A = List ℕ} (not b) (q ∷ filter (λ q. not (gone q)) ids) (filter (λ q. not (gone q)) ids)) (out q (inl refl)) ∙ ap (λ r. q ∷ r) (kept_all gone ids (λ p m. out p (inr m)))
 
 pub retained : {X : Type 0} (m : C.FinMap C.nat_cmp X) (gone : ℕ → Bool) (q : ℕ) → finmap.get (finmap.retain_keys m (λ q. not (gone q))) q ≡ cond (not (gone q)) (finmap.get m q) None
 retained m gone q = C.get-retain_keys m (λ q. not _) q (λ x t. ap (λ k. not (gone k)) (sym (C.nat_cmp-IsAntisymmetric q x t)))
@@ -112,9 +112,9 @@ free_objects old is slots free q m = C.unused_slot _ is q (C.Each-at (IsFreeSlot
 
 pub taken_back_law : C.TakenBackLaw
 taken_back_law old slots xs is free inside = taken_away old is slots (free_objects old is slots free) xs
-    (λ x m. C.is_member-true x.0 slots (C.Each-at (λ (x : ℕ × Segment). is_member x.0 slots ≡ true) xs (C.Each-from_All (λ (x : ℕ × Segment). is_member x.0 slots ≡ true) xs inside) x m))
+    (λ x m. C.is_member-true x.0 slots (C.Each-at (λ x. is_member x.0 slots ≡ true) xs (C.Each-from_All (λ x. is_member x.0 slots ≡ true) xs inside) x m))
     _ (fold_named old xs)
 
 pub undone_law : C.UndoneLaw
-undone_law old closure choice is chosen_well = ap (λ (w : LoadingWorld). C.with_heap old w.handles.heap) (taken_away old is (C.all_slots choice) (free_objects old is (C.all_slots choice) chosen_well.slots.free) (segments_of (given closure choice))
+undone_law old closure choice is chosen_well = ap (λ w. C.with_heap old w.handles.heap) (taken_away old is (C.all_slots choice) (free_objects old is (C.all_slots choice) chosen_well.slots.free) (segments_of (given closure choice))
     (chosen 0 closure.found choice.handles choice.slots) (fold with_segment old (segments_of (given closure choice))) (fold_named old _))

@@ -16,7 +16,7 @@ by_name name (Some (C.BuiltIn other)) = refl
 pub values_law : C.ValuesLaw
 values_law f g m (C.Internal number offset) same = refl
 values_law f g m (C.InternalEntry ordinal) same = refl
-values_law f g m (C.Import reference ordinal) same = let h : ℕ = imported m reference in
+values_law f g m (C.Import reference ordinal) same = let h = imported m reference in
     by_ordinal (imported m _) ordinal (f _) ∙ ap (λ p. address_by_ordinal (imported m reference) p ordinal) (same _) ∙ sym (by_ordinal (imported m _) ordinal (g _))
 values_law f g m (C.ImportName reference name) same = by_name name _ ∙ ap (λ p. address_by_name p name) (same _) ∙ sym (by_name name _)
 values_law f g m C.System same = refl
