@@ -11,7 +11,7 @@ same_values m n same = C.same_map C.nat_cmp_total C.nat_cmp-IsAntisymmetric m n 
 
 -- where nothing goes all stay
 pub all_retained : {X : Type 0} (m : FinMap nat_cmp X) (gone : ℕ → Bool) → ((q : ℕ) → gone q ≡ false) → finmap.retain_keys m (λ q. not (gone q)) ≡ m
-all_retained m gone out = same_values (finmap.retain_keys m (λ q. not (gone q))) m (λ q. retained m gone q ∙ ap (λ b. cond (not b) (finmap.get m q) None) (out q))
+all_retained m gone out = same_values (finmap.retain_keys m (λ q. not _)) m (λ q. retained m gone q ∙ ap (λ b. cond (not b) (finmap.get m q) None) (out q))
 
 pub none_gone : (gone : ℕ → Bool) (world : C.LoadingWorld) → ((q : ℕ) → gone q ≡ false) → C.without_objects gone world ≡ world
 none_gone gone world out = λ i. record world {
@@ -40,13 +40,13 @@ retained_swapped m a b = same_values _ _ (λ q.
     swapped false false p = refl
 
 pub removed_swapped : {X : Type 0} (m : FinMap nat_cmp X) (a b : ℕ) → finmap.remove (finmap.remove m a) b ≡ finmap.remove (finmap.remove m b) a
-removed_swapped m a b = same_values (finmap.remove (finmap.remove m a) b) (finmap.remove (finmap.remove m b) a) (λ q. elim (cases_eq q a) [
+removed_swapped m a b = same_values _ _ (λ q. elim (cases_eq q a) [
   | inl e ↦ elim (cases_eq q b) [
-    | inl f ↦ taken_here (finmap.remove m a) b q f ∙ sym (taken_here (finmap.remove m b) a q e)
-    | inr f ↦ taken_other (finmap.remove m a) b q f ∙ taken_here m a q e ∙ sym (taken_here (finmap.remove m b) a q e)
+    | inl f ↦ taken_here _ b q f ∙ sym (taken_here _ a q e)
+    | inr f ↦ taken_other _ b q f ∙ taken_here m a q e ∙ sym (taken_here _ a q e)
   ]
   | inr d ↦ elim (cases_eq q b) [
-    | inl f ↦ taken_here (finmap.remove m a) b q f ∙ sym (taken_other (finmap.remove m b) a q d ∙ taken_here m b q f)
-    | inr f ↦ taken_other (finmap.remove m a) b q f ∙ taken_other m a q d ∙ sym (taken_other (finmap.remove m b) a q d ∙ taken_other m b q f)
+    | inl f ↦ taken_here _ b q f ∙ sym (taken_other _ a q d ∙ taken_here m b q f)
+    | inr f ↦ taken_other _ b q f ∙ taken_other m a q d ∙ sym (taken_other _ a q d ∙ taken_other m b q f)
   ]
 ])

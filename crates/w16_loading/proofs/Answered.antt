@@ -71,7 +71,7 @@ small number le = let first : FIRST_MODULE ≡ 33 = refl in omega (arith, first,
 small_refusal : (place : ℕ) (fault : FetchFault) → IsRefusal (C.refusal_of place fault)
 small_refusal place Store = tt
 small_refusal place NoRoom = small 0 (omega arith)
-small_refusal place Damaged = turn (place == 0)
+small_refusal place Damaged = turn _
   where
     turn : (b : Bool) → cond b 11 20 < FIRST_MODULE
     turn true = small 11 (omega arith)

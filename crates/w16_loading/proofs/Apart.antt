@@ -92,11 +92,11 @@ module _ (old : LoadingWorld) (is : C.IsLoadingWorld old) (handle : ℕ) (m : Mo
 
 pub uses_apart_law : C.UsesApartLaw
 uses_apart_law old new handle answer m is at used f = record {
-  answered = f.ended.answered ∙ ap (λ b. cond b 1 0) (ap (λ (w : LoadingWorld). finmap.contains_key w.modules handle) left ∙ ap is_some here);
-  less = ap (λ (w : LoadingWorld). module_at w.modules handle) all ∙ ap module_in here;
-  others = λ other d. ap (λ (w : LoadingWorld). finmap.get w.modules other) all ∙ inserted_other old.modules handle (Loaded (record m { uses = m.uses - 1 })) other d;
-  handles = ap (λ (w : LoadingWorld). w.handles) all;
-  loads = ap (λ (w : LoadingWorld). w.loads) all;
+  answered = f.ended.answered ∙ ap (λ b. cond b 1 0) (ap (λ w. finmap.contains_key w.modules handle) left ∙ ap is_some here);
+  less = ap (λ w. module_at w.modules handle) all ∙ ap module_in here;
+  others = λ other d. ap (λ w. finmap.get w.modules other) all ∙ inserted_other old.modules handle (Loaded (record m { uses = m.uses - 1 })) other d;
+  handles = ap (λ w. w.handles) all;
+  loads = ap (λ w. w.loads) all;
   unused = λ e. all ∙ unused_same old is handle m loaded e;
 }
   where
@@ -107,7 +107,7 @@ uses_apart_law old new handle answer m is at used f = record {
     here = inserted_here old.modules handle (Loaded (record m { uses = m.uses - 1 })) handle refl
 
     left : f.left ≡ less old is handle m loaded
-    left = none_goes old is handle m loaded used f.ended.gone f.left (subst (λ (w : LoadingWorld). Go w f.ended.gone f.left) (is_less old is handle m loaded) f.ended.went)
+    left = none_goes old is handle m loaded used f.ended.gone f.left (subst (λ w. Go w f.ended.gone f.left) (is_less old is handle m loaded) f.ended.went)
 
     all : new ≡ less old is handle m loaded
     all = f.after ∙ ap C.without_orphans left ∙ same_without old is handle m loaded

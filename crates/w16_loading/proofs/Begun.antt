@@ -5,7 +5,7 @@ use Rattle.w16_model.proofs.Empty as handles
 
 -- nothing is under any key
 none : {X : Type 0} (q : ℕ) → finmap.get (finmap.empty {X = X} {R = nat_cmp}) q ≡ None
-none q = get-empty nat_cmp q
+none q = get-empty _ q
 
 if_none : {X : Type 0} (P : X → Type 0) (p : Option X) → p ≡ None → IfSome p P
 if_none P None e = tt
@@ -19,13 +19,13 @@ no_module q = ap module_in (none q)
 
 pub empty_law : EmptyLaw
 empty_law memory slots files failures few = record {
-  handles = handles.empty_law memory slots few;
+  handles = handles.empty_law _ slots few;
   numbers = λ q. if_none _ _ (none q);
   names = λ a b m n x y same. absurd (not_some a m x);
   modules = λ q. if_none _ _ (no_module q);
   loads = λ q. if_none _ _ (none q);
   one_segment = λ slot a i b j m n x y. let h : ◌≡◌ {A = Option _} None (Some m) = sym (no_module a) ∙ x.loaded in cc;
-  one_object = λ s t handle place m n x y. let h : ◌≡◌ {A = Option _} None (Some m) = sym (no_module handle) ∙ x.loaded in cc;
+  one_object = λ s t handle place m n x y. let h : ◌≡◌ {A = Option _} None (Some m) = sym (no_module _) ∙ x.loaded in cc;
   no_resource = λ slot a i b j m n x y. let h : ◌≡◌ {A = Option _} None (Some m) = sym (no_module a) ∙ x.loaded in cc;
   owners = λ q. if_none _ _ (ap owned_in (none q));
 }
@@ -33,6 +33,6 @@ empty_law memory slots files failures few = record {
 -- and nothing there is of another file
 pub empty_of_files_law : EmptyOfFilesLaw
 empty_of_files_law format memory slots files failures = record {
-  code = λ slot handle number m s coded. let h : ◌≡◌ {A = Option Module} None (Some m) = sym (no_module handle) ∙ s.loaded in cc;
-  modules = λ handle m e. let h : ◌≡◌ {A = Option Module} None (Some m) = sym (no_module handle) ∙ e in cc;
+  code = λ slot handle number m s coded. let h : ◌≡◌ {A = Option Module} None (Some m) = sym (no_module _) ∙ s.loaded in cc;
+  modules = λ handle m e. let h : ◌≡◌ {A = Option Module} None (Some m) = sym (no_module _) ∙ e in cc;
 }

@@ -16,13 +16,13 @@ abbrev pub Good : Modules → Modules → Type 0
 Good old new = (handle : ℕ) (m n : Module) → module_at old handle ≡ Some m → module_at new handle ≡ Some n → Same m n
 
 equal : (m n : Module) → n ≡ m → Same m n
-equal m n e = (ap (λ (x : Module). x.values) e, ap (λ (x : Module). x.slots) e, ap (λ (x : Module). x.imports) e)
+equal m n e = (ap (λ x. x.values) e, ap (λ x. x.slots) e, ap (λ x. x.imports) e)
 
 one : (p : Option Module) (m n : Module) → p ≡ Some m → p ≡ Some n → Same m n
 one p m n e f = let g : n ≡ m = cc in equal m n g
 
 pub unchanged : (old new : Modules) → new ≡ old → Good old new
-unchanged old new e handle m n a b = one (module_at old handle) m n a (sym (ap (λ (x : Modules). module_at x handle) e) ∙ b)
+unchanged old new e handle m n a b = one _ m n a (sym (ap (λ x. module_at x handle) e) ∙ b)
 
 absurd_none : {A : Type 0} (p : Option Named) (m : Module) → p ≡ None → module_in p ≡ Some m → A
 absurd_none p m e f = let g : ◌≡◌ {A = Option Module} None (Some m) = sym (ap module_in e) ∙ f in cc
@@ -30,44 +30,44 @@ absurd_none p m e f = let g : ◌≡◌ {A = Option Module} None (Some m) = sym 
 -- a handle that was free
 put_new : (old : Modules) (k : ℕ) (x : Named) → finmap.get old k ≡ None → Good old (finmap.insert old k x)
 put_new old k x none handle m n a b = elim (cases_eq handle k) [
-  | inl e ↦ absurd_none (finmap.get old handle) m (ap (finmap.get old) e ∙ none) a
-  | inr d ↦ one (module_at old handle) m n a (ap module_in (sym (C.inserted_other old k x handle d)) ∙ b)
+  | inl e ↦ absurd_none _ m (ap (finmap.get old) e ∙ none) a
+  | inr d ↦ one _ m n a (ap module_in (sym (C.inserted_other old k x _ d)) ∙ b)
 ]
 
 -- another count of uses
 put_uses : (old : Modules) (k : ℕ) (x : Module) (uses : ℕ) → module_at old k ≡ Some x → Good old (finmap.insert old k (Loaded (record x { uses = uses })))
 put_uses old k x uses there handle m n a b = elim (cases_eq handle k) [
-  | inl e ↦ here (sym a ∙ ap (module_at old) e ∙ there) (sym b ∙ ap module_in (C.inserted_here old k (Loaded (record x { uses = uses })) handle e))
-  | inr d ↦ one (module_at old handle) m n a (ap module_in (sym (C.inserted_other old k (Loaded (record x { uses = uses })) handle d)) ∙ b)
+  | inl e ↦ here (sym a ∙ ap (module_at old) e ∙ there) (sym b ∙ ap module_in (C.inserted_here old k (Loaded (record x { uses = uses })) _ e))
+  | inr d ↦ one _ m n a (ap module_in (sym (C.inserted_other old k (Loaded (record x { uses = uses })) _ d)) ∙ b)
 ]
   where
     here : Some m ≡ Some x → Some n ≡ Some (record x { uses = uses }) → Same m n
     here e f = let g : m ≡ x = cc in let h : n ≡ record x { uses = uses } = cc in
-        (ap (λ (y : Module). y.values) h ∙ sym (ap (λ (y : Module). y.values) g), ap (λ (y : Module). y.slots) h ∙ sym (ap (λ (y : Module). y.slots) g), ap (λ (y : Module). y.imports) h ∙ sym (ap (λ (y : Module). y.imports) g))
+        (ap (λ y. y.values) h ∙ sym (ap (λ y. y.values) g), ap (λ y. y.slots) h ∙ sym (ap (λ y. y.slots) g), ap (λ y. y.imports) h ∙ sym (ap (λ y. y.imports) g))
 
 -- Loads.
 
 new_modules : (old : Modules) (module_of : Given → Module) (fs : List Found) (hs : List ℕ) (ss : List (List ℕ)) → ((k : ℕ) → C.Member k hs → finmap.get old k ≡ None) → Good old (C.with_modules module_of (given_from 0 fs hs ss) old)
-new_modules old module_of fs hs ss free handle m n a b = one (module_at old handle) m n a (ap module_in (sym (put_all module_of (given_from 0 fs hs ss) old handle out)) ∙ b)
+new_modules old module_of fs hs ss free handle m n a b = one _ m n a (ap module_in (sym (put_all _ _ old _ out)) ∙ b)
   where
     out : (g : Given) → C.Member g (given_from 0 fs hs ss) → handle ≢ g.handle
-    out g mem e = absurd_none (finmap.get old handle) m (ap (finmap.get old) e ∙ free g.handle (given_handle 0 fs hs ss g mem)) a
+    out g mem e = absurd_none _ m (ap (finmap.get old) e ∙ free _ (given_handle 0 fs hs ss g mem)) a
 
 fulfilled : (gives : C.Giving) (old : LoadingWorld) (closure : C.Closure) (answer : C.Answer) (new : LoadingWorld) → C.Fulfils gives old closure answer new → Good old.modules new.modules
-fulfilled gives old closure answer new f = subst (λ (w : LoadingWorld). Good old.modules w.modules) (sym f.after) (turn f.failure)
+fulfilled gives old closure answer new f = subst (λ w. Good old.modules w.modules) (sym f.after) (turn f.failure)
   where
     turn : (failure : Option C.Failure) → Good old.modules (left failure (C.with_heap (named old closure f.choice) f.heap) (C.undone old f.choice f.heap)).modules
-    turn (Some failure) = unchanged old.modules old.modules refl
-    turn None = new_modules old.modules (bound old closure f.choice) closure.found f.choice.handles f.choice.slots (λ k m. (C.Each-at (C.IsFreeModule old.modules) f.choice.handles (C.Each-from_All (C.IsFreeModule old.modules) f.choice.handles f.is_choice.free) k m).2)
+    turn (Some failure) = unchanged _ _ refl
+    turn None = new_modules old.modules (bound old closure _) closure.found f.choice.handles f.choice.slots (λ k m. (C.Each-at (C.IsFreeModule _) f.choice.handles (C.Each-from_All _ _ f.is_choice.free) k m).2)
 
 -- Uses that end.
 
 left_good : (old mid new : Modules) → Good old mid → ((handle : ℕ) → (module_at new handle ≡ None) ⊎ (module_at new handle ≡ module_at mid handle)) → Good old new
-left_good old mid new good l handle m n a b = turn (l handle)
+left_good old mid new good l handle m n a b = turn (l _)
   where
     turn : (module_at new handle ≡ None) ⊎ (module_at new handle ≡ module_at mid handle) → Same m n
     turn (inl e) = let h : ◌≡◌ {A = Option Module} None (Some n) = sym e ∙ b in cc
-    turn (inr e) = good handle m n a (sym e ∙ b)
+    turn (inr e) = good _ m n a (sym e ∙ b)
 
 abbrev pub world_without : LoadingWorld → ℕ → Option Module → LoadingWorld
 world_without world handle p = elim p [ None ↦ world | Some m ↦ let left = C.without_objects (λ q. C.is_member q m.slots) world in record left { modules = finmap.remove left.modules handle } ]
@@ -83,7 +83,7 @@ gone_one old k handle = turn (module_at old.modules k)
     turn (Some m) = removed
 
 gone : (old : LoadingWorld) (ks : List ℕ) (new : LoadingWorld) → Go old ks new → (handle : ℕ) → (module_at new.modules handle ≡ None) ⊎ (module_at new.modules handle ≡ module_at old.modules handle)
-gone old [] new f handle = inr (ap (λ (w : LoadingWorld). module_at w.modules handle) f.1)
+gone old [] new f handle = inr (ap (λ w. module_at w.modules handle) f.1)
 gone old (k ∷ ks) new f handle = turn (gone (without_module old k) ks new f.1 handle) (gone_one old k handle)
   where
     turn : (module_at new.modules handle ≡ None) ⊎ (module_at new.modules handle ≡ module_at (without_module old k).modules handle)
@@ -97,14 +97,14 @@ abbrev pub world_used_less : LoadingWorld → ℕ → Option Module → LoadingW
 world_used_less world handle p = elim p [ None ↦ world | Some m ↦ record world { modules = finmap.insert world.modules handle (Loaded (record m { uses = m.uses - 1 })) } ]
 
 less_used : (old : LoadingWorld) (k : ℕ) → Good old.modules (used_less old k).modules
-less_used old k = turn (module_at old.modules k) refl
+less_used old k = turn _ refl
   where
     turn : (p : Option Module) → module_at old.modules k ≡ p → Good old.modules (world_used_less old k p).modules
-    turn None e = unchanged old.modules old.modules refl
-    turn (Some m) e = put_uses old.modules k m (m.uses - 1) e
+    turn None e = unchanged _ _ refl
+    turn (Some m) e = put_uses _ k m _ e
 
 freed : (old : LoadingWorld) (k answer : ℕ) (new : LoadingWorld) → Frees old k answer new → Good old.modules new.modules
-freed old k answer new f = subst (λ (w : LoadingWorld). Good old.modules w.modules) (sym f.after) (left_good old.modules (used_less old k).modules f.left.modules (less_used old k) (gone (used_less old k) f.ended.gone f.left f.ended.went))
+freed old k answer new f = subst (λ w. Good old.modules w.modules) (sym f.after) (left_good old.modules (used_less old k).modules f.left.modules (less_used old k) (gone (used_less old k) f.ended.gone f.left f.ended.went))
 
 -- Steps.
 
@@ -127,13 +127,13 @@ bound_law honest format old new command reply step = family (FetchesFrom Fills a
       resizes = λ command reply next step. same;
       reads = λ selector offset n world good. good;
       writes = λ selector offset slice world ours good. good;
-      fetched = λ slot fault next f. unchanged old.modules next.modules (ap (λ (w : LoadingWorld). w.modules) f.rest);
+      fetched = λ slot fault next f. unchanged old.modules next.modules (ap (λ w. w.modules) f.rest);
       built = λ name handle none free. put_new old.modules handle (C.BuiltIn name) free.2;
       loaded = λ b file answer next f. loaded_by answers (told_answers honest format old.files old.failures new.failures) old (λ answer. Bound) (λ answer. same) b file answer next
           (λ handle m there few. put_uses old.modules handle m (m.uses + 1) (ap module_in there)) (λ closure facts. fulfilled (GivesFrom Fills answers) old closure answer next) f;
       freed = λ handle answer new f. freed old handle answer new f;
       counted = λ slot load count there some few. same;
-      made = λ slot handle place r fault next free at none f. unchanged old.modules next.modules (ap (λ (w : LoadingWorld). w.modules) f.rest);
+      made = λ slot handle place r fault next free at none f. unchanged old.modules next.modules (ap (λ w. w.modules) f.rest);
       locks = λ handle world good. good;
       last = λ slot load there. same;
     }

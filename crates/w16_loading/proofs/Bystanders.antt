@@ -13,11 +13,11 @@ use Rattle.w16_model.proofs.Bystanders as calls_proofs
 
 -- a resize is the call that it stands for
 resize_call : (old : Handles) (command : C.ResizeCommand) (reply : Reply) (next : Handles) → C.ResizeReplies old command reply next → (answer : calls.Answer) × CallStep old (call_of command) answer next
-resize_call old command reply next step = let s : (answer : calls.Answer) × ResizeStep old command answer next = some_of (λ answer. ResizeStep old command answer next) (C.answer_in reply) step in by command s.0 s.1
+resize_call old command reply next step = let s : (answer : calls.Answer) × ResizeStep old command answer next = some_of (λ answer. ResizeStep old _ _ next) _ step in by command s.0 s.1
   where
     by : (command : C.ResizeCommand) (answer : calls.Answer) → ResizeStep old command answer next → (answer : calls.Answer) × CallStep old (call_of command) answer next
-    by (GlobalReAlloc handle size flags) (calls.Answer.Word answer) step = (calls.Answer.Word answer, step)
-    by (GlobalDiscard handle) (calls.Answer.Word answer) step = (calls.Answer.Word answer, step)
+    by (GlobalReAlloc handle size flags) (calls.Answer.Word answer) step = (calls.Answer.Word _, step)
+    by (GlobalDiscard handle) (calls.Answer.Word answer) step = (calls.Answer.Word _, step)
     by (GlobalReAlloc handle size flags) (calls.Answer.Dword answer) step = absurd step
     by (GlobalReAlloc handle size flags) (calls.Answer.Walked answer) step = absurd step
     by (GlobalDiscard handle) (calls.Answer.Dword answer) step = absurd step
@@ -96,16 +96,16 @@ may_go old new failures q command g = absurd g
 
 pub bystanders_law : (honest : Type 0) → C.StepBystandersLaw honest
 bystanders_law honest format old new command reply q is step there out =
-    elim (family_spares (told honest format old.files old.failures new.failures) (told_answers honest format old.files old.failures new.failures) old is q there (record new { failures = old.failures }) reply command step.step out) [
+    elim (family_spares (told _ format _ old.failures new.failures) (told_answers _ format _ _ _) old is q there (record new { failures = old.failures }) reply command step.step out) [
       | inl s ↦ inl s.0
-      | inr r ↦ inr (r.0, may_go old new old.failures q command r.1)
+      | inr r ↦ inr (r.0, may_go old new _ q _ r.1)
     ]
 
 pub pinned_law : (honest : Type 0) → C.StepPinnedLaw honest
 pinned_law honest format old new command reply q is step pinned out =
-    elim (family_stands (told honest format old.files old.failures new.failures) (told_answers honest format old.files old.failures new.failures) old is q (some (object_at old.handles.heap q) pinned) (record new { failures = old.failures }) reply pinned command step.step out) [
+    elim (family_stands (told _ format _ old.failures new.failures) (told_answers _ format _ _ _) old is q (some _ pinned) (record new { failures = old.failures }) reply pinned command step.step out) [
       | inl s ↦ inl s
-      | inr r ↦ inr (r.0, may_go old new old.failures q command r.1)
+      | inr r ↦ inr (r.0, may_go old new _ q _ r.1)
     ]
   where
     some : (p : C.Option C.Object) → C.IsSomeAnd p (λ o. C.is_pinned_object o ≡ true) → C.is_some p ≡ true

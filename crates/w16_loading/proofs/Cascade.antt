@@ -17,15 +17,15 @@ went world handle m e = ap (λ p. world_without world handle (C.module_in p)) e
 stays_idle : (world : LoadingWorld) (handle k : ℕ) (m : Module) → k ≢ handle → Idle world.modules k → Idle (gone_with world handle m).modules k
 stays_idle world handle k m d h = record {
   idle = h.idle;
-  loaded = taken_other world.modules handle k d ∙ h.loaded;
+  loaded = taken_other _ _ k d ∙ h.loaded;
   unused = h.unused;
   alone = λ i. h.alone (record { who = i.who; importer = i.importer; there = before i; other = i.other; uses = i.uses });
 }
   where
     before : (i : HasImporter (finmap.remove world.modules handle) k) → finmap.get world.modules i.who ≡ Some i.importer
-    before i = elim (C.cases_eq i.who handle) [
-      | inl e ↦ absurd (none (sym (C.taken_here world.modules handle i.who e) ∙ i.there))
-      | inr f ↦ sym (taken_other world.modules handle i.who f) ∙ i.there
+    before i = elim (C.cases_eq i.who _) [
+      | inl e ↦ absurd (none (sym (C.taken_here _ _ i.who e) ∙ i.there))
+      | inr f ↦ sym (taken_other _ _ i.who f) ∙ i.there
     ]
       where
         none : ◌≡◌ {A = C.Option Named} None (Some i.importer) → ⊥
@@ -62,27 +62,27 @@ goes_first old k idle (x ∷ xs) end go = turn (λ later. goes_first (without_mo
     turn : (Idle (without_module old x).modules k → (rest : List ℕ) × Go (without_module (without_module old x) k) rest end) → (k ≡ x) ⊎ (k ≢ x) → (rest : List ℕ) × Go (without_module old k) rest end
     turn again (inl e) = (xs, subst (λ h. Go (without_module old h) xs end) (sym e) go.1)
     turn again (inr d) =
-        let later : Idle (without_module old x).modules k = subst (λ (w : LoadingWorld). Idle w.modules k) (sym (went old x first.idle first.loaded)) (stays_idle old x k first.idle d idle) in
-        let rest : (rest : List ℕ) × Go (without_module (without_module old x) k) rest end = again later in
-        let sooner : Idle (gone_with old k idle.idle).modules x = stays_idle old k x idle.idle (λ e. d (sym e)) first in
-        let same : without_module (without_module old x) k ≡ without_module (without_module old k) x = both_ways later sooner in (
+        let later = subst (λ w. Idle w.modules k) (sym (went old x first.idle first.loaded)) (stays_idle old x k first.idle d idle) in
+        let rest = again later in
+        let sooner = stays_idle old k x idle.idle (λ e. d (sym e)) first in
+        let same = both_ways later sooner in (
           x ∷ rest.0,
           (
-            subst (λ (w : LoadingWorld). C.is_idle w.modules x ≡ true) (sym (went old k idle.idle idle.loaded)) (is_then_idle (gone_with old k idle.idle).modules x sooner),
-            subst (λ (w : LoadingWorld). Go w rest.0 end) same rest.1,
+            subst (λ w. C.is_idle w.modules x ≡ true) (sym (went old k idle.idle idle.loaded)) (is_then_idle (gone_with old k idle.idle).modules x sooner),
+            subst (λ w. Go w rest.0 end) same rest.1,
           ),
         )
       where
         both_ways : Idle (without_module old x).modules k → Idle (gone_with old k idle.idle).modules x → without_module (without_module old x) k ≡ without_module (without_module old k) x
         both_ways later sooner =
-            ap (λ (w : LoadingWorld). without_module w k) (went old x first.idle first.loaded)
+            ap (λ w. without_module w k) (went old x first.idle first.loaded)
             ∙ went (gone_with old x first.idle) k idle.idle (taken_other old.modules x k d ∙ idle.loaded)
             ∙ swapped old x k first.idle idle.idle
-            ∙ sym (ap (λ (w : LoadingWorld). without_module w x) (went old k idle.idle idle.loaded) ∙ went (gone_with old k idle.idle) x first.idle (taken_other old.modules k x (λ e. d (sym e)) ∙ first.loaded))
+            ∙ sym (ap (λ w. without_module w x) (went old k idle.idle idle.loaded) ∙ went (gone_with old k idle.idle) x first.idle (taken_other old.modules k x (λ e. d (sym e)) ∙ first.loaded))
 
 pub one_end_law : C.OneEndLaw
 one_end_law old a b [] [] go other = go.1 ∙ sym other.1
 one_end_law old a b (x ∷ xs) [] go other = absurd (false≢true (sym (other.0 x) ∙ go.0))
 one_end_law old a b xs (y ∷ ys) go other =
-    let rest : (rest : List ℕ) × Go (without_module old y) rest a = goes_first old y (idle_parts old.modules y other.0) xs a go in
+    let rest = goes_first old y (idle_parts _ y other.0) xs a go in
     one_end_law (without_module old y) a b rest.0 ys rest.1 other.1

@@ -16,7 +16,7 @@ IsOfFile format old f = (said_by format.says (file_of old.files f.file) ≡ Ok f
 
 read_said : (format : Format) (p : Option (List ℕ)) (read : ModuleFile) → said_by format.says p ≡ Ok read → elim p as (λ _. Option ModuleFile) [ None ↦ None | Some bytes ↦ elim (format.says bytes) [ Ok read ↦ Some read | Err _ ↦ None ] ] ≡ Some read
 read_said format None read e = cc
-read_said format (Some bytes) read e = ap (λ (r : Result ModuleFile ℕ). elim r [ Ok y ↦ Some y | Err _ ↦ None ]) e
+read_said format (Some bytes) read e = ap (λ r. elim r [ Ok y ↦ Some y | Err _ ↦ None ]) e
 
 -- What names leave.
 
@@ -28,14 +28,14 @@ still_absent w (x ∷ xs) q e = still_absent (with_segment w x) xs q (elim (case
 ])
 
 -- a value for each record
-pub sound_values : (value : Target → Far) (ss : List SegmentData) → list_all (λ (s : SegmentData). is_some s.targets) ss ≡ true
-    → AllZip (λ (s : SegmentData) (values : List Far). IsSomeAnd s.targets (λ targets. length values ≡ length targets)) ss (map (λ s. map value (targets_of s)) ss)
+pub sound_values : (value : Target → Far) (ss : List SegmentData) → list_all (λ s. is_some s.targets) ss ≡ true
+    → AllZip (λ s values. IsSomeAnd s.targets (λ targets. length values ≡ length targets)) ss (map (λ s. map value (targets_of s)) ss)
 sound_values value [] e = tt
-sound_values value (s ∷ ss) e = turn s.targets refl e (λ f. sound_values value ss f)
+sound_values value (s ∷ ss) e = turn _ refl e (λ f. sound_values value ss f)
   where
-    turn : (p : Option (List Target)) → s.targets ≡ p → (is_some p && list_all (λ (s : SegmentData). is_some s.targets) ss) ≡ true
-        → (list_all (λ (s : SegmentData). is_some s.targets) ss ≡ true → AllZip (λ (s : SegmentData) (values : List Far). IsSomeAnd s.targets (λ targets. length values ≡ length targets)) ss (map (λ s. map value (targets_of s)) ss))
-        → AllZip (λ (s : SegmentData) (values : List Far). IsSomeAnd s.targets (λ targets. length values ≡ length targets)) (s ∷ ss) (map (λ s. map value (targets_of s)) (s ∷ ss))
+    turn : (p : Option (List Target)) → s.targets ≡ p → (is_some p && list_all (λ s. is_some s.targets) ss) ≡ true
+        → (list_all (λ s. is_some s.targets) ss ≡ true → AllZip (λ s values. IsSomeAnd s.targets (λ targets. length values ≡ length targets)) ss (map (λ s. map value (targets_of s)) ss))
+        → AllZip (λ s values. IsSomeAnd s.targets (λ targets. length values ≡ length targets)) (s ∷ ss) (map (λ s. map value (targets_of s)) (s ∷ ss))
     turn None at e more = absurd (false≢true e)
     turn (Some targets) at e more = (subst (λ p. IsSomeAnd p (λ ts. length (map value (targets_of s)) ≡ length ts)) (sym at) (ap (λ p. length (map value (unwrap_or p []))) at ∙ length-map targets value), more e)
 

@@ -23,12 +23,12 @@ first_part handles is selector slot named = turn (C.object_at handles.heap slot)
     turn : (p : Option C.Object) → C.object_at handles.heap slot ≡ p → IsSomeAnd p (λ _. selector ≡ selector_of slot) → part_of_selector handles selector ≡ Some (record { slot = slot; number = 0 })
     turn None there h = absurd h
     turn (Some o) there h =
-        let at : selector / 8 ≡ slot = ap (λ n. n / 8) h ∙ (omega arith) in
-        let owned : owner_of handles.attributes slot ≡ Some slot = is_owner handles.attributes handles.slots is.runs slot slot (first_in handles.slots handles.attributes is.runs slot (is.attributed slot ∙ ap C.is_some there)) in
+        let at = ap (λ n. n / 8) h ∙ (omega arith) in
+        let owned = is_owner handles.attributes handles.slots is.runs slot slot (first_in handles.slots handles.attributes is.runs slot (is.attributed slot ∙ ap C.is_some there)) in
         let low : (selector == selector_of (selector / 8)) ≡ true = C.eq-eqb selector (selector_of (selector / 8)) (h ∙ ap selector_of (sym at)) in
-        ap (λ b. if b then option_map (λ (s : ℕ). let p : Part = record { slot = s; number = selector / 8 - s } in p) (owner_of handles.attributes (selector / 8)) else None) low
-        ∙ ap (λ n. option_map (λ (s : ℕ). let p : Part = record { slot = s; number = n - s } in p) (owner_of handles.attributes n)) at
-        ∙ ap (option_map (λ (s : ℕ). let p : Part = record { slot = s; number = slot - s } in p)) owned
+        ap (λ b. if b then option_map (λ s. let p : Part = record { slot = s; number = selector / 8 - s } in p) (owner_of handles.attributes (selector / 8)) else None) low
+        ∙ ap (λ n. option_map (λ s. let p : Part = record { slot = s; number = n - s } in p) (owner_of handles.attributes n)) at
+        ∙ ap (option_map (λ s. let p : Part = record { slot = s; number = slot - s } in p)) owned
         ∙ (let none : slot - slot ≡ 0 = omega arith in λ i. Some (record { slot = slot; number = none i }))
 
 abbrev part_in : Option Part → Part
@@ -43,11 +43,11 @@ read_bytes format world selector offset n slot handle number m bytes code segmen
     turn (Some fault) e f = cc
     turn None e f =
         let same : bytes ≡ part (far_bytes world.handles selector) (far_at world.handles selector offset) n = cc in
-        let r : C.Reached world.handles (far_slot world.handles selector) (far_at world.handles selector offset + n) = C.reached world.handles selector offset n e in
-        let at : far_slot world.handles selector ≡ slot = ap (λ p. (part_in p).slot) named in
-        let from : far_at world.handles selector offset ≡ offset = ap (λ p. REACH * (part_in p).number + offset) named ∙ (omega arith) in
-        let its : C.bytes_at world.handles.heap slot ≡ Some r.bytes = ap (C.bytes_at world.handles.heap) (sym at) ∙ r.here in
-        let said : segment_bytes format world m number ≡ Some r.bytes = subst (λ p. C.IfSome p (λ b. segment_bytes format world m number ≡ Some b)) its (code slot handle number m segment coded) in
+        let r = C.reached world.handles selector offset n e in
+        let at = ap (λ p. (part_in p).slot) named in
+        let from = ap (λ p. REACH * (part_in p).number + offset) named ∙ (omega arith) in
+        let its = ap (C.bytes_at world.handles.heap) (sym at) ∙ r.here in
+        let said = subst (λ p. C.IfSome p (λ b. segment_bytes format world m number ≡ Some b)) its (code slot handle number m segment coded) in
         subst (λ p. IsSomeAnd p (λ image. bytes ≡ part image offset n)) (sym said) (same ∙ ap (λ k. part (far_bytes world.handles selector) k n) from ∙ ap (λ p. part (C.unwrap_or p []) offset n) r.here)
 
 pub code_reads_law : (honest : Type 0) → C.CodeReadsLaw honest
@@ -66,12 +66,12 @@ code_reads_law honest format old later pointer count bytes slot handle number m 
     after : (next : LoadingWorld) → FetchesFrom Fills answers old (far_slot old.handles (selector_in pointer)) None next → gives (far_read (selector_in pointer) (offset_in pointer) count next) ((replies.Reply.Bytes bytes)) new
         → IsSomeAnd (segment_bytes format old m number) (λ image. bytes ≡ part image (offset_in pointer) count)
     after next f g =
-        let good : C.IsOfFiles format next = code_kept format old next (fetched_code format is.handles.heap (world_fetches format truly old.failures later.failures old is (far_slot old.handles (selector_in pointer))) f) of in
+        let good = code_kept format old next (fetched_code format is.handles.heap (world_fetches format truly old.failures later.failures old is (far_slot old.handles (selector_in pointer))) f) of in
         let there : part_of_selector next.handles (selector_in pointer) ≡ Some (record { slot = slot; number = 0 }) = ap (λ (w : LoadingWorld). part_of_selector w.handles (selector_in pointer)) f.rest ∙ first_part old.handles is.handles (selector_in pointer) slot named in
-        let in_next : C.IsSegmentOf next slot handle number m = record { loaded = ap (λ (w : LoadingWorld). C.module_at w.modules handle) f.rest ∙ segment.loaded; has = segment.has } in
+        let in_next : C.IsSegmentOf next slot handle number m = record { loaded = ap (λ w. C.module_at w.modules handle) f.rest ∙ segment.loaded; has = segment.has } in
         let read : IsSomeAnd (segment_bytes format next m number) (λ image. bytes ≡ part image (offset_in pointer) count) =
-        read_bytes format next (selector_in pointer) (offset_in pointer) count slot handle number m bytes good.code in_next (ap (λ (w : LoadingWorld). C.is_code w slot) f.rest ∙ coded) there g.0 in
-        subst (λ p. IsSomeAnd p (λ image. bytes ≡ part image (offset_in pointer) count)) (ap (λ (w : LoadingWorld). image_of format w.files m.file m.values number) f.rest) read
+        read_bytes format next (selector_in pointer) (offset_in pointer) count slot handle number m bytes good.code in_next (ap (λ w. C.is_code w slot) f.rest ∙ coded) there g.0 in
+        subst (λ p. IsSomeAnd p (λ image. bytes ≡ part image (offset_in pointer) count)) (ap (λ w. image_of format w.files m.file m.values number) f.rest) read
 
     fetched : (fault : Option C.FetchFault) (next : LoadingWorld) → FetchesFrom Fills answers old (far_slot old.handles (selector_in pointer)) fault next
         → C.MatchOption fault (gives (far_read (selector_in pointer) (offset_in pointer) count next) ((replies.Reply.Bytes bytes)) new) (λ f. ((replies.Reply.Bytes bytes) ≡ C.Failed f) × (new ≡ next))

@@ -14,30 +14,30 @@ use Rattle.std.specs.FinMap as finmap
 
 -- 0 names nothing
 never_0 : (world : LoadingWorld) → C.IsLoadingWorld world → (n : Named) → finmap.get world.modules 0 ≡ Some n → ⊥
-never_0 world is n there = turn (finmap.get world.modules 0) there (is.numbers 0)
+never_0 world is n there = turn _ there (is.numbers 0)
   where
     turn : (p : Option Named) → p ≡ Some n → C.IfSome p (λ _. (33 ≤ 0) × (0 < 33 + 200)) → ⊥
     turn None e h = cc
     turn (Some m) e h = omega (arith, h.0)
 
 pub named_law : (honest : Type 0) → NamedLaw honest
-named_law honest format old new name answer is step = turn (handle_named old.modules name) refl step.step.0
+named_law honest format old new name answer is step = turn _ refl step.step.0
   where
     turn : (p : Option ℕ) → handle_named old.modules name ≡ p → ◌≡◌ {A = Reply} (Word answer) (Word (unwrap_or p 0))
         → (answer ≢ 0 → (n : Named) × (finmap.get old.modules answer ≡ Some n) × (is_named (name_of n) name ≡ true))
         × (answer ≡ 0 → (handle : ℕ) (n : Named) → finmap.get old.modules handle ≡ Some n → is_named (name_of n) name ≡ false)
-    turn None e says = let none : answer ≡ 0 = cc in ((λ some. absurd (some none)), λ _ handle n there. not_named old.modules name e handle n there)
+    turn None e says = let none : answer ≡ 0 = cc in ((λ some. absurd (some none)), λ _ handle n there. not_named _ name e _ n there)
     turn (Some handle) e says =
         let same : answer ≡ handle = cc in
-        let h = named_there old.modules name handle e in (
-          λ some. (h.0, ap (finmap.get old.modules) same ∙ h.1, h.2),
-          λ none. absurd (never_0 old is h.0 (ap (finmap.get old.modules) (sym none ∙ same) ∙ h.1)),
+        let h = named_there _ name _ e in (
+          λ some. (h.0, ap (finmap.get _) same ∙ h.1, h.2),
+          λ none. absurd (never_0 old is h.0 (ap (finmap.get _) (sym none ∙ same) ∙ h.1)),
         )
 
 pub built_in_law : (honest : Type 0) → BuiltInLaw honest
 built_in_law honest format old new name answer step some =
     let says : step.step.0 ≡ answer = (let e = step.step.1 in cc) in
-    subst (λ (a : ℕ). (own : List ℕ) × (finmap.get new.modules a ≡ Some (BuiltIn own)) × (is_named own name ≡ true)) says
+    subst (λ a. (own : List ℕ) × (finmap.get new.modules a ≡ Some (BuiltIn own)) × (is_named own name ≡ true)) says
     (turn step.step.0 (λ none. some (sym says ∙ none)) (handle_named old.modules name) refl step.step.2)
   where
     is_own : is_named name name ≡ true
@@ -49,21 +49,21 @@ built_in_law honest format old new name answer step some =
     there a some handle n at named (Some (C.Loaded m)) e says same = absurd (some says)
     there a some handle n at named (Some (BuiltIn own)) e says same =
         let is : n ≡ BuiltIn own = (let f = sym at ∙ e in cc) in
-        (own, ap (λ (ms : C.Modules). finmap.get ms a) same ∙ ap (finmap.get old.modules) says ∙ e, subst (λ (m : Named). is_named (name_of m) name ≡ true) is named)
+        (own, ap (λ ms. finmap.get ms a) same ∙ ap (finmap.get old.modules) says ∙ e, subst (λ m. is_named (name_of m) name ≡ true) is named)
 
     turn : (a : ℕ) → a ≢ 0 → (p : Option ℕ) → handle_named old.modules name ≡ p
         → C.MatchOption p (C.AddsBuiltIn old name a (record new { failures = old.failures })) (λ handle. (a ≡ C.built_in (finmap.get old.modules handle) handle) × (record new { failures = old.failures } ≡ old))
         → (own : List ℕ) × (finmap.get new.modules a ≡ Some (BuiltIn own)) × (is_named own name ≡ true)
     turn a some None e (inl full) = absurd (some full.1)
-    turn a some None e (inr added) = (name, ap (λ (w : LoadingWorld). finmap.get w.modules a) added.1 ∙ C.inserted_here old.modules a (BuiltIn name) a refl, is_own)
+    turn a some None e (inr added) = (name, ap (λ w. finmap.get w.modules a) added.1 ∙ C.inserted_here old.modules a (BuiltIn name) a refl, is_own)
     turn a some (Some handle) e gives =
         let h = named_there old.modules name handle e in
-        there a some handle h.0 h.1 h.2 (finmap.get old.modules handle) refl gives.0 (ap (λ (w : LoadingWorld). w.modules) gives.1)
+        there a some handle h.0 h.1 h.2 (finmap.get old.modules handle) refl gives.0 (ap (λ w. w.modules) gives.1)
 
 -- Resources.
 
 pub find_law : (honest : Type 0) → FindLaw honest
-find_law honest format old new handle answer name kind m there step = turn (position fits m.tables.resources) refl
+find_law honest format old new handle answer name kind m there step = turn _ refl
     (step.step.0 ∙ ap (λ p. Word (elim p as (λ _. ℕ) [ None ↦ 0 | Some n ↦ unwrap_or (option_map (λ i. i + 1) (position (λ r. is_label r.label name && is_label r.kind_of kind) n.tables.resources)) 0 ])) there)
   where
     fits : Resource → Bool
@@ -75,19 +75,19 @@ find_law honest format old new handle answer name kind m there step = turn (posi
     turn : (p : Option ℕ) → position fits m.tables.resources ≡ p → ◌≡◌ {A = Reply} (Word answer) (Word (unwrap_or (option_map (λ i. i + 1) p) 0))
         → (answer ≢ 0 → (r : Resource) × (slice_get m.tables.resources (answer - 1) ≡ Some r) × (is_label r.label name ≡ true) × (is_label r.kind_of kind ≡ true))
         × (answer ≡ 0 → (i : ℕ) (r : Resource) → slice_get m.tables.resources i ≡ Some r → (is_label r.label name && is_label r.kind_of kind) ≡ false)
-    turn None e says = let none : answer ≡ 0 = cc in ((λ some. absurd (some none)), λ _ i r at. no_place fits m.tables.resources e r (place_member m.tables.resources i r at))
+    turn None e says = let none : answer ≡ 0 = cc in ((λ some. absurd (some none)), λ _ i r at. no_place fits _ e r (place_member _ i r at))
     turn (Some i) e says =
         let is : answer ≡ i + 1 = cc in
-        let h = C.position-Some fits m.tables.resources i any e in
-        let parts : C.IsTrue (is_label (get_or m.tables.resources i any).label name) × C.IsTrue (is_label (get_or m.tables.resources i any).kind_of kind) = C.and_parts _ _ h.1 in
+        let h = C.position-Some fits _ i any e in
+        let parts = C.and_parts _ _ h.1 in
         let less : answer - 1 ≡ i = omega (arith, is) in (
-          λ _. (get_or m.tables.resources i any, ap (slice_get m.tables.resources) less ∙ C.slice_get-get_or m.tables.resources i any h.0, parts.0, parts.1),
+          λ _. (get_or _ i any, ap (slice_get _) less ∙ C.slice_get-get_or _ i any h.0, parts.0, parts.1),
           λ none. absurd (omega (arith, is, none)),
         )
 
 pub sizeof_law : (honest : Type 0) → SizeofLaw honest
 sizeof_law honest format old new handle place answer m r there some at step =
-    let numbered_is : numbered m.tables.resources place ≡ Some r = ap (λ b. cond {A = Option Resource} b None (slice_get m.tables.resources (place - 1))) (C.ne_eqb place 0 (λ e. absurd (omega (arith, e, some)))) ∙ at in
+    let numbered_is = ap (λ b. cond {A = Option _} b None (slice_get m.tables.resources (place - 1))) (C.ne_eqb place 0 (λ e. absurd (omega (arith, e, some)))) ∙ at in
     let says : answer ≡ unwrap_or (option_map {T = Resource} {U = ℕ} (λ r. r.length_in) (elim (C.module_at old.modules handle) [ None ↦ None | Some n ↦ numbered n.tables.resources place ])) 0 = (let e = step.step.0 in cc) in
     says ∙ ap (λ p. unwrap_or (option_map {T = Resource} {U = ℕ} (λ r. r.length_in) (elim p as (λ _. Option Resource) [ None ↦ None | Some n ↦ numbered n.tables.resources place ])) 0) there
     ∙ ap (λ p. unwrap_or (option_map {T = Resource} {U = ℕ} (λ r. r.length_in) p) 0) numbered_is
@@ -109,24 +109,24 @@ module _ (old : LoadingWorld) (handle slot : ℕ) (load : Load) (found : C.slot_
 pub free_law : (honest : Type 0) → FreeLaw honest
 free_law honest format old new handle slot answer load found there step = (
   λ more.
-      let is = freed old handle slot load found there ∙ ap (λ b. cond {A = ℕ × LoadingWorld} b (0, one_less old handle slot load found there) (if nat_lt 0 (locks_at old.handles.heap slot) then (1, old) else (0, gone old handle slot load found there))) (lt-ltb 1 load.loads more) in
+      let is = freed old _ slot load found there ∙ ap (λ b. cond {A = ℕ × LoadingWorld} b (0, one_less old _ slot load found there) (if nat_lt 0 (locks_at old.handles.heap slot) then (1, old) else (0, gone old _ slot load found there))) (lt-ltb 1 _ more) in
       let all = step.step.1 ∙ ap (λ p. p.1) is in (
         says ∙ ap (λ p. p.0) is,
-        ap (λ (w : LoadingWorld). w.handles) all,
-        ap (λ (w : LoadingWorld). w.modules) all,
-        ap (λ (w : LoadingWorld). finmap.get w.loads slot) all ∙ C.inserted_here old.loads slot (record load { loads = load.loads - 1 }) slot refl,
+        ap (λ w. w.handles) all,
+        ap (λ w. w.modules) all,
+        ap (λ w. finmap.get w.loads slot) all ∙ C.inserted_here old.loads slot (record load { loads = load.loads - 1 }) slot refl,
       ),
   λ last locked.
-      let is = last_is last ∙ ap (λ b. cond {A = ℕ × LoadingWorld} b (1, old) (0, gone old handle slot load found there)) (lt-ltb 0 (locks_at old.handles.heap slot) locked) in
+      let is = last_is last ∙ ap (λ b. cond {A = ℕ × LoadingWorld} b (1, old) (0, gone old _ slot load found there)) (lt-ltb 0 _ locked) in
       let all = step.step.1 ∙ ap (λ p. p.1) is in
-      (says ∙ ap (λ p. p.0) is, ap (λ (w : LoadingWorld). w.handles) all, ap (λ (w : LoadingWorld). w.modules) all, ap (λ (w : LoadingWorld). w.loads) all),
+      (says ∙ ap (λ p. p.0) is, ap (λ w. w.handles) all, ap (λ w. w.modules) all, ap (λ w. w.loads) all),
   λ last loose.
-      let is = last_is last ∙ ap (λ b. cond {A = ℕ × LoadingWorld} b (1, old) (0, gone old handle slot load found there)) (le-ltb 0 (locks_at old.handles.heap slot) (omega (arith, loose))) in
+      let is = last_is last ∙ ap (λ b. cond {A = ℕ × LoadingWorld} b (1, old) (0, gone old _ slot load found there)) (le-ltb 0 _ (omega (arith, loose))) in
       let all = step.step.1 ∙ ap (λ p. p.1) is in (
         says ∙ ap (λ p. p.0) is,
-        ap (λ (w : LoadingWorld). C.object_at w.handles.heap slot) all ∙ value_gone old.handles.heap.objects (λ q. q == slot) slot (C.eq-eqb slot slot refl),
-        ap (λ (w : LoadingWorld). finmap.get w.loads slot) all ∙ C.taken_here old.loads slot slot refl,
-        ap (λ (w : LoadingWorld). w.modules) all,
+        ap (λ w. C.object_at w.handles.heap slot) all ∙ value_gone old.handles.heap.objects (λ q. q == slot) slot (C.eq-eqb slot slot refl),
+        ap (λ w. finmap.get w.loads slot) all ∙ C.taken_here old.loads slot slot refl,
+        ap (λ w. w.modules) all,
       ),
 )
   where
@@ -134,5 +134,5 @@ free_law honest format old new handle slot answer load found there step = (
     says = let e = step.step.0 in cc
 
     last_is : load.loads ≤ 1 → free_resource old handle ≡ (if nat_lt 0 (locks_at old.handles.heap slot) then (1, old) else (0, gone old handle slot load found there))
-    last_is le = freed old handle slot load found there
-        ∙ ap (λ b. cond {A = ℕ × LoadingWorld} b (0, one_less old handle slot load found there) (if nat_lt 0 (locks_at old.handles.heap slot) then (1, old) else (0, gone old handle slot load found there))) (le-ltb 1 load.loads le)
+    last_is le = freed old _ slot load found there
+        ∙ ap (λ b. cond {A = ℕ × LoadingWorld} b (0, one_less old _ slot load found there) (if nat_lt 0 (locks_at old.handles.heap slot) then (1, old) else (0, gone old _ slot load found there))) (le-ltb 1 _ le)

@@ -13,7 +13,7 @@ all_left world = (λ q. refl, λ q kind size h. h)
 
 pub read_world : (selector offset n : ℕ) (world : LoadingWorld) → IsLoadingWorld world → IsLoadingWorld (far_read selector offset n world).1
 read_world selector offset n world is =
-    let l : LeavesOwned world (far_read selector offset n world).1 = read_cases (LeavesOwned world) world (all_left world) selector offset n (λ q. refl, λ q kind size h. h) in
+    let l = read_cases (LeavesOwned world) world (all_left world) selector offset n (λ q. refl, λ q kind size h. h) in
     world_stays world is (far_read selector offset n world).1.handles (C.read_handles world.handles is.handles selector offset n) l.0 (λ q kind size code h. l.1 q kind size h.object)
 
 -- an object's bytes with a slice replaced
@@ -48,5 +48,5 @@ write_owned old selector offset slice q kind size h e = by_id (C.cases_eq q (far
 
 pub write_world : (selector offset : ℕ) (slice : List ℕ) → All (λ b. b < 256) slice → (world : LoadingWorld) → IsLoadingWorld world → IsLoadingWorld (far_write selector offset slice world).1
 write_world selector offset slice ours world is =
-    let l : LeavesOwned world (far_write selector offset slice world).1 = write_cases (LeavesOwned world) world (all_left world) selector offset slice (λ t e. (λ q. refl, λ q kind size h. write_owned world.handles selector offset slice q kind size h e)) in
+    let l = write_cases (LeavesOwned world) world (all_left world) selector offset slice (λ t e. (λ q. refl, λ q kind size h. write_owned world.handles selector offset slice q kind size h e)) in
     world_stays world is (far_write selector offset slice world).1.handles (C.write_handles world.handles is.handles selector offset slice ours) l.0 (λ q kind size code h. l.1 q kind size h.object)

@@ -7,12 +7,12 @@ pub fill_allocates : (old : Heap) (slot : ℕ) (bytes : List ℕ) (answered : Bo
 fill_allocates old slot bytes answered new f = record {
   some = f.some;
   rounded = f.rounded;
-  without_bytes = ap (λ (p : C.Option C.Object). elim p [ Some o ↦ o.bytes | None ↦ None ]) f.there ∙ f.absent;
-  request = turn (C.discards_needed old (length bytes) (Some slot) revival_options) f.request;
+  without_bytes = ap (λ p. elim p [ Some o ↦ o.bytes | None ↦ None ]) f.there ∙ f.absent;
+  request = turn _ f.request;
 }
   where
     is_new : (o : C.Object) → o ≡ record f.before { bytes = Some bytes } → IsNew false (length bytes) f.before.kind f.before.locks o
-    is_new o e = subst (IsNew false (length bytes) f.before.kind f.before.locks) (sym e) (record { same_kind = refl; same_locks = refl; new_bytes = (refl, f.are_bytes, λ z. absurd (false≢true z)) })
+    is_new o e = subst (IsNew false _ _ _) (sym e) (record { same_kind = refl; same_locks = refl; new_bytes = (refl, f.are_bytes, λ z. absurd (false≢true z)) })
 
     turn : (p : C.Option ℕ) → C.Request old slot (record (C.asked_of old slot f.before bytes) { prefix = p }) answered new
         → C.Request old slot (record { options = revival_options; prefix = p; becomes = IsNew revival_options.zero (length bytes) f.before.kind f.before.locks; order = C.with_newest slot }) answered new
@@ -20,4 +20,4 @@ fill_allocates old slot bytes answered new f = record {
     turn (Some k) r = (r.0, (r.1.0, is_new r.1.0 r.1.1, r.1.2))
 
 pub fill_fewest : (old : Heap) (slot : ℕ) (bytes : List ℕ) (answered : Bool) (new : Heap) → C.IsHeap old → Fills old slot bytes answered new → C.AllocatesFewest old slot (length bytes) revival_options answered new
-fill_fewest old slot bytes answered new is f = C.allocation_law old new slot (length bytes) f.before.kind f.before.locks revival_options answered is (fill_allocates old slot bytes answered new f)
+fill_fewest old slot bytes answered new is f = C.allocation_law old new slot _ f.before.kind f.before.locks _ _ is (fill_allocates old slot bytes _ new f)

@@ -7,9 +7,9 @@ use Rattle.std.specs.FinMap as finmap
 
 -- the last object put under an id counts
 put_twice : (m : FinMap nat_cmp Object) (id : ℕ) (a b : Object) → finmap.insert (finmap.insert m id a) id b ≡ finmap.insert m id b
-put_twice m id a b = C.same_map C.nat_cmp_total C.nat_cmp-IsAntisymmetric (finmap.insert (finmap.insert m id a) id b) (finmap.insert m id b) (λ q. elim (C.cases_eq q id) [
-  | inl e ↦ inserted_here (finmap.insert m id a) id b q e ∙ sym (inserted_here m id b q e)
-  | inr d ↦ inserted_other (finmap.insert m id a) id b q d ∙ inserted_other m id a q d ∙ sym (inserted_other m id b q d)
+put_twice m id a b = C.same_map C.nat_cmp_total C.nat_cmp-IsAntisymmetric _ _ (λ q. elim (C.cases_eq q id) [
+  | inl e ↦ inserted_here _ id b q e ∙ sym (inserted_here m id b q e)
+  | inr d ↦ inserted_other _ id b q d ∙ inserted_other m id a q d ∙ sym (inserted_other m id b q d)
 ])
 
 -- an object that was put and then changed
@@ -19,7 +19,7 @@ put_changed m id a f =
 
 -- all bytes replaced
 all_replaced : (b bytes : List ℕ) → length b ≡ length bytes → put_part b 0 bytes ≡ bytes
-all_replaced b bytes e = ap (λ rest. bytes ++ rest) (C.drop_all (length bytes) b (omega (arith, e))) ∙ C.append-nil bytes
+all_replaced b bytes e = ap (λ rest. bytes ++ rest) (C.drop_all _ b (omega (arith, e))) ∙ C.append-nil bytes
 
 module _ (old : Heap) (slot : ℕ) (o : Object) (bytes : List ℕ) (ours : All (λ b. b < 256) bytes) where
   abbrev with_bytes : List ℕ → Object
@@ -72,9 +72,9 @@ module _ (old : Heap) (slot : ℕ) (o : Object) (bytes : List ℕ) (ours : All (
   request next (Some k) true r = (refl, (with_bytes bytes, refl, written_any k r.1.0 next r.1.1 r.1.2))
 
 pub fill_law : C.FillLaw
-fill_law old next slot o bytes answered there absent ours a = turn answered a.request
+fill_law old next slot o bytes answered there absent ours a = turn _ a.request
   where
     turn : (t : Bool) → Request old slot (record { options = revival_options; prefix = discards_needed old (length bytes) (Some slot) revival_options; becomes = IsNew false (length bytes) o.kind o.locks; order = with_newest slot }) t next
         → Fills old slot bytes t (cond t (after_write next slot 0 bytes) next)
-    turn true r = record { before = o; there = there; absent = absent; some = a.some; rounded = a.rounded; are_bytes = ours; request = request old slot o bytes ours next (discards_needed old (length bytes) (Some slot) revival_options) true r }
-    turn false r = record { before = o; there = there; absent = absent; some = a.some; rounded = a.rounded; are_bytes = ours; request = request old slot o bytes ours next (discards_needed old (length bytes) (Some slot) revival_options) false r }
+    turn true r = record { before = o; there = there; absent = absent; some = a.some; rounded = a.rounded; are_bytes = ours; request = request old slot o bytes ours next _ true r }
+    turn false r = record { before = o; there = there; absent = absent; some = a.some; rounded = a.rounded; are_bytes = ours; request = request old slot o bytes ours next _ false r }

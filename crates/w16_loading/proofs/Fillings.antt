@@ -8,7 +8,7 @@ use Rattle.w16_loading.specs.Answers.{Answers, FetchesFrom, GivesFrom, GivesRead
 
 -- a request that is refused leaves the same heap
 refused : (old : Heap) (h : ℕ) (asked : Asked) (new : Heap) → Request old h asked false new → new ≡ old
-refused old h asked new = turn asked.prefix
+refused old h asked new = turn _
   where
     turn : (prefix : Option ℕ) → Request old h (record asked { prefix = prefix }) false new → new ≡ old
     turn None r = r.1
@@ -18,7 +18,7 @@ refused old h asked new = turn asked.prefix
 pub one_outcome : (MayFail : FetchFault → Type 0) (IsSized IsRead : List ℕ → Type 0) (old : Heap) (slot : ℕ) (fault : Option FetchFault) (new : Heap) → GivesRead Fills MayFail IsSized IsRead old slot fault new
     → (is_some fault ≡ true → new ≡ old) × ((new ≡ old) ⊎ ((read : List ℕ) × IsSized read × IsRead read × Fills old slot read true new))
 one_outcome MayFail IsSized IsRead old slot None new f = (λ t. absurd (false≢true t), inr f)
-one_outcome MayFail IsSized IsRead old slot (Some C.NoRoom) new (read, sized, f) = let e : new ≡ old = refused old slot (C.asked_of old slot f.before read) new f.request in (λ t. e, inl e)
+one_outcome MayFail IsSized IsRead old slot (Some C.NoRoom) new (read, sized, f) = let e = refused old slot (C.asked_of old slot f.before read) new f.request in (λ t. e, inl e)
 one_outcome MayFail IsSized IsRead old slot (Some Store) new f = (λ t. f.1, inl f.1)
 one_outcome MayFail IsSized IsRead old slot (Some C.Damaged) new f = (λ t. f.1, inl f.1)
 
@@ -84,12 +84,12 @@ pub in_turn_so : (f g : C.Giving) (Is : Heap → Type 0) → ((old : Heap) (slot
     → (old new : Heap) (xs : List Filling) (failure : Option Failure) → Is old → InTurn f old xs failure new → InTurn g old xs failure new
 in_turn_so f g Is turns old new [] failure is h = h
 in_turn_so f g Is turns old new (x ∷ xs) failure is (None, next, one, rest) =
-    let r : g old x.slot x.bytes None next × Is next = turns old x.slot x.bytes None next is one in (None, next, r.0, in_turn_so f g Is turns next new xs failure r.1 rest)
-in_turn_so f g Is turns old new (x ∷ xs) failure is (Some fault, next, one, rest) = (Some fault, next, (turns old x.slot x.bytes (Some fault) next is one).0, rest)
+    let r = turns old _ _ None next is one in (None, next, r.0, in_turn_so f g Is turns next new xs _ r.1 rest)
+in_turn_so f g Is turns old new (x ∷ xs) failure is (Some fault, next, one, rest) = (Some fault, next, (turns old _ _ _ next is one).0, rest)
 
 pub in_turn_as : (f g : C.Giving) → ((old : Heap) (slot : ℕ) (bytes : List ℕ) (fault : Option FetchFault) (new : Heap) → IsHeap old → f old slot bytes fault new → g old slot bytes fault new × IsHeap new)
     → (old new : Heap) (xs : List Filling) (failure : Option Failure) → IsHeap old → InTurn f old xs failure new → InTurn g old xs failure new
-in_turn_as f g = in_turn_so f g IsHeap
+in_turn_as f g = in_turn_so f g _
 
 -- Objects that get none are kept, or discarded.
 
@@ -99,12 +99,12 @@ IsLost new q o = (o.kind ≡ C.Discardable) × (o.locks ≡ 0) × (is_some o.byt
 pub kept_then : (old next new : Heap) (q : ℕ) → IsKeptOrDiscarded old next q → IsKeptOrDiscarded next new q → IsKeptOrDiscarded old new q
 kept_then old next new q (inl e) (inl f) = inl (f ∙ e)
 kept_then old next new q (inl e) (inr h) = inr (subst (λ p. IsSomeAnd p (IsLost new q)) e h)
-kept_then old next new q (inr h) (inl f) = inr (turn (object_at old q) h)
+kept_then old next new q (inr h) (inl f) = inr (turn _ h)
   where
     turn : (p : Option Object) → IsSomeAnd p (IsLost next q) → IsSomeAnd p (IsLost new q)
     turn None h = h
     turn (Some o) h = (h.0, h.1, h.2, f ∙ h.3)
-kept_then old next new q (inr h) (inr g) = absurd (turn (object_at old q) h)
+kept_then old next new q (inr h) (inr g) = absurd (turn _ h)
   where
     turn : (p : Option Object) → IsSomeAnd p (IsLost next q) → ⊥
     turn None h = h
@@ -114,7 +114,7 @@ kept_then old next new q (inr h) (inr g) = absurd (turn (object_at old q) h)
 
 pub lost : (old new : Heap) (q : ℕ) → IsKeptOrDiscarded old new q → is_some (object_at new q) ≡ is_some (object_at old q)
 lost old new q (inl e) = ap is_some e
-lost old new q (inr h) = turn (object_at old q) h
+lost old new q (inr h) = turn _ h
   where
     turn : (p : Option Object) → IsSomeAnd p (IsLost new q) → is_some (object_at new q) ≡ is_some p
     turn None h = absurd h
@@ -133,7 +133,7 @@ filled_there old slot bytes new is f q = elim (C.cases_eq q slot) [
 
 pub kept_sized : (old new : Heap) (q n : ℕ) → IsKeptOrDiscarded old new q → IsSized n (bytes_at old q) → IsSized n (bytes_at new q)
 kept_sized old new q n (inl e) h = sized_is refl (ap bytes_in e) h
-kept_sized old new q n (inr k) h = turn (object_at old q) k
+kept_sized old new q n (inr k) h = turn _ k
   where
     turn : (p : Option Object) → IsSomeAnd p (IsLost new q) → IsSized n (bytes_at new q)
     turn None k = absurd k
@@ -160,13 +160,13 @@ ranges old mid new a b = record { lo = b.lo ∙ a.lo; hi = b.hi ∙ a.hi; grain 
 
 absents_range : (ids : List ℕ) (heap : Heap) → SameRange heap (fold absent heap ids)
 absents_range [] heap = same_range heap
-absents_range (id ∷ ids) heap = ranges heap (absent heap id) (fold absent (absent heap id) ids) (record { lo = refl; hi = refl; grain = refl }) (absents_range ids (absent heap id))
+absents_range (id ∷ ids) heap = ranges heap (absent heap id) _ (record { lo = refl; hi = refl; grain = refl }) (absents_range ids _)
 
 pub filled_range : (old : Heap) (slot : ℕ) (bytes : List ℕ) (new : Heap) → Fills old slot bytes true new → SameRange old new
 filled_range old slot bytes new f =
-    let s : (k : ℕ) × (o : Object) × C.Settles old (C.stays_for slot revival_options) (C.with_ordered (discarded old k (Some slot)) slot o (with_newest slot o)) new = settled_so old slot bytes new f in
-    let d : SameRange old (discarded old s.0 (Some slot)) = absents_range (take s.0 (C.eligible (C.blocks old) old.order (Some slot))) old in
-    record { lo = ap (λ (h : Heap). h.lo) s.2.same ∙ d.lo; hi = ap (λ (h : Heap). h.hi) s.2.same ∙ d.hi; grain = ap (λ (h : Heap). h.grain) s.2.same ∙ d.grain }
+    let s = settled_so old slot bytes new f in
+    let d = absents_range (take s.0 _) old in
+    record { lo = ap (λ h. h.lo) s.2.same ∙ d.lo; hi = ap (λ h. h.hi) s.2.same ∙ d.hi; grain = ap (λ h. h.grain) s.2.same ∙ d.grain }
 
 -- All of a load's.
 module _ (answers : Answers) (old new : Heap) (xs : List Filling) (failure : Option Failure) (is : IsHeap old) (f : InTurn (GivesFrom Fills answers) old xs failure new) where

@@ -169,7 +169,7 @@ module _ (old : LoadingWorld) (is : IsLoadingWorld old) where
 
 -- in the end none is idle
 none_left : (now end : LoadingWorld) (handles : List ℕ) → Go now handles end → (handle : ℕ) → is_idle end.modules handle ≡ false
-none_left now end [] go handle = ap (λ (w : LoadingWorld). is_idle w.modules handle) go.1 ∙ go.0 handle
+none_left now end [] go handle = ap (λ w. is_idle w.modules handle) go.1 ∙ go.0 handle
 none_left now end (k ∷ handles) go handle = none_left (C.without_module now k) end handles go.1 handle
 
 -- The sweep.
@@ -259,4 +259,4 @@ module _ (old : LoadingWorld) (is : IsLoadingWorld old) (end : LoadingWorld) (l 
   })
 
 pub free_world : (old new : LoadingWorld) → IsLoadingWorld old → (handle answer : ℕ) → Frees old handle answer new → IsLoadingWorld new
-free_world old new is handle answer f = subst IsLoadingWorld (sym f.after) (orphans_world old is f.left (all_left old is (used_less old handle) f.left f.ended.gone (used_one_less old is handle) f.ended.went) (none_left (used_less old handle) f.left f.ended.gone f.ended.went))
+free_world old new is handle answer f = subst IsLoadingWorld (sym f.after) (orphans_world old is f.left (all_left old is (used_less old _) _ f.ended.gone (used_one_less old is _) f.ended.went) (none_left (used_less old _) f.left f.ended.gone f.ended.went))

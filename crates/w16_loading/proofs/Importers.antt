@@ -7,10 +7,10 @@ use Rattle.std.specs.FinMap as finmap
 
 -- an entry is one of a map's just where the map has it
 pub entry_there : {X : Type 0} (m : C.FinMap C.nat_cmp X) (q : ℕ) (v : X) → Member (q, v) (finmap.entries m) → finmap.get m q ≡ Some v
-entry_there m q v mem = C.get-entries m q ∙ C.member_found (finmap.entries m) q v (C.keys_rise (finmap.entries m) (C.entries_sorted m)) mem
+entry_there m q v mem = C.get-entries m q ∙ C.member_found _ q v (C.keys_rise _ (C.entries_sorted m)) mem
 
 pub there_entry : {X : Type 0} (m : C.FinMap C.nat_cmp X) (q : ℕ) (v : X) → finmap.get m q ≡ Some v → Member (q, v) (finmap.entries m)
-there_entry m q v e = C.found_member (finmap.entries m) q v (sym (C.get-entries m q) ∙ e)
+there_entry m q v e = C.found_member _ q v (sym (C.get-entries m q) ∙ e)
 
 -- what is found is a member that passes
 pub found_passes : {X : Type 0} (p : X → Bool) (xs : List X) (x : X) → find p xs ≡ Some x → Member x xs × (p x ≡ true)
@@ -23,15 +23,15 @@ found_passes p (y ∷ ys) x e = turn (p y) refl e (found_passes p ys x)
 
 -- a handle that a name leads to names something of this name
 pub named_there : (modules : Modules) (name : List ℕ) (handle : ℕ) → C.handle_named modules name ≡ Some handle → (n : Named) × (finmap.get modules handle ≡ Some n) × (is_named (name_of n) name ≡ true)
-named_there modules name handle e = turn (find (λ (x : ℕ × Named). is_named (name_of x.1) name) (finmap.entries modules)) refl e
+named_there modules name handle e = turn (find (λ x. is_named _ name) _) refl e
   where
-    turn : (p : C.Option (ℕ × Named)) → find (λ (x : ℕ × Named). is_named (name_of x.1) name) (finmap.entries modules) ≡ p → C.option_map (λ (x : ℕ × Named). x.0) p ≡ Some handle
+    turn : (p : C.Option (ℕ × Named)) → find (λ x. is_named (name_of x.1) name) (finmap.entries modules) ≡ p → C.option_map (λ x. x.0) p ≡ Some handle
         → (n : Named) × (finmap.get modules handle ≡ Some n) × (is_named (name_of n) name ≡ true)
     turn None f e = cc
     turn (Some x) f e =
         let same : x.0 ≡ handle = cc in
-        let h = found_passes (λ (x : ℕ × Named). is_named (name_of x.1) name) (finmap.entries modules) x f in
-        (x.1, ap (finmap.get modules) (sym same) ∙ entry_there modules x.0 x.1 h.0, h.1)
+        let h = found_passes (λ x. is_named _ name) _ x f in
+        (x.1, ap (finmap.get _) (sym same) ∙ entry_there _ x.0 x.1 h.0, h.1)
 
 -- some are counted where one passes
 counted_some : {X : Type 0} (p : X → Bool) (xs : List X) → 0 < C.count_by p xs → (x : X) × Member x xs × (p x ≡ true)
@@ -39,10 +39,10 @@ counted_some p xs lt = turn (filter p xs) refl (subst (λ n. 0 < n) (sym (C.leng
   where
     turn : (ys : List _) → filter p xs ≡ ys → 0 < C.length ys → (x : _) × Member x xs × (p x ≡ true)
     turn [] e lt = absurd (omega (arith, lt))
-    turn (y ∷ ys) e lt = let m : Member y xs × IsTrue (p y) = C.member_filter p xs y (subst (Member y) (sym e) (inl refl)) in (y, m.0, m.1)
+    turn (y ∷ ys) e lt = let m = C.member_filter p xs y (subst (Member y) (sym e) (inl refl)) in (y, m.0, m.1)
 
 some_counted : {X : Type 0} (p : X → Bool) (xs : List X) (x : X) → Member x xs → p x ≡ true → 0 < C.count_by p xs
-some_counted p xs x m t = subst (λ n. 0 < n) (C.length-filter p xs) (turn (filter p xs) (C.filter_member p xs x m t))
+some_counted p xs x m t = subst (λ n. 0 < n) (C.length-filter p xs) (turn _ (C.filter_member p xs x m t))
   where
     turn : (ys : List _) → Member x ys → 0 < C.length ys
     turn [] m = absurd m
@@ -58,19 +58,19 @@ pub record HasImporter (modules : Modules) (handle : ℕ) : Type 0 where
 
 pub importer_of : (modules : Modules) (handle : ℕ) → 0 < importers modules handle → HasImporter modules handle
 importer_of modules handle lt =
-    let x : (e : ℕ × Named) × Member e (finmap.entries modules) × ((not (e.0 == handle) && imports e.1 handle) ≡ true) = counted_some (λ (e : ℕ × Named). not (e.0 == handle) && imports e.1 handle) (finmap.entries modules) lt in
-    let parts : IsTrue (not (x.0.0 == handle)) × IsTrue (imports x.0.1 handle) = C.and_parts (not (x.0.0 == handle)) (imports x.0.1 handle) x.2 in
+    let x : (e : ℕ × Named) × Member e (finmap.entries modules) × ((not (e.0 == handle) && imports e.1 handle) ≡ true) = counted_some (λ e. not _ && imports e.1 _) _ lt in
+    let parts : IsTrue (not (x.0.0 == handle)) × IsTrue (imports x.0.1 handle) = C.and_parts _ _ x.2 in
     record {
       who = x.0.0;
       importer = x.0.1;
-      there = entry_there modules x.0.0 x.0.1 x.1;
-      other = λ e. false≢true (sym (C.not-true (x.0.0 == handle) parts.0) ∙ C.eq-eqb x.0.0 handle e);
+      there = entry_there _ x.0.0 x.0.1 x.1;
+      other = λ e. false≢true (sym (C.not-true _ parts.0) ∙ C.eq-eqb x.0.0 _ e);
       uses = parts.1;
     }
 
 pub of_importer : (modules : Modules) (handle : ℕ) → HasImporter modules handle → 0 < importers modules handle
-of_importer modules handle h = some_counted (λ (e : ℕ × Named). not (e.0 == handle) && imports e.1 handle) (finmap.entries modules) (h.who, h.importer) (there_entry modules h.who h.importer h.there)
-    (ap (λ b. not b && imports h.importer handle) (C.ne_eqb h.who handle h.other) ∙ h.uses)
+of_importer modules handle h = some_counted (λ e. not (e.0 == handle) && imports e.1 handle) (finmap.entries _) (h.who, h.importer) (there_entry _ h.who _ h.there)
+    (ap (λ b. not b && imports h.importer handle) (C.ne_eqb h.who _ h.other) ∙ h.uses)
 
 -- What it is to be idle.
 pub record Idle (modules : Modules) (handle : ℕ) : Type 0 where
@@ -80,25 +80,25 @@ pub record Idle (modules : Modules) (handle : ℕ) : Type 0 where
   pub alone : HasImporter modules handle → ⊥
 
 pub idle_parts : (modules : Modules) (handle : ℕ) → C.is_idle modules handle ≡ true → Idle modules handle
-idle_parts modules handle t = turn (finmap.get modules handle) refl (C.and_parts (is_some (C.module_at modules handle)) (usage modules handle == 0) t)
+idle_parts modules handle t = turn _ refl (C.and_parts _ _ t)
   where
     turn : (p : C.Option Named) → finmap.get modules handle ≡ p → IsTrue (is_some (module_in p)) × IsTrue (usage_with p (importers modules handle) == 0) → Idle modules handle
     turn None e h = absurd (false≢true h.0)
     turn (Some (C.BuiltIn name)) e h = absurd (false≢true h.0)
     turn (Some (C.Loaded m)) e h =
-        let zero : m.uses + importers modules handle ≡ 0 = C.eqb-true (m.uses + importers modules handle) 0 h.1 in
-        record { idle = m; loaded = e; unused = omega (arith, zero); alone = λ i. let some = of_importer modules handle i in absurd (omega (arith, zero, some)) }
+        let zero = C.eqb-true _ 0 h.1 in
+        record { idle = m; loaded = e; unused = omega (arith, zero); alone = λ i. let some = of_importer _ _ i in absurd (omega (arith, zero, some)) }
 
 pub is_then_idle : (modules : Modules) (handle : ℕ) → Idle modules handle → C.is_idle modules handle ≡ true
-is_then_idle modules handle h = ap (λ p. is_some (module_in p) && (usage_with p (importers modules handle) == 0)) h.loaded ∙ C.eq-eqb (h.idle.uses + importers modules handle) 0 (none (importers modules handle) refl)
+is_then_idle modules handle h = ap (λ p. is_some (module_in p) && (usage_with p (importers modules handle) == 0)) h.loaded ∙ C.eq-eqb (h.idle.uses + importers _ _) 0 (none _ refl)
   where
     none : (n : ℕ) → importers modules handle ≡ n → h.idle.uses + importers modules handle ≡ 0
     none zero e = omega (arith, h.unused, e)
-    none (suc n) e = absurd (h.alone (importer_of modules handle (omega (arith, e))))
+    none (suc n) e = absurd (h.alone (importer_of _ _ (omega (arith, e))))
 
 -- in a world no module is idle
 pub none_idle : (world : C.LoadingWorld) → C.IsLoadingWorld world → (handle : ℕ) → Idle world.modules handle → ⊥
 none_idle world is handle h =
-    let m : C.IsModule world handle h.idle = subst (λ p. C.IfSome (module_in p) (C.IsModule world handle)) h.loaded (is.modules handle) in
-    let used : 0 < h.idle.uses + importers world.modules handle = subst (λ p. 0 < usage_with p (importers world.modules handle)) h.loaded m.used in
-    h.alone (importer_of world.modules handle (omega (arith, used, h.unused)))
+    let m = subst (λ p. C.IfSome (module_in p) (C.IsModule world handle)) h.loaded (is.modules _) in
+    let used = subst (λ p. 0 < usage_with p (importers world.modules handle)) h.loaded m.used in
+    h.alone (importer_of _ _ (omega (arith, used, h.unused)))

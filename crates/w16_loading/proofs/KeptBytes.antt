@@ -14,20 +14,20 @@ from_none P None e = tt
 from_none P (Some b) e = cc
 
 pub same_bytes : (old new : Heap) (q : ℕ) → bytes_at new q ≡ bytes_at old q → KeepsBytes old new q
-same_bytes old new q e = from_same (bytes_at new q) (bytes_at old q) e
+same_bytes old new q e = from_same _ _ e
 
 pub same_object : (old new : Heap) (q : ℕ) → object_at new q ≡ object_at old q → KeepsBytes old new q
 same_object old new q e = same_bytes old new q (ap bytes_in e)
 
 pub no_bytes : (old new : Heap) (q : ℕ) → bytes_at new q ≡ None → KeepsBytes old new q
-no_bytes old new q e = from_none (λ b. bytes_at old q ≡ Some b) (bytes_at new q) e
+no_bytes old new q e = from_none (λ b. bytes_at old q ≡ Some b) _ e
 
 pub no_object : (old new : Heap) (q : ℕ) → object_at new q ≡ None → KeepsBytes old new q
 no_object old new q e = no_bytes old new q (ap bytes_in e)
 
 pub kept_bytes : (old new : Heap) (q : ℕ) → C.IsKeptOrDiscarded old new q → KeepsBytes old new q
 kept_bytes old new q (inl e) = same_object old new q e
-kept_bytes old new q (inr h) = turn (object_at old q) h
+kept_bytes old new q (inr h) = turn _ h
   where
     turn : (p : Option C.Object) → C.IsSomeAnd p (λ o. (o.kind ≡ C.Discardable) × (o.locks ≡ 0) × (C.is_some o.bytes ≡ true) × (object_at new q ≡ Some (record o { bytes = None }))) → KeepsBytes old new q
     turn None h = absurd h
@@ -36,6 +36,6 @@ kept_bytes old new q (inr h) = turn (object_at old q) h
 -- a lock keeps them in any handles
 pub locked : (old : Handles) (q handle : ℕ) → KeepsBytes old.heap (global_lock old handle).1.heap q
 locked old q handle =
-    let new : Handles = (global_lock old handle).1 in
-    let k : C.KeepsContents old new = C.contents old new (Calls (C.GlobalLock handle)) (global_lock old handle).0 (C.call_outcome old new (C.GlobalLock handle) (global_lock old handle).0 (refl, refl)) refl in
+    let new = (global_lock old handle).1 in
+    let k = C.contents old new (Calls (C.GlobalLock _)) (global_lock old handle).0 (C.call_outcome old new _ (global_lock old _).0 (refl, refl)) refl in
     same_bytes old.heap new.heap q (k.bytes q)

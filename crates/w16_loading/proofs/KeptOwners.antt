@@ -104,6 +104,6 @@ module _ (answers : Answers) (are : AreAnswers answers) (old : LoadingWorld) (is
 
 pub owners_law : (honest : Type 0) → C.OwnersLaw honest
 owners_law honest format old new command reply is step slot there =
-    let answers : Answers = told honest format old.files old.failures new.failures in
-    family (C.FetchesFrom Fills answers) (C.LoadsFrom Fills answers) (λ slice. Unit {0}) old (λ w. C.KeepsOwner old.handles w.handles slot)
-    (parts answers (told_answers honest format old.files old.failures new.failures) old is slot there) (record new { failures = old.failures }) reply command (nothing_asked command) step.step
+    let answers = told honest format old.files old.failures new.failures in
+    family (C.FetchesFrom Fills _) (C.LoadsFrom Fills answers) (λ slice. Unit {0}) old (λ w. C.KeepsOwner old.handles w.handles slot)
+    (parts _ (told_answers _ format _ _ _) old is slot there) (record new { failures = old.failures }) reply command (nothing_asked _) step.step

@@ -18,11 +18,11 @@ its_bytes None r e = tt
 its_bytes (Some b) r e = sym e
 
 pub same_left : (old new : Heap) (q : ℕ) → is_some (object_at old q) ≡ true → object_at new q ≡ object_at old q → IsLeft old new q
-same_left old new q there e = subst (λ r. IsSomeAnd (object_at old q) (λ o. IsSomeAnd r (λ p. (p.kind ≡ o.kind) × IfSome p.bytes (λ b. o.bytes ≡ Some b)))) (sym e) (turn (object_at old q) there)
+same_left old new q there e = subst (λ r. IsSomeAnd (object_at old q) (λ o. IsSomeAnd r (λ p. (p.kind ≡ o.kind) × IfSome p.bytes (λ b. o.bytes ≡ Some b)))) (sym e) (turn _ there)
   where
     turn : (p : Option Object) → is_some p ≡ true → IsSomeAnd p (λ o. IsSomeAnd p (λ r. (r.kind ≡ o.kind) × IfSome r.bytes (λ b. o.bytes ≡ Some b)))
     turn None t = absurd (false≢true t)
-    turn (Some o) t = (refl, its_bytes o.bytes o.bytes refl)
+    turn (Some o) t = (refl, its_bytes _ _ refl)
 
 pub put_left : (old : Heap) (id : ℕ) (before after : Object) → object_at old id ≡ Some before → after.kind ≡ before.kind → after.bytes ≡ before.bytes → (q : ℕ) → is_some (object_at old q) ≡ true → IsLeft old (with_object old id after) q
 put_left old id before after there kind bytes q some = elim (cases_eq q id) [
@@ -33,7 +33,7 @@ put_left old id before after there kind bytes q some = elim (cases_eq q id) [
 
 pub kept_left : (old new : Heap) (q : ℕ) → is_some (object_at old q) ≡ true → IsKeptOrDiscarded old new q → IsLeft old new q
 kept_left old new q there (inl e) = same_left old new q there e
-kept_left old new q there (inr h) = turn (object_at old q) h
+kept_left old new q there (inr h) = turn _ h
   where
     turn : (p : Option Object) → IsSomeAnd p (IsLost new q) → IsSomeAnd p (λ o. IsSomeAnd (object_at new q) (λ p. (p.kind ≡ o.kind) × IfSome p.bytes (λ b. o.bytes ≡ Some b)))
     turn None h = absurd h
@@ -41,7 +41,7 @@ kept_left old new q there (inr h) = turn (object_at old q) h
 
 -- so it has the kind and size that it had,
 pub left_owned : (old new : Heap) (slot : ℕ) (kind : Kind) (size : ℕ) → IsLeft old new slot → IsOwned old slot kind size → IsOwned new slot kind size
-left_owned old new slot kind size left owned = turn (object_at old slot) (object_at new slot) owned left
+left_owned old new slot kind size left owned = turn _ _ owned left
   where
     sizes : (p r : Option (List ℕ)) → IfSome p (λ bytes. length bytes ≡ size) → IfSome r (λ b. p ≡ Some b) → IfSome r (λ bytes. length bytes ≡ size)
     sizes p None h k = tt
@@ -51,11 +51,11 @@ left_owned old new slot kind size left owned = turn (object_at old slot) (object
         → IsSomeAnd r (λ o. (o.kind ≡ kind) × IfSome o.bytes (λ bytes. length bytes ≡ size))
     turn None r h k = absurd h
     turn (Some p) None h k = absurd k
-    turn (Some p) (Some r) h k = (k.0 ∙ h.0, sizes p.bytes r.bytes h.1 k.1)
+    turn (Some p) (Some r) h k = (k.0 ∙ h.0, sizes _ _ h.1 k.1)
 
 -- and its bytes, or none
 pub left_bytes : (old new : Heap) (q : ℕ) → IsLeft old new q → KeepsBytes old new q
-left_bytes old new q left = turn (object_at old q) (object_at new q) left
+left_bytes old new q left = turn _ _ left
   where
     turn : (p r : Option Object) → IsSomeAnd p (λ o. IsSomeAnd r (λ x. (x.kind ≡ o.kind) × IfSome x.bytes (λ b. o.bytes ≡ Some b))) → IfSome (bytes_in r) (λ b. bytes_in p ≡ Some b)
     turn None r k = absurd k
@@ -72,7 +72,7 @@ world_recounted old is next are failures owned keeps = follows old (record old {
   sources = λ handle m e. (m, e, same_module m);
   used = is_used old is;
   loads = λ slot load e. (load.loads, e, (is_load old is slot load e).0, (is_load old is slot load e).1);
-  still = λ slot load before at e. (before, e, same_module before);
+  still = λ slot load before at e. (before, e, same_module _);
   of_segments = λ handle m slot kind size code e k h. object slot kind size code h;
   of_loads = λ slot load kind size code e h. object slot kind size code h;
   owners = λ slot t. owner_stays old is (record old { handles = next; failures = failures }) (λ handle m e. (m, e, same_module m)) (λ q load e. (load.loads, e)) slot (ap is_some (sym (owned slot)) ∙ t);
@@ -83,8 +83,8 @@ world_recounted old is next are failures owned keeps = follows old (record old {
 
 -- and at the same count of failures
 pub world_stays : (old : LoadingWorld) → IsLoadingWorld old → (next : Handles) → AreHandles next → SameOwned old.handles next → ((slot : ℕ) (kind : Kind) (size : ℕ) (code : Bool) → IsObjectOf old slot kind size code → IsOwned next.heap slot kind size) → IsLoadingWorld (record old { handles = next })
-world_stays old is next are owned keeps = world_recounted old is next are old.failures owned keeps
+world_stays old is next are owned keeps = world_recounted old is next are _ owned keeps
 
 -- whatever the count
 pub recounted : (world : LoadingWorld) → IsLoadingWorld world → (failures : ℕ) → IsLoadingWorld (record world { failures = failures })
-recounted world is failures = world_recounted world is world.handles is.handles failures (λ q. refl) (λ slot kind size code h. h.object)
+recounted world is failures = world_recounted world is _ is.handles _ (λ q. refl) (λ slot kind size code h. h.object)

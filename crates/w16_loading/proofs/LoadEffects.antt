@@ -61,9 +61,9 @@ fill_there f place (q ∷ qs) (g ∷ gs) [] all i slot s at there t = absurd all
 fill_there f place (q ∷ qs) (g ∷ gs) (d ∷ ds) all zero slot s at there t =
     let same : g ≡ s = cc in
     let its : q ≡ slot = cc in
-    subst (λ b. (x : Filling) × Member x (cond {A = List Filling} b (record { place = place; slot = q; bytes = d.image (f d) } ∷ fills_from place qs gs ds (map f ds)) (fills_from place qs gs ds (map f ds))) × (x.slot ≡ slot))
-    (sym (ap (λ (z : Segment). is_fixed z.kind || z.is_preload) same ∙ t)) (record { place = place; slot = q; bytes = d.image (f d) }, inl refl, its)
-fill_there f place (q ∷ qs) (g ∷ gs) (d ∷ ds) all (suc i) slot s at there t = later (is_fixed g.kind || g.is_preload) (fill_there f place qs gs ds all.1 i slot s at there t)
+    subst (λ b. (x : Filling) × Member x (cond {A = List _} b (record { place = place; slot = q; bytes = d.image (f d) } ∷ fills_from place qs gs ds (map f ds)) (fills_from place qs gs ds (map f ds))) × (x.slot ≡ slot))
+    (sym (ap (λ z. is_fixed z.kind || z.is_preload) same ∙ t)) (record { place = place; slot = q; bytes = d.image (f d) }, inl refl, its)
+fill_there f place (q ∷ qs) (g ∷ gs) (d ∷ ds) all (suc i) slot s at there t = later _ (fill_there f place qs gs ds all.1 i slot s at there t)
   where
     later : (b : Bool) → (x : Filling) × Member x (fills_from place qs gs ds (map f ds)) × (x.slot ≡ slot)
         → (x : Filling) × Member x (cond {A = List Filling} b (record { place = place; slot = q; bytes = d.image (f d) } ∷ fills_from place qs gs ds (map f ds)) (fills_from place qs gs ds (map f ds))) × (x.slot ≡ slot)
@@ -73,7 +73,7 @@ fill_there f place (q ∷ qs) (g ∷ gs) (d ∷ ds) all (suc i) slot s at there 
 in_all : (module_of : Given → Module) (gs : List Given) (g : Given) (x : Filling) → Member g gs → Member x (fills_of module_of g) → Member x (flat_map (fills_of module_of) gs)
 in_all module_of [] g x m n = absurd m
 in_all module_of (h ∷ gs) g x (inl e) n = in_first x (fills_of module_of h) (flat_map (fills_of module_of) gs) (subst (λ y. Member x (fills_of module_of y)) e n)
-in_all module_of (h ∷ gs) g x (inr m) n = in_second x (fills_of module_of h) (flat_map (fills_of module_of) gs) (in_all module_of gs g x m n)
+in_all module_of (h ∷ gs) g x (inr m) n = in_second x (fills_of module_of h) (flat_map _ gs) (in_all module_of gs g x m n)
 
 module _ (answers : C.Answers) (are : AreAnswers answers) (old : LoadingWorld) (is : C.IsLoadingWorld old) (answer : ℕ) (new : LoadingWorld) where
   abbrev HasOrLost : Heap → ℕ → Segment → Type 0
@@ -253,4 +253,4 @@ module _ (answers : C.Answers) (are : AreAnswers answers) (old : LoadingWorld) (
 
 pub load_law : (honest : Type 0) → LoadLaw honest
 load_law honest format old new command file answer is which le step =
-    steps (told honest format old.files old.failures new.failures) (told_answers honest format old.files old.failures new.failures) old is answer (record new { failures = old.failures }) le command file which step.step
+    steps (told _ format _ _ _) (told_answers _ format _ _ _) old is _ (record new { failures = old.failures }) le _ file which step.step

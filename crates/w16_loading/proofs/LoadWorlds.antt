@@ -17,7 +17,7 @@ use Rattle.std.specs.FinMap as finmap
 -- What is filled has its size, and all else what it had.
 all_owned : (answers : C.Answers) (old new : Heap) (xs : List Filling) → C.IsHeap old → C.InTurn (C.GivesFrom Fills answers) old xs None new → (q : ℕ) (kind : Kind) (size : ℕ) → ((x : Filling) → Member x xs → q ≡ x.slot → length x.bytes ≡ size) → IsOwned old q kind size → IsOwned new q kind size
 all_owned answers old new xs is f q kind size long = (any_do answers (λ a b. IsOwned a q kind size → IsOwned b q kind size) (λ a k. k) (λ a b c x y k. y (x k)) old new xs None is
-    (λ x m a b h read same again g. filled_owned a x.slot read b h g q kind size (λ e. same ∙ long x m e)) f).0
+    (λ x m a b h read same again g. filled_owned a _ read b h g q kind size (λ e. same ∙ long x m e)) f).0
 
 -- Names.
 
@@ -31,15 +31,15 @@ named_new w (y ∷ xs) apart x (inl e) = (
 )
   where
     out : (z : ℕ × Segment) → Member z xs → x.0 ≢ z.0
-    out z k same = Each-at (λ (z : ℕ × Segment). y.0 ≢ z.0) xs apart.0 z k (sym (λ i. (e i).0) ∙ same)
+    out z k same = Each-at (λ z. y.0 ≢ z.0) xs apart.0 z k (sym (λ i. (e i).0) ∙ same)
 named_new w (y ∷ xs) apart x (inr m) = named_new (with_segment w y) xs apart.1 x m
 
 -- a slot is one segment's
 one_segment_of : (xs : List (ℕ × Segment)) → AreApart xs → (x y : ℕ × Segment) → Member x xs → Member y xs → x.0 ≡ y.0 → x ≡ y
 one_segment_of [] apart x y m n e = absurd m
 one_segment_of (z ∷ xs) apart x y (inl d) (inl f) e = d ∙ sym f
-one_segment_of (z ∷ xs) apart x y (inl d) (inr n) e = absurd (Each-at (λ (k : ℕ × Segment). z.0 ≢ k.0) xs apart.0 y n (sym (λ i. (d i).0) ∙ e))
-one_segment_of (z ∷ xs) apart x y (inr m) (inl f) e = absurd (Each-at (λ (k : ℕ × Segment). z.0 ≢ k.0) xs apart.0 x m (sym (e ∙ (λ i. (f i).0))))
+one_segment_of (z ∷ xs) apart x y (inl d) (inr n) e = absurd (Each-at (λ k. z.0 ≢ k.0) xs apart.0 y n (sym (λ i. (d i).0) ∙ e))
+one_segment_of (z ∷ xs) apart x y (inr m) (inl f) e = absurd (Each-at (λ k. z.0 ≢ k.0) xs apart.0 x m (sym (e ∙ (λ i. (f i).0))))
 one_segment_of (z ∷ xs) apart x y (inr m) (inr n) e = one_segment_of xs apart.1 x y m n e
 
 -- The world.

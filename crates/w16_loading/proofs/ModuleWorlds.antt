@@ -35,16 +35,16 @@ module _ (old : LoadingWorld) (is : IsLoadingWorld old) (modules : Modules)
 -- importers stay where what each handle names stays, with its imports
 pub importers_stay : (old new : Modules) (handle : ℕ) → ((who : ℕ) (n : Named) → finmap.get old who ≡ Some n → (now : Named) × (finmap.get new who ≡ Some now) × (imports now handle ≡ imports n handle)) → HasImporter old handle → HasImporter new handle
 importers_stay old new handle stays h =
-    let now : (now : Named) × (finmap.get new h.who ≡ Some now) × (imports now handle ≡ imports h.importer handle) = stays h.who h.importer h.there in
+    let now = stays h.who _ h.there in
     record { who = h.who; importer = now.0; there = now.1; other = h.other; uses = now.2 ∙ h.uses }
 
 -- and so does a use
 pub still_used : (old new : Modules) (handle uses more : ℕ) → uses ≤ more → (HasImporter old handle → HasImporter new handle) → 0 < uses + importers old handle → 0 < more + importers new handle
-still_used old new handle uses more le stays lt = turn (importers old handle) refl
+still_used old new handle uses more le stays lt = turn _ refl
   where
     turn : (n : ℕ) → importers old handle ≡ n → 0 < more + importers new handle
     turn zero e = omega (arith, lt, le, e)
-    turn (suc n) e = let some : 0 < importers new handle = of_importer new handle (stays (importer_of old handle (omega (arith, e)))) in omega (arith, some)
+    turn (suc n) e = let some = of_importer new _ (stays (importer_of old _ (omega (arith, e)))) in omega (arith, some)
 
 -- One use more.
 module _ (old : LoadingWorld) (is : IsLoadingWorld old) (handle : ℕ) (m : Module) (there : finmap.get old.modules handle ≡ Some (Loaded m)) (few : m.uses < MOST_USES) where
@@ -145,9 +145,9 @@ find_none p (y ∷ xs) e x m = turn (p y) refl e (λ f. find_none p xs f x) m
     turn false t e rest (inr m) = rest e m
 
 pub not_named : (modules : Modules) (name : List ℕ) → handle_named modules name ≡ None → (handle : ℕ) (n : Named) → finmap.get modules handle ≡ Some n → is_named (name_of n) name ≡ false
-not_named modules name e handle n there = find_none (λ (x : ℕ × Named). is_named (name_of x.1) name) (finmap.entries modules) (none (find (λ (x : ℕ × Named). is_named (name_of x.1) name) (finmap.entries modules)) e) (handle, n) (there_entry modules handle n there)
+not_named modules name e handle n there = find_none (λ x. is_named _ name) _ (none (find (λ x. is_named _ name) _) e) (handle, n) (there_entry _ _ n there)
   where
-    none : (p : Option (ℕ × Named)) → option_map (λ (x : ℕ × Named). x.0) p ≡ None → p ≡ None
+    none : (p : Option (ℕ × Named)) → option_map (λ x. x.0) p ≡ None → p ≡ None
     none None e = refl
     none (Some x) e = cc
 

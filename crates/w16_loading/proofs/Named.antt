@@ -13,10 +13,10 @@ zip_apart : (s : List ℕ) (segments : List Segment) (more : List ℕ) (tail : L
 zip_apart [] segments more tail differ inside apart = apart
 zip_apart (a ∷ s) [] more tail differ inside apart = apart
 zip_apart (a ∷ s) (g ∷ gs) more tail differ inside apart =
-    (Each-from (λ (y : ℕ × Segment). a ≢ y.0) (zip s gs ++ tail) (λ y m. Each-at (λ b. a ≢ b) (s ++ more) differ.0 y.0 (among y m)), zip_apart s gs more tail differ.1 inside apart)
+    (Each-from (λ y. a ≢ y.0) _ (λ y m. Each-at (λ b. a ≢ b) (s ++ more) differ.0 y.0 (among y m)), zip_apart s gs more tail differ.1 inside apart)
   where
     among : (y : ℕ × Segment) → Member y (zip s gs ++ tail) → Member y.0 (s ++ more)
-    among y m = elim (parted y (zip s gs) tail m) [ inl k ↦ in_first y.0 s more (zipped s gs y k) | inr k ↦ in_second y.0 s more (inside y k) ]
+    among y m = elim (parted y _ tail m) [ inl k ↦ in_first y.0 s more (zipped s gs y k) | inr k ↦ in_second y.0 s more (inside y k) ]
 
 pub apart_after : (s more : List ℕ) → EachPair (λ a b. a ≢ b) (s ++ more) → EachPair (λ a b. a ≢ b) more
 apart_after [] more differ = differ
@@ -27,16 +27,16 @@ given_slots_apart place [] hs ss differ = tt
 given_slots_apart place (f ∷ fs) [] ss differ = tt
 given_slots_apart place (f ∷ fs) (h ∷ hs) [] differ = tt
 given_slots_apart place (f ∷ fs) (h ∷ hs) (s ∷ ss) differ =
-    zip_apart s f.read.tables.segments (flat_map (λ s. s) ss) (segments_of (C.given_from (place + 1) fs hs ss)) differ (λ x m. chosen (place + 1) fs hs ss x m)
+    zip_apart s _ (flat_map (λ s. s) ss) _ differ (λ x m. chosen _ fs hs ss x m)
     (given_slots_apart (place + 1) fs hs ss (apart_after s (flat_map (λ s. s) ss) differ))
 
 -- objects without bytes, where there were none, make a heap
 entered_heaps : (w : LoadingWorld) (xs : List (ℕ × Segment)) → IsHeap w.handles.heap → Each (λ x. object_at w.handles.heap x.0 ≡ None) xs → AreApart xs → IsHeap (fold with_segment w xs).handles.heap
 entered_heaps w [] is free apart = is
-entered_heaps w (x ∷ xs) is free apart = entered_heaps (with_segment w x) xs (C.entered_heap w.handles.heap is x.0 x.1.kind free.0)
-    (Each-from (λ (y : ℕ × Segment). object_at (with_segment w x).handles.heap y.0 ≡ None) xs (λ y m.
-    let other : x.0 ≢ y.0 = Each-at (λ (y : ℕ × Segment). x.0 ≢ y.0) xs apart.0 y m in
-    C.inserted_other w.handles.heap.objects x.0 (record { kind = x.1.kind; locks = 0; bytes = None }) y.0 (λ e. other (sym e)) ∙ Each-at (λ (y : ℕ × Segment). object_at w.handles.heap y.0 ≡ None) xs free.1 y m))
+entered_heaps w (x ∷ xs) is free apart = entered_heaps (with_segment w x) xs (C.entered_heap _ is x.0 _ free.0)
+    (Each-from (λ y. object_at (with_segment w x).handles.heap y.0 ≡ None) xs (λ y m.
+    let other = Each-at (λ y. x.0 ≢ y.0) xs apart.0 y m in
+    C.inserted_other _ x.0 (record { kind = x.1.kind; locks = 0; bytes = None }) y.0 (λ e. other (sym e)) ∙ Each-at (λ y. object_at w.handles.heap y.0 ≡ None) xs free.1 y m))
     apart.1
 
 -- and in free slots, where one is enough for each, handles
@@ -46,14 +46,14 @@ entered_all w (x ∷ xs) is small free apart =
     entered_all (with_segment w x) xs
     (C.with_absent_object w.handles is (C.attributes_of x.1) x.0 x.1.kind (with_segment w x).handles.heap (omega arith) (small x (inl refl)) (C.run_of_one w.handles x.0 free.0) (record { unused = C.unused_slot w.handles is x.0 free.0; entered = refl }))
     (λ y m. small y (inr m))
-    (Each-from (λ (y : ℕ × Segment). IsFreeSlot (with_segment w x).handles y.0) xs (λ y m.
-    let was : IsFreeSlot w.handles y.0 = Each-at (λ (y : ℕ × Segment). IsFreeSlot w.handles y.0) xs free.1 y m in
-    let other : x.0 ≢ y.0 = Each-at (λ (y : ℕ × Segment). x.0 ≢ y.0) xs apart.0 y m in
-    (was.0, C.unowned_beside w.handles.attributes x.0 (C.attributes_of x.1) y.0 refl (λ e. other (sym e)) was.1)))
+    (Each-from (λ y. IsFreeSlot (with_segment w x).handles y.0) xs (λ y m.
+    let was = Each-at (λ y. IsFreeSlot w.handles y.0) xs free.1 y m in
+    let other = Each-at (λ y. x.0 ≢ y.0) xs apart.0 y m in
+    (was.0, C.unowned_beside _ x.0 _ y.0 refl (λ e. other (sym e)) was.1)))
     apart.1
 
 pub free_slot : (old : LoadingWorld) (closure : C.Closure) (choice : C.Choice) → C.IsChoice old closure.found choice → (q : ℕ) → Member q (all_slots choice) → IsFreeSlot old.handles q
-free_slot old closure choice good q m = Each-at (IsFreeSlot old.handles) (all_slots choice) (C.Each-from_All (IsFreeSlot old.handles) (all_slots choice) good.slots.free) q m
+free_slot old closure choice good q m = Each-at (IsFreeSlot old.handles) _ (C.Each-from_All _ _ good.slots.free) q m
 
 module _ (old : LoadingWorld) (closure : C.Closure) (choice : C.Choice) (is : AreHandles old.handles) (good : C.IsChoice old closure.found choice) where
   segments_free : (x : ℕ × Segment) → Member x (segments_of (given closure choice)) → IsFreeSlot old.handles x.0

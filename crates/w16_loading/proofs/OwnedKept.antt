@@ -77,6 +77,6 @@ module _ (old : Handles) (is : C.AreHandles old) (call : Call) (answer : Answer)
 -- a lock keeps them in any handles
 pub locked : (old : Handles) (handle : ℕ) → SameOwned old (global_lock old handle).1
 locked old handle q =
-    let new : Handles = (global_lock old handle).1 in
-    let k : C.KeepsContents old new = C.contents old new (Calls (C.GlobalLock handle)) (global_lock old handle).0 (C.call_outcome old new (C.GlobalLock handle) (global_lock old handle).0 (refl, refl)) refl in
+    let new = (global_lock old handle).1 in
+    let k = C.contents old new (Calls (C.GlobalLock _)) (global_lock old handle).0 (C.call_outcome old new _ (global_lock old _).0 (refl, refl)) refl in
     ap (λ a. owned_in (finmap.get a q)) k.attributes

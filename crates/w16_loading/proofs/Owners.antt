@@ -23,7 +23,7 @@ module _ (world : LoadingWorld) (is : IsLoadingWorld world) (slot handle number 
 
 -- so its object is there, and a module's
 pub object_there : (world : LoadingWorld) (slot : ℕ) (kind : Kind) (size : ℕ) (code : Bool) → IsObjectOf world slot kind size code → is_some (object_at world.handles.heap slot) ≡ true
-object_there world slot kind size code h = some _ (object_at world.handles.heap slot) h.object
+object_there world slot kind size code h = some _ _ h.object
   where
     some : (P : C.Object → Type 0) (p : Option C.Object) → IsSomeAnd p P → is_some p ≡ true
     some P None h = absurd h
@@ -48,7 +48,7 @@ module _ (world : LoadingWorld) (is : IsLoadingWorld world) (slot handle number 
 
 -- a load is of a module that is there
 pub loaded_of : (world : LoadingWorld) → IsLoadingWorld world → (slot : ℕ) (load : Load) → finmap.get world.loads slot ≡ Some load → (m : Module) × IsResourceOf world slot load.handle load.place m
-loaded_of world is slot load at = turn (C.module_at world.modules load.handle) refl sound.resource
+loaded_of world is slot load at = turn _ refl sound.resource
   where
     sound : IsLoad world slot load
     sound = subst (λ p. IfSome p (IsLoad world slot)) at (is.loads slot)
@@ -64,7 +64,7 @@ loaded_of world is slot load at = turn (C.module_at world.modules load.handle) r
 first_place : (slot : ℕ) (xs : List ℕ) (i : ℕ) → position (λ q. q == slot) xs ≡ Some i → slice_get xs i ≡ Some slot
 first_place slot xs i e =
     let f : (i < C.length xs) × ((C.get_or xs i 0 == slot) ≡ true) × _ = C.position-Some (λ q. q == slot) xs i 0 e in
-    C.slice_get-get_or xs i 0 f.0 ∙ ap Some (C.eqb-true (C.get_or xs i 0) slot f.1)
+    C.slice_get-get_or xs i 0 f.0 ∙ ap Some (C.eqb-true _ slot f.1)
 
 module _ (world : LoadingWorld) (is : IsLoadingWorld world) (slot : ℕ) where
   abbrev IsAmong : List (ℕ × Named) → Owner → Type 0
@@ -136,4 +136,4 @@ module _ (world : LoadingWorld) (is : IsLoadingWorld world) (slot : ℕ) where
       let f : ◌≡◌ {A = Load} (record { handle = a; place = i; loads = x.1.loads }) (record { handle = b; place = j; loads = y.1.loads }) = cc in λ k. OfResource (f k).handle (f k).place
 
 pub owner_law : C.OwnerLaw
-owner_law world slot owner is = (λ e. subst (IsOwnerOf world slot) e (is_owner world is slot), λ h. one_owner world is slot (C.owner_of world slot) owner (is_owner world is slot) h)
+owner_law world slot owner is = (λ e. subst (IsOwnerOf world slot) e (is_owner world is slot), λ h. one_owner world is slot _ owner (is_owner world is slot) h)

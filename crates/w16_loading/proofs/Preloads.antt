@@ -19,12 +19,12 @@ any_member p (y ∷ ys) t = turn (p y) refl t (λ more. any_member p ys more)
 
 -- what isn't pinned is no pinned block
 loose_id : (heap : Heap) (q : ℕ) (o : Object) → object_at heap q ≡ Some o → C.is_pinned_object o ≡ false → is_pinned_id (blocks heap) q ≡ false
-loose_id heap q o there loose = elim (C.cases_Bool (is_pinned_id (blocks heap) q)) [ inr t ↦ t | inl t ↦ absurd (never (any_member (λ (x : Block). x.id == q && is_pinned x) (blocks heap) t)) ]
+loose_id heap q o there loose = elim (C.cases_Bool (is_pinned_id (blocks heap) q)) [ inr t ↦ t | inl t ↦ absurd (never (any_member (λ x. x.id == q && is_pinned x) (blocks heap) t)) ]
   where
     never : (x : Block) × Member x (blocks heap) × ((x.id == q && is_pinned x) ≡ true) → ⊥
     never (x, m, t) =
         let parts : C.IsTrue (x.id == q) × C.IsTrue (is_pinned x) = C.and_parts (x.id == q) (is_pinned x) t in
-        let b : C.IsBlockOf heap x = member_block heap x m in
+        let b = member_block heap x m in
         let same : b.object ≡ o = (let e : Some b.object ≡ Some o = sym b.is_there ∙ ap (object_at heap) (C.eqb-true x.id q parts.0) ∙ there in cc) in
         false≢true (sym (ap holds_still (b.hold ∙ ap hold_of_object same) ∙ ap (λ p. holds_still (cond p Pinned Loose)) loose) ∙ parts.1)
 

@@ -76,7 +76,7 @@ same_leaves old new is e = subst (Leaves old) (sym e) (record { sound = is.handl
 -- a load that is answered with a handle of its own isn't refused
 first_handle : (old : LoadingWorld) (handles : List ℕ) → All (C.IsFreeModule old.modules) handles → (handles ≡ []) ⊎ (FIRST_MODULE ≤ slice_index_or handles 0 0)
 first_handle old [] free = inl refl
-first_handle old (h ∷ hs) free = inr (C.Each-from_All (C.IsFreeModule old.modules) (h ∷ hs) free).0.0
+first_handle old (h ∷ hs) free = inr (C.Each-from_All (C.IsFreeModule _) (h ∷ hs) free).0.0
 
 nothing_given : (place : ℕ) (fs : List Found) (ss : List (List ℕ)) → C.given_from place fs [] ss ≡ []
 nothing_given place [] ss = refl
@@ -90,7 +90,7 @@ fulfilled answers old is closure answer new f refusal = turn f.failure f.filled 
     turn (Some failure) filled answered after = subst (Leaves old) (sym after) (undone_discards answers old is closure f.choice f.is_choice (Some failure) f.heap filled, refl)
     turn None filled answered after = elim (first_handle old f.choice.handles f.is_choice.free) [
       | inl e ↦ same_leaves old new is (after ∙ empty e)
-      | inr le ↦ let few : slice_index_or f.choice.handles 0 0 < FIRST_MODULE = subst IsRefusal answered refusal in absurd (omega (arith, le, few))
+      | inr le ↦ let few = subst IsRefusal answered refusal in absurd (omega (arith, le, few))
     ]
       where
         -- with no handle there is no new module
@@ -108,8 +108,8 @@ fulfilled answers old is closure answer new f refusal = turn f.failure f.filled 
 -- a handle is no refusal
 not_refused : (old : LoadingWorld) → IsLoadingWorld old → (handle : ℕ) (n : Named) → finmap.get old.modules handle ≡ Some n → handle < FIRST_MODULE → ⊥
 not_refused old is handle n e few =
-    let number : (FIRST_MODULE ≤ handle) × _ = subst (λ p. C.IfSome p (λ _. (FIRST_MODULE ≤ handle) × (handle < FIRST_MODULE + C.MOST_MODULES))) e (is.numbers handle) in
-    let le : FIRST_MODULE ≤ handle = number.0 in omega (arith, few, le)
+    let number = subst (λ p. C.IfSome p (λ _. (FIRST_MODULE ≤ handle) × (handle < FIRST_MODULE + C.MOST_MODULES))) e (is.numbers _) in
+    let le = number.0 in omega (arith, few, le)
 
 module _ (old : LoadingWorld) (is : IsLoadingWorld old) where
   abbrev Refused : Answer → LoadingWorld → Type 0
@@ -123,8 +123,8 @@ module _ (old : LoadingWorld) (is : IsLoadingWorld old) where
 
 pub refused_load_law : (honest : Type 0) → C.RefusedLoadLaw honest
 refused_load_law honest format before after b old new file answer is =
-    let answers : Answers = told honest format old.files before after in
-    loaded_by answers (told_answers honest format old.files before after) old (Refused old is) (same old is) b file answer new (used old is) (λ closure facts. fulfilled answers old is closure answer new)
+    let answers = told honest format old.files before after in
+    loaded_by answers (told_answers _ format _ _ after) old (Refused old is) (same old is) b file _ new (used old is) (λ closure facts. fulfilled answers old is _ _ new)
 
 -- Early refusals.
 
@@ -169,10 +169,10 @@ module _ (old : LoadingWorld) where
 
 pub early_refusal_law : (honest : Type 0) → C.EarlyRefusalLaw honest
 early_refusal_law honest format before after b old new file number truly is f some few =
-    let answers : Answers = told honest format old.files before after in
-    loaded_by answers (told_answers honest format old.files before after) old (Early old) (λ answer n e x y. refl) b file (Says number) new
-    (λ handle m e less n same x y. absurd (not_refused old is handle (Loaded m) e (small handle n same y)))
-    (λ closure facts. fulfilled_late old answers (λ fails. let e : Damaged ≡ Store = fails.2 truly in cc) closure (Says number) new) f number refl some few
+    let answers = told _ format _ _ after in
+    loaded_by answers (told_answers _ format _ _ after) old (Early old) (λ answer n e x y. refl) b file (Says _) new
+    (λ handle m e less n same x y. absurd (not_refused old is _ _ e (small _ n same y)))
+    (λ closure facts. fulfilled_late old answers (λ fails. let e = fails.2 truly in cc) closure (Says _) new) f number refl some few
   where
     small : (handle n : ℕ) → Says handle ≡ Says n → n < FIRST_MODULE → handle < FIRST_MODULE
     small handle n e lt = let same : handle ≡ n = cc in omega (arith, same, lt)

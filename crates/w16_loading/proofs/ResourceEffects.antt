@@ -17,7 +17,7 @@ use Rattle.w16_model.specs.declared.Refusal.TheVariants as refusals
 
 -- the handle of an object that is there finds its slot
 finds : (handles : Handles) (slot : ℕ) (o : Object) → object_at handles.heap slot ≡ Some o → slot_of_handle handles (handle_of o.kind slot) ≡ Some slot
-finds handles slot o there = (names_law handles (handle_of o.kind slot) slot).0.1 (subst (λ p. IsSomeAnd p (λ x. handle_of o.kind slot ≡ handle_of x.kind slot)) (sym there) refl)
+finds handles slot o there = (names_law handles _ slot).0.1 (subst (λ p. IsSomeAnd p (λ x. handle_of o.kind slot ≡ handle_of x.kind slot)) (sym there) refl)
 
 -- Loads.
 
@@ -159,7 +159,7 @@ module _ (answers : Answers) (old : LoadingWorld) (is : C.IsLoadingWorld old) (h
   ]
 
 pub load_resource_law : (honest : Type 0) → M.LoadResourceLaw honest
-load_resource_law honest format old new handle place answer is step = loads (told honest format old.files old.failures new.failures) old is handle place answer (record new { failures = old.failures }) step.step
+load_resource_law honest format old new handle place answer is step = loads (told _ format _ old.failures new.failures) old is _ place _ (record new { failures = old.failures }) step.step
 
 -- Locks.
 
@@ -333,6 +333,6 @@ module _ (answers : Answers) (old : LoadingWorld) (is : C.IsLoadingWorld old) (h
 
 pub lock_resource_law : (honest : Type 0) → M.LockResourceLaw honest
 lock_resource_law honest format old new handle answer is step =
-    let answers : Answers = told honest format old.files old.failures new.failures in
-    let l = locks answers old is handle answer (record new { failures = old.failures }) step.step in
-    (l.0, l.1, l.2, l.3, λ slot load o found loaded there bytes few. answered answers old is handle answer (record new { failures = old.failures }) slot load o found loaded there bytes few step.step)
+    let answers = told honest format old.files old.failures new.failures in
+    let l = locks answers old is _ _ (record new { failures = old.failures }) step.step in
+    (l.0, l.1, l.2, l.3, λ slot load o found loaded there bytes few. answered answers old is _ _ (record new { failures = old.failures }) slot load o found loaded there bytes few step.step)

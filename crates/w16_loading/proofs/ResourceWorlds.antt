@@ -12,7 +12,7 @@ use Rattle.std.specs.FinMap as finmap
 -- A lock.
 
 pub locked_world : (old : LoadingWorld) → IsLoadingWorld old → (handle : ℕ) → IsLoadingWorld (C.locked old handle).1
-locked_world old is handle = call_world old is (Calls (HandleCommand.GlobalLock handle)) (C.global_lock old.handles handle).0 (C.global_lock old.handles handle).1 (refl, refl)
+locked_world old is handle = call_world old is (Calls (HandleCommand.GlobalLock _)) (C.global_lock old.handles handle).0 (C.global_lock old.handles handle).1 (refl, refl)
 
 -- Another count of loads.
 
@@ -68,7 +68,7 @@ module _ (old : LoadingWorld) (is : IsLoadingWorld old) (slot : ℕ) (load : Loa
 
 -- one slot is enough for a resource that isn't too long
 one_slot : (r : Resource) → is_too_long r ≡ false → 1 ≡ C.slots_for (rounded_size r.length_in)
-one_slot r = turn (r.length_in == 0) (C.nat_lt LARGEST_OWNED r.length_in) refl
+one_slot r = turn _ _ refl
   where
     turn : (a b : Bool) → C.nat_lt LARGEST_OWNED r.length_in ≡ b → (a || b) ≡ false → 1 ≡ C.slots_for (rounded_size r.length_in)
     turn true b t e = cc

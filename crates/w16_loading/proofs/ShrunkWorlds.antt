@@ -18,36 +18,36 @@ slots_in p = C.unwrap_or (C.option_map (λ (a : C.Attributes). a.slots) p) 0
 
 fewer_slots : (old : C.Handles) (gone : ℕ → Bool) (q : ℕ) → slots_at (finmap.retain_keys old.attributes (λ q. not (gone q))) q ≤ slots_at old.attributes q
 fewer_slots old gone q = elim (cases_Bool (gone q)) [
-  | inl t ↦ let none : slots_at (finmap.retain_keys old.attributes (λ q. not (gone q))) q ≡ 0 = ap slots_in (value_gone old.attributes gone q t) in omega (arith, none)
-  | inr t ↦ let same : slots_at (finmap.retain_keys old.attributes (λ q. not (gone q))) q ≡ slots_at old.attributes q = ap slots_in (value_left old.attributes gone q t) in omega (arith, same)
+  | inl t ↦ let none : slots_at (finmap.retain_keys old.attributes (λ q. not (gone q))) q ≡ 0 = ap slots_in (value_gone _ gone q t) in omega (arith, none)
+  | inr t ↦ let same : slots_at (finmap.retain_keys old.attributes (λ q. not (gone q))) q ≡ slots_at old.attributes q = ap slots_in (value_left _ gone q t) in omega (arith, same)
 ]
 
 -- handles without some objects are handles
 pub released_handles : (old : C.Handles) → C.AreHandles old → (gone : ℕ → Bool) → C.AreHandles (record old { heap = C.heap_without gone old.heap; attributes = finmap.retain_keys old.attributes (λ q. not (gone q)) })
 released_handles old is gone = record {
-  heap = released_heap old.heap is.heap gone;
+  heap = released_heap _ is.heap gone;
   low = is.low;
   grain = is.grain;
   few = is.few;
   runs = record {
     each = λ q. elim (cases_Bool (gone q)) [
-      | inl t ↦ subst (λ p. IfSome p (IsRun old.slots q)) (sym (value_gone old.attributes gone q t)) tt
-      | inr t ↦ subst (λ p. IfSome p (IsRun old.slots q)) (sym (value_left old.attributes gone q t)) (is.runs.each q)
+      | inl t ↦ subst (λ p. IfSome p (IsRun old.slots q)) (sym (value_gone _ gone q t)) tt
+      | inr t ↦ subst (λ p. IfSome p (IsRun old.slots q)) (sym (value_left _ gone q t)) (is.runs.each q)
     ];
     apart = λ q other less some. elim (cases_Bool (gone other)) [
-      | inl t ↦ absurd (false≢true (sym (ap is_some (value_gone old.attributes gone other t)) ∙ some))
+      | inl t ↦ absurd (false≢true (sym (ap is_some (value_gone _ gone other t)) ∙ some))
       | inr t ↦
-          let bound : q + slots_at old.attributes q ≤ other = is.runs.apart q other less (sym (ap is_some (value_left old.attributes gone other t)) ∙ some) in
+          let bound = is.runs.apart q other less (sym (ap is_some (value_left _ gone other t)) ∙ some) in
           omega (arith, bound, fewer_slots old gone q)
     ];
   };
   attributed = λ q. elim (cases_Bool (gone q)) [
-    | inl t ↦ ap is_some (value_gone old.attributes gone q t) ∙ sym (ap is_some (value_gone old.heap.objects gone q t))
-    | inr t ↦ ap is_some (value_left old.attributes gone q t) ∙ is.attributed q ∙ sym (ap is_some (value_left old.heap.objects gone q t))
+    | inl t ↦ ap is_some (value_gone _ gone q t) ∙ sym (ap is_some (value_gone _ gone q t))
+    | inr t ↦ ap is_some (value_left _ gone q t) ∙ is.attributed q ∙ sym (ap is_some (value_left _ gone q t))
   ];
   sized = λ q. elim (cases_Bool (gone q)) [
-    | inl t ↦ C.sized_is refl (ap C.bytes_in (value_gone old.heap.objects gone q t)) tt
-    | inr t ↦ C.sized_is (ap slots_in (value_left old.attributes gone q t)) (ap C.bytes_in (value_left old.heap.objects gone q t)) (is.sized q)
+    | inl t ↦ C.sized_is refl (ap C.bytes_in (value_gone _ gone q t)) tt
+    | inr t ↦ C.sized_is (ap slots_in (value_left _ gone q t)) (ap C.bytes_in (value_left _ gone q t)) (is.sized q)
   ];
 }
 

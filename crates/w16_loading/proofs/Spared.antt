@@ -16,7 +16,7 @@ IsSpared old new q = C.IsKeptOrDiscarded old new q × (HasPinned old q → Stand
 -- An object and its address that don't change.
 
 pub stays_put : (old new : Heap) (q : ℕ) → finmap.get new.places q ≡ finmap.get old.places q → StandsStill old new q
-stays_put old new q same = turn (finmap.get old.places q) same
+stays_put old new q same = turn _ same
   where
     turn : (p : Option ℕ) → finmap.get new.places q ≡ p → IfSome p (λ at. finmap.get new.places q ≡ Some at)
     turn None e = tt
@@ -30,7 +30,7 @@ same_spared heap q = left_alone heap heap q refl refl
 
 -- one that isn't among those that go
 pub spared_without : (gone : ℕ → Bool) (heap : Heap) (q : ℕ) → gone q ≡ false → IsSpared heap (C.heap_without gone heap) q
-spared_without gone heap q t = left_alone heap (C.heap_without gone heap) q (stays heap.objects) (stays heap.places)
+spared_without gone heap q t = left_alone heap (C.heap_without gone heap) q (stays _) (stays _)
   where
     stays : {X : Type 0} (m : C.FinMap C.nat_cmp X) → finmap.get (finmap.retain_keys m (λ q. not (gone q))) q ≡ finmap.get m q
     stays m = retained m gone q ∙ ap (λ b. cond (not b) (finmap.get m q) None) t
@@ -38,7 +38,7 @@ spared_without gone heap q t = left_alone heap (C.heap_without gone heap) q (sta
 -- One after another.
 
 pub stands_then : (old next new : Heap) (q : ℕ) → StandsStill old next q → StandsStill next new q → StandsStill old new q
-stands_then old next new q a b = turn (finmap.get old.places q) a
+stands_then old next new q a b = turn _ a
   where
     turn : (p : Option ℕ) → IfSome p (λ at. finmap.get next.places q ≡ Some at) → IfSome p (λ at. finmap.get new.places q ≡ Some at)
     turn None h = tt
@@ -47,7 +47,7 @@ stands_then old next new q a b = turn (finmap.get old.places q) a
 -- what is discarded wasn't pinned
 still_pinned : (old next : Heap) (q : ℕ) → C.IsKeptOrDiscarded old next q → HasPinned old q → HasPinned next q
 still_pinned old next q (inl e) pinned = subst (λ p. IsSomeAnd p (λ o. is_pinned_object o ≡ true)) (sym e) pinned
-still_pinned old next q (inr h) pinned = absurd (turn (object_at old q) h pinned)
+still_pinned old next q (inr h) pinned = absurd (turn _ h pinned)
   where
     turn : (p : Option C.Object) → IsSomeAnd p (IsLost next q) → IsSomeAnd p (λ o. is_pinned_object o ≡ true) → ⊥
     turn None h k = h
@@ -72,7 +72,7 @@ filled_spared old slot bytes new is f q d = (
 
 -- what has no bytes stands nowhere
 nowhere_still : (old new : Heap) (q : ℕ) → IsHeap old → C.bytes_at old q ≡ None → StandsStill old new q
-nowhere_still old new q is none = turn (finmap.get old.places q) refl
+nowhere_still old new q is none = turn _ refl
   where
     turn : (p : Option ℕ) → finmap.get old.places q ≡ p → IfSome p (λ at. finmap.get new.places q ≡ Some at)
     turn None e = tt

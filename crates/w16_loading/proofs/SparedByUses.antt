@@ -50,7 +50,7 @@ module _ (fetches : C.Fetching) (P Q : LoadingWorld → Type 0) (old new : Loadi
 
 -- The slot that a handle names is a part of it.
 slot_in : (handles : C.Handles) (handle slot : ℕ) → slot_of_handle handles handle ≡ Some slot → slot ≡ handle / 8
-slot_in handles handle slot = turn (object_at handles.heap (handle / 8))
+slot_in handles handle slot = turn _
   where
     by_test : (b : Bool) → cond {A = Option ℕ} b (Some (handle / 8)) None ≡ Some slot → slot ≡ handle / 8
     by_test true e = let same : handle / 8 ≡ slot = cc in sym same
@@ -58,10 +58,10 @@ slot_in handles handle slot = turn (object_at handles.heap (handle / 8))
 
     turn : (p : Option C.Object) → ◌≡◌ {A = Option ℕ} (elim p [ Some o ↦ cond (handle == C.handle_of o.kind (handle / 8)) (Some (handle / 8)) None | None ↦ None ]) (Some slot) → slot ≡ handle / 8
     turn None e = cc
-    turn (Some o) e = by_test (handle == C.handle_of o.kind (handle / 8)) e
+    turn (Some o) e = by_test _ e
 
 pub named_slot : (old : LoadingWorld) (handle : ℕ) (x : ℕ × Load) → C.slot_of_resource old handle ≡ Some x → slot_of_handle old.handles handle ≡ Some x.0
-named_slot old handle x = turn (slot_of_handle old.handles handle)
+named_slot old handle x = turn _
   where
     by_load : (slot : ℕ) (p : Option Load) → ◌≡◌ {A = Option (ℕ × Load)} (option_map (λ load. (slot, load)) p) (Some x) → Some slot ≡ Some x.0
     by_load slot None f = cc
@@ -69,11 +69,11 @@ named_slot old handle x = turn (slot_of_handle old.handles handle)
 
     turn : (p : Option ℕ) → ◌≡◌ {A = Option (ℕ × Load)} (elim p [ None ↦ None | Some slot ↦ option_map (λ load. (slot, load)) (finmap.get old.loads slot) ]) (Some x) → p ≡ Some x.0
     turn None e = cc
-    turn (Some slot) e = by_load slot (finmap.get old.loads slot) e
+    turn (Some slot) e = by_load slot _ e
 
 -- a lock of a handle moves nothing
 lock_contents : (old : C.Handles) (handle : ℕ) → C.KeepsContents old (global_lock old handle).1
-lock_contents old handle = C.contents old (global_lock old handle).1 (Calls (GlobalLock handle)) (global_lock old handle).0 (C.call_outcome old (global_lock old handle).1 (GlobalLock handle) (global_lock old handle).0 (refl, refl)) refl
+lock_contents old handle = C.contents old (global_lock old _).1 (Calls (GlobalLock _)) (global_lock old handle).0 (C.call_outcome old (global_lock old _).1 _ (global_lock old _).0 (refl, refl)) refl
 
 module _ (answers : C.Answers) (old : LoadingWorld) (is : C.IsLoadingWorld old) (q : ℕ) (there : C.is_some (object_at old.handles.heap q) ≡ true) (new : LoadingWorld) (reply : Reply) where
   abbrev Spared : LoadingWorld → Type 0

@@ -10,21 +10,21 @@ use Rattle.w16_loading.specs.declared.FetchFault.TheVariants as faults
 
 -- what is found among entries is there
 pub found_load : (old : LoadingWorld) (handle place : ℕ) (x : ℕ × Load) → load_of old handle place ≡ Some x → finmap.get old.loads x.0 ≡ Some x.1
-found_load old handle place x e = entry_there old.loads x.0 x.1 (found_passes (λ (y : ℕ × Load). (y.1.handle == handle) && (y.1.place == place)) (finmap.entries old.loads) x e).0
+found_load old handle place x e = entry_there _ x.0 x.1 (found_passes (λ y. (y.1.handle == handle) && (y.1.place == place)) _ x e).0
 
 -- the slot of a resource has its load
 pub resource_load : (old : LoadingWorld) (handle : ℕ) (x : ℕ × Load) → slot_of_resource old handle ≡ Some x → finmap.get old.loads x.0 ≡ Some x.1
-resource_load old handle x = turn (C.slot_of_handle old.handles handle)
+resource_load old handle x = turn _
   where
     by_load : (slot : ℕ) (p : Option Load) → finmap.get old.loads slot ≡ p → ◌≡◌ {A = Option (ℕ × Load)} (C.option_map (λ load. (slot, load)) p) (Some x) → finmap.get old.loads x.0 ≡ Some x.1
     by_load slot None e f = cc
     by_load slot (Some load) e f =
         let same : ◌≡◌ {A = ℕ × Load} (slot, load) x = cc in
-        ap (finmap.get old.loads) (sym (ap (λ (y : ℕ × Load). y.0) same)) ∙ e ∙ ap (λ (y : ℕ × Load). Some y.1) same
+        ap (finmap.get _) (sym (ap (λ y. y.0) same)) ∙ e ∙ ap (λ y. Some y.1) same
 
     turn : (p : Option ℕ) → ◌≡◌ {A = Option (ℕ × Load)} (elim p [ None ↦ None | Some slot ↦ C.option_map (λ load. (slot, load)) (finmap.get old.loads slot) ]) (Some x) → finmap.get old.loads x.0 ≡ Some x.1
     turn None e = cc
-    turn (Some slot) e = by_load slot (finmap.get old.loads slot) refl e
+    turn (Some slot) e = by_load slot _ refl e
 
 -- another count of loads, and of uses
 abbrev pub with_count : LoadingWorld → ℕ → Load → ℕ → LoadingWorld

@@ -32,8 +32,8 @@ pub chosen : (place : ℕ) (fs : List Found) (hs : List ℕ) (ss : List (List �
 chosen place [] hs ss x m = absurd m
 chosen place (f ∷ fs) [] ss x m = absurd m
 chosen place (f ∷ fs) (h ∷ hs) [] x m = absurd m
-chosen place (f ∷ fs) (h ∷ hs) (s ∷ ss) x m = elim (parted x (zip s f.read.tables.segments) (segments_of (C.given_from (place + 1) fs hs ss)) m) [
-  | inl a ↦ in_first x.0 s (flat_map (λ s. s) ss) (zipped s f.read.tables.segments x a)
+chosen place (f ∷ fs) (h ∷ hs) (s ∷ ss) x m = elim (parted x (zip s _) (segments_of (C.given_from _ fs hs ss)) m) [
+  | inl a ↦ in_first x.0 s (flat_map (λ s. s) ss) (zipped s _ x a)
   | inr b ↦ in_second x.0 s (flat_map (λ s. s) ss) (chosen (place + 1) fs hs ss x b)
 ]
 
@@ -45,10 +45,10 @@ pub record IsNamed (old new : LoadingWorld) (xs : List (ℕ × Segment)) : Type 
 
 pub fold_named : (w : LoadingWorld) (xs : List (ℕ × Segment)) → IsNamed w (fold with_segment w xs) xs
 fold_named w [] = record { rest = refl; others = λ q out. refl; attributes = λ q out. refl }
-fold_named w (x ∷ xs) = let r : IsNamed (with_segment w x) (fold with_segment (with_segment w x) xs) xs = fold_named (with_segment w x) xs in record {
+fold_named w (x ∷ xs) = let r = fold_named (with_segment w x) xs in record {
   rest = r.rest;
-  others = λ q out. r.others q (λ y m. out y (inr m)) ∙ inserted_other w.handles.heap.objects x.0 (record { kind = x.1.kind; locks = 0; bytes = None }) q (out x (inl refl));
-  attributes = λ q out. r.attributes q (λ y m. out y (inr m)) ∙ inserted_other w.handles.attributes x.0 (C.attributes_of x.1) q (out x (inl refl));
+  others = λ q out. r.others q (λ y m. out y (inr m)) ∙ inserted_other _ x.0 (record { kind = x.1.kind; locks = 0; bytes = None }) q (out x (inl refl));
+  attributes = λ q out. r.attributes q (λ y m. out y (inr m)) ∙ inserted_other _ x.0 _ q (out x (inl refl));
 }
 
 pub same_owned : (w : LoadingWorld) (xs : List (ℕ × Segment)) (q : ℕ) → ((x : ℕ × Segment) → Member x xs → q ≢ x.0) → C.owned_at (fold with_segment w xs).handles q ≡ C.owned_at w.handles q
@@ -57,10 +57,10 @@ same_owned w xs q out = ap C.owned_in ((fold_named w xs).attributes q out)
 -- What isn't there needn't go.
 pub kept_all : (gone : ℕ → Bool) (ids : List ℕ) → ((q : ℕ) → Member q ids → gone q ≡ false) → filter (λ q. not (gone q)) ids ≡ ids
 kept_all gone [] out = refl
-kept_all gone (q ∷ ids) out = ap (λ b. cond {A = List ℕ} (not b) (q ∷ filter (λ q. not (gone q)) ids) (filter (λ q. not (gone q)) ids)) (out q (inl refl)) ∙ ap (λ (r : List ℕ). q ∷ r) (kept_all gone ids (λ p m. out p (inr m)))
+kept_all gone (q ∷ ids) out = ap (λ b. cond {A = List ℕ} (not b) (q ∷ filter (λ q. not (gone q)) ids) (filter (λ q. not (gone q)) ids)) (out q (inl refl)) ∙ ap (λ r. q ∷ r) (kept_all gone ids (λ p m. out p (inr m)))
 
 pub retained : {X : Type 0} (m : C.FinMap C.nat_cmp X) (gone : ℕ → Bool) (q : ℕ) → finmap.get (finmap.retain_keys m (λ q. not (gone q))) q ≡ cond (not (gone q)) (finmap.get m q) None
-retained m gone q = C.get-retain_keys m (λ q. not (gone q)) q (λ x t. ap (λ k. not (gone k)) (sym (C.nat_cmp-IsAntisymmetric q x t)))
+retained m gone q = C.get-retain_keys m (λ q. not _) q (λ x t. ap (λ k. not (gone k)) (sym (C.nat_cmp-IsAntisymmetric q x t)))
 
 module _ (old : LoadingWorld) (is : C.AreHandles old.handles) (slots : List ℕ) (free : (q : ℕ) → Member q slots → object_at old.handles.heap q ≡ None) where
   abbrev gone : ℕ → Bool
@@ -108,13 +108,13 @@ module _ (old : LoadingWorld) (is : C.AreHandles old.handles) (slots : List ℕ)
       attributes = unchanged old.handles.attributes new.handles.attributes (λ q t. none (finmap.get old.handles.attributes q) (is.attributed q ∙ ap is_some (no_object q t))) (λ q t. n.attributes q (out q t))
 
 free_objects : (old : LoadingWorld) → C.AreHandles old.handles → (slots : List ℕ) → All (IsFreeSlot old.handles) slots → (q : ℕ) → Member q slots → object_at old.handles.heap q ≡ None
-free_objects old is slots free q m = C.unused_slot old.handles is q (C.Each-at (IsFreeSlot old.handles) slots (C.Each-from_All (IsFreeSlot old.handles) slots free) q m)
+free_objects old is slots free q m = C.unused_slot _ is q (C.Each-at (IsFreeSlot old.handles) slots (C.Each-from_All _ slots free) q m)
 
 pub taken_back_law : C.TakenBackLaw
 taken_back_law old slots xs is free inside = taken_away old is slots (free_objects old is slots free) xs
-    (λ x m. C.is_member-true x.0 slots (C.Each-at (λ (x : ℕ × Segment). is_member x.0 slots ≡ true) xs (C.Each-from_All (λ (x : ℕ × Segment). is_member x.0 slots ≡ true) xs inside) x m))
-    (fold with_segment old xs) (fold_named old xs)
+    (λ x m. C.is_member-true x.0 slots (C.Each-at (λ x. is_member x.0 slots ≡ true) xs (C.Each-from_All (λ x. is_member x.0 slots ≡ true) xs inside) x m))
+    _ (fold_named old xs)
 
 pub undone_law : C.UndoneLaw
-undone_law old closure choice is chosen_well = ap (λ (w : LoadingWorld). C.with_heap old w.handles.heap) (taken_away old is (C.all_slots choice) (free_objects old is (C.all_slots choice) chosen_well.slots.free) (segments_of (given closure choice))
-    (chosen 0 closure.found choice.handles choice.slots) (fold with_segment old (segments_of (given closure choice))) (fold_named old (segments_of (given closure choice))))
+undone_law old closure choice is chosen_well = ap (λ w. C.with_heap old w.handles.heap) (taken_away old is (C.all_slots choice) (free_objects old is (C.all_slots choice) chosen_well.slots.free) (segments_of (given closure choice))
+    (chosen 0 closure.found choice.handles choice.slots) (fold with_segment old (segments_of (given closure choice))) (fold_named old _))

@@ -16,20 +16,20 @@ by_name name (Some (C.BuiltIn other)) = refl
 pub values_law : C.ValuesLaw
 values_law f g m (C.Internal number offset) same = refl
 values_law f g m (C.InternalEntry ordinal) same = refl
-values_law f g m (C.Import reference ordinal) same = let h : ℕ = imported m reference in
-    by_ordinal (imported m reference) ordinal (f (imported m reference)) ∙ ap (λ p. address_by_ordinal (imported m reference) p ordinal) (same (imported m reference)) ∙ sym (by_ordinal (imported m reference) ordinal (g (imported m reference)))
-values_law f g m (C.ImportName reference name) same = by_name name (f (imported m reference)) ∙ ap (λ p. address_by_name p name) (same (imported m reference)) ∙ sym (by_name name (g (imported m reference)))
+values_law f g m (C.Import reference ordinal) same = let h = imported m reference in
+    by_ordinal (imported m _) ordinal (f _) ∙ ap (λ p. address_by_ordinal (imported m reference) p ordinal) (same _) ∙ sym (by_ordinal (imported m _) ordinal (g _))
+values_law f g m (C.ImportName reference name) same = by_name name _ ∙ ap (λ p. address_by_name p name) (same _) ∙ sym (by_name name _)
 values_law f g m C.System same = refl
 
 -- modules put with other values
 put_alike : (a b : Given → C.Module) → ((g : Given) → without_values (Some (Loaded (a g))) ≡ without_values (Some (Loaded (b g)))) → (gs : List Given) (x y : C.Modules) → ((handle : ℕ) → without_values (finmap.get x handle) ≡ without_values (finmap.get y handle))
     → (handle : ℕ) → without_values (finmap.get (with_modules a gs x) handle) ≡ without_values (finmap.get (with_modules b gs y) handle)
-put_alike a b same [] x y alike handle = alike handle
-put_alike a b same (g ∷ gs) x y alike handle = put_alike a b same gs (finmap.insert x g.handle (Loaded (a g))) (finmap.insert y g.handle (Loaded (b g))) (λ h. elim (C.cases_eq h g.handle) [
-  | inl e ↦ ap without_values (C.inserted_here x g.handle (Loaded (a g)) h e) ∙ same g ∙ sym (ap without_values (C.inserted_here y g.handle (Loaded (b g)) h e))
-  | inr d ↦ ap without_values (C.inserted_other x g.handle (Loaded (a g)) h d) ∙ alike h ∙ sym (ap without_values (C.inserted_other y g.handle (Loaded (b g)) h d))
-]) handle
+put_alike a b same [] x y alike handle = alike _
+put_alike a b same (g ∷ gs) x y alike handle = put_alike a b same gs _ _ (λ h. elim (C.cases_eq h g.handle) [
+  | inl e ↦ ap without_values (C.inserted_here x _ _ h e) ∙ same g ∙ sym (ap without_values (C.inserted_here y _ _ h e))
+  | inr d ↦ ap without_values (C.inserted_other x _ _ h d) ∙ alike h ∙ sym (ap without_values (C.inserted_other y _ _ h d))
+]) _
 
 pub bound_alike_law : C.BoundAlikeLaw
-bound_alike_law old closure choice m target = values_law (finmap.get (with_modules (bound old closure choice) (given closure choice) old.modules)) (finmap.get (with_modules (C.unbound closure choice) (given closure choice) old.modules)) m target
-    (put_alike (bound old closure choice) (C.unbound closure choice) (λ g. refl) (given closure choice) old.modules old.modules (λ handle. refl))
+bound_alike_law old closure choice m target = values_law _ _ m target
+    (put_alike (bound old closure choice) (C.unbound closure choice) (λ g. refl) (given closure choice) old.modules _ (λ handle. refl))

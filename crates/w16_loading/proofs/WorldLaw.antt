@@ -13,8 +13,8 @@ use proofs.{Fillings.lost, Fillings.kept_sized, RefusedLoad.undone_discards, Cal
 -- what a refused load leaves
 discards_world : (old : LoadingWorld) → IsLoadingWorld old → (heap : Heap) → C.OnlyDiscards old.handles.heap heap → IsLoadingWorld (C.with_heap old heap)
 discards_world old is heap d = world_stays old is (record old.handles { heap = heap })
-    (C.other_handles old.handles is.handles heap d.sound (ap (λ (h : Heap). h.lo) d.rest) (ap (λ (h : Heap). h.grain) d.rest) (λ q. lost old.handles.heap heap q (d.objects q))
-    (λ q. kept_sized old.handles.heap heap q (C.slots_at old.handles.attributes q) (d.objects q) (is.handles.sized q))) (λ q. refl)
+    (C.other_handles old.handles is.handles heap d.sound (ap (λ h. h.lo) d.rest) (ap (λ h. h.grain) d.rest) (λ q. lost old.handles.heap heap q (d.objects q))
+    (λ q. kept_sized old.handles.heap heap q _ (d.objects q) (is.handles.sized q))) (λ q. refl)
     (λ q kind size code h. left_owned old.handles.heap heap q kind size (kept_left old.handles.heap heap q (object_there old q kind size code h) (d.objects q)) h.object)
 
 module _ (answers : Answers) (are : AreAnswers answers) (old : LoadingWorld) (is : IsLoadingWorld old) where
@@ -49,6 +49,6 @@ ours command known = tt
 
 pub keeps_worlds_law : (honest : Type 0) → C.KeepsWorldsLaw honest
 keeps_worlds_law honest format old new command reply is known step =
-    let answers : Answers = told honest format old.files old.failures new.failures in
-    recounted (record new { failures = old.failures }) (family (C.FetchesFrom Fills answers) (C.LoadsFrom Fills answers) (λ slice. All (λ b. b < 256) slice) old IsLoadingWorld
-    (parts answers (told_answers honest format old.files old.failures new.failures) old is) (record new { failures = old.failures }) reply command (ours command known) step.step) new.failures
+    let answers = told honest format old.files old.failures new.failures in
+    recounted (record new { failures = old.failures }) (family (C.FetchesFrom Fills _) (C.LoadsFrom Fills answers) (λ slice. All (λ b. b < 256) slice) old IsLoadingWorld
+    (parts _ (told_answers _ format _ _ _) old is) (record new { failures = old.failures }) reply command (ours _ known) step.step) _

@@ -2,4 +2,4 @@ use Rattle.w16_loading.proofs.CodeLaw.{code_law}
 use Rattle.w16_loading.proofs.laws.code_reads_as_its_file.Goals as goal
 
 pub returns : goal.returns
-returns g c = code_law g.S.Store.is_honest
+returns g c = code_law _

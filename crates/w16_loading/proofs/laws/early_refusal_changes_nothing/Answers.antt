@@ -2,4 +2,4 @@ use Rattle.w16_loading.proofs.RefusedLoad.{early_refusal_law}
 use Rattle.w16_loading.proofs.laws.early_refusal_changes_nothing.Goals as goal
 
 pub returns : goal.returns
-returns g c = early_refusal_law g.S.Store.is_honest
+returns g c = early_refusal_law _

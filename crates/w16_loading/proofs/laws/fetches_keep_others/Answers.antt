@@ -2,4 +2,4 @@ use Rattle.w16_loading.proofs.Fetched.{fetch_law}
 use Rattle.w16_loading.proofs.laws.fetches_keep_others.Goals as goal
 
 pub returns : goal.returns
-returns g c = fetch_law g.S.Store.is_honest
+returns g c = fetch_law _

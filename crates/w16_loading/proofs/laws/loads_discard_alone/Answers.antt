@@ -2,4 +2,4 @@ use Rattle.w16_loading.proofs.Requests.{fills_law}
 use Rattle.w16_loading.proofs.laws.loads_discard_alone.Goals as goal
 
 pub returns : goal.returns
-returns g c = fills_law g.S.Store.is_honest
+returns g c = fills_law _

@@ -2,4 +2,4 @@ use Rattle.w16_loading.proofs.KeptOwners.{owners_law}
 use Rattle.w16_loading.proofs.laws.objects_keep_their_owners.Goals as goal
 
 pub returns : goal.returns
-returns g c = owners_law g.S.Store.is_honest
+returns g c = owners_law _

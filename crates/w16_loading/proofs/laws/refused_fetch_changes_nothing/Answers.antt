@@ -2,4 +2,4 @@ use Rattle.w16_loading.proofs.Fetched.{refused_law}
 use Rattle.w16_loading.proofs.laws.refused_fetch_changes_nothing.Goals as goal
 
 pub returns : goal.returns
-returns g c = refused_law g.S.Store.is_honest
+returns g c = refused_law _

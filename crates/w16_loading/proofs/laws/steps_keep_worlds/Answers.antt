@@ -2,4 +2,4 @@ use Rattle.w16_loading.proofs.WorldLaw.{keeps_worlds_law}
 use Rattle.w16_loading.proofs.laws.steps_keep_worlds.Goals as goal
 
 pub returns : goal.returns
-returns g c = keeps_worlds_law g.S.Store.is_honest
+returns g c = keeps_worlds_law _
