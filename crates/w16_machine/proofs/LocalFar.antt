@@ -96,21 +96,21 @@ far_reply old new command (Some answer) h = far_same old new command answer h
 -- so all are left where each object has as many
 pub tables_stay : (old new : World) → C.AreLocalHeaps old → new ≡ C.after_loading old new.loading → HasSameSizes old.loading.handles new.loading.handles → new.heaps ≡ old.heaps
 tables_stay old new is rest sizes = C.same_map C.nat_cmp_total C.nat_cmp-IsAntisymmetric new.heaps old.heaps (λ slot.
-    ap (λ (w : World). finmap.get w.heaps slot) rest ∙ left_is new.loading.handles.heap old.heaps slot
+    ap (λ w. finmap.get w.heaps slot) rest ∙ left_is new.loading.handles.heap old.heaps slot
     ∙ left_same (finmap.get old.heaps slot) (C.segment_bytes old slot) (C.segment_bytes new slot) (is.heaps slot) (sizes slot))
 
 -- a local heap that has its table has its objects
 pub same_heaps : (old new : World) → C.AreLocalHeaps old → (at after : C.LocalHeap) → IsThere old at → IsThere new after → after.table ≡ at.table → HasSameObjects (heap_of at) (heap_of after)
 same_heaps old new is at after was now t =
-    let here : C.IsLocalIn at.table at.bytes = local_here old is at was in
-    subst (λ t. HasSameObjects (heap_of at) (heap_in t after.bytes)) (sym t) (same_objects at.table here.0.sound.table at.bytes after.bytes here.1 (subst (λ (t : Table). t.hi ≤ length after.bytes) t now.inside))
+    let here = local_here old is at was in
+    subst (λ t. HasSameObjects (heap_of at) (heap_in t after.bytes)) (sym t) (same_objects at.table here.0.sound.table at.bytes after.bytes here.1 (subst (λ t. t.hi ≤ length after.bytes) t now.inside))
 
 pub local_far_law : C.FarLaw
 local_far_law old new command reply is known step rest = (
   same_tables,
   (λ slot at after e f.
-      let was : IsThere old at × (at.slot ≡ slot) = local_there old slot at e in
-      let now : IsThere new after × (after.slot ≡ slot) = local_there new slot after f in
+      let was = local_there old slot at e in
+      let now = local_there new slot after f in
       same_heaps old new is at after was.0 now.0 (same_table at after was.0 now.0 (now.1 ∙ sym was.1))),
 )
   where

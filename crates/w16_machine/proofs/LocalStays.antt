@@ -14,7 +14,7 @@ use Rattle.w16_loading.specs.Families as families
 reply_same : (old new : C.Handles) (command : C.HandleCommand) (answer : Option C.Answer) → C.call_may_take command ≡ false → IsSomeAnd answer (λ answer. C.HandleStep old command answer new) → HasSameSizes old new
 reply_same old new command None m step = absurd step
 reply_same old new command (Some answer) m step =
-    let k : C.KeepsContents old new = C.contents old new (Calls command) answer (C.call_outcome old new command answer step) m in
+    let k = C.contents old new (Calls command) answer (C.call_outcome old new command answer step) m in
     λ q. ap (option_map length) (k.bytes q)
 
 module _ (fetches : Fetching) (loads : Loading) (old new : LoadingWorld) (reply : Reply) where
