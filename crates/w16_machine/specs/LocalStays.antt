@@ -37,18 +37,20 @@ step_may_take old (OfResources command) = resources_may_take command
 abbrev pub size_at : Handles → ℕ → Option ℕ
 size_at handles slot = option_map length (bytes_at handles.heap slot)
 
--- each object has as many as before
-abbrev pub HasSameSizes : Handles → Handles → Type 0
-HasSameSizes old new = (slot : ℕ) → size_at new slot ≡ size_at old slot
+-- Each object has its address, its selectors and whose it is as before, and as many bytes.
+pub record HasSamePlaces (old new : Handles) : Type 0 where
+  pub addresses : new.heap.places ≡ old.heap.places
+  pub attributes : new.attributes ≡ old.attributes
+  pub sizes : (slot : ℕ) → size_at new slot ≡ size_at old slot
 
--- The laws. A step of any other command leaves each object as many bytes,
-abbrev pub SizesLaw : (honest : Type 0) → Type 0
-SizesLaw honest = (format : Format) (old new : LoadingWorld) (command : LoadingCommand) (reply : Reply) → step_may_take old command ≡ false → StepOver honest format old command reply new → HasSameSizes old.handles new.handles
+-- The laws. A step of any other command leaves each object where it is, with as many bytes,
+abbrev pub SamePlacesLaw : (honest : Type 0) → Type 0
+SamePlacesLaw honest = (format : Format) (old new : LoadingWorld) (command : LoadingCommand) (reply : Reply) → step_may_take old command ≡ false → StepOver honest format old command reply new → HasSamePlaces old.handles new.handles
 
 -- and so it keeps each local heap.
 abbrev pub HeapsLaw : (honest : Type 0) → Type 0
 HeapsLaw honest = (format : Format) (old new : World) (command : LoadingCommand) (reply : Reply) → AreLocalHeaps old → step_may_take old.loading command ≡ false → Step honest format old (OfLoading command) reply new → new.heaps ≡ old.heaps
 
 -- So does a local call for which no heap may grow.
-abbrev pub LocalSizesLaw : Type 0
-LocalSizesLaw = (old new : World) (command : LocalCommand) (reply : Reply) → AreLocalHeaps old → may_grow command ≡ false → LocalStep old command reply new → HasSameSizes old.loading.handles new.loading.handles
+abbrev pub LocalSamePlacesLaw : Type 0
+LocalSamePlacesLaw = (old new : World) (command : LocalCommand) (reply : Reply) → AreLocalHeaps old → may_grow command ≡ false → LocalStep old command reply new → HasSamePlaces old.loading.handles new.loading.handles
