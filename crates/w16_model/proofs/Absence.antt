@@ -62,7 +62,7 @@ answer old id locked discardable = cond {A = Result Heap Refusal} locked (Err re
 -- it is this one
 pub discard_is : (old : Heap) (id : ℕ) (p : Option Object) → object_at old id ≡ p
     → after_discard old id ≡ elim p [ None ↦ Err refusals.NotDiscardable | Some o ↦ answer old id (nat_lt 0 o.locks) (is_discardable o.kind) ]
-discard_is old id p there = ap (λ (p : Option Object). elim p [ None ↦ Err refusals.NotDiscardable | Some o ↦ answer old id (nat_lt 0 o.locks) (is_discardable o.kind) ]) there
+discard_is old id p there = ap (λ p. elim p [ None ↦ Err refusals.NotDiscardable | Some o ↦ answer old id (nat_lt 0 o.locks) (is_discardable o.kind) ]) there
 
 pub discard_heap_law : DiscardHeapLaw
 discard_heap_law old id is = turn (object_at old id) refl
@@ -70,15 +70,15 @@ discard_heap_law old id is = turn (object_at old id) refl
     by_test : (o : Object) → object_at old id ≡ Some o → (locked discardable : Bool) → nat_lt 0 o.locks ≡ locked → IfOk (answer old id locked discardable) IsHeap
     by_test o there true discardable t = tt
     by_test o there false false t = tt
-    by_test o there false true t = absent_heap old is id o there (let le : o.locks ≤ 0 = ltb-false 0 o.locks t in omega arith)
+    by_test o there false true t = absent_heap old is id o there (let le = ltb-false 0 o.locks t in omega arith)
 
     turn : (p : Option Object) → object_at old id ≡ p → IfOk (after_discard old id) IsHeap
-    turn None there = subst (λ (r : Result Heap Refusal). IfOk r IsHeap) (sym (discard_is old id None there)) tt
-    turn (Some o) there = subst (λ (r : Result Heap Refusal). IfOk r IsHeap) (sym (discard_is old id (Some o) there)) (by_test o there (nat_lt 0 o.locks) (is_discardable o.kind) refl)
+    turn None there = subst (λ r. IfOk r IsHeap) (sym (discard_is old id None there)) tt
+    turn (Some o) there = subst (λ r. IfOk r IsHeap) (sym (discard_is old id (Some o) there)) (by_test o there (nat_lt 0 o.locks) (is_discardable o.kind) refl)
 
 -- where it is answered the object is absent
 pub discard_absent : (old new : Heap) (id : ℕ) → after_discard old id ≡ Ok new → new ≡ absent old id
-discard_absent old new id done = turn (object_at old id) refl
+discard_absent old new id done = turn _ refl
   where
     by_test : (locked discardable : Bool) → answer old id locked discardable ≡ Ok new → new ≡ absent old id
     by_test true discardable e = cc
@@ -87,4 +87,4 @@ discard_absent old new id done = turn (object_at old id) refl
 
     turn : (p : Option Object) → object_at old id ≡ p → new ≡ absent old id
     turn None there = let both : ◌≡◌ {A = Result Heap Refusal} (Err refusals.NotDiscardable) (Ok new) = sym (discard_is old id None there) ∙ done in cc
-    turn (Some o) there = by_test (nat_lt 0 o.locks) (is_discardable o.kind) (sym (discard_is old id (Some o) there) ∙ done)
+    turn (Some o) there = by_test _ _ (sym (discard_is old id _ there) ∙ done)

@@ -32,43 +32,43 @@ abbrev Both : Handles → ℕ → ℕ → Part → Type 0
 Both handles offset n p = Reached handles p.slot (REACH * p.number + offset + n) × (offset + n ≤ REACH)
 
 both_reached : (handles : Handles) (selector offset n : ℕ) → far_fault handles selector offset n ≡ None → Reached handles (C.far_slot handles selector) (C.far_at handles selector offset + n) × (offset + n ≤ REACH)
-both_reached handles selector offset n = turn (C.part_of_selector handles selector)
+both_reached handles selector offset n = turn _
   where
     inside : (p : Part) (bytes : List ℕ) (a b : Bool) → nat_lt REACH (offset + n) ≡ a → nat_lt (length bytes) (REACH * p.number + (offset + n)) ≡ b → IsNone (if a || b then Some Limit else None) → (REACH * p.number + offset + n ≤ length bytes) × (offset + n ≤ REACH)
     inside p bytes true b s t e = cc
     inside p bytes false true s t e = cc
-    inside p bytes false false s t e = (omega (arith, C.ltb-false (length bytes) (REACH * p.number + (offset + n)) t), C.ltb-false REACH (offset + n) s)
+    inside p bytes false false s t e = (omega (arith, C.ltb-false (length bytes) (REACH * p.number + (offset + n)) t), C.ltb-false REACH _ s)
 
     of_bytes : (p : Part) (o : Object) → object_at handles.heap p.slot ≡ Some o → (b : Option (List ℕ)) → o.bytes ≡ b → IsNone (bytes_fault p (offset + n) b) → Both handles offset n p
     of_bytes p o there None has e = cc
     of_bytes p o there (Some bytes) has e =
-        let fits : (REACH * p.number + offset + n ≤ length bytes) × (offset + n ≤ REACH) = inside p bytes (nat_lt REACH (offset + n)) (nat_lt (length bytes) (REACH * p.number + (offset + n))) refl refl e in
+        let fits = inside p bytes _ _ refl refl e in
         (record { object = o; bytes = bytes; there = there; has = has; here = ap bytes_in there ∙ has; fits = fits.0 }, fits.1)
 
     of_object : (p : Part) (q : Option Object) → object_at handles.heap p.slot ≡ q → IsNone (bytes_fault p (offset + n) (bytes_in q)) → Both handles offset n p
     of_object p None there e = cc
-    of_object p (Some o) there e = of_bytes p o there o.bytes refl e
+    of_object p (Some o) there e = of_bytes p o there _ refl e
 
     turn : (r : Option Part) → IsNone (elim r [ None ↦ Some C.BadSelector | Some p ↦ bytes_fault p (offset + n) (bytes_at handles.heap p.slot) ]) → Both handles offset n (C.unwrap_or r nowhere)
     turn None e = cc
-    turn (Some p) e = of_object p (object_at handles.heap p.slot) refl e
+    turn (Some p) e = of_object p _ refl e
 
 pub reached : (handles : Handles) (selector offset n : ℕ) → far_fault handles selector offset n ≡ None → Reached handles (C.far_slot handles selector) (C.far_at handles selector offset + n)
-reached handles selector offset n free = (both_reached handles selector offset n free).0
+reached handles selector offset n free = (both_reached _ _ _ n free).0
 
 pub near : (handles : Handles) (selector offset n : ℕ) → far_fault handles selector offset n ≡ None → offset + n ≤ REACH
-near handles selector offset n free = (both_reached handles selector offset n free).1
+near handles selector offset n free = (both_reached handles _ _ n free).1
 
 -- and one to bytes that the selector reaches is without a fault
 pub reached_fault : (handles : Handles) (selector offset n : ℕ) (p : Part) (bytes : List ℕ) → C.part_of_selector handles selector ≡ Some p → bytes_at handles.heap p.slot ≡ Some bytes → offset + n ≤ REACH → REACH * p.number + (offset + n) ≤ length bytes
     → far_fault handles selector offset n ≡ None
 reached_fault handles selector offset n p bytes found has near fits =
-    ap (λ (s : Option Part). elim s as (λ _. Option FarFault) [ None ↦ Some C.BadSelector | Some p ↦ bytes_fault p (offset + n) (bytes_at handles.heap p.slot) ]) found
-    ∙ ap (bytes_fault p (offset + n)) has
-    ∙ ap (λ b. cond {A = Option FarFault} b (Some Limit) None) (ap (λ b. b || nat_lt (length bytes) (REACH * p.number + (offset + n))) (short REACH (offset + n) near) ∙ short (length bytes) (REACH * p.number + (offset + n)) fits)
+    ap (λ s. elim s as (λ _. Option _) [ None ↦ Some C.BadSelector | Some p ↦ bytes_fault p (offset + n) (bytes_at handles.heap p.slot) ]) found
+    ∙ ap (bytes_fault p _) has
+    ∙ ap (λ b. cond {A = Option _} b (Some Limit) None) (ap (λ b. b || nat_lt (length bytes) (REACH * p.number + (offset + n))) (short REACH _ near) ∙ short _ _ fits)
   where
     short : (a b : ℕ) → b ≤ a → nat_lt a b ≡ false
-    short a b le = turn (nat_lt a b) refl
+    short a b le = turn _ refl
       where
         turn : (t : Bool) → nat_lt a b ≡ t → nat_lt a b ≡ false
         turn false t = t

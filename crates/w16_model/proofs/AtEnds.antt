@@ -46,6 +46,6 @@ module _ (old new : Heap) (id n : ℕ) (options : C.RoomOptions) (answered : Boo
 
 pub answer_law : AnswerLaw
 answer_law old new id n options answered = (
-  (λ kind locks none a. allocates old new id n options answered kind locks a ∙ sym (ap (λ (p : Option Object). elim p as (λ _. Bool) [ None ↦ is_some (discards_needed old n (Some id) options) | Some o ↦ is_resized old id o n options ]) none)),
-  reallocates old new id n options answered,
+  (λ kind locks none a. allocates old new id n _ _ kind locks a ∙ sym (ap (λ p. elim p as (λ _. Bool) [ None ↦ is_some (discards_needed old n (Some id) options) | Some o ↦ is_resized old id o n options ]) none)),
+  reallocates old new id n _ _,
 )

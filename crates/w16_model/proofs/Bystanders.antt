@@ -11,14 +11,14 @@ use Rattle.std.specs.FinMap as finmap
 
 -- what is discarded, and what is kept
 pub kept_or_discarded : (old new : Heap) (h : Option ℕ) (k q : ℕ) → C.KeepsOthers old h k new → h ≢ Some q → C.IsKeptOrDiscarded old new q
-kept_or_discarded old new h k q keeps other = elim (C.cases_Bool (C.is_member q (take k (C.eligible (C.blocks old) old.order h)))) [
+kept_or_discarded old new h k q keeps other = elim (C.cases_Bool (C.is_member q _)) [
   | inl t ↦ inr (keeps.discarded q t)
   | inr f ↦ inl (keeps.kept q other (λ t. false≢true (sym f ∙ t)))
 ]
 
 -- where addresses stay, each object stands still
 stands : (old new : Heap) (q : ℕ) → finmap.get new.places q ≡ finmap.get old.places q → StandsStill old new q
-stands old new q same = turn (finmap.get old.places q) same
+stands old new q same = turn _ same
   where
     turn : (p : Option ℕ) → finmap.get new.places q ≡ p → IfSome p (λ at. finmap.get new.places q ≡ Some at)
     turn None e = tt
@@ -192,13 +192,13 @@ module _ (old new : Handles) (is : C.AreHandles old) (call : Call) (answer : C.A
       still_beside r there d ((moves_of old new is call answer r).others.unmoved (sym (ap may_move_others r.asked) ∙ m) q (apart r.slot q d))
 
 pub bystanders_law : C.BystandersLaw
-bystanders_law old new call answer q is step there out = bystander old new is call answer q (outcome old new call answer is step) (λ m. there) out
+bystanders_law old new call answer q is step there out = bystander old new is call answer q (outcome old new call _ is step) (λ m. there) out
 
 pub attributes_law : C.AttributesLaw
-attributes_law old new call answer q is step there out = attributes_kept old new is call answer q (outcome old new call answer is step) there out
+attributes_law old new call answer q is step there out = attributes_kept old new is call answer q (outcome old new call _ is step) there out
 
 pub pinned_law : C.PinnedStayLaw
-pinned_law old new call answer q is step pinned out = pinned_still old new is call answer q pinned (outcome old new call answer is step) out
+pinned_law old new call answer q is step pinned out = pinned_still old new is call answer q pinned (outcome old new call _ is step) out
 
 pub still_law : C.StillLaw
-still_law old new call answer q is step m there out = still old new is call answer q (outcome old new call answer is step) m there out
+still_law old new call answer q is step m there out = still old new is call answer q (outcome old new call _ is step) m there out

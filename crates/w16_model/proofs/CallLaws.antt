@@ -9,7 +9,7 @@ use proofs.Common.{counts_moved, IsSame, IsUnmoved, IsLocked, IsUnlocked, IsFree
 use proofs.Heaps.{IsBlockOf, block_member, member_block, blocks_rise, keys_rise}
 use proofs.KeptHeaps.{bytes_in, inserted_other, taken_other}
 use proofs.CallOutcomes.{outcome, none_moved, reallocates}
-use proofs.{Gaps.Member, Starts.member_map, Discards.is_member-true, Discards.true-is_member, KeptHandles.put_bytes, Housed.given, Housed.keeps, KeptRest.absents_rest, Naming.names_law, Naming.slot_in_handle, Reallocations.moves_law, Fewest.some_handle, ResizedHandles.found_some}
+use proofs.{Gaps.Member, Starts.member_map, Discards.is_member-true, Discards.true-is_member, KeptHandles.put_bytes, KeptHandles.put_same, Housed.given, Housed.keeps, KeptRest.absents_rest, Naming.names_law, Naming.slot_in_handle, Reallocations.moves_law, Fewest.some_handle, ResizedHandles.found_some}
 use Rattle.std.specs.List.{AllByRecursion as Each}
 use Rattle.w16_model.specs.Reallocation.{IsResized as IsObjectResized}
 use Rattle.std.specs.FinMap as finmap
@@ -17,12 +17,12 @@ use Rattle.std.specs.FinMap as finmap
 -- What is kept.
 module _ (old new : Handles) (call : Call) (answer : Answer) where
   pub contents : Outcome old call answer new → may_change call ≡ false → KeepsContents old new
-  contents (IsSame s e) m = subst (KeepsContents old) (sym e) (record { addresses = refl; bytes = λ q. refl; attributes = refl })
-  contents (IsUnmoved s e) m = subst (KeepsContents old) (sym e) (record { addresses = refl; bytes = λ q. refl; attributes = refl })
-  contents (IsLocked l) m = subst (KeepsContents old) (sym l.rest) (record { addresses = refl; bytes = put_bytes old.heap l.slot l.object (record l.object { locks = l.object.locks + 1 }) l.named.there refl; attributes = refl })
-  contents (IsUnlocked u) m = subst (KeepsContents old) (sym u.rest) (record { addresses = refl; bytes = put_bytes old.heap u.slot u.object (record u.object { locks = u.object.locks - 1 }) u.named.there refl; attributes = refl })
-  contents (IsNewest n) m = subst (KeepsContents old) (sym n.rest) (record { addresses = refl; bytes = λ q. refl; attributes = refl })
-  contents (IsOldest n) m = subst (KeepsContents old) (sym n.rest) (record { addresses = refl; bytes = λ q. refl; attributes = refl })
+  contents (IsSame s e) m = subst (KeepsContents old) (sym e) (record { addresses = refl; bytes = λ q. refl; kinds = λ q. refl; attributes = refl })
+  contents (IsUnmoved s e) m = subst (KeepsContents old) (sym e) (record { addresses = refl; bytes = λ q. refl; kinds = λ q. refl; attributes = refl })
+  contents (IsLocked l) m = subst (KeepsContents old) (sym l.rest) (record { addresses = refl; bytes = put_bytes old.heap l.slot l.object (record l.object { locks = l.object.locks + 1 }) l.named.there refl; kinds = put_same _ old.heap l.slot l.object _ l.named.there refl; attributes = refl })
+  contents (IsUnlocked u) m = subst (KeepsContents old) (sym u.rest) (record { addresses = refl; bytes = put_bytes old.heap u.slot u.object (record u.object { locks = u.object.locks - 1 }) u.named.there refl; kinds = put_same _ old.heap u.slot u.object _ u.named.there refl; attributes = refl })
+  contents (IsNewest n) m = subst (KeepsContents old) (sym n.rest) (record { addresses = refl; bytes = λ q. refl; kinds = λ q. refl; attributes = refl })
+  contents (IsOldest n) m = subst (KeepsContents old) (sym n.rest) (record { addresses = refl; bytes = λ q. refl; kinds = λ q. refl; attributes = refl })
   contents (IsFreed f) m = absurd (false≢true (sym m ∙ ap may_change f.asked))
   contents (IsEntered e) m = absurd (false≢true (sym m ∙ ap may_change e.asked))
   contents (IsAllocated a) m = absurd (false≢true (sym m ∙ ap may_change a.asked))
@@ -181,10 +181,10 @@ module _ (old new : Handles) (is : AreHandles old) (call : Call) (answer : Answe
       (ap (λ (h : Handles). h.slots) r.rest, ap (λ (h : Heap). h.lo) (heap_is old new is call answer r) ∙ same.0 ∙ k.low, ap (λ (h : Heap). h.hi) (heap_is old new is call answer r) ∙ same.1 ∙ k.high)
 
 pub contents_law : C.ContentsLaw
-contents_law old new call answer is m step = contents old new call answer (outcome old new call answer is step) m
+contents_law old new call answer is m step = contents old new call answer (outcome old new call _ is step) m
 
 pub slots_law : C.SlotsLaw
-slots_law old new call answer is step = slots old new is call answer (outcome old new call answer is step)
+slots_law old new call answer is step = slots old new is call answer (outcome old new call _ is step)
 
 -- The bytes moved to a heap, from which each object of old goes on to its next slot.
 module _ (old mid new : Heap) (is : C.IsHeap old) (next : ℕ → ℕ) (goes : (q : ℕ) → is_some (finmap.get old.places q) ≡ true → finmap.get new.places (next q) ≡ finmap.get mid.places q) where
@@ -338,9 +338,9 @@ module _ (old new : Handles) (is : AreHandles old) (call : Call) (answer : Answe
 
 pub moved_law : C.MovedLaw
 moved_law old new call answer is step =
-    let o : Outcome old call answer new = outcome old new call answer is step in
-    record { counted = λ c. by_slot o c (followed old new call answer is step); refused = refused old new is call answer o; other = other old new is call answer o }
+    let o = outcome old new call _ is step in
+    record { counted = λ c. by_slot o c (followed old new call _ is step); refused = refused old new is call _ o; other = other old new is call _ o }
   where
     by_slot : Outcome old call answer new → counts_moved call ≡ true → ((q : ℕ) → next_slot old call answer new q ≡ q) ⊎ Resized old call answer new → Sum old new is call answer
-    by_slot o c (inl stays) = counted old new is call answer stays o c
-    by_slot o c (inr r) = sized_again old new is call answer r
+    by_slot o c (inl stays) = counted old new is call _ stays o c
+    by_slot o c (inr r) = sized_again old new is call _ r

@@ -18,7 +18,7 @@ newest_rest : (id : ℕ) (l : List ℕ) → without id (newest id l) ≡ without
 newest_rest id l = rest_order id l false true true
 
 pub touched_rest : (id : ℕ) (l : List ℕ) → without id (touched id l) ≡ without id l
-touched_rest id l = turn (is_member id l)
+touched_rest id l = turn _
   where
     turn : (b : Bool) → without id (cond {A = List ℕ} b (newest id l) l) ≡ without id l
     turn true = newest_rest id l
@@ -28,14 +28,14 @@ oldest_rest : (id : ℕ) (l : List ℕ) → without id (C.oldest id l) ≡ witho
 oldest_rest id l = ap (λ b. cond {A = List ℕ} (not b) (id ∷ without id (without id l)) (without id (without id l))) (C.eq-eqb id id refl) ∙ twice_out id l
 
 placed_rest : (id : ℕ) (o : Object) (l : List ℕ) → without id (with_newest id o l) ≡ without id l
-placed_rest id o l = turn (is_in_order (Some o))
+placed_rest id o l = turn _
   where
     turn : (b : Bool) → without id (cond {A = List ℕ} b (newest id l) (without id l)) ≡ without id l
     turn true = newest_rest id l
     turn false = twice_out id l
 
 tail_rest : (id : ℕ) (b : Bool) (l : List ℕ) → without id (l ++ cond {A = List ℕ} b (id ∷ []) []) ≡ without id l
-tail_rest id true l = C.filter-append (λ q. not (q == id)) l (id ∷ []) ∙ (λ i. without id l ++ cond {A = List ℕ} (not (C.eq-eqb id id refl i)) (id ∷ []) []) ∙ no_more (without id l)
+tail_rest id true l = C.filter-append (λ q. not _) l _ ∙ (λ i. without id l ++ cond {A = List ℕ} (not (C.eq-eqb id id refl i)) (id ∷ []) []) ∙ no_more _
 tail_rest id false l = ap (without id) (no_more l)
 
 -- what loses its bytes
@@ -163,12 +163,12 @@ module _ (old new : Handles) (is : C.AreHandles old) (call : Call) (answer : Ans
     others (C.IsResized r) = others_resized r
 
 pub unordered_law : C.UnorderedLaw
-unordered_law old new call answer is m step = unordered old new is call answer (outcome old new call answer is step) m
+unordered_law old new call answer is m step = unordered old new is call answer (outcome old new call _ is step) m
 
 pub others_order_law : C.OthersOrderLaw
-others_order_law old new call answer is step = elim (followed old new call answer is step) [
-  | inl same_slot ↦ others old new is call answer same_slot (outcome old new call answer is step)
-  | inr r ↦ others_resized old new is call answer r
+others_order_law old new call answer is step = elim (followed old new call _ is step) [
+  | inl same_slot ↦ others old new is call _ same_slot (outcome old new call _ is step)
+  | inr r ↦ others_resized old new is call _ r
 ]
 
 -- A new object.
@@ -181,15 +181,15 @@ new_object_law old new flags size handle is a listed = made (C.is_absent_asked f
 
     made : (b : Bool) → C.MatchBool b (C.Enters old.heap a.slot (kind_asked flags) new.heap) (C.Allocates old.heap a.slot (rounded_size size) (kind_asked flags) 0 (alloc_options flags) true new.heap)
         → (left : List ℕ) × OnlyLeave new.heap old.heap.order left × C.IsNewestOf a.slot left new.heap.order
-    made true e = absurd (never (is_discardable (kind_asked flags)) (ap is_in_order (sym (ap (λ (h : Heap). object_at h a.slot) e.entered ∙ inserted_here old.heap.objects a.slot (record { kind = kind_asked flags; locks = 0; bytes = None }) a.slot refl)) ∙ listed))
+    made true e = absurd (never (is_discardable (kind_asked flags)) (ap is_in_order (sym (ap (λ h. object_at h a.slot) e.entered ∙ inserted_here old.heap.objects a.slot (record { kind = kind_asked flags; locks = 0; bytes = None }) a.slot refl)) ∙ listed))
     made false m =
         let s : (k : ℕ) × (o : Object) × Settles old.heap (C.stays_for a.slot (alloc_options flags)) (with_ordered (discarded old.heap k (Some a.slot)) a.slot o (with_newest a.slot o)) new.heap =
         settled old.heap a.slot (alloc_options flags) (C.discards_needed old.heap (rounded_size size) (Some a.slot) (alloc_options flags)) (IsNew (alloc_options flags).zero (rounded_size size) (kind_asked flags) 0) (with_newest a.slot) new.heap m.request in
-        let ids : List ℕ = take s.0 (eligible (blocks old.heap) old.heap.order (Some a.slot)) in
-        let here : object_at new.heap a.slot ≡ Some s.1 = ap (λ (h : Heap). object_at h a.slot) s.2.same ∙ inserted_here (discarded old.heap s.0 (Some a.slot)).objects a.slot s.1 a.slot refl in (
+        let ids = take s.0 (eligible (blocks old.heap) old.heap.order (Some a.slot)) in
+        let here = ap (λ h. object_at h a.slot) s.2.same ∙ inserted_here (discarded old.heap s.0 (Some a.slot)).objects a.slot s.1 a.slot refl in (
           without_all ids old.heap.order,
           record { gone = ids; without_bytes = gone_bytes old.heap new.heap (Some a.slot) s.0 ((others_law old.heap new.heap is.heap s.0).0 a.slot (alloc_options flags) s.1 (with_newest a.slot s.1) s.2); order_is = refl },
-          ap (λ (h : Heap). h.order) s.2.same ∙ ap (λ b. cond {A = List ℕ} b (newest a.slot (discarded old.heap s.0 (Some a.slot)).order) (without a.slot (discarded old.heap s.0 (Some a.slot)).order)) (sym (ap is_in_order here) ∙ listed)
+          ap (λ h. h.order) s.2.same ∙ ap (λ b. cond {A = List ℕ} b (newest a.slot (discarded old.heap s.0 (Some a.slot)).order) (without a.slot (discarded old.heap s.0 (Some a.slot)).order)) (sym (ap is_in_order here) ∙ listed)
               ∙ ap (newest a.slot) (absents_order ids old.heap),
         )
 
@@ -254,7 +254,7 @@ module _ (old new : Handles) (is : C.AreHandles old) (handle slot : ℕ) (o : Ob
 
 pub use_law : C.UseLaw
 use_law old new handle slot o answer is found there listed = (
-  (λ few step. use_lock old new is handle slot o found there listed few step.1),
-  (λ step. use_order old new is handle slot o found there listed newest step.1),
-  (λ step. use_order old new is handle slot o found there listed C.oldest step.1),
+  (λ few step. use_lock old new is _ slot o found there listed few step.1),
+  (λ step. use_order old new is _ slot o found there listed newest step.1),
+  (λ step. use_order old new is _ slot o found there listed C.oldest step.1),
 )

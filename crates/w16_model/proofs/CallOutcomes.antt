@@ -19,8 +19,8 @@ none_elsewhere at None e = refl
 none_elsewhere at (Some now) e = ap not (C.eq-eqb now at (sym e))
 
 pub none_moved : (heap new : Heap) → new.places ≡ heap.places → moved_bytes heap new ≡ 0
-none_moved heap new same = ap (λ (xs : List Block). C.sum_by (λ (x : Block). x.size) xs) (filter_none (λ (x : Block). is_elsewhere x.at (finmap.get new.places x.id)) (C.blocks heap)
-    (λ x m. ap (λ places. is_elsewhere x.at (finmap.get places x.id)) same ∙ none_elsewhere x.at (finmap.get heap.places x.id) (let b : IsBlockOf heap x = member_block heap x m in b.place)))
+none_moved heap new same = ap (λ xs. C.sum_by (λ x. x.size) xs) (filter_none (λ x. is_elsewhere x.at _) _
+    (λ x m. ap (λ places. is_elsewhere x.at (finmap.get places x.id)) same ∙ none_elsewhere x.at (finmap.get _ x.id) (let b = member_block heap x m in b.place)))
 
 -- a choice of two results is good where each is that may be chosen
 if_ok : (P : Heap → Type 0) (b : Bool) (r s : Result Heap Refusal) → (b ≡ true → IfOk r P) → (b ≡ false → IfOk s P) → IfOk (cond b r s) P
@@ -32,7 +32,7 @@ not_false true e = refl
 not_false false e = absurd (false≢true (sym e))
 
 none_locked : (n : ℕ) → nat_lt 0 n ≡ false → n ≡ 0
-none_locked n f = let le : n ≤ 0 = C.ltb-false 0 n f in omega arith
+none_locked n f = let le = C.ltb-false 0 n f in omega arith
 
 -- another fact of each heap that a step may leave
 pub ok_map : (P Q : Heap → Type 0) (r : Result Heap Refusal) → ((heap : Heap) → P heap → Q heap) → IfOk r P → IfOk r Q
@@ -49,7 +49,7 @@ abbrev pub UnlockOf : Heap → ℕ → Heap → Type 0
 UnlockOf heap id next = (next ≡ heap) ⊎ ((o : Object) × (object_at heap id ≡ Some o) × (is_fixed o.kind ≡ false) × (next ≡ with_object heap id (record o { locks = o.locks - 1 })))
 
 pub lock_is : (heap : Heap) (id : ℕ) → IfOk (after_lock heap id) (LockOf heap id)
-lock_is heap id = turn (object_at heap id) refl
+lock_is heap id = turn _ refl
   where
     turn : (p : Option Object) → object_at heap id ≡ p → IfOk (elim p [
       | None ↦ Err refusals.Absent
@@ -60,17 +60,17 @@ lock_is heap id = turn (object_at heap id) refl
     ]) (LockOf heap id)
     turn None e = tt
     turn (Some o) e =
-        let locked : Result Heap Refusal = Ok (with_ordered heap id (record o { locks = o.locks + 1 }) (touched id)) in
-        if_ok (LockOf heap id) (not (is_some o.bytes)) (Err refusals.Absent) (cond (is_fixed o.kind) (Err refusals.Fixed) (cond (o.locks == 255) (Err refusals.LockFull) locked)) (λ _. tt) (λ has.
-        if_ok (LockOf heap id) (is_fixed o.kind) (Err refusals.Fixed) (cond (o.locks == 255) (Err refusals.LockFull) locked) (λ _. tt) (λ loose.
-        if_ok (LockOf heap id) (o.locks == 255) (Err refusals.LockFull) locked (λ _. tt) (λ some. (o, e, not_false (is_some o.bytes) has, loose, some, refl))))
+        let locked = Ok (with_ordered heap id (record o { locks = o.locks + 1 }) (touched id)) in
+        if_ok _ _ _ _ (λ _. tt) (λ has.
+        if_ok _ _ _ _ (λ _. tt) (λ loose.
+        if_ok (LockOf heap id) (o.locks == 255) (Err _) locked (λ _. tt) (λ some. (o, e, not_false (is_some _) has, loose, some, refl))))
 
 pub unlock_is : (heap : Heap) (id : ℕ) → IfOk (after_unlock heap id) (UnlockOf heap id)
-unlock_is heap id = turn (object_at heap id) refl
+unlock_is heap id = turn _ refl
   where
     turn : (p : Option Object) → object_at heap id ≡ p → IfOk (elim p [ None ↦ Ok heap | Some o ↦ if is_fixed o.kind then Err refusals.Fixed else Ok (with_object heap id (record o { locks = o.locks - 1 })) ]) (UnlockOf heap id)
     turn None e = inl refl
-    turn (Some o) e = if_ok (UnlockOf heap id) (is_fixed o.kind) (Err refusals.Fixed) (Ok (with_object heap id (record o { locks = o.locks - 1 }))) (λ _. tt) (λ loose. inr (o, e, loose, refl))
+    turn (Some o) e = if_ok _ (is_fixed o.kind) _ (Ok (with_object heap id (record o { locks = o.locks - 1 }))) (λ _. tt) (λ loose. inr (o, e, loose, refl))
 
 module _ (old : Handles) (call : Call) (reply : Answer) (new : Handles) where
   -- an outcome of what is left
@@ -355,23 +355,23 @@ module _ (old : Handles) (call : Call) (reply : Answer) (new : Handles) where
 
 -- Each call has an outcome; one that asks for no other size or kind has one in any handles.
 pub call_outcome : (old new : Handles) (command : C.HandleCommand) (answer : Answer) → C.HandleStep old command answer new → C.Outcome old (Calls command) answer new
-call_outcome old new (GlobalAlloc flags size) (Word handle) step = allocates old (Calls (GlobalAlloc flags size)) (Word handle) new flags size handle refl refl step
-call_outcome old new (GlobalFree handle) answer step = frees old (Calls (GlobalFree handle)) answer new handle refl step.1
-call_outcome old new (GlobalLock handle) answer step = locks old (Calls (GlobalLock handle)) answer new handle refl step.1
-call_outcome old new (GlobalUnlock handle) answer step = unlocks old (Calls (GlobalUnlock handle)) answer new handle refl step.1
+call_outcome old new (GlobalAlloc flags size) (Word handle) step = allocates old _ _ new flags size _ refl refl step
+call_outcome old new (GlobalFree handle) answer step = frees old _ _ new _ refl step.1
+call_outcome old new (GlobalLock handle) answer step = locks old _ _ new _ refl step.1
+call_outcome old new (GlobalUnlock handle) answer step = unlocks old _ _ new _ refl step.1
 call_outcome old new (C.GlobalSize handle) answer step = IsSame refl step.1
 call_outcome old new (C.GlobalFlags handle) answer step = IsSame refl step.1
 call_outcome old new (C.GlobalHandle selector) answer step = IsSame refl step.1
 call_outcome old new (C.GetSelectorBase selector) answer step = IsSame refl step.1
 call_outcome old new (C.GetSelectorLimit selector) answer step = IsSame refl step.1
-call_outcome old new (GlobalCompact size) (Dword longest) step = compacts old (Calls (GlobalCompact size)) (Dword longest) new size longest refl refl step
-call_outcome old new (GlobalLRUNewest handle) answer step = orders old (Calls (GlobalLRUNewest handle)) answer new GlobalLRUNewest C.newest C.IsNewest handle refl refl step.1
-call_outcome old new (GlobalLRUOldest handle) answer step = orders old (Calls (GlobalLRUOldest handle)) answer new GlobalLRUOldest C.oldest C.IsOldest handle refl refl step.1
+call_outcome old new (GlobalCompact size) (Dword longest) step = compacts old _ _ new size _ refl refl step
+call_outcome old new (GlobalLRUNewest handle) answer step = orders old _ _ new GlobalLRUNewest C.newest C.IsNewest handle refl refl step.1
+call_outcome old new (GlobalLRUOldest handle) answer step = orders old _ _ new GlobalLRUOldest C.oldest C.IsOldest handle refl refl step.1
 call_outcome old new Moved answer step = IsSame refl step.1
 call_outcome old new Walk (C.Walked count) step = IsSame refl step.3
 call_outcome old new command answer step = absurd step
 
 pub outcome : C.CallOutcomesLaw
-outcome old new (Calls command) answer is step = call_outcome old new command answer step
-outcome old new (ReAllocs handle size flags) (Word answer) is step = (reallocates old (ReAllocs handle size flags) (Word answer) new is handle size flags answer refl refl step).0
+outcome old new (Calls command) answer is step = call_outcome old new _ _ step
+outcome old new (ReAllocs handle size flags) (Word answer) is step = (reallocates old _ _ new is _ size flags _ refl refl step).0
 outcome old new call answer is step = absurd step

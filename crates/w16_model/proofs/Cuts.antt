@@ -48,7 +48,7 @@ pub record IsCut (items : List Item) (from : ℕ) : Type 0 where
 pub cut_none : (items : List Item) → IsCut items 0
 cut_none items = record { done = []; rest = items; whole = refl; below = tt; above = from_zero items }
   where
-    from_zero : (items : List Item) → Each (λ (t : Item). 0 ≤ t.at) items
+    from_zero : (items : List Item) → Each (λ t. 0 ≤ t.at) items
     from_zero [] = tt
     from_zero (t ∷ items) = (omega arith, from_zero items)
 

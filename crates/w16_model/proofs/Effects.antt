@@ -69,38 +69,38 @@ module _ (old : Handles) (handle slot : ℕ) (o : Object) (n : C.IsNamed old han
 
 pub lock_law : C.LockLaw
 lock_law old new handle slot o answer n has loose few step =
-    let e : C.global_lock old handle ≡ (Dword (far_pointer (selector_of slot) 0), record old { heap = locked_heap old handle slot o n }) = locked old handle slot o n has loose few in (
-      ap (λ (h : Handles). object_at h.heap slot) (step.1 ∙ ap (λ (p : Answer × Handles). p.1) e) ∙ inserted_here old.heap.objects slot (record o { locks = o.locks + 1 }) slot refl,
-      step.0 ∙ ap (λ (p : Answer × Handles). p.0) e,
+    let e : C.global_lock old handle ≡ (Dword (far_pointer (selector_of slot) 0), record old { heap = locked_heap old handle slot o n }) = locked old _ slot o n has loose few in (
+      ap (λ h. object_at h.heap slot) (step.1 ∙ ap (λ p. p.1) e) ∙ inserted_here old.heap.objects slot (record o { locks = o.locks + 1 }) slot refl,
+      step.0 ∙ ap (λ p. p.0) e,
     )
 
 pub unlock_law : C.UnlockLaw
 unlock_law old new handle slot o answer n loose step =
-    let e : C.global_unlock old handle ≡ (Word (cond (nat_lt 0 (o.locks - 1)) 1 0), record old { heap = with_object old.heap slot (record o { locks = o.locks - 1 }) }) = unlocked old handle slot o n loose in (
-      ap (λ (h : Handles). object_at h.heap slot) (step.1 ∙ ap (λ (p : Answer × Handles). p.1) e) ∙ inserted_here old.heap.objects slot (record o { locks = o.locks - 1 }) slot refl,
-      step.0 ∙ ap (λ (p : Answer × Handles). p.0) e,
+    let e : C.global_unlock old handle ≡ (Word (cond (nat_lt 0 (o.locks - 1)) 1 0), record old { heap = with_object old.heap slot (record o { locks = o.locks - 1 }) }) = unlocked old _ slot o n loose in (
+      ap (λ h. object_at h.heap slot) (step.1 ∙ ap (λ p. p.1) e) ∙ inserted_here old.heap.objects slot (record o { locks = o.locks - 1 }) slot refl,
+      step.0 ∙ ap (λ p. p.0) e,
     )
 
 pub free_law : C.FreeLaw
 free_law old new handle slot o answer n own free step =
-    let e : C.global_free old handle ≡ (Word 0, record old { heap = removed old.heap slot; attributes = finmap.remove old.attributes slot }) = freed old handle slot o n own free in (
-      ap (λ (h : Handles). object_at h.heap slot) (step.1 ∙ ap (λ (p : Answer × Handles). p.1) e) ∙ taken_here old.heap.objects slot slot refl,
-      step.0 ∙ ap (λ (p : Answer × Handles). p.0) e,
+    let e : C.global_free old handle ≡ (Word 0, record old { heap = removed old.heap slot; attributes = finmap.remove old.attributes slot }) = freed old _ slot o n own free in (
+      ap (λ h. object_at h.heap slot) (step.1 ∙ ap (λ p. p.1) e) ∙ taken_here old.heap.objects slot slot refl,
+      step.0 ∙ ap (λ p. p.0) e,
     )
 
 pub modify_law : C.ModifyLaw
 modify_law old new handle slot size flags o answer is n own modify loose step =
-    let again : AnswersHandle old handle (modified old.heap slot (kind_modified flags)) answer new = subst
+    let again = subst
     (λ b. MatchBool b (AnswersHandle old handle (modified old.heap slot (kind_modified flags)) answer new)
     (MatchBool (size == 0) (Empties old handle slot flags answer new) (Resizes old slot flags size answer new)))
     modify
-    (reallocs old handle slot o n new size flags answer own step) in
+    (reallocs old _ slot o n new size flags _ own step) in
     let law : ((is_fixed o.kind || is_fixed (kind_modified flags)) ≡ true → after_modify old.heap slot (kind_modified flags) ≡ Err refusals.Fixed)
     × ((is_fixed o.kind || is_fixed (kind_modified flags)) ≡ false → (heap : Heap) × (after_modify old.heap slot (kind_modified flags) ≡ Ok heap) × ChangesKind old.heap slot o (kind_modified flags) heap) =
     subst (λ p. C.IfSome p (λ o. ((is_fixed o.kind || is_fixed (kind_modified flags)) ≡ true → after_modify old.heap slot (kind_modified flags) ≡ Err refusals.Fixed)
-    × ((is_fixed o.kind || is_fixed (kind_modified flags)) ≡ false → (heap : Heap) × (after_modify old.heap slot (kind_modified flags) ≡ Ok heap) × ChangesKind old.heap slot o (kind_modified flags) heap))) n.there (kind_law old.heap slot (kind_modified flags) is.heap) in
-    let c : (heap : Heap) × (after_modify old.heap slot (kind_modified flags) ≡ Ok heap) × ChangesKind old.heap slot o (kind_modified flags) heap = law.1 (ap (λ b. b || is_fixed (kind_modified flags)) loose ∙ never_fixed flags) in (
-      ap (λ (h : Handles). object_at h.heap slot) again.1 ∙ ap (λ (r : Result Heap Refusal). object_at (elim r as (λ _. Heap) [ Ok new ↦ new | Err _ ↦ old.heap ]) slot) c.1 ∙ c.2.object,
+    × ((is_fixed o.kind || is_fixed (kind_modified flags)) ≡ false → (heap : Heap) × (after_modify old.heap slot (kind_modified flags) ≡ Ok heap) × ChangesKind old.heap slot o (kind_modified flags) heap))) n.there (kind_law _ slot _ is.heap) in
+    let c = law.1 (ap (λ b. b || is_fixed (kind_modified flags)) loose ∙ never_fixed flags) in (
+      ap (λ h. object_at h.heap slot) again.1 ∙ ap (λ r. object_at (elim r as (λ _. Heap) [ Ok new ↦ new | Err _ ↦ old.heap ]) slot) c.1 ∙ c.2.object,
       again.0,
     )
   where
@@ -109,16 +109,16 @@ modify_law old new handle slot size flags o answer is n own modify loose step =
     by_flag false = refl
 
     never_fixed : (flags : ℕ) → is_fixed (kind_modified flags) ≡ false
-    never_fixed flags = by_flag (has_flag flags C.GMEM_DISCARDABLE)
+    never_fixed flags = by_flag _
 
 pub discard_law : C.DiscardLaw
 discard_law old new handle slot flags o answer n own keeps moveable may free step =
-    let empties : Empties old handle slot flags answer new = subst (λ b. MatchBool b (AnswersHandle old handle (modified old.heap slot (kind_modified flags)) answer new) (Empties old handle slot flags answer new)) keeps
-    (reallocs old handle slot o n new 0 flags answer own step) in
-    let asked : AnswersDiscard old handle answer new (after_discard old.heap slot) = subst (λ b. MatchBool b (AnswersDiscard old handle answer new (after_discard old.heap slot)) (IsNull old answer new)) moveable empties in
-    let done : after_discard old.heap slot ≡ Ok (C.absent old.heap slot) = discard_is old.heap slot (Some o) n.there ∙ ap (λ k. discard_answer old.heap slot (nat_lt 0 k) (C.is_discardable o.kind)) free ∙ ap (discard_answer old.heap slot false) may in
-    let again : AnswersHandle old handle (C.absent old.heap slot) answer new = subst (AnswersDiscard old handle answer new) done asked in (
-      ap (λ (h : Handles). object_at h.heap slot) again.1 ∙ get-update_same old.heap.objects slot (λ (o : Object). record o { bytes = None }) ∙ ap (C.option_map (λ (o : Object). let p : Object = record o { bytes = None } in p)) n.there,
+    let empties = subst (λ b. MatchBool b (AnswersHandle old handle (modified old.heap slot (kind_modified flags)) answer new) (Empties old handle slot flags answer new)) keeps
+    (reallocs old _ slot o n new 0 flags _ own step) in
+    let asked = subst (λ b. MatchBool b (AnswersDiscard old handle answer new (after_discard old.heap slot)) (IsNull old answer new)) moveable empties in
+    let done = discard_is _ slot (Some o) n.there ∙ ap (λ k. discard_answer old.heap slot (nat_lt 0 k) (C.is_discardable o.kind)) free ∙ ap (discard_answer _ slot false) may in
+    let again = subst (AnswersDiscard old _ _ new) done asked in (
+      ap (λ h. object_at h.heap slot) again.1 ∙ get-update_same old.heap.objects slot (λ o. record o { bytes = None }) ∙ ap (C.option_map (λ o. let p : Object = record o { bytes = None } in p)) n.there,
       again.0,
     )
 
@@ -142,8 +142,8 @@ module _ (old : Handles) (selector offset n : ℕ) (p : Part) (bytes : List ℕ)
 
 pub answered_law : C.AnsweredLaw
 answered_law old new (Read pointer count) answer p bytes found has near fits may step fault e =
-    let both : ◌≡◌ {A = FarAnswer} (Fault fault) (Bytes (part (far_bytes old (selector_in pointer)) (far_at old (selector_in pointer) (offset_in pointer)) count)) = sym e ∙ step.0 ∙ read_answered old (selector_in pointer) (offset_in pointer) count p bytes found has near fits in cc
+    let both : ◌≡◌ {A = FarAnswer} (Fault fault) (Bytes (part (far_bytes old (selector_in pointer)) (far_at old (selector_in pointer) (offset_in pointer)) count)) = sym e ∙ step.0 ∙ read_answered old _ _ count p bytes found has near fits in cc
 answered_law old new (Write pointer slice) answer p bytes found has near fits may step fault e =
-    let both : ◌≡◌ {A = FarAnswer} (Fault fault) Done = sym e ∙ step.0 ∙ write_answered old (selector_in pointer) (offset_in pointer) (length slice) p bytes found has near fits slice refl (may refl) in cc
+    let both : ◌≡◌ {A = FarAnswer} (Fault fault) Done = sym e ∙ step.0 ∙ write_answered old _ _ _ p bytes found has near fits slice refl (may refl) in cc
 answered_law old new (Fill pointer count byte) answer p bytes found has near fits may step fault e =
-    let both : ◌≡◌ {A = FarAnswer} (Fault fault) Done = sym e ∙ step.0 ∙ write_answered old (selector_in pointer) (offset_in pointer) count p bytes found has near fits (C.repeated count byte) (length-repeated count byte) (may refl) in cc
+    let both : ◌≡◌ {A = FarAnswer} (Fault fault) Done = sym e ∙ step.0 ∙ write_answered old _ _ count p bytes found has near fits _ (length-repeated count byte) (may refl) in cc

@@ -9,7 +9,7 @@ use proofs.{Heaps.get-update_same, Heaps.get-update_other, KeptHeaps.bytes_in}
 
 -- an access without a fault has a selector
 selector_found : (handles : Handles) (selector offset n : ℕ) → far_fault handles selector offset n ≡ None → part_of_selector handles selector ≡ Some (far_part handles selector)
-selector_found handles selector offset n = turn (part_of_selector handles selector)
+selector_found handles selector offset n = turn _
   where
     turn : (s : Option Part) → (elim s as (λ _. Option FarFault) [
       | None ↦ Some C.BadSelector
@@ -91,15 +91,15 @@ module _ (old : Handles) (is : C.AreHandles old) (selector offset : ℕ) where
 
 -- what an outcome is told by
 given : (P : FarAnswer → Handles → Type 0) (outcome : FarAnswer × Handles) (answer : FarAnswer) (new : Handles) → Gives outcome answer new → P outcome.0 outcome.1 → P answer new
-given P outcome answer new g h = subst (λ a. P a new) (sym g.0) (subst (P outcome.0) (sym g.1) h)
+given P outcome answer new g h = subst (λ a. P a new) (sym g.0) (subst (P _) (sym g.1) h)
 
 pub far_effect_law : C.FarEffectLaw
-far_effect_law old new (Read pointer count) answer is step = given (FarEffect old (Read pointer count)) (far_read old (selector_in pointer) (offset_in pointer) count) answer new step
-    (read old is (selector_in pointer) (offset_in pointer) count (FarEffect old (Read pointer count)) (λ fault. refl) (λ bytes new r. r))
-far_effect_law old new (Write pointer slice) answer is step = given (FarEffect old (Write pointer slice)) (far_write old (selector_in pointer) (offset_in pointer) slice) answer new step
-    (write old is (selector_in pointer) (offset_in pointer) slice (FarEffect old (Write pointer slice)) (λ fault. refl) (λ new r. r))
-far_effect_law old new (Fill pointer count byte) answer is step = given (FarEffect old (Fill pointer count byte)) (far_write old (selector_in pointer) (offset_in pointer) (C.repeated count byte)) answer new step
-    (write old is (selector_in pointer) (offset_in pointer) (C.repeated count byte) (FarEffect old (Fill pointer count byte)) (λ fault. refl) (λ new r. r))
+far_effect_law old new (Read pointer count) answer is step = given (FarEffect old (Read _ count)) _ _ new step
+    (read old is (selector_in _) (offset_in _) count (FarEffect old (Read _ count)) (λ fault. refl) (λ bytes new r. r))
+far_effect_law old new (Write pointer slice) answer is step = given (FarEffect old (Write _ slice)) _ _ new step
+    (write old is (selector_in pointer) (offset_in pointer) slice (FarEffect old (Write _ slice)) (λ fault. refl) (λ new r. r))
+far_effect_law old new (Fill pointer count byte) answer is step = given (FarEffect old (Fill _ count byte)) _ _ new step
+    (write old is (selector_in pointer) (offset_in pointer) (C.repeated count byte) (FarEffect old (Fill _ count byte)) (λ fault. refl) (λ new r. r))
 
 -- What was written is read back.
 module _ (mid : Handles) (selector offset : ℕ) (slice : List ℕ) (p : Part) (object : Object) (after : List ℕ) (found : part_of_selector mid selector ≡ Some p) (there : object_at mid.heap p.slot ≡ Some object) (has : object.bytes ≡ Some after)
@@ -117,17 +117,17 @@ WrittenTo old mid pointer slice = Reaches old (selector_in pointer) (offset_in p
 
 pub read_back_law : C.ReadBackLaw
 read_back_law old mid new pointer slice answer is written step =
-    let r : WrittenTo old mid pointer slice = far_effect_law old mid (Write pointer slice) Done is written in step.0 ∙ by_object r (object_at old.heap r.slot) r.object
+    let r = far_effect_law old mid (Write _ slice) Done is written in step.0 ∙ by_object r (object_at old.heap _) r.object
   where
     by_bytes : (r : WrittenTo old mid pointer slice) (o : Object) (b : Option (List ℕ)) → IsSomeAnd b (λ bytes. (after : List ℕ) × IsWritten bytes (REACH * r.number + offset_in pointer) slice after × (object_at mid.heap r.slot ≡ Some (record o { bytes = Some after })))
         → (far_read mid (selector_in pointer) (offset_in pointer) (length slice)).0 ≡ Bytes slice
     by_bytes r o None h = absurd h
     by_bytes r o (Some bytes) h =
-        let w : IsWritten bytes (REACH * r.number + offset_in pointer) slice h.0 = h.1 in
-        reads mid (selector_in pointer) (offset_in pointer) slice (record { slot = r.slot; number = r.number }) (record o { bytes = Some h.0 }) h.0
-        (ap (λ (h : Handles). part_of_selector h (selector_in pointer)) r.rest ∙ r.found) h.2 refl r.near (omega (arith, w.fits, w.long)) ∙ ap Bytes w.written
+        let w = h.1 in
+        reads mid _ _ slice (record { slot = r.slot; number = r.number }) (record o { bytes = Some h.0 }) h.0
+        (ap (λ h. part_of_selector h (selector_in pointer)) r.rest ∙ r.found) h.2 refl r.near (omega (arith, w.fits, w.long)) ∙ ap Bytes w.written
 
     by_object : (r : WrittenTo old mid pointer slice) (p : Option Object) → IsSomeAnd p (λ o. IsSomeAnd o.bytes (λ bytes. (after : List ℕ) × IsWritten bytes (REACH * r.number + offset_in pointer) slice after × (object_at mid.heap r.slot ≡ Some (record o { bytes = Some after }))))
         → (far_read mid (selector_in pointer) (offset_in pointer) (length slice)).0 ≡ Bytes slice
     by_object r None h = absurd h
-    by_object r (Some o) h = by_bytes r o o.bytes h
+    by_object r (Some o) h = by_bytes r o _ h

@@ -67,19 +67,19 @@ allocation_law old new id n kind locks options answered is step = turn (C.discar
       refused = λ _. (lacking old is n (Some id) options options.compact options.discard refl refl e, request.1);
     }
     turn (Some k) e request =
-        let others : C.KeepsOthers old (Some id) k new = (others_law old new is k).0 id options request.1.0 (C.with_newest id request.1.0) request.1.2 in
+        let others = (others_law old new is k).0 id options request.1.0 (C.with_newest id request.1.0) request.1.2 in
         record {
           fewest = λ _. record { count = k; others = others; fewer = fewer_lack old is n (Some id) options.compact options.discard k e };
-          without = λ _ may. subst (λ (j : ℕ). C.KeepsOthers old (Some id) j new) (none_goes old is n (Some id) options.compact options.discard k e may) others;
+          without = λ _ may. subst (λ j. C.KeepsOthers old (Some id) j new) (none_goes old is n (Some id) options.compact options.discard k e may) others;
           refused = λ f. absurd (false≢true (sym f ∙ request.0));
         }
 
 -- the most that sliding makes free is the room
 most_after : (old : Heap) → C.IsHeap old → (k answer : ℕ) → answer ≡ room_for (snapshot_of old) k None → C.IsMostAfter old k answer
 most_after old is k answer e =
-    let left : List Block = C.blocks_without (blocks old) (take k (C.eligible (blocks old) old.order None)) None in
-    subst (C.IsLongestStretch old.lo old.hi left) (sym e)
-    (room_is_longest old.lo old.hi left (placed_filter old.lo old.hi (λ x. not (C.is_member x.id (take k (C.eligible (blocks old) old.order None)) || C.is_about None x.id)) (blocks old) is.placed))
+    let left = C.blocks_without (blocks old) (take k _) None in
+    subst (C.IsLongestStretch _ _ left) (sym e)
+    (room_is_longest old.lo old.hi left (placed_filter _ _ (λ x. not (C.is_member x.id _ || C.is_about None x.id)) (blocks old) is.placed))
 
 pub compaction_law : C.CompactionLaw
 compaction_law old new n answer is step = turn (n == 0) step
@@ -106,7 +106,7 @@ compaction_law old new n answer is step = turn (n == 0) step
     }
 
 pub global_compact_law : C.GlobalCompactLaw
-global_compact_law old new size answer are step = compaction_law old.heap new.heap size answer are.heap step.compacted
+global_compact_law old new size answer are step = compaction_law _ _ size _ are.heap step.compacted
 
 -- a handle isn't 0
 pub some_handle : (kind : Kind) (slot : ℕ) → C.handle_of kind slot ≡ 0 → ⊥
@@ -117,7 +117,7 @@ some_handle C.Discardable slot e = omega arith
 pub global_alloc_law : C.GlobalAllocLaw
 global_alloc_law old new flags size handle are (inl refused) = record {
   answered = λ some _. absurd (some refused.1);
-  refused = λ _. (ap (λ (g : C.Handles). g.heap) refused.2, reason refused.0);
+  refused = λ _. (ap (λ g. g.heap) refused.2, reason refused.0);
 }
   where
     reason : C.IsRefusedAlloc old flags size → C.IsEmptyFixed flags size ⊎ C.IsTooLong size ⊎ C.HasNoSlots old size ⊎ C.LacksRoom old.heap None (rounded_size size) (alloc_options flags)

@@ -75,25 +75,25 @@ pairs_fail R x xs rest all e h k pairs = h (AllPairs-head R x xs (subst (AllPair
 -- some of the blocks are together no longer than the heap
 pub sizes_fit : (lo hi : ℕ) (p : Block → Bool) (xs : List Block) → ArePlaced lo hi xs → C.sum_by (λ x. x.size) (filter p xs) ≤ hi
 sizes_fit lo hi p xs placed =
-    let some : ArePlaced lo hi (filter p xs) = placed_filter lo hi p xs placed in
+    let some = placed_filter lo hi p xs placed in
     let packed : 0 + C.sum_by (λ x. x.size) (filter p xs) ≤ hi = pack (λ x. x.size) (filter p xs) (λ x. x.at) 0 hi (omega arith)
-    (Each-map (λ x. (lo ≤ x.at) × (0 < x.size) × (block_end x ≤ hi)) (λ x. (0 ≤ x.at) × (x.at + x.size ≤ hi)) (λ x f. (omega arith, f.2)) (filter p xs) (Each-from_All _ (filter p xs) some.inside))
-    (EachPair-from_AllPairs (λ x y. C.Misses x.at x.size y.at (block_end y)) (filter p xs) some.apart) in
+    (Each-map (λ x. (lo ≤ x.at) × (0 < x.size) × (block_end x ≤ hi)) (λ x. (0 ≤ x.at) × (x.at + x.size ≤ hi)) (λ x f. (omega arith, f.2)) _ (Each-from_All _ _ some.inside))
+    (EachPair-from_AllPairs (λ x y. C.Misses x.at _ y.at _) _ some.apart) in
     omega (arith, packed)
 
 -- one block more beside those before it
 pub loose_bytes-fit : (lo hi a b bytes i : ℕ) (d : Block) (xs : List Block) → ArePlaced lo hi xs → i < length xs → bytes + loose_bytes (drop i xs) a b ≡ loose_bytes xs a b
     → IsTrue (is_loose (get_or xs i d)) → a ≤ (get_or xs i d).at → (get_or xs i d).at < b → bytes + (get_or xs i d).size ≤ hi
 loose_bytes-fit lo hi a b bytes i d xs placed h k t l m =
-    let counted : IsTrue (is_loose (get_or xs i d) && begins_in a b (get_or xs i d)) = and_from _ _ t (and_from _ _ (C.le-leb a _ l) (C.lt-ltb _ b m)) in
-    let one : loose_bytes (drop i xs) a b ≡ (get_or xs i d).size + loose_bytes (drop (i + 1) xs) a b = loose_bytes-here xs i d h a b ∙ ap (λ v. v + loose_bytes (drop (i + 1) xs) a b) (C.cond-true _ _ _ counted) in
-    let whole : loose_bytes xs a b ≤ hi = sizes_fit lo hi (λ y. is_loose y && begins_in a b y) xs placed in
+    let counted = and_from _ _ t (and_from _ _ (C.le-leb a _ l) (C.lt-ltb _ b m)) in
+    let one = loose_bytes-here xs i d h a b ∙ ap (λ v. v + loose_bytes (drop (i + 1) xs) a b) (C.cond-true _ _ _ counted) in
+    let whole = sizes_fit lo hi (λ y. is_loose y && begins_in a b y) xs placed in
     omega (arith, k, one, whole)
 
 pub loose_bytes-all : (lo hi a b end bytes i : ℕ) (xs : List Block) → ArePlaced lo hi xs → length xs ≤ i → end ≡ min b hi → bytes + loose_bytes (drop i xs) a end ≡ loose_bytes xs a end → bytes ≡ loose_bytes xs a b
 loose_bytes-all lo hi a b end bytes i xs placed h e k =
-    let none : loose_bytes (drop i xs) a end ≡ 0 = ap (λ ys. loose_bytes ys a end) (C.drop_of_length-le xs h) in
-    let same : loose_bytes xs a end ≡ loose_bytes xs a b = ap (loose_bytes xs a) e ∙ loose_bytes-end lo hi a b xs placed in
+    let none = ap (λ ys. loose_bytes ys a end) (C.drop_of_length-le xs h) in
+    let same = ap (loose_bytes xs a) e ∙ loose_bytes-end lo hi a b xs placed in
     omega (arith, k, none, same)
 
 -- where the blocks that pass a test end

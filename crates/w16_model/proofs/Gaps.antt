@@ -32,7 +32,7 @@ pairs_moved : (X : Type 0) (size : X → ℕ) (ys : List X) (pos : X → ℕ) (p
     → EachPair (λ y z. Misses (shift p n (pos y)) (size y) (shift p n (pos z)) (shift p n (pos z) + size z)) ys
 pairs_moved X size [] pos p n from_x pairs = tt
 pairs_moved X size (y ∷ ys) pos p n from_x pairs = (
-  Each-both _ _ _ (λ z g h. shift_apart p n (pos y) (size y) (pos z) (size z) from_x.0 g h) ys from_x.1 pairs.0,
+  Each-both _ _ _ (λ z g h. shift_apart p n _ _ _ _ from_x.0 g h) ys from_x.1 pairs.0,
   pairs_moved X size ys pos p n from_x.1 pairs.1,
 )
 
@@ -44,9 +44,9 @@ pub pack : {X : Type 0} (size : X → ℕ) (xs : List X) (pos : X → ℕ) (a b 
 pack size [] pos a b h inside apart = omega arith
 pack {X} size (x ∷ xs) pos a b h inside apart =
     let moved : X → ℕ = λ y. shift (pos x) (size x) (pos y) in
-    let rest : a + sum_by size xs ≤ b - size x = pack size xs moved a (b - size x) (omega (arith, inside.0))
-    (Each-both _ _ _ (λ y inside_y apart_y. shift_in (pos x) (size x) a b (pos y) (size y) inside.0.0 inside.0.1 inside_y.0 inside_y.1 apart_y) xs inside.1 apart.0)
-    (pairs_moved X size xs pos (pos x) (size x) apart.0 apart.1) in
+    let rest = pack size xs moved a _ (omega (arith, inside.0))
+    (Each-both _ _ _ (λ y inside_y apart_y. shift_in (pos x) _ a b (pos y) (size y) inside.0.0 inside.0.1 inside_y.0 inside_y.1 apart_y) xs inside.1 apart.0)
+    (pairs_moved X size xs pos _ _ apart.0 apart.1) in
     omega (arith, C.sum_by-cons size x xs, rest, inside.0)
 
 -- the same beside one more interval
@@ -56,11 +56,11 @@ pub pack_around : {X : Type 0} (size : X → ℕ) (xs : List X) (pos : X → ℕ
     → Each (λ x. Misses (pos x) (size x) p q) xs
     → a + sum_by size xs + (q - p) ≤ b
 pack_around {X} size xs pos a b p q h1 h2 h3 inside apart free =
-    let moved : X → ℕ = λ y. shift p (q - p) (pos y) in
-    let away : Each (λ y. Misses p (q - p) (pos y) (pos y + size y)) xs = Each-map _ _ (λ y f. turned p q (pos y) (size y) h2 f) xs free in
-    let rest : a + sum_by size xs ≤ b - (q - p) = pack size xs moved a (b - (q - p)) (omega arith)
+    let moved : X → ℕ = λ y. shift p _ _ in
+    let away : Each (λ y. Misses p (q - p) (pos y) (pos y + size y)) xs = Each-map _ _ (λ y f. turned p q _ _ h2 f) xs free in
+    let rest = pack size xs moved a _ (omega arith)
     (Each-both _ _ _ (λ y i f. shift_in p (q - p) a b (pos y) (size y) h1 (omega arith) i.0 i.1 f) xs inside away)
-    (pairs_moved X size xs pos p (q - p) away apart) in
+    (pairs_moved X size xs pos p _ away apart) in
     omega (arith, rest)
   where
     turned : (p q y m : ℕ) → p ≤ q → Misses y m p q → Misses p (q - p) y (y + m)
@@ -73,7 +73,7 @@ below_turn true false v w m h = ((λ _ e. absurd (false≢true e)), h)
 below_turn false u v w m h = ((λ e _. absurd (false≢true e)), h)
 
 greatest_turn : (t u : Bool) (v w m : ℕ) → (IsTrue t → IsTrue u → m ≤ v) → m ≤ w → m ≤ cond (t && u) (min v w) w
-greatest_turn true true v w m f h = let first : m ≤ v = f refl refl in omega arith
+greatest_turn true true v w m f h = let first = f refl refl in omega arith
 greatest_turn true false v w m f h = h
 greatest_turn false u v w m f h = h
 
@@ -83,7 +83,7 @@ above_turn true false v w m h = ((λ _ e. absurd (false≢true e)), h)
 above_turn false u v w m h = ((λ e _. absurd (false≢true e)), h)
 
 least_turn : (t u : Bool) (v w m : ℕ) → (IsTrue t → IsTrue u → v ≤ m) → w ≤ m → cond (t && u) (max v w) w ≤ m
-least_turn true true v w m f h = let first : v ≤ m = f refl refl in omega arith
+least_turn true true v w m f h = let first = f refl refl in omega arith
 least_turn true false v w m f h = h
 least_turn false u v w m f h = h
 
@@ -136,7 +136,7 @@ module _ (test : Block → Bool) where
 pub largest_reached : (f : ℕ → ℕ) (P : ℕ → Type 0) (ns : List ℕ) → Each P ns → 0 < largest (map f ns) → (n : ℕ) × P n × (f n ≡ largest (map f ns))
 largest_reached f P [] each h = absurd (omega arith)
 largest_reached f P (n ∷ ns) each h = elim (C.cases_lt (f n) (largest (map f ns))) [
-  | inl l ↦ let rest : (m : ℕ) × P m × (f m ≡ largest (map f ns)) = largest_reached f P ns each.1 (omega arith) in (rest.0, rest.1, omega (arith, rest.2))
+  | inl l ↦ let rest = largest_reached f P ns each.1 (omega arith) in (rest.0, rest.1, omega (arith, rest.2))
   | inr l ↦ (n, each.0, omega arith)
 ]
 
@@ -146,7 +146,7 @@ each_turn P x ys false here rest = rest
 
 pub Each-filter : {X : Type 0} (P : X → Type 0) (p : X → Bool) (xs : List X) → Each (λ x. IsTrue (p x) → P x) xs → Each P (filter p xs)
 Each-filter P p [] h = tt
-Each-filter P p (x ∷ xs) h = each_turn P x (filter p xs) (p x) h.0 (Each-filter P p xs h.1)
+Each-filter P p (x ∷ xs) h = each_turn P x _ (p x) h.0 (Each-filter P p xs h.1)
 
 pairs_turn : {X : Type 0} (R : X → X → Type 0) (x : X) (ys : List X) (b : Bool) → (IsTrue b → Each (R x) ys) → EachPair R ys → EachPair R (cond {A = List X} b (x ∷ ys) ys)
 pairs_turn R x ys true here rest = (here refl, rest)
@@ -154,7 +154,7 @@ pairs_turn R x ys false here rest = rest
 
 pub EachPair-filter : {X : Type 0} (R : X → X → Type 0) (p : X → Bool) (xs : List X) → EachPair (λ x y. IsTrue (p x) → IsTrue (p y) → R x y) xs → EachPair R (filter p xs)
 EachPair-filter R p [] h = tt
-EachPair-filter R p (x ∷ xs) h = pairs_turn R x (filter p xs) (p x) (λ t. Each-filter (R x) p xs (Each-map _ _ (λ y f. f t) xs h.0)) (EachPair-filter R p xs h.1)
+EachPair-filter R p (x ∷ xs) h = pairs_turn R x _ (p x) (λ t. Each-filter (R x) p xs (Each-map _ _ (λ y f. f t) xs h.0)) (EachPair-filter R p xs h.1)
 
 -- each two members, the same one twice among them
 pub each_two : {X : Type 0} (R : X → X → Type 0) (turns : (x y : X) → R x y → R y x) (xs : List X) → EachPair R xs → Each (λ y. Each (λ x. (x ≡ y) ⊎ R x y) xs) xs
@@ -222,8 +222,8 @@ pub member_filter : {X : Type 0} (p : X → Bool) (xs : List X) (x : X) → Memb
 member_filter p [] x m = absurd m
 member_filter {X} p (y ∷ ys) x m =
     elim (p y) as (λ b. p y ≡ b → Member x (cond {A = List X} b (y ∷ filter p ys) (filter p ys)) → Member x (y ∷ ys) × IsTrue (p x)) [
-      | true ↦ λ t n. elim n [ inl e ↦ (inl e, ap p e ∙ t) | inr k ↦ let r : Member x ys × IsTrue (p x) = member_filter p ys x k in (inr r.0, r.1) ]
-      | false ↦ λ t n. let r : Member x ys × IsTrue (p x) = member_filter p ys x n in (inr r.0, r.1)
+      | true ↦ λ t n. elim n [ inl e ↦ (inl e, ap p e ∙ t) | inr k ↦ let r = member_filter p ys x k in (inr r.0, r.1) ]
+      | false ↦ λ t n. let r = member_filter p ys x n in (inr r.0, r.1)
     ] refl m
 
 pub filter_member : {X : Type 0} (p : X → Bool) (xs : List X) (x : X) → Member x xs → IsTrue (p x) → Member x (filter p xs)

@@ -153,7 +153,7 @@ abbrev pub IsCase : Heap → ℕ → ℕ → Object → RoomOptions → Bool →
 IsCase old id n o options answered new = Revives old id n o options answered new ⊎ (Cuts old id n o answered new ⊎ (Extends old id n o options answered new ⊎ Asks old id n o options answered new))
 
 pub case_of : (old : Heap) (id n : ℕ) (o : Object) (options : RoomOptions) (answered : Bool) (new : Heap) → ReallocatesObject old id o n options answered new → IsCase old id n o options answered new
-case_of old id n o options answered new step = turn o.bytes refl step
+case_of old id n o options answered new step = turn _ refl step
   where
     grows : (bytes : List ℕ) → o.bytes ≡ Some bytes → length bytes < n → (held : Bool) → (is_pinned_object o && not options.may_move) ≡ held → (fits : Bool) → fits_in_place (snapshot_of old) n id ≡ fits
         → MatchBool held
@@ -166,13 +166,13 @@ case_of old id n o options answered new step = turn o.bytes refl step
 
     sized : (bytes : List ℕ) → o.bytes ≡ Some bytes → (b : Bool) → nat_le n (length bytes) ≡ b
         → MatchBool b ((answered ≡ true) × (new ≡ with_object old id (record o { bytes = Some (take n bytes) }))) (Grows old id o n options answered new) → IsCase old id n o options answered new
-    sized bytes has true t g = inr (inl (record { bytes = bytes; has = has; short = C.leb-true n (length bytes) t; yes = g.0; left = g.1 }))
-    sized bytes has false t g = grows bytes has (C.leb-false n (length bytes) t) (is_pinned_object o && not options.may_move) refl (fits_in_place (snapshot_of old) n id) refl g
+    sized bytes has true t g = inr (inl (record { bytes = bytes; has = has; short = C.leb-true n _ t; yes = g.0; left = g.1 }))
+    sized bytes has false t g = grows bytes has (C.leb-false n _ t) _ refl _ refl g
 
     turn : (b : Option (List ℕ)) → o.bytes ≡ b → C.MatchOption b (Allocates old id n o.kind o.locks options answered new)
         (λ bytes. MatchBool (nat_le n (length bytes)) ((answered ≡ true) × (new ≡ with_object old id (record o { bytes = Some (take n bytes) }))) (Grows old id o n options answered new)) → IsCase old id n o options answered new
     turn None has g = inl (record { none = has; allocated = g })
-    turn (Some bytes) has g = sized bytes has (nat_le n (length bytes)) refl g
+    turn (Some bytes) has g = sized bytes has _ refl g
 
 -- One outcome.
 
@@ -225,10 +225,10 @@ module _ (old : Heap) (id n : ℕ) (o : Object) (options : RoomOptions) where
   one_outcome new step = whole_once new o.bytes step
 
 pub one_outcome_law : C.OneOutcomeLaw
-one_outcome_law old new id n options step = turn (object_at old id) refl step.object
+one_outcome_law old new id n options step = turn _ refl step.object
   where
     turn : (p : Option Object) → object_at old id ≡ p → IsSomeAnd p (λ o. ReallocatesObject old id o n options false new) → (new ≡ old) × ((other : Heap) → C.Reallocates old id n options true other → ⊥)
     turn None there r = absurd r
     turn (Some o) there r =
-        let one : (new ≡ old) × ((other : Heap) → ReallocatesObject old id o n options true other → ⊥) = one_outcome old id n o options new r in
+        let one = one_outcome old id n o _ new r in
         (one.0, λ other h. one.1 other (subst (λ p. IsSomeAnd p (λ o. ReallocatesObject old id o n options true other)) there h.object))

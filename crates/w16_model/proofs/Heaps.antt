@@ -10,7 +10,7 @@ use Rattle.std.proofs.Common.{nat_cmp}
 use Rattle.std.specs.FinMap as finmap
 
 pub tied : (q k : ℕ) → eq_by_cmp nat_cmp q k ≡ true → q ≡ k
-tied q k = turn (C.nat_lt q k) (q == k) (C.eqb-true q k)
+tied q k = turn _ _ (C.eqb-true q k)
   where
     turn : (l e : Bool) → (e ≡ true → q ≡ k) → is_eq (cond l Less (cond e Equal C.Greater)) ≡ true → q ≡ k
     turn true e f h = absurd (false≢true h)
@@ -21,7 +21,7 @@ pub tied_itself : (q : ℕ) → eq_by_cmp nat_cmp q q ≡ true
 tied_itself q = (C.eq_by_cmp_equiv nat_cmp_total).refl q
 
 smaller : (k q : ℕ) → T (is_lt (nat_cmp k q)) → k < q
-smaller k q = turn (C.nat_lt k q) (k == q) (C.ltb-true k q)
+smaller k q = turn _ _ (C.ltb-true k q)
   where
     turn : (l e : Bool) → (l ≡ true → k < q) → T (is_lt (cond l Less (cond e Equal C.Greater))) → k < q
     turn true e f h = f refl
@@ -96,31 +96,31 @@ block_from places id o bytes = record { id = id; at = unwrap_or (finmap.get plac
 -- a block is one of a heap's just where the heap says it of it
 pub block_member : (heap : Heap) (x : Block) → IsBlockOf heap x → Member x (blocks heap)
 block_member heap x is =
-    mapped_member (block_of heap.places) (finmap.entries heap.objects) x (x.id, is.object)
-    (found_member (finmap.entries heap.objects) x.id is.object (sym (C.get-entries heap.objects x.id) ∙ is.is_there))
-    (ap (option_map (λ (bytes : List ℕ). record { id = x.id; at = unwrap_or (finmap.get heap.places x.id) 0; size = length bytes; hold = hold_of_object is.object })) is.has_bytes
+    mapped_member (block_of _) (finmap.entries _) x (x.id, is.object)
+    (found_member _ x.id _ (sym (C.get-entries _ x.id) ∙ is.is_there))
+    (ap (option_map (λ bytes. record { id = x.id; at = unwrap_or (finmap.get _ x.id) 0; size = length bytes; hold = hold_of_object is.object })) is.has_bytes
     ∙ ap Some (λ i. record { id = x.id; at = sym is.place i; size = sym is.size i; hold = sym is.hold i }))
 
 pub member_block : (heap : Heap) (x : Block) → Member x (blocks heap) → IsBlockOf heap x
 member_block heap x m =
-    let at : (e : ℕ × Object) × Member e (finmap.entries heap.objects) × (block_of heap.places e ≡ Some x) = member_mapped (block_of heap.places) (finmap.entries heap.objects) x m in
+    let at = member_mapped (block_of _) (finmap.entries _) x m in
     from at.0.0 at.0.1 at.1 at.0.1.bytes refl at.2
   where
-    block_is : (id : ℕ) (o : Object) → option_map (λ (bytes : List ℕ). record { id = id; at = unwrap_or (finmap.get heap.places id) 0; size = length bytes; hold = hold_of_object o }) o.bytes ≡ Some x
-        → option_map (λ (bytes : List ℕ). block_from heap.places id o bytes) o.bytes ≡ Some x
+    block_is : (id : ℕ) (o : Object) → option_map (λ bytes. record { id = id; at = unwrap_or (finmap.get heap.places id) 0; size = length bytes; hold = hold_of_object o }) o.bytes ≡ Some x
+        → option_map (λ bytes. block_from heap.places id o bytes) o.bytes ≡ Some x
     block_is id o h = h
 
     from : (id : ℕ) (o : Object) → Member (id, o) (finmap.entries heap.objects) → (b : Option (List ℕ)) → o.bytes ≡ b
-        → option_map (λ (bytes : List ℕ). record { id = id; at = unwrap_or (finmap.get heap.places id) 0; size = length bytes; hold = hold_of_object o }) o.bytes ≡ Some x → IsBlockOf heap x
+        → option_map (λ bytes. record { id = id; at = unwrap_or (finmap.get heap.places id) 0; size = length bytes; hold = hold_of_object o }) o.bytes ≡ Some x → IsBlockOf heap x
     from id o n None e h = let none : ◌≡◌ {A = Option Block} None (Some x) = ap (option_map (λ (bytes : List ℕ). block_from heap.places id o bytes)) (sym e) ∙ block_is id o h in cc
     from id o n (Some bytes) e h =
-        let y : Block = block_from heap.places id o bytes in
+        let y = block_from heap.places id o bytes in
         let some : ◌≡◌ {A = Option Block} (Some y) (Some x) = ap (option_map (λ (bytes : List ℕ). block_from heap.places id o bytes)) (sym e) ∙ block_is id o h in
         let same : y ≡ x = cc in
         subst (IsBlockOf heap) same (record {
           object = o;
           bytes = bytes;
-          is_there = C.get-entries heap.objects id ∙ member_found (finmap.entries heap.objects) id o (keys_rise (finmap.entries heap.objects) (C.entries_sorted heap.objects)) n;
+          is_there = C.get-entries heap.objects id ∙ member_found (finmap.entries _) id o (keys_rise _ (C.entries_sorted _)) n;
           has_bytes = e;
           place = refl;
           size = refl;
@@ -129,9 +129,9 @@ member_block heap x m =
 
 -- the ids of a heap's blocks differ, and so do the blocks
 block_of_id : (places : FinMap nat_cmp ℕ) (e : ℕ × Object) (x : Block) → block_of places e ≡ Some x → x.id ≡ e.0
-block_of_id places e x h = turn e.1.bytes h
+block_of_id places e x h = turn _ h
   where
-    turn : (b : Option (List ℕ)) → option_map (λ (bytes : List ℕ). block_from places e.0 e.1 bytes) b ≡ Some x → x.id ≡ e.0
+    turn : (b : Option (List ℕ)) → option_map (λ bytes. block_from places e.0 e.1 bytes) b ≡ Some x → x.id ≡ e.0
     turn None k = cc
     turn (Some bytes) k = let same : block_from places e.0 e.1 bytes ≡ x = cc in ap (λ (y : Block). y.id) (sym same)
 
@@ -140,23 +140,23 @@ blocks_rise places [] h = tt
 blocks_rise places (e ∷ es) h =
     let rest : EachPair (λ x y. x.id < y.id) (filter_map (block_of places) es) = blocks_rise places es h.1 in
     let above : (y : Block) → Member y (filter_map (block_of places) es) → e.0 < y.id = λ y m.
-    let from : (d : ℕ × Object) × Member d es × (block_of places d ≡ Some y) = member_mapped (block_of places) es y m in
-    omega (arith, Each-at (λ (d : ℕ × Object). e.0 < d.0) es h.0 from.0 from.1, block_of_id places from.0 y from.2) in
-    elim (block_of places e) as (λ o. block_of places e ≡ o → EachPair (λ (x y : Block). x.id < y.id) (cons_option o (filter_map (block_of places) es))) [
+    let from = member_mapped (block_of places) es y m in
+    omega (arith, Each-at (λ d. e.0 < d.0) es h.0 from.0 from.1, block_of_id places from.0 y from.2) in
+    elim (block_of places e) as (λ o. block_of places e ≡ o → EachPair (λ x y. x.id < y.id) (cons_option o (filter_map (block_of places) es))) [
       | None ↦ λ _. rest
       | Some x ↦ λ is. (Each-from (λ y. x.id < y.id) (filter_map (block_of places) es) (λ y m. omega (arith, block_of_id places e x is, above y m)), rest)
     ] refl
 
 pub blocks_differ : (heap : Heap) → AllDiffer (blocks heap)
-blocks_differ heap = EachPair-map (λ x y. x.id < y.id) (λ x y. x ≢ y) (λ x y l e. let same : x.id ≡ y.id = ap (λ (z : Block). z.id) e in omega (arith, l, same)) (blocks heap)
-    (blocks_rise heap.places (finmap.entries heap.objects) (keys_rise (finmap.entries heap.objects) (C.entries_sorted heap.objects)))
+blocks_differ heap = EachPair-map (λ x y. x.id < y.id) (λ x y. x ≢ y) (λ x y l e. let same = ap (λ z. z.id) e in omega (arith, l, same)) _
+    (blocks_rise heap.places (finmap.entries _) (keys_rise _ (C.entries_sorted _)))
 
 -- Any list of blocks that says what the heap says is the heap's, in another order.
 pub blocks_permutation : (heap : Heap) (xs : List Block) → AllDiffer xs → ((x : Block) → Member x xs → IsBlockOf heap x) → ((x : Block) → IsBlockOf heap x → Member x xs) → C.IsPermutation xs (blocks heap)
-blocks_permutation heap xs differ into back = permutation_from xs (blocks heap) differ (blocks_differ heap) (λ x m. block_member heap x (into x m)) (λ x m. back x (member_block heap x m))
+blocks_permutation heap xs differ into back = permutation_from xs _ differ (blocks_differ heap) (λ x m. block_member heap x (into x m)) (λ x m. back x (member_block heap x m))
 
 pub untied : (q k : ℕ) → q ≢ k → eq_by_cmp nat_cmp q k ≡ false
-untied q k h = elim (C.cases_Bool (eq_by_cmp nat_cmp q k)) [ inl t ↦ absurd (h (tied q k t)) | inr t ↦ t ]
+untied q k h = elim (C.cases_Bool _) [ inl t ↦ absurd (h (tied q k t)) | inr t ↦ t ]
 
 pub get-update_same : (m : FinMap nat_cmp Object) (id : ℕ) (f : Object → Object) → finmap.get (C.update m id f) id ≡ option_map f (finmap.get m id)
 get-update_same m id f = elim (finmap.get m id) as (λ o. finmap.get m id ≡ o → finmap.get (elim o [ Some o ↦ finmap.insert m id (f o) | None ↦ m ]) id ≡ option_map f o) [
@@ -176,14 +176,14 @@ get-remove_other m id q h = C.get-remove nat_cmp_total m id q ∙ ap (λ b. cond
 -- A heap with an object absent has the other blocks.
 pub block_of_absent : (heap : Heap) (id : ℕ) (x : Block) → IsBlockOf (absent heap id) x → IsBlockOf heap x × (x.id ≢ id)
 block_of_absent heap id x is = elim (C.cases_eq x.id id) [
-  | inl e ↦ absurd (gone (finmap.get heap.objects id) (sym (get-update_same heap.objects id (λ o. record o { bytes = None })) ∙ ap (λ q. C.object_at (absent heap id) q) (sym e) ∙ is.is_there))
+  | inl e ↦ absurd (gone _ (sym (get-update_same heap.objects id (λ o. record o { bytes = None })) ∙ ap (λ q. C.object_at (absent heap id) q) (sym e) ∙ is.is_there))
   | inr other ↦ (
     record {
       object = is.object;
       bytes = is.bytes;
-      is_there = sym (get-update_other heap.objects id (λ o. record o { bytes = None }) x.id other) ∙ is.is_there;
+      is_there = sym (get-update_other _ id (λ o. record o { bytes = None }) x.id other) ∙ is.is_there;
       has_bytes = is.has_bytes;
-      place = is.place ∙ ap (λ o. unwrap_or o 0) (get-remove_other heap.places id x.id other);
+      place = is.place ∙ ap (λ o. unwrap_or o 0) (get-remove_other _ id x.id other);
       size = is.size;
       hold = is.hold;
     },
@@ -199,9 +199,9 @@ pub absent_of_block : (heap : Heap) (id : ℕ) (x : Block) → IsBlockOf heap x 
 absent_of_block heap id x is other = record {
   object = is.object;
   bytes = is.bytes;
-  is_there = get-update_other heap.objects id (λ o. record o { bytes = None }) x.id other ∙ is.is_there;
+  is_there = get-update_other _ id (λ o. record o { bytes = None }) x.id other ∙ is.is_there;
   has_bytes = is.has_bytes;
-  place = is.place ∙ ap (λ o. unwrap_or o 0) (sym (get-remove_other heap.places id x.id other));
+  place = is.place ∙ ap (λ o. unwrap_or o 0) (sym (get-remove_other _ id x.id other));
   size = is.size;
   hold = is.hold;
 }

@@ -34,12 +34,12 @@ same_replaced m id before o there q = elim (cases_eq q id) [
 -- and after discards
 absents_same : (ids : List ℕ) (heap : Heap) (q : ℕ) → is_some (object_at (fold absent heap ids) q) ≡ is_some (object_at heap q)
 absents_same [] heap q = refl
-absents_same (id ∷ ids) heap q = absents_same ids (absent heap id) q ∙ same_updated heap.objects id (λ o. record o { bytes = None }) q
+absents_same (id ∷ ids) heap q = absents_same ids _ q ∙ same_updated _ id (λ o. record o { bytes = None }) q
 
 -- which leave the range and the grain
 absents_range : (ids : List ℕ) (heap : Heap) → ((fold absent heap ids).lo ≡ heap.lo) × ((fold absent heap ids).grain ≡ heap.grain)
 absents_range [] heap = (refl, refl)
-absents_range (id ∷ ids) heap = absents_range ids (absent heap id)
+absents_range (id ∷ ids) heap = absents_range ids _
 
 -- Slots for bytes.
 
@@ -50,8 +50,16 @@ sized_is {n} {m} {b} {c} e f h = subst (λ n. IsSized n b) (sym e) (subst (IsSiz
 -- an object that is put with the bytes that it had
 pub put_bytes : (heap : Heap) (id : ℕ) (before after : Object) → object_at heap id ≡ Some before → after.bytes ≡ before.bytes → (q : ℕ) → bytes_at (C.with_object heap id after) q ≡ bytes_at heap q
 put_bytes heap id before after there same q = elim (cases_eq q id) [
-  | inl e ↦ ap bytes_in (inserted_here heap.objects id after q e) ∙ same ∙ sym (ap bytes_in (ap (object_at heap) e ∙ there))
-  | inr d ↦ ap bytes_in (inserted_other heap.objects id after q d)
+  | inl e ↦ ap bytes_in (inserted_here _ id after q e) ∙ same ∙ sym (ap bytes_in (ap (object_at heap) e ∙ there))
+  | inr d ↦ ap bytes_in (inserted_other _ id after q d)
+]
+
+-- and so with whatever else of it stays
+pub put_same : {X : Type 0} (f : Object → X) (heap : Heap) (id : ℕ) (before after : Object) → object_at heap id ≡ Some before → f after ≡ f before → (q : ℕ)
+    → option_map f (object_at (C.with_object heap id after) q) ≡ option_map f (object_at heap q)
+put_same f heap id before after there same q = elim (cases_eq q id) [
+  | inl e ↦ ap (option_map f) (inserted_here _ id after q e) ∙ ap Some same ∙ sym (ap (option_map f) (ap (object_at heap) e ∙ there))
+  | inr d ↦ ap (option_map f) (inserted_other _ id after q d)
 ]
 
 -- discards leave what they don't take
@@ -61,13 +69,13 @@ no_bytes (Some o) = refl
 
 pub absent_sized : (heap : Heap) (id q n : ℕ) → IsSized n (bytes_at heap q) → IsSized n (bytes_at (absent heap id) q)
 absent_sized heap id q n h = elim (cases_eq q id) [
-  | inl e ↦ subst (IsSized n) (sym (ap (bytes_at (absent heap id)) e ∙ ap bytes_in (get-update_same heap.objects id (λ (o : Object). record o { bytes = None })) ∙ no_bytes (object_at heap id))) tt
-  | inr d ↦ subst (IsSized n) (sym (ap bytes_in (get-update_other heap.objects id (λ (o : Object). record o { bytes = None }) q d))) h
+  | inl e ↦ subst (IsSized n) (sym (ap (bytes_at (absent heap id)) e ∙ ap bytes_in (get-update_same heap.objects id (λ o. record o { bytes = None })) ∙ no_bytes (object_at heap id))) tt
+  | inr d ↦ subst (IsSized n) (sym (ap bytes_in (get-update_other heap.objects id (λ o. record o { bytes = None }) q d))) h
 ]
 
 absents_sized : (ids : List ℕ) (heap : Heap) (q n : ℕ) → IsSized n (bytes_at heap q) → IsSized n (bytes_at (fold absent heap ids) q)
 absents_sized [] heap q n h = h
-absents_sized (id ∷ ids) heap q n h = absents_sized ids (absent heap id) q n (absent_sized heap id q n h)
+absents_sized (id ∷ ids) heap q n h = absents_sized ids _ q n (absent_sized heap id q n h)
 
 -- what an answered request has settled
 pub settled : (old : Heap) (h : ℕ) (options : C.RoomOptions) (prefix : Option ℕ) (becomes : Object → Type 0) (order : Object → List ℕ → List ℕ) (new : Heap) → C.Request old h (record { options = options; prefix = prefix; becomes = becomes; order = order }) true new
@@ -264,7 +272,7 @@ module _ (old : Handles) (is : AreHandles old) where
 
 -- each far access keeps what holds of handles
 pub far_law : C.FarLaw
-far_law old new (Read pointer count) answer is command step = subst AreHandles (sym step.1) (read_handles old is (selector_in pointer) (offset_in pointer) count)
+far_law old new (Read pointer count) answer is command step = subst AreHandles (sym step.1) (read_handles old is (selector_in _) (offset_in _) count)
 far_law old new (Write pointer bytes) answer is command step = subst AreHandles (sym step.1) (write_handles old is (selector_in pointer) (offset_in pointer) bytes command)
 far_law old new (Fill pointer count byte) answer is command step =
     subst AreHandles (sym step.1) (write_handles old is (selector_in pointer) (offset_in pointer) (C.repeated count byte) (All-repeated count byte command))

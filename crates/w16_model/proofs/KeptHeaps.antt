@@ -222,7 +222,7 @@ module _ (old : Heap) (is : IsHeap old) (id : ℕ) (kind : Kind) (unused : objec
 
 -- a use of an object leaves the order its members
 pub member_touched : (id : ℕ) (order : List ℕ) (q : ℕ) → is_member q (touched id order) ≡ is_member q order
-member_touched id order q = turn (is_member id order) refl
+member_touched id order q = turn _ refl
   where
     turn : (t : Bool) → is_member id order ≡ t → is_member q (cond {A = List ℕ} t (without id order ++ id ∷ []) order) ≡ is_member q order
     turn true t = K.member_newest q id order ∙ member_back id order q t
@@ -230,7 +230,7 @@ member_touched id order q = turn (is_member id order) refl
 
 -- and none stands twice
 once_touched : (id : ℕ) (order : List ℕ) → AllPairs (λ a b. a ≡ b → ⊥) order → AllPairs (λ a b. a ≡ b → ⊥) (touched id order)
-once_touched id order h = turn (is_member id order)
+once_touched id order h = turn _
   where
     turn : (t : Bool) → AllPairs (λ a b. a ≡ b → ⊥) (cond {A = List ℕ} t (without id order ++ id ∷ []) order)
     turn true = K.newest_differ id order h
@@ -238,20 +238,20 @@ once_touched id order h = turn (is_member id order)
 
 -- the heap once an object was used is one
 pub touched_heap : (old : Heap) → IsHeap old → (id : ℕ) → IsHeap (C.after_touch old id)
-touched_heap old is id = reordered old is (touched id old.order) (member_touched id old.order) (once_touched id old.order is.no_repeats)
+touched_heap old is id = reordered old is _ (member_touched id _) (once_touched id _ is.no_repeats)
 
 -- a discardable object with bytes at the newest end of the order, and at the oldest
 pub newest_heap : (old : Heap) → IsHeap old → (id : ℕ) → is_member id old.order ≡ true → IsHeap (record old { order = C.newest id old.order })
 newest_heap old is id there =
-    reordered old is (C.newest id old.order) (λ q. K.member_newest q id old.order ∙ member_back id old.order q there) (K.newest_differ id old.order is.no_repeats)
+    reordered old is _ (λ q. K.member_newest q id _ ∙ member_back id _ q there) (K.newest_differ id _ is.no_repeats)
 
 pub oldest_heap : (old : Heap) → IsHeap old → (id : ℕ) → is_member id old.order ≡ true → IsHeap (record old { order = C.oldest id old.order })
 oldest_heap old is id there =
-    reordered old is (C.oldest id old.order) (λ q. K.member_oldest q id old.order ∙ member_back id old.order q there) (K.oldest_differ id old.order is.no_repeats)
+    reordered old is _ (λ q. K.member_oldest q id _ ∙ member_back id _ q there) (K.oldest_differ id _ is.no_repeats)
 
 -- an object that may be put there is in the order
 pub ordered : (old : Heap) → IsHeap old → (id : ℕ) → C.refused_order old id ≡ None → is_member id old.order ≡ true
-ordered old is id allowed = is.in_order id ∙ turn (object_at old id) allowed
+ordered old is id allowed = is.in_order id ∙ turn _ allowed
   where
     choice : (b d : Bool) → ◌≡◌ {A = Option C.Refusal} (cond (not b) (Some refusals.Absent) (cond d None (Some refusals.NotDiscardable))) None → (d && b) ≡ true
     choice true true h = refl
@@ -263,7 +263,7 @@ ordered old is id allowed = is.in_order id ∙ turn (object_at old id) allowed
       | Some o ↦ if not (is_some o.bytes) then Some refusals.Absent else (if is_discardable o.kind then None else Some refusals.NotDiscardable)
     ]) None → is_in_order p ≡ true
     turn None h = cc
-    turn (Some o) h = choice (is_some o.bytes) (is_discardable o.kind) h
+    turn (Some o) h = choice _ _ h
 
 -- An object goes.
 module _ (old : Heap) (is : IsHeap old) (id : ℕ) where

@@ -13,7 +13,7 @@ use Rattle.w16_model.specs.Reallocation.{IsResized}
 -- all stay where none goes
 pub all_stay : (order : List ℕ) → filter (λ q. true) order ≡ order
 all_stay [] = refl
-all_stay (q ∷ order) = ap (λ (l : List ℕ). q ∷ l) (all_stay order)
+all_stay (q ∷ order) = ap (λ l. q ∷ l) (all_stay order)
 
 -- equality either way round
 turned : (q id : ℕ) → (q == id) ≡ (id == q)
@@ -36,25 +36,25 @@ module _ (id : ℕ) (ids : List ℕ) where
 
 -- what discards leave of it
 pub absents_order : (ids : List ℕ) (heap : Heap) → (fold absent heap ids).order ≡ without_all ids heap.order
-absents_order [] heap = sym (all_stay heap.order)
-absents_order (id ∷ ids) heap = absents_order ids (absent heap id) ∙ at_once id ids heap.order
+absents_order [] heap = sym (all_stay _)
+absents_order (id ∷ ids) heap = absents_order ids _ ∙ at_once id ids _
 
 -- they leave the rest of the heap
 pub absents_rest : (ids : List ℕ) (heap : Heap) → ((fold absent heap ids).lo ≡ heap.lo) × ((fold absent heap ids).hi ≡ heap.hi) × ((fold absent heap ids).grain ≡ heap.grain)
 absents_rest [] heap = (refl, refl, refl)
-absents_rest (id ∷ ids) heap = absents_rest ids (absent heap id)
+absents_rest (id ∷ ids) heap = absents_rest ids _
 
 pub no_more : (l : List ℕ) → l ++ [] ≡ l
 no_more [] = refl
-no_more (q ∷ l) = ap (λ (m : List ℕ). q ∷ m) (no_more l)
+no_more (q ∷ l) = ap (λ m. q ∷ m) (no_more l)
 
 -- The bytes.
 
 grown_bytes : (zero : Bool) (n : ℕ) (before more : List ℕ) → length before < n → AreNew zero (n - length before) more → AreResized zero n before (before ++ more)
 grown_bytes zero n before more long new = record {
-  long = C.length-append before more ∙ omega (arith, new.0, long);
-  same = C.take_at before more (length before) refl ∙ sym (take_all n before (omega arith));
-  zeros = λ t. C.drop_at before more (length before) refl ∙ new.2 t;
+  long = C.length-append _ more ∙ omega (arith, new.0, long);
+  same = C.take_at _ more _ refl ∙ sym (take_all n _ (omega arith));
+  zeros = λ t. C.drop_at before more _ refl ∙ new.2 t;
 }
 
 none_repeated : (m : ℕ) → m ≡ 0 → [] ≡ repeated m 0
@@ -63,9 +63,9 @@ none_repeated m e = ap (λ k. C.replicate k 0) (sym e)
 
 cut_bytes : (zero : Bool) (n : ℕ) (before : List ℕ) → n ≤ length before → AreResized zero n before (take n before)
 cut_bytes zero n before short = record {
-  long = length-take-le n before short;
-  same = take_all (length before) (take n before) (omega (arith, length-take-le n before short));
-  zeros = λ _. drop_of_length-le (take n before) (omega (arith, length-take-le n before short)) ∙ none_repeated (n - length before) (omega arith);
+  long = length-take-le n _ short;
+  same = take_all _ _ (omega (arith, length-take-le n before short));
+  zeros = λ _. drop_of_length-le (take n _) (omega (arith, length-take-le n before short)) ∙ none_repeated _ (omega arith);
 }
 
 new_bytes : (zero : Bool) (n : ℕ) (bytes : List ℕ) → AreNew zero n bytes → AreResized zero n [] bytes
@@ -183,4 +183,4 @@ module _ (old : Heap) (is : C.IsHeap old) (id n : ℕ) (o : Object) (there : obj
       (sym (no_more (without_all (gone r.0) old.order)) ∙ ap (λ l. without_all (gone r.0) old.order ++ l) (sym (no_tail asks.bytes asks.has)))
 
 pub rest_law : C.RestLaw
-rest_law old new id n options is step = by_case old new id n options true (λ o. KeepsRest old id n o options new) (λ o there c. keeps_rest old is id n o there options new c) step
+rest_law old new id n options is step = by_case old new id n _ true (λ o. KeepsRest old id n o _ new) (λ o there c. keeps_rest old is id n o there _ new c) step

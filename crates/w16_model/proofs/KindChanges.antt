@@ -16,15 +16,15 @@ use Rattle.w16_model.specs.declared.Refusal.TheVariants as refusals
 pub without_none : (id : ℕ) (ids : List ℕ) → (M.Member id ids → ⊥) → without id ids ≡ ids
 without_none id [] out = refl
 without_none id (q ∷ ids) out =
-    (λ i. cond {A = List ℕ} (not (ne_eqb q id (λ e. out (inl (sym e))) i)) (q ∷ without id ids) (without id ids)) ∙ ap (λ (l : List ℕ). q ∷ l) (without_none id ids (λ m. out (inr m)))
+    (λ i. cond {A = List ℕ} (not (ne_eqb q id (λ e. out (inl (sym e))) i)) (q ∷ without id ids) (without id ids)) ∙ ap (λ l. q ∷ l) (without_none id ids (λ m. out (inr m)))
 
 -- nor twice
 pub twice_out : (id : ℕ) (ids : List ℕ) → without id (without id ids) ≡ without id ids
-twice_out id ids = without_absent id (without id ids) (member_gone id ids)
+twice_out id ids = without_absent id _ (member_gone id ids)
 
 -- and others are in it as before
 pub other_of : (q id : ℕ) (ids : List ℕ) → q ≢ id → is_member q (without id ids) ≡ is_member q ids
-other_of q id ids d = member_without q id ids ∙ ap (λ b. is_member q ids && not b) (ne_eqb q id d) ∙ same (is_member q ids)
+other_of q id ids d = member_without q id ids ∙ ap (λ b. is_member q ids && not b) (ne_eqb q id d) ∙ same _
   where
     same : (b : Bool) → (b && true) ≡ b
     same true = refl
@@ -166,14 +166,14 @@ second_of false b f = f
 
 -- without an object it is refused
 pub modify_none : (old : Heap) (id : ℕ) (kind : Kind) → object_at old id ≡ None → after_modify old id kind ≡ Err refusals.Absent
-modify_none old id kind there = ap (λ (p : Option Object). elim p [
+modify_none old id kind there = ap (λ p. elim p [
   | None ↦ Err refusals.Absent
-  | Some o ↦ cond {A = Result Heap Refusal} (is_fixed o.kind || is_fixed kind) (Err refusals.Fixed)
+  | Some o ↦ cond {A = Result Heap _} (is_fixed o.kind || is_fixed kind) (Err refusals.Fixed)
       (Ok (C.with_ordered old id (record o { kind = kind }) (λ order. cond {A = List ℕ} (is_discardable o.kind && is_discardable kind) order (C.with_newest id (record o { kind = kind }) order))))
 ]) there
 
 pub kind_law : C.KindLaw
-kind_law old id kind is = turn (object_at old id) refl
+kind_law old id kind is = turn _ refl
   where
     turn : (p : Option Object) → object_at old id ≡ p → C.IfSome p (λ o.
         ((is_fixed o.kind || is_fixed kind) ≡ true → after_modify old id kind ≡ Err refusals.Fixed)
@@ -192,5 +192,5 @@ kind_heap_law old id kind is = turn (object_at old id) refl
     if_ok o there false f = changed_heap old is id kind o there (second_of (is_fixed o.kind) (is_fixed kind) f)
 
     turn : (p : Option Object) → object_at old id ≡ p → IfOk (after_modify old id kind) IsHeap
-    turn None there = subst (λ (r : Result Heap Refusal). IfOk r IsHeap) (sym (modify_none old id kind there)) tt
-    turn (Some o) there = subst (λ (r : Result Heap Refusal). IfOk r IsHeap) (sym (step_is old is id kind o there)) (if_ok o there (is_fixed o.kind || is_fixed kind) refl)
+    turn None there = subst (λ r. IfOk r IsHeap) (sym (modify_none old id kind there)) tt
+    turn (Some o) there = subst (λ r. IfOk r IsHeap) (sym (step_is old is id kind o there)) (if_ok o there (is_fixed o.kind || is_fixed kind) refl)

@@ -14,14 +14,14 @@ laid_le lo hi (x ∷ xs) h = omega (arith, h, laid_le (block_end x) hi xs h.2)
 pub laid_each : (lo hi : ℕ) (xs : List Block) → IsLaid lo hi xs → Each (λ x. (lo ≤ x.at) × (0 < x.size) × (block_end x ≤ hi)) xs
 laid_each lo hi [] h = tt
 laid_each lo hi (x ∷ xs) h = (
-  (h.0, h.1, laid_le (block_end x) hi xs h.2),
+  (h.0, h.1, laid_le _ hi xs h.2),
   Each-map (λ y. (block_end x ≤ y.at) × (0 < y.size) × (block_end y ≤ hi)) (λ y. (lo ≤ y.at) × (0 < y.size) × (block_end y ≤ hi)) (λ y f. (omega (arith, f.0, h.0), f.1, f.2)) xs (laid_each (block_end x) hi xs h.2),
 )
 
 laid_pairs : (lo hi : ℕ) (xs : List Block) → IsLaid lo hi xs → EachPair (λ x y. Misses x.at x.size y.at (block_end y)) xs
 laid_pairs lo hi [] h = tt
 laid_pairs lo hi (x ∷ xs) h = (
-  Each-map (λ y. (block_end x ≤ y.at) × (0 < y.size) × (block_end y ≤ hi)) (λ y. Misses x.at x.size y.at (block_end y)) (λ y f. inl f.0) xs (laid_each (block_end x) hi xs h.2),
+  Each-map (λ y. (block_end x ≤ y.at) × (0 < y.size) × (block_end y ≤ hi)) (λ y. Misses x.at _ y.at _) (λ y f. inl f.0) xs (laid_each _ hi xs h.2),
   laid_pairs (block_end x) hi xs h.2,
 )
 
@@ -32,12 +32,12 @@ laid_placed lo hi xs h = record { inside = All-from_Each _ xs (laid_each lo hi x
 pub first_after : (lo hi : ℕ) (xs : List Block) (a m : ℕ) → IsLaid lo hi xs → m ≤ lo → m ≤ first_from is_any hi xs a
 first_after lo hi [] a m h k = omega arith
 first_after lo hi (x ∷ xs) a m h k =
-    let rest : m ≤ first_from is_any hi xs a = first_after (block_end x) hi xs a m h.2 (omega (arith, h)) in
+    let rest = first_after (block_end x) hi xs a m h.2 (omega (arith, h)) in
     elim (nat_le a x.at) as (λ b. m ≤ cond b (min x.at (first_from is_any hi xs a)) (first_from is_any hi xs a)) [ true ↦ omega (arith, h.0, rest, k) | false ↦ rest ]
 
 ends_after : (lo hi : ℕ) (xs : List Block) → IsLaid lo hi xs → Each (λ s. lo ≤ s) (map block_end (filter is_any xs))
 ends_after lo hi [] h = tt
-ends_after lo hi (x ∷ xs) h = (omega (arith, h), Each-map (λ s. block_end x ≤ s) (λ s. lo ≤ s) (λ s l. omega (arith, l, h)) (map block_end (filter is_any xs)) (ends_after (block_end x) hi xs h.2))
+ends_after lo hi (x ∷ xs) h = (omega (arith, h), Each-map (λ s. block_end x ≤ s) (λ s. lo ≤ s) (λ s l. omega (arith, l, h)) (map _ _) (ends_after (block_end x) hi xs h.2))
 
 same_spans : (hi : ℕ) (xs ys : List Block) (places : List ℕ) → Each (λ a. first_from is_any hi xs a ≡ first_from is_any hi ys a) places → spans_from is_any hi xs places ≡ spans_from is_any hi ys places
 same_spans hi xs ys [] h = refl
@@ -76,19 +76,19 @@ two_spans R true s ss h k = (h, k)
 two_spans R false s ss h k = k
 
 holes_from : (lo hi : ℕ) (xs : List Block) → IsLaid lo hi xs → Each (λ s. lo ≤ s.from) (holes lo hi xs)
-holes_from lo hi [] laid = one_span (λ s. lo ≤ s.from) (nat_lt lo hi) (record { from = lo; to = hi }) [] (omega arith) tt
+holes_from lo hi [] laid = one_span (λ s. lo ≤ s.from) _ (record { from = lo; to = hi }) [] (omega arith) tt
 holes_from lo hi (x ∷ xs) laid =
     subst (Each (λ s. lo ≤ s.from)) (sym (holes-cons lo hi x xs laid))
-    (one_span (λ s. lo ≤ s.from) (nat_lt lo x.at) (record { from = lo; to = x.at }) (holes (block_end x) hi xs) (omega arith)
-    (Each-map (λ (s : Span). block_end x ≤ s.from) (λ (s : Span). lo ≤ s.from) (λ s l. omega (arith, l, laid)) (holes (block_end x) hi xs) (holes_from (block_end x) hi xs laid.2)))
+    (one_span (λ s. lo ≤ s.from) (nat_lt lo x.at) (record { from = lo; to = x.at }) (holes _ hi xs) (omega arith)
+    (Each-map (λ s. block_end x ≤ s.from) (λ s. lo ≤ s.from) (λ s l. omega (arith, l, laid)) (holes (block_end x) hi xs) (holes_from (block_end x) hi xs laid.2)))
 
 holes_rise : (lo hi : ℕ) (xs : List Block) → IsLaid lo hi xs → EachPair (λ s t. s.to < t.from) (holes lo hi xs)
-holes_rise lo hi [] laid = two_spans (λ s t. s.to < t.from) (nat_lt lo hi) (record { from = lo; to = hi }) [] tt tt
+holes_rise lo hi [] laid = two_spans (λ s t. s.to < t.from) _ (record { from = lo; to = hi }) [] tt tt
 holes_rise lo hi (x ∷ xs) laid =
     subst (EachPair (λ s t. s.to < t.from)) (sym (holes-cons lo hi x xs laid))
-    (two_spans (λ s t. s.to < t.from) (nat_lt lo x.at) (record { from = lo; to = x.at }) (holes (block_end x) hi xs)
-    (Each-map (λ (s : Span). block_end x ≤ s.from) (λ (s : Span). x.at < s.from) (λ s l. omega (arith, l, laid)) (holes (block_end x) hi xs) (holes_from (block_end x) hi xs laid.2))
+    (two_spans (λ s t. s.to < t.from) (nat_lt lo x.at) (record { from = lo; to = x.at }) (holes _ hi xs)
+    (Each-map (λ s. block_end x ≤ s.from) (λ s. x.at < s.from) (λ s l. omega (arith, l, laid)) (holes _ hi xs) (holes_from _ hi xs laid.2))
     (holes_rise (block_end x) hi xs laid.2))
 
 pub rising_law : RisingLaw
-rising_law lo hi xs laid = AllPairs-from_EachPair (λ s t. s.to < t.from) (holes lo hi xs) (holes_rise lo hi xs laid)
+rising_law lo hi xs laid = AllPairs-from_EachPair (λ s t. s.to < t.from) _ (holes_rise lo hi xs laid)

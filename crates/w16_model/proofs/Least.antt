@@ -8,9 +8,9 @@ use proofs.Longest.{none_longer}
 -- some of the placed blocks are placed
 pub placed_filter : (lo hi : ℕ) (p : Block → Bool) (xs : List Block) → ArePlaced lo hi xs → ArePlaced lo hi (filter p xs)
 placed_filter lo hi p xs h = record {
-  inside = M.All-from_Each (λ x. (lo ≤ x.at) × (0 < x.size) × (block_end x ≤ hi)) (filter p xs) (M.Each-filter (λ x. (lo ≤ x.at) × (0 < x.size) × (block_end x ≤ hi)) p xs
+  inside = M.All-from_Each (λ x. (lo ≤ x.at) × (0 < x.size) × (block_end x ≤ hi)) _ (M.Each-filter (λ x. (lo ≤ x.at) × (0 < x.size) × (block_end x ≤ hi)) p xs
       (M.Each-map (λ x. (lo ≤ x.at) × (0 < x.size) × (block_end x ≤ hi)) (λ x. C.IsTrue (p x) → (lo ≤ x.at) × (0 < x.size) × (block_end x ≤ hi)) (λ x f _. f) xs (M.Each-from_All _ xs h.inside)));
-  apart = M.AllPairs-from_EachPair (λ x y. C.Misses x.at x.size y.at (block_end y)) (filter p xs) (M.pairs_filter (λ x y. C.Misses x.at x.size y.at (block_end y)) p xs (M.EachPair-from_AllPairs _ xs h.apart));
+  apart = M.AllPairs-from_EachPair (λ x y. C.Misses x.at x.size y.at (block_end y)) _ (M.pairs_filter (λ x y. C.Misses x.at _ y.at _) p xs (M.EachPair-from_AllPairs _ xs h.apart));
 }
 
 -- the first number that passes, of some in a row
@@ -20,7 +20,7 @@ find_first p (suc m) a k h =
     elim (p a) as (λ b. p a ≡ b → cond b (Some a) (find p (range_with_len (a + 1) m)) ≡ Some k → (a ≤ k) × (p k ≡ true) × ((j : ℕ) → a ≤ j → j < k → p j ≡ false)) [
       | true ↦ λ t e. let same : a ≡ k = cc in (omega (arith, same), subst (λ v. p v ≡ true) same t, λ j l1 l2. absurd (omega (arith, same)))
       | false ↦ λ t e.
-          let rest : (a + 1 ≤ k) × (p k ≡ true) × ((j : ℕ) → a + 1 ≤ j → j < k → p j ≡ false) = find_first p m (a + 1) k e in
+          let rest = find_first p m _ k e in
           (omega (arith, rest.0), rest.1, λ j l1 l2. elim (cases_lt a j) [ inl l ↦ rest.2 j (omega arith) l2 | inr l ↦ let same : a ≡ j = omega arith in subst (λ v. p v ≡ false) same t ])
     ] refl h
 

@@ -120,8 +120,8 @@ module _ (lo hi : ℕ) (xs : List Block) (ids : List ℕ) (h : C.Option ℕ) (lo
 
 pub left_out_law : C.LeftOutLaw
 left_out_law lo hi xs order k h placed =
-    let ids : List ℕ = take k (C.eligible xs order h) in
+    let ids = take k _ in
     longest_without lo hi xs ids h
-    (λ x m t. elim (C.cases_Bool (is_pinned x)) [ inl p ↦ absurd (eligible_loose xs order h x m (from_take k (C.eligible xs order h) x.id (is_member-true x.id ids t)) p) | inr p ↦ p ])
-    (C.room_for (C.snapshot lo hi xs order) k h)
-    (room_is_longest lo hi (C.blocks_without xs ids h) (placed_filter lo hi (λ x. not (is_member x.id ids || is_about h x.id)) xs placed))
+    (λ x m t. elim (C.cases_Bool _) [ inl p ↦ absurd (eligible_loose xs order h x m (from_take k _ x.id (is_member-true x.id ids t)) p) | inr p ↦ p ])
+    _
+    (room_is_longest lo hi _ (placed_filter lo hi (λ x. not _) xs placed))

@@ -237,5 +237,5 @@ module _ (name : Kind → ℕ → ℕ) (heap : Heap) (is : C.IsHeap heap) where
 
 pub walk_law : C.WalkLaw
 walk_law name heap is =
-    let walk : (items : List Item) × C.IsWalk name heap items = walk_there name heap is in
-    record { items = walk.0; is_walk = walk.1; only = λ others w. one_walk name heap others walk.0 w walk.1 }
+    let walk = walk_there name heap is in
+    record { items = walk.0; is_walk = walk.1; only = λ others w. one_walk name heap _ _ w walk.1 }

@@ -9,7 +9,7 @@ use proofs.{Gaps.Each-from, Starts.inside, Longest.sum_filter, Longest.loose_byt
 first_shorter : (hi end : ℕ) (xs : List Block) (a : ℕ) → hi ≤ end → first_from is_pinned hi xs a ≡ min hi (first_from is_pinned end xs a)
 first_shorter hi end [] a h = omega arith
 first_shorter hi end (x ∷ xs) a h =
-    let rest : first_from is_pinned hi xs a ≡ min hi (first_from is_pinned end xs a) = first_shorter hi end xs a h in
+    let rest = first_shorter hi end xs a h in
     elim (is_pinned x && C.nat_le a x.at) as (λ b. cond b (min x.at (first_from is_pinned hi xs a)) (first_from is_pinned hi xs a) ≡ min hi (cond b (min x.at (first_from is_pinned end xs a)) (first_from is_pinned end xs a))) [
       | true ↦ omega (arith, rest)
       | false ↦ rest
@@ -18,11 +18,11 @@ first_shorter hi end (x ∷ xs) a h =
 none_above : (hi b : ℕ) (xs : List Block) → Each (λ x. x.at < hi) xs → loose_bytes xs hi b ≡ 0
 none_above hi b [] h = refl
 none_above hi b (x ∷ xs) h =
-    let out : (is_loose x && begins_in hi b x) ≡ false = C.and_right (is_loose x) (begins_in hi b x) (C.and_left (C.nat_le hi x.at) (C.nat_lt x.at b) (C.lt-leb hi x.at h.0)) in
-    sum_filter (λ y. is_loose y && begins_in hi b y) x xs ∙ ap (λ v. cond v x.size 0 + loose_bytes xs hi b) out ∙ C.zero-add (loose_bytes xs hi b) ∙ none_above hi b xs h.1
+    let out = C.and_right (is_loose x) (begins_in hi b x) (C.and_left (C.nat_le hi x.at) (C.nat_lt x.at b) (C.lt-leb hi x.at h.0)) in
+    sum_filter (λ y. is_loose y && begins_in hi b y) x xs ∙ ap (λ v. cond v x.size 0 + loose_bytes xs hi b) out ∙ C.zero-add _ ∙ none_above hi b xs h.1
 
 from_longer : (hi end : ℕ) (xs : List Block) → hi ≤ end → Each (λ x. x.at < hi) xs → (a : ℕ) → room_from hi xs a ≤ room_from end xs a
-from_longer hi end xs h below a = by_end (first_from is_pinned hi xs a) (first_from is_pinned end xs a) (first_shorter hi end xs a h)
+from_longer hi end xs h below a = by_end _ _ (first_shorter hi end xs a h)
   where
     by_end : (e f : ℕ) → e ≡ min hi f → e - a - loose_bytes xs a e ≤ f - a - loose_bytes xs a f
     by_end e f is = elim (C.cases_lt hi f) [
@@ -31,8 +31,8 @@ from_longer hi end xs h below a = by_end (first_from is_pinned hi xs a) (first_f
         | inl k ↦ omega arith
         | inr k ↦
             let same : hi ≡ e = omega (arith, is) in
-            let split : loose_bytes xs a f ≡ loose_bytes xs a e + loose_bytes xs e f = loose_bytes-split xs a e f k (omega (arith, is)) in
-            let none : loose_bytes xs e f ≡ 0 = subst (λ v. loose_bytes xs v f ≡ 0) same (none_above hi f xs below) in
+            let split = loose_bytes-split xs a e f k (omega (arith, is)) in
+            let none = subst (λ v. loose_bytes xs v f ≡ 0) same (none_above hi f xs below) in
             omega (arith, split, none, is)
       ]
     ]
@@ -40,4 +40,4 @@ from_longer hi end xs h below a = by_end (first_from is_pinned hi xs a) (first_f
 pub longer_law : C.LongerLaw
 longer_law lo hi end xs placed h =
     let below : Each (λ x. x.at < hi) xs = Each-from (λ x. x.at < hi) xs (λ x m. omega (arith, inside lo hi xs placed x m)) in
-    largest_le (room_from hi xs) (room_from end xs) (C.starts is_pinned lo xs) (from_longer hi end xs h below)
+    largest_le (room_from hi xs) (room_from end xs) (C.starts _ lo xs) (from_longer hi end xs h below)

@@ -52,7 +52,7 @@ loose_bytes-split (x ∷ xs) a m b h k =
 pub size-le-sum : (p : Block → Bool) (xs : List Block) (x : Block) → Member x xs → IsTrue (p x) → x.size ≤ sum_by (λ x. x.size) (filter p xs)
 size-le-sum p [] x m t = absurd m
 size-le-sum p (y ∷ ys) x (inl e) t =
-    subst (λ (z : Block). IsTrue (p z) → z.size ≤ sum_by (λ x. x.size) (filter p (y ∷ ys))) (sym e) (λ u. omega (arith, sum_filter p y ys, C.cond-true (p y) y.size 0 u)) t
+    subst (λ z. IsTrue (p z) → z.size ≤ sum_by (λ x. x.size) (filter p (y ∷ ys))) (sym e) (λ u. omega (arith, sum_filter p y ys, C.cond-true (p y) y.size 0 u)) t
 size-le-sum p (y ∷ ys) x (inr m) t = omega (arith, sum_filter p y ys, size-le-sum p ys x m t)
 
 unpinned : (b : Bool) → b ≡ true → not b ≡ true → ⊥
@@ -61,8 +61,8 @@ unpinned false h k = false≢true h
 
 range_of : (a b : ℕ) (y : Block) → IsTrue (is_loose y && begins_in a b y) → (a ≤ y.at) × (y.at < b)
 range_of a b y t =
-    let r : IsTrue (nat_le a y.at && nat_lt y.at b) = (and_parts (is_loose y) (begins_in a b y) t).1 in
-    (C.leb-true a y.at (and_parts (nat_le a y.at) (nat_lt y.at b) r).0, C.ltb-true y.at b (and_parts (nat_le a y.at) (nat_lt y.at b) r).1)
+    let r = (and_parts _ _ t).1 in
+    (C.leb-true a y.at (and_parts _ _ r).0, C.ltb-true y.at b (and_parts _ _ r).1)
 
 module _ (lo hi : ℕ) (xs : List Block) (placed : ArePlaced lo hi xs) where
   -- every loose block slid down: its gap's begin, and the loose blocks of the gap below it
@@ -184,7 +184,7 @@ module _ (lo hi : ℕ) (xs : List Block) (placed : ArePlaced lo hi xs) where
 pub room_is_longest : C.RoomLaw
 room_is_longest lo hi xs placed = record {
   none_longer = none_longer lo hi xs placed;
-  one_as_long = λ some. let best : (a : ℕ) × (b : ℕ) × IsFreeStretch lo hi xs (slid lo hi xs placed) a b × (b - a ≡ room lo hi xs) = one_as_long lo hi xs placed some in
+  one_as_long = λ some. let best = one_as_long lo hi xs placed some in
       (slid lo hi xs placed, best.0, best.1, slid_arranged lo hi xs placed, best.2, best.3);
 }
 

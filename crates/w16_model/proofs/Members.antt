@@ -77,10 +77,10 @@ each_permutation P xs ys perm h = M.Each-from_All P ys (C.All-permutation P xs y
 
 bytes_by : (p : Block → Bool) (xs : List Block) → sum_by (λ x. x.size) (filter p xs) ≡ sum_by (λ x. cond (p x) x.size 0) xs
 bytes_by p [] = refl
-bytes_by p (x ∷ xs) = omega (arith, sum_filter p x xs, bytes_by p xs, C.sum_by-cons (λ (y : Block). cond (p y) y.size 0) x xs)
+bytes_by p (x ∷ xs) = omega (arith, sum_filter p x xs, bytes_by p xs, C.sum_by-cons (λ y. cond (p y) y.size 0) x xs)
 
 bytes_permutation : (p : Block → Bool) (xs ys : List Block) → IsPermutation xs ys → sum_by (λ x. x.size) (filter p xs) ≡ sum_by (λ x. x.size) (filter p ys)
-bytes_permutation p xs ys perm = bytes_by p xs ∙ sym (C.sum_by-IsPermutation (λ (x : Block). cond (p x) x.size 0) xs ys perm) ∙ sym (bytes_by p ys)
+bytes_permutation p xs ys perm = bytes_by p xs ∙ sym (C.sum_by-IsPermutation (λ x. cond (p x) _ 0) xs ys perm) ∙ sym (bytes_by p ys)
 
 module _ (hi : ℕ) (xs ys : List Block) (perm : IsPermutation xs ys) where
   first_le : (a : ℕ) → first_from is_pinned hi xs a ≤ first_from is_pinned hi ys a
@@ -90,7 +90,7 @@ module _ (hi : ℕ) (xs ys : List Block) (perm : IsPermutation xs ys) where
 
 largest_at_most : (f : ℕ → ℕ) (ns : List ℕ) (m : ℕ) → Each (λ n. f n ≤ m) ns → largest (map f ns) ≤ m
 largest_at_most f [] m h = omega arith
-largest_at_most f (n ∷ ns) m h = let rest : largest (map f ns) ≤ m = largest_at_most f ns m h.1 in omega (arith, h.0, rest)
+largest_at_most f (n ∷ ns) m h = let rest = largest_at_most f ns m h.1 in omega (arith, h.0, rest)
 
 at_most_largest : (f : ℕ → ℕ) (ns : List ℕ) (m : ℕ) → largest (map f ns) ≤ m → Each (λ n. f n ≤ m) ns
 at_most_largest f [] m h = tt
@@ -110,13 +110,13 @@ pub room-permutation_le : (lo hi : ℕ) (xs ys : List Block) → IsPermutation x
 room-permutation_le lo hi xs ys perm =
     let same : (a : ℕ) → first_from is_pinned hi ys a ≡ first_from is_pinned hi xs a = λ a. omega (arith, first_le hi xs ys perm a, first_le hi ys xs (IsPermutation-sym xs ys perm) a) in
     let from : (a : ℕ) → room_from hi ys a ≡ room_from hi xs a = λ a.
-    ap (λ e. e - a - C.loose_bytes ys a e) (same a) ∙ ap (λ n. first_from is_pinned hi xs a - a - n) (sym (bytes_permutation (λ x. C.is_loose x && C.begins_in a (first_from is_pinned hi xs a) x) xs ys perm)) in
-    let all : Each (λ n. room_from hi xs n ≤ room lo hi xs) (starts is_pinned lo xs) = at_most_largest (room_from hi xs) (starts is_pinned lo xs) (room lo hi xs) (omega arith) in
-    largest_at_most (room_from hi ys) (starts is_pinned lo ys) (room lo hi xs) (
+    ap (λ e. e - a - C.loose_bytes ys a e) (same a) ∙ ap (λ n. first_from is_pinned hi xs a - a - n) (sym (bytes_permutation (λ x. C.is_loose x && C.begins_in a (first_from _ hi xs a) x) xs ys perm)) in
+    let all : Each (λ n. room_from hi xs n ≤ room lo hi xs) (starts is_pinned lo xs) = at_most_largest (room_from hi xs) (starts _ lo xs) (room lo hi xs) (omega arith) in
+    largest_at_most (room_from hi ys) (starts _ lo ys) (room lo hi xs) (
       omega (arith, from lo, all.0),
-      M.Each-of_map (λ n. room_from hi ys n ≤ room lo hi xs) block_end (filter is_pinned ys) (M.Each-filter (λ x. room_from hi ys (block_end x) ≤ room lo hi xs) is_pinned ys
-          (each_permutation (λ x. IsTrue (is_pinned x) → room_from hi ys (block_end x) ≤ room lo hi xs) xs ys perm
-          (M.Each-map _ _ (λ x f t. subst (λ v. v ≤ room lo hi xs) (sym (from (block_end x))) (f t)) xs (ends_to (λ n. room_from hi xs n ≤ room lo hi xs) xs all.1)))),
+      M.Each-of_map (λ n. room_from hi ys n ≤ room lo hi xs) _ _ (M.Each-filter (λ x. room_from hi ys _ ≤ room lo hi xs) _ ys
+          (each_permutation (λ x. IsTrue _ → room_from hi ys _ ≤ room lo hi xs) xs ys perm
+          (M.Each-map _ _ (λ x f t. subst (λ v. v ≤ room lo hi xs) (sym (from _)) (f t)) xs (ends_to (λ n. room_from hi xs n ≤ room lo hi xs) xs all.1)))),
     )
 
 pub room-permutation : (lo hi : ℕ) (xs ys : List Block) → IsPermutation xs ys → room lo hi ys ≡ room lo hi xs

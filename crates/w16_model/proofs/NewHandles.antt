@@ -76,26 +76,26 @@ module _ (old new : Handles) (handle size flags answer slot : ℕ) (is : C.AreHa
           ∙ no_more (without_all gone old.heap.order)
 
 pub extended_law : ExtendedLaw
-extended_law old new handle size flags answer slot is step found can some = elim (answered old new handle size flags answer is step some) [
+extended_law old new handle size flags answer slot is step found can some = elim (answered old new _ size flags _ is step some) [
   | inl e ↦ e
-  | inr r ↦ elim (C.cases_eq answer handle) [
+  | inr r ↦ elim (C.cases_eq _ _) [
     | inl e ↦ e
-    | inr d ↦ absurd (leaves old new handle size flags answer slot is found r d (extended old new handle size flags answer slot is found r can))
+    | inr d ↦ absurd (leaves old new _ size flags _ slot is found r d (extended old new _ size flags _ slot is found r can))
   ]
 ]
 
 pub shared_law : SharedLaw
-shared_law old new handle size flags answer slot is step found some d = elim (answered old new handle size flags answer is step some) [
+shared_law old new handle size flags answer slot is step found some d = elim (answered old new _ size flags _ is step some) [
   | inl e ↦ absurd (d e)
-  | inr r ↦ shared old new handle size flags answer slot is found r
+  | inr r ↦ shared old new _ size flags _ slot is found r
 ]
 
 pub place_law : PlaceLaw
-place_law old new handle size flags answer slot is step found some d listed = elim (answered old new handle size flags answer is step some) [
+place_law old new handle size flags answer slot is step found some d listed = elim (answered old new _ size flags _ is step some) [
   | inl e ↦ absurd (d e)
   | inr r ↦ (
-    gone_for old new is (ReAllocs handle size flags) (Word answer) r,
-    gone_bare old new is (ReAllocs handle size flags) (Word answer) r,
-    placed old new handle size flags answer slot is found r (leaves old new handle size flags answer slot is found r d) listed,
+    gone_for old new is _ _ r,
+    gone_bare old new is _ _ r,
+    placed old new _ size flags _ slot is found r (leaves old new _ size flags _ slot is found r d) listed,
   )
 ]

@@ -73,4 +73,4 @@ module _ (old new : C.Handles) (is : C.AreHandles old) (handle slot size flags :
   by_owner false own g = named own g
 
 pub size_law : C.SizeLaw
-size_law old new handle slot size flags o answer is n keeps some answers step = by_owner old new is handle slot size flags o answer n keeps some answers (owns old handle) refl step
+size_law old new handle slot size flags o answer is n keeps some answers step = by_owner old new is _ slot size flags o _ n keeps some answers _ refl step

@@ -3,7 +3,7 @@ use Rattle.w16_model.proofs.Gaps as M
 use Rattle.w16_model.proofs.Common.{◌≡◌, ℕ, Bool, true, false, cond, not, ◌&&◌, ◌||◌, ◌==◌, List, [], ◌∷◌, ◌++◌, refl, sym, ap, ◌∙◌, AllPairs, inl, inr, eqb-true, eq-eqb, ne_eqb, false≢true, cases_eq, not-true, or_parts, all_pairs_push, is_member, without}
 
 member_end : (q id : ℕ) (ids : List ℕ) → is_member q (ids ++ id ∷ []) ≡ (is_member q ids || (id == q))
-member_end q id [] = or_none (id == q)
+member_end q id [] = or_none _
   where
     or_none : (b : Bool) → (b || false) ≡ b
     or_none true = refl
@@ -32,18 +32,18 @@ member_choice q x w false = refl
 pub member_without : (q id : ℕ) (ids : List ℕ) → is_member q (without id ids) ≡ (is_member q ids && not (q == id))
 member_without q id [] = refl
 member_without q id (x ∷ ids) =
-    member_choice q x (without id ids) (not (x == id))
-    ∙ truth (x == id) (x == q) (is_member q (without id ids)) (is_member q ids) (q == id) (member_without q id ids)
+    member_choice q x _ _
+    ∙ truth _ (x == q) (is_member q _) (is_member q ids) _ (member_without q id ids)
     (λ e f. eq-eqb q id (sym (eqb-true x q f) ∙ eqb-true x id e)) (λ e f. eq-eqb x id (eqb-true x q e ∙ eqb-true q id f))
 
 -- an id that isn't in the order need not be taken out
 pub without_absent : (id : ℕ) (ids : List ℕ) → is_member id ids ≡ false → without id ids ≡ ids
 without_absent id [] out = refl
-without_absent id (x ∷ xs) out = let parts : ((x == id) ≡ false) × (is_member id xs ≡ false) = or_parts (x == id) (is_member id xs) out in rw parts.0 (ap (λ ys. x ∷ ys) (without_absent id xs parts.1))
+without_absent id (x ∷ xs) out = let parts : ((x == id) ≡ false) × (is_member id xs ≡ false) = or_parts _ _ out in rw parts.0 (ap (λ ys. x ∷ ys) (without_absent id xs parts.1))
 
 -- what is taken out isn't in it
 pub member_gone : (id : ℕ) (ids : List ℕ) → is_member id (without id ids) ≡ false
-member_gone id ids = member_without id id ids ∙ ap (λ b. is_member id ids && not b) (eq-eqb id id refl) ∙ none (is_member id ids)
+member_gone id ids = member_without id id ids ∙ ap (λ b. is_member id ids && not b) (eq-eqb id id refl) ∙ none _
   where
     none : (b : Bool) → (b && false) ≡ false
     none true = refl
@@ -51,19 +51,19 @@ member_gone id ids = member_without id id ids ∙ ap (λ b. is_member id ids && 
 
 -- at the end of the order, and only there
 pub member_newest : (q id : ℕ) (ids : List ℕ) → is_member q (without id ids ++ id ∷ []) ≡ ((is_member q ids && not (q == id)) || (id == q))
-member_newest q id ids = member_end q id (without id ids) ∙ ap (λ b. b || (id == q)) (member_without q id ids)
+member_newest q id ids = member_end q id _ ∙ ap (λ b. b || (id == q)) (member_without q id ids)
 
 -- taken out and put at the end, none stands twice
 pub newest_differ : (id : ℕ) (ids : List ℕ) → AllPairs (λ a b. a ≡ b → ⊥) ids → AllPairs (λ a b. a ≡ b → ⊥) (without id ids ++ id ∷ [])
 newest_differ id ids h =
-    all_pairs_push (λ a b. a ≡ b → ⊥) (without id ids) id
-    (M.AllPairs-from_EachPair (λ a b. a ≡ b → ⊥) (without id ids) (M.pairs_filter (λ a b. a ≡ b → ⊥) (λ q. not (q == id)) ids (M.EachPair-from_AllPairs (λ a b. a ≡ b → ⊥) ids h)))
-    (M.All-from_Each (λ q. q ≡ id → ⊥) (without id ids) (M.Each-from (λ q. q ≡ id → ⊥) (without id ids) (λ q m e.
-    false≢true (sym (not-true (q == id) (M.member_filter (λ q. not (q == id)) ids q m).1) ∙ eq-eqb q id e))))
+    all_pairs_push (λ a b. a ≡ b → ⊥) _ id
+    (M.AllPairs-from_EachPair (λ a b. a ≡ b → ⊥) _ (M.pairs_filter (λ a b. a ≡ b → ⊥) (λ q. not _) ids (M.EachPair-from_AllPairs (λ a b. a ≡ b → ⊥) ids h)))
+    (M.All-from_Each (λ q. q ≡ id → ⊥) _ (M.Each-from (λ q. q ≡ id → ⊥) _ (λ q m e.
+    false≢true (sym (not-true _ (M.member_filter (λ q. not _) ids q m).1) ∙ eq-eqb q id e))))
 
 -- at the begin of the order, and only there
 pub member_oldest : (q id : ℕ) (ids : List ℕ) → is_member q (id ∷ without id ids) ≡ ((is_member q ids && not (q == id)) || (id == q))
-member_oldest q id ids = ap (λ b. (id == q) || b) (member_without q id ids) ∙ swapped (id == q) (is_member q ids && not (q == id))
+member_oldest q id ids = ap (λ b. (id == q) || b) (member_without q id ids) ∙ swapped (id == q) (is_member q ids && not _)
   where
     swapped : (a b : Bool) → (a || b) ≡ (b || a)
     swapped true true = refl
@@ -75,15 +75,15 @@ member_oldest q id ids = ap (λ b. (id == q) || b) (member_without q id ids) ∙
 pub oldest_differ : (id : ℕ) (ids : List ℕ) → AllPairs (λ a b. a ≡ b → ⊥) ids → AllPairs (λ a b. a ≡ b → ⊥) (id ∷ without id ids)
 oldest_differ id ids h =
     M.AllPairs-from_EachPair (λ a b. a ≡ b → ⊥) (id ∷ without id ids) (
-      M.Each-from (λ q. id ≡ q → ⊥) (without id ids) (λ q m e. false≢true (sym (not-true (q == id) (M.member_filter (λ q. not (q == id)) ids q m).1) ∙ eq-eqb q id (sym e))),
-      M.pairs_filter (λ a b. a ≡ b → ⊥) (λ q. not (q == id)) ids (M.EachPair-from_AllPairs (λ a b. a ≡ b → ⊥) ids h),
+      M.Each-from (λ q. id ≡ q → ⊥) _ (λ q m e. false≢true (sym (not-true _ (M.member_filter (λ q. not _) ids q m).1) ∙ eq-eqb q id (sym e))),
+      M.pairs_filter (λ a b. a ≡ b → ⊥) (λ q. not _) ids (M.EachPair-from_AllPairs (λ a b. a ≡ b → ⊥) ids h),
     )
 
 -- a member that is taken out and put back leaves the members as they were
 pub member_back : (id : ℕ) (ids : List ℕ) (q : ℕ) → is_member id ids ≡ true → ((is_member q ids && not (q == id)) || (id == q)) ≡ is_member q ids
 member_back id ids q there = elim (cases_eq q id) [
-  | inl e ↦ kept (is_member q ids) (q == id) (id == q) (λ _. ap (λ k. is_member k ids) e ∙ there) (eq-eqb q id e ∙ sym (eq-eqb id q (sym e)))
-  | inr d ↦ kept (is_member q ids) (q == id) (id == q) (λ f. absurd (false≢true (sym (ne_eqb q id d) ∙ f))) (ne_eqb q id d ∙ sym (ne_eqb id q (λ e. d (sym e))))
+  | inl e ↦ kept _ _ _ (λ _. ap (λ k. is_member k ids) e ∙ there) (eq-eqb q id e ∙ sym (eq-eqb id q (sym e)))
+  | inr d ↦ kept _ _ _ (λ f. absurd (false≢true (sym (ne_eqb q id d) ∙ f))) (ne_eqb q id d ∙ sym (ne_eqb id q (λ e. d (sym e))))
 ]
   where
     kept : (m e f : Bool) → (e ≡ true → m ≡ true) → (e ≡ f) → ((m && not e) || f) ≡ m

@@ -14,7 +14,7 @@ bare o = record o { bytes = None }
 
 absents_other : (ids : List ℕ) (heap : Heap) (q : ℕ) → (Member q ids → ⊥) → object_at (fold absent heap ids) q ≡ object_at heap q
 absents_other [] heap q out = refl
-absents_other (id ∷ ids) heap q out = absents_other ids (absent heap id) q (λ m. out (inr m)) ∙ get-update_other heap.objects id bare q (λ e. out (inl e))
+absents_other (id ∷ ids) heap q out = absents_other ids _ q (λ m. out (inr m)) ∙ get-update_other _ id bare q (λ e. out (inl e))
 
 bare_twice : (o : Option Object) → option_map bare (option_map bare o) ≡ option_map bare o
 bare_twice None = refl
@@ -27,12 +27,12 @@ here heap id q e = ap (λ k. object_at (absent heap id) k) e ∙ get-update_same
 absents_here : (ids : List ℕ) (heap : Heap) (q : ℕ) → Member q ids → object_at (fold absent heap ids) q ≡ option_map bare (object_at heap q)
 absents_here [] heap q m = absurd m
 absents_here (id ∷ ids) heap q (inl e) = elim (C.cases_Bool (C.is_member q ids)) [
-  | inl t ↦ absents_here ids (absent heap id) q (is_member-true q ids t) ∙ ap (option_map bare) (here heap id q e) ∙ bare_twice (object_at heap q)
-  | inr t ↦ absents_other ids (absent heap id) q (λ m. false≢true (sym t ∙ true-is_member q ids m)) ∙ here heap id q e
+  | inl t ↦ absents_here ids _ q (is_member-true q ids t) ∙ ap (option_map bare) (here heap id q e) ∙ bare_twice _
+  | inr t ↦ absents_other ids _ q (λ m. false≢true (sym t ∙ true-is_member q ids m)) ∙ here heap id q e
 ]
 absents_here (id ∷ ids) heap q (inr m) = elim (C.cases_eq q id) [
-  | inl e ↦ absents_here ids (absent heap id) q m ∙ ap (option_map bare) (here heap id q e) ∙ bare_twice (object_at heap q)
-  | inr d ↦ absents_here ids (absent heap id) q m ∙ ap (option_map bare) (get-update_other heap.objects id bare q d)
+  | inl e ↦ absents_here ids _ q m ∙ ap (option_map bare) (here heap id q e) ∙ bare_twice _
+  | inr d ↦ absents_here ids _ q m ∙ ap (option_map bare) (get-update_other _ id bare q d)
 ]
 
 module _ (old : Heap) (is : C.IsHeap old) (k : ℕ) (h : Option ℕ) where
@@ -97,8 +97,8 @@ module _ (old : Heap) (is : C.IsHeap old) (k : ℕ) (h : Option ℕ) where
 
 pub others_law : C.OthersLaw
 others_law old new is k = (
-  (λ h options o order step. keeps old is k (Some h) new (λ q other.
-      ap (λ (heap : Heap). object_at heap q) step.same
+  (λ h options o order step. keeps old is k _ new (λ q other.
+      ap (λ heap. object_at heap q) step.same
       ∙ C.get-insert C.nat_cmp_total (discarded old k (Some h)).objects h o q ∙ ap (λ b. cond b (Some o) (object_at (discarded old k (Some h)) q)) (untied q h (λ e. other (ap Some (sym e)))))),
-  (λ step. keeps old is k None new (λ q other. ap (λ (heap : Heap). object_at heap q) step.same)),
+  (λ step. keeps old is k None new (λ q other. ap (λ heap. object_at heap q) step.same)),
 )

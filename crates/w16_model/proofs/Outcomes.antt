@@ -51,12 +51,12 @@ or_right false false t = refl
 pub address_law : C.AddressLaw
 address_law old new is k = (
   (λ h options o order step. record {
-    pinned = λ q other pinned. still old is (stays_for h options) _ new step q
-        (λ x e held. stays_other h options x (λ same. other (ap Some (sym same ∙ e))) (or_left (is_pinned x) (not options.compact) (pinned_block x (object_at old q) pinned held)));
-    unmoved = λ none q other. still old is (stays_for h options) _ new step q (λ x e held. stays_other h options x (λ same. other (ap Some (sym same ∙ e))) (or_right (is_pinned x) options.compact none));
+    pinned = λ q other pinned. still old is _ _ new step q
+        (λ x e held. stays_other h options x (λ same. other (ap Some (sym same ∙ e))) (or_left (is_pinned x) (not _) (pinned_block x _ pinned held)));
+    unmoved = λ none q other. still old is _ _ new step q (λ x e held. stays_other h options x (λ same. other (ap Some (sym same ∙ e))) (or_right _ _ none));
   }),
   (λ step. record {
-    pinned = λ q other pinned. still old is is_pinned _ new step q (λ x e held. pinned_block x (object_at old q) pinned held);
+    pinned = λ q other pinned. still old is _ _ new step q (λ x e held. pinned_block x _ pinned held);
     unmoved = λ none q other. absurd (false≢true (sym none));
   }),
 )

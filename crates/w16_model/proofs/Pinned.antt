@@ -22,7 +22,7 @@ ends_pinned [] = refl
 ends_pinned (x ∷ xs) = ap (λ ns. block_end x ∷ ns) (ends_pinned xs)
 
 room_pinned : (hi : ℕ) (xs : List Block) (a : ℕ) → room_from hi (all_pinned xs) a ≡ first_from is_any hi xs a - a
-room_pinned hi xs a = (λ i. first_pinned hi xs a i - a - C.loose_bytes (all_pinned xs) a (first_pinned hi xs a i)) ∙ (λ i. first_from is_any hi xs a - a - none_loose xs a (first_from is_any hi xs a) i) ∙ less_none (first_from is_any hi xs a - a)
+room_pinned hi xs a = (λ i. first_pinned hi xs a i - a - C.loose_bytes (all_pinned xs) a (first_pinned hi xs a i)) ∙ (λ i. first_from is_any hi xs a - a - none_loose xs a (first_from is_any hi xs a) i) ∙ less_none _
   where
     less_none : (n : ℕ) → n - 0 ≡ n
     less_none n = omega arith
@@ -30,7 +30,7 @@ room_pinned hi xs a = (λ i. first_pinned hi xs a i - a - C.loose_bytes (all_pin
 pub pinned_law : C.PinnedLaw
 pinned_law lo hi xs =
     sym (ap (λ ns. largest (map (room_from hi (all_pinned xs)) (lo ∷ ns))) (ends_pinned xs)
-    ∙ largest_same (room_from hi (all_pinned xs)) (λ a. first_from is_any hi xs a - a) (lo ∷ map block_end (filter is_any xs)) (every (lo ∷ map block_end (filter is_any xs))))
+    ∙ largest_same (room_from hi (all_pinned xs)) (λ a. first_from is_any hi xs a - a) (lo ∷ map _ _) (every (lo ∷ map _ _)))
   where
     every : (ns : List ℕ) → Each (λ n. room_from hi (all_pinned xs) n ≡ first_from is_any hi xs n - n) ns
     every [] = tt
@@ -38,4 +38,4 @@ pinned_law lo hi xs =
 
 -- no order of the blocks changes the longest hole
 pub longest_hole-permutation : (lo hi : ℕ) (xs ys : List Block) → C.IsPermutation xs ys → C.longest_hole lo hi ys ≡ C.longest_hole lo hi xs
-longest_hole-permutation lo hi xs ys perm = pinned_law lo hi ys ∙ room-permutation lo hi (all_pinned xs) (all_pinned ys) (C.IsPermutation-map (λ (x : Block). record x { hold = C.Pinned }) xs ys perm) ∙ sym (pinned_law lo hi xs)
+longest_hole-permutation lo hi xs ys perm = pinned_law lo hi ys ∙ room-permutation lo hi _ _ (C.IsPermutation-map (λ (x : Block). record x { hold = C.Pinned }) xs ys perm) ∙ sym (pinned_law lo hi xs)

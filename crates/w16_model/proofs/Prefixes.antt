@@ -90,8 +90,8 @@ eligible_by_members xs ys perm order h =
 pub room_by_members : (lo hi : ℕ) (xs ys : List Block) → IsPermutation xs ys → (order : List ℕ) (k : ℕ) (h : Option ℕ) → room_for (snapshot lo hi xs order) k h ≡ room_for (snapshot lo hi ys order) k h
 room_by_members lo hi xs ys perm order k h =
     let stays : List ℕ → Block → Bool = λ ids x. not (is_member x.id ids || is_about h x.id) in
-    sym (room-permutation lo hi (filter (stays (take k (eligible xs order h))) xs) (filter (stays (take k (eligible xs order h))) ys) (filter_permutation (stays (take k (eligible xs order h))) xs ys perm))
-    ∙ ap (λ (ids : List ℕ). room lo hi (filter (stays (take k ids)) ys)) (eligible_by_members xs ys perm order h)
+    sym (room-permutation lo hi (filter _ xs) (filter _ ys) (filter_permutation _ xs ys perm))
+    ∙ ap (λ ids. room lo hi (filter (stays (take k ids)) ys)) (eligible_by_members xs ys perm order h)
 
 -- two requests need as many discards where they have as many to discard and as much room at each number
 pub needed_same : (lo hi : ℕ) (xs ys : List Block) (order others : List ℕ) (n : ℕ) (g h : Option ℕ) → length (eligible xs order g) ≡ length (eligible ys others h)

@@ -8,12 +8,12 @@ use Rattle.std.specs.FinMap as finmap
 -- n bytes at p, below and above a place
 part_below : (a m : List ℕ) (lo p n : ℕ) → take lo a ≡ take lo m → p + n ≤ lo → take n (drop p a) ≡ take n (drop p m)
 part_below a m lo p n same le =
-    sym (C.drop-take p n a) ∙ ap (drop p) (sym (C.take-take (p + n) lo a le) ∙ ap (take (p + n)) same ∙ C.take-take (p + n) lo m le) ∙ C.drop-take p n m
+    sym (C.drop-take p n a) ∙ ap (drop p) (sym (C.take-take _ lo a le) ∙ ap (take _) same ∙ C.take-take _ lo m le) ∙ C.drop-take p n m
 
 part_above : (a m : List ℕ) (hi p n : ℕ) → drop hi a ≡ drop hi m → hi ≤ p → take n (drop p a) ≡ take n (drop p m)
 part_above a m hi p n same le =
     let e : hi + (p - hi) ≡ p = omega arith in
-    ap (take n) (ap (λ q. drop q a) (sym e) ∙ sym (C.drop-drop (p - hi) hi a) ∙ ap (drop (p - hi)) same ∙ C.drop-drop (p - hi) hi m ∙ ap (λ q. drop q m) e)
+    ap (take n) (ap (λ q. drop q a) (sym e) ∙ sym (C.drop-drop _ hi a) ∙ ap (drop _) same ∙ C.drop-drop _ hi m ∙ ap (λ q. drop q m) e)
 
 module _ (t : Table) (is : C.IsTable t) (memory after : List ℕ) (same : (x : Block) → Member x t.blocks → slice_range after x.at (x.at + x.size) ≡ slice_range memory x.at (x.at + x.size)) where
   same_bytes : (id : ℕ) (b : C.Option Block) → C.block_with t.blocks id ≡ b → C.option_map (λ (x : Block). slice_range after x.at (x.at + x.size)) b ≡ C.option_map (λ (x : Block). slice_range memory x.at (x.at + x.size)) b
@@ -33,9 +33,9 @@ module _ (t : Table) (is : C.IsTable t) (memory after : List ℕ) (same : (x : B
 
 pub range_law : C.RangeLaw
 range_law t lo hi memory after is outside = (
-  (λ below. same_heap t is memory after (λ x m. part_below after memory lo x.at (x.at + x.size - x.at) outside.below (omega (arith, bounds x m, below)))),
-  (λ above. same_heap t is memory after (λ x m. part_above after memory hi x.at (x.at + x.size - x.at) outside.above (omega (arith, bounds x m, above)))),
+  (λ below. same_heap t is _ after (λ x m. part_below after _ lo x.at _ outside.below (omega (arith, bounds x m, below)))),
+  (λ above. same_heap t is _ after (λ x m. part_above after _ hi x.at _ outside.above (omega (arith, bounds x m, above)))),
 )
   where
     bounds : (x : Block) → Member x t.blocks → (t.lo ≤ x.at) × (0 < x.size) × (C.block_end x ≤ t.hi)
-    bounds = Each-at (λ x. (t.lo ≤ x.at) × (0 < x.size) × (C.block_end x ≤ t.hi)) t.blocks (laid_each t.lo t.hi t.blocks is.laid)
+    bounds = Each-at (λ x. (t.lo ≤ x.at) × (0 < x.size) × (C.block_end x ≤ t.hi)) _ (laid_each t.lo t.hi _ is.laid)

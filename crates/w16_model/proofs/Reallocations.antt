@@ -17,7 +17,7 @@ use Rattle.std.specs.FinMap as finmap
 -- an answered request has discarded so many, and what it made stands
 pub asked : (old : Heap) (h : ℕ) (what : Asked) (new : Heap) → Request old h what true new
     → (k : ℕ) × (what.prefix ≡ Some k) × ((o : Object) × what.becomes o × Settles old (stays_for h what.options) (with_ordered (discarded old k (Some h)) h o (what.order o)) new)
-asked old h what new r = turn what.prefix refl r
+asked old h what new r = turn _ refl r
   where
     turn : (p : Option ℕ) → what.prefix ≡ p → C.MatchOption p ((true ≡ false) × (new ≡ old)) (λ k. (true ≡ true) × ((o : Object) × what.becomes o × Settles old (stays_for h what.options) (with_ordered (discarded old k (Some h)) h o (what.order o)) new))
         → (k : ℕ) × (what.prefix ≡ Some k) × ((o : Object) × what.becomes o × Settles old (stays_for h what.options) (with_ordered (discarded old k (Some h)) h o (what.order o)) new)
@@ -26,7 +26,7 @@ asked old h what new r = turn what.prefix refl r
 
 -- a refused one has no number, and leaves the heap
 pub not_asked : (old : Heap) (h : ℕ) (what : Asked) (new : Heap) → Request old h what false new → (what.prefix ≡ None) × (new ≡ old)
-not_asked old h what new r = turn what.prefix refl r
+not_asked old h what new r = turn _ refl r
   where
     turn : (p : Option ℕ) → what.prefix ≡ p → C.MatchOption p ((false ≡ false) × (new ≡ old)) (λ k. (false ≡ true) × ((o : Object) × what.becomes o × Settles old (stays_for h what.options) (with_ordered (discarded old k (Some h)) h o (what.order o)) new)) → (what.prefix ≡ None) × (new ≡ old)
     turn None e g = (e, g.1)
@@ -111,28 +111,28 @@ module _ (old : Heap) (is : IsHeap old) (id n : ℕ) (some : 0 < n) (rounded : C
 
 -- a law by its cases, at the object that is there
 pub by_case : (old new : Heap) (id n : ℕ) (options : RoomOptions) (answered : Bool) (P : Object → Type 0) → ((o : Object) → object_at old id ≡ Some o → IsCase old id n o options answered new → P o) → C.Reallocates old id n options answered new → IsSomeAnd (object_at old id) P
-by_case old new id n options answered P f step = turn (object_at old id) refl step.object
+by_case old new id n options answered P f step = turn _ refl step.object
   where
     turn : (p : Option Object) → object_at old id ≡ p → IsSomeAnd p (λ o. C.ReallocatesObject old id o n options answered new) → IsSomeAnd p P
     turn None there r = absurd r
-    turn (Some o) there r = f o there (case_of old id n o options answered new r)
+    turn (Some o) there r = f o there (case_of old id n o _ _ new r)
 
 some_anyway : (p : Option Object) (P : Type 0) → IsSomeAnd p (λ _. P) → P
 some_anyway None P h = absurd h
 some_anyway (Some o) P h = h
 
 pub heap_law : C.HeapLaw
-heap_law old new id n options answered is step = some_anyway (object_at old id) (IsHeap new) (by_case old new id n options answered (λ _. IsHeap new) (λ o there c. case_heap old is id n step.some step.rounded o there options answered new c) step)
+heap_law old new id n options answered is step = some_anyway _ _ (by_case old new id n _ _ (λ _. IsHeap new) (λ o there c. case_heap old is id n step.some step.rounded o there _ _ new c) step)
 
 -- What stands still.
 
 -- everything, where the addresses are the same
 all_still : (old new : Heap) → new.places ≡ old.places → (q : ℕ) → C.StandsStill old new q
-all_still old new same q = turn (finmap.get old.places q) refl
+all_still old new same q = turn _ refl
   where
     turn : (p : Option ℕ) → finmap.get old.places q ≡ p → C.IfSome p (λ at. finmap.get new.places q ≡ Some at)
     turn None e = tt
-    turn (Some at) e = ap (λ (m : C.FinMap C.nat_cmp ℕ). finmap.get m q) same ∙ e
+    turn (Some at) e = ap (λ m. finmap.get m q) same ∙ e
 
 module _ (old : Heap) (is : IsHeap old) (id n : ℕ) (o : Object) (there : object_at old id ≡ Some o) (options : RoomOptions) (new : Heap) where
   -- with all addresses kept little is moved
@@ -230,14 +230,14 @@ module _ (old : Heap) (is : IsHeap old) (id n : ℕ) (o : Object) (there : objec
       not_still asks (inr t) = false≢true (sym asks.held ∙ sym (ap (λ b. is_some b && (is_pinned_object o && not options.may_move)) asks.has) ∙ t)
 
 pub moves_law : C.MovesLaw
-moves_law old new id n options is step = by_case old new id n options true (λ o. MovesLittle old id n o options new) (λ o there c. moves_little old is id n o there options new c) step
+moves_law old new id n options is step = by_case old new id n _ true (λ o. MovesLittle old id n o _ new) (λ o there c. moves_little old is id n o there _ new c) step
 
 -- Fewest discards.
 
 -- nothing is discarded where one object alone has another in its place
 pub none_discarded : (old : Heap) (id : ℕ) (p : Object) → KeepsOthers old (Some id) 0 (C.with_object old id p)
 none_discarded old id p = record {
-  kept = λ q other _. inserted_other old.objects id p q (λ e. other (ap Some (sym e)));
+  kept = λ q other _. inserted_other _ id p q (λ e. other (ap Some (sym e)));
   discarded = λ q t. absurd (false≢true t);
 }
 
@@ -362,4 +362,4 @@ module _ (old : Heap) (is : IsHeap old) (id n : ℕ) (o : Object) (there : objec
       of_answer b e asks = subst (λ a. ReallocatesFewest old id n o options a new) (sym e) (asked_fewest b e (subst (λ a. Asks old id n o options a new) e asks))
 
 pub fewest_law : C.FewestLaw
-fewest_law old new id n options answered is step = by_case old new id n options answered (λ o. ReallocatesFewest old id n o options answered new) (λ o there c. reallocates_fewest old is id n o there options answered new c) step
+fewest_law old new id n options answered is step = by_case old new id n _ _ (λ o. ReallocatesFewest old id n o _ _ new) (λ o there c. reallocates_fewest old is id n o there _ _ new c) step

@@ -14,13 +14,13 @@ largest_le f g (n ∷ ns) h = omega (arith, h n, largest_le f g ns h)
 
 -- a list where a test keeps x, and where it doesn't
 kept_by : (p : Block → Bool) (x : Block) (xs : List Block) (b : Bool) → p x ≡ b → filter p (x ∷ xs) ≡ cond {A = List Block} b (x ∷ filter p xs) (filter p xs)
-kept_by p x xs b e = ap (λ (v : Bool). cond {A = List Block} v (x ∷ filter p xs) (filter p xs)) e
+kept_by p x xs b e = ap (λ v. cond {A = List Block} v (x ∷ filter p xs) (filter p xs)) e
 
 first_cons : (hi a : ℕ) (x : Block) (xs ys : List Block) → first_from is_pinned hi xs a ≡ first_from is_pinned hi ys a → first_from is_pinned hi (x ∷ xs) a ≡ first_from is_pinned hi (x ∷ ys) a
 first_cons hi a x xs ys h = ap (λ v. cond (is_pinned x && nat_le a x.at) (min x.at v) v) h
 
 first_skip : (hi a : ℕ) (x : Block) (xs : List Block) → is_pinned x ≡ false → first_from is_pinned hi (x ∷ xs) a ≡ first_from is_pinned hi xs a
-first_skip hi a x xs e = ap (λ (b : Bool). cond (b && nat_le a x.at) (min x.at (first_from is_pinned hi xs a)) (first_from is_pinned hi xs a)) e
+first_skip hi a x xs e = ap (λ b. cond (b && nat_le a x.at) (min x.at (first_from is_pinned hi xs a)) (first_from is_pinned hi xs a)) e
 
 first_filter : (p : Block → Bool) (hi a : ℕ) (x : Block) (xs : List Block) (b : Bool) → p x ≡ b → is_pinned x ≡ false → first_from is_pinned hi (filter p (x ∷ xs)) a ≡ first_from is_pinned hi (filter p xs) a
 first_filter p hi a x xs true e l = ap (λ ys. first_from is_pinned hi ys a) (kept_by p x xs true e) ∙ first_skip hi a x (filter p xs) l

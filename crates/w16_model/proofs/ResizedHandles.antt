@@ -64,7 +64,7 @@ new_sized zeroed n None h = tt
 new_sized zeroed n (Some bytes) h = ap slots_for (sym h.0)
 
 -- what is not owned has no size of its own
-none_owned : (p : Option Owned) (n : ℕ) → is_some p ≡ false → C.IfSome p (λ (owned : Owned). owned.size ≡ n)
+none_owned : (p : Option Owned) (n : ℕ) → is_some p ≡ false → C.IfSome p (λ owned. owned.size ≡ n)
 none_owned None n e = tt
 none_owned (Some owned) n e = absurd (false≢true (sym e))
 
@@ -75,40 +75,40 @@ kept_by old new call answer is (C.IsUnmoved s e) = subst AreHandles (sym e) (mov
 kept_by old new call answer is (C.IsLocked l) = subst AreHandles (sym l.rest) (M.locked_kept old is l.slot _ (l.object, l.named.there, l.has, l.loose, l.some, refl))
 kept_by old new call answer is (C.IsUnlocked u) = subst AreHandles (sym u.rest) (M.unlocked_kept old is u.slot _ (inr (u.object, u.named.there, u.loose, refl)))
 kept_by old new call answer is (C.IsFreed f) = subst AreHandles (sym f.rest) (M.without_object old is f.slot)
-kept_by old new call answer is (C.IsNewest n) = subst AreHandles (sym n.rest) (M.ordered_kept old is (C.newest n.slot old.heap.order) (newest_heap old.heap is.heap n.slot (ordered old.heap is.heap n.slot n.may)))
-kept_by old new call answer is (C.IsOldest n) = subst AreHandles (sym n.rest) (M.ordered_kept old is (C.oldest n.slot old.heap.order) (oldest_heap old.heap is.heap n.slot (ordered old.heap is.heap n.slot n.may)))
-kept_by old new call answer is (C.IsEntered e) = subst AreHandles (sym e.rest) (moved_handles _ (M.with_absent_object old is (C.attributes_asked e.flags e.size) e.slot (C.kind_asked e.flags) new.heap (some_slots (rounded_size e.size)) tt e.free e.entered) (moved_bytes old.heap new.heap))
+kept_by old new call answer is (C.IsNewest n) = subst AreHandles (sym n.rest) (M.ordered_kept old is (C.newest n.slot old.heap.order) (newest_heap old.heap is.heap n.slot (ordered old.heap is.heap _ n.may)))
+kept_by old new call answer is (C.IsOldest n) = subst AreHandles (sym n.rest) (M.ordered_kept old is (C.oldest _ _) (oldest_heap _ is.heap _ (ordered old.heap is.heap _ n.may)))
+kept_by old new call answer is (C.IsEntered e) = subst AreHandles (sym e.rest) (moved_handles _ (M.with_absent_object old is _ _ (C.kind_asked e.flags) _ (some_slots _) tt e.free e.entered) (moved_bytes old.heap new.heap))
 kept_by old new call answer is (C.IsAllocated a) = subst AreHandles (sym a.rest)
-    (moved_handles _ (M.with_new_object old is (C.attributes_asked a.flags a.size) a.slot a.count a.object
-    (C.with_newest a.slot a.object) (C.stays_for a.slot (C.alloc_options a.flags)) new.heap
-    (some_slots (rounded_size a.size)) tt a.free (new_sized (C.alloc_options a.flags).zero (rounded_size a.size)
-    a.object.bytes a.is_new.new_bytes) a.settled) (moved_bytes old.heap new.heap))
-kept_by old new call answer is (C.IsCompacted c) = subst AreHandles (sym c.rest) (moved_handles _ (M.settled_handles old is c.count new.heap c.settled) (moved_bytes old.heap new.heap))
+    (moved_handles _ (M.with_new_object old is _ _ a.count a.object
+    (C.with_newest _ a.object) (C.stays_for _ (C.alloc_options _)) _
+    (some_slots _) tt a.free (new_sized (C.alloc_options a.flags).zero _
+    _ a.is_new.new_bytes) a.settled) (moved_bytes old.heap new.heap))
+kept_by old new call answer is (C.IsCompacted c) = subst AreHandles (sym c.rest) (moved_handles _ (M.settled_handles old is c.count _ c.settled) (moved_bytes old.heap new.heap))
 kept_by old new call answer is (C.IsModified m) = subst AreHandles (sym m.rest) (moved_handles _
-    (kind_handles old is m.slot (kind_modified m.flags) m.object new.heap m.named.there (subst (λ (r : Result Heap Refusal). IfOk r IsHeap) m.modified (kind_heap_law old.heap m.slot (kind_modified m.flags) is.heap)) m.changes) (moved_bytes old.heap new.heap))
-kept_by old new call answer is (C.IsDiscarded d) = subst AreHandles (sym d.rest) (moved_handles _ (absent_handles old is d.slot d.object d.named.there d.unlocked) (moved_bytes old.heap (absent old.heap d.slot)))
-kept_by old new call answer is (C.IsResized r) = subst AreHandles (sym r.rest) (moved_handles _ (anew_handles old is r.slot (rounded_size r.size) (realloc_options r.flags) r.object r.named.there r.first r.gets r.heap r.resized
-    (none_owned (owned_at old r.slot) _ (sym (ap (λ p. C.unwrap_or (C.option_map (C.is_owned old) p) false) r.named.found) ∙ r.own))) (moved_bytes old.heap r.heap))
+    (kind_handles old is m.slot (kind_modified _) m.object new.heap m.named.there (subst (λ r. IfOk r IsHeap) m.modified (kind_heap_law _ _ _ is.heap)) m.changes) (moved_bytes old.heap new.heap))
+kept_by old new call answer is (C.IsDiscarded d) = subst AreHandles (sym d.rest) (moved_handles _ (absent_handles old is _ d.object d.named.there d.unlocked) (moved_bytes old.heap (absent old.heap _)))
+kept_by old new call answer is (C.IsResized r) = subst AreHandles (sym r.rest) (moved_handles _ (anew_handles old is r.slot (rounded_size _) (realloc_options _) r.object r.named.there r.first r.gets r.heap r.resized
+    (none_owned _ _ (sym (ap (λ p. C.unwrap_or (C.option_map (C.is_owned old) p) false) r.named.found) ∙ r.own))) (moved_bytes old.heap r.heap))
 
 pub handle_law : C.HandleLaw
-handle_law old new command answer is step = kept_by old new (Calls command) answer is (outcome old new (Calls command) answer is step)
+handle_law old new command answer is step = kept_by old new (Calls _) answer is (outcome old new _ _ is step)
 
 pub resize_law : C.ResizeLaw
-resize_law old new handle size flags answer is step = kept_by old new (ReAllocs handle size flags) (Word answer) is (outcome old new (ReAllocs handle size flags) (Word answer) is step)
+resize_law old new handle size flags answer is step = kept_by old new (ReAllocs _ size flags) (Word _) is (outcome old new _ _ is step)
 
 pub compacted_handles : (old : Handles) → AreHandles old → (size answer : ℕ) (new : Handles) → C.GlobalCompacts old size answer new → AreHandles new
-compacted_handles old is size answer new step = handle_law old new (C.GlobalCompact size) (Dword answer) is step
+compacted_handles old is size answer new step = handle_law old new (C.GlobalCompact size) (Dword _) is step
 
 pub found_some : (old : Handles) (handle slot : ℕ) → slot_of_handle old handle ≡ Some slot → handle ≢ 0
-found_some old handle slot found none = turn (object_at old.heap slot) ((names_law old handle slot).0.0 found)
+found_some old handle slot found none = turn (object_at old.heap slot) ((names_law old _ slot).0.0 found)
   where
     turn : (p : Option Object) → IsSomeAnd p (λ o. handle ≡ handle_of o.kind slot) → ⊥
     turn None h = h
-    turn (Some o) h = some_handle o.kind slot (sym h ∙ none)
+    turn (Some o) h = some_handle _ slot (sym h ∙ none)
 
 -- NULL leaves the heap
 null_heap : (old new : Handles) (answer : ℕ) → IsNull old answer new → new.heap ≡ old.heap
-null_heap old new answer null = ap (λ (h : Handles). h.heap) null.1
+null_heap old new answer null = ap (λ h. h.heap) null.1
 
 pub null_law : C.NullLaw
 null_law old new handle size flags is step = turn (outcome old new (ReAllocs handle size flags) (Word 0) is step)
@@ -121,8 +121,8 @@ null_law old new handle size flags is step = turn (outcome old new (ReAllocs han
     never named slot found says = let none : 0 ≡ named = cc in absurd (found_some old named slot found (sym none))
 
     turn : C.Outcome old (ReAllocs handle size flags) (Word 0) new → new.heap ≡ old.heap
-    turn (C.IsSame s e) = ap (λ (h : Handles). h.heap) e
-    turn (C.IsUnmoved s e) = ap (λ (h : Handles). h.heap) e
+    turn (C.IsSame s e) = ap (λ h. h.heap) e
+    turn (C.IsUnmoved s e) = ap (λ h. h.heap) e
     turn (C.IsModified m) = never m.handle m.slot m.named.found m.answered
     turn (C.IsDiscarded d) = never d.handle d.slot d.named.found d.answered
     turn (C.IsResized r) = let none : 0 ≡ handle_of r.object.kind r.first = (let e = r.answered in cc) in absurd (some_handle r.object.kind r.first (sym none))
@@ -169,7 +169,7 @@ resize_fewest_law old new handle size flags answer is step slot found free same 
     (subst (λ b. MatchBool b (IsNull old answer new) (C.ReAllocsOwn old handle size flags answer new)) (ap (λ p. C.unwrap_or (C.option_map (C.is_owned old) p) false) found ∙ free) step)
   where
     resizes : (long : Bool) → C.nat_lt LARGEST_SIZE size ≡ long → MatchBool long (IsNull old answer new) (IsSomeAnd (object_at old.heap slot) (C.ResizesObject old slot flags size answer new)) → Few old new is handle size flags answer slot
-    resizes true long g = let over : LARGEST_SIZE < size = C.ltb-true LARGEST_SIZE size long in absurd (omega (arith, over, small))
+    resizes true long g = let over = C.ltb-true LARGEST_SIZE size long in absurd (omega (arith, over, small))
     resizes false long g = object_fewest old new is handle size flags answer slot (object_at old.heap slot) refl g
 
     sized : (none : Bool) → (size == 0) ≡ none → MatchBool none (Empties old handle slot flags answer new) (Resizes old slot flags size answer new) → Few old new is handle size flags answer slot
@@ -189,7 +189,7 @@ resize_fewest_law old new handle size flags answer is step slot found free same 
         (MatchBool (size == 0) (Empties old handle slot flags answer new) (Resizes old slot flags size answer new))) →
         Few old new is handle size flags answer slot
     turn p e g = modifies (has_flag flags GMEM_MODIFY) refl
-        (subst (λ (p : Option ℕ). C.MatchOption p (IsNull old answer new)
+        (subst (λ p. C.MatchOption p (IsNull old answer new)
         (λ slot. MatchBool (has_flag flags GMEM_MODIFY) (AnswersHandle old handle
         (modified old.heap slot (kind_modified flags)) answer new)
         (MatchBool (size == 0) (Empties old handle slot flags answer new) (Resizes old slot flags size answer new)))) e g)
@@ -209,36 +209,36 @@ module _ (old new : Handles) (is : AreHandles old) (call : Call) (reply : Answer
 
 -- a reallocation that answers is of its handle, or gives another size
 pub answered : (old new : Handles) (handle size flags answer : ℕ) → AreHandles old → C.GlobalReAllocs old handle size flags answer new → answer ≢ 0 → (answer ≡ handle) ⊎ Resized old (ReAllocs handle size flags) (Word answer) new
-answered old new handle size flags answer is step some = elim (reallocates old (ReAllocs handle size flags) (Word answer) new is handle size flags answer refl refl step).1 [
+answered old new handle size flags answer is step some = elim (reallocates old _ _ new is _ size flags _ refl refl step).1 [
   | inl none ↦ absurd (some none)
   | inr told ↦ told
 ]
 
 pub one_slot_law : C.OneSlotLaw
-one_slot_law old new handle size flags answer is step few some = elim (answered old new handle size flags answer is step some) [
+one_slot_law old new handle size flags answer is step few some = elim (answered old new _ size flags _ is step some) [
   | inl e ↦ e
   | inr r ↦ stays_named r
 ]
   where
     stays_named : Resized old (ReAllocs handle size flags) (Word answer) new → answer ≡ handle
-    stays_named r = elim (cases_eq answer handle) [
+    stays_named r = elim (cases_eq _ _) [
       | inl e ↦ e
       | inr d ↦
           let named : r.handle ≡ handle = (let e = r.asked in cc) in
           let size_is : r.size ≡ size = (let e = r.asked in cc) in
-          absurd (moves old new is (ReAllocs handle size flags) (Word answer) r answer handle refl named d
-          (sym (stays old is r.slot r.object r.named.there (rounded_size r.size) (realloc_options r.flags) r.first (subst (λ n. rounded_size n ≤ REACH) (sym size_is) few) r.gets)))
+          absurd (moves old new is _ _ r _ _ refl named d
+          (sym (stays old is _ r.object r.named.there _ (realloc_options _) _ (subst (λ n. rounded_size n ≤ REACH) (sym size_is) few) r.gets)))
     ]
 
 pub old_handle_law : C.OldHandleLaw
-old_handle_law old new handle size flags answer is step some d = elim (answered old new handle size flags answer is step some) [
+old_handle_law old new handle size flags answer is step some d = elim (answered old new _ size flags _ is step some) [
   | inl e ↦ absurd (d e)
-  | inr r ↦ is_bad r (slot_of_handle new handle) refl
+  | inr r ↦ is_bad r _ refl
 ]
   where
     is_bad : Resized old (ReAllocs handle size flags) (Word answer) new → (p : Option ℕ) → slot_of_handle new handle ≡ p → slot_of_handle new handle ≡ None
     is_bad r None e = e
-    is_bad r (Some q) e = absurd (there (object_at new.heap q) refl ((names_law new handle q).0.0 e))
+    is_bad r (Some q) e = absurd (there _ refl ((names_law new _ q).0.0 e))
       where
         named : r.handle ≡ handle
         named = let e = r.asked in cc
@@ -246,5 +246,5 @@ old_handle_law old new handle size flags answer is step some d = elim (answered 
         there : (p : Option Object) → object_at new.heap q ≡ p → IsSomeAnd p (λ o. handle ≡ handle_of o.kind q) → ⊥
         there None at h = h
         there (Some o) at h =
-            let same : q ≡ r.slot = sym (slot_in_handle o.kind q) ∙ ap (λ n. n / 8) (sym h ∙ sym named ∙ handle_is old new is (ReAllocs handle size flags) (Word answer) r) ∙ slot_in_handle r.object.kind r.slot in
-            let none : ◌≡◌ {A = Option Object} (Some o) None = sym at ∙ ap (object_at new.heap) same ∙ gone old new is (ReAllocs handle size flags) (Word answer) r (moves old new is (ReAllocs handle size flags) (Word answer) r answer handle refl named d) in cc
+            let same = sym (slot_in_handle _ q) ∙ ap (λ n. n / 8) (sym h ∙ sym named ∙ handle_is old new is _ _ r) ∙ slot_in_handle r.object.kind _ in
+            let none : ◌≡◌ {A = Option Object} (Some o) None = sym at ∙ ap (object_at new.heap) same ∙ gone old new is _ _ r (moves old new is _ _ r _ _ refl named d) in cc

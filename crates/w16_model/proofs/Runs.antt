@@ -121,7 +121,7 @@ module _ (m : FinMap nat_cmp Attributes) where
       turn (Some q) e = e ∙ ap Some (one_owner slots are slot q first (owner_is slot q e) lies)
 
 pub owner_law : C.OwnerLaw
-owner_law handles slot first is = (owner_is handles.attributes slot first, is_owner handles.attributes handles.slots is.runs slot first)
+owner_law handles slot first is = (owner_is _ slot first, is_owner _ handles.slots is.runs slot first)
 
 -- What changes.
 
@@ -140,15 +140,15 @@ slots_left m gone q d = ap slots_in (taken_other m gone q d)
 
 -- the first slot of a run is in it
 pub first_in : (slots : ℕ) (m : FinMap nat_cmp Attributes) → AreRuns slots m → (first : ℕ) → is_some (finmap.get m first) ≡ true → IsIn m first first
-first_in slots m are first some = turn (finmap.get m first) refl some (are.each first)
+first_in slots m are first some = turn _ refl some (are.each first)
   where
     turn : (p : Option Attributes) → finmap.get m first ≡ p → is_some p ≡ true → IfSome p (IsRun slots first) → IsIn m first first
     turn None e t h = absurd (false≢true t)
-    turn (Some a) e t h = let many : slots_at m first ≡ a.slots = slots_of m first a e in (omega arith, omega (arith, many, h.0))
+    turn (Some a) e t h = let many = slots_of m first a e in (omega arith, omega (arith, many, h.0))
 
 -- a slot beside a new run of one has no owner still
 pub unowned_beside : (m : FinMap nat_cmp Attributes) (first : ℕ) (a : Attributes) (s : ℕ) → a.slots ≡ 1 → s ≢ first → owner_of m s ≡ None → owner_of (finmap.insert m first a) s ≡ None
-unowned_beside m first a s one other none = none_owns (finmap.insert m first a) s (λ q lies. elim (cases_eq q first) [
+unowned_beside m first a s one other none = none_owns _ s (λ q lies. elim (cases_eq q first) [
   | inl e ↦ other (omega (arith, lies.0, lies.1, slots_with m first a q e, one, e))
   | inr d ↦ no_owner m s none q (lies.0, subst (λ n. s < q + n) (slots_beside m first a q d) lies.1)
 ])
@@ -272,14 +272,14 @@ module _ (old : Handles) (is : C.AreHandles old) where
 
 -- an object with bytes has at least one
 pub some_bytes : (heap : Heap) → C.IsHeap heap → (id : ℕ) (bytes : List ℕ) → bytes_at heap id ≡ Some bytes → 0 < length bytes
-some_bytes heap is id bytes e = turn (object_at heap id) refl e
+some_bytes heap is id bytes e = turn _ refl e
   where
     turn : (p : Option C.Object) → object_at heap id ≡ p → bytes_in p ≡ Some bytes → 0 < length bytes
     turn None there h = cc
     turn (Some o) there h =
-        let x : Block = record { id = id; at = unwrap_or (finmap.get heap.places id) 0; size = length bytes; hold = C.hold_of_object o } in
+        let x : Block = record { id = id; at = unwrap_or (finmap.get _ id) 0; size = length bytes; hold = C.hold_of_object o } in
         let b : IsBlockOf heap x = record { object = o; bytes = bytes; is_there = there; has_bytes = h; place = refl; size = refl; hold = refl } in
-        (Each-at (λ y. (heap.lo ≤ y.at) × (0 < y.size) × (C.block_end y ≤ heap.hi)) (C.blocks heap) (Each-from_All _ (C.blocks heap) is.placed.inside) x (block_member heap x b)).1
+        (Each-at (λ y. (heap.lo ≤ y.at) × (0 < y.size) × (C.block_end y ≤ heap.hi)) _ (Each-from_All _ _ is.placed.inside) x (block_member heap x b)).1
 
 number_below : (number slots size : ℕ) → number < slots → slots ≡ slots_for size → 0 < size → (0 < min REACH (size - REACH * number)) × (REACH * number + min REACH (size - REACH * number) ≤ size)
 number_below number slots size below many some = grind arith
@@ -311,4 +311,4 @@ module _ (handles : Handles) (is : C.AreHandles handles) (selector : ℕ) where
   reaches true t = of_owner (C.eqb-true selector (selector_of (selector / 8)) t) (owner_of handles.attributes (selector / 8)) refl
 
 pub reach_law : C.ReachLaw
-reach_law handles selector is = reaches handles is selector (selector == selector_of (selector / 8)) refl
+reach_law handles selector is = reaches _ is _ _ refl

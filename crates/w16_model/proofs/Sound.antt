@@ -63,4 +63,4 @@ module _ (t : Table) (is : C.IsSound t) (memory : List ℕ) (whole : t.hi ≤ C.
   }
 
 pub sound_law : C.SoundLaw
-sound_law t memory is whole bytes = sound_heap t is memory whole bytes
+sound_law t memory is whole bytes = sound_heap t is _ whole bytes

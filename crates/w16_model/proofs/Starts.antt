@@ -16,7 +16,7 @@ member_map f (y ∷ ys) x (inr m) = inr (member_map f ys x m)
 pub contains_member : {X : Type 0} (xs : List X) (x : X) → Member x xs → Contains xs x
 contains_member [] x m = absurd m
 contains_member (y ∷ ys) x (inl e) = (0, omega arith, sym e)
-contains_member (y ∷ ys) x (inr m) = let at : Contains ys x = contains_member ys x m in (suc at.0, omega (arith, at.1), at.2)
+contains_member (y ∷ ys) x (inr m) = let at = contains_member ys x m in (suc at.0, omega (arith, at.1), at.2)
 
 module _ (test : Block → Bool) where
   last_turn : (lo : ℕ) (x : Block) (ys : List Block) (t u : Bool) (w : ℕ) → Member w (lo ∷ map block_end ys) → Member (cond (t && u) (max (block_end x) w) w) (lo ∷ map block_end (cond {A = List Block} t (x ∷ ys) ys))
@@ -115,8 +115,8 @@ module _ (lo hi : ℕ) (xs : List Block) (placed : C.ArePlaced lo hi xs) where
   )
 
 pub gap_list_law : C.GapListLaw
-gap_list_law lo hi xs placed = (spans_are lo hi xs placed C.is_pinned, spans_are lo hi xs placed is_any)
+gap_list_law lo hi xs placed = (spans_are lo hi xs placed _, spans_are lo hi xs placed _)
 
 pub hole_after_law : C.HoleAfterLaw
 hole_after_law lo hi xs placed = M.All-from_Each (λ x. (n : ℕ) → 0 < n → IsHole lo hi xs (block_end x) (block_end x + n) ↔ (hole_after hi xs (block_end x) ≡ n)) xs
-    (M.Each-from (λ x. (n : ℕ) → 0 < n → IsHole lo hi xs (block_end x) (block_end x + n) ↔ (hole_after hi xs (block_end x) ≡ n)) xs (hole_after_is lo hi xs placed))
+    (M.Each-from (λ x. (n : ℕ) → 0 < n → IsHole lo hi xs _ _ ↔ (hole_after hi xs _ ≡ n)) xs (hole_after_is lo hi xs placed))

@@ -12,24 +12,24 @@ use Rattle.std.specs.FinMap as finmap
 -- a member is the block with its id
 pub with_member : (xs : List Block) (x : Block) → EachPair (λ x y. x.id ≡ y.id → ⊥) xs → Member x xs → block_with xs x.id ≡ Some x
 with_member [] x d m = absurd m
-with_member (y ∷ xs) x d (inl e) = ap (λ b. cond b (Some y) (block_with xs x.id)) (C.eq-eqb y.id x.id (ap (λ (z : Block). z.id) (sym e))) ∙ ap Some (sym e)
+with_member (y ∷ xs) x d (inl e) = ap (λ b. cond b (Some y) (block_with xs x.id)) (C.eq-eqb y.id x.id (ap (λ z. z.id) (sym e))) ∙ ap Some (sym e)
 with_member (y ∷ xs) x d (inr m) =
-    ap (λ b. cond b (Some y) (block_with xs x.id)) (C.ne_eqb y.id x.id (Each-at (λ (z : Block). y.id ≡ z.id → ⊥) xs d.0 x m)) ∙ with_member xs x d.1 m
+    ap (λ b. cond b (Some y) (block_with xs x.id)) (C.ne_eqb y.id x.id (Each-at (λ z. y.id ≡ z.id → ⊥) xs d.0 x m)) ∙ with_member xs x d.1 m
 
 pub member_with : (xs : List Block) (id : ℕ) (x : Block) → block_with xs id ≡ Some x → Member x xs × (x.id ≡ id)
 member_with [] id x h = cc
 member_with (y ∷ xs) id x h =
     elim (y.id == id) as (λ b. (y.id == id) ≡ b → cond b (Some y) (block_with xs id) ≡ Some x → Member x (y ∷ xs) × (x.id ≡ id)) [
       | true ↦ λ t e. let same : y ≡ x = cc in (inl (sym same), ap (λ (z : Block). z.id) (sym same) ∙ C.eqb-true y.id id t)
-      | false ↦ λ t e. let r : Member x xs × (x.id ≡ id) = member_with xs id x e in (inr r.0, r.1)
+      | false ↦ λ t e. let r = member_with xs id x e in (inr r.0, r.1)
     ] refl h
 
-place_with : (xs : List Block) (id : ℕ) → find_key nat_cmp id (map (λ (x : Block). (x.id, x.at)) xs) ≡ option_map (λ (x : Block). x.at) (block_with xs id)
+place_with : (xs : List Block) (id : ℕ) → find_key nat_cmp id (map (λ x. (x.id, x.at)) xs) ≡ option_map (λ x. x.at) (block_with xs id)
 place_with [] id = refl
 place_with (y ∷ xs) id =
-    elim (y.id == id) as (λ b. (y.id == id) ≡ b → cond (eq_by_cmp nat_cmp id y.id) (Some y.at) (find_key nat_cmp id (map (λ (x : Block). (x.id, x.at)) xs)) ≡ option_map (λ (x : Block). x.at) (cond b (Some y) (block_with xs id))) [
-      | true ↦ λ t. ap (λ b. cond b (Some y.at) (find_key nat_cmp id (map (λ (x : Block). (x.id, x.at)) xs))) (ap (λ k. eq_by_cmp nat_cmp id k) (C.eqb-true y.id id t) ∙ tied_itself id)
-      | false ↦ λ t. ap (λ b. cond b (Some y.at) (find_key nat_cmp id (map (λ (x : Block). (x.id, x.at)) xs))) (untied id y.id (λ e. false≢true (sym t ∙ C.eq-eqb y.id id (sym e)))) ∙ place_with xs id
+    elim (y.id == id) as (λ b. (y.id == id) ≡ b → cond (eq_by_cmp nat_cmp id y.id) (Some y.at) (find_key nat_cmp id (map (λ x. (x.id, x.at)) xs)) ≡ option_map (λ x. x.at) (cond b (Some y) (block_with xs id))) [
+      | true ↦ λ t. ap (λ b. cond b (Some y.at) (find_key nat_cmp id (map (λ x. (x.id, x.at)) xs))) (ap (λ k. eq_by_cmp nat_cmp id k) (C.eqb-true y.id id t) ∙ tied_itself id)
+      | false ↦ λ t. ap (λ b. cond b (Some y.at) (find_key nat_cmp id (map (λ x. (x.id, x.at)) xs))) (untied id y.id (λ e. false≢true (sym t ∙ C.eq-eqb y.id id (sym e)))) ∙ place_with xs id
     ] refl
 
 pub length_range : (xs : List ℕ) (a n : ℕ) → a + n ≤ length xs → length (slice_range xs a (a + n)) ≡ n

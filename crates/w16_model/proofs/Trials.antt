@@ -10,6 +10,6 @@ placed_without lo hi xs ys ids h placed e = subst (ArePlaced lo hi) (sym e) (pla
 pub find-passed : (p : ℕ → Bool) (e a : ℕ) (total : Option ℕ) → a < e → p a ≡ false → find p (range_with_len a (e - a)) ≡ total → find p (range_with_len (a + 1) (e - (a + 1))) ≡ total
 find-passed p e a total l f h =
     let longer : e - a ≡ suc (e - (a + 1)) = omega arith in
-    let first : find p (range_with_len a (e - a)) ≡ cond (p a) (Some a) (find p (range_with_len (a + 1) (e - (a + 1)))) = ap (λ n. find p (range_with_len a n)) longer in
-    let others : cond (p a) (Some a) (find p (range_with_len (a + 1) (e - (a + 1)))) ≡ find p (range_with_len (a + 1) (e - (a + 1))) = ap (λ (b : Bool). cond b (Some a) (find p (range_with_len (a + 1) (e - (a + 1))))) f in
+    let first = ap (λ n. find p (range_with_len a n)) longer in
+    let others = ap (λ b. cond b (Some a) (find p (range_with_len (a + 1) (e - (a + 1))))) f in
     sym others ∙ sym first ∙ h

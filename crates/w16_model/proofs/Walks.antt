@@ -33,11 +33,11 @@ module _ {X : Type 0} (R : X → X → Type 0) (one_way : (x y : X) → R x y �
 
 -- an item of one walk is one of the other
 carried : (name : Kind → ℕ → ℕ) (heap : Heap) (items others : List Item) → IsWalk name heap items → IsWalk name heap others → (z : Item) → Member z items → Member z others
-carried name heap items others p q z m = member_contained others z (q.each z (Each-at (IsItem name heap) items (Each-from_All (IsItem name heap) items p.only) z m))
+carried name heap items others p q z m = member_contained _ z (q.each z (Each-at (IsItem name heap) items (Each-from_All _ items p.only) z m))
 
 -- two walks of one heap are the same list
 pub one_walk : (name : Kind → ℕ → ℕ) (heap : Heap) (items others : List Item) → IsWalk name heap items → IsWalk name heap others → items ≡ others
 one_walk name heap items others p q =
     let Rises : Item → Item → Type 0 = λ s t. s.at < t.at in
-    same_rising Rises (λ x y a b. omega (arith, a, b)) items others (EachPair-from_AllPairs Rises items p.rising) (EachPair-from_AllPairs Rises others q.rising)
-    (carried name heap items others p q) (carried name heap others items q p)
+    same_rising Rises (λ x y a b. omega (arith, a, b)) items _ (EachPair-from_AllPairs Rises items p.rising) (EachPair-from_AllPairs Rises _ q.rising)
+    (carried name heap items _ p q) (carried name heap _ items q p)

@@ -57,6 +57,7 @@ may_change (ReAllocs handle size flags) = true
 pub record KeepsContents (old new : Handles) : Type 0 where
   pub addresses : new.heap.places ≡ old.heap.places
   pub bytes : (q : ℕ) → bytes_at new.heap q ≡ bytes_at old.heap q
+  pub kinds : (q : ℕ) → option_map (λ o. o.kind) (object_at new.heap q) ≡ option_map (λ o. o.kind) (object_at old.heap q)
   -- whether others share an object, and whose it is
   pub attributes : new.attributes ≡ old.attributes
 

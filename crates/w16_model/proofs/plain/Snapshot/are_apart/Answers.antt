@@ -10,5 +10,5 @@ returns-then-not-misses_all c = (
 )
 
 pub loop-first-preserved : goal.loop-first-preserved
-loop-first-preserved c = pairs_left (λ x y. Misses x.at x.size y.at (block_end y)) c.in-Some.first.now c.in-Some.later.now _ _ c.in-Some.ensures.cases.0
+loop-first-preserved c = pairs_left (λ x y. Misses x.at x.size y.at (block_end y)) c.in-Some.first.now _ _ _ c.in-Some.ensures.cases.0
     (c.if-not-misses_all.ensures.0 refl) c.loop-first.invariant

@@ -11,5 +11,5 @@ overflow_add-bytes c =
     )
 
 pub returns : goal.returns
-returns c = loose_bytes-all c.args.self.now.lo c.args.self.now.hi c.args.from c.args.to c.min-end.result c.loop-block.bytes c.loop-block.block-index c.args.self.now.blocks.now c.requires c.loop-block-test.false c.min-end.ensures
+returns c = loose_bytes-all c.args.self.now.lo c.args.self.now.hi c.args.from c.args.to c.min-end.result _ c.loop-block.block-index c.args.self.now.blocks.now c.requires c.loop-block-test.false c.min-end.ensures
     c.loop-block.invariant
