@@ -24,13 +24,21 @@ module _ (old : Handles) (selector offset : ℕ) where
   read_same n = turn (far_fault old selector offset n)
     where
       turn : (f : Option C.FarFault) → SameAfter old (elim f [ Some fault ↦ (Fault fault, old) | None ↦ (Bytes (part (C.far_bytes old selector) place n), record old { heap = after_touch old.heap slot }) ])
-      turn (Some fault) = record { addresses = refl; attributes = refl; sizes = λ q. refl }
-      turn None = record { addresses = refl; attributes = refl; sizes = λ q. refl }
+      turn (Some fault) = record { addresses = refl; attributes = refl; kinds = λ q. refl; sizes = λ q. refl }
+      turn None = record { addresses = refl; attributes = refl; kinds = λ q. refl; sizes = λ q. refl }
 
   written_same : (slice : List ℕ) → C.Reached old slot (place + length slice) → HasSamePlaces old (record old { heap = after_touch (after_write old.heap slot place slice) slot })
   written_same slice r = record {
     addresses = refl;
     attributes = refl;
+    kinds = λ q. elim (C.cases_eq q slot) [
+      | inl e ↦
+          ap (λ i. option_map (λ (o : Object). o.kind) (C.object_at (after_write old.heap slot place slice) i)) e
+          ∙ ap (option_map (λ (o : Object). o.kind)) (C.get-update_same old.heap.objects slot (λ (o : Object). record o { bytes = option_map (λ bytes. put_part bytes place slice) o.bytes })
+          ∙ ap (option_map (λ (o : Object). let p : Object = record o { bytes = option_map (λ bytes. put_part bytes place slice) o.bytes } in p)) r.there)
+          ∙ sym (ap (λ i. C.kind_at old i) e ∙ ap (option_map (λ (o : Object). o.kind)) r.there)
+      | inr d ↦ ap (option_map (λ (o : Object). o.kind)) (C.get-update_other old.heap.objects slot (λ (o : Object). record o { bytes = option_map (λ bytes. put_part bytes place slice) o.bytes }) q d)
+    ];
     sizes = λ q. elim (C.cases_eq q slot) [
       | inl e ↦
           ap (λ i. option_map length (bytes_in (C.object_at (after_write old.heap slot place slice) i))) e
@@ -48,14 +56,14 @@ module _ (old : Handles) (selector offset : ℕ) where
     where
       turn : (f : Option C.FarFault) → far_fault old selector offset (length slice) ≡ f
           → SameAfter old (elim f [ Some fault ↦ (Fault fault, old) | None ↦ (Done, record old { heap = after_touch (after_write old.heap slot place slice) slot }) ])
-      turn (Some fault) e = record { addresses = refl; attributes = refl; sizes = λ q. refl }
+      turn (Some fault) e = record { addresses = refl; attributes = refl; kinds = λ q. refl; sizes = λ q. refl }
       turn None e = written_same slice (C.reached old selector offset (length slice) e)
 
   pub write_same : (slice : List ℕ) → SameAfter old (far_write old selector offset slice)
   write_same slice = turn (C.refuses_write old selector)
     where
       turn : (b : Bool) → SameAfter old (cond {A = FarAnswer × Handles} b (Fault C.ReadOnly, old) (C.data_write old selector offset slice))
-      turn true = record { addresses = refl; attributes = refl; sizes = λ q. refl }
+      turn true = record { addresses = refl; attributes = refl; kinds = λ q. refl; sizes = λ q. refl }
       turn false = data_same slice
 
 far_same : (old new : Handles) (command : C.FarCommand) (answer : FarAnswer) → C.FarStep old command answer new → HasSamePlaces old new

@@ -15,14 +15,14 @@ reply_same : (old new : C.Handles) (command : C.HandleCommand) (answer : Option 
 reply_same old new command None m step = absurd step
 reply_same old new command (Some answer) m step =
     let k = C.contents old new (Calls command) answer (C.call_outcome old new command answer step) m in
-    record { addresses = k.addresses; attributes = k.attributes; sizes = λ q. ap (option_map length) (k.bytes q) }
+    record { addresses = k.addresses; attributes = k.attributes; kinds = k.kinds; sizes = λ q. ap (option_map length) (k.bytes q) }
 
 module _ (fetches : Fetching) (loads : Loading) (old new : LoadingWorld) (reply : Reply) where
   same_world : (next : LoadingWorld) → HasSamePlaces old.handles next.handles → new ≡ next → HasSamePlaces old.handles new.handles
   same_world next same e = subst (λ (w : LoadingWorld). HasSamePlaces old.handles w.handles) (sym e) same
 
   unchanged : new ≡ old → HasSamePlaces old.handles new.handles
-  unchanged e = same_world old (record { addresses = refl; attributes = refl; sizes = λ q. refl }) e
+  unchanged e = same_world old (record { addresses = refl; attributes = refl; kinds = λ q. refl; sizes = λ q. refl }) e
 
   far_sizes : (command : C.FarCommand) → far_reads_file old command ≡ false → families.FarStep fetches old command reply new → HasSamePlaces old.handles new.handles
   far_sizes command none step = same_world (access_of command old).1 (by command) (once fetches (access_of command) old new (selector_in (pointer_in command)) reply none step)
@@ -35,7 +35,7 @@ module _ (fetches : Fetching) (loads : Loading) (old new : LoadingWorld) (reply 
   built_in_sizes : (name : List ℕ) (answer : ℕ) → families.GivesBuiltIn old name answer new → HasSamePlaces old.handles new.handles
   built_in_sizes name answer step = elim (by_option (C.handle_named old.modules name) step) [
     | inl (e, inl f) ↦ unchanged f.2
-    | inl (e, inr f) ↦ same_world (record old { modules = finmap.insert old.modules answer (C.BuiltIn name) }) (record { addresses = refl; attributes = refl; sizes = λ q. refl }) f.1
+    | inl (e, inr f) ↦ same_world (record old { modules = finmap.insert old.modules answer (C.BuiltIn name) }) (record { addresses = refl; attributes = refl; kinds = λ q. refl; sizes = λ q. refl }) f.1
     | inr (handle, e, f) ↦ unchanged f.1
   ]
 
@@ -69,20 +69,24 @@ local_places_law old new command reply is none step = by_frame (frame_law old ne
     sized None n P h = absurd h
     sized (Some b) n P h = ap Some h.0
 
-    rewritten : (at : C.LocalHeap) (p r : Option C.Object) → IsSomeAnd p (λ before. IsSomeAnd r (C.IsRewritten at before)) → option_map length (bytes_in r) ≡ option_map length (bytes_in p)
+    rewritten : (at : C.LocalHeap) (p r : Option C.Object) → IsSomeAnd p (λ before. IsSomeAnd r (C.IsRewritten at before))
+        → (option_map (λ o. o.kind) r ≡ option_map (λ o. o.kind) p) × (option_map length (bytes_in r) ≡ option_map length (bytes_in p))
     rewritten at None r h = absurd h
     rewritten at (Some before) None h = absurd h
-    rewritten at (Some before) (Some after) h = sized after.bytes (length at.bytes) (C.IsSameOutside at.table.lo at.table.hi at.bytes) h.has ∙ sym (ap (option_map length) h.had)
+    rewritten at (Some before) (Some after) h = (ap Some h.kind, sized after.bytes (length at.bytes) (C.IsSameOutside at.table.lo at.table.hi at.bytes) h.has ∙ sym (ap (option_map length) h.had))
+
+    abbrev IsAlike : ℕ → Type 0
+    IsAlike slot = (C.kind_at new.loading.handles slot ≡ C.kind_at old.loading.handles slot) × (size_at new.loading.handles slot ≡ size_at old.loading.handles slot)
 
     of_current : (slot : ℕ) (p : Option C.LocalHeap) → IsSomeAnd p (λ at. (at.slot ≡ slot) × IsSomeAnd (object_at old.loading.handles.heap slot) (λ before. IsSomeAnd (object_at new.loading.handles.heap slot) (C.IsRewritten at before)))
-        → size_at new.loading.handles slot ≡ size_at old.loading.handles slot
+        → IsAlike slot
     of_current slot None h = absurd h
     of_current slot (Some at) h = rewritten at (object_at old.loading.handles.heap slot) (object_at new.loading.handles.heap slot) h.1
 
-    by_kept : (slot : ℕ) → C.IsObjectKept old new slot → size_at new.loading.handles slot ≡ size_at old.loading.handles slot
-    by_kept slot (inl same) = ap (λ p. option_map length (bytes_in p)) same
+    by_kept : (slot : ℕ) → C.IsObjectKept old new slot → IsAlike slot
+    by_kept slot (inl same) = (ap (option_map (λ o. o.kind)) same, ap (λ p. option_map length (bytes_in p)) same)
     by_kept slot (inr h) = of_current slot (C.current_heap old) h
 
     by_frame : C.KeepsRest old new ⊎ C.KeepsRestLonger old command new → HasSamePlaces old.loading.handles new.loading.handles
-    by_frame (inl k) = record { addresses = ap (λ h. h.heap.places) k.handles; attributes = ap (λ h. h.attributes) k.handles; sizes = λ slot. by_kept slot (k.objects slot) }
+    by_frame (inl k) = record { addresses = ap (λ h. h.heap.places) k.handles; attributes = ap (λ h. h.attributes) k.handles; kinds = λ slot. (by_kept slot (k.objects slot)).0; sizes = λ slot. (by_kept slot (k.objects slot)).1 }
     by_frame (inr r) = absurd (false≢true (sym none ∙ r.may))

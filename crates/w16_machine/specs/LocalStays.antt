@@ -1,6 +1,6 @@
 -- Which steps may take a local heap away: those that may take bytes of a global object.
 use Rattle.std.specs.Prelude.{◌≡◌, ℕ, Bool, true, false, length, Option, option_map}
-use Rattle.w16_model.specs.{Heap.bytes_at, Handles.Handles, Calls.HandleCommand, CallLaws.may_change, Outcomes.Call.Calls}
+use Rattle.w16_model.specs.{declared.Kind.Kind, Heap.bytes_at, Heap.object_at, Handles.Handles, Calls.HandleCommand, CallLaws.may_change, Outcomes.Call.Calls}
 use Rattle.w16_loading.specs.Families.LoadingCommand.{OfHandles, OfResizes, OfFar, OfModules, OfResources}
 use Rattle.w16_loading.specs.Families.ModuleCommand.{LoadModule, LoadLibrary, FreeLibrary, FreeModule}
 use Rattle.w16_loading.specs.Families.ResourceCommand.{LoadResource, LockResource, FreeResource}
@@ -37,10 +37,14 @@ step_may_take old (OfResources command) = resources_may_take command
 abbrev pub size_at : Handles → ℕ → Option ℕ
 size_at handles slot = option_map length (bytes_at handles.heap slot)
 
--- Each object has its address, its selectors and whose it is as before, and as many bytes.
+abbrev pub kind_at : Handles → ℕ → Option Kind
+kind_at handles slot = option_map (λ o. o.kind) (object_at handles.heap slot)
+
+-- Each object has its address, its selectors and whose it is as before, its kind, and as many bytes.
 pub record HasSamePlaces (old new : Handles) : Type 0 where
   pub addresses : new.heap.places ≡ old.heap.places
   pub attributes : new.attributes ≡ old.attributes
+  pub kinds : (slot : ℕ) → kind_at new slot ≡ kind_at old slot
   pub sizes : (slot : ℕ) → size_at new slot ≡ size_at old slot
 
 -- The laws. A step of any other command leaves each object where it is, with as many bytes,
