@@ -16,7 +16,7 @@ apart_in : (heap : Heap) → IsHeap heap → AreApart heap
 apart_in heap is q r from to bytes others differ placed has beside had =
     let (o, there, own) = object_of heap q bytes has in
     let (p, near, next) = object_of heap r others had in
-    two_placed heap is (block_at q from bytes o) (block_at r to others p) (is_block heap q from bytes o placed there own) (is_block heap r to others p beside near next) (λ e. differ (ap (λ (x : Block). x.id) e))
+    two_placed heap is (block_at q from bytes o) (block_at r to others p) (is_block heap q from bytes o placed there own) (is_block heap r to others p beside near next) (λ e. differ (ap (λ x. x.id) e))
 
 pub apart_law : ApartLaw
 apart_law w is = (

@@ -12,11 +12,11 @@ use Rattle.std.specs.FinMap as finmap
 
 -- DS.
 outcome_ds : (old new : World) (command : LocalCommand) (answer : ℕ) → Outcome old command answer new → new.ds ≡ old.ds
-outcome_ds old new command answer (inl same) = ap (λ (w : World). w.ds) same
-outcome_ds old new command answer (inr (inl init)) = ap (λ (w : World). w.ds) init.rest
-outcome_ds old new command answer (inr (inr (at, c, inl (next, stepped, becomes)))) = ap (λ (w : World). w.ds) becomes.rest
-outcome_ds old new command answer (inr (inr (at, c, inr (inl acts)))) = ap (λ (w : World). w.ds) acts.rest
-outcome_ds old new command answer (inr (inr (at, c, inr (inr g)))) = ap (λ (w : World). w.ds) g.grows.grown.rest
+outcome_ds old new command answer (inl same) = ap (λ w. w.ds) same
+outcome_ds old new command answer (inr (inl init)) = ap (λ w. w.ds) init.rest
+outcome_ds old new command answer (inr (inr (at, c, inl (next, stepped, becomes)))) = ap (λ w. w.ds) becomes.rest
+outcome_ds old new command answer (inr (inr (at, c, inr (inl acts)))) = ap (λ w. w.ds) acts.rest
+outcome_ds old new command answer (inr (inr (at, c, inr (inr g)))) = ap (λ w. w.ds) g.grows.grown.rest
 
 local_ds : (old new : World) (command : LocalCommand) (reply : Reply) → LocalStep old command reply new → ((selector : ℕ) → OfLocals command ≡ OfLocals (DS selector) → ⊥) → new.ds ≡ old.ds
 local_ds old new (DS selector) Done step other = absurd (other selector refl)
@@ -152,7 +152,7 @@ module _ (old new : World) (command : LocalCommand) (is : IsWorld old) (q : ℕ)
 
 pub step_spares_law : (honest : Type 0) → StepSparesLaw honest
 step_spares_law honest format old new (OfLoading command) reply is step = record {
-  ds = λ other. ap (λ (w : World). w.ds) step.1;
+  ds = λ other. ap (λ w. w.ds) step.1;
   bytes = record {
     objects = λ q there other. bystanders_law honest format old.loading new.loading command reply q is.loading step.0 there other;
     local_objects = λ slot at after q o e f there other. inl ((stays_same honest format old new command reply is step slot at after e f).objects q ∙ ap (option_map but_bytes) there);

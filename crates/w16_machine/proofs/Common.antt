@@ -41,7 +41,7 @@ pub use Rattle.w16_machine.specs.LocalGrowth.{Grows, IsGrowth, IsKeptShort, IsLo
 pub use Rattle.w16_machine.specs.LocalLaw.{GrowthLaw, IsHeapLeft, IsLeftByGrowth, IsLengthened, KeepsRestLonger, LeavesLonger, OneGrowthLaw, flags_in, may_grow, BeginLaw, BeginsNone, FarLaw, FrameLaw}
 pub use Rattle.w16_machine.specs.LocalLaw.{GoesLaw, GoneLaw, HasSameObjects, IsBegun, IsHeapKept, IsLocalKept, IsNamedBy, IsObjectKept, IsRewritten, KeepsRest, MayBegin, NamedLaw, NamesLaw}
 pub use Rattle.w16_machine.specs.LocalLaw.{NeverBackLaw, NewHeapLaw, OrderLaw, OthersLaw, OutcomeLaw, PinnedLaw, PlacesLaw, QueriesLaw, asks_for_room, but_bytes, may_move_named, named_by, only_tells}
-pub use Rattle.w16_machine.specs.LocalStays.{HasSameSizes, HeapsLaw, LocalSizesLaw, SizesLaw, call_may_take, modules_may_take, resources_may_take, size_at}
+pub use Rattle.w16_machine.specs.LocalStays.{HasSamePlaces, HeapsLaw, LocalSamePlacesLaw, SamePlacesLaw, call_may_take, kind_at, modules_may_take, resources_may_take, size_at}
 pub use Rattle.w16_machine.specs.Machine.{Command, Event, IsCommand, OnHandles, Run, Step, after_loading}
 pub use Rattle.w16_machine.specs.Machine.Command.{OfLoading, OfLocals}
 pub use Rattle.w16_machine.specs.World.{World, empty_world}

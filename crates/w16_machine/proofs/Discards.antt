@@ -8,11 +8,11 @@ use Rattle.w16_loading.proofs.Requests.{any_requests_fewest}
 
 -- the same step, told with its command, and with its reply
 asked : (honest : Type 0) (format : Format) (old : World) (event : Event) {command : Command} → event.command ≡ command → Step honest format old event.command event.reply event.after → Step honest format old command event.reply event.after
-asked honest format old event c step = subst (λ (asked : Command). Step honest format old asked event.reply event.after) c step
+asked honest format old event c step = subst (λ asked. Step honest format old asked event.reply event.after) c step
 
 told : (honest : Type 0) (format : Format) (old : World) (event : Event) {command : Command} {reply : Reply} → event.command ≡ command → event.reply ≡ reply → Step honest format old event.command event.reply event.after
     → Step honest format old command reply event.after
-told honest format old event {command} c r step = subst (λ (answer : Reply). Step honest format old command answer event.after) r (asked honest format old event c step)
+told honest format old event {command} c r step = subst (λ answer. Step honest format old command answer event.after) r (asked honest format old event c step)
 
 pub step_fewest : (honest : Type 0) (format : Format) (old : World) (event : Event) → C.IsWorld old → Step honest format old event.command event.reply event.after → C.IsFewest old event
 step_fewest honest format old event is step = record {

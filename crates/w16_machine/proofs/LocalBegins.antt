@@ -18,9 +18,9 @@ pub record IsRangeOf (size start end : ℕ) (range : Span) : Type 0 where
 
 tested : (size start end : ℕ) → is_range size start end ≡ true → (4 ≤ start) × (end ≤ size) × (end ≤ 65536) × (rounded_up start < rounded_down end)
 tested size start end t =
-    let both : IsTrue (nat_le 4 start && nat_le end (min size 65536)) × IsTrue (C.nat_lt (rounded_up start) (rounded_down end)) = C.and_parts (nat_le 4 start && nat_le end (min size 65536)) (C.nat_lt (rounded_up start) (rounded_down end)) t in
-    let first : IsTrue (nat_le 4 start) × IsTrue (nat_le end (min size 65536)) = C.and_parts (nat_le 4 start) (nat_le end (min size 65536)) both.0 in
-    let under : end ≤ min size 65536 = C.leb-true end (min size 65536) first.1 in
+    let both = C.and_parts (nat_le 4 start && nat_le end (min size 65536)) (C.nat_lt (rounded_up start) (rounded_down end)) t in
+    let first = C.and_parts (nat_le 4 start) (nat_le end (min size 65536)) both.0 in
+    let under = C.leb-true end (min size 65536) first.1 in
     (C.leb-true 4 start first.0, omega (arith, under), omega (arith, under), C.ltb-true (rounded_up start) (rounded_down end) both.1)
 
 test_of : (size start end : ℕ) → 4 ≤ start → end ≤ size → end ≤ 65536 → rounded_up start < rounded_down end → is_range size start end ≡ true
@@ -35,7 +35,7 @@ range_tells size start end range = turn (is_range size start end) refl
     turn true t e =
         let mine : Span = record { from = rounded_up start; to = rounded_down end } in
         let same : mine ≡ range = cc in
-        let h : (4 ≤ start) × (end ≤ size) × (end ≤ 65536) × (rounded_up start < rounded_down end) = tested size start end t in
+        let h = tested size start end t in
         subst (IsRangeOf size start end) same (record {
           low = h.0;
           inside = h.1;
@@ -148,8 +148,8 @@ new_local w selector start end b may = turn (segment_bytes w b.slot) may.inside
 
     sound : C.IsSound (new_table b.range)
     sound = record {
-      table = record { laid = omega (arith, may.some); ids = C.AllPairs-from_EachPair (λ (x y : Block). x.id ≡ y.id → ⊥) [] tt; holds = C.All-from_Each (λ (x : Block). IsSomeAnd (C.entry_at (new_table b.range) x.id) (λ e. x.hold ≡ C.hold_of_entry e)) [] tt };
-      grained = C.All-from_Each (λ (x : Block). IsMultiple C.LOCAL_GRAIN x.at × IsMultiple C.LOCAL_GRAIN x.size) [] tt;
+      table = record { laid = omega (arith, may.some); ids = C.AllPairs-from_EachPair (λ x y. x.id ≡ y.id → ⊥) [] tt; holds = C.All-from_Each (λ x. IsSomeAnd (C.entry_at (new_table b.range) x.id) (λ e. x.hold ≡ C.hold_of_entry e)) [] tt };
+      grained = C.All-from_Each (λ x. IsMultiple C.LOCAL_GRAIN x.at × IsMultiple C.LOCAL_GRAIN x.size) [] tt;
       low_grained = may.from.0;
       in_order = λ q. sym (ap (λ e. C.is_listed e None) (entries_none q));
       no_repeats = C.AllPairs-from_EachPair (λ a b. a ≡ b → ⊥) [] tt;
@@ -157,8 +157,8 @@ new_local w selector start end b may = turn (segment_bytes w b.slot) may.inside
     }
 
     named : (bytes : List ℕ) → C.AreNamed (C.heap_in (new_table b.range) bytes)
-    named bytes q = subst (λ (h : Heap). IfSome (C.object_at h q) (λ o. C.is_fixed o.kind ≡ true → is_some o.bytes ≡ true)) (sym (new_heap_law b.range bytes))
-        (subst (λ (p : Option C.Object). IfSome p (λ o. C.is_fixed o.kind ≡ true → is_some o.bytes ≡ true)) (sym (C.get-empty C.nat_cmp q)) tt)
+    named bytes q = subst (λ h. IfSome (C.object_at h q) (λ o. C.is_fixed o.kind ≡ true → is_some o.bytes ≡ true)) (sym (new_heap_law b.range bytes))
+        (subst (λ p. IfSome p (λ o. C.is_fixed o.kind ≡ true → is_some o.bytes ≡ true)) (sym (C.get-empty C.nat_cmp q)) tt)
 
     is_local : C.IsLocalTable (new_table b.range)
     is_local = record { sound = sound; grain = refl; entries = C.length-replicate LOCAL_ENTRIES none; low = omega (arith, may.low, may.from.1); high = omega (arith, may.to.1, may.high) }

@@ -94,12 +94,12 @@ module _ (old new : World) (name : ℕ) (n : LocalObject) (named : object_named 
 
 pub lock_law : C.LockLaw
 lock_law old new name n o (Word answer) is m has loose few step =
-    let heap : Heap = heap_of n.heap in
-    let pointer : ℕ = near_pointer heap n.id in
-    let left : Heap = locked heap n.id o m.there in
-    let l : (answer ≡ pointer) × Becomes old n.heap left new = taken old new name n m.named (after_lock heap n.id) left (λ _. pointer) (lock_refused pointer) answer (lock_is heap n.id o m.there has loose few)
+    let heap = heap_of n.heap in
+    let pointer = near_pointer heap n.id in
+    let left = locked heap n.id o m.there in
+    let l = taken old new name n m.named (after_lock heap n.id) left (λ _. pointer) (lock_refused pointer) answer (lock_is heap n.id o m.there has loose few)
     (on old new name n m.named 0 answer (λ o. Leaves old o.heap (after_lock (heap_of o.heap) o.id) (λ _. near_pointer (heap_of o.heap) o.id) (lock_refused (near_pointer (heap_of o.heap) o.id)) answer new) step) in
-    let is_heap : C.IsHeap heap = M.heap_here old is n.heap (here old new name n m.named) in
+    let is_heap = M.heap_here old is n.heap (here old new name n m.named) in
     record {
       counted = became old new name n m.named left (λ next. object_at next n.id ≡ Some (record o { locks = o.locks + 1 })) (inserted_here heap.objects n.id (record o { locks = o.locks + 1 }) n.id refl) l.1;
       newest = λ may. became old new name n m.named left (λ next. next.order ≡ newest n.id heap.order) (touched_newest heap n.id o m.there is_heap has may) l.1;
@@ -109,20 +109,20 @@ lock_law old new name n o reply is m has loose few step = absurd step
 
 pub unlock_law : C.UnlockLaw
 unlock_law old new name n o (Word answer) m loose step =
-    let heap : Heap = heap_of n.heap in
+    let heap = heap_of n.heap in
     let less : Object = record o { locks = o.locks - 1 } in
-    let left : Heap = with_object heap n.id less in
-    let here : object_at left n.id ≡ Some less = inserted_here heap.objects n.id less n.id refl in
-    let l : (answer ≡ locks_left n.id left) × Becomes old n.heap left new = taken old new name n m.named (after_unlock heap n.id) left (locks_left n.id) (λ _. 0) answer (unlock_is heap n.id o m.there loose)
+    let left = with_object heap n.id less in
+    let here = inserted_here heap.objects n.id less n.id refl in
+    let l = taken old new name n m.named (after_unlock heap n.id) left (locks_left n.id) (λ _. 0) answer (unlock_is heap n.id o m.there loose)
     (on old new name n m.named 0 answer (λ o. Leaves old o.heap (after_unlock (heap_of o.heap) o.id) (locks_left o.id) (λ _. 0) answer new) step) in (
       became old new name n m.named left (λ next. object_at next n.id ≡ Some less) here l.1,
-      ap Word (l.0 ∙ ap (λ (p : Option Object). cond (nat_lt 0 (C.unwrap_or (C.option_map (λ (o : Object). o.locks) p) 0)) 1 0) here),
+      ap Word (l.0 ∙ ap (λ p. cond (nat_lt 0 (C.unwrap_or (C.option_map (λ o. o.locks) p) 0)) 1 0) here),
     )
 unlock_law old new name n o reply m loose step = absurd step
 
 pub free_law : C.FreeLaw
 free_law old new name n o (Word answer) m free step =
-    let heap : Heap = heap_of n.heap in
+    let heap = heap_of n.heap in
     let g : (answer ≡ 0) × Acts old n.heap (λ next. next ≡ removed heap n.id) new = given old new name n m.named (after_free heap n.id) (removed heap n.id) 0 name answer (free_is heap n.id o m.there free)
     (on old new name n m.named name answer (λ o. GivesUp old o.heap (after_free (heap_of o.heap) o.id) 0 name answer new) step) in
     (acted old new name n m.named (removed heap n.id) (λ next. object_at next n.id ≡ None) (C.taken_here heap.objects n.id n.id refl) g.1, ap Word g.0)
@@ -134,10 +134,10 @@ Reallocs old name size flags answer new o = MatchBool (has_flag flags LMEM_MODIF
 
 pub modify_law : C.ModifyLaw
 modify_law old new name size flags n o (Word answer) m modify loose step =
-    let heap : Heap = heap_of n.heap in
-    let kind : Kind = moveable_or_discardable flags in
-    let left : Heap = modified heap n.id o m.there kind in
-    let l : (answer ≡ name) × Becomes old n.heap left new = taken old new name n m.named (after_modify heap n.id kind) left (λ _. name) (λ _. name) answer (modify_is heap n.id o m.there kind loose (not_fixed flags))
+    let heap = heap_of n.heap in
+    let kind = moveable_or_discardable flags in
+    let left = modified heap n.id o m.there kind in
+    let l = taken old new name n m.named (after_modify heap n.id kind) left (λ _. name) (λ _. name) answer (modify_is heap n.id o m.there kind loose (not_fixed flags))
     (subst (λ b. MatchBool b (ModifiesObject old name flags answer new n) (MatchBool (size == 0) (DiscardsObject old name flags answer new n) (SizesObject old size flags answer new n))) modify (on old new name n m.named 0 answer (Reallocs old name size flags answer new) step)) in
     (became old new name n m.named left (λ next. object_at next n.id ≡ Some (record o { kind = kind })) (inserted_here heap.objects n.id (record o { kind = kind }) n.id refl) l.1, ap Word l.0)
 modify_law old new name size flags n o reply m modify loose step = absurd step
@@ -146,9 +146,9 @@ modify_law old new name size flags n o reply m modify loose step = absurd step
 discards : (old new : World) (name flags : ℕ) (n : LocalObject) (o : Object) (answer : ℕ) → C.IsLocalNamed old name n o → has_flag flags LMEM_MODIFY ≡ false → has_flag flags LMEM_MOVEABLE ≡ true → is_discardable o.kind ≡ true → o.locks ≡ 0
     → C.OnNamed old name 0 answer new (Reallocs old name 0 flags answer new) → Ends new n (Some (record o { bytes = None })) × (answer ≡ name)
 discards old new name flags n o answer m keeps moveable may free step =
-    let heap : Heap = heap_of n.heap in
+    let heap = heap_of n.heap in
     let bare : Object → Object = (λ o. record o { bytes = None }) in
-    let asked : DiscardsObject old name flags answer new n = subst (λ b. MatchBool b (ModifiesObject old name flags answer new n) (DiscardsObject old name flags answer new n)) keeps (on old new name n m.named 0 answer (Reallocs old name 0 flags answer new) step) in
+    let asked = subst (λ b. MatchBool b (ModifiesObject old name flags answer new n) (DiscardsObject old name flags answer new n)) keeps (on old new name n m.named 0 answer (Reallocs old name 0 flags answer new) step) in
     let g : (answer ≡ name) × Acts old n.heap (λ next. next ≡ absent heap n.id) new = given old new name n m.named (after_discard heap n.id) (absent heap n.id) name 0 answer (discarded_is heap n.id o m.there may free)
     (subst (λ b. MatchBool b (GivesUp old n.heap (after_discard heap n.id) name 0 answer new) (Stays old 0 answer new)) moveable asked) in
     (acted old new name n m.named (absent heap n.id) (λ next. object_at next n.id ≡ Some (bare o)) (C.get-update_same heap.objects n.id bare ∙ ap (C.option_map bare) m.there) g.1, g.0)

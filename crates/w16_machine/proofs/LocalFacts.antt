@@ -25,7 +25,7 @@ local_there w slot at e = turn (finmap.get w.heaps slot) refl (segment_bytes w s
     inside t p bytes q true l e =
         let mine : LocalHeap = record { slot = slot; table = t; bytes = bytes } in
         let same : mine ≡ at = cc in
-        subst (λ (h : LocalHeap). IsThere w h × (h.slot ≡ slot)) same (record { table = p; bytes = q; inside = C.leb-true t.hi (length bytes) l }, refl)
+        subst (λ h. IsThere w h × (h.slot ≡ slot)) same (record { table = p; bytes = q; inside = C.leb-true t.hi (length bytes) l }, refl)
 
     turn : (t : Option Table) → finmap.get w.heaps slot ≡ t → (b : Option (List ℕ)) → segment_bytes w slot ≡ b → found slot t b ≡ Some at → IsThere w at × (at.slot ≡ slot)
     turn None p b q e = cc
@@ -35,7 +35,7 @@ local_there w slot at e = turn (finmap.get w.heaps slot) refl (segment_bytes w s
 -- and what is there is the one in its slot
 pub there_local : (w : World) (at : LocalHeap) → IsThere w at → local_in w at.slot ≡ Some at
 there_local w at is =
-    ap (λ (t : Option Table). found at.slot t (segment_bytes w at.slot)) is.table ∙ ap (λ (b : Option (List ℕ)). found at.slot (Some at.table) b) is.bytes
+    ap (λ t. found at.slot t (segment_bytes w at.slot)) is.table ∙ ap (λ b. found at.slot (Some at.table) b) is.bytes
     ∙ ap (λ l. cond {A = Option LocalHeap} l (Some at) None) (C.le-leb at.table.hi (length at.bytes) is.inside)
 
 -- the current heap is there
@@ -58,7 +58,7 @@ named_there w name o e = turn (current_heap w) refl e
     by_id at c (Some id) p e =
         let mine : LocalObject = record { heap = at; id = id } in
         let same : mine ≡ o = cc in
-        subst (λ (o : LocalObject). (current_heap w ≡ Some o.heap) × (id_named (heap_of o.heap) name ≡ Some o.id)) same (c, p)
+        subst (λ o. (current_heap w ≡ Some o.heap) × (id_named (heap_of o.heap) name ≡ Some o.id)) same (c, p)
 
     turn : (c : Option LocalHeap) → current_heap w ≡ c → ◌≡◌ {A = Option LocalObject} (elim c [ None ↦ None | Some at ↦ with_id at (id_named (heap_of at) name) ]) (Some o) → (current_heap w ≡ Some o.heap) × (id_named (heap_of o.heap) name ≡ Some o.id)
     turn None c e = cc
@@ -90,7 +90,7 @@ module _ (heap : Heap) (slot : ℕ) (o : Object) (there : object_at heap slot �
       ∙ ap (λ (b : Option (List ℕ)). Some (record o { bytes = b })) (ap (option_map (λ bytes. put_part bytes 0 after)) has ∙ ap Some (put_all bytes after long))
 
 pub segment_other : (heap : Heap) (slot : ℕ) (after : List ℕ) (q : ℕ) → q ≢ slot → object_at (C.after_write heap slot 0 after) q ≡ object_at heap q
-segment_other heap slot after q d = C.get-update_other heap.objects slot (λ (o : Object). record o { bytes = option_map (λ bytes. put_part bytes 0 after) o.bytes }) q d
+segment_other heap slot after q d = C.get-update_other heap.objects slot (λ o. record o { bytes = option_map (λ bytes. put_part bytes 0 after) o.bytes }) q d
 
 -- the object that has the bytes
 pub object_of : (heap : Heap) (slot : ℕ) (bytes : List ℕ) → C.bytes_at heap slot ≡ Some bytes → (o : Object) × (object_at heap slot ≡ Some o) × (o.bytes ≡ Some bytes)
@@ -103,17 +103,17 @@ object_of heap slot bytes e = turn (object_at heap slot) refl e
 -- what a local heap is after it acted
 pub acted_there : (old new : World) (at : LocalHeap) (P : Heap → Type 0) → IsThere old at → (a : Acts old at P new) → IsThere new (record { slot = at.slot; table = a.table; bytes = a.bytes })
 acted_there old new at P there a =
-    let o : (o : Object) × (object_at old.loading.handles.heap at.slot ≡ Some o) × (o.bytes ≡ Some at.bytes) = object_of old.loading.handles.heap at.slot at.bytes there.bytes in
+    let o = object_of old.loading.handles.heap at.slot at.bytes there.bytes in
     record {
-      table = ap (λ (w : World). finmap.get w.heaps at.slot) a.rest ∙ C.inserted_here old.heaps at.slot a.table at.slot refl;
-      bytes = ap (λ (w : World). segment_bytes w at.slot) a.rest ∙ ap C.bytes_in (segment_after old.loading.handles.heap at.slot o.0 o.1 at.bytes o.2 a.bytes a.long);
+      table = ap (λ w. finmap.get w.heaps at.slot) a.rest ∙ C.inserted_here old.heaps at.slot a.table at.slot refl;
+      bytes = ap (λ w. segment_bytes w at.slot) a.rest ∙ ap C.bytes_in (segment_after old.loading.handles.heap at.slot o.0 o.1 at.bytes o.2 a.bytes a.long);
       inside = omega (arith, a.range.1, a.long, there.inside);
     }
 
 -- and after it became another with the same bytes
 pub became_there : (old new : World) (at : LocalHeap) (next : Heap) → IsThere old at → (b : C.Becomes old at next new) → IsThere new (record { slot = at.slot; table = b.table; bytes = at.bytes })
 became_there old new at next there b = record {
-  table = ap (λ (w : World). finmap.get w.heaps at.slot) b.rest ∙ C.inserted_here old.heaps at.slot b.table at.slot refl;
-  bytes = ap (λ (w : World). segment_bytes w at.slot) b.rest ∙ there.bytes;
+  table = ap (λ w. finmap.get w.heaps at.slot) b.rest ∙ C.inserted_here old.heaps at.slot b.table at.slot refl;
+  bytes = ap (λ w. segment_bytes w at.slot) b.rest ∙ there.bytes;
   inside = omega (arith, b.range.1, there.inside);
 }

@@ -2,7 +2,7 @@
 use Rattle.w16_machine.proofs
 use proofs.Common as C
 use proofs.Common.{◌≡◌, ℕ, Bool, true, false, ◌+◌, ◌≤◌, ◌<◌, inl, inr, cond, List, length, Option, Some, None, option_map, refl, sym, ap, ◌∙◌, subst, arith, Block, Entry, part, put_part, Object, after_touch, Handles, selector_in, offset_in, FarAnswer, far_fault, after_write, Read, Write}
-use proofs.Common.{Fill, Bytes, Fault, Table, heap_in, bytes_in, World, heap_of, HasSameObjects, but_bytes, HasSameSizes}
+use proofs.Common.{Fill, Bytes, Fault, Table, heap_in, bytes_in, World, heap_of, HasSameObjects, but_bytes, HasSamePlaces}
 use proofs.LocalFacts.{IsThere, local_there, local_here}
 use proofs.LocalLeft.{IsLocalAt, left_over, left_is}
 use Rattle.w16_model.specs.{Far.far_read, Far.far_write, Far.FarAnswer.Done}
@@ -11,7 +11,7 @@ use Rattle.std.specs.FinMap as finmap
 -- How many bytes there are.
 
 abbrev SameAfter : Handles → FarAnswer × Handles → Type 0
-SameAfter old outcome = HasSameSizes old outcome.1
+SameAfter old outcome = HasSamePlaces old outcome.1
 
 module _ (old : Handles) (selector offset : ℕ) where
   abbrev slot : ℕ
@@ -24,40 +24,52 @@ module _ (old : Handles) (selector offset : ℕ) where
   read_same n = turn (far_fault old selector offset n)
     where
       turn : (f : Option C.FarFault) → SameAfter old (elim f [ Some fault ↦ (Fault fault, old) | None ↦ (Bytes (part (C.far_bytes old selector) place n), record old { heap = after_touch old.heap slot }) ])
-      turn (Some fault) = λ q. refl
-      turn None = λ q. refl
+      turn (Some fault) = record { addresses = refl; attributes = refl; kinds = λ q. refl; sizes = λ q. refl }
+      turn None = record { addresses = refl; attributes = refl; kinds = λ q. refl; sizes = λ q. refl }
 
-  written_same : (slice : List ℕ) → C.Reached old slot (place + length slice) → HasSameSizes old (record old { heap = after_touch (after_write old.heap slot place slice) slot })
-  written_same slice r q = elim (C.cases_eq q slot) [
-    | inl e ↦
-        ap (λ i. option_map length (bytes_in (C.object_at (after_write old.heap slot place slice) i))) e
-        ∙ ap (λ p. option_map length (bytes_in p)) (C.get-update_same old.heap.objects slot (λ (o : Object). record o { bytes = option_map (λ bytes. put_part bytes place slice) o.bytes })
-        ∙ ap (option_map (λ (o : Object). let p : Object = record o { bytes = option_map (λ bytes. put_part bytes place slice) o.bytes } in p)) r.there)
-        ∙ ap (λ b. option_map length (option_map (λ (bytes : List ℕ). put_part bytes place slice) b)) r.has
-        ∙ ap Some (C.length-put_part r.bytes place slice r.fits)
-        ∙ sym (ap (λ i. C.size_at old i) e ∙ ap (option_map length) r.here)
-    | inr d ↦ ap (λ p. option_map length (bytes_in p)) (C.get-update_other old.heap.objects slot (λ (o : Object). record o { bytes = option_map (λ bytes. put_part bytes place slice) o.bytes }) q d)
-  ]
+  written_same : (slice : List ℕ) → C.Reached old slot (place + length slice) → HasSamePlaces old (record old { heap = after_touch (after_write old.heap slot place slice) slot })
+  written_same slice r = record {
+    addresses = refl;
+    attributes = refl;
+    kinds = λ q. elim (C.cases_eq q slot) [
+      | inl e ↦
+          ap (λ i. option_map (λ (o : Object). o.kind) (C.object_at (after_write old.heap slot place slice) i)) e
+          ∙ ap (option_map (λ (o : Object). o.kind)) (C.get-update_same old.heap.objects slot (λ (o : Object). record o { bytes = option_map (λ bytes. put_part bytes place slice) o.bytes })
+          ∙ ap (option_map (λ (o : Object). let p : Object = record o { bytes = option_map (λ bytes. put_part bytes place slice) o.bytes } in p)) r.there)
+          ∙ sym (ap (λ i. C.kind_at old i) e ∙ ap (option_map (λ (o : Object). o.kind)) r.there)
+      | inr d ↦ ap (option_map (λ (o : Object). o.kind)) (C.get-update_other old.heap.objects slot (λ (o : Object). record o { bytes = option_map (λ bytes. put_part bytes place slice) o.bytes }) q d)
+    ];
+    sizes = λ q. elim (C.cases_eq q slot) [
+      | inl e ↦
+          ap (λ i. option_map length (bytes_in (C.object_at (after_write old.heap slot place slice) i))) e
+          ∙ ap (λ p. option_map length (bytes_in p)) (C.get-update_same old.heap.objects slot (λ (o : Object). record o { bytes = option_map (λ bytes. put_part bytes place slice) o.bytes })
+          ∙ ap (option_map (λ (o : Object). let p : Object = record o { bytes = option_map (λ bytes. put_part bytes place slice) o.bytes } in p)) r.there)
+          ∙ ap (λ b. option_map length (option_map (λ (bytes : List ℕ). put_part bytes place slice) b)) r.has
+          ∙ ap Some (C.length-put_part r.bytes place slice r.fits)
+          ∙ sym (ap (λ i. C.size_at old i) e ∙ ap (option_map length) r.here)
+      | inr d ↦ ap (λ p. option_map length (bytes_in p)) (C.get-update_other old.heap.objects slot (λ (o : Object). record o { bytes = option_map (λ bytes. put_part bytes place slice) o.bytes }) q d)
+    ];
+  }
 
   data_same : (slice : List ℕ) → SameAfter old (C.data_write old selector offset slice)
   data_same slice = turn (far_fault old selector offset (length slice)) refl
     where
       turn : (f : Option C.FarFault) → far_fault old selector offset (length slice) ≡ f
           → SameAfter old (elim f [ Some fault ↦ (Fault fault, old) | None ↦ (Done, record old { heap = after_touch (after_write old.heap slot place slice) slot }) ])
-      turn (Some fault) e = λ q. refl
+      turn (Some fault) e = record { addresses = refl; attributes = refl; kinds = λ q. refl; sizes = λ q. refl }
       turn None e = written_same slice (C.reached old selector offset (length slice) e)
 
   pub write_same : (slice : List ℕ) → SameAfter old (far_write old selector offset slice)
   write_same slice = turn (C.refuses_write old selector)
     where
       turn : (b : Bool) → SameAfter old (cond {A = FarAnswer × Handles} b (Fault C.ReadOnly, old) (C.data_write old selector offset slice))
-      turn true = λ q. refl
+      turn true = record { addresses = refl; attributes = refl; kinds = λ q. refl; sizes = λ q. refl }
       turn false = data_same slice
 
-far_same : (old new : Handles) (command : C.FarCommand) (answer : FarAnswer) → C.FarStep old command answer new → HasSameSizes old new
-far_same old new (Read pointer count) answer step = subst (HasSameSizes old) (sym step.1) (read_same old (selector_in pointer) (offset_in pointer) count)
-far_same old new (Write pointer bytes) answer step = subst (HasSameSizes old) (sym step.1) (write_same old (selector_in pointer) (offset_in pointer) bytes)
-far_same old new (Fill pointer count byte) answer step = subst (HasSameSizes old) (sym step.1) (write_same old (selector_in pointer) (offset_in pointer) (C.repeated count byte))
+far_same : (old new : Handles) (command : C.FarCommand) (answer : FarAnswer) → C.FarStep old command answer new → HasSamePlaces old new
+far_same old new (Read pointer count) answer step = subst (HasSamePlaces old) (sym step.1) (read_same old (selector_in pointer) (offset_in pointer) count)
+far_same old new (Write pointer bytes) answer step = subst (HasSamePlaces old) (sym step.1) (write_same old (selector_in pointer) (offset_in pointer) bytes)
+far_same old new (Fill pointer count byte) answer step = subst (HasSamePlaces old) (sym step.1) (write_same old (selector_in pointer) (offset_in pointer) (C.repeated count byte))
 
 -- The heap of a table in other bytes.
 module _ (t : Table) (is : C.IsTable t) (memory after : List ℕ) (whole : t.hi ≤ length memory) (same : t.hi ≤ length after) where
@@ -89,28 +101,28 @@ left_same (Some t) (Some before) (Some after) h e =
     let same : length after ≡ length before = cc in
     ap (λ l. cond {A = Option Table} l (Some t) None) (C.le-leb t.hi (length after) (omega (arith, same, h.1)))
 
-pub far_reply : (old new : Handles) (command : C.FarCommand) (answer : Option FarAnswer) → C.IsSomeAnd answer (λ answer. C.FarStep old command answer new) → HasSameSizes old new
+pub far_reply : (old new : Handles) (command : C.FarCommand) (answer : Option FarAnswer) → C.IsSomeAnd answer (λ answer. C.FarStep old command answer new) → HasSamePlaces old new
 far_reply old new command None h = absurd h
 far_reply old new command (Some answer) h = far_same old new command answer h
 
 -- so all are left where each object has as many
-pub tables_stay : (old new : World) → C.AreLocalHeaps old → new ≡ C.after_loading old new.loading → HasSameSizes old.loading.handles new.loading.handles → new.heaps ≡ old.heaps
-tables_stay old new is rest sizes = C.same_map C.nat_cmp_total C.nat_cmp-IsAntisymmetric new.heaps old.heaps (λ slot.
-    ap (λ (w : World). finmap.get w.heaps slot) rest ∙ left_is new.loading.handles.heap old.heaps slot
-    ∙ left_same (finmap.get old.heaps slot) (C.segment_bytes old slot) (C.segment_bytes new slot) (is.heaps slot) (sizes slot))
+pub tables_stay : (old new : World) → C.AreLocalHeaps old → new ≡ C.after_loading old new.loading → HasSamePlaces old.loading.handles new.loading.handles → new.heaps ≡ old.heaps
+tables_stay old new is rest same = C.same_map C.nat_cmp_total C.nat_cmp-IsAntisymmetric new.heaps old.heaps (λ slot.
+    ap (λ w. finmap.get w.heaps slot) rest ∙ left_is new.loading.handles.heap old.heaps slot
+    ∙ left_same (finmap.get old.heaps slot) (C.segment_bytes old slot) (C.segment_bytes new slot) (is.heaps slot) (same.sizes slot))
 
 -- a local heap that has its table has its objects
 pub same_heaps : (old new : World) → C.AreLocalHeaps old → (at after : C.LocalHeap) → IsThere old at → IsThere new after → after.table ≡ at.table → HasSameObjects (heap_of at) (heap_of after)
 same_heaps old new is at after was now t =
-    let here : C.IsLocalIn at.table at.bytes = local_here old is at was in
-    subst (λ t. HasSameObjects (heap_of at) (heap_in t after.bytes)) (sym t) (same_objects at.table here.0.sound.table at.bytes after.bytes here.1 (subst (λ (t : Table). t.hi ≤ length after.bytes) t now.inside))
+    let here = local_here old is at was in
+    subst (λ t. HasSameObjects (heap_of at) (heap_in t after.bytes)) (sym t) (same_objects at.table here.0.sound.table at.bytes after.bytes here.1 (subst (λ t. t.hi ≤ length after.bytes) t now.inside))
 
 pub local_far_law : C.FarLaw
 local_far_law old new command reply is known step rest = (
   same_tables,
   (λ slot at after e f.
-      let was : IsThere old at × (at.slot ≡ slot) = local_there old slot at e in
-      let now : IsThere new after × (after.slot ≡ slot) = local_there new slot after f in
+      let was = local_there old slot at e in
+      let now = local_there new slot after f in
       same_heaps old new is at after was.0 now.0 (same_table at after was.0 now.0 (now.1 ∙ sym was.1))),
 )
   where

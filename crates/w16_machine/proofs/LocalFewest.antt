@@ -17,7 +17,7 @@ some_name heap is low id = turn (object_at heap id)
   where
     by_kind : (f : Bool) → cond f (finmap.get heap.places id) (Some (4 * id + 2)) ≡ Some 0 → ⊥
     by_kind true e =
-        let x : (x : Block) × C.IsBlockOf heap x × (x.id ≡ id) × (x.at ≡ 0) = block_placed heap is id 0 e in
+        let x = block_placed heap is id 0 e in
         omega (arith, low, x.3, (C.Each-at (λ x. (heap.lo ≤ x.at) × (0 < x.size) × (C.block_end x ≤ heap.hi)) (C.blocks heap) (C.Each-from_All _ (C.blocks heap) is.placed.inside) x.0 (C.block_member heap x.0 x.1)).0)
     by_kind false e = let same : 4 * id + 2 ≡ 0 = cc in omega (arith, same)
 

@@ -94,7 +94,7 @@ realloc_lacks heap is at id n options some rounded there refused = turn (object_
           rounded = rounded;
           object = subst (λ p. IsSomeAnd p (λ o. ReallocatesObject heap id o n options false heap)) (sym e) (object_refused heap id n options some rounded o e r);
         } in
-        let f : C.ReallocatesFewest heap id n o options false heap = subst (λ p. IsSomeAnd p (λ o. C.ReallocatesFewest heap id n o options false heap)) e (C.fewest_law heap heap id n options false is step) in
+        let f = subst (λ p. IsSomeAnd p (λ o. C.ReallocatesFewest heap id n o options false heap)) e (C.fewest_law heap heap id n options false is step) in
         subst (λ p. IsSomeAnd p (λ before. (C.size_of before < n) × C.LacksPlace heap id n before options)) (sym e) ((f.refused refl).0, (f.refused refl).1)
 
 -- the least number that passes a test, or that there is none below a bound

@@ -102,19 +102,19 @@ module _ (old new : World) (is : C.AreLocalHeaps old) (command : C.LocalCommand)
   }
 
 frame : (old new : World) → C.AreLocalHeaps old → (command : C.LocalCommand) (answer : ℕ) → Outcome old command answer new → KeepsRest old new ⊎ C.KeepsRestLonger old command new
-frame old new is command answer (inl same) = inl (same_objects old new (ap (λ (w : World). w.loading) same) (λ slot. inl (ap (λ (w : World). finmap.get w.heaps slot) same)))
-frame old new is command answer (inr (inl init)) = inl (same_objects old new (ap (λ (w : World). w.loading) init.rest) (λ slot. elim (cases_eq slot init.begun.slot) [
+frame old new is command answer (inl same) = inl (same_objects old new (ap (λ w. w.loading) same) (λ slot. inl (ap (λ w. finmap.get w.heaps slot) same)))
+frame old new is command answer (inr (inl init)) = inl (same_objects old new (ap (λ w. w.loading) init.rest) (λ slot. elim (cases_eq slot init.begun.slot) [
   | inl e ↦
-      let b : C.MayBegin old init.selector init.start init.end init.begun = (begin_law old init.selector init.start init.end init.begun).0 init.may in
+      let b = (begin_law old init.selector init.start init.end init.begun).0 init.may in
       inr (inl (ap (finmap.get old.heaps) e ∙ b.none, ap (C.is_code old.loading.handles) e ∙ b.uncoded))
-  | inr d ↦ inl (ap (λ (w : World). finmap.get w.heaps slot) init.rest ∙ inserted_other old.heaps init.begun.slot (C.new_table init.begun.range) slot d)
+  | inr d ↦ inl (ap (λ w. finmap.get w.heaps slot) init.rest ∙ inserted_other old.heaps init.begun.slot (C.new_table init.begun.range) slot d)
 ]))
 frame old new is command answer (inr (inr (at, c, inl (next, stepped, becomes)))) =
-    inl (same_objects old new (ap (λ (w : World). w.loading) becomes.rest) (table_put old at c new becomes.table (ap (λ (w : World). w.heaps) becomes.rest) becomes.range))
+    inl (same_objects old new (ap (λ w. w.loading) becomes.rest) (table_put old at c new becomes.table (ap (λ w. w.heaps) becomes.rest) becomes.range))
 frame old new is command answer (inr (inr (at, c, inr (inl acts)))) = inl (acts_rest old at c (IsRoomed (heap_of at) command answer) new acts)
 frame old new is command answer (inr (inr (at, c, inr (inr g)))) = inr (grown_rest old new is command answer at c g)
 
 pub frame_law : C.FrameLaw
-frame_law old new (DS selector) Done is step = inl (same_objects old new (ap (λ (w : World). w.loading) step) (λ slot. inl (ap (λ (w : World). finmap.get w.heaps slot) step)))
+frame_law old new (DS selector) Done is step = inl (same_objects old new (ap (λ w. w.loading) step) (λ slot. inl (ap (λ w. finmap.get w.heaps slot) step)))
 frame_law old new command (Word answer) is step = frame old new is command answer (outcome old command answer new step)
 frame_law old new command reply is step = absurd step

@@ -28,7 +28,7 @@ goes_law honest format old new command reply step slot t = (
 )
   where
     is : finmap.get new.heaps slot ≡ left_over (finmap.get old.heaps slot) (bytes_at new.loading.handles.heap slot)
-    is = ap (λ (w : World). finmap.get w.heaps slot) step.1 ∙ left_is new.loading.handles.heap old.heaps slot
+    is = ap (λ w. finmap.get w.heaps slot) step.1 ∙ left_is new.loading.handles.heap old.heaps slot
 
 -- where there is none there is none afterwards
 module _ (old new : World) (slot : ℕ) (none : finmap.get old.heaps slot ≡ None) where
@@ -74,8 +74,8 @@ module _ (old new : World) (slot : ℕ) (none : finmap.get old.heaps slot ≡ No
       ])
 
 pub never_back_law : (honest : Type 0) → C.NeverBackLaw honest
-never_back_law honest format old new (C.OfLoading command) reply step slot none = inl (ap (λ (w : World). finmap.get w.heaps slot) step.1 ∙ left_is new.loading.handles.heap old.heaps slot ∙ ap (λ p. left_over p (bytes_at new.loading.handles.heap slot)) none)
-never_back_law honest format old new (OfLocals (DS selector)) Done step slot none = inl (ap (λ (w : World). finmap.get w.heaps slot) step ∙ none)
+never_back_law honest format old new (C.OfLoading command) reply step slot none = inl (ap (λ w. finmap.get w.heaps slot) step.1 ∙ left_is new.loading.handles.heap old.heaps slot ∙ ap (λ p. left_over p (bytes_at new.loading.handles.heap slot)) none)
+never_back_law honest format old new (OfLocals (DS selector)) Done step slot none = inl (ap (λ w. finmap.get w.heaps slot) step ∙ none)
 never_back_law honest format old new (OfLocals command) (Word answer) step slot none = called old new slot none command answer (outcome old command answer new step)
 never_back_law honest format old new (OfLocals command) reply step slot none = absurd step
 
@@ -83,7 +83,7 @@ pub gone_law : (honest : Type 0) → C.GoneLaw honest
 gone_law honest format old new events run none_begins slot none = each old events (C.Each-from_All C.BeginsNone events none_begins) run none
   where
     each : (now : World) (events : List Event) → Each C.BeginsNone events → Run (Step honest format) now events new → finmap.get now.heaps slot ≡ None → finmap.get new.heaps slot ≡ None
-    each now [] begins run none = ap (λ (w : World). finmap.get w.heaps slot) run ∙ none
+    each now [] begins run none = ap (λ w. finmap.get w.heaps slot) run ∙ none
     each now (event ∷ events) begins run none = elim (never_back_law honest format now event.after event.command event.reply run.0 slot none) [
       | inl still ↦ each event.after events begins.1 run.1 still
       | inr begun ↦ absurd (begins.0 begun.selector begun.start begun.end begun.asked begun.answered)

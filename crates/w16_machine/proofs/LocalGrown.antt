@@ -18,7 +18,7 @@ laid_later lo hi end (x ∷ xs) laid le = (laid.0, laid.1, laid_later (block_end
 
 pub laid_bounds : (lo hi : ℕ) (bs : List Block) → IsLaid lo hi bs → lo ≤ hi
 laid_bounds lo hi [] laid = laid
-laid_bounds lo hi (x ∷ xs) laid = let rest : block_end x ≤ hi = laid_bounds (block_end x) hi xs laid.2 in omega (arith, laid.0, laid.1, rest)
+laid_bounds lo hi (x ∷ xs) laid = let rest = laid_bounds (block_end x) hi xs laid.2 in omega (arith, laid.0, laid.1, rest)
 
 -- a table that ends later is sound
 later_sound : (t : Table) (end : ℕ) → IsSound t → t.hi ≤ end → IsSound (record t { hi = end })
@@ -67,7 +67,7 @@ selected w at e = turn (slot_of_selector w.loading.handles w.ds) refl e
     turn (Some slot) s e = s ∙ ap Some (sym (local_there w slot at e).1)
 
 select : (w : World) (slot : ℕ) → slot_of_selector w.loading.handles w.ds ≡ Some slot → current_heap w ≡ local_in w slot
-select w slot e = ap (λ (s : Option ℕ). elim s as (λ _. Option LocalHeap) [ None ↦ None | Some slot ↦ local_in w slot ]) e
+select w slot e = ap (λ s. elim s as (λ _. Option LocalHeap) [ None ↦ None | Some slot ↦ local_in w slot ]) e
 
 -- What has become of the segment: it has its kind and its locks, and the size, and its old bytes first.
 pub record IsGrownObject (old : World) (at : LocalHeap) (handles : Handles) (size : ℕ) (bytes : List ℕ) : Type 0 where

@@ -37,7 +37,7 @@ heaps_after old new is handles rest = subst AreLocalHeaps (sym rest)
     })
   where
     inside : (t : Table) (before after : List ℕ) → C.IsLocalIn t before → (b : Bool) → nat_le t.hi (length after) ≡ b → IsLocalAt (cond b (Some t) None) (Some after)
-    inside t before after h true e = let le : t.hi ≤ length after = C.leb-true t.hi (length after) e in (h.0, le, named_in t h.0.sound.table before after h.1 le h.2)
+    inside t before after h true e = let le = C.leb-true t.hi (length after) e in (h.0, le, named_in t h.0.sound.table before after h.1 le h.2)
     inside t before after h false e = tt
 
     turn : (t : Option Table) (before after : Option (List ℕ)) → IsLocalAt t before → IsLocalAt (left_over t after) after

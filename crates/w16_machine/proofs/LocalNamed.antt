@@ -17,7 +17,7 @@ pub named_in : (t : Table) → C.IsTable t → (memory after : List ℕ) → t.h
 named_in t is memory after whole same named id =
     subst (λ p. IfSome p HasName) (sym (C.object_is t is after same id)) (turn (C.entry_at t id) (subst (λ p. IfSome p HasName) (C.object_is t is memory whole id) (named id)))
   where
-    some_bytes : (b : Option Block) → is_some (option_map (λ (x : Block). C.slice_range memory x.at (x.at + x.size)) b) ≡ is_some (option_map (λ (x : Block). C.slice_range after x.at (x.at + x.size)) b)
+    some_bytes : (b : Option Block) → is_some (option_map (λ x. C.slice_range memory x.at (x.at + x.size)) b) ≡ is_some (option_map (λ x. C.slice_range after x.at (x.at + x.size)) b)
     some_bytes None = refl
     some_bytes (Some x) = refl
 

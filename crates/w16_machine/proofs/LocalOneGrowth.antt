@@ -60,7 +60,7 @@ pub one_growth_law : OneGrowthLaw
 one_growth_law old at id n size other options g h = (same, (λ l short. never l (short l.handle l.named)))
   where
     same : size ≡ other
-    same = let below : size ≤ other = g.least other h.served in let above : other ≤ size = h.least size g.served in omega arith
+    same = let below = g.least other h.served in let above = h.least size g.served in omega arith
 
     never : (l : Lengthens old at options size) → (null : Handles) × GlobalReAllocs old.loading.handles l.handle other (growth_flags options) 0 null → ⊥
     never l k = one_answer old.loading.handles l.handle at.slot size (growth_flags options) l.named (plain_flags options) (omega (arith, g.served.longer.more)) l.answer l.answered l.handles k.0 l.reallocated

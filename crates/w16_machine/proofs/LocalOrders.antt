@@ -78,7 +78,7 @@ local_order_law old new command reply at after is step c e =
 
     stepped : (next : Heap) → IsStepped heap command next → Stand next
     stepped next (inl (id, n, altered)) = altered_is heap id Stand (inl (same heap heap refl)) (λ new p put places rest. of_named id n new rest) next altered
-    stepped next (inr (flags, size, id, t, enters)) = inl (same heap next (ap (λ (h : Heap). h.order) enters.entered))
+    stepped next (inr (flags, size, id, t, enters)) = inl (same heap next (ap (λ h. h.order) enters.entered))
 
     -- room is made in it, or in it as it ends later
     made_order : (end : ℕ) → IsHeap (ending heap end) → (answer : ℕ) (next : Heap) → IsMade heap (ending heap end) command answer next → Stand next

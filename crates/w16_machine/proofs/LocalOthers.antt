@@ -241,7 +241,7 @@ local_pinned_law old new command reply at after q o is step c e there pinned unm
     stepped : (next : Heap) → IsStepped (heap_of at) command next → Stands next
     stepped next (inl (id, named, altered)) =
         altered_is (heap_of at) id Stands (stands_same (heap_of at) (heap_of at) q refl) (λ new p put places order. stands_same (heap_of at) new q (ap (λ m. finmap.get m q) places)) next altered
-    stepped next (inr (flags, size, id, t, enters)) = stands_same (heap_of at) next q (ap (λ (h : Heap). finmap.get h.places q) enters.entered)
+    stepped next (inr (flags, size, id, t, enters)) = stands_same (heap_of at) next q (ap (λ h. finmap.get h.places q) enters.entered)
 
     others : (id : ℕ) → IsNamedIn (heap_of at) command id → may_move_named command ≡ true → q ≢ id
     others id named may = other old is at c command q o there (unmoved may) id named

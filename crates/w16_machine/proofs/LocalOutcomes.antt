@@ -213,7 +213,7 @@ outcome old (LocalAlloc flags size) answer new step = on_chosen old (LocalAlloc 
 outcome old (LocalReAlloc name size flags) answer new step =
     on_named old (LocalReAlloc name size flags) answer new name 0 _ refl
     (λ o c named s. reallocates old (LocalReAlloc name size flags) answer new name size flags
-    (λ keeps some. let asks : asks_for_room (LocalReAlloc name size flags) ≡ true = ap not
+    (λ keeps some. let asks = ap not
     (ap (λ b. b || (size == 0)) keeps ∙ some) in (asks, asks, (λ may i. asks i && may i), refl)) o c named s) step
 outcome old (LocalDiscard name) answer new step = on_named old (LocalDiscard name) answer new name 0 _ refl (λ o c named s. reallocates old (LocalDiscard name) answer new name 0 LMEM_MOVEABLE (λ keeps some. absurd (false≢true (sym some))) o c named s) step
 outcome old (LocalFree name) answer new step =

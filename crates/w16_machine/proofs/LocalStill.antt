@@ -71,5 +71,5 @@ module _ (heap : Heap) (q pointer : ℕ) where
 
 pub places_law : C.PlacesLaw
 places_law old new command reply at after q pointer step c e none =
-    let heap : Heap = heap_of at in
+    let heap = heap_of at in
     current_becomes old at c command reply new (Stood heap q pointer) (same_places heap q pointer heap refl) (stepped heap q pointer command none) (roomed heap q pointer command none) (λ answer after e g. absurd (false≢true (sym none ∙ grow_asks command g.may))) after e step

@@ -50,18 +50,18 @@ local_world old is command answer new (inl same) = subst AreLocalHeaps (sym same
 local_world old is command answer new (inr (inl init)) =
     subst AreLocalHeaps (sym init.rest) (tabled_world old is init.begun.slot (new_table init.begun.range) (new_local old init.selector init.start init.end init.begun ((begin_law old init.selector init.start init.end init.begun).0 init.may)))
 local_world old is command answer new (inr (inr (at, c, inl (next, stepped, becomes)))) =
-    let there : IsThere old at = current_there old at c in
+    let there = current_there old at c in
     becomes_world old is at there next new (stepped_named (heap_of at) (local_here old is at there).2 command next stepped) becomes
 local_world old is command answer new (inr (inr (at, c, inr (inl acts)))) =
-    let there : IsThere old at = current_there old at c in
+    let there = current_there old at c in
     acts_world old is at there (IsRoomed (heap_of at) command answer) new (λ heap room. roomed_named (heap_of at) (local_here old is at there).2 (heap_here old is at there) command answer heap room) acts
 local_world old is command answer new (inr (inr (at, c, inr (inr g)))) =
-    let there : IsThere old at = current_there old at c in
-    let l : Lengthens old at (local_options g.flags) g.grows.size = g.grows.lengthens in
-    let mine : LocalHeap = longer at g.grows.size l.bytes in
-    let next : World = with_longer old l.handles mine in
-    let now : AreLocalHeaps next = grown_world old is at there (local_options g.flags) g.grows.size g.grows.growth.served.longer l in
-    let here : IsThere next mine = grown_there old is at there (local_options g.flags) g.grows.size g.grows.growth.served.longer l in
+    let there = current_there old at c in
+    let l = g.grows.lengthens in
+    let mine = longer at g.grows.size l.bytes in
+    let next = with_longer old l.handles mine in
+    let now = grown_world old is at there (local_options g.flags) g.grows.size g.grows.growth.served.longer l in
+    let here = grown_there old is at there (local_options g.flags) g.grows.size g.grows.growth.served.longer l in
     acts_world next now mine here (IsMade (heap_of at) (heap_of mine) command answer) new (λ heap made. made_named (heap_of mine) (local_here next now mine here).2 (heap_here next now mine here) (heap_of at) command answer heap made) g.grows.grown
 
 pub local_heaps_kept : (old new : World) (command : LocalCommand) (reply : Reply) → AreLocalHeaps old → LocalStep old command reply new → AreLocalHeaps new

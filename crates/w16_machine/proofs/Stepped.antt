@@ -15,7 +15,7 @@ abbrev pub loading : Type 0 → Format → LoadingWorld → LoadingWorld → Loa
 loading honest format old new = LoadsFrom Fills (told honest format old.files old.failures new.failures)
 
 handles_of : (old new : LoadingWorld) (next : Handles) → new ≡ record old { handles = next } → next ≡ new.handles
-handles_of old new next e = sym (ap (λ (w : LoadingWorld). w.handles) e)
+handles_of old new next e = sym (ap (λ w. w.handles) e)
 
 pub call_replies : (honest : Type 0) (format : Format) (old new : LoadingWorld) (command : C.HandleCommand) (reply : Reply) → StepOver honest format old (C.OfHandles command) reply new → C.HandleReplies old.handles command reply new.handles
 call_replies honest format old new command reply s =
@@ -44,7 +44,7 @@ replied h next command reply s = absurd s
 
 far_step : (fetches : Fetching) (old : LoadingWorld) (next : Handles) (command : FarCommand) (reply : Reply) → far_reads_file old command ≡ false → C.FarReplies old.handles command reply next → FarStep fetches old command reply (with_handles old next)
 far_step fetches old next command reply none s =
-    let r : (answer : FarAnswer) × (reply ≡ reply_of_far answer) × far.FarStep old.handles command answer next = replied old.handles next command reply s in
+    let r = replied old.handles next command reply s in
     accessed fetches (access_of command) old (with_handles old next) (C.selector_in (pointer_in command)) reply none (by command r.0 r.1 r.2)
   where
     by : (command : FarCommand) (answer : FarAnswer) → reply ≡ reply_of_far answer → far.FarStep old.handles command answer next → gives (access_of command old) reply (with_handles old next)

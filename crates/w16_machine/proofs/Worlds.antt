@@ -15,7 +15,7 @@ empty_world_law format memory slots files failures few = (
       handles = C.empty_law memory slots few;
       heaps = λ slot. subst (λ t. C.IfSome t (λ t. C.IsSomeAnd (C.segment_bytes w slot) (C.IsLocalIn t))) (sym (C.get-empty C.nat_cmp slot)) tt;
     };
-    uncoded = λ slot. subst (λ (t : C.Option Table). C.IfSome t (λ _. C.is_code w.loading.handles slot ≡ false)) (sym (C.get-empty C.nat_cmp slot)) tt;
+    uncoded = λ slot. subst (λ t. C.IfSome t (λ _. C.is_code w.loading.handles slot ≡ false)) (sym (C.get-empty C.nat_cmp slot)) tt;
   },
   C.empty_of_files_law format memory slots files failures,
 )

@@ -1,6 +1,6 @@
 -- Which steps may take a local heap away: those that may take bytes of a global object.
 use Rattle.std.specs.Prelude.{◌≡◌, ℕ, Bool, true, false, length, Option, option_map}
-use Rattle.w16_model.specs.{Heap.bytes_at, Handles.Handles, Calls.HandleCommand, CallLaws.may_change, Outcomes.Call.Calls}
+use Rattle.w16_model.specs.{declared.Kind.Kind, Heap.bytes_at, Heap.object_at, Handles.Handles, Calls.HandleCommand, CallLaws.may_change, Outcomes.Call.Calls}
 use Rattle.w16_loading.specs.Families.LoadingCommand.{OfHandles, OfResizes, OfFar, OfModules, OfResources}
 use Rattle.w16_loading.specs.Families.ModuleCommand.{LoadModule, LoadLibrary, FreeLibrary, FreeModule}
 use Rattle.w16_loading.specs.Families.ResourceCommand.{LoadResource, LockResource, FreeResource}
@@ -37,18 +37,24 @@ step_may_take old (OfResources command) = resources_may_take command
 abbrev pub size_at : Handles → ℕ → Option ℕ
 size_at handles slot = option_map length (bytes_at handles.heap slot)
 
--- each object has as many as before
-abbrev pub HasSameSizes : Handles → Handles → Type 0
-HasSameSizes old new = (slot : ℕ) → size_at new slot ≡ size_at old slot
+abbrev pub kind_at : Handles → ℕ → Option Kind
+kind_at handles slot = option_map (λ o. o.kind) (object_at handles.heap slot)
 
--- The laws. A step of any other command leaves each object as many bytes,
-abbrev pub SizesLaw : (honest : Type 0) → Type 0
-SizesLaw honest = (format : Format) (old new : LoadingWorld) (command : LoadingCommand) (reply : Reply) → step_may_take old command ≡ false → StepOver honest format old command reply new → HasSameSizes old.handles new.handles
+-- Each object has its address, its selectors and whose it is as before, its kind, and as many bytes.
+pub record HasSamePlaces (old new : Handles) : Type 0 where
+  pub addresses : new.heap.places ≡ old.heap.places
+  pub attributes : new.attributes ≡ old.attributes
+  pub kinds : (slot : ℕ) → kind_at new slot ≡ kind_at old slot
+  pub sizes : (slot : ℕ) → size_at new slot ≡ size_at old slot
+
+-- The laws. A step of any other command leaves each object where it is, with as many bytes,
+abbrev pub SamePlacesLaw : (honest : Type 0) → Type 0
+SamePlacesLaw honest = (format : Format) (old new : LoadingWorld) (command : LoadingCommand) (reply : Reply) → step_may_take old command ≡ false → StepOver honest format old command reply new → HasSamePlaces old.handles new.handles
 
 -- and so it keeps each local heap.
 abbrev pub HeapsLaw : (honest : Type 0) → Type 0
 HeapsLaw honest = (format : Format) (old new : World) (command : LoadingCommand) (reply : Reply) → AreLocalHeaps old → step_may_take old.loading command ≡ false → Step honest format old (OfLoading command) reply new → new.heaps ≡ old.heaps
 
 -- So does a local call for which no heap may grow.
-abbrev pub LocalSizesLaw : Type 0
-LocalSizesLaw = (old new : World) (command : LocalCommand) (reply : Reply) → AreLocalHeaps old → may_grow command ≡ false → LocalStep old command reply new → HasSameSizes old.loading.handles new.loading.handles
+abbrev pub LocalSamePlacesLaw : Type 0
+LocalSamePlacesLaw = (old new : World) (command : LocalCommand) (reply : Reply) → AreLocalHeaps old → may_grow command ≡ false → LocalStep old command reply new → HasSamePlaces old.loading.handles new.loading.handles

@@ -2,7 +2,7 @@
 ghost use Rattle.w16_machine.specs.LocalLaw.{AreFigures, AreFlags, BeginLaw, FarLaw, FrameLaw, GoesLaw, GoneLaw, GrowthLaw, NamedLaw, NamesLaw, NeverBackLaw, NewHeapLaw, OneGrowthLaw, OrderLaw, OthersLaw, OutcomeLaw, PinnedLaw, PlacesLaw, QueriesLaw};
 ghost use Rattle.w16_machine.specs.LocalFewest.{AllocLaw, CompactLaw, ReallocLaw};
 ghost use Rattle.w16_machine.specs.LocalEffects.{DiscardLaw, FreeLaw, LockLaw, ModifyLaw, RefusedLaw, UnlockLaw};
-ghost use Rattle.w16_machine.specs.LocalStays.{HeapsLaw, LocalSizesLaw, SizesLaw};
+ghost use Rattle.w16_machine.specs.LocalStays.{HeapsLaw, LocalSamePlacesLaw, SamePlacesLaw};
 
 use w16_store::Store;
 
@@ -92,9 +92,9 @@ pub fn local_calls_discard_fewest()
 {}
 
 /// Calls that ask for room, that free or cut an object, loads, fetches and modules or resources that go alone may take bytes of an object: a
-/// step of any other command leaves each as many, and each local heap. Of the local calls those alone may for which a heap may grow.
+/// step of any other command leaves each where it is, with as many, and each local heap. So does a local call for which no heap may grow.
 pub fn other_steps_keep_local_heaps<S: Store>()
-    ensures sizes { SizesLaw S.is_honest }
+    ensures places { SamePlacesLaw S.is_honest }
     ensures heaps { HeapsLaw S.is_honest }
-    ensures locals { LocalSizesLaw }
+    ensures locals { LocalSamePlacesLaw }
 {}
