@@ -270,6 +270,9 @@ uint8_t w16_module_from(w16 *machine, uint16_t from, uint16_t *handle);
  * W16_BAD_SIZE: the buffer is shorter. A module's name has at most 255 bytes. */
 uint8_t w16_module_name(w16 *machine, uint16_t handle, char *name, size_t room, size_t *length);
 uint8_t w16_module_file(w16 *machine, uint16_t handle, char *name, size_t room, size_t *length);
+/* The handle of the module or built-in that a module refers to, by its place from 0 in its file's table; W16_END after the last. So a client that runs a
+ * library's first routine before those of its importers goes to what a new module refers to first. */
+uint8_t w16_module_import(w16 *machine, uint16_t handle, size_t place, uint16_t *import);
 /* The names of a module's entries, by an index from 0, in the order of the file: a name of at most 255 bytes, its ordinal, and the far pointer that
  * w16_get_proc_address answers for this ordinal. W16_END after the last; W16_BAD_SIZE: the buffer is shorter. */
 uint8_t w16_export_from(w16 *machine, uint16_t handle, size_t index, char *name, size_t room, size_t *length, uint16_t *ordinal, uint32_t *pointer);

@@ -1,5 +1,5 @@
 -- What C is told of modules that are loaded.
-use Rattle.std.specs.Prelude.{◌≡◌, ◌⊎◌, ℕ, List, Option, Some, None, IfSome, option_and_then, option_map}
+use Rattle.std.specs.Prelude.{◌≡◌, ◌⊎◌, ℕ, List, Option, Some, None, IfSome, option_and_then, option_map, slice_get}
 use Rattle.w16_loading.specs.Modules.{Module, Modules, module_at}
 use Rattle.w16_kernel.specs.declared.kernel.modules.Start.{Start}
 use Rattle.w16_kernel.specs.Asked.{IsFirstModule, IsStart, segment_selector}
@@ -31,6 +31,9 @@ end_of (Some m) = END
 
 abbrev pub TellsSegment : Option Module → ℕ → ℕ → ℕ → ℕ → Type 0
 TellsSegment m number status before after = Told (end_of m) (option_and_then (λ m. segment_selector m.slots number) m) status before after
+
+abbrev pub TellsImport : Option Module → ℕ → ℕ → ℕ → ℕ → Type 0
+TellsImport m place status before after = Told (end_of m) (option_and_then (λ m. slice_get m.imports place) m) status before after
 
 -- a name of an entry, and beside it the ordinal and the far pointer
 abbrev pub TellsExport : (nothing : ℕ) → Option (List ℕ × (ℕ × ℕ)) → ℕ → List ℕ → List ℕ → ℕ → ℕ → ℕ × ℕ → ℕ × ℕ → Type 0

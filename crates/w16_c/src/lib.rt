@@ -27,10 +27,10 @@ pub use global::{
     w16_global_unlock, w16_moved,
 };
 pub use held::Held;
-pub use life::{w16_free, w16_new};
+pub use life::{w16_free, w16_new, w16_version};
 pub use listing::{
-    w16_export_from, w16_module_file, w16_module_from, w16_module_name, w16_module_segment,
-    w16_module_start,
+    w16_export_from, w16_module_file, w16_module_from, w16_module_import, w16_module_name,
+    w16_module_segment, w16_module_start,
 };
 pub use local::{
     w16_ds, w16_local_alloc, w16_local_compact, w16_local_discard, w16_local_flags, w16_local_free,

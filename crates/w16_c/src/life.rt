@@ -2,6 +2,7 @@
 ghost use Rattle.std.specs.Prelude.{◌≡◌, ◌⊎◌, [], true, false, IfOk, IfSome, is_some};
 ghost use Rattle.w16_machine.specs.World.{empty_world};
 ghost use Rattle.w16_kernel.specs.Sizes.{IsMemorySize, IsSelectorCount};
+ghost use Rattle.w16_c.specs.declared.life.TheConstants.{VERSION};
 
 use crate::held::Held;
 use crate::parts::Parts;
@@ -65,4 +66,15 @@ pub extern "C" fn w16_free(alloc: Global, held: &mut Held)
     ensures { held.new.is_held ≡ false }
 {
     drop(taken(held, alloc));
+}
+
+/// The library's version, a number a byte: 0x000100 is 0.1.0.
+pub const VERSION: u32 = 0x0000_0100;
+
+/// The library's version.
+#[unsafe(no_mangle)]
+pub extern "C" fn w16_version() -> u32
+    ensures { result ≡ VERSION }
+{
+    VERSION
 }

@@ -5,7 +5,7 @@ ghost use Rattle.std.specs.FinMap as finmap;
 ghost use Rattle.w16_loading.specs.Modules.{module_at, name_of};
 ghost use Rattle.w16_kernel.specs.Asked.{export_in};
 ghost use Rattle.w16_c.specs.Files.{TellsName};
-ghost use Rattle.w16_c.specs.Listing.{end_of, modules_of, Asks, TellsExport, TellsModule, TellsSegment, TellsStart, Told};
+ghost use Rattle.w16_c.specs.Listing.{end_of, modules_of, Asks, TellsExport, TellsImport, TellsModule, TellsSegment, TellsStart, Told};
 
 use crate::files::told_name;
 use crate::held::Held;
@@ -73,6 +73,26 @@ pub extern "C" fn w16_module_segment(
     let end = end_at(&kernel, handle);
     put_back(held, alloc, kernel);
     told(end, found, selector)
+}
+
+/// The handle of what a module refers to, by its place from 0 in its file's table of references.
+#[unsafe(no_mangle)]
+pub extern "C" fn w16_module_import(
+    alloc: Global,
+    held: &mut Held,
+    handle: u16,
+    place: usize,
+    import: &mut u16,
+) -> u8
+    ensures { Asks held.old result held.new (TellsImport (module_at (modules_of held.old) handle) place result import.old import.new) (import.new ≡ import.old) }
+{
+    let Some(kernel) = taken(held, alloc) else {
+        return NO_MACHINE;
+    };
+    let found = kernel.module_import(handle, place);
+    let end = end_at(&kernel, handle);
+    put_back(held, alloc, kernel);
+    told(end, found, import)
 }
 
 /// The first handle from a number on that names a module or a built-in.

@@ -173,10 +173,12 @@ static TTOP: &[u8] =
 
 /// Whether calls on modules, one after another, answer as they should.
 fn modules_answer(alloc: Global, held: &mut Held) -> bool {
-    let mut words = [0; 6];
+    let mut words = [0; 7];
     let mut far = [0; 2];
     let statuses = [
         w16_load_library(alloc, held, b"TTOP.DLL", &mut words[0]),
+        w16_module_import(alloc, held, 0x21, 0, &mut words[6]),
+        w16_module_import(alloc, held, 0x21, 1, &mut words[0]),
         w16_load_module(alloc, held, b"TTOP.DLL", &mut words[1]),
         w16_get_module_usage(alloc, held, 0x21, &mut words[2]),
         w16_free_library(alloc, held, 0x21, &mut words[3]),
@@ -185,7 +187,8 @@ fn modules_answer(alloc: Global, held: &mut Held) -> bool {
         w16_get_proc_address(alloc, held, 0x23, b"", 5, &mut far[0]),
         w16_get_proc_address(alloc, held, 0x23, b"GETA", 5, &mut far[1]),
     ];
-    statuses == [DONE; 8] && words == [0x21, 0x21, 2, 1, 0x22, 0x23] && far == [0x0023_0005, 0]
+    statuses == [DONE, DONE, END, DONE, DONE, DONE, DONE, DONE, DONE, DONE]
+        && (words == [0x21, 0x21, 2, 1, 0x22, 0x23, 0x22] && far == [0x0023_0005, 0])
 }
 
 /// Whether calls on a resource answer as they should, and the module that has it goes at the end.

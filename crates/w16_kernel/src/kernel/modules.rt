@@ -1,5 +1,5 @@
 //! Questions on modules that are loaded.
-ghost use Rattle.std.specs.Prelude.{◌≡◌, ◌+◌, ◌<◌, ◌≤◌, ℕ, IfNone, IfSome, IsSome, None, option_and_then, option_map};
+ghost use Rattle.std.specs.Prelude.{◌≡◌, ◌+◌, ◌<◌, ◌≤◌, ℕ, IfNone, IfSome, IsSome, None, option_and_then, option_map, slice_get};
 ghost use Rattle.std.specs.FinMap as finmap;
 ghost use Rattle.w16_ne.specs.Reading.{word_of};
 ghost use Rattle.w16_ne.specs.Modules.{Tables};
@@ -135,6 +135,15 @@ impl<S: Store + Drop, A: Allocator + Copy> Kernel<S, A> {
     {
         let loaded = self.library.registry.module(handle)?;
         Some(loaded.file())
+    }
+
+    /// The handle of the module or built-in that a reference of a module means, by its place from 0 in the file's table; none after the last, of a bad
+    /// handle and of a built-in.
+    pub fn module_import(&self, handle: u16, place: usize) -> Option<u16>
+        ensures { result ≡ option_and_then (λ m. slice_get m.imports place) (module_at self.now.loading.modules handle) }
+    {
+        let loaded = self.library.registry.module(handle)?;
+        loaded.imports().get(place).copied()
     }
 
     /// A name of an entry of a module, by its index from 0, in the order of its file's tables; none after the last, of a bad handle and of a built-in.
