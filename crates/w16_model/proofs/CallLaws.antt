@@ -9,7 +9,8 @@ use proofs.Common.{counts_moved, IsSame, IsUnmoved, IsLocked, IsUnlocked, IsFree
 use proofs.Heaps.{IsBlockOf, block_member, member_block, blocks_rise, keys_rise}
 use proofs.KeptHeaps.{bytes_in, inserted_other, taken_other}
 use proofs.CallOutcomes.{outcome, none_moved, reallocates}
-use proofs.{Gaps.Member, Starts.member_map, Discards.is_member-true, Discards.true-is_member, KeptHandles.put_bytes, KeptHandles.put_same, Housed.given, Housed.keeps, KeptRest.absents_rest, Naming.names_law, Naming.slot_in_handle, Reallocations.moves_law, Fewest.some_handle, ResizedHandles.found_some}
+use proofs.{Gaps.Member, Starts.member_map, Discards.is_member-true, Discards.true-is_member, KeptHandles.put_bytes, KeptHandles.put_same, Housed.given}
+use proofs.{Housed.keeps, KeptRest.absents_rest, Naming.names_law, Naming.slot_in_handle, Reallocations.moves_law, Fewest.some_handle, ResizedHandles.found_some}
 use Rattle.std.specs.List.{AllByRecursion as Each}
 use Rattle.w16_model.specs.Reallocation.{IsResized as IsObjectResized}
 use Rattle.std.specs.FinMap as finmap
