@@ -61,6 +61,9 @@ places_law honest format old new (C.OfResources command) reply m step = resource
 pub heaps_law : (honest : Type 0) → C.HeapsLaw honest
 heaps_law honest format old new command reply is m step = tables_stay old new is step.1 (places_law honest format old.loading new.loading command reply m step.0)
 
+abbrev IsAlike : C.World → C.World → ℕ → Type 0
+IsAlike old new slot = (C.kind_at new.loading.handles slot ≡ C.kind_at old.loading.handles slot) × (size_at new.loading.handles slot ≡ size_at old.loading.handles slot)
+
 -- A local call for which no heap may grow.
 pub local_places_law : C.LocalSamePlacesLaw
 local_places_law old new command reply is none step = by_frame (frame_law old new command reply is step)
@@ -75,15 +78,12 @@ local_places_law old new command reply is none step = by_frame (frame_law old ne
     rewritten at (Some before) None h = absurd h
     rewritten at (Some before) (Some after) h = (ap Some h.kind, sized after.bytes (length at.bytes) (C.IsSameOutside at.table.lo at.table.hi at.bytes) h.has ∙ sym (ap (option_map length) h.had))
 
-    abbrev IsAlike : ℕ → Type 0
-    IsAlike slot = (C.kind_at new.loading.handles slot ≡ C.kind_at old.loading.handles slot) × (size_at new.loading.handles slot ≡ size_at old.loading.handles slot)
-
     of_current : (slot : ℕ) (p : Option C.LocalHeap) → IsSomeAnd p (λ at. (at.slot ≡ slot) × IsSomeAnd (object_at old.loading.handles.heap slot) (λ before. IsSomeAnd (object_at new.loading.handles.heap slot) (C.IsRewritten at before)))
-        → IsAlike slot
+        → IsAlike old new slot
     of_current slot None h = absurd h
     of_current slot (Some at) h = rewritten at (object_at old.loading.handles.heap slot) (object_at new.loading.handles.heap slot) h.1
 
-    by_kept : (slot : ℕ) → C.IsObjectKept old new slot → IsAlike slot
+    by_kept : (slot : ℕ) → C.IsObjectKept old new slot → IsAlike old new slot
     by_kept slot (inl same) = (ap (option_map (λ o. o.kind)) same, ap (λ p. option_map length (bytes_in p)) same)
     by_kept slot (inr h) = of_current slot (C.current_heap old) h
 
