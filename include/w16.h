@@ -208,7 +208,7 @@ uint8_t w16_get_descriptor(w16 *machine, uint16_t selector, w16_descriptor *told
  * after a call by which descriptors may change:
  *     for (slot = 0; w16_next_changed(&machine, known, count, &slot) == W16_DONE; )
  * Such calls are w16_global_alloc, _free, _compact, _realloc and _discard, loads, calls that free modules, and those that load, lock and free
- * resources; far accesses that fetch; and w16_local_alloc and w16_local_realloc, by which a segment may grow. No other changes any. */
+ * resources; far accesses that fetch; and w16_local_alloc and w16_local_realloc, by which a segment may grow. No other changes any, as is proved. */
 uint8_t w16_next_changed(w16 *machine, w16_descriptor *known, size_t count, uint16_t *slot);
 
 /* Module files. They are kept in memory. A file's name is length bytes of text; letters of ASCII may differ in case. */

@@ -2,6 +2,7 @@ pub mod Absent
 pub mod Adding
 pub mod Asked
 pub mod Common
+pub mod Descriptors
 pub mod FarSteps
 pub mod Modules
 pub mod Refetching

@@ -1,0 +1,17 @@
+-- Which steps can change what a selector tells.
+use Rattle.std.specs.Prelude.{◌≡◌, ℕ, Bool, false}
+use Rattle.w16_global.specs.Peek.{selector_descriptor}
+use Rattle.w16_loading.specs.Replies.{Reply}
+use Rattle.w16_machine.specs.{Local.AreLocalHeaps, LocalLaw.may_grow, LocalStays.step_may_take, Machine.Command, World.World}
+use Rattle.w16_machine.specs.Machine.Command.{OfLoading, OfLocals}
+use Rattle.w16_kernel.specs.Parts.{KernelStep}
+
+-- those that may take bytes of an object, or free, load or fetch one, and local calls for which a heap may grow
+pub may_change_descriptors : World → Command → Bool
+may_change_descriptors old (OfLoading command) = step_may_take old.loading command
+may_change_descriptors old (OfLocals command) = may_grow command
+
+-- Any other leaves what each selector tells.
+abbrev pub DescriptorsLaw : Type 0 → Type 0
+DescriptorsLaw honest = (old new : World) (command : Command) (reply : Reply) → AreLocalHeaps old → may_change_descriptors old command ≡ false → KernelStep honest old command reply new
+    → (selector : ℕ) → selector_descriptor new.loading.handles selector ≡ selector_descriptor old.loading.handles selector
