@@ -9,7 +9,7 @@ last_used a b lo hi (h ∷ hs) lt holes used =
     let some = holes.1 in
     let rest = last_used a b (suc h.to) hi hs lt holes.3 used.1 in
     elim used.0 [
-      | inl before ↦ rw (lt-ltb h.from a (omega arith), lt-ltb h.from b (omega arith)) (ap (λ (o : Option ℕ). Some (unwrap_or o h.from)) rest)
+      | inl before ↦ rw (lt-ltb h.from a (omega arith), lt-ltb h.from b (omega arith)) (ap (λ o. Some (unwrap_or o h.from)) rest)
       | inr behind ↦ rw (le-ltb h.from a (omega arith), le-ltb h.from b behind) rest
     ]
 
@@ -27,14 +27,14 @@ pub hole_of : (a b lo hi : ℕ) (hs : List Span) → a < b → AreHoles lo hi hs
 hole_of a b lo hi [] lt holes free = absurd free
 hole_of a b lo hi (h ∷ hs) lt holes (inl here) =
     let from = here.0 in let to = here.1 in
-    let is : last_before b (h ∷ hs) ≡ Some h.from = last_first b h hs (omega arith) (last_none b (suc h.to) hi hs (omega arith) holes.3) in
+    let is = last_first b h hs (omega arith) (last_none b (suc h.to) hi hs (omega arith) holes.3) in
     elim (eqb_tells h.from a) [
-      | inl same ↦ record { begins = λ _. is ∙ ap (λ (n : ℕ). Some n) same.1; other = λ none. let z : h.to - h.from ≡ 0 = rw same.0 at none in absurd (omega arith) }
+      | inl same ↦ record { begins = λ _. is ∙ ap (λ n. Some n) same.1; other = λ none. let z = rw same.0 at none in absurd (omega arith) }
       | inr other ↦
           let apart = other.1 in
           let less : h.from < a = elim (cases_lt h.from a) [ inl lt ↦ lt | inr le ↦ absurd (apart (omega arith)) ] in
           record {
-            begins = λ has. let rest : 0 < length_at a hs = rw other.0 at has in let z = at_none a (suc h.to) hi hs (omega arith) holes.3 in absurd (omega arith);
+            begins = λ has. let rest = rw other.0 at has in let z = at_none a (suc h.to) hi hs (omega arith) holes.3 in absurd (omega arith);
             other = λ _. is ∙ sym (last_first a h hs less (last_none a (suc h.to) hi hs (omega arith) holes.3));
           }
     ]
@@ -46,6 +46,6 @@ hole_of a b lo hi (h ∷ hs) lt holes (inr there) =
       | inl same ↦ let e = same.1 in absurd (omega arith)
       | inr other ↦ record {
         begins = λ has. last_cons b a h hs (omega arith) (rest.begins (rw other.0 at has));
-        other = λ none. rw (lt-ltb h.from a (omega arith), lt-ltb h.from b (omega arith)) (ap (λ (o : Option ℕ). Some (unwrap_or o h.from)) (rest.other (rw other.0 at none)));
+        other = λ none. rw (lt-ltb h.from a (omega arith), lt-ltb h.from b (omega arith)) (ap (λ o. Some (unwrap_or o h.from)) (rest.other (rw other.0 at none)));
       }
     ]

@@ -14,19 +14,19 @@ add_zero u m ss e = add_none u (u + m) ss (omega arith)
 
 pub IsApart-tail : (g m : ℕ) (ms : List ℕ) → IsApart g (m ∷ ms) → IsApart g ms
 IsApart-tail g m ms apart = record {
-  apart = λ k j some lt other. let r : g * suc k + slice_index ms k < g * suc j = apart.apart (suc k) (suc j) some (omega arith) other in omega arith;
+  apart = λ k j some lt other. let r = apart.apart (suc k) (suc j) some (omega arith) other in omega arith;
 }
 
 -- the first hole ends before another begins
 first_below : (g m k : ℕ) (ms : List ℕ) → IsApart g (m ∷ ms) → 0 < m → 0 < slice_index ms k → m < g + g * k
-first_below g m k ms apart some other = let r : g * 0 + m < g * suc k = apart.apart 0 (suc k) some (omega arith) other in omega arith
+first_below g m k ms apart some other = let r = apart.apart 0 (suc k) some (omega arith) other in omega arith
 
 -- a cell set before all others
 spans-set_first : (g : ℕ) (ms : List ℕ) (v i r : ℕ) → i < length ms → ((j : ℕ) → j ≤ i → slice_index ms j ≡ 0) → spans g v (set ms i r) ≡ add_span (v + g * i) (v + g * i + r) (spans g v ms)
 spans-set_first g [] v i r lt none = absurd (omega arith)
 spans-set_first g (m ∷ ms) v zero r lt none = let e : v + g * 0 ≡ v = omega arith in rw e (ap (add_span v (v + r)) (sym (add_zero v m (spans g (v + g) ms) (none 0 (omega arith)))))
 spans-set_first g (m ∷ ms) v (suc i) r lt none =
-    let z : m ≡ 0 = none 0 (omega arith) in
+    let z = none 0 (omega arith) in
     let e : v + g * suc i ≡ v + g + g * i = omega arith in
     rw e (add_zero v m (spans g (v + g) (set ms i r)) z ∙ spans-set_first g ms (v + g) i r (omega arith) (λ j le. none (suc j) (omega arith))
     ∙ ap (add_span (v + g + g * i) (v + g + g * i + r)) (sym (add_zero v m (spans g (v + g) ms) z)))
@@ -90,10 +90,10 @@ joined_before g [] v a b le far = refl
 joined_before g (m ∷ ms) v a b le far =
     elim (cases_lt 0 m) [
       | inl some ↦
-          let r : b < v + g * 0 = far 0 some in
+          let r = far 0 some in
           rw (add_some v (v + m) (spans g (v + g) ms) (omega arith), le-ltb (v + m) a (omega arith), lt-ltb b v (omega arith)) refl
       | inr none ↦
-          rw (add_none v (v + m) (spans g (v + g) ms) (omega arith)) (joined_before g ms (v + g) a b le (λ j has. let r : b < v + g * suc j = far (suc j) has in omega arith))
+          rw (add_none v (v + m) (spans g (v + g) ms) (omega arith)) (joined_before g ms (v + g) a b le (λ j has. let r = far (suc j) has in omega arith))
     ]
 
 -- up to a place where a hole may begin, before all others
@@ -103,7 +103,7 @@ joined_first g wide [] v i a apart le none = let e : v + g * i + 0 ≡ v + g * i
 joined_first g wide (m ∷ ms) v zero a apart le none =
     let e : v + g * 0 ≡ v = omega arith in
     let f : v + 0 ≡ v = omega arith in
-    let off : add_span v v (spans g (v + g) ms) ≡ spans g (v + g) ms = add_none v v (spans g (v + g) ms) (omega arith) in
+    let off = add_none v v (spans g (v + g) ms) (omega arith) in
     rw (e, f, off) (elim (cases_lt 0 m) [
       | inl some ↦
           let h : min a v ≡ a = omega arith in
@@ -115,7 +115,7 @@ joined_first g wide (m ∷ ms) v zero a apart le none =
           rw (add_none v (v + m) (spans g (v + g) ms) (omega arith), z) (joined_before g ms (v + g) a v le (λ j has. omega arith))
     ])
 joined_first g wide (m ∷ ms) v (suc i) a apart le none =
-    let z : m ≡ 0 = none 0 (omega arith) in
+    let z = none 0 (omega arith) in
     let e : v + g * suc i ≡ v + g + g * i = omega arith in
     rw (e, add_zero v m (spans g (v + g) ms) z, add_zero v m (spans g (v + g) (set ms i 0)) z)
     (joined_first g wide ms (v + g) i a (IsApart-tail g m ms apart) (omega arith) (λ j lt. none (suc j) (omega arith)))
@@ -147,9 +147,9 @@ joined_is g wide (m ∷ ms) u (suc k) p (suc q) apart inside from some here belo
     let f : u + p ≡ u + g + (p - g) = omega arith in
     let h : u + g * suc q ≡ u + g + g * q = omega arith in
     let ih = joined_is g wide ms (u + g) k (p - g) q (IsApart-tail g m ms apart) (omega arith) (omega arith) (omega arith) (omega arith)
-    (λ j lt has. let r : g * suc j + slice_index ms j < p = below (suc j) (omega arith) has in omega arith)
+    (λ j lt has. let r = below (suc j) (omega arith) has in omega arith)
     (λ j lt to. none (suc j) (omega arith) (omega arith)) in
-    rw (e, f, h) (ap (add_span u (u + m)) ih ∙ sym (joined_pass (u + g + (p - g)) (u + g + g * q) u m (spans g (u + g) ms) (λ has. let r : g * 0 + m < p = below 0 (omega arith) has in omega arith)))
+    rw (e, f, h) (ap (add_span u (u + m)) ih ∙ sym (joined_pass (u + g + (p - g)) (u + g + g * q) u m (spans g (u + g) ms) (λ has. let r = below 0 (omega arith) has in omega arith)))
 
 -- a cell changed
 module _ (g : ℕ) (ns : List ℕ) (k x : ℕ) (lt : k < length ns) where

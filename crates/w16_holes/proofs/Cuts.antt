@@ -55,17 +55,17 @@ cut_taken lo hi a b (h ∷ hs) some holes (inr rest) =
       c.1,
       c.2,
       record {
-        whole = ap (λ (l : List Span). h ∷ l) is.whole;
+        whole = ap (λ l. h ∷ l) is.whole;
         low = let first = holes.0 in omega arith;
         from = is.from;
         to = is.to;
         high = is.high;
         below = (holes.0, has, omega arith, is.below);
         above = is.above;
-        left = rw (le-ltb a h.to (omega arith)) (ap (λ (l : List Span). h ∷ l) is.left);
+        left = rw (le-ltb a h.to (omega arith)) (ap (λ l. h ∷ l) is.left);
         at = last_cons b c.1.from h hs (omega arith) is.at;
         inside = λ lt. last_cons a c.1.from h hs (omega arith) (is.inside lt);
-        begins = λ e. rw (lt-ltb h.from a (omega arith)) (ap (λ (o : Option ℕ). Some (unwrap_or o h.from)) (is.begins e));
+        begins = λ e. rw (lt-ltb h.from a (omega arith)) (ap (λ o. Some (unwrap_or o h.from)) (is.begins e));
       },
     )
 
@@ -245,7 +245,7 @@ put_behind lo hi a b h hs some top e holes rest =
       c.1,
       h ∷ c.2,
       record {
-        whole = ap (λ (l : List Span). h ∷ l) is.whole;
+        whole = ap (λ l. h ∷ l) is.whole;
         low = holes.0;
         below = omega arith;
         above = is.from;
@@ -258,7 +258,7 @@ put_behind lo hi a b h hs some top e holes rest =
           | inl alone ↦ inl alone.0
           | inr hole ↦ inr (inr hole)
         ];
-        ending = rw (eq-eqb h.to a e) (ap (λ (n : ℕ). n - h.from) e);
+        ending = rw (eq-eqb h.to a e) (ap (λ n. n - h.from) e);
         at = at_later b h hs (omega arith) ∙ is.at;
         next = rw (le-ltb b h.from (omega arith)) is.next;
       },
@@ -286,16 +286,16 @@ cut_put lo hi a b (h ∷ hs) some low top holes used =
               c.3,
               c.4,
               record {
-                whole = ap (λ (l : List Span). h ∷ l) is.whole;
+                whole = ap (λ l. h ∷ l) is.whole;
                 low = let first = holes.0 in omega arith;
                 below = is.below;
                 above = is.above;
                 high = is.high;
                 lower = (holes.0, has, omega arith, is.lower);
                 higher = is.higher;
-                made = rw (lt-ltb h.to a apart) (ap (λ (l : List Span). h ∷ l) is.made);
+                made = rw (lt-ltb h.to a apart) (ap (λ l. h ∷ l) is.made);
                 begin = elim is.begin [
-                  | inl alone ↦ inl (alone.0, rw (lt-ltb h.from a (omega arith)) (ap (λ (o : Option ℕ). Some (unwrap_or o h.from)) alone.1))
+                  | inl alone ↦ inl (alone.0, rw (lt-ltb h.from a (omega arith)) (ap (λ o. Some (unwrap_or o h.from)) alone.1))
                   | inr hole ↦ inr (hole.0, inr hole.1, last_cons a c.1 h hs (omega arith) hole.2, hole.3)
                 ];
                 end = elim is.end [

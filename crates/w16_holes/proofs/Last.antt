@@ -7,9 +7,9 @@ use Rattle.w16_holes.proofs.Told.{IsLastOf, last_told}
 before_none : (g : ℕ) (ns : List ℕ) (u a : ℕ) → ((j : ℕ) → 0 < slice_index ns j → a ≤ u + g * j) → last_before a (spans g u ns) ≡ None
 before_none g [] u a from = refl
 before_none g (m ∷ ms) u a from =
-    let rest : last_before a (spans g (u + g) ms) ≡ None = before_none g ms (u + g) a (λ j has. let r : a ≤ u + g * suc j = from (suc j) has in omega arith) in
+    let rest = before_none g ms (u + g) a (λ j has. let r = from (suc j) has in omega arith) in
     elim (cases_lt u (u + m)) [
-      | inl lt ↦ let first : a ≤ u + g * 0 = from 0 (omega arith) in rw (lt-ltb u (u + m) lt, le-ltb u a (omega arith)) rest
+      | inl lt ↦ let first = from 0 (omega arith) in rw (lt-ltb u (u + m) lt, le-ltb u a (omega arith)) rest
       | inr le ↦ rw (le-ltb u (u + m) le) rest
     ]
 
@@ -18,17 +18,17 @@ before_some : (g : ℕ) (ns : List ℕ) (u k a : ℕ) → 0 < slice_index ns k �
 before_some g [] u k a has lt from = absurd (omega arith)
 before_some g (m ∷ ms) u zero a has lt from =
     let e : u ≡ u + g * 0 = omega arith in
-    let rest : last_before a (spans g (u + g) ms) ≡ None = before_none g ms (u + g) a (λ j other. let r : a ≤ u + g * suc j = from (suc j) (omega arith) other in omega arith) in
-    rw (lt-ltb u (u + m) (omega arith), lt-ltb u a (omega arith), rest) (ap (λ (n : ℕ). Some n) e)
+    let rest = before_none g ms (u + g) a (λ j other. let r = from (suc j) (omega arith) other in omega arith) in
+    rw (lt-ltb u (u + m) (omega arith), lt-ltb u a (omega arith), rest) (ap (λ n. Some n) e)
 before_some g (m ∷ ms) u (suc k) a has lt from =
     let e : u + g + g * k ≡ u + g * suc k = omega arith in
-    let rest : last_before a (spans g (u + g) ms) ≡ Some (u + g + g * k) = before_some g ms (u + g) k a has (omega arith) (λ j more other. let r : a ≤ u + g * suc j = from (suc j) (omega arith) other in omega arith) in
+    let rest = before_some g ms (u + g) k a has (omega arith) (λ j more other. let r = from (suc j) (omega arith) other in omega arith) in
     elim (cases_lt u (u + m)) [
-      | inl some ↦ rw (lt-ltb u (u + m) some, lt-ltb u a (omega arith), rest) (ap (λ (n : ℕ). Some n) e)
-      | inr none ↦ rw (le-ltb u (u + m) none) (rest ∙ ap (λ (n : ℕ). Some n) e)
+      | inl some ↦ rw (lt-ltb u (u + m) some, lt-ltb u a (omega arith), rest) (ap (λ n. Some n) e)
+      | inr none ↦ rw (le-ltb u (u + m) none) (rest ∙ ap (λ n. Some n) e)
     ]
 
-last_of : (g u q a : ℕ) (ns : List ℕ) (r : Option ℕ) → 0 < g → u + g * q ≡ a → IsLastOf ns q r → option_map (λ (k : ℕ). u + g * k) r ≡ last_before a (spans g u ns)
+last_of : (g u q a : ℕ) (ns : List ℕ) (r : Option ℕ) → 0 < g → u + g * q ≡ a → IsLastOf ns q r → option_map (λ k. u + g * k) r ≡ last_before a (spans g u ns)
 last_of g u q a ns (Some k) wide at told =
     let less = above g k q told.0 in
     sym (before_some g ns u k a told.1 (omega arith) (λ j more has. elim (cases_lt j q) [
@@ -40,32 +40,32 @@ last_of g u q a ns None wide at told = sym (before_none g ns u a (λ j has. elim
   | inr from ↦ let r = up g q j from in omega arith
 ]))
 
-pub last_is : (g u q a : ℕ) (ns : List ℕ) (r : Option ℕ) → 0 < g → u + g * q ≡ a → r ≡ last_below ns q → option_map (λ (k : ℕ). u + g * k) r ≡ last_before a (spans g u ns)
+pub last_is : (g u q a : ℕ) (ns : List ℕ) (r : Option ℕ) → 0 < g → u + g * q ≡ a → r ≡ last_below ns q → option_map (λ k. u + g * k) r ≡ last_before a (spans g u ns)
 last_is g u q a ns r wide at is = last_of g u q a ns r wide at (subst (IsLastOf ns q) (sym is) (last_told ns q))
 
 -- it begins below
 pub last_lower : (g : ℕ) (ns : List ℕ) (q k : ℕ) → Some k ≡ last_below ns q → g * k ≤ g * q
 last_lower g ns q k is =
-    let told : IsLastOf ns q (Some k) = subst (IsLastOf ns q) (sym is) (last_told ns q) in
+    let told = subst (IsLastOf ns q) (sym is) (last_told ns q) in
     let lt = told.0 in up g k q (omega arith)
 
 -- a place has one cell
-one_cell : (g u : ℕ) (r s : Option ℕ) → 0 < g → option_map (λ (k : ℕ). u + g * k) r ≡ option_map (λ (k : ℕ). u + g * k) s → r ≡ s
+one_cell : (g u : ℕ) (r s : Option ℕ) → 0 < g → option_map (λ k. u + g * k) r ≡ option_map (λ k. u + g * k) s → r ≡ s
 one_cell g u None None wide e = refl
 one_cell g u None (Some j) wide e = absurd (none-some (u + g * j) e)
 one_cell g u (Some k) None wide e = absurd (none-some (u + g * k) (sym e))
 one_cell g u (Some k) (Some j) wide e =
-    let same : u + g * k ≡ u + g * j = same_Some (u + g * k) (u + g * j) e in
+    let same = same_Some (u + g * k) (u + g * j) e in
     let le = at_most g k j wide (omega arith) in let ge = at_most g j k wide (omega arith) in
-    let is : k ≡ j = omega arith in ap (λ (n : ℕ). Some n) is
+    let is : k ≡ j = omega arith in ap (λ n. Some n) is
 
 -- the last hole below a place, told by its cell
-pub last_cell : (g u q a : ℕ) (ns : List ℕ) (r : Option ℕ) → 0 < g → u + g * q ≡ a → option_map (λ (k : ℕ). u + g * k) r ≡ last_before a (spans g u ns) → r ≡ last_below ns q
+pub last_cell : (g u q a : ℕ) (ns : List ℕ) (r : Option ℕ) → 0 < g → u + g * q ≡ a → option_map (λ k. u + g * k) r ≡ last_before a (spans g u ns) → r ≡ last_below ns q
 last_cell g u q a ns r wide at is = one_cell g u r (last_below ns q) wide (is ∙ sym (last_is g u q a ns (last_below ns q) wide at refl))
 
 -- a cell more
 pub last_here : (ns : List ℕ) (i : ℕ) → 0 < slice_index ns i → Some i ≡ last_below ns (i + 1)
-last_here ns i has = let e : suc i ≡ i + 1 = omega arith in subst (λ (n : ℕ). Some i ≡ last_below ns n) e (rw (lt-ltb 0 (slice_index ns i) has) refl)
+last_here ns i has = let e : suc i ≡ i + 1 = omega arith in subst (λ n. Some i ≡ last_below ns n) e (rw (lt-ltb 0 (slice_index ns i) has) refl)
 
 pub last_lower_down : (ns : List ℕ) (i : ℕ) → slice_index ns i ≤ 0 → last_below ns i ≡ last_below ns (i + 1)
-last_lower_down ns i none = let e : suc i ≡ i + 1 = omega arith in subst (λ (n : ℕ). last_below ns i ≡ last_below ns n) e (rw (le-ltb 0 (slice_index ns i) none) refl)
+last_lower_down ns i none = let e : suc i ≡ i + 1 = omega arith in subst (λ n. last_below ns i ≡ last_below ns n) e (rw (le-ltb 0 (slice_index ns i) none) refl)

@@ -36,7 +36,7 @@ first_small lo hi (h ∷ hs) small holes = let some = holes.1 in let to = holes.
 between : (lo mid hi from to : ℕ) (front back : List Span) (bytes : List ℕ) → IsMultiple 8 from → IsMultiple 8 to → from < to → to ≤ length bytes → mid ≤ from → to ≤ hi → hi < 2 ^ 32 → AreHoles lo mid front → AreHoles (suc to) hi back
     → IsThread from front bytes → IsThread no_hole back bytes → AreThreaded (front ++ record { from = from; to = to } ∷ back) (put_words bytes from (to - from) (first_of no_hole back))
 between lo mid hi from to front back bytes low_8 high_8 some inside low top small lower higher linked rest =
-    let next : ℕ = first_of no_hole back in
+    let next = first_of no_hole back in
     let wide = room from to low_8 high_8 some in
     let kept = kept_words bytes from (to - from) next (omega arith) in
     thread_join no_hole front (record { from = from; to = to } ∷ back) (put_words bytes from (to - from) next)
@@ -263,7 +263,7 @@ hole_words : (end from to : ℕ) (hs : List Span) (bytes : List ℕ) → HasHole
 hole_words end from to [] bytes has thread = absurd has
 hole_words end from to (h ∷ hs) bytes (inl is) thread =
     let words = thread.0 in
-    (subst (IsMultiple 8) is.0 words.low, subst (IsMultiple 8) is.1 words.high, subst (λ (n : ℕ). n ≤ length bytes) is.1 words.inside)
+    (subst (IsMultiple 8) is.0 words.low, subst (IsMultiple 8) is.1 words.high, subst (λ n. n ≤ length bytes) is.1 words.inside)
 hole_words end from to (h ∷ hs) bytes (inr rest) thread = hole_words end from to hs bytes rest thread.1
 
 -- [a, b) is put, and makes a hole [from, to)
@@ -375,7 +375,7 @@ place_behind {r} {a} {n} part = let from = part.from in record {
 }
 
 pub multiple_of_8 : (g a : ℕ) → IsMultiple 8 g → IsMultiple g a → IsMultiple 8 a
-multiple_of_8 g a wide grained = (wide.0 * grained.0, grained.1 ∙ ap (λ (n : ℕ). n * grained.0) wide.1 ∙ C.mul_assoc 8 wide.0 grained.0)
+multiple_of_8 g a wide grained = (wide.0 * grained.0, grained.1 ∙ ap (λ n. n * grained.0) wide.1 ∙ C.mul_assoc 8 wide.0 grained.0)
 
 some_of : {r : Range} {a n : ℕ} → C.IsPart r a n → a < a + n
 some_of part = let has = part.some in omega arith
@@ -397,10 +397,10 @@ pub record Asked (Is : ℕ → ℕ → List Span → Type 0) (r : Range) (hs : L
 pub asked : (Is : ℕ → ℕ → List Span → Type 0) (bytes : List ℕ) {f now : C.Free} {a n : ℕ} → f ≡ now → C.HasRoom f.range → AreHoles f.range.lo f.range.hi f.holes → C.IsPart now.range a n → AreThreaded now.holes bytes → Is a (a + n) now.holes → Asked Is f.range f.holes bytes a n
 asked Is bytes {f} {now} {a} {n} same roomy holes part thread is = record {
   roomy = roomy;
-  part = subst (λ (g : C.Free). C.IsPart g.range a n) (sym same) part;
+  part = subst (λ g. C.IsPart g.range a n) (sym same) part;
   holes = holes;
-  thread = subst (λ (g : C.Free). AreThreaded g.holes bytes) (sym same) thread;
-  is = subst (λ (g : C.Free). Is a (a + n) g.holes) (sym same) is;
+  thread = subst (λ g. AreThreaded g.holes bytes) (sym same) thread;
+  is = subst (λ g. Is a (a + n) g.holes) (sym same) is;
 }
 
 module _ {r : Range} {hs : List Span} {bytes : List ℕ} {a n : ℕ} (p : Asked IsFree r hs bytes a n) where

@@ -5,7 +5,7 @@ use proofs.Common.{ℕ, zero, suc, ◌≡◌, ◌≢◌, ◌<◌, ◌≤◌, ◌
 use proofs.{Units.up, Change.IsApart-tail}
 
 -- the lowest hole of n bytes, or of one
-lowest_from : (g lo n : ℕ) (ns : List ℕ) (i : ℕ) → C.option_map (λ (k : ℕ). lo + g * k) (C.position_from (nat_le (max n 1)) i ns) ≡ C.lowest n (spans g (lo + g * i) ns)
+lowest_from : (g lo n : ℕ) (ns : List ℕ) (i : ℕ) → C.option_map (λ k. lo + g * k) (C.position_from (nat_le (max n 1)) i ns) ≡ C.lowest n (spans g (lo + g * i) ns)
 lowest_from g lo n [] i = refl
 lowest_from g lo n (m ∷ ms) i =
     let u = lo + g * i in
@@ -20,7 +20,7 @@ lowest_from g lo n (m ∷ ms) i =
       | inr long ↦ let lt : lo + g * i < lo + g * i + m = omega arith in rw (lt-ltb (lo + g * i) (lo + g * i + m) lt, f, C.le-leb n m (omega arith), C.le-leb (max n 1) m long) refl
     ]
 
-pub lowest_is : (g lo n : ℕ) (ns : List ℕ) → C.option_map (λ (k : ℕ). lo + g * k) (C.position (nat_le (max n 1)) ns) ≡ C.lowest n (spans g lo ns)
+pub lowest_is : (g lo n : ℕ) (ns : List ℕ) → C.option_map (λ k. lo + g * k) (C.position (nat_le (max n 1)) ns) ≡ C.lowest n (spans g lo ns)
 lowest_is g lo n ns =
     let e : lo + g * 0 ≡ lo = omega arith in
     rw (C.position_from-zero (nat_le (max n 1)) ns) (rw e at (lowest_from g lo n ns 0))
@@ -29,7 +29,7 @@ lowest_is g lo n ns =
 pub lowest_inside : (g size n : ℕ) (ns : List ℕ) (k : ℕ) → Some k ≡ C.position (nat_le (max n 1)) ns → C.IsInside g size ns → g * k < size
 lowest_inside g size n ns k is inside =
     let told = C.position-Some (nat_le (max n 1)) ns k 0 (sym is) in
-    let long : max n 1 ≤ slice_index ns k = C.leb-true (max n 1) (slice_index ns k) told.1 in
+    let long = C.leb-true (max n 1) (slice_index ns k) told.1 in
     let r = inside.inside k (omega arith) in omega arith
 
 longest_from : (g : ℕ) (ns : List ℕ) (u a : ℕ) → fold max a ns ≡ fold max a (map C.size_of (spans g u ns))
@@ -52,15 +52,15 @@ are_holes_from g (m ∷ ms) u low top apart from to =
     let rest : (j : ℕ) → 0 < slice_index ms j → u + g + g * j + slice_index ms j ≤ top = λ j has. let r : u + g * suc j + slice_index ms j ≤ top = to (suc j) has in omega arith in
     elim (cases_lt u (u + m)) [
       | inl lt ↦
-          let first : low ≤ u + g * 0 = from 0 (omega arith) in
-          let end : u + g * 0 + m ≤ top = to 0 (omega arith) in
+          let first = from 0 (omega arith) in
+          let end = to 0 (omega arith) in
           rw (lt-ltb u (u + m) lt) (
             omega arith,
             lt,
             omega arith,
-            are_holes_from g ms (u + g) (suc (u + m)) top (IsApart-tail g m ms apart) (λ j has. let r : g * 0 + m < g * suc j = apart.apart 0 (suc j) (omega arith) (omega arith) has in omega arith) rest,
+            are_holes_from g ms (u + g) (suc (u + m)) top (IsApart-tail g m ms apart) (λ j has. let r = apart.apart 0 (suc j) (omega arith) (omega arith) has in omega arith) rest,
           )
-      | inr le ↦ rw (le-ltb u (u + m) le) (are_holes_from g ms (u + g) low top (IsApart-tail g m ms apart) (λ j has. let r : low ≤ u + g * suc j = from (suc j) has in omega arith) rest)
+      | inr le ↦ rw (le-ltb u (u + m) le) (are_holes_from g ms (u + g) low top (IsApart-tail g m ms apart) (λ j has. let r = from (suc j) has in omega arith) rest)
     ]
 
 pub are_holes : (g : ℕ) (ns : List ℕ) (lo hi : ℕ) → lo ≤ hi → IsApart g ns → C.IsInside g (hi - lo) ns → C.AreHoles lo hi (spans g lo ns)
@@ -97,7 +97,7 @@ at_is g wide (m ∷ ms) u (suc j) a e = elim (cases_lt u (u + m)) [
 to_none : (g : ℕ) (ns : List ℕ) (u a : ℕ) → ((j : ℕ) → 0 < slice_index ns j → u + g * j + slice_index ns j ≢ a) → length_to a (spans g u ns) ≡ 0
 to_none g [] u a differ = refl
 to_none g (m ∷ ms) u a differ =
-    let rest : length_to a (spans g (u + g) ms) ≡ 0 = to_none g ms (u + g) a (λ j has e. differ (suc j) has (omega arith)) in
+    let rest = to_none g ms (u + g) a (λ j has e. differ (suc j) has (omega arith)) in
     elim (cases_lt u (u + m)) [
       | inl some ↦ elim (eqb_tells (u + m) a) [
         | inl same ↦ let r = same.1 in absurd (differ 0 (omega arith) (omega arith))
@@ -112,10 +112,10 @@ to_some g (m ∷ ms) u zero a apart has e =
     let f : u + m - u ≡ m = omega arith in
     rw (lt-ltb u (u + m) (omega arith), C.eq-eqb (u + m) a (omega arith), f) refl
 to_some g (m ∷ ms) u (suc k) a apart has e =
-    let rest : length_to a (spans g (u + g) ms) ≡ slice_index ms k = to_some g ms (u + g) k a (IsApart-tail g m ms apart) has (omega arith) in
+    let rest = to_some g ms (u + g) k a (IsApart-tail g m ms apart) has (omega arith) in
     elim (cases_lt u (u + m)) [
       | inl some ↦ elim (eqb_tells (u + m) a) [
-        | inl same ↦ let r = same.1 in let s : g * 0 + m < g * suc k = apart.apart 0 (suc k) (omega arith) (omega arith) has in absurd (omega arith)
+        | inl same ↦ let r = same.1 in let s = apart.apart 0 (suc k) (omega arith) (omega arith) has in absurd (omega arith)
         | inr other ↦ rw (lt-ltb u (u + m) some, other.0) rest
       ]
       | inr none ↦ rw (le-ltb u (u + m) none) rest
@@ -125,7 +125,7 @@ pub to_is : (g u : ℕ) (ns : List ℕ) (a p k : ℕ) → u + g * p ≡ a → Is
 to_is g u ns a p k at apart begin = elim begin [
   | inl ends ↦ let e = ends.2 in let r = to_some g ns u k a apart ends.1 (omega arith) in omega arith
   | inr is ↦
-      let e = ap (λ (n : ℕ). g * n) is.0 in
+      let e = ap (λ n. g * n) is.0 in
       let r = to_none g ns u a (λ j has f. elim (cases_lt j p) [
         | inl lt ↦ elim (is.1 j lt has) [
           | inl less ↦ omega arith

@@ -13,12 +13,12 @@ next_at p lo hi (h ∷ hs) bytes holes thread has =
     let some = holes.1 in
     elim (eqb_tells h.from p) [
       | inl same ↦
-          let e : h.from ≡ p = same.1 in
+          let e = same.1 in
           let fits = room h.from h.to words.low words.high words.some in
           let inside = words.inside in
-          (omega arith, rw (le-ltb p h.from (omega arith)) (ap (λ (n : ℕ). word_in bytes (n + 4)) (sym e) ∙ words.link ∙ sym (next_first p (suc h.to) hi hs (omega arith) holes.3)))
+          (omega arith, rw (le-ltb p h.from (omega arith)) (ap (λ n. word_in bytes (n + 4)) (sym e) ∙ words.link ∙ sym (next_first p (suc h.to) hi hs (omega arith) holes.3)))
       | inr other ↦
-          let rest : 0 < length_at p hs = rw (other.0) at has in
+          let rest = rw (other.0) at has in
           elim (cases_lt p (suc h.to)) [
             | inl low ↦ let z = at_none p (suc h.to) hi hs low holes.3 in absurd (omega arith)
             | inr high ↦ rw (le-ltb p h.from (omega arith)) (next_at p (suc h.to) hi hs bytes holes.3 thread.1 rest)
@@ -60,13 +60,13 @@ next_below p k lo hi (h ∷ hs) bytes holes thread none is =
       | inr from ↦ absurd (none-some k (sym (last_none p h.from hi (h ∷ hs) from (omega arith, some, holes.2, holes.3)) ∙ sym is))
       | inl lt ↦ elim (known (last_before p hs)) [
         | inl last ↦
-            let e : k ≡ h.from = same_Some k h.from (is ∙ last_first p h hs lt last) in
+            let e = same_Some k h.from (is ∙ last_first p h hs lt last) in
             let fits = room h.from h.to words.low words.high words.some in
             let inside = words.inside in
-            (omega arith, rw (le-ltb p h.from (omega arith)) (ap (λ (n : ℕ). word_in bytes (n + 4)) e ∙ words.link ∙ sym (next_none p (suc h.to) hi hs holes.3 other.0 last)))
+            (omega arith, rw (le-ltb p h.from (omega arith)) (ap (λ n. word_in bytes (n + 4)) e ∙ words.link ∙ sym (next_none p (suc h.to) hi hs holes.3 other.0 last)))
         | inr later ↦
-            let e : k ≡ later.0 = same_Some k later.0 (is ∙ last_cons p later.0 h hs lt later.1) in
-            rw (le-ltb p h.from (omega arith)) (next_below p k (suc h.to) hi hs bytes holes.3 thread.1 other.0 (ap (λ (n : ℕ). Some n) e ∙ sym later.1))
+            let e = same_Some k later.0 (is ∙ last_cons p later.0 h hs lt later.1) in
+            rw (le-ltb p h.from (omega arith)) (next_below p k (suc h.to) hi hs bytes holes.3 thread.1 other.0 (ap (λ n. Some n) e ∙ sym later.1))
       ]
     ]
 

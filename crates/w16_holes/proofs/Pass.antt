@@ -14,7 +14,7 @@ cell_free g [] u j some = absurd (omega arith)
 cell_free g (n ∷ ns) u zero some = rw (C.lt-ltb u (u + n) (omega arith)) (inl (omega arith, omega arith))
 cell_free g (n ∷ ns) u (suc j) some =
     let e : u + g + g * j ≡ u + g * suc j = omega arith in
-    let rest = subst (λ (a : ℕ). IsFree a (a + slice_index ns j) (spans g (u + g) ns)) e (cell_free g ns (u + g) j some) in
+    let rest = subst (λ a. IsFree a (a + slice_index ns j) (spans g (u + g) ns)) e (cell_free g ns (u + g) j some) in
     elim (cases_lt u (u + n)) [
       | inl lt ↦ rw (C.lt-ltb u (u + n) lt) (inr rest)
       | inr le ↦ rw (C.le-ltb u (u + n) le) rest

@@ -13,12 +13,12 @@ sets_apart [] i j x y other = refl
 sets_apart (n ∷ ns) zero zero x y other = absurd (other refl)
 sets_apart (n ∷ ns) zero (suc j) x y other = refl
 sets_apart (n ∷ ns) (suc i) zero x y other = refl
-sets_apart (n ∷ ns) (suc i) (suc j) x y other = ap (λ (l : List ℕ). n ∷ l) (sets_apart ns i j x y (λ e. other (ap (λ (k : ℕ). suc k) e)))
+sets_apart (n ∷ ns) (suc i) (suc j) x y other = ap (λ l. n ∷ l) (sets_apart ns i j x y (λ e. other (ap (λ k. suc k) e)))
 
 -- two cells set, in other words
 pub two_sets : (ns one two : List ℕ) (i j x y v w : ℕ) → one ≡ set ns i x → two ≡ set one j y → x ≡ v → y ≡ w → two ≡ set (set ns i v) j w
 two_sets ns one two i j x y v w first second is there =
-    second ∙ ap (λ (n : ℕ). set one j n) there ∙ ap (λ (ms : List ℕ). set ms j w) (first ∙ ap (λ (n : ℕ). set ns i n) is)
+    second ∙ ap (λ n. set one j n) there ∙ ap (λ ms. set ms j w) (first ∙ ap (λ n. set ns i n) is)
 
 -- two cells changed
 AreCells-sets : (r : Range) (ns : List ℕ) (i j v w : ℕ) → AreCells r ns → IsApart r.grain (set (set ns i v) j w) → IsInside r.grain (r.hi - r.lo) (set (set ns i v) j w) → AreCells r (set (set ns i v) j w)
@@ -27,8 +27,8 @@ AreCells-sets r ns i j v w cells apart inside = record {
   from = cells.from;
   ordered = cells.ordered;
   small = cells.small;
-  long = subst (λ (n : ℕ). r.hi - r.lo < r.grain * n) (sym (length-set (set ns i v) j w ∙ length-set ns i v)) cells.long;
-  reserved = subst (λ (n : ℕ). LAST_END - r.lo < r.grain * n) (sym (length-set (set ns i v) j w ∙ length-set ns i v)) cells.reserved;
+  long = subst (λ n. r.hi - r.lo < r.grain * n) (sym (length-set (set ns i v) j w ∙ length-set ns i v)) cells.long;
+  reserved = subst (λ n. LAST_END - r.lo < r.grain * n) (sym (length-set (set ns i v) j w ∙ length-set ns i v)) cells.reserved;
   apart = apart;
   inside = inside;
 }

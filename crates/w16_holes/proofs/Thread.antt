@@ -88,11 +88,11 @@ first_append last (h ∷ hs) back = refl
 
 pub thread_join : (last : ℕ) (front back : List Span) (bytes : List ℕ) → IsThread (first_of last back) front bytes → IsThread last back bytes → IsThread last (front ++ back) bytes
 thread_join last [] back bytes low high = high
-thread_join last (h ∷ hs) back bytes low high = (subst (λ (n : ℕ). HasWords h n bytes) (sym (first_append last hs back)) low.0, thread_join last hs back bytes low.1 high)
+thread_join last (h ∷ hs) back bytes low high = (subst (λ n. HasWords h n bytes) (sym (first_append last hs back)) low.0, thread_join last hs back bytes low.1 high)
 
 pub thread_front : (last : ℕ) (front back : List Span) (bytes : List ℕ) → IsThread last (front ++ back) bytes → IsThread (first_of last back) front bytes
 thread_front last [] back bytes thread = tt
-thread_front last (h ∷ hs) back bytes thread = (subst (λ (n : ℕ). HasWords h n bytes) (first_append last hs back) thread.0, thread_front last hs back bytes thread.1)
+thread_front last (h ∷ hs) back bytes thread = (subst (λ n. HasWords h n bytes) (first_append last hs back) thread.0, thread_front last hs back bytes thread.1)
 
 pub thread_back : (last : ℕ) (front back : List Span) (bytes : List ℕ) → IsThread last (front ++ back) bytes → IsThread last back bytes
 thread_back last [] back bytes thread = thread
@@ -144,10 +144,10 @@ pub record IsLast (lo hi : ℕ) (hs : List Span) (bytes : List ℕ) (x : ℕ) : 
   pub free : IsFree x (x + 8) hs
 
 pub last_cons : (a x : ℕ) (h : Span) (hs : List Span) → h.from < a → last_before a hs ≡ Some x → last_before a (h ∷ hs) ≡ Some x
-last_cons a x h hs lt is = rw (C.lt-ltb h.from a lt) (ap (λ (o : Option ℕ). Some (C.unwrap_or o h.from)) is)
+last_cons a x h hs lt is = rw (C.lt-ltb h.from a lt) (ap (λ o. Some (C.unwrap_or o h.from)) is)
 
 pub last_first : (a : ℕ) (h : Span) (hs : List Span) → h.from < a → last_before a hs ≡ None → last_before a (h ∷ hs) ≡ Some h.from
-last_first a h hs lt is = rw (C.lt-ltb h.from a lt) (ap (λ (o : Option ℕ). Some (C.unwrap_or o h.from)) is)
+last_first a h hs lt is = rw (C.lt-ltb h.from a lt) (ap (λ o. Some (C.unwrap_or o h.from)) is)
 
 last_of : (last lo hi : ℕ) (h : Span) (hs : List Span) (bytes : List ℕ) → AreHoles lo hi (h ∷ hs) → IsThread last (h ∷ hs) bytes → (x : ℕ) × IsLast lo hi (h ∷ hs) bytes x
 last_of last lo hi h [] bytes holes thread =
@@ -173,7 +173,7 @@ relink old new lo hi (h ∷ []) bytes small holes thread =
     let to = holes.2 in
     let inside = words.inside in
     let long = length-put_word bytes (h.from + 4) new (omega arith) in
-    subst (λ (o : Option ℕ). IsThread new (h ∷ []) (put_link bytes o new)) (sym (last_first hi h [] (omega arith) refl)) (
+    subst (λ o. IsThread new (h ∷ []) (put_link bytes o new)) (sym (last_first hi h [] (omega arith) refl)) (
       record {
         low = words.low;
         high = words.high;
@@ -193,8 +193,8 @@ relink old new lo hi (h ∷ k ∷ ks) bytes small holes thread =
     let high = l.1.high in
     let is = last_cons hi l.0 h (k ∷ ks) (omega arith) l.1.is in
     let rest : IsThread new (k ∷ ks) (put_word bytes (l.0 + 4) new) =
-    subst (λ (o : Option ℕ). IsThread new (k ∷ ks) (put_link bytes o new)) l.1.is (relink old new (suc h.to) hi (k ∷ ks) bytes small holes.3 thread.1) in
-    subst (λ (o : Option ℕ). IsThread new (h ∷ k ∷ ks) (put_link bytes o new)) (sym is)
+    subst (λ o. IsThread new (k ∷ ks) (put_link bytes o new)) l.1.is (relink old new (suc h.to) hi (k ∷ ks) bytes small holes.3 thread.1) in
+    subst (λ o. IsThread new (h ∷ k ∷ ks) (put_link bytes o new)) (sym is)
     (words_kept h k.from (l.0 + 4) (l.0 + 4 + 4) bytes (put_word bytes (l.0 + 4) new) (kept_word bytes (l.0 + 4) new (omega arith)) (inl (omega arith)) thread.0, rest)
 
 pub link_kept : (last value lo hi : ℕ) (hs : List Span) (bytes : List ℕ) → AreHoles lo hi hs → IsThread last hs bytes → IsKept lo hi bytes (put_link bytes (last_before hi hs) value)
@@ -204,7 +204,7 @@ link_kept last value lo hi (h ∷ hs) bytes holes thread =
     let low = l.1.low in
     let high = l.1.high in
     let inside = l.1.inside in
-    subst (λ (o : Option ℕ). IsKept lo hi bytes (put_link bytes o value)) (sym l.1.is) (kept_word_in lo hi bytes (l.0 + 4) value (omega arith) (omega arith) (omega arith))
+    subst (λ o. IsKept lo hi bytes (put_link bytes o value)) (sym l.1.is) (kept_word_in lo hi bytes (l.0 + 4) value (omega arith) (omega arith) (omega arith))
 
 -- bytes of holes alone are written there
 pub link_used : (last value lo hi : ℕ) (hs all : List Span) (bytes : List ℕ) → ((x y : ℕ) → IsFree x y hs → IsFree x y all) → AreHoles lo hi hs → IsThread last hs bytes → AreSameOutside all bytes (put_link bytes (last_before hi hs) value)
@@ -212,12 +212,12 @@ link_used last value lo hi [] all bytes among holes thread = used_refl all bytes
 link_used last value lo hi (h ∷ hs) all bytes among holes thread =
     let l = last_of last lo hi h hs bytes holes thread in
     let inside = l.1.inside in
-    let word : IsFree (l.0 + 4) (l.0 + 4 + 4) all = among (l.0 + 4) (l.0 + 4 + 4) (free_part l.0 (l.0 + 8) (l.0 + 4) (l.0 + 4 + 4) (h ∷ hs) (omega arith) (omega arith) l.1.free) in
-    subst (λ (o : Option ℕ). AreSameOutside all bytes (put_link bytes o value)) (sym l.1.is) (used_kept (l.0 + 4) (l.0 + 4 + 4) all bytes (put_word bytes (l.0 + 4) value) word (kept_word bytes (l.0 + 4) value (omega arith)))
+    let word = among (l.0 + 4) (l.0 + 4 + 4) (free_part l.0 (l.0 + 8) (l.0 + 4) (l.0 + 4 + 4) (h ∷ hs) (omega arith) (omega arith) l.1.free) in
+    subst (λ o. AreSameOutside all bytes (put_link bytes o value)) (sym l.1.is) (used_kept (l.0 + 4) (l.0 + 4 + 4) all bytes (put_word bytes (l.0 + 4) value) word (kept_word bytes (l.0 + 4) value (omega arith)))
 
 -- there is room for its link
-pub link_fits : (last lo hi : ℕ) (hs : List Span) (bytes : List ℕ) → AreHoles lo hi hs → IsThread last hs bytes → C.IfSome (last_before hi hs) (λ (x : ℕ). x + 8 ≤ length bytes)
+pub link_fits : (last lo hi : ℕ) (hs : List Span) (bytes : List ℕ) → AreHoles lo hi hs → IsThread last hs bytes → C.IfSome (last_before hi hs) (λ x. x + 8 ≤ length bytes)
 link_fits last lo hi [] bytes holes thread = tt
 link_fits last lo hi (h ∷ hs) bytes holes thread =
     let l = last_of last lo hi h hs bytes holes thread in
-    subst (λ (o : Option ℕ). C.IfSome o (λ (x : ℕ). x + 8 ≤ length bytes)) (sym l.1.is) l.1.inside
+    subst (λ o. C.IfSome o (λ x. x + 8 ≤ length bytes)) (sym l.1.is) l.1.inside

@@ -17,12 +17,12 @@ last_more ns i (Some k) z is = let lt = is.0 in (
   is.1,
   λ j from to. elim (cases_lt j i) [
     | inl before ↦ is.2 j from before
-    | inr at ↦ let e : i ≡ j = omega arith in subst (λ (n : ℕ). slice_index ns n ≡ 0) e z
+    | inr at ↦ let e : i ≡ j = omega arith in subst (λ n. slice_index ns n ≡ 0) e z
   ],
 )
 last_more ns i None z is = λ j to. elim (cases_lt j i) [
   | inl before ↦ is j before
-  | inr at ↦ let e : i ≡ j = omega arith in subst (λ (n : ℕ). slice_index ns n ≡ 0) e z
+  | inr at ↦ let e : i ≡ j = omega arith in subst (λ n. slice_index ns n ≡ 0) e z
 ]
 
 pub last_told : (ns : List ℕ) (i : ℕ) → IsLastOf ns i (last_below ns i)

@@ -5,7 +5,7 @@ pub up : (g a b : ℕ) → a ≤ b → g * a ≤ g * b
 up g a b le = mul-le-mul_left g le
 
 pub above : (g a b : ℕ) → a < b → g * a + g ≤ g * b
-above g a b lt = let r : g * suc a ≤ g * b = mul-le-mul_left g lt in omega arith
+above g a b lt = let r = mul-le-mul_left g lt in omega arith
 
 -- and back
 pub below : (g a b : ℕ) → g * a < g * b → a < b
@@ -30,9 +30,9 @@ divided g n d some e = elim (cases_lt (n / g) d) [
 pub whole_units : (g lo place : ℕ) → 0 < g → lo ≤ place → IsMultiple g lo → IsMultiple g place → g * ((place - lo) / g) ≡ place - lo
 whole_units g lo place some le low high =
     let e = low.1 in let f = high.1 in
-    let less : low.0 ≤ high.0 = at_most g low.0 high.0 some (omega arith) in
+    let less = at_most g low.0 high.0 some (omega arith) in
     let sum : high.0 ≡ low.0 + (high.0 - low.0) = omega arith in
-    let parts : g * high.0 ≡ g * (low.0 + (high.0 - low.0)) = ap (λ (n : ℕ). g * n) sum in
+    let parts = ap (λ n. g * n) sum in
     divided g (place - lo) (high.0 - low.0) some (omega arith)
 
 pub multiple_sum : (g a b : ℕ) → IsMultiple g a → IsMultiple g b → IsMultiple g (a + b)
@@ -43,6 +43,6 @@ multiple_less g a b one two = let e = one.1 in let f = two.1 in (one.0 - two.0, 
   where
     less : (m n : ℕ) → a ≡ g * m → b ≡ g * n → a - b ≡ g * (m - n)
     less m n e f = elim (cases_lt m n) [
-      | inl under ↦ let r = up g m n (omega arith) in let z : m - n ≡ 0 = omega arith in let zero_is : g * (m - n) ≡ g * 0 = ap (λ (i : ℕ). g * i) z in omega arith
-      | inr over ↦ let sum : m ≡ n + (m - n) = omega arith in let parts : g * m ≡ g * (n + (m - n)) = ap (λ (i : ℕ). g * i) sum in omega arith
+      | inl under ↦ let r = up g m n (omega arith) in let z : m - n ≡ 0 = omega arith in let zero_is = ap (λ i. g * i) z in omega arith
+      | inr over ↦ let sum : m ≡ n + (m - n) = omega arith in let parts = ap (λ i. g * i) sum in omega arith
     ]

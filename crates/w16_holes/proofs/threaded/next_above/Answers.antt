@@ -43,5 +43,5 @@ returns-in-Some g c =
 pub returns-in-None : goal.returns-in-None
 returns-in-None g c =
     let f = c.args.side.now in let e = c.at.ensures in let none = c.if-at-gt0.false in
-    c.unwrap_or.ensures ∙ ap (λ (o : Option ℕ). unwrap_or o no_hole) c.lowest.ensures ∙ lowest_first f.holes
+    c.unwrap_or.ensures ∙ ap (λ o. unwrap_or o no_hole) c.lowest.ensures ∙ lowest_first f.holes
     ∙ sym (next_none c.args.place f.range.lo f.range.hi f.holes c.requires.ordered (omega arith) (sym c.requires.below ∙ c.in-None.is))

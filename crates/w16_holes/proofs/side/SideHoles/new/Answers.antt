@@ -4,7 +4,7 @@ use Rattle.w16_holes.proofs.side.SideHoles.new.Given as given
 use Rattle.w16_holes.proofs.side.SideHoles.new.Goals as goal
 
 cells : (g : given.Over) (c : goal.After-set g) → c.set.new.self ≡ set (replicate ((c.max.result - c.args.lo) / c.args.grain + 1) 0) 0 (c.args.hi - c.args.lo)
-cells g c = c.set.ensures ∙ ap (λ (ns : List ℕ). set ns 0 (c.args.hi - c.args.lo)) c.in_ok-lengths.ensures
+cells g c = c.set.ensures ∙ ap (λ ns. set ns 0 (c.args.hi - c.args.lo)) c.in_ok-lengths.ensures
 
 pub invariant_of-result : goal.invariant_of-result
 invariant_of-result o c =
@@ -17,5 +17,5 @@ pub returns : goal.returns
 returns g c =
     let range : Range = record { lo = c.args.lo; hi = c.args.hi; grain = c.args.grain } in
     let up_to : c.args.lo + (c.args.hi - c.args.lo) ≡ c.args.hi = let le = c.requires.bounds in omega arith in
-    ap (λ (hs : List Span). record { range = range; holes = hs })
-    (ap (spans c.args.grain c.args.lo) (cells g c) ∙ spans_one c.args.grain ((c.max.result - c.args.lo) / c.args.grain) c.args.lo (c.args.hi - c.args.lo) ∙ ap (λ (to : ℕ). add_span c.args.lo to []) up_to)
+    ap (λ hs. record { range = range; holes = hs })
+    (ap (spans c.args.grain c.args.lo) (cells g c) ∙ spans_one c.args.grain ((c.max.result - c.args.lo) / c.args.grain) c.args.lo (c.args.hi - c.args.lo) ∙ ap (λ to. add_span c.args.lo to []) up_to)

@@ -11,15 +11,15 @@ range s = record { lo = s.lo; hi = s.hi; grain = s.grain }
 
 pub unit_of-next-requires-clause-grained : goal.unit_of-next-requires-clause-grained
 unit_of-next-requires-clause-grained g c =
-    let grain = ap (λ (f : Free). f.range.grain) c.self.view_is in
-    subst (λ (m : ℕ). C.IsMultiple m (c.args.place + c.args.n)) (sym grain) (multiple_sum c.args.self.now.range.grain c.args.place c.args.n c.requires.part.grained c.requires.part.rounded)
+    let grain = ap (λ f. f.range.grain) c.self.view_is in
+    subst (λ m. C.IsMultiple m (c.args.place + c.args.n)) (sym grain) (multiple_sum c.args.self.now.range.grain c.args.place c.args.n c.requires.part.grained c.requires.part.rounded)
 
 pub begin_of-begin-requires-clause-below : goal.begin_of-begin-requires-clause-below
 begin_of-begin-requires-clause-below g c =
     let s = c.self.inside in
-    let low = ap (λ (f : Free). f.range.lo) c.self.view_is in let from = c.requires.part.from in let is = c.unit_of-unit.ensures in
+    let low = ap (λ f. f.range.lo) c.self.view_is in let from = c.requires.part.from in let is = c.unit_of-unit.ensures in
     last_cell s.grain s.lo c.unit_of-unit.result c.args.place s.lengths c.args.below c.self.invariant.some (omega arith)
-    (subst (λ (f : Free). C.option_map (λ (k : ℕ). f.range.lo + f.range.grain * k) c.args.below ≡ C.last_before c.args.place f.holes) (sym c.self.view_is) c.requires.below)
+    (subst (λ f. C.option_map (λ k. f.range.lo + f.range.grain * k) c.args.below ≡ C.last_before c.args.place f.holes) (sym c.self.view_is) c.requires.below)
 
 pub set-requires : goal.set-requires
 set-requires g c =
@@ -53,7 +53,7 @@ pub begin_of-begin-requires-clause-inside : goal.begin_of-begin-requires-clause-
 begin_of-begin-requires-clause-inside g c =
     let s = c.self.inside in let u = c.unit_of-unit.result in
     let is = c.unit_of-unit.ensures in let long = c.self.invariant.long in
-    let high = ap (λ (f : Free). f.range.hi) c.self.view_is in let to = c.requires.part.to in
+    let high = ap (λ f. f.range.hi) c.self.view_is in let to = c.requires.part.to in
     elim (C.cases_lt u (length s.lengths)) [
       | inl less ↦ omega arith
       | inr past ↦ let r = up s.grain (length s.lengths) u past in absurd (omega arith)

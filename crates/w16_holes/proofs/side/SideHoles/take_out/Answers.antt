@@ -11,15 +11,15 @@ range s = record { lo = s.lo; hi = s.hi; grain = s.grain }
 
 pub unit_of-next-requires-clause-grained : goal.unit_of-next-requires-clause-grained
 unit_of-next-requires-clause-grained g c =
-    let grain = ap (λ (f : Free). f.range.grain) c.self.view_is in
-    subst (λ (m : ℕ). C.IsMultiple m (c.args.place + c.args.n)) (sym grain) (multiple_sum c.args.self.now.range.grain c.args.place c.args.n c.requires.part.grained c.requires.part.rounded)
+    let grain = ap (λ f. f.range.grain) c.self.view_is in
+    subst (λ m. C.IsMultiple m (c.args.place + c.args.n)) (sym grain) (multiple_sum c.args.self.now.range.grain c.args.place c.args.n c.requires.part.grained c.requires.part.rounded)
 
 pub last_to-requires-clause-below : goal.last_to-requires-clause-below
 last_to-requires-clause-below g c =
     let s = c.self.inside in
-    let low = ap (λ (f : Free). f.range.lo) c.self.view_is in let from = c.requires.part.from in let is = c.unit_of-unit.ensures in
+    let low = ap (λ f. f.range.lo) c.self.view_is in let from = c.requires.part.from in let is = c.unit_of-unit.ensures in
     λ none. last_cell s.grain s.lo c.unit_of-unit.result c.args.place s.lengths c.args.below c.self.invariant.some (omega arith)
-    (subst (λ (f : Free). C.length_at c.args.place f.holes ≡ 0 → C.option_map (λ (k : ℕ). f.range.lo + f.range.grain * k) c.args.below ≡ C.last_before c.args.place f.holes) (sym c.self.view_is) c.requires.below
+    (subst (λ f. C.length_at c.args.place f.holes ≡ 0 → C.option_map (λ k. f.range.lo + f.range.grain * k) c.args.below ≡ C.last_before c.args.place f.holes) (sym c.self.view_is) c.requires.below
     (sym (at_is s.grain c.self.invariant.some s.lengths s.lo c.unit_of-unit.result c.args.place (omega arith)) ∙ none))
 
 pub bytes_before-from-requires-clause-small : goal.bytes_before-from-requires-clause-small

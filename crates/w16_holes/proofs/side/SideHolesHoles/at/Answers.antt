@@ -5,5 +5,5 @@ use Rattle.w16_holes.proofs.side.SideHolesHoles.at.Goals as goal
 pub returns : goal.returns
 returns g c =
     let s = c.self.inside in
-    let low = ap (λ (f : Free). f.range.lo) c.self.view_is in let from = c.requires.place.from in
+    let low = ap (λ f. f.range.lo) c.self.view_is in let from = c.requires.place.from in
     rw (← c.self.view_is) (c.get.ensures ∙ at_is s.grain c.self.invariant.some s.lengths s.lo c.unit_of.result c.args.place (omega arith))

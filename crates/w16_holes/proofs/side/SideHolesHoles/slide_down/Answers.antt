@@ -33,16 +33,16 @@ returns-else-at-from-clause-contents g c =
     come_too c.args.self.now.holes c.reveal_order.ensures.ordered r.down r.new r.old r.free r.used c.min-apart.ensures
     (length (g.S.Space.bytes c.args.space.now)) r.inside c.take.ensures.bytes.long c.slide-else-at-from.ensures.bytes
     refl c.take.ensures.bytes
-    (subst (λ (hs : List Span). AreSameOutside hs (g.S.Space.bytes c.slide-else-at-from.new.self) (g.S.Space.bytes c.put.new._space)) (once_put g c) c.put.ensures.bytes)
+    (subst (λ hs. AreSameOutside hs (g.S.Space.bytes c.slide-else-at-from.new.self) (g.S.Space.bytes c.put.new._space)) (once_put g c) c.put.ensures.bytes)
 
 pub returns-else-at-from-clause-bytes : goal.returns-else-at-from-clause-bytes
 returns-else-at-from-clause-bytes g c =
     let r = c.requires in
-    subst (λ (hs : List Span). AreSameBut c.args.to c.args.size c.args.self.now.holes hs (g.S.Space.bytes c.args.space.now) (g.S.Space.bytes c.put.new._space)) (sym (once_put g c))
+    subst (λ hs. AreSameBut c.args.to c.args.size c.args.self.now.holes hs (g.S.Space.bytes c.args.space.now) (g.S.Space.bytes c.put.new._space)) (sym (once_put g c))
     (others_same c.args.self.now.holes c.reveal_order.ensures.ordered r.down r.new r.old r.free r.used c.min-apart.ensures
     (length (g.S.Space.bytes c.args.space.now)) r.inside c.take.ensures.bytes.long c.slide-else-at-from.ensures.bytes
     refl c.take.ensures.bytes
-    (subst (λ (hs : List Span). AreSameOutside hs (g.S.Space.bytes c.slide-else-at-from.new.self) (g.S.Space.bytes c.put.new._space)) (once_put g c) c.put.ensures.bytes))
+    (subst (λ hs. AreSameOutside hs (g.S.Space.bytes c.slide-else-at-from.new.self) (g.S.Space.bytes c.put.new._space)) (once_put g c) c.put.ensures.bytes))
 
 pub returns-then-at-from-clause-written : goal.returns-then-at-from-clause-written
 returns-then-at-from-clause-written g c = c.slide.ensures.written

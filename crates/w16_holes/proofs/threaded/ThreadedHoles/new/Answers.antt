@@ -10,18 +10,18 @@ set_hole-requires g c = λ lt.
     let inside = c.requires.inside in omega arith
 
 pub invariant_of-result : goal.invariant_of-result
-invariant_of-result g c = subst (λ (f : Free). HasRoom f.range) (sym c.in_ok-side.ensures) (record { wide = c.requires.wide; small = c.ranges.hi.fits })
+invariant_of-result g c = subst (λ f. HasRoom f.range) (sym c.in_ok-side.ensures) (record { wide = c.requires.wide; small = c.ranges.hi.fits })
 
 pub returns-clause-kept : goal.returns-clause-kept
 returns-clause-kept g c =
     let low = multiple_of_8 c.args.grain c.args.lo c.requires.wide c.requires.low in
     let high = multiple_of_8 c.args.grain c.args.hi c.requires.wide c.requires.high in
-    subst (λ (f : Free). AreThreaded f.holes c.set_hole.new.space.bytes.items) (sym c.in_ok-side.ensures)
-    (subst (λ (l : List ℕ). AreThreaded (add_span c.args.lo c.args.hi []) l) (sym c.set_hole.ensures.bytes) (one_threaded c.args.lo c.args.hi c.args.space.now.bytes.items low high c.requires.inside c.ranges.hi.fits))
+    subst (λ f. AreThreaded f.holes c.set_hole.new.space.bytes.items) (sym c.in_ok-side.ensures)
+    (subst (λ l. AreThreaded (add_span c.args.lo c.args.hi []) l) (sym c.set_hole.ensures.bytes) (one_threaded c.args.lo c.args.hi c.args.space.now.bytes.items low high c.requires.inside c.ranges.hi.fits))
 
 pub returns-clause-bytes : goal.returns-clause-bytes
 returns-clause-bytes g c =
     let low = multiple_of_8 c.args.grain c.args.lo c.requires.wide c.requires.low in
     let high = multiple_of_8 c.args.grain c.args.hi c.requires.wide c.requires.high in
     let kept = hole_kept c.args.lo c.args.hi no_hole c.args.space.now.bytes.items low high c.requires.inside in
-    subst (λ (l : List ℕ). IsSameOutside c.args.lo c.args.hi c.args.space.now.bytes.items l) (sym c.set_hole.ensures.bytes) kept.outside
+    subst (λ l. IsSameOutside c.args.lo c.args.hi c.args.space.now.bytes.items l) (sym c.set_hole.ensures.bytes) kept.outside

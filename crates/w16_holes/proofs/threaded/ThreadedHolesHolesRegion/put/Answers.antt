@@ -37,7 +37,7 @@ overflow_sub-from g c =
 pub link-requires : goal.link-requires
 link-requires g c =
     let p = asked IsUsed c.args.space.now.bytes.items c.self.view_is c.self.invariant c.below-below.ensures.ordered c.requires.part c.requires.kept c.requires.used in
-    subst (λ (o : Option ℕ). IfSome o (λ (x : ℕ). x + 8 ≤ length c.args.space.now.bytes.items)) (sym c.below-below.ensures.value)
+    subst (λ o. IfSome o (λ x. x + 8 ≤ length c.args.space.now.bytes.items)) (sym c.below-below.ensures.value)
     (put_room p c.requires.inside)
 
 pub set_words-requires : goal.set_words-requires
@@ -53,9 +53,9 @@ returns-clause-kept g c =
     let written = put_all p c.requires.inside c.next_above-next.result c.at.result
     c.length_below.result c.link.new.space.bytes.items c.set_words.new.space.bytes.items c.next_above-next.ensures
     c.at.ensures c.length_below.ensures (c.link.ensures.bytes ∙ ap
-    (λ (o : Option ℕ). put_link c.args.space.now.bytes.items o (c.args.place - c.length_below.result))
+    (λ o. put_link c.args.space.now.bytes.items o (c.args.place - c.length_below.result))
     c.below-below.ensures.value) c.set_words.ensures.bytes in
-    subst (λ (hs : List Span). AreThreaded hs c.set_words.new.space.bytes.items) (sym c.put_back.ensures.holes) written.0
+    subst (λ hs. AreThreaded hs c.set_words.new.space.bytes.items) (sym c.put_back.ensures.holes) written.0
 
 pub returns-clause-bytes : goal.returns-clause-bytes
 returns-clause-bytes g c =
@@ -63,6 +63,6 @@ returns-clause-bytes g c =
     let written = put_all p c.requires.inside c.next_above-next.result c.at.result
     c.length_below.result c.link.new.space.bytes.items c.set_words.new.space.bytes.items c.next_above-next.ensures
     c.at.ensures c.length_below.ensures (c.link.ensures.bytes ∙ ap
-    (λ (o : Option ℕ). put_link c.args.space.now.bytes.items o (c.args.place - c.length_below.result))
+    (λ o. put_link c.args.space.now.bytes.items o (c.args.place - c.length_below.result))
     c.below-below.ensures.value) c.set_words.ensures.bytes in
-    subst (λ (hs : List Span). AreSameOutside hs c.args.space.now.bytes.items c.set_words.new.space.bytes.items) (sym c.put_back.ensures.holes) written.1
+    subst (λ hs. AreSameOutside hs c.args.space.now.bytes.items c.set_words.new.space.bytes.items) (sym c.put_back.ensures.holes) written.1

@@ -33,13 +33,13 @@ returns-else-at-from-clause-contents g c =
     M.come_too c.args.self.now.holes (rw (← c.self.view_is) c.reveal_order.ensures.ordered) r.down r.new r.old r.free r.used c.min-apart.ensures
     (length c.args.space.now.bytes.items) r.inside c.take.ensures.bytes.long c.slide.ensures.bytes refl
     c.take.ensures.bytes
-    (subst (λ (hs : List Span). AreSameOutside hs c.slide.new.self.bytes.items c.put.new.space.bytes.items) (once_put g c) c.put.ensures.bytes)
+    (subst (λ hs. AreSameOutside hs c.slide.new.self.bytes.items c.put.new.space.bytes.items) (once_put g c) c.put.ensures.bytes)
 
 pub returns-else-at-from-clause-bytes : goal.returns-else-at-from-clause-bytes
 returns-else-at-from-clause-bytes g c =
     let r = c.requires in
-    subst (λ (hs : List Span). AreSameBut c.args.to c.args.size c.args.self.now.holes hs c.args.space.now.bytes.items c.put.new.space.bytes.items) (sym (once_put g c))
+    subst (λ hs. AreSameBut c.args.to c.args.size c.args.self.now.holes hs c.args.space.now.bytes.items c.put.new.space.bytes.items) (sym (once_put g c))
     (M.others_same c.args.self.now.holes (rw (← c.self.view_is) c.reveal_order.ensures.ordered) r.down r.new r.old r.free r.used c.min-apart.ensures
     (length c.args.space.now.bytes.items) r.inside c.take.ensures.bytes.long c.slide.ensures.bytes refl
     c.take.ensures.bytes
-    (subst (λ (hs : List Span). AreSameOutside hs c.slide.new.self.bytes.items c.put.new.space.bytes.items) (once_put g c) c.put.ensures.bytes))
+    (subst (λ hs. AreSameOutside hs c.slide.new.self.bytes.items c.put.new.space.bytes.items) (once_put g c) c.put.ensures.bytes))

@@ -35,8 +35,8 @@ set_hole-behind-requires g c =
 pub link-requires : goal.link-requires
 link-requires g c =
     let p = asked IsFree c.args.space.now.bytes.items c.self.view_is c.self.invariant c.below-below.ensures.ordered c.requires.part c.requires.kept c.requires.free in
-    subst (λ (o : Option ℕ). IfSome o (λ (x : ℕ). x + 8 ≤ length c.set_hole-behind.new.space.bytes.items)) (sym c.below-below.ensures.value)
-    (subst (λ (m : ℕ). IfSome (last_before c.args.place c.self.inside.side.holes) (λ (x : ℕ). x + 8 ≤ m))
+    subst (λ o. IfSome o (λ x. x + 8 ≤ length c.set_hole-behind.new.space.bytes.items)) (sym c.below-below.ensures.value)
+    (subst (λ m. IfSome (last_before c.args.place c.self.inside.side.holes) (λ x. x + 8 ≤ m))
     (sym c.set_hole-behind.ensures.length) (take_link p c.in-Some.begin c.in-Some.ensures))
 
 pub overflow_sub-place : goal.overflow_sub-place
@@ -58,9 +58,9 @@ returns-in-Some-clause-kept g c =
     c.word_at-next.result c.set_hole-behind.result c.set_hole-behind.new.space.bytes.items
     c.link.new.space.bytes.items c.set_word.new.self.bytes.items c.word_at.ensures c.word_at-next.ensures
     c.set_hole-behind.ensures.bytes c.set_hole-behind.ensures.first
-    (c.link.ensures.bytes ∙ ap (λ (o : Option ℕ). put_link c.set_hole-behind.new.space.bytes.items o
+    (c.link.ensures.bytes ∙ ap (λ o. put_link c.set_hole-behind.new.space.bytes.items o
     c.set_hole-behind.result) c.below-below.ensures.value) c.set_word.ensures.bytes in
-    subst (λ (hs : List Span). AreThreaded hs c.set_word.new.self.bytes.items) (sym c.take_out.ensures.holes) written.0
+    subst (λ hs. AreThreaded hs c.set_word.new.self.bytes.items) (sym c.take_out.ensures.holes) written.0
 
 pub returns-in-Some-clause-bytes : goal.returns-in-Some-clause-bytes
 returns-in-Some-clause-bytes g c =
@@ -69,9 +69,9 @@ returns-in-Some-clause-bytes g c =
     c.word_at-next.result c.set_hole-behind.result c.set_hole-behind.new.space.bytes.items
     c.link.new.space.bytes.items c.set_word.new.self.bytes.items c.word_at.ensures c.word_at-next.ensures
     c.set_hole-behind.ensures.bytes c.set_hole-behind.ensures.first
-    (c.link.ensures.bytes ∙ ap (λ (o : Option ℕ). put_link c.set_hole-behind.new.space.bytes.items o
+    (c.link.ensures.bytes ∙ ap (λ o. put_link c.set_hole-behind.new.space.bytes.items o
     c.set_hole-behind.result) c.below-below.ensures.value) c.set_word.ensures.bytes in
-    subst (λ (g : Free). AreSameOutside g.holes c.args.space.now.bytes.items c.set_word.new.self.bytes.items) c.self.view_is written.1
+    subst (λ g. AreSameOutside g.holes c.args.space.now.bytes.items c.set_word.new.self.bytes.items) c.self.view_is written.1
 
 pub returns-in_default-clause-holes : goal.returns-in_default-clause-holes
 returns-in_default-clause-holes g c =
