@@ -79,9 +79,7 @@ void kernel_call(uint16_t kernel, uint16_t ordinal) {
     case 12: WORD(w16_local_flags(M, word(0), &w), "LocalFlags 0x%04x", word(0)); break;
     case 13: WORD(w16_local_compact(M, word(0), &w), "LocalCompact %u", word(0)); break;
     case 15: WORD(w16_global_alloc(M, word(2), dword(0), &w), "GlobalAlloc 0x%04x %u", word(2), (unsigned)dword(0)); break;
-    case 16:
-        WORD(w16_global_realloc(M, word(3), dword(1), word(0), &w), "GlobalReAlloc 0x%04x %u 0x%04x", word(3), (unsigned)dword(1), word(0));
-        break;
+    case 16: WORD(w16_global_realloc(M, word(3), dword(1), word(0), &w), "GlobalReAlloc 0x%04x %u 0x%04x", word(3), (unsigned)dword(1), word(0)); break;
     case 17: WORD(w16_global_free(M, word(0), &w), "GlobalFree 0x%04x", word(0)); break;
     case 18: DWORD(w16_global_lock(M, word(0), &d), "GlobalLock 0x%04x", word(0)); break;
     case 19: WORD(w16_global_unlock(M, word(0), &w), "GlobalUnlock 0x%04x", word(0)); break;
@@ -89,18 +87,11 @@ void kernel_call(uint16_t kernel, uint16_t ordinal) {
     case 21: DWORD(w16_global_handle(M, word(0), &d), "GlobalHandle 0x%04x", word(0)); break;
     case 22: WORD(w16_global_flags(M, word(0), &w), "GlobalFlags 0x%04x", word(0)); break;
     case 25: DWORD(w16_global_compact(M, dword(0), &d), "GlobalCompact %u", (unsigned)dword(0)); break;
-    case 47:
-        it = label_of(0);
-        WORD(w16_get_module_handle(M, it.text, it.length, &w), "GetModuleHandle %s", it.text);
-        break;
+    case 47: it = label_of(0); WORD(w16_get_module_handle(M, it.text, it.length, &w), "GetModuleHandle %s", it.text); break;
     case 48: WORD(w16_get_module_usage(M, word(0), &w), "GetModuleUsage 0x%04x", word(0)); break;
-    case 50:
-        it = label_of(0);
-        DWORD(w16_get_proc_address(M, word(2), it.text, it.length, it.number, &d), "GetProcAddress 0x%04x %s", word(2), it.script);
-        break;
+    case 50: it = label_of(0); DWORD(w16_get_proc_address(M, word(2), it.text, it.length, it.number, &d), "GetProcAddress 0x%04x %s", word(2), it.script); break;
     case 60:
-        it = label_of(2);
-        type = label_of(0);
+        it = label_of(2), type = label_of(0);
         WORD(w16_find_resource(M, word(4), it.text, it.length, it.number, type.text, type.length, type.number, &w), "FindResource 0x%04x %s %s",
              word(4), it.script, type.script);
         break;
@@ -109,10 +100,7 @@ void kernel_call(uint16_t kernel, uint16_t ordinal) {
     case 63: WORD(w16_free_resource(M, word(0), &w), "FreeResource 0x%04x", word(0)); break;
     case 65: DWORD(w16_sizeof_resource(M, word(1), word(0), &d), "SizeofResource 0x%04x %u", word(1), word(0)); break;
     case 91: d = 1; break;
-    case 95:
-        it = label_of(0);
-        d = load(it.text, it.length, true);
-        break;
+    case 95: it = label_of(0); d = load(it.text, it.length, true); break;
     case 96: WORD(w16_free_library(M, word(0), &w), "FreeLibrary 0x%04x", word(0)); break;
     case 115: note(said, "%s", (const char *)memory_at(word(1), word(0))); break;
     case 163: WORD(w16_global_lru_oldest(M, word(0), &w), "GlobalLRUOldest 0x%04x", word(0)); break;

@@ -4,22 +4,16 @@
  * would only drop translated code. */
 #include "runner.h"
 
-#include <stdlib.h>
 #include <string.h>
 
-static const uint32_t PAGE = 4096, MOST_IN_A_LINE = 1024;
+static const uint32_t MOST_IN_A_LINE = 1024;
 
-static uint8_t *bytes; /* what the processor reads and writes */
-static uint8_t *same;  /* what the library has, as it is known here */
+/* What the processor reads and writes, and what the library has, as it is known here. No machine has more than 16 MB. */
+static uint8_t bytes[1 << 24] __attribute__((aligned(4096)));
+static uint8_t same[1 << 24];
 
-void memory_begin(uint32_t size) {
-    size_t whole = ((size_t)size + PAGE - 1) / PAGE * PAGE;
-    uint8_t *room = (uint8_t *)calloc(whole + PAGE, 1);
-    same = (uint8_t *)calloc(whole, 1);
-    if (room == NULL || same == NULL)
-        die("out of memory");
-    bytes = room + (PAGE - (uintptr_t)room % PAGE) % PAGE;
-    processor_map(bytes, whole);
+uint8_t *memory_bytes(void) {
+    return bytes;
 }
 
 void memory_put(unsigned slot) {

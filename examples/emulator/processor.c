@@ -65,10 +65,6 @@ void processor_forget(unsigned slot) {
     check(uc_ctl_remove_cache(uc, from, from + known[slot].limit + 1));
 }
 
-void processor_map(uint8_t *bytes, size_t size) {
-    check(uc_mem_map_ptr(uc, MEMORY, size, UC_PROT_ALL, bytes));
-}
-
 static void on_trap(uc_engine *engine, uint32_t number, void *data) {
     (void)data;
     trap = (int)number;
@@ -92,13 +88,14 @@ static void on_code(uc_engine *engine, uint64_t address, uint32_t size, void *da
     }
 }
 
-void processor_begin(void) {
+void processor_begin(uint8_t *bytes, uint32_t size) {
     const uc_x86_mmr global = { 0, TABLES, 0xff, 0 }, local = { 0x18, LDT, 0xffff, 0x8200 };
     uc_hook hook;
     check(uc_open(UC_ARCH_X86, UC_MODE_32, &uc));
     check(uc_mem_map_ptr(uc, TABLES, sizeof tables, UC_PROT_ALL, tables));
+    check(uc_mem_map_ptr(uc, MEMORY, (size + 4095) & ~(size_t)4095, UC_PROT_ALL, bytes));
     put_descriptor(8, 0, 0xfffff, 0x93, 12);
-    tables[GATE - TABLES] = 0xcf;
+    tables[GATE - TABLES] = 0xcf; /* iretd */
     check(uc_reg_write(uc, UC_X86_REG_GDTR, &global));
     check(uc_reg_write(uc, UC_X86_REG_LDTR, &local));
     check(uc_hook_add(uc, &hook, UC_HOOK_INTR, (void *)on_trap, NULL, 1, 0));

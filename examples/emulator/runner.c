@@ -9,6 +9,7 @@
 #include "../c/room.h"
 #include "runner.h"
 
+#include <ctype.h>
 #include <stdarg.h>
 #include <stdlib.h>
 #include <string.h>
@@ -28,8 +29,6 @@ void die(const char *format, ...) {
     fprintf(stderr, "runner: ");
     vfprintf(stderr, format, list);
     fprintf(stderr, "\n");
-    va_end(list);
-    w16_free(&machine);
     exit(2);
 }
 
@@ -53,11 +52,9 @@ void note_bytes(FILE *file, const uint8_t *bytes, size_t count) {
 }
 
 void use(uint16_t selector) {
-    uint8_t status = w16_fetch(&machine, selector);
     note(calls, "Read 0x%08x 0\n", (unsigned)W16_FAR(selector, 0));
     note(replies, "bytes\n");
-    if (status != W16_DONE)
-        die("segment %04x: %s", selector, w16_status_text(status));
+    done(w16_fetch(&machine, selector));
 }
 
 void before_call(void) {
@@ -83,30 +80,28 @@ void after_call(unsigned written) {
     processor_reload();
 }
 
+static FILE *open_in(const char *where, const char *name, size_t length, const char *mode) {
+    char path[1024];
+    snprintf(path, sizeof path, "%s/%.*s", where, (int)length, name);
+    return fopen(path, mode);
+}
+
 /* Adds a module file from the folder, whose names are in capital letters; whether it has one of that name. */
 static bool add_file(const char *name, size_t length) {
     static uint8_t bytes[1 << 20];
-    char path[1024];
+    char capitals[W16_MOST_NAME];
     size_t count;
     FILE *file;
-    int begin = snprintf(path, sizeof path, "%s/", folder);
-    snprintf(path + begin, sizeof path - begin, "%.*s", (int)length, name);
-    for (char *it = path + begin; *it; it++)
-        if (*it >= 'a' && *it <= 'z')
-            *it -= 'a' - 'A';
-    file = fopen(path, "rb");
-    if (file == NULL)
+    for (size_t i = 0; i < length; i++)
+        capitals[i] = (char)toupper((unsigned char)name[i]);
+    if ((file = open_in(folder, capitals, length, "rb")) == NULL)
         return false;
     count = fread(bytes, 1, sizeof bytes, file);
     fclose(file);
     give_room(bytes, count);
     done(w16_add_file(&machine, name, length, bytes, count));
-    if (log_folder != NULL) {
-        snprintf(path, sizeof path, "%s/%.*s", log_folder, (int)length, name);
-        file = fopen(path, "wb");
-        if (file == NULL || fwrite(bytes, 1, count, file) != count || fclose(file) != 0)
-            die("%s can't be written", path);
-    }
+    if (log_folder != NULL && ((file = open_in(log_folder, name, length, "wb")) == NULL || fwrite(bytes, 1, count, file) != count || fclose(file) != 0))
+        die("the log can't be written");
     return true;
 }
 
@@ -126,20 +121,18 @@ uint16_t load(const char *file, size_t length, bool library) {
 
 /* Says which modules are loaded, and from which files. */
 static void list_modules(void) {
-    uint16_t handle = 0, first = 0;
+    uint16_t handle = 0;
     char name[255], file[W16_MOST_NAME];
     size_t length, file_length;
     for (uint16_t from = 0; w16_module_from(&machine, from, &handle) == W16_DONE; from = (uint16_t)(handle + 1)) {
         done(w16_module_name(&machine, handle, name, sizeof name, &length));
         done(w16_module_file(&machine, handle, file, sizeof file, &file_length));
-        if (w16_module_segment(&machine, handle, 1, &first) != W16_DONE)
-            first = 0;
-        note(said, "module %04x is %.*s, of %.*s; its first segment is %04x\n", handle, (int)length, name, (int)file_length, file, first);
+        note(said, "module %04x is %.*s, of %.*s\n", handle, (int)length, name, (int)file_length, file);
     }
 }
 
-/* At the end: the bytes of each object, so that they are compared as well. */
-static void log_objects(void) {
+/* Ends the log with the bytes of each object, so that they are compared as well. */
+static void end_log(void) {
     uint8_t bytes[1024];
     for (unsigned slot = 0; slot < slots; slot++)
         for (uint32_t at = 0; known[slot].present && at <= known[slot].limit; at += sizeof bytes) {
@@ -149,16 +142,8 @@ static void log_objects(void) {
             note(replies, "bytes ");
             note_bytes(replies, bytes, count);
         }
-}
-
-static FILE *open_log(const char *name) {
-    char path[1024];
-    FILE *file;
-    snprintf(path, sizeof path, "%s/%s", log_folder, name);
-    file = fopen(path, "w");
-    if (file == NULL)
-        die("%s can't be written", path);
-    return file;
+    if (calls == NULL || replies == NULL || fclose(calls) != 0 || fclose(replies) != 0)
+        die("the log can't be written");
 }
 
 /* Runs the program to its end, and answers its status. */
@@ -178,7 +163,7 @@ static uint8_t run(uint16_t kernel, uint16_t stub) {
             note(said, "segment %04x is fetched\n", selector);
         } else if (trap == TRAP_CHECK) {
             bool holds = get_register(UC_X86_REG_AX) & 1;
-            *(holds ? &held : &failed) += 1;
+            holds ? held++ : failed++;
             if (!holds)
                 printf("DOESN'T HOLD: %s\n", (const char *)memory_at(cs, get_register(UC_X86_REG_DX)));
         } else if (trap == TRAP_DOS && get_register(UC_X86_REG_AX) >> 8 == 0x4c)
@@ -196,29 +181,22 @@ int main(int count, char **words) {
     said = stdout;
     for (int i = 1; i < count; i++) {
         bool more = i + 1 < count;
-        if (!strcmp(words[i], "--memory") && more)
-            memory = (uint32_t)strtoul(words[++i], NULL, 0);
-        else if (!strcmp(words[i], "--selectors") && more)
-            selectors = (uint32_t)strtoul(words[++i], NULL, 0);
-        else if (!strcmp(words[i], "--log") && more)
-            log_folder = words[++i];
-        else if (!strcmp(words[i], "--quiet"))
-            said = NULL;
-        else if (folder == NULL)
-            folder = words[i];
-        else
-            app = words[i];
+        if (!strcmp(words[i], "--memory") && more) memory = (uint32_t)strtoul(words[++i], NULL, 0);
+        else if (!strcmp(words[i], "--selectors") && more) selectors = (uint32_t)strtoul(words[++i], NULL, 0);
+        else if (!strcmp(words[i], "--log") && more) log_folder = words[++i];
+        else if (!strcmp(words[i], "--quiet")) said = NULL;
+        else if (folder == NULL) folder = words[i];
+        else app = words[i];
     }
     if (app == NULL)
         die("usage: runner [--memory N] [--selectors N] [--log FOLDER] [--quiet] FOLDER APP.EXE");
     if (log_folder != NULL) {
-        calls = open_log("calls.txt");
-        replies = open_log("replies.txt");
+        calls = open_in(log_folder, "calls.txt", 9, "w");
+        replies = open_in(log_folder, "replies.txt", 11, "w");
     }
     done(w16_new(&machine, memory, selectors));
     slots = (W16_FIRST_SELECTOR >> 3) + selectors;
-    processor_begin();
-    memory_begin(memory);
+    processor_begin(memory_bytes(), memory);
 
     module = load(app, strlen(app), false);
     if (module <= 32)
@@ -227,6 +205,8 @@ int main(int count, char **words) {
     done(w16_module_segment(&machine, kernel, 1, &stub));
     done(w16_module_start(&machine, module, &start));
     list_modules();
+    if (start.entry == 0 || start.stack == 0)
+        die("%s is no application", app);
     use(W16_SELECTOR_OF(start.entry));
     use(W16_SELECTOR_OF(start.stack));
     use(start.data);
@@ -236,9 +216,8 @@ int main(int count, char **words) {
     status = run(kernel, stub);
 
     before_call();
-    log_objects();
-    if (calls != NULL && (fclose(calls) != 0 || fclose(replies) != 0))
-        die("the log can't be written");
+    if (log_folder != NULL)
+        end_log();
     printf("%u checks held, %u didn't; %u calls of KERNEL, %u fetches, %u descriptors changed\n", held, failed, kernel_calls, fetches, moved);
     w16_free(&machine);
     return failed != 0 || held == 0 || status != 0;

@@ -21,39 +21,30 @@ extern FILE *said, *calls, *replies;
 void note(FILE *file, const char *format, ...);
 void note_bytes(FILE *file, const uint8_t *bytes, size_t count);
 void die(const char *format, ...);
-/* Ends the runner where a call isn't done. */
-void done(uint8_t status);
+void done(uint8_t status); /* ends the runner where a call isn't done */
 /* Before a call by which objects may move or lose their bytes, and after it: the bytes of a slot were changed by the call, or 0. */
 void before_call(void);
 void after_call(unsigned slot);
-/* A use of a segment, which gets its bytes first where it has none. */
-void use(uint16_t selector);
+void use(uint16_t selector); /* a use of a segment, which gets its bytes first where it has none */
 uint16_t load(const char *file, size_t length, bool library);
 
 /* memory.c: the one place that knows how the processor has the bytes of the machine. */
-void memory_begin(uint32_t size);
+uint8_t *memory_bytes(void);
 /* The bytes of a slot that the program has written go to the library; where there are none, it is a use all the same. */
 void memory_put(unsigned slot);
-/* The bytes of a slot are the library's again. */
-void memory_get(unsigned slot);
-/* Bytes at a far pointer, for the program's arguments. */
+void memory_get(unsigned slot); /* the bytes of a slot are the library's again */
 uint8_t *memory_at(uint16_t selector, uint16_t offset);
 
 /* processor.c */
 enum { TRAP_BREAK = 3, TRAP_ABSENT = 11, TRAP_DOS = 0x21, TRAP_CHECK = 0x60 };
-void processor_begin(void);
-void processor_map(uint8_t *bytes, size_t size);
+void processor_begin(uint8_t *bytes, uint32_t size);
 void processor_forget(unsigned slot);   /* drops what was translated of the code in a slot */
 void processor_describe(unsigned slot); /* puts a slot's descriptor into the table */
-/* Whether a segment register has had the slot since this was asked last. */
-bool processor_used(unsigned slot);
-/* Loads the segment registers from the table again. */
-void processor_reload(void);
+bool processor_used(unsigned slot);     /* whether a segment register has had the slot since this was asked last */
+void processor_reload(void);            /* loads the segment registers from the table again */
 void processor_start(const w16_start *start);
-/* Runs the program until it traps, and answers the number. */
-int processor_run(void);
-/* The selector whose segment wasn't present. */
-uint16_t processor_absent(void);
+int processor_run(void);         /* runs the program until it traps, and answers the number */
+uint16_t processor_absent(void); /* the selector whose segment wasn't present */
 uint16_t get_register(int name);
 void set_register(int name, uint16_t word);
 
