@@ -11,7 +11,8 @@ from pathlib import Path
 OLD, HEAD = 64, 64  # bytes of the old header, and of the header after it
 SHIFT = 4  # segments and resources begin at whole units of 16 bytes
 LIBRARY = 0x8000  # of a module
-DATA, MOVEABLE, PURE, PRELOAD, RECORDS, DISCARDABLE = 0x0001, 0x0010, 0x0020, 0x0040, 0x0100, 0x1000  # of a segment or a resource; RECORDS: it has relocation records
+# Flags of a segment or a resource; RECORDS: it has relocation records.
+DATA, MOVEABLE, PURE, PRELOAD, RECORDS, DISCARDABLE = 0x0001, 0x0010, 0x0020, 0x0040, 0x0100, 0x1000
 NUMBER = 0x8000  # a type or an id of a resource that is no text
 OFFSET, POINTER = 5, 3  # what a record writes: an offset, or a far pointer
 INTERNAL, BY_ORDINAL, BY_NAME, ADDED = 0, 1, 2, 4  # what it leads to, and whether its value is added
@@ -102,10 +103,10 @@ def fixed_data():
     return module(LIBRARY, [(DATA, bytes(64), []), (DATA, bytes(64), [])], names(b"TDATA"), [], b"", b"\0", 0, b"")
 
 
-# Entries of KERNEL, by their ordinals in Windows 3.1, with the bytes of their arguments, as far as this machine has their calls, and three more that a
+# Entries of KERNEL, by their ordinals in Windows 3.1, with the bytes of their arguments, as far as this machine has their calls, and two more that a
 # program needs to run; and the constants by which pointers go on from one selector of an object to the next.
 KERNEL = {
-    1: (b"FATALEXIT", 2), 4: (b"LOCALINIT", 6), 5: (b"LOCALALLOC", 4), 6: (b"LOCALREALLOC", 6), 7: (b"LOCALFREE", 2), 8: (b"LOCALLOCK", 2),
+    4: (b"LOCALINIT", 6), 5: (b"LOCALALLOC", 4), 6: (b"LOCALREALLOC", 6), 7: (b"LOCALFREE", 2), 8: (b"LOCALLOCK", 2),
     9: (b"LOCALUNLOCK", 2), 10: (b"LOCALSIZE", 2), 11: (b"LOCALHANDLE", 2), 12: (b"LOCALFLAGS", 2), 13: (b"LOCALCOMPACT", 2),
     15: (b"GLOBALALLOC", 6), 16: (b"GLOBALREALLOC", 8), 17: (b"GLOBALFREE", 2), 18: (b"GLOBALLOCK", 2), 19: (b"GLOBALUNLOCK", 2),
     20: (b"GLOBALSIZE", 2), 21: (b"GLOBALHANDLE", 2), 22: (b"GLOBALFLAGS", 2), 25: (b"GLOBALCOMPACT", 4), 47: (b"GETMODULEHANDLE", 4),

@@ -11,8 +11,8 @@ static uint16_t word(unsigned n) {
     return (uint16_t)(at[0] | at[1] << 8);
 }
 
-static uint32_t dword(unsigned n) {
-    return word(n) | (uint32_t)word(n + 1) << 16;
+static unsigned dword(unsigned n) {
+    return word(n) | (unsigned)word(n + 1) << 16;
 }
 
 /* What names an entry, a resource or a type: a text, or a number where the pointer's selector is 0. In a script a number stands after a '#'. */
@@ -46,8 +46,7 @@ static void unanswered(uint16_t kernel, uint16_t ordinal) {
     size_t length = 0;
     uint16_t of = 0;
     uint32_t pointer;
-    for (size_t i = 0; w16_export_from(&machine, kernel, i, name, sizeof name, &length, &of, &pointer) == W16_DONE && of != ordinal;)
-        i++;
+    for (size_t i = 0; of != ordinal && w16_export_from(&machine, kernel, i, name, sizeof name, &length, &of, &pointer) == W16_DONE; i++) {}
     die("the call KERNEL.%u, %.*s, isn't here", ordinal, of == ordinal ? (int)length : 0, name);
 }
 
@@ -55,6 +54,7 @@ static void unanswered(uint16_t kernel, uint16_t ordinal) {
 #define WORD(call, ...) (done(call), LINE(__VA_ARGS__), note(replies, "%04x\n", w), d = w)
 #define DWORD(call, ...) (done(call), LINE(__VA_ARGS__), note(replies, "%08x\n", (unsigned)d))
 #define M &machine
+#define LABEL(it) (it).text, (it).length, (it).number
 
 void kernel_call(uint16_t kernel, uint16_t ordinal) {
     uint16_t w = 0, ds = get_register(UC_X86_REG_DS);
@@ -78,22 +78,21 @@ void kernel_call(uint16_t kernel, uint16_t ordinal) {
     case 11: WORD(w16_local_handle(M, word(0), &w), "LocalHandle 0x%04x", word(0)); break;
     case 12: WORD(w16_local_flags(M, word(0), &w), "LocalFlags 0x%04x", word(0)); break;
     case 13: WORD(w16_local_compact(M, word(0), &w), "LocalCompact %u", word(0)); break;
-    case 15: WORD(w16_global_alloc(M, word(2), dword(0), &w), "GlobalAlloc 0x%04x %u", word(2), (unsigned)dword(0)); break;
-    case 16: WORD(w16_global_realloc(M, word(3), dword(1), word(0), &w), "GlobalReAlloc 0x%04x %u 0x%04x", word(3), (unsigned)dword(1), word(0)); break;
+    case 15: WORD(w16_global_alloc(M, word(2), dword(0), &w), "GlobalAlloc 0x%04x %u", word(2), dword(0)); break;
+    case 16: WORD(w16_global_realloc(M, word(3), dword(1), word(0), &w), "GlobalReAlloc 0x%04x %u 0x%04x", word(3), dword(1), word(0)); break;
     case 17: WORD(w16_global_free(M, word(0), &w), "GlobalFree 0x%04x", word(0)); break;
     case 18: DWORD(w16_global_lock(M, word(0), &d), "GlobalLock 0x%04x", word(0)); break;
     case 19: WORD(w16_global_unlock(M, word(0), &w), "GlobalUnlock 0x%04x", word(0)); break;
     case 20: DWORD(w16_global_size(M, word(0), &d), "GlobalSize 0x%04x", word(0)); break;
     case 21: DWORD(w16_global_handle(M, word(0), &d), "GlobalHandle 0x%04x", word(0)); break;
     case 22: WORD(w16_global_flags(M, word(0), &w), "GlobalFlags 0x%04x", word(0)); break;
-    case 25: DWORD(w16_global_compact(M, dword(0), &d), "GlobalCompact %u", (unsigned)dword(0)); break;
+    case 25: DWORD(w16_global_compact(M, dword(0), &d), "GlobalCompact %u", dword(0)); break;
     case 47: it = label_of(0); WORD(w16_get_module_handle(M, it.text, it.length, &w), "GetModuleHandle %s", it.text); break;
     case 48: WORD(w16_get_module_usage(M, word(0), &w), "GetModuleUsage 0x%04x", word(0)); break;
-    case 50: it = label_of(0); DWORD(w16_get_proc_address(M, word(2), it.text, it.length, it.number, &d), "GetProcAddress 0x%04x %s", word(2), it.script); break;
+    case 50: it = label_of(0); DWORD(w16_get_proc_address(M, word(2), LABEL(it), &d), "GetProcAddress 0x%04x %s", word(2), it.script); break;
     case 60:
         it = label_of(2), type = label_of(0);
-        WORD(w16_find_resource(M, word(4), it.text, it.length, it.number, type.text, type.length, type.number, &w), "FindResource 0x%04x %s %s",
-             word(4), it.script, type.script);
+        WORD(w16_find_resource(M, word(4), LABEL(it), LABEL(type), &w), "FindResource 0x%04x %s %s", word(4), it.script, type.script);
         break;
     case 61: WORD(w16_load_resource(M, word(1), word(0), &w), "LoadResource 0x%04x %u", word(1), word(0)); break;
     case 62: DWORD(w16_lock_resource(M, word(0), &d), "LockResource 0x%04x", word(0)); break;
