@@ -262,10 +262,21 @@ code_that_moves:
         mov [first], ax
         push word [hole]
         KERNEL GlobalFree
+        push word [handles+14]  ; a block above it, which moves too
+        KERNEL GlobalLock
+        mov es, dx
+        push word [handles+14]
+        KERNEL GlobalUnlock
+        xor word [es:0], 0x5555
         mov ax, 100
         call far [entry]
         cmp ax, 300
         CHECKS e, "code that moves while its call fetches other code"
+        xor word [es:0], 0x5555
+        cmp word [es:0], 14
+        CHECKS e, "what was written just before is kept"
+        push ds
+        pop es
         push word [entry+2]
         KERNEL GetSelectorBase
         cmp ax, [before]
@@ -307,6 +318,20 @@ from_discarded:
         OWN 4
         cmp ax, 0x5678
         CHECKS e, "a call comes back to code that was discarded meanwhile"
+        PASS 1, 2
+        IMPORTED 'O', 'MATH', 1
+        cmp ax, 3
+        CHECKS e, "SUM is fetched after the second segment"
+        PASS -1, -1
+        KERNEL GlobalCompact
+        PASS 3, 4
+        IMPORTED 'O', 'MATH', 1
+        cmp ax, 7
+        CHECKS e, "SUM is fetched to where the second segment was"
+        mov ax, 5
+        OWN 2
+        cmp ax, 10
+        CHECKS e, "and TWICE to where MATH's code was"
         ret
 
 ; The local heap under DS, in the bytes after the stack. Moveable objects slide together.

@@ -17,6 +17,8 @@ count:  push ds
         pop ds
         retf
 
+        times 352 - ($-$$) nop
+
         ENTRY 1, 'SUM', sum
         ENTRY 2, 'COUNT', count
 END_OF_SEGMENT

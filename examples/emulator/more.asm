@@ -1,6 +1,6 @@
 ; more.asm: segment 2 of TEST.EXE, code that is moveable and discardable and isn't loaded before it is called.
 %include "ne.inc"
-        times 600 nop
+        times 300 nop           ; TWICE and MATH's SUM are at one offset, and their segments are of one size
 
 twice:  push ax
         OWN 1                   ; BACK, in segment 1
@@ -20,6 +20,8 @@ purge:  PASS -1, -1
         KERNEL GlobalCompact
         mov ax, 0x5678
         retf
+
+        times 352 - ($-$$) nop
 
         ENTRY 2, 'TWICE', twice
         ENTRY 3, 'SECRET', secret

@@ -11,7 +11,6 @@ static uc_engine *uc;
 static uint8_t tables[TABLES_SIZE] __attribute__((aligned(4096)));
 static int trap;
 static uint32_t next;                  /* the offset in the code segment at which the program goes on */
-static uint64_t last;                  /* the address of the instruction that began last */
 static uint64_t code_from, code_count; /* the code segment that it is in */
 static uc_context *clean, *dirty;
 
@@ -71,11 +70,10 @@ static void on_trap(uc_engine *engine, uint32_t number, void *data) {
     uc_emu_stop(engine);
 }
 
-/* Notes each instruction, since after a fault the processor's own pointer may be of an earlier one. Where code goes on in another segment, that is a
- * use of it: the code is there, so nothing moves. */
+/* Before each instruction, which also keeps the processor's own pointer to it exact for a fault. Where code goes on in another segment, that is a use
+ * of it: the code is there, so nothing moves. */
 static void on_code(uc_engine *engine, uint64_t address, uint32_t size, void *data) {
     (void)engine, (void)size, (void)data;
-    last = address;
     if (address - code_from >= code_count) {
         uint16_t selector = get_register(UC_X86_REG_CS);
         if (!(selector & 4))
@@ -123,8 +121,6 @@ int processor_run(void) {
     trap = -1;
     check(uc_emu_start(uc, next, 0xffffffff, 0, 0));
     check(uc_reg_read(uc, UC_X86_REG_EIP, &next));
-    if (trap == TRAP_ABSENT)
-        next = (uint32_t)(last - code_from);
     return trap;
 }
 
