@@ -5,6 +5,7 @@ KERNEL that ../make-modules.py has.
 usage: make-programs.py FOLDER
 """
 import importlib.util
+import shutil
 import struct
 import subprocess
 import sys
@@ -107,6 +108,8 @@ def link(name, flags, sources, resources=(), program=bytes(14)):
 def main():
     if len(sys.argv) != 2:
         sys.exit(__doc__.strip())
+    if shutil.which("nasm") is None:
+        sys.exit("make-programs: nasm isn't in PATH")
     folder = Path(sys.argv[1])
     folder.mkdir(parents=True, exist_ok=True)
     moveable, preload, discardable, data = modules.MOVEABLE, modules.PRELOAD, modules.DISCARDABLE, modules.DATA

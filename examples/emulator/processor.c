@@ -4,7 +4,7 @@
 
 #include <string.h>
 
-/* Where things lie: the tables, with the far return to level 3 by which a program begins and its frame, and the machine's memory. */
+/* Where things lie: the tables, with the iretd by which a program begins at level 3, and its frame; and the machine's memory. */
 enum { TABLES = 0x100000, GATE = TABLES + 0x100, FRAME = TABLES + 0x200, LDT = TABLES + 0x1000, TABLES_SIZE = 0x11000, MEMORY = 0x1000000 };
 
 static uc_engine *uc;
