@@ -11,7 +11,8 @@ from pathlib import Path
 OLD, HEAD = 64, 64  # bytes of the old header, and of the header after it
 SHIFT = 4  # segments and resources begin at whole units of 16 bytes
 LIBRARY = 0x8000  # of a module
-DATA, MOVEABLE, PURE, PRELOAD, RECORDS, DISCARDABLE = 0x0001, 0x0010, 0x0020, 0x0040, 0x0100, 0x1000  # of a segment or a resource; RECORDS: it has relocation records
+# Flags of a segment or a resource; RECORDS: it has relocation records.
+DATA, MOVEABLE, PURE, PRELOAD, RECORDS, DISCARDABLE = 0x0001, 0x0010, 0x0020, 0x0040, 0x0100, 0x1000
 NUMBER = 0x8000  # a type or an id of a resource that is no text
 OFFSET, POINTER = 5, 3  # what a record writes: an offset, or a far pointer
 INTERNAL, BY_ORDINAL, BY_NAME, ADDED = 0, 1, 2, 4  # what it leads to, and whether its value is added
@@ -102,32 +103,37 @@ def fixed_data():
     return module(LIBRARY, [(DATA, bytes(64), []), (DATA, bytes(64), [])], names(b"TDATA"), [], b"", b"\0", 0, b"")
 
 
-# Entries of KERNEL, by their ordinals in Windows 3.1, as far as this machine has their calls; and the constants by which pointers go on from one
-# selector of an object to the next.
+# Entries of KERNEL, by their ordinals in Windows 3.1, with the bytes of their arguments, as far as this machine has their calls, and two more that a
+# program needs to run; and the constants by which pointers go on from one selector of an object to the next.
 KERNEL = {
-    5: b"LOCALALLOC", 6: b"LOCALREALLOC", 7: b"LOCALFREE", 8: b"LOCALLOCK", 9: b"LOCALUNLOCK", 10: b"LOCALSIZE", 11: b"LOCALHANDLE",
-    12: b"LOCALFLAGS", 13: b"LOCALCOMPACT", 15: b"GLOBALALLOC", 16: b"GLOBALREALLOC", 17: b"GLOBALFREE", 18: b"GLOBALLOCK", 19: b"GLOBALUNLOCK",
-    20: b"GLOBALSIZE", 21: b"GLOBALHANDLE", 22: b"GLOBALFLAGS", 25: b"GLOBALCOMPACT", 47: b"GETMODULEHANDLE", 48: b"GETMODULEUSAGE",
-    50: b"GETPROCADDRESS", 60: b"FINDRESOURCE", 61: b"LOADRESOURCE", 62: b"LOCKRESOURCE", 63: b"FREERESOURCE", 65: b"SIZEOFRESOURCE",
-    95: b"LOADLIBRARY", 96: b"FREELIBRARY", 163: b"GLOBALLRUOLDEST", 164: b"GLOBALLRUNEWEST", 186: b"GETSELECTORBASE", 188: b"GETSELECTORLIMIT",
+    4: (b"LOCALINIT", 6), 5: (b"LOCALALLOC", 4), 6: (b"LOCALREALLOC", 6), 7: (b"LOCALFREE", 2), 8: (b"LOCALLOCK", 2),
+    9: (b"LOCALUNLOCK", 2), 10: (b"LOCALSIZE", 2), 11: (b"LOCALHANDLE", 2), 12: (b"LOCALFLAGS", 2), 13: (b"LOCALCOMPACT", 2),
+    15: (b"GLOBALALLOC", 6), 16: (b"GLOBALREALLOC", 8), 17: (b"GLOBALFREE", 2), 18: (b"GLOBALLOCK", 2), 19: (b"GLOBALUNLOCK", 2),
+    20: (b"GLOBALSIZE", 2), 21: (b"GLOBALHANDLE", 2), 22: (b"GLOBALFLAGS", 2), 25: (b"GLOBALCOMPACT", 4), 47: (b"GETMODULEHANDLE", 4),
+    48: (b"GETMODULEUSAGE", 2), 50: (b"GETPROCADDRESS", 6), 60: (b"FINDRESOURCE", 10), 61: (b"LOADRESOURCE", 4), 62: (b"LOCKRESOURCE", 2),
+    63: (b"FREERESOURCE", 2), 65: (b"SIZEOFRESOURCE", 4), 91: (b"INITTASK", 0), 95: (b"LOADLIBRARY", 4), 96: (b"FREELIBRARY", 2),
+    115: (b"OUTPUTDEBUGSTRING", 4), 163: (b"GLOBALLRUOLDEST", 2), 164: (b"GLOBALLRUNEWEST", 2), 186: (b"GETSELECTORBASE", 2),
+    188: (b"GETSELECTORLIMIT", 2),
 }
 CONSTANTS = {113: (b"__AHSHIFT", 3), 114: (b"__AHINCR", 8)}
 
 
 def kernel():
-    """Entry N is a breakpoint, CC, at offset N of one fixed segment: a processor that stops there knows by its offset which call it has to answer."""
-    code = b"\xcc" * 0x100
+    """Entry N is the four bytes at offset 4 * N of one fixed segment: a breakpoint, CC, and a far return that takes the arguments from the stack. So a
+    processor that stops there knows by its offset which call it has to answer, and goes on to the return."""
+    code = bytearray(b"\xcc" * 4 * (max(KERNEL) + 1))
     entries, last = b"", 0
     for ordinal in sorted(KERNEL | CONSTANTS):
         if ordinal > last + 1:
             entries += bytes([ordinal - last - 1, 0])
         if ordinal in KERNEL:
-            entries += bytes([1, 1, 1]) + words(ordinal)
+            code[4 * ordinal:4 * ordinal + 4] = bytes([0xCC, 0xCA]) + words(KERNEL[ordinal][1])
+            entries += bytes([1, 1, 1]) + words(4 * ordinal)
         else:
             entries += bytes([1, 0xFE, 1]) + words(CONSTANTS[ordinal][1])
         last = ordinal
-    listed = [(name, ordinal) for ordinal, name in KERNEL.items()] + [(name, ordinal) for ordinal, (name, _) in CONSTANTS.items()]
-    return module(LIBRARY, [(PRELOAD, code, [])], names(b"KERNEL", listed), [], b"\0", entries + b"\0", 0, b"")
+    listed = [(name, ordinal) for ordinal, (name, _) in (KERNEL | CONSTANTS).items()]
+    return module(LIBRARY, [(PRELOAD, bytes(code), [])], names(b"KERNEL", listed), [], b"\0", entries + b"\0", 0, b"")
 
 
 def main():

@@ -24,6 +24,12 @@
 extern "C" {
 #endif
 
+/* The version of this header, a byte for each of its numbers: 0.1.0, as w16heap --version has it. */
+#define W16_VERSION 0x000100
+
+/* The version of the library that is linked. A program that is linked with the library of its header gets W16_VERSION. */
+uint32_t w16_version(void);
+
 /* A machine, or none. */
 typedef struct w16 {
     void *at;
