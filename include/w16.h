@@ -83,6 +83,7 @@ static inline const char *w16_status_text(uint8_t status) {
  * in its high word. An object has a selector for each 65,536 bytes, 8 apart. */
 #define W16_FIRST_SELECTOR 0x0107
 #define W16_SELECTOR(handle) ((uint16_t)((handle) | 1))
+#define W16_SELECTOR_AT(slot) ((uint16_t)((slot) << 3 | 7))
 #define W16_FAR(selector, offset) ((uint32_t)(selector) << 16 | (uint16_t)(offset))
 #define W16_SELECTOR_OF(pointer) ((uint16_t)((pointer) >> 16))
 #define W16_OFFSET_OF(pointer) ((uint16_t)(pointer))
@@ -214,7 +215,8 @@ uint8_t w16_get_descriptor(w16 *machine, uint16_t selector, w16_descriptor *told
  * after a call by which descriptors may change:
  *     for (slot = 0; w16_next_changed(&machine, known, count, &slot) == W16_DONE; )
  * Such calls are w16_global_alloc, _free, _compact, _realloc and _discard, loads, calls that free modules, and those that load, lock and free
- * resources; far accesses that fetch; and w16_local_alloc and w16_local_realloc, by which a segment may grow. No other changes any, as is proved. */
+ * resources; far accesses that fetch; and w16_local_alloc and w16_local_realloc, by which a segment may grow. No other changes any, as is proved. Bytes
+ * may change under an unchanged descriptor too: w16_local_init, _alloc, _realloc, _free, _discard and _compact write into the segment that DS names. */
 uint8_t w16_next_changed(w16 *machine, w16_descriptor *known, size_t count, uint16_t *slot);
 
 /* Module files. They are kept in memory. A file's name is length bytes of text; letters of ASCII may differ in case. */

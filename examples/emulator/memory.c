@@ -19,7 +19,7 @@ uint8_t *memory_bytes(void) {
 void memory_put(unsigned slot) {
     uint32_t base = known[slot].base, from = base, to = base + known[slot].limit + 1, count;
     if (memcmp(bytes + from, same + from, to - from) == 0) {
-        use(SELECTOR_OF_SLOT(slot));
+        use(W16_SELECTOR_AT(slot));
         return;
     }
     while (bytes[from] == same[from])
@@ -29,8 +29,8 @@ void memory_put(unsigned slot) {
     memcpy(same + from, bytes + from, to - from);
     for (; from < to; from += count) {
         count = to - from < MOST_IN_A_LINE ? to - from : MOST_IN_A_LINE;
-        done(w16_write(&machine, W16_FAR(SELECTOR_OF_SLOT(slot), from - base), bytes + from, count));
-        note(calls, "Write 0x%08x ", (unsigned)W16_FAR(SELECTOR_OF_SLOT(slot), from - base));
+        done(w16_write(&machine, W16_FAR(W16_SELECTOR_AT(slot), from - base), bytes + from, count));
+        note(calls, "Write 0x%08x ", (unsigned)W16_FAR(W16_SELECTOR_AT(slot), from - base));
         note_bytes(calls, bytes + from, count);
         note(replies, "ok\n");
     }
@@ -39,7 +39,7 @@ void memory_put(unsigned slot) {
 void memory_get(unsigned slot) {
     uint32_t base = known[slot].base;
     size_t count = (size_t)known[slot].limit + 1;
-    done(w16_peek(&machine, W16_FAR(SELECTOR_OF_SLOT(slot), 0), same + base, count));
+    done(w16_peek(&machine, W16_FAR(W16_SELECTOR_AT(slot), 0), same + base, count));
     memcpy(bytes + base, same + base, count);
     processor_forget(slot);
 }

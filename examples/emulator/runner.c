@@ -72,7 +72,7 @@ void after_call(unsigned written) {
             memory_get(slot);
         processor_describe(slot);
         moved++;
-        note(calls, "GetSelectorBase 0x%04x\nGetSelectorLimit 0x%04x\n", SELECTOR_OF_SLOT(slot), SELECTOR_OF_SLOT(slot));
+        note(calls, "GetSelectorBase 0x%04x\nGetSelectorLimit 0x%04x\n", W16_SELECTOR_AT(slot), W16_SELECTOR_AT(slot));
         note(replies, "%08x\n%08x\n", (unsigned)it->base, (unsigned)it->limit);
     }
     if (written != 0)
@@ -137,8 +137,8 @@ static void end_log(void) {
     for (unsigned slot = 0; slot < slots; slot++)
         for (uint32_t at = 0; known[slot].present && at <= known[slot].limit; at += sizeof bytes) {
             uint32_t left = known[slot].limit + 1 - at, count = left < sizeof bytes ? left : (uint32_t)sizeof bytes;
-            done(w16_read(&machine, W16_FAR(SELECTOR_OF_SLOT(slot), at), bytes, count));
-            note(calls, "Read 0x%08x %u\n", (unsigned)W16_FAR(SELECTOR_OF_SLOT(slot), at), (unsigned)count);
+            done(w16_read(&machine, W16_FAR(W16_SELECTOR_AT(slot), at), bytes, count));
+            note(calls, "Read 0x%08x %u\n", (unsigned)W16_FAR(W16_SELECTOR_AT(slot), at), (unsigned)count);
             note(replies, "bytes ");
             note_bytes(replies, bytes, count);
         }

@@ -13,9 +13,6 @@ extern w16 machine;
 extern w16_descriptor known[SLOTS];
 extern size_t slots; /* how many of them can have an object */
 
-/* The selector of a slot: of the local descriptor table, and for programs, which run at level 3. */
-#define SELECTOR_OF_SLOT(slot) ((uint16_t)((slot) << 3 | 7))
-
 /* runner.c. What is said goes to said, and the log to calls and replies, each of which may be none. */
 extern FILE *said, *calls, *replies;
 void note(FILE *file, const char *format, ...);
