@@ -221,7 +221,8 @@ uint8_t w16_next_changed(w16 *machine, w16_descriptor *known, size_t count, uint
 
 /* Module files. They are kept in memory. A file's name is length bytes of text; letters of ASCII may differ in case. */
 
-/* Adds a file, whose name and bytes are copied. W16_EXISTS: a file has that name, and stays as it is, since a module may be loaded from it. */
+/* Adds a file, whose name and bytes are copied. W16_EXISTS: a file has that name, and stays as it is, since a module may be loaded from it.
+ * W16_BAD_SIZE: the name is empty. */
 uint8_t w16_add_file(w16 *machine, const char *name, size_t length, const uint8_t *bytes, size_t count);
 /* The name of the file that a load missed: ask after one that answered 2 or 20, add the file, and load again. It is the last name, of at most
  * W16_MOST_NAME bytes, by which no file was found; W16_NONE_MISSING where a file was found or added since. W16_BAD_SIZE: the buffer is shorter. */

@@ -2,7 +2,7 @@
 use Rattle.std.specs.Prelude.{◌≡◌, ℕ, ◌⊎◌, true, MatchBool, nat_lt, List, [], ◌∷◌, ◌++◌, length, drop, Option, Some, None, IfSome}
 use Rattle.w16_store.specs.Files.{file_of}
 use Rattle.w16_loading.specs.{File.Label, File.Label.Number, File.Label.Text}
-use Rattle.w16_kernel.specs.declared.growing.AddFault.TheVariants.{Exists, Memory}
+use Rattle.w16_kernel.specs.declared.growing.AddFault.TheVariants.{Exists, Memory, Unnamed}
 use Rattle.w16_kernel.specs.Growing.{AddsFile, IsNotAdded}
 use Rattle.w16_c.specs.declared.status.TheConstants.{DONE, NO_MACHINE, NO_MEMORY, BAD_SIZE, EXISTS, NONE_MISSING}
 use Rattle.w16_c.specs.{declared.held.Held.Held, Makes.IsEmpty}
@@ -16,6 +16,7 @@ abbrev pub AddCalls : Held → List ℕ → List ℕ → ℕ → Held → Type 0
 AddCalls old name bytes status new =
     ((status ≡ DONE) × (old.is_held ≡ true) × (new.is_held ≡ true) × AddsFile old.world name bytes new.world)
     ⊎ ((status ≡ NO_MACHINE) × IsEmpty old new)
+    ⊎ ((status ≡ BAD_SIZE) × IsNotAdded old.world.loading.files name Unnamed × SameMachine old new)
     ⊎ ((status ≡ EXISTS) × IsNotAdded old.world.loading.files name Exists × SameMachine old new)
     ⊎ ((status ≡ NO_MEMORY) × IsNotAdded old.world.loading.files name Memory × SameMachine old new)
 

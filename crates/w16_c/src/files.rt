@@ -10,7 +10,7 @@ use std::alloc::Global;
 use w16_kernel::AddFault;
 
 /// Adds a module file, whose bytes are copied, under a name that no file of the machine has, in any case of letters. `EXISTS` is that one has it:
-/// no file is replaced. It takes memory, and `NO_MEMORY` is that there was none. Only `DONE` changes anything.
+/// no file is replaced; `BAD_SIZE` that the name is empty. It takes memory, and `NO_MEMORY` is that there was none. Only `DONE` changes anything.
 #[unsafe(no_mangle)]
 pub extern "C" fn w16_add_file(alloc: Global, held: &mut Held, name: &[u8], bytes: &[u8]) -> u8
     ensures { AddCalls held.old name.now bytes.now result held.new }
@@ -22,6 +22,7 @@ pub extern "C" fn w16_add_file(alloc: Global, held: &mut Held, name: &[u8], byte
     put_back(held, alloc, kernel);
     match added {
         Ok(()) => DONE,
+        Err(AddFault::Unnamed) => BAD_SIZE,
         Err(AddFault::Exists) => EXISTS,
         Err(AddFault::Memory) => NO_MEMORY,
     }

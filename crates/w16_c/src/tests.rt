@@ -239,7 +239,8 @@ fn a_file_is_never_replaced(rt: HostRuntime) {
     let alloc = rt.alloc();
     let (mut held, is_begun) = begun(alloc, 4096);
     let first = w16_add_file(alloc, &mut held, b"TTOP.DLL", b"") == DONE;
-    let second = w16_add_file(alloc, &mut held, b"ttop.dll", TTOP) == EXISTS;
+    let second = w16_add_file(alloc, &mut held, b"ttop.dll", TTOP) == EXISTS
+        && w16_add_file(alloc, &mut held, b"", TTOP) == BAD_SIZE;
     let kept = loaded(alloc, &mut held) == Some(11) && misses(alloc, &mut held, NONE_MISSING, b"");
     assert!(rt; is_freed(alloc, held) && is_begun && first && second && kept);
 }

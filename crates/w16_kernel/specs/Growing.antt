@@ -1,9 +1,9 @@
 -- Files that come while a machine runs.
-use Rattle.std.specs.Prelude.{◌≡◌, ℕ, List, length, nat_lt, if◌then◌else◌, Option, Some, None, IsSome, Result, Err, refl}
+use Rattle.std.specs.Prelude.{◌≡◌, ◌<◌, ℕ, List, [], length, nat_lt, if◌then◌else◌, Option, Some, None, IsSome, Result, Err, refl}
 use Rattle.std.specs.Coded.{Coded, code_by, coded×, coded_ℕ, coded_list, coded_option}
 use Rattle.w16_store.specs.{Files.file_of, Files.AreWith, declared.store.StoreFault.StoreFault, declared.store.StoreFault.TheVariants.Missing}
 use Rattle.w16_machine.specs.World.{World}
-use Rattle.w16_kernel.specs.declared.growing.AddFault.TheVariants.{Exists, Memory}
+use Rattle.w16_kernel.specs.declared.growing.AddFault.TheVariants.{Exists, Memory, Unnamed}
 use Rattle.w16_kernel.specs.{declared.growing.AddFault.AddFault, declared.growing.TheConstants.MOST_NAME}
 
 -- A store that grows: its files, and the name by which a length was last asked for and no file found, if it is kept.
@@ -21,11 +21,13 @@ missed_by len name = None
 
 -- why a file isn't added: another one has the name; or none has, and there was no memory
 abbrev pub IsNotAdded : List (List ℕ × List ℕ) → List ℕ → AddFault → Type 0
+IsNotAdded files name Unnamed = name ≡ []
 IsNotAdded files name Exists = IsSome (file_of files name)
 IsNotAdded files name Memory = file_of files name ≡ None
 
 -- the same world, with one file more
 pub record AddsFile (old : World) (name bytes : List ℕ) (new : World) : Type 0 where
+  pub named : 0 < length name
   pub unnamed : file_of old.loading.files name ≡ None
   pub files : AreWith name bytes old.loading.files new.loading.files
   pub rest : new ≡ record old { loading = record old.loading { files = new.loading.files } }

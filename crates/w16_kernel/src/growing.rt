@@ -1,5 +1,5 @@
 //! A store in memory that takes new files while a machine runs.
-ghost use Rattle.std.specs.Prelude.{◌≡◌, [], None, IfErr, IfSome, OnOk, OnErr, option_map, IfOk};
+ghost use Rattle.std.specs.Prelude.{◌≡◌, ◌<◌, [], length, None, IfErr, IfSome, OnOk, OnErr, option_map, IfOk};
 ghost use Rattle.w16_store.specs.Files.{file_of, length_of, AreWith, HasBytes, IsHonestAnswer, IsMissing};
 ghost use Rattle.w16_store.specs.Later.{IsLater, RoseIf, is_device};
 ghost use Rattle.w16_kernel.specs.Growing.{missed_by, IsNotAdded};
@@ -19,6 +19,9 @@ type Name = ArrayVec<u8, MOST_NAME>;
 /// Why a file isn't added.
 #[derive(Debug, Clone, Copy, PartialEq, Eq, Drop, Error)]
 pub enum AddFault {
+    /// The name is empty.
+    #[error("a file without a name")]
+    Unnamed,
     /// There is a file of that name.
     #[error("there is a file of that name")]
     Exists,
@@ -62,10 +65,14 @@ impl GrowingStore {
     /// Adds a file, whose name no other file has. A fault leaves the files as they were.
     pub fn add(&mut self, name: &[u8], bytes: &[u8]) -> Result<(), AddFault>
         ensures fresh { OnOk result (file_of self.old.files name.now ≡ None) }
+        ensures named { OnOk result (0 < length name.now) }
         ensures added { OnOk result (AreWith name.now bytes.now self.old.files self.new.files) }
         ensures fault { IfErr result (IsNotAdded self.old.files name.now) }
         ensures same { OnErr result (self.new ≡ self.old) }
     {
+        if name.is_empty() {
+            return Err(AddFault::Unnamed);
+        }
         if self.files.len_of(name).is_ok() {
             return Err(AddFault::Exists);
         }

@@ -151,7 +151,7 @@ impl<S: Store + Drop, A: Allocator + Copy> Kernel<S, A> {
 }
 
 impl<A: Allocator + Copy> Kernel<GrowingStore, A> {
-    /// Adds a module file under a name that no file has, in any case of letters. No file is replaced: what is loaded stays as its file says. A fault
+    /// Adds a module file under a name of at least one byte that no file has, in any case of letters. No file is replaced: what is loaded stays as its file says. A fault
     /// changes nothing.
     pub fn add_file(&mut self, name: &[u8], bytes: &[u8]) -> Result<(), AddFault>
         ensures added { OnOk result (AddsFile self.old name.now bytes.now self.new) }
