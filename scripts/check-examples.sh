@@ -74,7 +74,8 @@ if [ -n "$ne" ]; then
 fi
 if [ -n "$map" ]; then
     compare compaction.svg 0 "$map" --memory 512 compaction.txt
-    compare modules.svg 0 "$map" --memory 4096 --dir "$room/modules" modules.txt
+    check strips "$map" --text --memory 512 --selectors 4 compaction.txt
+    compare modules.svg 0 "$map" --memory 512 --dir "$room/modules" modules.txt
 fi
 
 echo "check-examples: $passed passed, $failed failed"

@@ -12,6 +12,7 @@ ghost use Rattle.w16_kernel.specs.Runs.{command_of, reply_of, answer_of, IsCall,
 ghost use Rattle.w16_kernel.specs.Stops.{StopsEarly};
 
 mod ask;
+pub mod facts;
 pub mod modules;
 mod peek;
 pub mod why;

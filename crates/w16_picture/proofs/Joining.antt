@@ -3,11 +3,11 @@ use Rattle.std.proofs.Common.{◌≡◌, ℕ, suc, ◌+◌, ◌<◌, ◌==◌, B
 use Rattle.std.proofs.{lemmas.Bool.eqb-true, lemmas.List.append-nil, lemmas.List.take_more}
 use Rattle.std.specs.{List.cons_option, List.filter_map, Option.option_and_then, Option.option_map_or}
 use Rattle.w16_model.specs.declared.Owner.{Owner}
-use Rattle.w16_picture.specs.{declared.bands.Band.Band, declared.layout.Rect.Rect, Bands.JoinsObject, Bands.band_to, Bands.handle_in, Bands.is_named, Bands.partner}
+use Rattle.w16_picture.specs.{declared.bands.Band.Band, declared.facts.Source.TheVariants.Script, declared.layout.Rect.Rect, Bands.JoinsObject, Bands.band_to, Bands.handle_in, Bands.is_named, Bands.partner}
 
 -- what stands for the element past a list's end
 abbrev pub no_rect : Rect
-no_rect = record { left = 0; right = 0; item = record { at = 0; size = 0; owner = None } }
+no_rect = record { left = 0; right = 0; item = record { at = 0; size = 0; owner = None; flags = 0; source = Script; local = None } }
 
 -- one more element, mapped and filtered
 pub filter_map-some : {X Y : Type 0} (h : X → Option Y) (xs : List X) (i : ℕ) (d : X) (y : Y) → i < length xs → h (get_or xs i d) ≡ Some y → filter_map h (take (i + 1) xs) ≡ filter_map h (take i xs) ++ y ∷ []

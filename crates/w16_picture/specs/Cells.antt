@@ -1,18 +1,12 @@
 -- Strips as text.
 use Rattle.std.specs.Prelude.{ℕ, ◌-◌, Option, Some, None, List, [], ◌∷◌, ◌++◌, length, replicate, codes, decimal, ◌==◌, ◌||◌, nat_lt, if◌then◌else◌}
-use Rattle.w16_model.specs.declared.Kind.TheVariants.{Fixed, Moveable, Discardable}
-use Rattle.w16_model.specs.{declared.Kind.Kind, declared.Owner.Owner}
-use Rattle.w16_picture.specs.{declared.layout.Rect.Rect, declared.svg.Caption.Caption, Escape.hex, Escape.shown}
+use Rattle.w16_model.specs.declared.Owner.{Owner}
+use Rattle.w16_picture.specs.{declared.facts.Source.Source, declared.layout.Rect.Rect, declared.svg.Caption.Caption, Escape.hex, Escape.shown, Facts.role_letter}
 
--- what a part begins with: a dot, or a letter for the kind
-abbrev pub kind_letter : Kind → ℕ
-kind_letter Fixed = 70
-kind_letter Moveable = 77
-kind_letter Discardable = 68
-
-abbrev pub letter_of : Option Owner → ℕ
-letter_of None = 46
-letter_of (Some owner) = kind_letter owner.kind
+-- what a part begins with: a dot, or a letter for what an object is drawn as
+abbrev pub letter_of : Option Owner → Source → ℕ
+letter_of None source = 46
+letter_of (Some owner) source = role_letter source owner.kind
 
 -- what fills the rest of it: dots, dashes, or double dashes where it is locked
 unfoldable pub filler_of : Option Owner → ℕ
@@ -29,7 +23,7 @@ abbrev pub filled : ℕ → List ℕ → ℕ → List ℕ
 filled width start filler = start ++ replicate (width - length start) filler
 
 abbrev pub cells : Rect → List ℕ
-cells rect = filled (rect.right - rect.left) (letter_of rect.item.owner ∷ marks (rect.right - rect.left) rect.item.owner) (filler_of rect.item.owner)
+cells rect = filled (rect.right - rect.left) (letter_of rect.item.owner rect.item.source ∷ marks (rect.right - rect.left) rect.item.owner) (filler_of rect.item.owner)
 
 unfoldable pub heading_text : Caption → List ℕ
 heading_text caption = decimal caption.number ++ codes ": " ++ shown caption.line.now ++ codes " -> " ++ shown caption.reply.now ++ codes "\n"

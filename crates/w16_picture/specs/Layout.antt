@@ -1,10 +1,9 @@
 -- Strips: the parts of a walk as rectangles, to scale.
 use Rattle.std.specs.Prelude.{◌≡◌, ℕ, ◌+◌, ◌*◌, ◌/◌, ◌-◌, ◌<◌, List, [], ◌∷◌, length, map, max, All}
-use Rattle.w16_model.specs.declared.Item.{Item}
-use Rattle.w16_picture.specs.declared.layout.Rect.{Rect}
+use Rattle.w16_picture.specs.{declared.facts.Part.Part, declared.layout.Rect.Rect}
 
 -- parts with a byte each, one after another from an address up to another
-abbrev pub Fills : ℕ → ℕ → List Item → Type 0
+abbrev pub Fills : ℕ → ℕ → List Part → Type 0
 Fills from to [] = from ≡ to
 Fills from to (item ∷ items) = (item.at ≡ from) × (0 < item.size) × Fills (from + item.size) to items
 
@@ -12,16 +11,16 @@ Fills from to (item ∷ items) = (item.at ≡ from) × (0 < item.size) × Fills 
 abbrev pub edge : ℕ → ℕ → ℕ → ℕ → ℕ
 edge spare memory before at = before + at * spare / memory
 
-abbrev pub rect_of : ℕ → ℕ → ℕ → Item → Rect
+abbrev pub rect_of : ℕ → ℕ → ℕ → Part → Rect
 rect_of spare memory before item =
     record { left = edge spare memory before item.at; right = edge spare memory (before + 1) (item.at + item.size); item = item }
 
-abbrev pub rects_from : ℕ → ℕ → ℕ → List Item → List Rect
+abbrev pub rects_from : ℕ → ℕ → ℕ → List Part → List Rect
 rects_from spare memory before [] = []
 rects_from spare memory before (item ∷ items) = rect_of spare memory before item ∷ rects_from spare memory (before + 1) items
 
 -- The spare units are those that are left of the columns when each part has one.
-abbrev pub strip : ℕ → ℕ → List Item → List Rect
+abbrev pub strip : ℕ → ℕ → List Part → List Rect
 strip columns memory items = rects_from (columns - length items) memory 0 items
 
 -- rectangles one after another, from a unit up to another
@@ -36,7 +35,7 @@ pub record IsToScale (spare memory : ℕ) (rect : Rect) : Type 0 where
   pub most : (rect.right - rect.left) * memory < rect.item.size * spare + 2 * memory
 
 -- exactly the walk's parts, in order, over the whole width, which is one unit for each part at least, and to scale
-pub record IsStrip (columns memory : ℕ) (items : List Item) (rects : List Rect) : Type 0 where
+pub record IsStrip (columns memory : ℕ) (items : List Part) (rects : List Rect) : Type 0 where
   pub parts : map (λ rect. rect.item) rects ≡ items
   pub cover : Adjoin 0 (max columns (length items)) rects
   pub scaled : All (IsToScale (columns - length items) memory) rects

@@ -2,6 +2,7 @@
 pub mod Layout
 pub mod Bands
 pub mod Escape
+pub mod Facts
 pub mod Svg
 pub mod Cells
 pub mod Strips

@@ -4,7 +4,7 @@ use Rattle.std.specs.Prelude.{ℕ, ◌+◌, true, false, List, ◌++◌, codes, 
 use Rattle.std.specs.List.{filter_map, flat_map}
 use specs.declared.strips.Shape.TheVariants.{Part, Cells, Comes, Goes}
 use specs.declared.style.Style.TheVariants.{Svg, Text}
-use specs.{declared.layout.Rect.Rect, declared.strips.Shape.Shape, declared.style.Style.Style, declared.svg.Caption.Caption, Bands.band_to, Bands.is_alone, Cells.cells, Cells.heading_text, Svg.band_text, Svg.caption_text, Svg.fade_text, Svg.group_text, Svg.rect_text}
+use specs.{declared.layout.Rect.Rect, declared.strips.Shape.Shape, declared.style.Style.Style, declared.svg.Caption.Caption, Bands.band_to, Bands.is_alone, Cells.cells, Cells.heading_text, Escape.shown, Svg.band_text, Svg.caption_text, Svg.fade_text, Svg.group_text, Svg.order_text, Svg.rect_text}
 
 abbrev pub shape_in : Shape → Rect → List ℕ
 shape_in Part rect = rect_text rect
@@ -20,4 +20,5 @@ changes before rects =
 
 abbrev pub strip_in : Style → ℕ → List Rect → List Rect → ℕ → Caption → List ℕ
 strip_in Svg y before rects width caption = group_text y ++ changes before rects ++ flat_map (shape_in Part) rects ++ caption_text caption (width + 12)
-strip_in Text y before rects width caption = heading_text caption ++ flat_map (shape_in Cells) rects ++ codes "\n"
+    ++ order_text caption.order.now (width + 12)
+strip_in Text y before rects width caption = heading_text caption ++ flat_map (shape_in Cells) rects ++ codes "\n" ++ shown caption.order.now ++ codes "\n"

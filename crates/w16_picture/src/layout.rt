@@ -2,15 +2,15 @@
 ghost use Rattle.std.specs.Prelude.{◌≡◌, ◌+◌, ◌*◌, ◌/◌, ◌-◌, ◌^◌, ◌<◌, ◌≤◌, ◌↔◌, length, IsTrue, IfOk};
 ghost use Rattle.w16_picture.specs.Layout.{Fills, edge, rect_of, strip, IsStrip};
 
+use crate::facts::Part;
 use std::alloc::{AllocError, Global};
-use w16_model::Item;
 
 /// A part of a walk, and where it begins and ends on its strip, in units from the strip's left end.
 #[derive(Clone, Copy, Debug, PartialEq, Eq)]
 pub struct Rect {
     pub left: u32,
     pub right: u32,
-    pub item: Item,
+    pub item: Part,
 }
 
 impl Rect {
@@ -23,7 +23,7 @@ impl Rect {
 }
 
 /// Whether the parts lie one after another from the first byte of the memory up to its last, each with a byte.
-pub fn covers(memory: u32, items: &[Item]) -> bool
+pub fn covers(memory: u32, items: &[Part]) -> bool
     ensures { IsTrue result ↔ Fills 0 memory items.now }
 {
     let mut at = 0;
@@ -37,7 +37,7 @@ pub fn covers(memory: u32, items: &[Item]) -> bool
 }
 
 /// Where an address stands that has that many parts before it, when that many units are left to be shared.
-fn edge_of(spare: u32, memory: u32, before: u32, at: u32) -> u32
+pub fn edge_of(spare: u32, memory: u32, before: u32, at: u32) -> u32
     requires inside { at ≤ memory }
     requires some { 0 < memory }
     requires fits { before + spare < 2 ^ 32 }
@@ -47,7 +47,7 @@ fn edge_of(spare: u32, memory: u32, before: u32, at: u32) -> u32
 }
 
 /// The rectangle of a part that has that many parts before it.
-fn rectangle(spare: u32, memory: u32, before: u32, item: &Item) -> Rect
+fn rectangle(spare: u32, memory: u32, before: u32, item: &Part) -> Rect
     requires inside { item.now.at + item.now.size ≤ memory }
     requires some { 0 < memory }
     requires fits { before + 1 + spare < 2 ^ 32 }
@@ -66,7 +66,7 @@ pub fn rectangles(
     alloc: Global,
     columns: u32,
     memory: u32,
-    items: &[Item],
+    items: &[Part],
 ) -> Result<Vec<Rect>, AllocError>
     requires some { 0 < memory }
     requires whole { Fills 0 memory items.now }

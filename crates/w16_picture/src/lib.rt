@@ -3,6 +3,7 @@
 
 mod bands;
 mod escape;
+mod facts;
 mod layout;
 mod picture;
 mod strips;
@@ -12,6 +13,7 @@ mod text;
 
 pub use bands::{Band, alone, bands_between};
 pub use escape::{push_escaped, push_shown};
+pub use facts::{Part, Source};
 pub use layout::{Rect, covers, rectangles};
 pub use picture::Picture;
 pub use style::Style;

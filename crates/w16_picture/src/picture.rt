@@ -7,13 +7,13 @@ ghost use Rattle.w16_picture.specs.Style.{columns_of};
 ghost use Rattle.w16_picture.specs.Strips.{strip_in};
 ghost use Rattle.w16_picture.specs.Picture.{opening_text, size_text, closing_text};
 
+use crate::facts::Part;
 use crate::layout::{Rect, rectangles};
 use crate::strips::push_strip;
 use crate::style::{HEAD, Style};
 use crate::svg::Caption;
 use std::alloc::{AllocError, Global};
 use std::io::{self, Write};
-use w16_model::Item;
 
 /// A picture that is printed strip by strip, and what the next strip needs of those before it.
 #[derive(Debug, Drop)]
@@ -86,7 +86,7 @@ impl Picture {
     pub fn draw<W: Write>(
         &mut self,
         writer: &mut W,
-        items: &[Item],
+        items: &[Part],
         caption: &Caption<'_>,
     ) -> io::Result<()>
         requires whole { Fills 0 self.old.memory items.now }

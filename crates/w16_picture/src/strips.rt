@@ -6,9 +6,10 @@ ghost use Rattle.w16_picture.specs.Svg.{band_text};
 ghost use Rattle.w16_picture.specs.Strips.{shape_in, changes, strip_in};
 
 use crate::bands::{Band, alone, bands_between};
+use crate::escape::push_shown;
 use crate::layout::Rect;
 use crate::style::Style;
-use crate::svg::{Caption, push_band, push_caption, push_fade, push_group, push_rect};
+use crate::svg::{Caption, push_band, push_caption, push_fade, push_group, push_order, push_rect};
 use crate::text::{push_cells, push_heading};
 use std::alloc::AllocError;
 
@@ -83,11 +84,14 @@ pub fn push_strip(
             push_group(out, y)?;
             push_changes(out, before, rects)?;
             push_shapes(out, Shape::Part, rects)?;
-            push_caption(out, caption, width + 12)
+            push_caption(out, caption, width + 12)?;
+            push_order(out, caption.order, width + 12)
         }
         Style::Text => {
             push_heading(out, caption)?;
             push_shapes(out, Shape::Cells, rects)?;
+            out.push_str("\n")?;
+            push_shown(out, caption.order)?;
             out.push_str("\n")
         }
     }

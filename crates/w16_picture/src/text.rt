@@ -1,32 +1,46 @@
 //! Strips as text: a character for each unit.
 ghost use Rattle.std.specs.Prelude.{◌≡◌, ◌<◌, replicate};
 ghost use Rattle.w16_picture.specs.Escape.{Adds};
+ghost use Rattle.w16_picture.specs.Facts.{role_letter};
 ghost use Rattle.w16_picture.specs.Cells.{letter_of, filler_of, marks, cells, heading_text};
 
 use crate::escape::push_shown;
+use crate::facts::{Part, Source};
 use crate::layout::Rect;
 use crate::svg::Caption;
 use std::alloc::AllocError;
-use w16_model::{Item, Kind};
+use w16_model::Kind;
 
-/// What a part begins with.
-fn letter(item: &Item) -> char
-    ensures value { result ≡ letter_of item.now.owner }
+/// What an object begins with.
+fn role_letter(source: Source, kind: Kind) -> char
+    ensures value { result ≡ role_letter source kind }
     ensures ascii { result < 128 }
 {
-    match item.owner {
-        None => '.',
-        Some(owner) => match owner.kind {
+    match source {
+        Source::Script => match kind {
             Kind::Fixed => 'F',
             Kind::Moveable => 'M',
             Kind::Discardable => 'D',
         },
+        Source::Segment { code, .. } => { if code { 'C' } else { 'S' } }
+        Source::Resource { .. } => 'R',
+    }
+}
+
+/// What a part begins with.
+fn letter(item: &Part) -> char
+    ensures value { result ≡ letter_of item.now.owner item.now.source }
+    ensures ascii { result < 128 }
+{
+    match item.owner {
+        None => '.',
+        Some(owner) => role_letter(item.source, owner.kind),
     }
 }
 
 /// What fills the rest of a part.
 #[tactic(auto, unfolding(crate::specs::Cells::filler_of))]
-fn filler(item: &Item) -> char
+fn filler(item: &Part) -> char
     ensures value { result ≡ filler_of item.now.owner }
     ensures ascii { result < 128 }
 {
@@ -38,7 +52,7 @@ fn filler(item: &Item) -> char
 
 /// Appends what stands in a part after its letter, as far as there is room: an object's handle, and the lock count of a locked one.
 #[tactic(auto, unfolding(crate::specs::Cells::marks))]
-fn push_marks(out: &mut String, width: u32, item: &Item) -> Result<(), AllocError>
+fn push_marks(out: &mut String, width: u32, item: &Part) -> Result<(), AllocError>
     ensures { Adds result out.old out.new (marks width item.now.owner) }
 {
     let Some(owner) = item.owner else {

@@ -1,4 +1,5 @@
 //! Why the program ends before its script does.
+use std::alloc::AllocError;
 use std::process::ExitCode;
 use std::{fmt, io};
 use thiserror::Error;
@@ -26,6 +27,12 @@ pub enum Fault {
     TooLong,
     #[error("more strips than --limit: draw fewer lines by --from and --to, or raise it")]
     Limit,
+}
+
+impl From<AllocError> for Fault {
+    fn from(_error: AllocError) -> Fault {
+        Fault::Memory
+    }
 }
 
 impl From<SizeFault> for Fault {

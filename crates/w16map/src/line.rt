@@ -1,8 +1,7 @@
-//! One line of a script: its reply, and the heap after it.
+//! One line of a script, and its reply.
 
 use crate::fault::Fault;
 use w16_kernel::{MOST_READ, Machine, Reply};
-use w16_model::Item;
 use w16_script::{Line, MOST_BYTES, Registers, print_error, print_reply, read_line};
 
 /// Room for one line: the bytes that it writes, and those that it reads.
@@ -19,18 +18,6 @@ impl Rooms {
             read: [0; MOST_READ],
         }
     }
-}
-
-/// Appends the parts of the heap. An error is that there was no memory.
-pub fn push_walk<K: Machine>(items: &mut Vec<Item>, kernel: &K) -> Result<(), Fault> {
-    let mut from = 0;
-    'items: while let Some(item) = kernel.walk_from(from) {
-        if items.push(item).is_err() {
-            return Err(Fault::Memory);
-        }
-        from = item.at + item.size;
-    }
-    Ok(())
 }
 
 /// Puts a reply's text into the room for it, and answers whether it is a walk's.

@@ -6,6 +6,7 @@ mod line;
 mod options;
 mod play;
 mod script;
+mod view;
 
 use fault::{Fault, report};
 use options::parse;

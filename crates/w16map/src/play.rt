@@ -6,10 +6,11 @@ use crate::fault::Fault;
 use crate::line::Rooms;
 use crate::options::Options;
 use crate::script::{Script, play_lines};
+use crate::view::View;
 use std::alloc::Global;
 use std::fs::File;
 use std::io::{self, BufReader, BufWriter, Read, Write};
-use w16_kernel::{Kernel, Machine, check_sizes};
+use w16_kernel::{Kernel, check_sizes};
 use w16_picture::{Picture, Style};
 use w16_script::Registers;
 use w16_store::{DirStore, Store, SystemDisk};
@@ -40,17 +41,17 @@ fn script_on(alloc: Global) -> Script {
         rooms: Rooms::new(),
         line: Vec::new(alloc),
         reply: Vec::new(alloc),
-        before: Vec::new(alloc),
-        after: Vec::new(alloc),
+        before: View::new(alloc),
+        after: View::new(alloc),
     }
 }
 
 /// Prints the picture of a script, strip by strip. It is whole also where a fault ends the run, but for one of the writer.
-fn print_picture(
+fn print_picture<S: Store + Drop>(
     alloc: Global,
     reader: &mut impl Read,
     writer: &mut impl Write,
-    kernel: &mut impl Machine,
+    kernel: &mut Kernel<S>,
     picture: &mut Picture,
     options: &Options<'_>,
 ) -> Result<(), Fault> {
@@ -69,11 +70,11 @@ fn print_picture(
 }
 
 /// Draws a script on a machine, on standard output.
-fn draw_script(
+fn draw_script<S: Store + Drop>(
     rt: &HostRuntime,
     options: &Options<'_>,
     reader: &mut impl Read,
-    kernel: &mut impl Machine,
+    kernel: &mut Kernel<S>,
 ) -> Result<(), Fault>
     requires { IsMemorySize options.now.memory }
 {
