@@ -1,13 +1,12 @@
 -- Where objects stay as they are, so do descriptors.
-use Rattle.std.specs.Prelude.{◌≡◌, ℕ, List, Option, Some, None, is_some, length, option_map, unwrap_or}
-use Rattle.w16_kernel.proofs.Common.{refl, sym, ap, ◌∙◌}
+use Rattle.std.specs.Prelude.{◌≡◌, ◌-◌, ℕ, List, Option, Some, None, is_some, length, option_map, unwrap_or}
+use Rattle.w16_kernel.proofs.Common.{ne_format, refl, sym, ap, ◌∙◌}
 use Rattle.w16_model.specs.{Calls.global_handle, Calls.selector_base, Calls.selector_limit, Handles.Handles, Handles.Part, Handles.dword_of, Handles.handle_of, Handles.offset_in, Handles.part_of_selector, Handles.reached, Heap.Object, Heap.bytes_at, Heap.object_at, Owned.is_code}
 use Rattle.w16_global.specs.declared.peek.Descriptor.{Descriptor}
 use Rattle.w16_global.specs.Peek.{selector_descriptor}
 use Rattle.w16_machine.specs.LocalStays.{HasSamePlaces}
 use Rattle.w16_machine.specs.Machine.Command.{OfLoading, OfLocals}
 use Rattle.w16_machine.proofs.LocalStays.{local_places_law, places_law}
-use Rattle.w16_format.specs.Tables.{ne_format}
 use Rattle.w16_kernel.specs.Descriptors.{DescriptorsLaw}
 
 -- what is told of a fact of something that may be absent
@@ -22,14 +21,14 @@ module _ (old new : Handles) (same : HasSamePlaces old new) (selector : ℕ) whe
   parts : part_of_selector new selector ≡ part_of_selector old selector
   parts = ap (λ a. part_of_selector (record old { attributes = a }) selector) same.attributes
 
-  limit_in : Handles → Option Part → ℕ
+  abbrev limit_in : Handles → Option Part → ℕ
   limit_in handles q = elim q [ None ↦ 0 | Some p ↦ unwrap_or (option_map (λ (bytes : List ℕ). reached (length bytes) p - 1) (bytes_at handles.heap p.slot)) 0 ]
 
   limits : (q : Option Part) → limit_in new q ≡ limit_in old q
   limits None = refl
   limits (Some p) = ap (λ n. unwrap_or n 0) (through length (λ n. reached n p - 1) (bytes_at new.heap p.slot) (bytes_at old.heap p.slot) (same.sizes p.slot))
 
-  handle_in : Handles → Option Part → ℕ
+  abbrev handle_in : Handles → Option Part → ℕ
   handle_in handles q = elim q [ None ↦ 0 | Some p ↦ unwrap_or (option_map (λ (o : Object). dword_of selector (handle_of o.kind p.slot)) (object_at handles.heap p.slot)) 0 ]
 
   handles_same : (q : Option Part) → handle_in new q ≡ handle_in old q
@@ -43,7 +42,7 @@ module _ (old new : Handles) (same : HasSamePlaces old new) (selector : ℕ) whe
       shown None = refl
       shown (Some x) = refl
 
-  told : Handles → Part → Descriptor
+  abbrev told : Handles → Part → Descriptor
   told handles p = record { base = selector_base handles selector; limit = selector_limit handles selector; object = offset_in (global_handle handles selector); present = is_some (bytes_at handles.heap p.slot); code = is_code handles p.slot }
 
   tells : (q : Option Part) → option_map (told new) q ≡ option_map (told old) q

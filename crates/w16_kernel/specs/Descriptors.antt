@@ -7,7 +7,7 @@ use Rattle.w16_machine.specs.Machine.Command.{OfLoading, OfLocals}
 use Rattle.w16_kernel.specs.Parts.{KernelStep}
 
 -- those that may take bytes of an object, or free, load or fetch one, and local calls for which a heap may grow
-pub may_change_descriptors : World → Command → Bool
+abbrev pub may_change_descriptors : World → Command → Bool
 may_change_descriptors old (OfLoading command) = step_may_take old.loading command
 may_change_descriptors old (OfLocals command) = may_grow command
 
