@@ -48,13 +48,13 @@ module _ (handles : Handles) (selector : ℕ) where
       turn true e = cc
       turn false e = by_answer offset (length slice) _ (λ e. cc) (far_fault handles selector offset (length slice)) refl e
 
-pub met_absent : (old next : Handles) → next ≡ old → (selector : ℕ) (command : C.FarCommand) → selector ≡ selector_in (pointer_in command) → (fault : FarFault) → C.FarReplies old command (replies.Reply.Fault fault) next → fault ≡ NotPresent → IsAbsent next selector
-met_absent old next same selector command named fault s e = rw (same, named) (here command s)
+pub met_absent : (old mid : C.LoadingWorld) → mid ≡ old → (command : C.FarCommand) (fault : FarFault) → C.FarReplies old.handles command (replies.Reply.Fault fault) mid.handles → fault ≡ NotPresent → IsAbsent mid.handles (selector_in (pointer_in command))
+met_absent old mid same command fault s e = rw same (here command s)
   where
-    here : (command : C.FarCommand) → C.FarReplies old command (replies.Reply.Fault fault) next → IsAbsent old (selector_in (pointer_in command))
-    here (Read pointer count) s = read_absent old (selector_in pointer) (offset_in pointer) count (ap Fault (sym e) ∙ s.0)
-    here (Write pointer bytes) s = write_absent old (selector_in pointer) (offset_in pointer) bytes (ap Fault (sym e) ∙ s.0)
-    here (Fill pointer count byte) s = write_absent old (selector_in pointer) (offset_in pointer) (C.repeated count byte) (ap Fault (sym e) ∙ s.0)
+    here : (command : C.FarCommand) → C.FarReplies old.handles command (replies.Reply.Fault fault) mid.handles → IsAbsent old.handles (selector_in (pointer_in command))
+    here (Read pointer count) s = read_absent old.handles (selector_in pointer) (offset_in pointer) count (ap Fault (sym e) ∙ s.0)
+    here (Write pointer bytes) s = write_absent old.handles (selector_in pointer) (offset_in pointer) bytes (ap Fault (sym e) ∙ s.0)
+    here (Fill pointer count byte) s = write_absent old.handles (selector_in pointer) (offset_in pointer) (C.repeated count byte) (ap Fault (sym e) ∙ s.0)
 
 pub slot_in_handle : (kind : Kind) (slot : ℕ) → handle_of kind slot / 8 ≡ slot
 slot_in_handle Fixed slot = omega arith

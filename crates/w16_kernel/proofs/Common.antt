@@ -4,25 +4,24 @@ pub use Rattle.std.proofs.lemmas.List.{map_push}
 pub use Rattle.std.proofs.lemmas.List.{length-map, length-take-le, take_all}
 pub use Rattle.std.proofs.lemmas.Option.{slice_get_within}
 pub use Rattle.std.specs.List.{slice_get}
-pub use Rattle.std.specs.Prelude.{IfNone, MatchBool, MatchOption, MatchResult, Ok, Result, ◌%◌, ◌+◌, ◌-◌, ◌/◌, ◌≢◌}
+pub use Rattle.std.specs.Prelude.{IfNone, IfOk, OnErr, MatchBool, MatchOption, Ok, Result, ◌%◌, ◌+◌, ◌-◌, ◌/◌, ◌≢◌}
 pub use Rattle.w16_format.specs.Ne.{ne_format}
 pub use Rattle.w16_format.specs.Tables.{segment_in, tables_in}
-pub use Rattle.w16_global.proofs.Common.{Global, common_steps, cut_on, take_more}
+pub use Rattle.w16_global.proofs.Common.{Global, common_steps, take_more}
 pub use Rattle.w16_kernel.specs.Fetching.{IsAbsent, IsSourceFor, KernelFetch, Refetches}
-pub use Rattle.w16_resource.specs.Parts.{IsLoadingOver, loading_of}
-pub use Rattle.w16_kernel.specs.Parts.{IsWorldOver, KernelStep, OthersStay, ReadsCode, Unswept, discardable_beside, may_take_bytes, object_slot, surviving_heaps, word_of, world_of}
+pub use Rattle.w16_resource.specs.Parts.{IsLoadingOver}
+pub use Rattle.w16_kernel.specs.Parts.{IsWorldOver, KernelStep, OnLocals, OthersStay, ReadsCode, Unswept, discardable_beside, may_take_bytes, object_slot, surviving_heaps, with_surviving, word_of, world_of}
 pub use Rattle.w16_kernel.specs.Runs.{TakesMemory, answer_of, command_of, label_of, load_command, reply_of, write_of}
 pub use Rattle.w16_kernel.specs.Stops.{StopsEarly}
 pub use Rattle.w16_kernel.specs.declared.call.Answer.{Answer}
 pub use Rattle.w16_kernel.specs.declared.call.Call.{Call}
-pub use Rattle.w16_loader.proofs.Common.{IsFetchable, IsSourceOf, LacksBytes}
+pub use Rattle.w16_loader.proofs.Common.{IsSourceOf, LacksBytes}
 pub use Rattle.w16_loader.specs.Registry.{owner_in}
 pub use Rattle.w16_loading.proofs.CodeReads.{code_reads_law}
 pub use Rattle.w16_loading.proofs.Common.{IsSegmentOf, Module, Modules, Segment, Tables, handle_of, map, module_at, not, segment_among, slice_get-get_or, ◌++◌}
-pub use Rattle.w16_loading.proofs.Owners.{of_segment, owner_law, segment_owned}
+pub use Rattle.w16_loading.proofs.Owners.{of_segment, owner_law}
 pub use Rattle.w16_loading.specs.Answers.{FetchesFrom, LoadsFrom, StepOver, told}
 pub use Rattle.w16_loading.specs.Fill.{Fills}
-pub use Rattle.w16_loading.specs.Resource.{with_resource}
 pub use Rattle.w16_store.specs.Later.{IsLater}
 pub use Rattle.w16_loading.specs.Families.{FamilyStep}
 pub use Rattle.w16_loading.specs.Owner.{owner_of}

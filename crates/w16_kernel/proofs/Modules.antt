@@ -31,3 +31,10 @@ module _ {honest : Type 0} {old : LoadingWorld} {next : C.Handles} {loaded : C.M
           → C.FamilyStep (C.FetchesFrom Fills answers) (LoadsFrom Fills answers) old (C.OfModules (load_command b file)) reply (record old { handles = next; modules = loaded; files = left })
       turn true f = (answer, e, f)
       turn false f = (answer, e, f)
+
+-- the value of parts that are open
+abbrev pub seen : {opened closed : LoadingWorld} → opened ≡ closed → LoadingWorld
+seen {opened = opened} e = opened
+
+abbrev pub seen_world : {opened closed : C.World} → opened ≡ closed → C.World
+seen_world {opened = opened} e = opened

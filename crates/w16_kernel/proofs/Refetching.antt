@@ -9,6 +9,7 @@ use Rattle.w16_loader.specs.{declared.table.SegmentOf.SegmentOf, declared.segmen
 use Rattle.w16_loader.proofs.Fetches.{fetches}
 use Rattle.w16_loading.proofs.Requests.{fetch_fills}
 use Rattle.std.specs.FinMap as finmap
+use Rattle.w16_kernel.specs.declared.call.Reply.TheVariants as code
 
 -- Look-ups that find nothing, and a module.
 
@@ -42,49 +43,49 @@ module _ {world : LoadingWorld} (slot : ℕ) (is : C.IsLoadingWorld world) (none
   pub segment_there : (place : SegmentOf) → C.owner_in (Some place) ≡ segment_among (finmap.entries world.modules) slot → (m : Module) × C.IsSegmentOf world slot place.handle place.number m
   segment_there place e = (C.owner_law world slot (OfSegment place.handle place.number) is).0 (owner_is ∙ sym e)
 
+-- A fetch of an object that a module owns.
+module _ {honest : Type 0} {old : LoadingWorld} (is : C.IsLoadingOver honest old) (name : ℕ) where
+  -- of a resource
+  pub resource_fetched : {fault : Option C.FetchFault} {next : C.Handles} {left : List (List ℕ × List ℕ)} {count : ℕ} → C.IsLater old.files old.failures left count
+      → C.FetchesFrom FillsFewest (told honest C.ne_format old.files old.failures count) old (name / 8) fault (record old { handles = next }) → C.KernelFetch honest old (name / 8) fault (record old { handles = next; files = left; failures = count })
+  resource_fetched stays fetch = (stays, rw stays.same (fetch_fills (told honest C.ne_format old.files old.failures _) old (name / 8) _ _ fetch))
+
+  -- or of a segment
+  module _ {slot : ℕ} (at : slot ≡ name / 8) (unloaded : finmap.get old.loads (name / 8) ≡ None) {A : Type 0} {source : SegmentSource A} (found : finmap.get old.loads slot ≡ None → IsSourceFor old slot source) where
+    here : IsSourceFor old (name / 8) source
+    here = subst (λ q. IsSourceFor old q source) at (found (ap (finmap.get old.loads) at ∙ unloaded))
+
+    -- its number is one of its file's
+    pub within : (0 < source.number) × (source.number ≤ length source.module.now.segments)
+    within = (here.segment.has.0, turn _ (slice_get here.m.tables.segments (source.number - 1)) refl (C.of_segment old is.0 (name / 8) here.handle source.number here.m here.segment))
+      where
+        turn : (P : C.Segment → Type 0) (p : Option C.Segment) → slice_get here.m.tables.segments (source.number - 1) ≡ p → C.IsSomeAnd p P → source.number ≤ length source.module.now.segments
+        turn P None e h = absurd h
+        turn P (Some x) e h =
+            let inside = C.slice_get_within here.m.tables.segments (source.number - 1) x e in
+            let as_long = ap (λ (t : C.Tables). length t.segments) here.tables ∙ C.length-map source.module.now.segments C.segment_in in
+            let some = here.segment.has.0 in
+            omega (arith, inside, as_long, some)
+
+    pub fetched : {fault : Option C.FetchFault} {next : C.Handles} {left : List (List ℕ × List ℕ)} {count : ℕ} → C.IsLater old.files old.failures left count
+        → GivesSegment honest old.files source.file.now source.module.now source.number source.values.now old.failures count old.handles (name / 8) fault next → C.KernelFetch honest old (name / 8) fault (record old { handles = next; files = left; failures = count })
+    fetched {next = next} stays given = resource_fetched stays (fetches honest old (name / 8) source.number source.file.now source.module.now source.values.now within.1
+        (record { sound = is.0; of_files = is.1; handle = here.handle; m = here.m; segment = here.segment; source = here.source_of; tables = here.tables }) old.failures _ _ next given)
+
 -- An access that met an object without bytes.
 module _ {honest : Type 0} {old : LoadingWorld} (is : C.IsLoadingOver honest old) {selector : ℕ} (absent : C.IsAbsent old.handles selector) (few : selector < 65536) {name : ℕ} (named : name ≡ C.offset_in (C.global_handle old.handles selector)) where
-  pub here : far_slot old.handles selector ≡ name / 8
-  here = slot_is old.handles is.0.handles selector absent few name named
+  selected : far_slot old.handles selector ≡ name / 8
+  selected = slot_is old.handles is.0.handles selector absent few name named
 
   -- whether it is a module's
-  needs : {b : Bool} → is_owned old.handles (name / 8) ≡ b → needs_fetch (FarAnswer.Fault NotPresent) old selector ≡ b
-  needs e = ap (is_owned old.handles) here ∙ e
+  pub needs : {b : Bool} → is_owned old.handles (name / 8) ≡ b → needs_fetch (FarAnswer.Fault NotPresent) old selector ≡ b
+  needs e = ap (is_owned old.handles) selected ∙ e
 
-  -- what is fetched is a module's
-  pub resource_fetched : is_owned old.handles (name / 8) ≡ true → (fault : Option C.FetchFault) {next : C.Handles} {left : List (List ℕ × List ℕ)} {count : ℕ} → C.IsLater old.files old.failures left count
-      → (C.LacksBytes old.handles name → C.FetchesFrom FillsFewest (told honest C.ne_format old.files old.failures count) old (name / 8) fault (record old { handles = next }))
-      → (needs_fetch (FarAnswer.Fault NotPresent) old selector ≡ true) × C.KernelFetch honest old (far_slot old.handles selector) fault (record old { handles = next; files = left; failures = count })
-  resource_fetched owned fault stays fetch =
-      (needs owned, rw here (stays, rw stays.same (fetch_fills (told honest C.ne_format old.files old.failures _) old (name / 8) fault _ (fetch (lacks old.handles is.0.handles selector absent few name named owned)))))
+  pub lacking : is_owned old.handles (name / 8) ≡ true → C.LacksBytes old.handles name
+  lacking = lacks old.handles is.0.handles selector absent few name named
 
-  -- or a segment
-  module _ {slot : ℕ} (at : slot ≡ name / 8) (segment : finmap.get old.loads (far_slot old.handles selector) ≡ None) where
-    unloaded : finmap.get old.loads slot ≡ None
-    unloaded = ap (finmap.get old.loads) (at ∙ sym here) ∙ segment
+  pub refetched : is_owned old.handles (name / 8) ≡ true → {new : LoadingWorld} → C.KernelFetch honest old (name / 8) None new → C.Refetches honest old selector NotPresent (C.Ok tt) new
+  refetched owned f = (needs owned, rw selected f)
 
-    pub not_needed : (finmap.get old.loads slot ≡ None → C.owned_at old.handles slot ≡ None) → needs_fetch (FarAnswer.Fault NotPresent) old selector ≡ false
-    not_needed none = needs (ap (is_owned old.handles) (sym at) ∙ ap C.is_some (none unloaded))
-
-    module _ {A : Type 0} {source : SegmentSource A} (found : finmap.get old.loads slot ≡ None → IsSourceFor old slot source) where
-      -- its number is one of its file's
-      pub within : (0 < source.number) × (source.number ≤ length source.module.now.segments)
-      within = let s = found unloaded in (s.segment.has.0, turn _ (slice_get s.m.tables.segments (source.number - 1)) refl (C.of_segment old is.0 slot s.handle source.number s.m s.segment))
-        where
-          turn : (P : C.Segment → Type 0) (p : Option C.Segment) → slice_get (found unloaded).m.tables.segments (source.number - 1) ≡ p → C.IsSomeAnd p P → source.number ≤ length source.module.now.segments
-          turn P None e h = absurd h
-          turn P (Some x) e h =
-              let s = found unloaded in
-              let inside = C.slice_get_within s.m.tables.segments (source.number - 1) x e in
-              let as_long = ap (λ (t : C.Tables). length t.segments) s.tables ∙ C.length-map source.module.now.segments C.segment_in in
-              let some = s.segment.has.0 in
-              omega (arith, inside, as_long, some)
-
-      pub fetched : (fault : Option C.FetchFault) {next : C.Handles} {left : List (List ℕ × List ℕ)} {count : ℕ} → C.IsLater old.files old.failures left count
-          → (C.LacksBytes old.handles name → GivesSegment honest old.files source.file.now source.module.now source.number source.values.now old.failures count old.handles (name / 8) fault next)
-          → (needs_fetch (FarAnswer.Fault NotPresent) old selector ≡ true) × C.KernelFetch honest old (far_slot old.handles selector) fault (record old { handles = next; files = left; failures = count })
-      fetched fault {next = next} {count = count} stays given =
-          let s : IsSourceFor old (name / 8) source = subst (λ q. IsSourceFor old q source) at (found unloaded) in
-          let owned = ap C.is_some (C.segment_owned old is.0 (name / 8) s.handle source.number s.m s.segment).1.owned in
-          resource_fetched owned fault stays (λ l. fetches honest old (name / 8) source.number source.file.now source.module.now source.values.now within.1
-          (record { sound = is.0; of_files = is.1; handle = s.handle; m = s.m; segment = s.segment; source = s.source_of; tables = s.tables }) old.failures count fault next (given l))
+  pub unfetched : is_owned old.handles (name / 8) ≡ true → (failed : C.FetchFault) {new : LoadingWorld} → C.KernelFetch honest old (name / 8) (Some failed) new → new.handles ≡ old.handles → C.Refetches honest old selector NotPresent (C.Err (code.Failed failed)) new
+  unfetched owned failed f same = C.inr (needs owned, same, failed, refl, rw selected f)

@@ -152,7 +152,7 @@ module _ (honest : Type 0) (old : World) (is : C.IsWorldOver honest old) (mid : 
   order = old.loading.handles.heap.order
 
   by_call : (call : Call) (answer : Answer) → may_change call ≡ true → ((r : Resized old.loading.handles call answer mid.loading.handles) → r.first ≡ r.slot) → mid.heaps ≡ old.heaps → CallStep old.loading.handles call answer mid.loading.handles
-      → (before : ℕ) → length (without (slot_in call answer) order) ≤ before → OthersStay (Some (slot_in call answer)) before mid.loading.handles.heap mid.heaps
+      → (before : ℕ) → length (without (slot_in call answer) order) ≤ before → OthersStay (Some (slot_in call answer)) before mid
   by_call call answer may keeps same step before le = λ few q other.
       keeps_range _ _ is.0.heaps.handles are call answer may keeps step (omega (arith, le, few)) q other mid.heaps
       (rw same (is.0.heaps.heaps q))
@@ -182,16 +182,16 @@ module _ (honest : Type 0) (old : World) (is : C.IsWorldOver honest old) (mid : 
       turn (Some o) there = absurd (let low = (C.numbered old.loading.handles is.0.heaps.handles 0 (ap is_some there)).0 in omega (arith, low))
 
   freed : (handle : ℕ) (answer : Option Answer) → mid.heaps ≡ old.heaps → IsSomeAnd answer (λ answer. CallStep old.loading.handles (Calls (GlobalFree handle)) answer mid.loading.handles)
-      → OthersStay (Some (handle / 8)) (length (without (handle / 8) order)) mid.loading.handles.heap mid.heaps
+      → OthersStay (Some (handle / 8)) (length (without (handle / 8) order)) mid
   freed handle None same h = absurd h
   freed handle (Some answer) same h = by_call (Calls (GlobalFree handle)) answer refl (other_call _ _) same h (length (without (handle / 8) order)) (omega arith)
 
   -- an object that may have left its slot is not looked at
-  kept : (b : Bool) (slot before : ℕ) (heap : Heap) (tables : FinMap nat_cmp Table) → (b ≡ true → OthersStay (Some slot) before heap tables) → OthersStay (if b then Some slot else None) before heap tables
-  kept true slot before heap tables stay = stay refl
-  kept false slot before heap tables stay = tt
+  kept : (b : Bool) (slot before : ℕ) → (b ≡ true → OthersStay (Some slot) before mid) → OthersStay (if b then Some slot else None) before mid
+  kept true slot before stay = stay refl
+  kept false slot before stay = tt
 
-  pub others_stay : (command : C.Command) (reply : Reply) → C.Unswept honest old command reply mid → OthersStay (C.object_slot command (C.word_of reply)) (C.discardable_beside (C.object_slot command 0) old.loading.handles.heap) mid.loading.handles.heap mid.heaps
+  pub others_stay : (command : C.Command) (reply : Reply) → C.Unswept honest old command reply mid → OthersStay (C.object_slot command (C.word_of reply)) (C.discardable_beside (C.object_slot command 0) old.loading.handles.heap) mid
   others_stay (OfLoading (OfHandles (GlobalAlloc flags size))) (Word handle) s = by_call
       (Calls (GlobalAlloc flags size)) (calls.Answer.Word handle) refl
       (other_call _ _) (ap (λ (w : World). w.heaps) s.1) s.0
@@ -200,7 +200,7 @@ module _ (honest : Type 0) (old : World) (is : C.IsWorldOver honest old) (mid : 
   others_stay (OfLoading (OfHandles (GlobalFree handle))) reply s = freed handle (C.answer_in reply) (ap (λ (w : World). w.heaps) s.1) s.0
   others_stay (OfLoading (OfHandles (GlobalCompact size))) (Dword longest) s = by_call (Calls (GlobalCompact size)) (calls.Answer.Dword longest) refl (other_call _ _) (ap (λ (w : World). w.heaps) s.1) s.0 (length (without 0 order)) (omega arith)
   others_stay (OfLoading (OfHandles (GlobalCompact size))) reply s = absurd s.0
-  others_stay (OfLoading (OfResizes (C.GlobalReAlloc handle size flags))) (Word answer) s = kept ((answer == 0) || (answer / 8 == handle / 8)) _ _ mid.loading.handles.heap _
+  others_stay (OfLoading (OfResizes (C.GlobalReAlloc handle size flags))) (Word answer) s = kept ((answer == 0) || (answer / 8 == handle / 8)) _ _
       (λ here. by_call (ReAllocs handle size flags) (calls.Answer.Word answer) refl (same_slot _ _ _ _ here) (ap (λ (w : World). w.heaps) s.1) s.0 (length (without (handle / 8) order)) (omega arith))
   others_stay (OfLoading (OfResizes (C.GlobalReAlloc handle size flags))) reply s = absurd s.0
   others_stay (OfLoading (OfResizes (C.GlobalDiscard handle))) (Word answer) s = by_call (ReAllocs handle 0 C.GMEM_MOVEABLE) (calls.Answer.Word answer) refl (discarded _ _) (ap (λ (w : World). w.heaps) s.1) s.0 (length (without (handle / 8) order)) (omega arith)

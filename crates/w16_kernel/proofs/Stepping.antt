@@ -1,16 +1,12 @@
 -- A step over the kernel's parts, and the sweep after it, are one step of the machine.
 use Rattle.w16_kernel.proofs
 use proofs.Common as C
-use proofs.Common.{ne_format, IsWorldOver, may_take_bytes, reply_of, StepOver, Bool, Command, Dword, Heap, IsCommand, LoadingCommand, LoadingWorld, OfFar, OfHandles, OfLoading, Step, World, [], false, false≢true, left_in, refl, sym, true, ℕ, ◌∷◌, ◌≡◌, ◌≤◌, step_may_take, Moved}
+use proofs.Common.{ne_format, IsWorldOver, with_surviving, may_take_bytes, reply_of, StepOver, Bool, Command, Dword, Heap, IsCommand, LoadingCommand, LoadingWorld, OfFar, OfHandles, OfLoading, Step, World, [], false, false≢true, left_in, refl, sym, true, ℕ, ◌∷◌, ◌≡◌, ◌≤◌, step_may_take, Moved}
 use Rattle.w16_loading.proofs.Requests.{requests_fewest_law}
 use Rattle.w16_loading.specs.{Answers.FewestOver, Replies.Reply.Bytes}
 use Rattle.w16_model.specs.Far.FarCommand.{Read}
 use Rattle.w16_kernel.specs.declared.call.Reply.{Reply}
 use Rattle.w16_loading.specs.Replies as printed
-
--- the world that the sweep leaves
-abbrev pub with_surviving : World → Command → World
-with_surviving w command = record w { heaps = C.surviving_heaps (may_take_bytes command) w.loading.handles.heap w.heaps }
 
 module _ (honest : Type 0) (old : World) (is : IsWorldOver honest old) where
   -- after a step that takes no bytes all heaps stay
@@ -80,3 +76,14 @@ module _ (honest : Type 0) (old : World) (is : IsWorldOver honest old) where
 
     pub told_world : IsCommand command → IsWorldOver honest (with_surviving mid command)
     told_world known = kept command _ _ known made
+
+-- What a call on local heaps does in whatever world, it does in one.
+pub local_step : {E : Type 0} (honest : Type 0) (old new : World → World) (command : Command) (r : C.Result Reply E) → C.IfOk r (λ reply. (rest : World) → C.OnLocals (old rest) command (reply_of reply) (new rest))
+    → (rest : World) → C.IfOk r (λ reply. C.Unswept honest (old rest) command (reply_of reply) (new rest))
+local_step honest old new command (C.Err e) s rest = tt
+local_step honest old new (C.OfLocals command) (C.Ok reply) s rest = s rest
+local_step honest old new (OfLoading command) (C.Ok reply) s rest = absurd (s rest)
+
+pub wanted_at : {A E : Type 0} (P : World → Type 0) (r : C.Result A E) → C.OnErr r ((rest : World) → P rest) → (rest : World) → C.OnErr r (P rest)
+wanted_at P (C.Ok a) wanted rest = tt
+wanted_at P (C.Err e) wanted rest = wanted rest

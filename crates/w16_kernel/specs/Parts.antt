@@ -4,18 +4,17 @@ use Rattle.std.specs.{Ordering.nat_cmp, FinMap.FinMap}
 use Rattle.w16_model.specs.Calls.HandleCommand.{GlobalAlloc, GlobalFree, GlobalCompact}
 use Rattle.w16_model.specs.{Bytes.part, Changes.without, Handles.Handles, Handles.offset_in, Handles.selector_in, Handles.slot_of_selector, Heap.Heap, Table.Table, Far.FarCommand.Read}
 use Rattle.w16_loading.specs.Families.LoadingCommand.{OfHandles, OfResizes, OfFar, OfModules, OfResources}
-use Rattle.w16_loading.specs.Modules.{IsSegmentOf, Load, Module, Modules, with_handles}
+use Rattle.w16_loading.specs.Modules.{IsSegmentOf, LoadingWorld, Module, with_handles}
 use Rattle.w16_loading.specs.Resizes.ResizeCommand.{GlobalReAlloc, GlobalDiscard}
 use Rattle.w16_loading.specs.{Answers.FewestOver, Answers.StepOver, Families.LoadingCommand, Fetch.is_code, Fetch.segment_bytes, Law.IsOfFiles, Replies.Reply, Replies.Reply.Bytes, Replies.Reply.Word}
 use Rattle.w16_format.specs.Ne.{ne_format}
-use Rattle.w16_resource.specs.Parts.{loading_of}
 use Rattle.w16_machine.specs.LocalStays.{call_may_take, modules_may_take, resources_may_take}
 use Rattle.w16_machine.specs.{World.World, Law.IsWorld, Local.has_range, Local.left_in, LocalCalls.LocalStep, Machine.Command, Machine.OnHandles, Machine.Step, Machine.Command.OfLoading, Machine.Command.OfLocals}
 use Rattle.std.specs.FinMap as finmap
 
 -- the world that these parts are
-abbrev pub world_of : Handles → Modules → FinMap nat_cmp Load → FinMap nat_cmp Table → ℕ → List (List ℕ × List ℕ) → ℕ → World
-world_of handles modules loads heaps ds files failures = record { loading = loading_of handles modules loads files failures; heaps = heaps; ds = ds }
+abbrev pub world_of : LoadingWorld → FinMap nat_cmp Table → ℕ → World
+world_of loading heaps ds = record { loading = loading; heaps = heaps; ds = ds }
 
 -- What holds of each world over a store: it is one; and where the store is honest, all that is loaded is of its file.
 abbrev pub IsWorldOver : Type 0 → World → Type 0
@@ -35,6 +34,42 @@ Unswept honest old (OfLoading (OfResources command)) reply new =
     StepOver honest ne_format old.loading (OfResources command) reply new.loading × (new ≡ record old { loading = new.loading })
 Unswept honest old (OfLocals command) reply new = LocalStep old command reply new
 
+-- What a call on handles alone does to them; and what one on modules or resources does to the part of the machine that has them.
+abbrev pub OnGlobal : Handles → Command → Reply → Handles → Type 0
+OnGlobal old (OfLoading (OfHandles command)) reply new = OnHandles old (OfHandles command) reply new
+OnGlobal old (OfLoading (OfResizes command)) reply new = OnHandles old (OfResizes command) reply new
+OnGlobal old command reply new = ⊥
+
+abbrev pub OnModules : Type 0 → LoadingWorld → Command → Reply → LoadingWorld → Type 0
+OnModules honest old (OfLoading (OfModules command)) reply new = StepOver honest ne_format old (OfModules command) reply new
+OnModules honest old (OfLoading (OfResources command)) reply new = StepOver honest ne_format old (OfResources command) reply new
+OnModules honest old command reply new = ⊥
+
+-- and one on local heaps to the world
+abbrev pub OnLocals : World → Command → Reply → World → Type 0
+OnLocals old (OfLocals command) reply new = LocalStep old command reply new
+OnLocals old command reply new = ⊥
+
+-- which calls these are
+abbrev pub IsOnGlobal : Command → Type 0
+IsOnGlobal (OfLoading (OfHandles command)) = Unit {0}
+IsOnGlobal (OfLoading (OfResizes command)) = Unit {0}
+IsOnGlobal command = ⊥
+
+abbrev pub IsOfModules : Command → Type 0
+IsOfModules (OfLoading (OfModules command)) = Unit {0}
+IsOfModules (OfLoading (OfResources command)) = Unit {0}
+IsOfModules command = ⊥
+
+abbrev pub IsOfLocals : Command → Type 0
+IsOfLocals (OfLocals command) = Unit {0}
+IsOfLocals command = ⊥
+
+-- the same, but that the store may have failed more often
+pub record IsSameLoading (old new : LoadingWorld) : Type 0 where
+  pub counted : old.failures ≤ new.failures
+  pub same : new ≡ record old { failures = new.failures }
+
 -- Whether a step may take bytes of a global object, so that a sweep of local heaps is due after it.
 abbrev pub may_take_bytes : Command → Bool
 may_take_bytes (OfLoading (OfHandles command)) = call_may_take command
@@ -47,6 +82,10 @@ may_take_bytes (OfLocals command) = false
 -- the local heaps that are left where bytes may have been taken
 abbrev pub surviving_heaps : Bool → Heap → FinMap nat_cmp Table → FinMap nat_cmp Table
 surviving_heaps may_take heap tables = if may_take then left_in heap tables else tables
+
+-- the world that a sweep after a command leaves
+abbrev pub with_surviving : World → Command → World
+with_surviving w command = record w { heaps = surviving_heaps (may_take_bytes command) w.loading.handles.heap w.heaps }
 
 -- the slot that a handle names, if its object still has it after a GlobalReAlloc has answered this
 abbrev pub kept_slot : ℕ → ℕ → Option ℕ
@@ -72,9 +111,9 @@ abbrev pub discardable_beside : Option ℕ → Heap → ℕ
 discardable_beside slot heap = unwrap_or (option_map (λ slot. length (without slot heap.order)) slot) 0
 
 -- Where there are as many as before, every local heap has its range but that in the object itself.
-abbrev pub OthersStay : Option ℕ → ℕ → Heap → FinMap nat_cmp Table → Type 0
-OthersStay slot before heap tables =
-    IfSome slot (λ slot. before ≤ length (without slot heap.order) → (q : ℕ) → q ≢ slot → IfSome (finmap.get tables q) (λ _. has_range heap tables q ≡ true))
+abbrev pub OthersStay : Option ℕ → ℕ → World → Type 0
+OthersStay slot before w = IfSome slot
+    (λ slot. before ≤ length (without slot w.loading.handles.heap.order) → (q : ℕ) → q ≢ slot → IfSome (finmap.get w.heaps q) (λ _. has_range w.loading.handles.heap w.heaps q ≡ true))
 
 -- What a far read of code answers is a part of its file's bytes, relocated with the values that were bound at load: also where the code was
 -- discarded and is fetched for it.

@@ -19,7 +19,8 @@ pub mod why;
 
 use crate::call::{Answer, Call, MOST_READ, Reply};
 use crate::growing::{AddFault, GrowingStore};
-use crate::library::Library;
+use crate::parts::{Loading, Parts};
+use crate::step::made;
 use std::alloc::{AllocError, Allocator, Global};
 use std::marker::Model;
 use w16_global::Global16;
@@ -33,24 +34,21 @@ use w16_store::Store;
 /// The machine over a store of module files. Its value is the world that a script sees.
 #[derive(Drop)]
 pub struct Kernel<S: Store + Drop, A: Allocator + Copy = Global> {
-    global: Global16<A>,
-    locals: LocalHeaps<A>,
-    ds: u16,
-    library: Library<S, A>,
+    parts: Parts<S, A>,
 }
 
 impl<S: Store + Drop, A: Allocator + Copy> Model for Kernel<S, A> {
     ghost use Rattle.w16_machine.specs.World.{World};
     ghost use Rattle.w16_kernel.specs.Codes.{world_code};
-    ghost use Rattle.w16_kernel.specs.Parts.{IsWorldOver, world_of};
+    ghost use Rattle.w16_kernel.specs.Parts.{IsWorldOver};
 
     ghost Value = { World };
 
     ghost coded = { world_code };
 
-    ghost view = { λ k. world_of k.global.handles k.library.registry k.library.resources k.locals k.ds (S.files k.library.store) (S.failures k.library.store) };
+    ghost view = { λ k. k.parts };
 
-    ghost invariant = { λ k. IsWorldOver S.is_honest (world_of k.global.handles k.library.registry k.library.resources k.locals k.ds (S.files k.library.store) (S.failures k.library.store)) };
+    ghost invariant = { λ k. IsWorldOver S.is_honest k.parts };
 }
 
 impl<S: Store + Drop, A: Allocator + Copy> Kernel<S, A> {
@@ -68,18 +66,21 @@ impl<S: Store + Drop, A: Allocator + Copy> Kernel<S, A> {
         let locals = LocalHeaps::new(alloc, slots)?;
         // last, so that no way out has to drop it
         let global = Global16::new(alloc, memory, slots)?;
-        let library = Library {
+        let loading = Loading {
             alloc,
+            global,
             registry,
             resources,
             store,
             scratch,
         };
+        let ds = 0;
         Ok(Kernel {
-            global,
-            locals,
-            ds: 0,
-            library,
+            parts: Parts {
+                loading,
+                locals,
+                ds,
+            },
         })
     }
 
@@ -103,7 +104,7 @@ impl<S: Store + Drop, A: Allocator + Copy> Kernel<S, A> {
         ensures wanted { OnErr result (TakesMemory self.old (command_of call.now)) }
         ensures refused { OnErr result (IsSame self.old self.new) }
     {
-        self.made(call, room)
+        made(&mut self.parts, call, room)
     }
 
     /// The i-th part of the heap by address, from 0 on: an object's bytes, the object named by its handle, or a hole. None after the last. It
@@ -111,8 +112,8 @@ impl<S: Store + Drop, A: Allocator + Copy> Kernel<S, A> {
     pub fn walk_at(&self, i: usize) -> Option<Item>
         ensures { (items : List Item) × IsWorldWalk self.now items × (result ≡ slice_get items i) }
     {
-        self.global.reveal_handles();
-        self.global.walk(i)
+        self.parts.loading.global.reveal_handles();
+        self.parts.loading.global.walk(i)
     }
 
     /// The first part of the heap that begins at an address or above it; none after the last. A whole walk asks from 0 on, then from the
@@ -128,8 +129,8 @@ impl<S: Store + Drop, A: Allocator + Copy> Kernel<S, A> {
         // All parts together are the walk of the world.
         ensures whole { (items : List Item) × IsWorldWalk self.now items }
     {
-        self.global.reveal_handles();
-        self.global.walk_from(from)
+        self.parts.loading.global.reveal_handles();
+        self.parts.loading.global.walk_from(from)
     }
 
     /// Calls one after another, and their answers: a run of the machine, which keeps what each run promises ([`Kernel::call`]). An error is that
@@ -141,7 +142,7 @@ impl<S: Store + Drop, A: Allocator + Copy> Kernel<S, A> {
             × Promises self.old events) }
         ensures refused { OnErr result (StopsEarly (KernelStep S.is_honest) self.old calls.now self.new) }
     {
-        let mut answers = Vec::with_capacity(self.library.alloc, calls.len())?;
+        let mut answers = Vec::with_capacity(self.parts.loading.alloc, calls.len())?;
         let mut room = [0; MOST_READ];
         for call in calls {
             let reply = self.call(call, &mut room)?;
@@ -159,7 +160,7 @@ impl<A: Allocator + Copy> Kernel<GrowingStore, A> {
         ensures fault { IfErr result (IsNotAdded self.old.loading.files name.now) }
         ensures same { OnErr result (self.new ≡ self.old) }
     {
-        match self.library.store.add(name, bytes) {
+        match self.parts.loading.store.add(name, bytes) {
             Ok(()) => Ok(()),
             Err(fault) => Err(fault),
         }
@@ -169,6 +170,6 @@ impl<A: Allocator + Copy> Kernel<GrowingStore, A> {
     pub fn missed_file(&self) -> Option<&[u8]>
         ensures { IfSome result (λ name. file_of self.now.loading.files name.now ≡ None) }
     {
-        self.library.store.missed()
+        self.parts.loading.store.missed()
     }
 }

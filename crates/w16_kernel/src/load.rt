@@ -1,20 +1,20 @@
 //! Calls on modules that are more than one call of the loader.
 ghost use Rattle.std.specs.Prelude.{◌≡◌, IfOk, OnErr};
-ghost use Rattle.w16_store.specs.Later.{IsLater};
 ghost use Rattle.w16_loading.specs.Answers.{StepOver};
+ghost use Rattle.w16_loading.specs.Families as families;
 ghost use Rattle.w16_loading.specs.Families.{pointer_to, proc_address};
+ghost use Rattle.w16_loader.specs.Loading.{answer_in};
 ghost use Rattle.w16_loading.specs.Free.{Frees};
 ghost use Rattle.w16_loading.specs.Families.LoadingCommand.{OfModules};
 ghost use Rattle.w16_loading.specs.Modules.{LoadingWorld};
 ghost use Rattle.w16_format.specs.Ne.{ne_format};
 ghost use Rattle.w16_loader.specs.Registry.{in_world};
-ghost use Rattle.w16_resource.specs.Parts.{loading_of};
+ghost use Rattle.w16_kernel.specs.Parts.{IsSameLoading};
 ghost use Rattle.w16_kernel.specs.Runs.{label_of, load_command, reply_of, IsReply};
 
 use crate::call::{Label, Reply};
-use crate::library::Library;
+use crate::parts::Loading;
 use std::alloc::{AllocError, Allocator};
-use w16_global::Global16;
 use w16_loader::{LoadAnswer, Registry, free, load};
 use w16_loading::FetchFault;
 use w16_model::names::dword_of;
@@ -23,46 +23,50 @@ use w16_store::Store;
 /// The reply to `LoadModule`, or to `LoadLibrary`. An error is that there was no memory, and then the world is the same.
 #[inline(never)]
 pub fn load_reply<S: Store + Drop, A: Allocator + Copy>(
-    global: &mut Global16<A>,
-    library: &mut Library<S, A>,
+    loading: &mut Loading<S, A>,
     file: &[u8],
     is_load_module: bool,
 ) -> Result<Reply<'static>, AllocError>
-    ensures step { IfOk result (λ reply. StepOver S.is_honest ne_format (loading_of global.old.handles library.old.registry library.old.resources (S.files library.old.store) (S.failures library.old.store))
-        (OfModules (load_command is_load_module file.now)) (reply_of reply)
-        (loading_of global.new.handles library.new.registry library.new.resources (S.files library.new.store) (S.failures library.new.store))) }
+    ensures step { IfOk result (λ reply. StepOver S.is_honest ne_format loading.old (OfModules (load_command is_load_module file.now)) (reply_of reply) loading.new) }
     ensures short { IfOk result (λ reply. IsReply reply) }
-    ensures refused { OnErr result ((library.new.registry ≡ library.old.registry) × (library.new.resources ≡ library.old.resources) × (global.new ≡ global.old)) }
-    ensures stays { IsLater (S.files library.old.store) (S.failures library.old.store) (S.files library.new.store) (S.failures library.new.store) }
+    ensures refused { OnErr result (IsSameLoading loading.old loading.new) }
 {
-    match load(
-        library.alloc,
-        &mut library.registry,
-        global,
-        &mut library.store,
-        &mut library.scratch,
+    let answer = load(
+        loading.alloc,
+        &mut loading.registry,
+        &mut loading.global,
+        &mut loading.store,
+        &mut loading.scratch,
         file,
         is_load_module,
-    ) {
-        Err(fault) => Err(fault),
-        Ok(LoadAnswer::Says(word)) => Ok(Reply::Word(word)),
-        Ok(LoadAnswer::StoreFails) => Ok(Reply::Failed(FetchFault::Store)),
+    )?;
+    Ok(reply_to_load(answer))
+}
+
+/// The reply that tells what a load answered.
+fn reply_to_load(answer: LoadAnswer) -> Reply<'static>
+    ensures told { reply_of result ≡ families.reply_of (answer_in answer) }
+    ensures short { IsReply result }
+{
+    match answer {
+        LoadAnswer::Says(word) => Reply::Word(word),
+        LoadAnswer::StoreFails => Reply::Failed(FetchFault::Store),
     }
 }
 
 /// `FreeLibrary` and `FreeModule`: one use less, and then modules go that have no use and no importer, with the objects of their segments and of
 /// their resources, locked or not. 1 where the handle names something still, else 0.
 pub fn free_module<S: Store + Drop, A: Allocator + Copy>(
-    global: &mut Global16<A>,
-    library: &mut Library<S, A>,
+    loading: &mut Loading<S, A>,
     handle: u16,
 ) -> u16
-    ensures frees { Frees (loading_of global.old.handles library.old.registry library.old.resources (S.files library.old.store) (S.failures library.old.store)) handle result
-        (loading_of global.new.handles library.new.registry library.new.resources (S.files library.old.store) (S.failures library.old.store)) }
-    ensures store { library.new.store ≡ library.old.store }
+    ensures frees { Frees loading.old handle result (record loading.new { failures = loading.old.failures }) }
+    ensures unread { (loading.new.files ≡ loading.old.files) × (loading.new.failures ≡ loading.old.failures) }
 {
-    let answer = free(&mut library.registry, global, handle);
-    library.resources.sweep(&library.registry, global);
+    let answer = free(&mut loading.registry, &mut loading.global, handle);
+    loading
+        .resources
+        .sweep(&loading.registry, &mut loading.global);
     answer
 }
 

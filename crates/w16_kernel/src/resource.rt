@@ -9,14 +9,14 @@ ghost use Rattle.w16_loading.specs.Families.LoadingCommand.{OfResources};
 ghost use Rattle.w16_loading.specs.Families.ResourceCommand.{LoadResource, LockResource};
 ghost use Rattle.w16_loading.specs.Modules.{LoadingWorld};
 ghost use Rattle.w16_loading.specs.Resource as meaning;
-ghost use Rattle.w16_resource.specs.Parts.{IsLoadingOver, loading_of};
+ghost use Rattle.w16_resource.specs.Parts.{IsLoadingOver, dword_in, word_in};
 ghost use Rattle.w16_kernel.specs.Runs.{label_of, reply_of, IsReply};
 
 use crate::call::{Label, Reply};
-use crate::library::Library;
+use crate::parts::Loading;
 use std::alloc::Allocator;
-use w16_global::Global16;
 use w16_loader::Registry;
+use w16_loading::FetchFault;
 use w16_ne::ResourceName;
 use w16_store::Store;
 
@@ -42,54 +42,66 @@ pub fn find_resource<A: Allocator + Copy>(
     w16_resource::find_resource(registry, handle, resource_name(name), resource_name(kind))
 }
 
-/// The reply to `LoadResource`.
-#[inline(never)]
-pub fn load_resource<S: Store + Drop, A: Allocator + Copy>(
-    global: &mut Global16<A>,
-    library: &mut Library<S, A>,
-    handle: u16,
-    place: u16,
-) -> Reply<'static>
-    requires { IsLoadingOver S.is_honest (loading_of global.old.handles library.old.registry library.old.resources (S.files library.old.store) (S.failures library.old.store)) }
-    ensures step { StepOver S.is_honest ne_format (loading_of global.old.handles library.old.registry library.old.resources (S.files library.old.store) (S.failures library.old.store))
-        (OfResources (LoadResource handle place)) (reply_of result)
-        (loading_of global.new.handles library.new.registry library.new.resources (S.files library.new.store) (S.failures library.new.store)) }
+/// The reply that tells a word, or why an object got no bytes.
+fn word_reply(answer: Result<u16, FetchFault>) -> Reply<'static>
+    ensures told { reply_of result ≡ word_in answer }
     ensures short { IsReply result }
 {
-    match library.resources.load(
-        &library.registry,
-        global,
-        &mut library.store,
-        &mut library.scratch,
-        handle,
-        place,
-    ) {
+    match answer {
         Ok(word) => Reply::Word(word),
         Err(fault) => Reply::Failed(fault),
     }
 }
 
+/// The reply that tells a double word, or why an object got no bytes.
+fn dword_reply(answer: Result<u32, FetchFault>) -> Reply<'static>
+    ensures told { reply_of result ≡ dword_in answer }
+    ensures short { IsReply result }
+{
+    match answer {
+        Ok(dword) => Reply::Dword(dword),
+        Err(fault) => Reply::Failed(fault),
+    }
+}
+
+/// The reply to `LoadResource`.
+#[inline(never)]
+pub fn load_resource<S: Store + Drop, A: Allocator + Copy>(
+    loading: &mut Loading<S, A>,
+    handle: u16,
+    place: u16,
+) -> Reply<'static>
+    requires { IsLoadingOver S.is_honest loading.old }
+    ensures step { StepOver S.is_honest ne_format loading.old (OfResources (LoadResource handle place)) (reply_of result) loading.new }
+    ensures short { IsReply result }
+{
+    let answer = loading.resources.load(
+        &loading.registry,
+        &mut loading.global,
+        &mut loading.store,
+        &mut loading.scratch,
+        handle,
+        place,
+    );
+    word_reply(answer)
+}
+
 /// The reply to `LockResource`.
 #[inline(never)]
 pub fn lock_resource<S: Store + Drop, A: Allocator + Copy>(
-    global: &mut Global16<A>,
-    library: &mut Library<S, A>,
+    loading: &mut Loading<S, A>,
     handle: u16,
 ) -> Reply<'static>
-    requires { IsLoadingOver S.is_honest (loading_of global.old.handles library.old.registry library.old.resources (S.files library.old.store) (S.failures library.old.store)) }
-    ensures step { StepOver S.is_honest ne_format (loading_of global.old.handles library.old.registry library.old.resources (S.files library.old.store) (S.failures library.old.store))
-        (OfResources (LockResource handle)) (reply_of result)
-        (loading_of global.new.handles library.new.registry library.new.resources (S.files library.new.store) (S.failures library.new.store)) }
+    requires { IsLoadingOver S.is_honest loading.old }
+    ensures step { StepOver S.is_honest ne_format loading.old (OfResources (LockResource handle)) (reply_of result) loading.new }
     ensures short { IsReply result }
 {
-    match library.resources.lock(
-        &library.registry,
-        global,
-        &mut library.store,
-        &mut library.scratch,
+    let answer = loading.resources.lock(
+        &loading.registry,
+        &mut loading.global,
+        &mut loading.store,
+        &mut loading.scratch,
         handle,
-    ) {
-        Ok(pointer) => Reply::Dword(pointer),
-        Err(fault) => Reply::Failed(fault),
-    }
+    );
+    dword_reply(answer)
 }

@@ -1,16 +1,20 @@
 //! One step of the machine over its parts.
-ghost use Rattle.std.specs.Prelude.{◌≡◌, List, length, IfOk, OnOk, OnErr};
+ghost use Rattle.std.specs.Prelude.{◌≡◌, ◌<◌, [], ◌∷◌, List, length, IfOk, OnOk, OnErr};
 ghost use Rattle.w16_model.specs.Handles.{handle_of};
 ghost use Rattle.w16_model.specs.Walk.{IsWalk};
+ghost use Rattle.w16_resource.specs.Parts.{IsLoadingOver};
+ghost use Rattle.w16_local.specs.Parts.{with_parts};
+ghost use Rattle.w16_machine.specs.World.{World};
 ghost use Rattle.w16_machine.specs.Machine.{IsCommand, IsSame};
+ghost use Rattle.w16_writes.specs.Promises.{Promises};
 ghost use Rattle.w16_kernel.specs.Runs.{command_of, reply_of, HasRoom, IsCall, IsReply, TakesMemory};
-ghost use Rattle.w16_kernel.specs.Parts as parts;
-ghost use Rattle.w16_kernel.specs.Parts.{IsWorldOver, OthersStay, Unswept, may_take_bytes, surviving_heaps, world_of};
+ghost use Rattle.w16_kernel.specs.Parts as meaning;
+ghost use Rattle.w16_kernel.specs.Parts.{IsOfLocals, IsOfModules, IsOnGlobal, IsSameLoading, IsWorldOver, KernelStep, OnGlobal, OnLocals, OnModules, OthersStay, Unswept, with_surviving};
 
 use crate::call::{Call, Reply};
 use crate::far::{Written, read, write};
-use crate::library::Library;
 use crate::load::{free_module, load_reply, proc_address};
+use crate::parts::{Loading, Parts, refresh, sweep_all, sweep_slot};
 use crate::resource::{find_resource, load_resource, lock_resource};
 use std::alloc::{AllocError, Allocator};
 use w16_global::Global16;
@@ -28,151 +32,248 @@ fn part_count<A: Allocator + Copy>(global: &Global16<A>) -> u32
 }
 
 /// How many discardable objects with bytes there are beside that in a slot.
-pub fn discardable_beside<A: Allocator + Copy>(global: &Global16<A>, slot: Option<u16>) -> usize
-    ensures { result ≡ parts.discardable_beside slot global.now.handles.heap }
+fn discardable_beside<S: Store + Drop, A: Allocator + Copy>(
+    parts: &Parts<S, A>,
+    slot: Option<u16>,
+) -> usize
+    ensures { result ≡ meaning.discardable_beside slot parts.now.loading.handles.heap }
 {
     match slot {
-        Some(slot) => global.discardable_beside(slot),
+        Some(slot) => parts.loading.global.discardable_beside(slot),
         None => 0,
     }
 }
 
+/// Tells that a byte is one.
+fn reveal_byte(byte: u8)
+    ensures { byte < 256 }
+{}
+
 /// Takes away the local heaps whose segments a call may have taken bytes of. Where the slot of its object is known, and as many discardable
 /// objects are left beside this one as before, the call has discarded no other, and only the heap in this slot may have to go.
-pub fn sweep<A: Allocator + Copy>(
-    locals: &mut LocalHeaps<A>,
-    global: &Global16<A>,
+fn sweep<S: Store + Drop, A: Allocator + Copy>(
+    parts: &mut Parts<S, A>,
     call: &Call<'_>,
     slot: Option<u16>,
     before: usize,
 )
-    requires { OthersStay slot before global.now.handles.heap locals.old }
-    ensures { locals.new ≡ surviving_heaps (may_take_bytes (command_of call.now)) global.now.handles.heap locals.old }
+    requires { OthersStay slot before parts.old }
+    ensures { parts.new ≡ with_surviving parts.old (command_of call.now) }
 {
     if !call.may_take_bytes() {
         return;
     }
     if let Some(slot) = slot {
-        if before <= global.discardable_beside(slot) {
-            locals.sweep_slot(global, slot);
+        if before <= discardable_beside(parts, Some(slot)) {
+            sweep_slot(parts, slot);
             return;
         }
     }
-    locals.sweep(global);
+    sweep_all(parts);
+}
+
+/// The reply to a call on handles.
+#[inline(always)]
+fn handles_reply<A: Allocator + Copy>(global: &mut Global16<A>, call: &Call<'_>) -> Reply<'static>
+    requires { IsOnGlobal (command_of call.now) }
+    ensures gives { OnGlobal global.old.handles (command_of call.now) (reply_of result) global.new.handles }
+    ensures short { IsReply result }
+{
+    use Call::*;
+    match *call {
+        GlobalAlloc { flags, size } => Reply::Word(global.global_alloc(flags, size)),
+        GlobalFree { handle } => Reply::Word(global.global_free(handle)),
+        GlobalLock { handle } => Reply::Dword(global.global_lock(handle)),
+        GlobalUnlock { handle } => Reply::Word(global.global_unlock(handle)),
+        GlobalSize { handle } => Reply::Dword(global.global_size(handle)),
+        GlobalFlags { handle } => Reply::Word(global.global_flags(handle)),
+        GlobalHandle { selector } => Reply::Dword(global.global_handle(selector)),
+        GetSelectorBase { selector } => Reply::Dword(global.get_selector_base(selector)),
+        GetSelectorLimit { selector } => Reply::Dword(global.get_selector_limit(selector)),
+        GlobalCompact { size } => Reply::Dword(global.global_compact(size)),
+        GlobalReAlloc {
+            handle,
+            size,
+            flags,
+        } => Reply::Word(global.global_realloc(handle, size, flags)),
+        GlobalDiscard { handle } => Reply::Word(global.global_discard(handle)),
+        GlobalLRUNewest { handle } => Reply::Word(global.global_lru_newest(handle)),
+        GlobalLRUOldest { handle } => Reply::Word(global.global_lru_oldest(handle)),
+        Moved => Reply::Dword(global.moved() as u32),
+        Walk => Reply::Walk(part_count(global)),
+        _ => unreachable!(),
+    }
+}
+
+/// The reply to a call on local heaps, in whatever world has these parts.
+#[inline(never)]
+fn local_reply<A: Allocator + Copy>(
+    locals: &mut LocalHeaps<A>,
+    global: &mut Global16<A>,
+    ds: &mut u16,
+    call: &Call<'_>,
+) -> Result<Reply<'static>, AllocError>
+    requires { IsOfLocals (command_of call.now) }
+    ensures step { IfOk result (λ reply. (rest : World) → OnLocals (with_parts rest global.old.handles locals.old ds.old) (command_of call.now) (reply_of reply)
+        (with_parts rest global.new.handles locals.new ds.new)) }
+    ensures short { IfOk result (λ reply. IsReply reply) }
+    ensures wanted { OnErr result ((rest : World) → TakesMemory (with_parts rest global.old.handles locals.old ds.old) (command_of call.now)) }
+    ensures refused { OnErr result ((global.new ≡ global.old) × (locals.new ≡ locals.old) × (ds.new ≡ ds.old)) }
+{
+    use Call::*;
+    match *call {
+        LocalInit {
+            selector,
+            start,
+            end,
+        } => Ok(Reply::Word(locals.local_init(global, *ds, selector, start, end)?)),
+        LocalAlloc { flags, size } => Ok(Reply::Word(locals.local_alloc(global, *ds, flags, size))),
+        LocalReAlloc { name, size, flags } => Ok(Reply::Word(locals.local_realloc(
+            global, *ds, name, size, flags,
+        ))),
+        LocalDiscard { name } => Ok(Reply::Word(locals.local_discard(global, *ds, name))),
+        LocalFree { name } => Ok(Reply::Word(locals.local_free(global, *ds, name))),
+        LocalLock { name } => Ok(Reply::Word(locals.local_lock(global, *ds, name))),
+        LocalUnlock { name } => Ok(Reply::Word(locals.local_unlock(global, *ds, name))),
+        LocalSize { name } => Ok(Reply::Word(locals.local_size(global, *ds, name))),
+        LocalFlags { name } => Ok(Reply::Word(locals.local_flags(global, *ds, name))),
+        LocalHandle { pointer } => Ok(Reply::Word(locals.local_handle(global, *ds, pointer))),
+        LocalCompact { size } => Ok(Reply::Word(locals.local_compact(global, *ds, size))),
+        DS { selector } => {
+            *ds = selector;
+            Ok(Reply::Done)
+        }
+        _ => unreachable!(),
+    }
+}
+
+/// The reply to a call on modules or resources.
+#[inline(never)]
+fn module_reply<S: Store + Drop, A: Allocator + Copy>(
+    loading: &mut Loading<S, A>,
+    call: &Call<'_>,
+) -> Result<Reply<'static>, AllocError>
+    requires loading { IsLoadingOver S.is_honest loading.old }
+    requires call { IsOfModules (command_of call.now) }
+    ensures step { IfOk result (λ reply. OnModules S.is_honest loading.old (command_of call.now) (reply_of reply) loading.new) }
+    ensures short { IfOk result (λ reply. IsReply reply) }
+    ensures wanted { OnErr result ((w : World) → TakesMemory w (command_of call.now)) }
+    ensures refused { OnErr result (IsSameLoading loading.old loading.new) }
+{
+    use Call::*;
+    match *call {
+        Builtin { name } => Ok(Reply::Word(loading.registry.builtin(name)?)),
+        LoadModule { file } => load_reply(loading, file, true),
+        LoadLibrary { file } => load_reply(loading, file, false),
+        FreeLibrary { handle } => Ok(Reply::Word(free_module(loading, handle))),
+        FreeModule { handle } => Ok(Reply::Word(free_module(loading, handle))),
+        GetModuleHandle { name } => Ok(Reply::Word(loading.registry.handle_of(name).unwrap_or(0))),
+        GetModuleUsage { handle } => Ok(Reply::Word(loading.registry.usage(handle))),
+        GetProcAddress { handle, label } => Ok(Reply::Dword(proc_address(
+            &loading.registry,
+            handle,
+            label,
+        ))),
+        FindResource { handle, name, kind } => {
+            Ok(Reply::Word(find_resource(&loading.registry, handle, name, kind)))
+        }
+        LoadResource { handle, place } => Ok(load_resource(loading, handle, place)),
+        LockResource { handle } => Ok(lock_resource(loading, handle)),
+        FreeResource { handle } => {
+            Ok(Reply::Word(loading.resources.free(&mut loading.global, handle)))
+        }
+        SizeofResource { handle, place } => {
+            Ok(Reply::Dword(size_of_resource(&loading.registry, handle, place)))
+        }
+        _ => unreachable!(),
+    }
 }
 
 /// One step, before local heaps are swept: far accesses sweep them themselves. Bytes that are read are put into the room. An error is that there
 /// was no memory for a new local heap, a built-in or a load, and the world is the same.
 #[inline(always)]
-pub fn step<'r, S: Store + Drop, A: Allocator + Copy>(
-    global: &mut Global16<A>,
-    locals: &mut LocalHeaps<A>,
-    library: &mut Library<S, A>,
-    ds: &mut u16,
+fn step<'r, S: Store + Drop, A: Allocator + Copy>(
+    parts: &mut Parts<S, A>,
     call: &Call<'_>,
     room: &'r mut [u8],
 ) -> Result<Reply<'r>, AllocError>
-    requires world { IsWorldOver S.is_honest (world_of global.old.handles library.old.registry library.old.resources locals.old ds.old (S.files library.old.store) (S.failures library.old.store)) }
+    requires world { IsWorldOver S.is_honest parts.old }
     requires call { IsCall call.now }
     requires room { HasRoom call.now (length room.old) }
-    ensures step { IfOk result (λ reply. Unswept S.is_honest (world_of global.old.handles library.old.registry library.old.resources locals.old ds.old (S.files library.old.store) (S.failures library.old.store)) (command_of call.now) (reply_of reply)
-        (world_of global.new.handles library.new.registry library.new.resources locals.new ds.new (S.files library.new.store) (S.failures library.new.store))) }
+    ensures step { IfOk result (λ reply. Unswept S.is_honest parts.old (command_of call.now) (reply_of reply) parts.new) }
     ensures ranged { OnOk result (IsCommand (command_of call.now)) }
     ensures short { IfOk result (λ reply. IsReply reply) }
-    ensures wanted { OnErr result (TakesMemory (world_of global.old.handles library.old.registry library.old.resources locals.old ds.old (S.files library.old.store) (S.failures library.old.store)) (command_of call.now)) }
-    ensures refused { OnErr result (IsSame (world_of global.old.handles library.old.registry library.old.resources locals.old ds.old (S.files library.old.store) (S.failures library.old.store))
-        (world_of global.new.handles library.new.registry library.new.resources locals.new ds.new (S.files library.new.store) (S.failures library.new.store))) }
+    ensures wanted { OnErr result (TakesMemory parts.old (command_of call.now)) }
+    ensures refused { OnErr result (IsSame parts.old parts.new) }
 {
+    use Call::*;
     match *call {
-        Call::GlobalAlloc { flags, size } => Ok(Reply::Word(global.global_alloc(flags, size))),
-        Call::GlobalFree { handle } => Ok(Reply::Word(global.global_free(handle))),
-        Call::GlobalLock { handle } => Ok(Reply::Dword(global.global_lock(handle))),
-        Call::GlobalUnlock { handle } => Ok(Reply::Word(global.global_unlock(handle))),
-        Call::GlobalSize { handle } => Ok(Reply::Dword(global.global_size(handle))),
-        Call::GlobalFlags { handle } => Ok(Reply::Word(global.global_flags(handle))),
-        Call::GlobalHandle { selector } => Ok(Reply::Dword(global.global_handle(selector))),
-        Call::GetSelectorBase { selector } => {
-            Ok(Reply::Dword(global.get_selector_base(selector)))
-        }
-        Call::GetSelectorLimit { selector } => {
-            Ok(Reply::Dword(global.get_selector_limit(selector)))
-        }
-        Call::GlobalCompact { size } => Ok(Reply::Dword(global.global_compact(size))),
-        Call::GlobalReAlloc {
-            handle,
-            size,
-            flags,
-        } => Ok(Reply::Word(global.global_realloc(handle, size, flags))),
-        Call::GlobalDiscard { handle } => Ok(Reply::Word(global.global_discard(handle))),
-        Call::GlobalLRUNewest { handle } => Ok(Reply::Word(global.global_lru_newest(handle))),
-        Call::GlobalLRUOldest { handle } => Ok(Reply::Word(global.global_lru_oldest(handle))),
-        Call::Moved => Ok(Reply::Dword(global.moved() as u32)),
-        Call::Walk => Ok(Reply::Walk(part_count(global))),
-        Call::Read { pointer, count } => Ok(read(
-            global,
-            locals,
-            library,
-            pointer,
-            &mut room[..count as usize],
-        )),
-        Call::Write { pointer, bytes } => {
+        Read { pointer, count } => Ok(read(parts, pointer, &mut room[..count as usize])),
+        Write { pointer, bytes } => {
             reveal_bytes(bytes);
-            let written = Written::Bytes(bytes);
-            Ok(write(global, locals, library, pointer, written))
+            Ok(write(parts, pointer, Written::Bytes(bytes)))
         }
-        Call::Fill {
+        Fill {
             pointer,
             count,
             byte,
         } => {
-            let written = Written::Repeated { count, byte };
-            Ok(write(global, locals, library, pointer, written))
+            reveal_byte(byte);
+            Ok(write(parts, pointer, Written::Repeated { count, byte }))
         }
-        Call::LocalInit {
-            selector,
-            start,
-            end,
-        } => Ok(Reply::Word(locals.local_init(global, *ds, selector, start, end)?)),
-        Call::LocalAlloc { flags, size } => {
-            Ok(Reply::Word(locals.local_alloc(global, *ds, flags, size)))
+        LocalInit { .. }
+        | LocalAlloc { .. }
+        | LocalReAlloc { .. }
+        | LocalDiscard { .. }
+        | LocalFree { .. }
+        | LocalLock { .. }
+        | LocalUnlock { .. }
+        | LocalSize { .. }
+        | LocalFlags { .. }
+        | LocalHandle { .. }
+        | LocalCompact { .. }
+        | DS { .. } => {
+            let loading = &mut parts.loading;
+            local_reply(&mut parts.locals, &mut loading.global, &mut parts.ds, call)
         }
-        Call::LocalReAlloc { name, size, flags } => Ok(Reply::Word(locals.local_realloc(
-            global, *ds, name, size, flags,
-        ))),
-        Call::LocalDiscard { name } => Ok(Reply::Word(locals.local_discard(global, *ds, name))),
-        Call::LocalFree { name } => Ok(Reply::Word(locals.local_free(global, *ds, name))),
-        Call::LocalLock { name } => Ok(Reply::Word(locals.local_lock(global, *ds, name))),
-        Call::LocalUnlock { name } => Ok(Reply::Word(locals.local_unlock(global, *ds, name))),
-        Call::LocalSize { name } => Ok(Reply::Word(locals.local_size(global, *ds, name))),
-        Call::LocalFlags { name } => Ok(Reply::Word(locals.local_flags(global, *ds, name))),
-        Call::LocalHandle { pointer } => {
-            Ok(Reply::Word(locals.local_handle(global, *ds, pointer)))
-        }
-        Call::LocalCompact { size } => Ok(Reply::Word(locals.local_compact(global, *ds, size))),
-        Call::DS { selector } => {
-            *ds = selector;
-            Ok(Reply::Done)
-        }
-        Call::Builtin { name } => Ok(Reply::Word(library.registry.builtin(name)?)),
-        Call::LoadModule { file } => load_reply(global, library, file, true),
-        Call::LoadLibrary { file } => load_reply(global, library, file, false),
-        Call::FreeLibrary { handle } => { Ok(Reply::Word(free_module(global, library, handle))) }
-        Call::FreeModule { handle } => { Ok(Reply::Word(free_module(global, library, handle))) }
-        Call::GetModuleHandle { name } => {
-            Ok(Reply::Word(library.registry.handle_of(name).unwrap_or(0)))
-        }
-        Call::GetModuleUsage { handle } => Ok(Reply::Word(library.registry.usage(handle))),
-        Call::GetProcAddress { handle, label } => {
-            Ok(Reply::Dword(proc_address(&library.registry, handle, label)))
-        }
-        Call::FindResource { handle, name, kind } => {
-            Ok(Reply::Word(find_resource(&library.registry, handle, name, kind)))
-        }
-        Call::LoadResource { handle, place } => Ok(load_resource(global, library, handle, place)),
-        Call::LockResource { handle } => Ok(lock_resource(global, library, handle)),
-        Call::FreeResource { handle } => Ok(Reply::Word(library.resources.free(global, handle))),
-        Call::SizeofResource { handle, place } => {
-            Ok(Reply::Dword(size_of_resource(&library.registry, handle, place)))
-        }
+        Builtin { .. }
+        | LoadModule { .. }
+        | LoadLibrary { .. }
+        | FreeLibrary { .. }
+        | FreeModule { .. }
+        | GetModuleHandle { .. }
+        | GetModuleUsage { .. }
+        | GetProcAddress { .. }
+        | FindResource { .. }
+        | LoadResource { .. }
+        | LockResource { .. }
+        | FreeResource { .. }
+        | SizeofResource { .. } => module_reply(&mut parts.loading, call),
+        _ => Ok(handles_reply(&mut parts.loading.global, call)),
     }
+}
+
+/// One step of the machine, as `Kernel::call` tells it, with as much room as it needs.
+#[inline(always)]
+pub fn made<'r, S: Store + Drop, A: Allocator + Copy>(
+    parts: &mut Parts<S, A>,
+    call: &Call<'_>,
+    room: &'r mut [u8],
+) -> Result<Reply<'r>, AllocError>
+    requires world { IsWorldOver S.is_honest parts.old }
+    requires call { IsCall call.now }
+    requires room { HasRoom call.now (length room.old) }
+    ensures world { IsWorldOver S.is_honest parts.new }
+    ensures step { IfOk result (λ reply. KernelStep S.is_honest parts.old (command_of call.now) (reply_of reply) parts.new) }
+    ensures promises { IfOk result (λ reply. Promises parts.old (record { command = command_of call.now; reply = reply_of reply; after = parts.new } ∷ [])) }
+    ensures short { IfOk result (λ reply. IsReply reply) }
+    ensures wanted { OnErr result (TakesMemory parts.old (command_of call.now)) }
+    ensures refused { OnErr result (IsSame parts.old parts.new) }
+{
+    refresh(parts);
+    let before = discardable_beside(parts, call.object_slot(0));
+    let reply = step(parts, call, room)?;
+    let slot = call.object_slot(reply.word());
+    sweep(parts, call, slot, before);
+    Ok(reply)
 }

@@ -1,5 +1,5 @@
 //! Calls that need no room.
-ghost use Rattle.std.specs.Prelude.{◌≡◌, [], ◌∷◌, length, IfOk, OnErr};
+ghost use Rattle.std.specs.Prelude.{◌≡◌, [], ◌∷◌, IfOk, OnErr};
 ghost use Rattle.w16_machine.specs.Machine.{IsSame};
 ghost use Rattle.w16_writes.specs.Promises.{Promises};
 ghost use Rattle.w16_kernel.specs.Parts.{KernelStep};
@@ -7,42 +7,11 @@ ghost use Rattle.w16_kernel.specs.Runs.{command_of, reply_of, HasRoom, IsCall, I
 
 use crate::call::{Call, Reply};
 use crate::kernel::Kernel;
-use crate::step::{discardable_beside, step, sweep};
+use crate::step::made;
 use std::alloc::{AllocError, Allocator};
 use w16_store::Store;
 
 impl<S: Store + Drop, A: Allocator + Copy> Kernel<S, A> {
-    /// One step of the machine, as [`Kernel::call`] tells it, with as much room as it needs.
-    #[inline(always)]
-    pub(crate) fn made<'r>(
-        &mut self,
-        call: &Call<'_>,
-        room: &'r mut [u8],
-    ) -> Result<Reply<'r>, AllocError>
-        requires call { IsCall call.now }
-        requires room { HasRoom call.now (length room.old) }
-        ensures step { IfOk result (λ reply. KernelStep S.is_honest self.old (command_of call.now) (reply_of reply) self.new) }
-        ensures promises { IfOk result (λ reply. Promises self.old (record { command = command_of call.now; reply = reply_of reply; after = self.new } ∷ [])) }
-        ensures short { IfOk result (λ reply. IsReply reply) }
-        ensures wanted { OnErr result (TakesMemory self.old (command_of call.now)) }
-        ensures refused { OnErr result (IsSame self.old self.new) }
-    {
-        self.library.store.refresh();
-        let before = discardable_beside(&self.global, call.object_slot(0));
-        let reply = step(
-            &mut self.global,
-            &mut self.locals,
-            &mut self.library,
-            &mut self.ds,
-            call,
-            room,
-        )?;
-        self.global.reveal_handles();
-        let slot = call.object_slot(reply.word());
-        sweep(&mut self.locals, &self.global, call, slot, before);
-        Ok(reply)
-    }
-
     /// As [`Kernel::call`], for a call that reads no bytes, and so needs no room.
     #[inline(always)]
     pub fn ask(&mut self, call: &Call<'_>) -> Result<Reply<'static>, AllocError>
@@ -54,6 +23,6 @@ impl<S: Store + Drop, A: Allocator + Copy> Kernel<S, A> {
         ensures wanted { OnErr result (TakesMemory self.old (command_of call.now)) }
         ensures refused { OnErr result (IsSame self.old self.new) }
     {
-        self.made(call, &mut [])
+        made(&mut self.parts, call, &mut [])
     }
 }

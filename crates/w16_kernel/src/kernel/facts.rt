@@ -35,13 +35,13 @@ impl<S: Store + Drop, A: Allocator + Copy> Kernel<S, A> {
     fn source_of(&self, slot: u16) -> Option<Source>
         ensures { result ≡ source_in (owner_of self.now.loading slot) }
     {
-        if let Some(load) = self.library.resources.load_at(slot) {
+        if let Some(load) = self.parts.loading.resources.load_at(slot) {
             return Some(Source::Resource {
                 handle: load.handle,
                 place: load.place,
             });
         }
-        let segment = self.library.registry.segment_of(slot)?;
+        let segment = self.parts.loading.registry.segment_of(slot)?;
         Some(Source::Segment {
             handle: segment.handle,
             number: segment.number,
@@ -52,11 +52,14 @@ impl<S: Store + Drop, A: Allocator + Copy> Kernel<S, A> {
     pub fn facts(&self, handle: u16) -> Option<Facts>
         ensures { result ≡ facts_of self.now handle }
     {
-        let slot = self.global.slot_of_handle(handle)?;
+        let slot = self.parts.loading.global.slot_of_handle(handle)?;
         Some(Facts {
-            flags: self.global.global_flags(handle),
+            flags: self.parts.loading.global.global_flags(handle),
             source: self.source_of(slot),
-            local: self.locals.heap_range(&self.global, handle),
+            local: self
+                .parts
+                .locals
+                .heap_range(&self.parts.loading.global, handle),
         })
     }
 
@@ -64,6 +67,6 @@ impl<S: Store + Drop, A: Allocator + Copy> Kernel<S, A> {
     pub fn in_order(&self, i: usize) -> Option<u16>
         ensures { result ≡ option_map (handle_of Discardable) (slice_get self.now.loading.handles.heap.order i) }
     {
-        self.global.in_order(i)
+        self.parts.loading.global.in_order(i)
     }
 }

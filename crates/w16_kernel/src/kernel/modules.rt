@@ -102,7 +102,7 @@ impl<S: Store + Drop, A: Allocator + Copy> Kernel<S, A> {
     pub fn module_start(&self, handle: u16) -> Option<Start>
         ensures { IsStart (module_at self.now.loading.modules handle) result }
     {
-        let loaded = self.library.registry.module(handle)?;
+        let loaded = self.parts.loading.registry.module(handle)?;
         Some(start_in(loaded))
     }
 
@@ -110,7 +110,7 @@ impl<S: Store + Drop, A: Allocator + Copy> Kernel<S, A> {
     pub fn module_segment(&self, handle: u16, number: u16) -> Option<u16>
         ensures { result ≡ option_and_then (λ m. segment_selector m.slots number) (module_at self.now.loading.modules handle) }
     {
-        let loaded = self.library.registry.module(handle)?;
+        let loaded = self.parts.loading.registry.module(handle)?;
         selector_in(loaded, number)
     }
 
@@ -118,14 +118,14 @@ impl<S: Store + Drop, A: Allocator + Copy> Kernel<S, A> {
     pub fn module_from(&self, from: u16) -> Option<u16>
         ensures { IsFirstModule self.now.loading.modules from result }
     {
-        first_from(&self.library.registry, from)
+        first_from(&self.parts.loading.registry, from)
     }
 
     /// The name of a module or a built-in; none of a bad handle.
     pub fn module_name(&self, handle: u16) -> Option<&[u8]>
         ensures { option_map (λ name. name.now) result ≡ option_map name_of (finmap.get self.now.loading.modules handle) }
     {
-        let entry = self.library.registry.get(handle)?;
+        let entry = self.parts.loading.registry.get(handle)?;
         Some(entry.name())
     }
 
@@ -133,7 +133,7 @@ impl<S: Store + Drop, A: Allocator + Copy> Kernel<S, A> {
     pub fn module_file(&self, handle: u16) -> Option<&[u8]>
         ensures { option_map (λ name. name.now) result ≡ option_map (λ m. m.file) (module_at self.now.loading.modules handle) }
     {
-        let loaded = self.library.registry.module(handle)?;
+        let loaded = self.parts.loading.registry.module(handle)?;
         Some(loaded.file())
     }
 
@@ -142,7 +142,7 @@ impl<S: Store + Drop, A: Allocator + Copy> Kernel<S, A> {
     pub fn module_import(&self, handle: u16, place: usize) -> Option<u16>
         ensures { result ≡ option_and_then (λ m. slice_get m.imports place) (module_at self.now.loading.modules handle) }
     {
-        let loaded = self.library.registry.module(handle)?;
+        let loaded = self.parts.loading.registry.module(handle)?;
         loaded.imports().get(place).copied()
     }
 
@@ -150,7 +150,7 @@ impl<S: Store + Drop, A: Allocator + Copy> Kernel<S, A> {
     pub fn export_at(&self, handle: u16, index: usize) -> Option<Export<'_>>
         ensures { option_map (λ e. (e.name.now, (e.ordinal, e.pointer))) result ≡ export_in self.now.loading.modules handle index }
     {
-        let loaded = self.library.registry.module(handle)?;
+        let loaded = self.parts.loading.registry.module(handle)?;
         let tables = loaded.module();
         if index >= tables.name_count() {
             return None;

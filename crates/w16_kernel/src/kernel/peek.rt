@@ -21,7 +21,9 @@ impl<S: Store + Drop, A: Allocator + Copy> Kernel<S, A> {
         ensures err { IfErr result (λ fault. far_fault self.now.loading.handles (selector_in pointer) (offset_in pointer) (length buffer.old) ≡ Some fault) }
         ensures kept { OnErr result (buffer.new ≡ buffer.old) }
     {
-        self.global
+        self.parts
+            .loading
+            .global
             .far_peek(selector_in(pointer), offset_in(pointer), buffer)
     }
 
@@ -29,6 +31,6 @@ impl<S: Store + Drop, A: Allocator + Copy> Kernel<S, A> {
     pub fn descriptor(&self, selector: u16) -> Option<Descriptor>
         ensures { result ≡ selector_descriptor self.now.loading.handles selector }
     {
-        self.global.descriptor(selector)
+        self.parts.loading.global.descriptor(selector)
     }
 }

@@ -9,6 +9,7 @@ ghost use Rattle.w16_kernel.specs.Why.Subject.{LocalHeap, LocalObject, Module, O
 
 use crate::call::Call;
 use crate::kernel::Kernel;
+use crate::parts::Loading;
 use std::alloc::Allocator;
 use w16_global::Global16;
 use w16_local::LocalHeaps;
@@ -63,6 +64,18 @@ fn why_name<A: Allocator + Copy>(
     }
 }
 
+/// The most bytes that compaction could make free in a row. None after a call that has moved something.
+fn longest<S: Store + Drop, A: Allocator + Copy>(loading: &mut Loading<S, A>) -> Option<u32>
+    ensures most { IfSome result (λ most. most ≡ most_room loading.old.handles.heap) }
+    ensures none { IfNone result (loading.old.handles.moved ≡ 0 → ⊥) }
+    ensures same { loading.new ≡ loading.old }
+{
+    if loading.global.moved() != 0 {
+        return None;
+    }
+    Some(loading.global.global_compact(0))
+}
+
 impl<S: Store + Drop, A: Allocator + Copy> Kernel<S, A> {
     /// Why a call is refused that names a global object by this handle.
     fn why_object(&self, call: &Call<'_>, handle: u16) -> Option<Why>
@@ -70,12 +83,12 @@ impl<S: Store + Drop, A: Allocator + Copy> Kernel<S, A> {
         ensures there { IfNone result (IsThere self.now (Object handle)) }
     {
         use Call::*;
-        let Some(slot) = self.global.slot_of_handle(handle) else {
+        let Some(slot) = self.parts.loading.global.slot_of_handle(handle) else {
             return Some(Why::BadHandle);
         };
-        let owned = self.global.is_owned(slot);
-        let empty = self.global.global_size(handle) == 0;
-        let flags = self.global.global_flags(handle);
+        let owned = self.parts.loading.global.is_owned(slot);
+        let empty = self.parts.loading.global.global_size(handle) == 0;
+        let flags = self.parts.loading.global.global_flags(handle);
         match call {
             GlobalFree { .. } | GlobalReAlloc { .. } | GlobalDiscard { .. } if owned => {
                 Some(Why::Owned)
@@ -93,10 +106,10 @@ impl<S: Store + Drop, A: Allocator + Copy> Kernel<S, A> {
     fn why_selector(&self, selector: u16) -> Why
         ensures { IsWhy self.now (Selector selector) result }
     {
-        if self.global.global_handle(selector) == 0 {
+        if self.parts.loading.global.global_handle(selector) == 0 {
             Why::BadSelector
         } else {
-            Why::Limit(self.global.get_selector_limit(selector))
+            Why::Limit(self.parts.loading.global.get_selector_limit(selector))
         }
     }
 
@@ -105,7 +118,7 @@ impl<S: Store + Drop, A: Allocator + Copy> Kernel<S, A> {
         ensures holds { IfSome result (IsWhy self.now (Module handle)) }
         ensures there { IfNone result (IsThere self.now (Module handle)) }
     {
-        match self.library.registry.get(handle) {
+        match self.parts.loading.registry.get(handle) {
             None => Some(Why::BadModule),
             Some(_) => None,
         }
@@ -116,7 +129,11 @@ impl<S: Store + Drop, A: Allocator + Copy> Kernel<S, A> {
         ensures holds { IfSome result (IsWhy self.now LocalHeap) }
         ensures there { IfNone result (IsThere self.now LocalHeap) }
     {
-        if self.locals.has_heap(&self.global, self.ds) {
+        if self
+            .parts
+            .locals
+            .has_heap(&self.parts.loading.global, self.parts.ds)
+        {
             None
         } else {
             Some(Why::NoLocalHeap)
@@ -128,7 +145,13 @@ impl<S: Store + Drop, A: Allocator + Copy> Kernel<S, A> {
         ensures holds { IfSome result (IsWhy self.now (LocalObject name)) }
         ensures there { IfNone result (IsThere self.now (LocalObject name)) }
     {
-        why_name(&self.locals, &self.global, self.ds, call, name)
+        why_name(
+            &self.parts.locals,
+            &self.parts.loading.global,
+            self.parts.ds,
+            call,
+            name,
+        )
     }
 
     /// Why a call is refused, if it is, as far as what it names says: always where that isn't there, and of a selector.
@@ -178,10 +201,7 @@ impl<S: Store + Drop, A: Allocator + Copy> Kernel<S, A> {
         ensures none { IfNone result (self.old.loading.handles.moved ≡ 0 → size ≤ most_room self.old.loading.handles.heap) }
         ensures same { self.new ≡ self.old }
     {
-        if self.global.moved() != 0 {
-            return None;
-        }
-        let most = self.global.global_compact(0);
+        let most = longest(&mut self.parts.loading)?;
         if most < size { Some(most) } else { None }
     }
 }

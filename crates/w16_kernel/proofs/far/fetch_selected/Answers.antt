@@ -1,23 +1,24 @@
 -- What is fetched is the object that the access asked for.
-use Rattle.w16_kernel.proofs.Common.{inr, refl, ap, ◌∙◌, ◌≡◌, ◌/◌, Some, None, Global, is_owned, is_some, offset_in, true, rules}
-use Rattle.std.specs.FinMap as finmap
-use Rattle.w16_kernel.proofs.Refetching.{here, resource_fetched}
+use Rattle.w16_kernel.proofs.Common.{ap, ◌∙◌, ◌≡◌, ◌/◌, is_owned, offset_in, true, rules}
+use Rattle.w16_kernel.proofs.Refetching.{lacking, refetched, unfetched}
 use Rattle.w16_kernel.proofs.far.fetch_selected.Goals as goal
 
-pub fetch_segment-requires-clause-segment : goal.fetch_segment-requires-clause-segment
-fetch_segment-requires-clause-segment g c =
-    let none : finmap.get c.args.library.now.resources (c.offset_in-handle.result / 8) ≡ None = search rules in
-    ap (finmap.get c.args.library.now.resources) (here c.requires.loading c.requires.absent c.ranges.selector.fits (c.offset_in-handle.ensures ∙ ap offset_in c.global_handle.ensures)) ∙ none
+pub fetch_owned-requires-clause-lacks : goal.fetch_owned-requires-clause-lacks
+fetch_owned-requires-clause-lacks g c =
+    let owned : is_owned c.loading.inside.global.handles (c.offset_in-handle.result / 8) ≡ true = search rules in
+    let named = c.offset_in-handle.ensures ∙ ap offset_in c.global_handle.ensures in
+    rw (← c.loading.view_is) (lacking (rw (← c.loading.view_is) at c.requires.loading) (rw (← c.loading.view_is) at c.requires.absent) c.ranges.selector.fits named owned)
 
 pub returns-in-Ok : goal.returns-in-Ok
 returns-in-Ok g c =
-    let loaded : is_some (finmap.get c.args.library.now.resources (c.offset_in-handle.result / 8)) ≡ true = search rules in
-    let owned : is_owned c.args.global.now.handles (c.offset_in-handle.result / 8) ≡ true = search rules in
-    resource_fetched c.requires.loading c.requires.absent c.ranges.selector.fits (c.offset_in-handle.ensures ∙ ap offset_in c.global_handle.ensures) owned None c.fetch.ensures.stays (λ l. c.in-Ok.ensures.step c.requires.loading l loaded)
+    let owned : is_owned c.loading.inside.global.handles (c.offset_in-handle.result / 8) ≡ true = search rules in
+    let named = c.offset_in-handle.ensures ∙ ap offset_in c.global_handle.ensures in
+    rw (← c.loading.view_is) (refetched (rw (← c.loading.view_is) at c.requires.loading) (rw (← c.loading.view_is) at c.requires.absent) c.ranges.selector.fits named owned
+    (rw (← c.loading.view_is) at c.in-Ok.ensures.fetch))
 
 pub returns-in-Err : goal.returns-in-Err
 returns-in-Err g c =
-    let loaded : is_some (finmap.get c.args.library.now.resources (c.offset_in-handle.result / 8)) ≡ true = search rules in
-    let owned : is_owned c.args.global.now.handles (c.offset_in-handle.result / 8) ≡ true = search rules in
-    let f = resource_fetched c.requires.loading c.requires.absent c.ranges.selector.fits (c.offset_in-handle.ensures ∙ ap offset_in c.global_handle.ensures) owned (Some c.in-Err.failed) c.fetch.ensures.stays (λ l. c.in-Err.ensures.step c.requires.loading l loaded) in
-    inr (f.0, ap (λ (x : Global). x.handles) c.in-Err.ensures.refused, c.in-Err.failed, refl, f.1)
+    let owned : is_owned c.loading.inside.global.handles (c.offset_in-handle.result / 8) ≡ true = search rules in
+    let named = c.offset_in-handle.ensures ∙ ap offset_in c.global_handle.ensures in
+    rw (← c.loading.view_is) (unfetched (rw (← c.loading.view_is) at c.requires.loading) (rw (← c.loading.view_is) at c.requires.absent) c.ranges.selector.fits named owned
+    c.in-Err.failed (rw (← c.loading.view_is) at c.in-Err.ensures.fetch) (rw (← c.loading.view_is) at c.in-Err.ensures.refused))

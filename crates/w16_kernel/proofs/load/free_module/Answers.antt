@@ -1,7 +1,5 @@
-use Rattle.w16_kernel.proofs.Common.{loading_of}
+use Rattle.w16_kernel.proofs.Modules.{seen}
 use Rattle.w16_kernel.proofs.load.free_module.Goals as goal
 
 pub returns-clause-frees : goal.returns-clause-frees
-returns-clause-frees g c =
-    let old = loading_of c.args.global.now.handles c.args.library.now.registry c.args.library.now.resources (g.S.Store.files c.args.library.now.store) (g.S.Store.failures c.args.library.now.store) in
-    record { left = _; ended = c.free-answer.ensures.ends old; after = c.sweep.ensures old }
+returns-clause-frees g c = rw (← c.loading.view_is) (record { left = _; ended = c.free-answer.ensures.ends (seen c.loading.view_is); after = c.sweep.ensures (seen c.loading.view_is) })

@@ -1,8 +1,5 @@
 use Rattle.w16_loading.proofs.Requests.{step_fills}
 use Rattle.w16_kernel.proofs.resource.load_resource.Goals as goal
 
-pub returns-in-Ok-clause-step : goal.returns-in-Ok-clause-step
-returns-in-Ok-clause-step g c = step_fills _ _ _ _ _ (c.in-Ok.ensures.step c.requires)
-
-pub returns-in-Err-clause-step : goal.returns-in-Err-clause-step
-returns-in-Err-clause-step g c = step_fills _ _ _ _ _ (c.in-Err.ensures.step c.requires)
+pub returns-clause-step : goal.returns-clause-step
+returns-clause-step g c = rw (← c.loading.view_is, c.word_reply.ensures.told) (step_fills _ _ _ _ _ (c.load-answer.ensures.step (rw (← c.loading.view_is) at c.requires)))

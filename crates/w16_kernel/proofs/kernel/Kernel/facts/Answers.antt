@@ -9,5 +9,5 @@ known : (w : World) (handle slot flags : ℕ) (source : Option Source) (local : 
 known w handle slot flags source local e f s l = rw (f, s, ← e, (rw (← e) at l)) refl
 
 pub returns : goal.returns
-returns g c = known c.args.self.now c.args.handle c.in_ok-slot.slot _ _ _ (rw (← c.self.view_is) (sym c.in_ok-slot.was ∙ c.slot_of_handle.ensures)) (rw (← c.self.view_is) c.global_flags.ensures) c.source_of.ensures
-    (rw (← c.self.view_is) c.heap_range.ensures)
+returns g c = known c.args.self.now c.args.handle c.in_ok-slot.slot _ _ _ (rw (← c.self.view_is, ← c.self-inside.view_is, ← c.self-inside-inside.view_is) (sym c.in_ok-slot.was ∙ c.slot_of_handle.ensures))
+    (rw (← c.self.view_is, ← c.self-inside.view_is, ← c.self-inside-inside.view_is) c.global_flags.ensures) c.source_of.ensures (rw (← c.self.view_is, ← c.self-inside.view_is, ← c.self-inside-inside.view_is) c.heap_range.ensures)

@@ -1,0 +1,24 @@
+use Rattle.w16_kernel.proofs.Common.{sym, subst, on_any, IsWorldOver}
+use Rattle.w16_kernel.proofs.Spared.{others_stay}
+use Rattle.w16_kernel.proofs.Stepping.{recounted, told_promises, told_step, told_world}
+use Rattle.w16_kernel.proofs.step.made.Goals as goal
+
+pub sweep-requires : goal.sweep-requires
+sweep-requires g c =
+    let is = rw (← c.refresh.ensures) at c.requires.world in
+    rw (c.object_slot-slot.ensures, c.word.ensures, c.discardable_beside-before.ensures, c.object_slot.ensures)
+    (others_stay _ _ is _ (told_world _ _ is _ c.in_ok-reply.reply _ c.in_ok-reply.ensures.step c.in_ok-reply.ensures.ranged).0.loading.handles _ _ c.in_ok-reply.ensures.step)
+
+pub returns-clause-step : goal.returns-clause-step
+returns-clause-step g c = rw (← c.refresh.ensures, c.sweep.ensures) (told_step _ _ (rw (← c.refresh.ensures) at c.requires.world) _ c.in_ok-reply.reply _ c.in_ok-reply.ensures.step)
+
+pub returns-clause-promises : goal.returns-clause-promises
+returns-clause-promises g c = rw (← c.refresh.ensures, c.sweep.ensures) (told_promises _ _ (rw (← c.refresh.ensures) at c.requires.world) _ c.in_ok-reply.reply _ c.in_ok-reply.ensures.step c.in_ok-reply.ensures.ranged)
+
+pub returns-clause-world : goal.returns-clause-world
+returns-clause-world g c = rw c.sweep.ensures (told_world _ _ (rw (← c.refresh.ensures) at c.requires.world) _ c.in_ok-reply.reply _ c.in_ok-reply.ensures.step c.in_ok-reply.ensures.ranged)
+
+pub returns-in_err-reply-clause-world : goal.returns-in_err-reply-clause-world
+returns-in_err-reply-clause-world g c =
+    let refused = c.in_err-reply.ensures.refused in
+    subst (IsWorldOver g.S.Store.is_honest) (sym refused.same) (recounted g.S.Store.is_honest _ (rw (← c.refresh.ensures) at c.requires.world) _ refused.counted)
