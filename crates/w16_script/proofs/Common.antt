@@ -23,7 +23,8 @@ pub use Rattle.hex.specs.Hex.{decode_of, decode_pairs, encode_lower, hex_digit_v
 unfoldable pub use Rattle.hex.specs.Hex.{encode_with}
 pub use Rattle.hex.specs.declared.error.FromHexError.{FromHexError}
 pub use Rattle.hex.specs.declared.error.FromHexError.TheVariants.{InvalidHexCharacter}
-pub use Rattle.w16_kernel.proofs.Common.{Command, Event, command_of, common_steps, cut_on, promised_append, promised_none, reply_of, run_append, ◌&&◌}
+pub use Rattle.w16_global.proofs.Common.{cut_on}
+pub use Rattle.w16_kernel.proofs.Common.{Command, Event, command_of, common_steps, promised_append, promised_none, reply_of, run_append, ◌&&◌}
 pub use Rattle.w16_loading.proofs.Common.{IsTrue, MatchOption, count_by, if◌then◌else◌, list_all, nat_lt, slice_index, ◌==◌}
 pub use Rattle.w16_loading.specs.File.{Label}
 pub use Rattle.w16_machine.specs.World.{IsWorldWalk}
