@@ -9,7 +9,9 @@
  * What the caller has to keep:
  * - A struct w16 is changed by these functions alone, and is not copied: a copy would be freed twice.
  * - One call at a time for each machine. Machines on several threads don't touch each other.
- * - Each pointer is valid, and so is each buffer for the number of bytes that is given with it; none overlaps another one or the struct w16.
+ * - Each pointer is valid, and so is each buffer for the number of bytes that is given with it; none overlaps another one, the struct w16 or bytes that
+ *   the machine lends.
+ * - Bytes that are lent are reached until the next call alone, and none beside them (w16_look, w16_lend).
  * - The program has rattle_alloc, rattle_realloc and rattle_dealloc, by which the library takes memory of it (examples/c/heap.c has them over malloc).
  *   It does so in w16_new, w16_add_file, w16_local_init, w16_builtin, w16_load_module and w16_load_library alone.
  */
@@ -174,9 +176,9 @@ uint8_t w16_global_handle(w16 *machine, uint16_t selector, uint32_t *both);
 /* Selectors and far memory. A fault reads and writes nothing, and leaves all as it was, except one: where a module's object had no bytes, an access
  * past its end, W16_FAULT_LIMIT, leaves it with its bytes, and what was discarded and moved for them. */
 
-/* A use makes a discardable object the last to be discarded. Uses are w16_read, w16_write and w16_fill that answer W16_DONE, of no bytes too,
- * w16_global_lock, w16_lock_resource and w16_global_lru_newest; and an object that gets its bytes, or becomes discardable, is the last then. The
- * same three far accesses and w16_lock_resource fetch: a module's segment or resource that has no bytes gets them first. Else only loads give such
+/* A use makes a discardable object the last to be discarded. Uses are w16_read, w16_write, w16_fill, w16_look and w16_lend that answer W16_DONE, of no
+ * bytes too, w16_global_lock, w16_lock_resource and w16_global_lru_newest; and an object that gets its bytes, or becomes discardable, is the last then.
+ * The same five far accesses and w16_lock_resource fetch: a module's segment or resource that has no bytes gets them first. Else only loads give such
  * objects bytes. Questions, w16_peek and descriptors are no use and fetch nothing. */
 
 /* The address in the machine's memory of the first byte that the selector reaches; 0 is an address too, and also says that the selector is bad or its
@@ -198,6 +200,31 @@ static inline uint8_t w16_fetch(w16 *machine, uint16_t selector) {
     uint8_t none = 0;
     return w16_read(machine, W16_FAR(selector, 0), &none, 0);
 }
+
+/* Bytes of an object that are lent: they lie in the machine, and nothing is copied. */
+typedef struct w16_lent {
+    uint8_t *at;
+    size_t count; /* as many as were asked for */
+} w16_lent;
+
+/* Lends bytes from a far pointer on, any number that the selector reaches: w16_read of so many, or where write is true w16_write, with its faults, what it
+ * fetches and its use. The address is valid until the next call on this machine, whichever it is. Until then the caller reaches these bytes, and none
+ * beside them. It only reads those that aren't lent to be written; of those that are, what stands there at the next call is what was written.
+ * Nothing checks that: a write beside them, or after the next call, may change what the machine keeps in its free memory, and then it reads and writes
+ * outside of its own. */
+uint8_t w16_find(w16 *machine, uint32_t pointer, size_t count, bool write, w16_lent *lent);
+/* Lends bytes to be read, of code too; and to be written. */
+static inline uint8_t w16_look(w16 *machine, uint32_t pointer, size_t count, w16_lent *lent) {
+    return w16_find(machine, pointer, count, false, lent);
+}
+static inline uint8_t w16_lend(w16 *machine, uint32_t pointer, size_t count, w16_lent *lent) {
+    return w16_find(machine, pointer, count, true, lent);
+}
+
+/* Lends the whole memory: what a selector reaches begins at its descriptor's base. The address is the same until w16_free, for clients that map the memory
+ * into a processor. Such a client may read all of it, and between two calls write bytes of objects that are present and no code; everything else stays as
+ * it is, since free memory has the machine's own tables in it. A use is told by w16_look of no bytes. */
+uint8_t w16_memory(w16 *machine, w16_lent *lent);
 
 /* What a selector tells, by which a client may reach the bytes itself. All is 0 where no object has it. */
 typedef struct w16_descriptor {

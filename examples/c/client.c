@@ -81,16 +81,24 @@ static void discard(uint16_t handle, const char *step) {
     draw(step);
 }
 
-/* Five bytes at a far pointer, or the fault that they meet. */
+/* Five bytes at a far pointer, where they lie in the machine, or the fault that they meet. */
 static void read_five(uint32_t pointer) {
-    uint8_t bytes[5];
-    uint8_t status = w16_read(&machine, pointer, bytes, sizeof bytes);
+    w16_lent five;
+    uint8_t status = w16_look(&machine, pointer, 5, &five);
     if (status == W16_FAULT_NOT_PRESENT) {
         printf("fault notpresent\n");
         return;
     }
-    done("w16_read", status);
-    printf("bytes %02x%02x%02x%02x%02x\n", bytes[0], bytes[1], bytes[2], bytes[3], bytes[4]);
+    done("w16_look", status);
+    printf("bytes %02x%02x%02x%02x%02x\n", five.at[0], five.at[1], five.at[2], five.at[3], five.at[4]);
+}
+
+/* Another first byte, which is written in the machine itself. */
+static void write_first(uint32_t pointer, uint8_t byte) {
+    w16_lent first;
+    TRY(w16_lend(&machine, pointer, 1, &first));
+    first.at[0] = byte;
+    printf("ok\n");
 }
 
 /* A local heap in a segment: one object, and its name and near pointer. */
@@ -114,6 +122,7 @@ int main(void) {
     pointer = lock(second, "the second is locked");
     TRY(w16_write(&machine, pointer, (const uint8_t *)"hello", 5));
     printf("ok\n");
+    write_first(pointer, 'J');
     release(first, "the first goes");
     compact(448, "so long a hole is there: nothing moves, the second is locked");
     unlock(second, "the second is unlocked");

@@ -133,14 +133,14 @@ static void list_modules(void) {
 
 /* Ends the log with the bytes of each object, so that they are compared as well. */
 static void end_log(void) {
-    uint8_t bytes[1024];
+    w16_lent lent;
     for (unsigned slot = 0; slot < slots; slot++)
-        for (uint32_t at = 0; known[slot].present && at <= known[slot].limit; at += sizeof bytes) {
-            uint32_t left = known[slot].limit + 1 - at, count = left < sizeof bytes ? left : (uint32_t)sizeof bytes;
-            done(w16_read(&machine, W16_FAR(W16_SELECTOR_AT(slot), at), bytes, count));
-            note(calls, "Read 0x%08x %u\n", (unsigned)W16_FAR(W16_SELECTOR_AT(slot), at), (unsigned)count);
+        for (uint32_t at = 0; known[slot].present && at <= known[slot].limit; at += (uint32_t)lent.count) {
+            uint32_t left = known[slot].limit + 1 - at;
+            done(w16_look(&machine, W16_FAR(W16_SELECTOR_AT(slot), at), left < 1024 ? left : 1024, &lent));
+            note(calls, "Read 0x%08x %u\n", (unsigned)W16_FAR(W16_SELECTOR_AT(slot), at), (unsigned)lent.count);
             note(replies, "bytes ");
-            note_bytes(replies, bytes, count);
+            note_bytes(replies, lent.at, lent.count);
         }
     if (calls == NULL || replies == NULL || fclose(calls) != 0 || fclose(replies) != 0)
         die("the log can't be written");

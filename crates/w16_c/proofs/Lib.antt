@@ -1,4 +1,5 @@
 pub mod Common
 pub mod Words
 pub mod ReplyKinds
+pub mod Loans
 mod Roomless

@@ -1,15 +1,18 @@
 -- What a call on a holder leaves, and the status that it answers.
 use Rattle.w16_c.specs
-use Rattle.std.specs.Prelude.{◌≡◌, ℕ, ◌⊎◌, true, false, List, [], ◌∷◌}
+use Rattle.std.specs.Prelude.{◌≡◌, ◌≢◌, ℕ, ◌⊎◌, Bool, true, false, List, [], ◌∷◌}
 use Rattle.w16_model.specs.declared.FarFault.{FarFault}
 use Rattle.w16_loading.specs.Replies.Reply.{Word, Dword, Bytes, Done, Fault, Failed}
 use Rattle.w16_loading.specs.{declared.FetchFault.FetchFault, Replies.Reply}
-use Rattle.w16_machine.specs.Machine.{Command, IsSame}
+use Rattle.w16_model.specs.Far.FarCommand.{Read}
+use Rattle.w16_loading.specs.Families.LoadingCommand.{OfFar}
+use Rattle.w16_machine.specs.Machine.{Command, Command.OfLoading, IsCommand, IsSame}
 use Rattle.w16_writes.specs.Promises.{Promises}
-use Rattle.w16_kernel.specs.{Parts.KernelStep, Runs.TakesMemory}
+use Rattle.w16_global.specs.{Loans.lent_bytes, declared.loan.Place.Place}
+use Rattle.w16_kernel.specs.{Lent.IsFound, Lent.IsTaken, Lent.OfEach, Parts.KernelStep, Runs.TakesMemory}
 use specs.declared.asked.Refusal.TheVariants.{NoMachine, NoMemory}
 use specs.declared.status.TheConstants.{DONE, NO_MACHINE, NO_MEMORY, BAD_SIZE, FAULT_SELECTOR, FAULT_READ_ONLY, FAULT_NOT_PRESENT, FAULT_LIMIT, FAULT_ROOM, FAULT_STORE, FAULT_DAMAGED}
-use specs.{declared.held.Held.Held, declared.asked.Refusal.Refusal}
+use specs.{declared.held.Held.Held, declared.lent.Lent.Lent, declared.asked.Refusal.Refusal}
 use Rattle.w16_model.specs.declared.FarFault.TheVariants as fault
 use Rattle.w16_loading.specs.declared.FetchFault.TheVariants as fetch
 
@@ -109,3 +112,17 @@ IsRead status reply before after = ⊥
 -- more bytes than a call may ask for: nothing changes
 abbrev pub AsksTooMuch : Held → ℕ → Held → Type 0
 AsksTooMuch old status new = (status ≡ BAD_SIZE) × (new ≡ old)
+
+-- Bytes at a place are lent: the call is a read of them. If they are to be written, it is a write of whatever bytes stand there.
+pub record IsLent (old : Held) (write : Bool) (pointer count : ℕ) (place : Place) (new : Held) : Type 0 where
+  pub found : IsFound count new.world.loading.handles place
+  pub read : Makes old (OfLoading (OfFar (Read pointer count))) (Bytes (lent_bytes new.world.loading.handles place)) new
+  pub taken : write ≡ true → IsTaken (Unit {0}) old.world pointer new.world place
+
+-- A far access whose bytes are lent, whose number goes out. Where there are none, what was lent before stays, and the status is that of a read of so
+-- many bytes, or of each write of as many.
+abbrev pub Lends : Held → Bool → ℕ → ℕ → ℕ → Lent → Lent → Held → Type 0
+Lends old write pointer count status before after new =
+    ((status ≡ DONE) × (after.count ≡ count) × ((place : Place) × IsLent old write pointer count place new))
+    ⊎ ((status ≡ NO_MACHINE) × (after ≡ before) × IsEmpty old new)
+    ⊎ ((status ≢ DONE) × (after ≡ before) × OfEach write pointer count (λ far. IsCommand (OfLoading (OfFar far)) → FarCalls old (OfLoading (OfFar far)) status Done new))

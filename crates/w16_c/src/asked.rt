@@ -137,7 +137,7 @@ pub fn fetched_word(alloc: Global, held: &mut Held, call: &Call<'_>, answer: &mu
 }
 
 /// The status of a reply that says that something is done, or has a fault.
-fn written(reply: Reply<'_>) -> u8
+pub fn written(reply: Reply<'_>) -> u8
     requires { IsDoneOrFault (reply_of reply) }
     ensures { IsStatus result (reply_of reply.entry) }
 {

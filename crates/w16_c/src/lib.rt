@@ -8,6 +8,7 @@ mod files;
 mod global;
 mod held;
 pub mod laws;
+mod lent;
 mod life;
 mod listing;
 mod local;
@@ -27,6 +28,7 @@ pub use global::{
     w16_global_unlock, w16_moved,
 };
 pub use held::Held;
+pub use lent::{Lent, w16_find, w16_memory};
 pub use life::{w16_free, w16_new, w16_version};
 pub use listing::{
     w16_export_from, w16_module_file, w16_module_from, w16_module_import, w16_module_name,

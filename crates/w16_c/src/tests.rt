@@ -154,8 +154,11 @@ fn an_empty_holder_has_a_status_of_its_own(rt: HostRuntime) {
     let refused = w16_global_alloc(rt.alloc(), &mut held, 2, 20, &mut handle) == NO_MACHINE;
     let fileless = w16_add_file(rt.alloc(), &mut held, b"A", b"") == NO_MACHINE
         && misses(rt.alloc(), &mut held, NO_MACHINE, b"");
+    let mut lent = Lent::of(b"none");
+    let unlent = w16_find(rt.alloc(), &mut held, 0, 0, false, &mut lent) == NO_MACHINE;
     w16_free(rt.alloc(), &mut held);
-    assert!(rt; is_freed(rt.alloc(), held) && bad && refused && fileless && handle == 7);
+    let kept = handle == 7 && lent.count == 4;
+    assert!(rt; is_freed(rt.alloc(), held) && bad && refused && fileless && unlent && kept);
 }
 
 /// A library of one resource, number 1 of type 10, as examples/make-modules.py writes it.
@@ -281,8 +284,13 @@ fn modules_are_told(alloc: Global, held: &mut Held) -> bool {
         flags: 0,
     };
     let mut words = [0; 4];
+    let mut lent = Lent::of(b"");
+    let mut memory = Lent::of(b"");
     let statuses = [
         w16_load_module(alloc, held, b"TGO.EXE", &mut words[0]),
+        w16_find(alloc, held, 0x0107_0000, 4, false, &mut lent),
+        w16_find(alloc, held, 0x0107_0000, 3, true, &mut lent),
+        w16_memory(alloc, held, &mut memory),
         w16_builtin(alloc, held, b"KERNEL", &mut words[1]),
         w16_module_start(alloc, held, 0x21, &mut start),
         w16_module_segment(alloc, held, 0x21, 2, &mut words[2]),
@@ -291,8 +299,9 @@ fn modules_are_told(alloc: Global, held: &mut Held) -> bool {
         w16_module_segment(alloc, held, 0x21, 3, &mut words[0]),
         w16_module_start(alloc, held, 0x22, &mut start),
     ];
-    statuses == [DONE, DONE, DONE, DONE, DONE, END, END, NO_MODULE]
-        && words == [0x21, 0x22, 0x010f, 0x22]
+    statuses[..4] == [DONE, DONE, FAULT_READ_ONLY, DONE]
+        && statuses[4..] == [DONE, DONE, DONE, DONE, END, END, NO_MODULE]
+        && (words == [0x21, 0x22, 0x010f, 0x22] && lent.count == 4 && memory.count == 4096)
         && (start.entry, start.stack, start.automatic_data) == (0x0107_0002, 0x010f_0040, 0x010f)
         && (start.heap, start.stack_size, start.flags) == (0x100, 0x200, 0x0302)
 }
@@ -389,12 +398,16 @@ fn looks_tell_and_change_nothing(rt: HostRuntime) {
     let alloc = rt.alloc();
     let (mut held, is_begun) = begun(alloc, 256);
     let mut handle = 0;
+    let mut lent = Lent::of(b"");
     let made = [
         w16_global_alloc(alloc, &mut held, 0x102, 128, &mut handle),
         w16_global_alloc(alloc, &mut held, 0x102, 128, &mut handle),
-        w16_write(alloc, &mut held, 0x0107_0000, b"hi!"),
         w16_write(alloc, &mut held, 0x010f_0000, b"ho!"),
+        w16_write(alloc, &mut held, 0x0107_0000, b"hi!"),
+        w16_find(alloc, &mut held, 0x010f_0000, 128, true, &mut lent),
     ];
+    let unlent = w16_find(alloc, &mut held, 0x0107_0000, 129, true, &mut lent) == FAULT_LIMIT;
     let good = descriptors_answer(alloc, &mut held) && looks_are_no_use(alloc, &mut held);
-    assert!(rt; is_freed(alloc, held) && is_begun && made == [DONE; 4] && good);
+    let lends = unlent && lent.count == 128;
+    assert!(rt; is_freed(alloc, held) && is_begun && made == [DONE; 5] && good && lends);
 }

@@ -1,83 +1,48 @@
 -- An object's bytes, lent to a work.
 use Rattle.w16_global.proofs
 use proofs.Common as C
-use proofs.Common.{◌≡◌, ℕ, ◌+◌, ◌-◌, ◌<◌, ◌≤◌, IsSomeAnd, List, ◌++◌, length, take, drop, All, Option, Some, None, refl, sym, ap, ◌∙◌, subst, arith, Vec, with_items, length-take-le, part, put_part, Attributes, Block, after_write, bytes_at, block_with, counted, Global, AreJoined, Lends}
-use proofs.Common.{AreParts, Holding, holding_of}
+use proofs.Common.{◌≡◌, ℕ, ◌+◌, ◌-◌, ◌<◌, ◌≤◌, IsSomeAnd, List, [], length, All, Option, Some, None, refl, sym, ap, ◌∙◌, subst, arith, part, Attributes, after_write, bytes_at, counted, Global, AreJoined, Lends}
+use proofs.Common.{Holding}
 use proofs.Owners.{written_joined}
-use proofs.Written.{beside, holding_written, parts_filled}
+use proofs.Loans.{lent_written, part_length}
+use Rattle.std.proofs.Common.{take_all}
+use Rattle.w16_global.specs.Loans.{after_lent, bytes_from}
 use Rattle.w16_selectors.specs.Descriptors as selectors
 
--- a part of bytes is bytes
-part_bytes : (m : List ℕ) (at : ℕ) (new : List ℕ) → at + length new ≤ length m → All (λ b. b < 256) (put_part m at new) → All (λ b. b < 256) new
-part_bytes m at new le all =
-    let rest : List ℕ = drop (length new) (drop at m) in
-    let front : length (take at m) ≡ at = length-take-le at m (omega arith) in
-    let place : length (take at m) + 0 ≡ at = omega arith in
-    let behind : drop at (put_part m at new) ≡ new ++ rest = ap (λ k. drop k (put_part m at new)) (sym place) ∙ C.drop-append-add (take at m) (new ++ rest) 0 in
-    subst (All (λ b. b < 256)) (C.take_at new rest (length new) refl) (C.All-take (λ b. b < 256) (length new) (new ++ rest) (subst (All (λ b. b < 256)) behind (C.All-drop (λ b. b < 256) at (put_part m at new) all)))
+-- The whole of an object's bytes, of which there are so many.
+module _ (h : Holding) (id size : ℕ) (sized : Some size ≡ C.option_map length (bytes_at h.heap id)) where
+  whole : bytes_at h.heap id ≡ Some (bytes_from h.heap id 0 size)
+  whole = turn (bytes_at h.heap id) sized
+    where
+      turn : (b : Option (List ℕ)) → Some size ≡ C.option_map length b → b ≡ Some (part (C.unwrap_or b []) 0 size)
+      turn None e = cc
+      turn (Some bytes) e = let long : size ≡ length bytes = cc in ap Some (sym (take_all size bytes (omega (arith, long))))
 
-module _ {state : C.ArenaState} {memory : List ℕ} (parts : AreParts state memory) {count : ℕ} {h : Holding} (shown : holding_of state memory count ≡ h) (id : ℕ) where
-  abbrev bytes_of : Block → List ℕ
-  bytes_of x = C.slice_range memory x.at (x.at + x.size)
+  pub has_whole : C.HasPart h.heap id 0 size
+  has_whole = turn (bytes_at h.heap id) sized
+    where
+      turn : (b : Option (List ℕ)) → Some size ≡ C.option_map length b → IsSomeAnd b (λ bytes. 0 + size ≤ length bytes)
+      turn None e = cc
+      turn (Some bytes) e = let long : size ≡ length bytes = cc in omega (arith, long)
 
-  bytes_shown : (p : Option Block) → block_with state.table.blocks id ≡ p → bytes_at h.heap id ≡ C.option_map bytes_of p
-  bytes_shown p is = ap (λ (h : Holding). bytes_at h.heap id) (sym shown) ∙ C.bytes_here (beside parts) id ∙ ap (C.option_map bytes_of) is
+  module _ {seen : List ℕ} (is : seen ≡ bytes_from h.heap id 0 size) where
+    pub may : (P : List ℕ → Type 0) → IsSomeAnd (bytes_at h.heap id) P → P seen
+    may P some = subst (λ b. IsSomeAnd b P) (whole ∙ ap Some (sym is)) some
 
-  -- an object with bytes has a block
-  pub no_bytes : (P : List ℕ → Type 0) → IsSomeAnd (bytes_at h.heap id) P → block_with state.table.blocks id ≡ None → ⊥
-  no_bytes P some e = subst (λ b. IsSomeAnd b P) (bytes_shown None e) some
+    pub many : length seen ≡ size
+    many = ap length is ∙ part_length (bytes_at h.heap id) 0 size has_whole
 
-  module _ (x : Block) (is : block_with state.table.blocks id ≡ Some x) where
-    -- its bytes are at its block
-    had : bytes_at h.heap id ≡ Some (part memory x.at x.size)
-    had = let size : x.at + x.size - x.at ≡ x.size = omega arith in bytes_shown (Some x) is ∙ ap (λ k. Some (take k (drop x.at memory))) size
+    pub lent_as : (done : List ℕ → List ℕ → Type 0) {after : List ℕ} → length after ≡ length seen → All (λ b. b < 256) after → done seen after
+        → (lent : Lends h.heap id done) × (after_lent id 0 size h after ≡ record h { heap = after_write h.heap id 0 lent.after; written = counted h.written (length lent.bytes) })
+    lent_as done {after} long all does = (
+      record { bytes = seen; after = after; had = whole ∙ ap Some (sym is); long = long; are_bytes = all; does = does },
+      lent_written h id 0 size has_whole after (long ∙ many) all ∙ ap (λ k. record h { heap = after_write h.heap id 0 after; written = counted h.written k }) (sym many),
+    )
 
-    pub inside : x.at + x.size ≤ length memory
-    inside = (C.ends_in_memory (beside parts) id x is).1
-
-    pub may : (P : List ℕ → Type 0) → IsSomeAnd (bytes_at h.heap id) P → (seen : List ℕ) → seen ≡ part memory x.at x.size → P seen
-    may P some seen e = subst P (sym e) (subst (λ b. IsSomeAnd b P) had some)
-
-    -- and others stand there after it
-    module _ {Z : Type 0} (v : Vec ℕ Z) (items : v.items ≡ memory) (after seen : List ℕ) (is_seen : seen ≡ part memory x.at x.size) (long : length after ≡ length seen)
-        (all : All (λ b. b < 256) (with_items v (put_part v.items x.at after)).items) where
-      size : length (part memory x.at x.size) ≡ x.size
-      size = length-take-le x.size (drop x.at memory) (let behind = C.length-drop x.at memory in let i = inside in omega arith)
-
-      many : length after ≡ x.size
-      many = long ∙ ap length is_seen ∙ size
-
-      fits : x.at + length after ≤ length memory
-      fits = let i = inside in let m = many in omega (arith, m, i)
-
-      same : (with_items v (put_part v.items x.at after)).items ≡ put_part memory x.at after
-      same = C.with_items-put_part v x.at after (subst (λ (m : List ℕ). x.at + length after ≤ length m) (sym items) fits) ∙ ap (λ m. put_part m x.at after) items
-
-      ours : All (λ b. b < 256) after
-      ours = part_bytes memory x.at after fits (subst (All (λ b. b < 256)) same all)
-
-      has : C.HasPart h.heap id 0 (length after)
-      has = let s = size in let m = many in subst (λ (b : Option (List ℕ)). IsSomeAnd b (λ bytes. 0 + length after ≤ length bytes)) (sym had) (omega (arith, s, m))
-
-      at_0 : x.at + 0 ≡ x.at
-      at_0 = omega arith
-
-      abbrev lends : (done : List ℕ → List ℕ → Type 0) → done seen after → Lends h.heap id done
-      lends done does = record { bytes = seen; after = after; had = had ∙ ap Some (sym is_seen); long = long; are_bytes = ours; does = does }
-
-      pub lent_parts : AreParts state (with_items v (put_part v.items x.at after)).items
-      lent_parts = subst (AreParts state) (sym (same ∙ ap (λ k. put_part memory k after) (sym at_0))) (parts_filled parts id shown is 0 after has ours)
-
-      lent_holding : holding_of state (with_items v (put_part v.items x.at after)).items (counted count x.size) ≡ record h { heap = after_write h.heap id 0 after; written = counted h.written (length seen) }
-      lent_holding =
-          let n : x.size ≡ length seen = sym many ∙ long in
-          ap (λ items. holding_of state items (counted count x.size)) (same ∙ ap (λ k. put_part memory k after) (sym at_0))
-          ∙ holding_written parts id shown is 0 after has ours (λ k. counted k x.size)
-          ∙ ap (λ k. record h { heap = after_write h.heap id 0 after; written = counted h.written k }) n
-
-      pub lent_as : (done : List ℕ → List ℕ → Type 0) → done seen after → (lent : Lends h.heap id done)
-          × (holding_of state (with_items v (put_part v.items x.at after)).items (counted count x.size) ≡ record h { heap = after_write h.heap id 0 lent.after; written = counted h.written (length lent.bytes) })
-      lent_as done does = (lends done does, lent_holding)
+-- an object with bytes has a size
+pub no_bytes : (P : List ℕ → Type 0) (b : Option (List ℕ)) → IsSomeAnd b P → C.option_map length b ≡ None → ⊥
+no_bytes P None some e = absurd some
+no_bytes P (Some bytes) some e = cc
 
 -- the value of the whole
 abbrev global_of : Holding → List (Option Attributes) → ℕ → Global

@@ -24,3 +24,5 @@ pub mod Resizing
 mod Lengthening
 pub mod Lent
 pub mod Owning
+pub mod Loans
+pub mod Shown

@@ -7,3 +7,5 @@ pub mod Lent
 pub mod Access
 pub mod Owned
 pub mod Peek
+pub mod Loans
+pub mod Shown

@@ -1,5 +1,5 @@
 //! An object's bytes, lent to what is done to them.
-ghost use Rattle.std.specs.Prelude.{◌≡◌, ◌<◌, ◌^◌, ℕ, List, length, None, Some, IfSome, IfNone, IsSomeAnd, option_map};
+ghost use Rattle.std.specs.Prelude.{◌≡◌, ◌<◌, ◌^◌, ℕ, All, List, length, None, Some, IfSome, IfNone, IsSomeAnd, option_map};
 ghost use Rattle.w16_model.specs.Far.{after_write};
 ghost use Rattle.w16_model.specs.Heap.{bytes_at};
 ghost use Rattle.w16_model.specs.Handles as handles;
@@ -9,10 +9,10 @@ ghost use Rattle.w16_global.specs.Lent.{Lends};
 
 use crate::global::Global16;
 use std::alloc::Allocator;
-use w16_region::{Space, Window};
+use w16_region::{Space, Window, reveal_bytes};
 
-/// Something that is done to an object's bytes, and to a state beside them. A loan out of a value that has an invariant can't be followed past
-/// the call that lends it; so a caller hands its work in.
+/// Something that is done to an object's bytes, and to a state beside them. A loan is followed only where a call hands it on as the last thing that
+/// it does ([`Global16::bytes_mut`]); so a caller whose work goes on after the loan hands it in.
 ///
 /// `State` is what changes beside the bytes.
 pub trait Work<State> {
@@ -40,9 +40,12 @@ pub(crate) fn work_over<T, W: Work<T>>(work: &W, state: &mut T, bytes: &mut [u8]
     requires may { W.may work.now state.old bytes.old }
     ensures long { length bytes.new ≡ length bytes.old }
     ensures done { (count : ℕ) × W.does work.now state.old bytes.old result state.new bytes.new 0 count }
+    ensures bytes { All (λ b. b < 256) bytes.new }
 {
     let mut window = Window::new(bytes);
-    work.work(state, &mut window)
+    let answer = work.work(state, &mut window);
+    reveal_bytes(&window);
+    answer
 }
 
 /// An object with bytes: its slot, how many they are, and whether it is code.

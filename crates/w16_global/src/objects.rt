@@ -1,6 +1,8 @@
 //! The objects of the global heap: an arena over memory of its own.
 ghost use Rattle.std.specs.Prelude.{◌≡◌, ◌≢◌, ◌+◌, ◌-◌, ◌%◌, ◌^◌, ◌<◌, ◌≤◌, ◌⊎◌, ℕ, [], Ok, Err, None, Some, length, IfOk, IfErr, OnOk, IfSome, IfNone, IsSomeAnd, option_map, unwrap_or, is_some, take, if◌then◌else◌, IsSome, slice_get};
 ghost use Rattle.std.specs.FinMap as finmap;
+ghost use Rattle.std.specs.Borrow.{sem};
+ghost use Rattle.w16_region.specs.Lending.{LendsWhole};
 ghost use Rattle.w16_model.specs.Heap.{IsHeap, object_at, bytes_at, empty_heap, IsMultiple};
 ghost use Rattle.w16_model.specs.Changes.{with_object, removed, without};
 ghost use Rattle.w16_model.specs.Request.{Allocates, Compacts, Reallocates, compaction_prefix, moved_bytes};
@@ -8,14 +10,16 @@ ghost use Rattle.w16_model.specs.OneObject.{after_discard, after_modify, after_l
 ghost use Rattle.w16_model.specs.Far.{after_write};
 ghost use Rattle.w16_model.specs.Resizes.{rehoused};
 ghost use Rattle.w16_model.specs.Walk.{IsFirstItem, IsItem, by_its_id};
-ghost use Rattle.w16_model.specs.Bytes.{part, repeated};
+ghost use Rattle.w16_model.specs.Bytes.{part};
 ghost use Rattle.w16_region.specs.Bytes.{counted};
 ghost use Rattle.w16_arena.specs.State.{entry_of};
 ghost use Rattle.w16_arena.specs.Asked.{HasDiscarded, HasDiscardedFor, IsStill, first_eligible};
 ghost use Rattle.w16_global.specs.Lent.{Lends};
 ghost use Rattle.w16_global.specs.Parts.{HasPart};
+ghost use Rattle.w16_global.specs.Shown.{ShowsObjects};
 
 use crate::lend::{Work, work_over};
+use crate::loan::lend_part;
 use std::alloc::{AllocError, Allocator};
 use std::marker::Model;
 use w16_arena::{Arena, Compacted, Placed};
@@ -43,6 +47,9 @@ impl<A: Allocator + Copy> Model for Objects<A> {
 }
 
 impl<A: Allocator + Copy> Objects<A> {
+    ghost use Rattle.w16_global.specs.contracts.objects.Objects.{the_row};
+    ghost use Rattle.w16_global.specs.Loans.{after_lent};
+
     /// No object yet, ids below `cap`, and so many bytes of memory, a multiple of the grain.
     pub fn new(alloc: A, cap: u32, size: u32) -> Result<Objects<A>, AllocError>
         requires few { cap ≤ 8192 }
@@ -291,27 +298,24 @@ impl<A: Allocator + Copy> Objects<A> {
         self.memory.view(block.at + at, n)
     }
 
-    /// Replaces bytes of an object, from an offset on.
-    pub fn write(&mut self, id: u32, at: u32, new: &[u8])
-        requires { HasPart self.old.heap id at (length new.now) }
-        ensures { self.new ≡ record self.old { heap = after_write self.old.heap id at new.now; written = counted self.old.written (length new.now) } }
+    /// The whole memory.
+    pub fn memory(&self) -> &[u8]
+        ensures shown { ShowsObjects result.now self.now.heap }
+        ensures long { length result.now ≡ self.now.heap.hi }
     {
-        let Some(block) = self.arena.block(id) else {
-            unreachable!();
-        };
-        let part = self.memory.view_mut(block.at + at, new.len() as u32);
-        part.copy_from_slice(new);
+        self.memory.view(0, self.memory.len())
     }
 
-    /// Sets bytes of an object, from an offset on, to one byte.
-    pub fn fill(&mut self, id: u32, at: u32, n: u32, byte: u8)
+    /// A part of an object's bytes, from an offset on, lent to be written.
+    pub fn lend(&mut self, id: u32, at: u32, n: u32) -> &mut [u8]
         requires { HasPart self.old.heap id at n }
-        ensures { self.new ≡ record self.old { heap = after_write self.old.heap id at (repeated n byte); written = counted self.old.written n } }
+        ensures value { result.now ≡ part (unwrap_or (bytes_at self.old.heap id) []) at n }
+        ensures* writes_back { sem 𝓛 (LendsWhole (the_row A.row A.Allocator A.Clone) (after_lent id at n) self.entry result) }
     {
         let Some(block) = self.arena.block(id) else {
             unreachable!();
         };
-        self.memory.fill(block.at + at, n, byte);
+        lend_part(&mut self.memory, block.at + at, n)
     }
 
     /// Does a work on an object's bytes.
@@ -320,12 +324,10 @@ impl<A: Allocator + Copy> Objects<A> {
         ensures { (lent : Lends self.old.heap id (λ bytes after. (count : ℕ) × W.does work.now state.old bytes result state.new after 0 count))
             × (self.new ≡ record self.old { heap = after_write self.old.heap id 0 lent.after; written = counted self.old.written (length lent.bytes) }) }
     {
-        let Some(block) = self.arena.block(id) else {
+        let Some(size) = self.size(id) else {
             unreachable!();
         };
-        let answer = work_over(work, state, self.memory.view_mut(block.at, block.size));
-        reveal_bytes(&self.memory);
-        answer
+        work_over(work, state, self.lend(id, 0, size))
     }
 
     /// How many bytes of the memory were slid, filled or lent to be written so far.

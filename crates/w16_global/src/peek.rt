@@ -6,6 +6,7 @@ ghost use Rattle.w16_selectors.specs.Descriptors as selectors;
 ghost use Rattle.w16_global.specs.Peek.{selector_descriptor};
 
 use crate::global::Global16;
+use crate::loan::Place;
 use std::alloc::Allocator;
 use w16_model::FarFault;
 use w16_model::names::offset_in;
@@ -26,7 +27,7 @@ pub struct Descriptor {
 }
 
 impl<A: Allocator + Copy> Global16<A> {
-    /// Reads as [`Global16::far_read`] does, with its faults, and is no use of the object.
+    /// Copies as many bytes as the buffer has, with the faults of [`Global16::far_place`], and is no use of the object.
     pub fn far_peek(&self, selector: u16, offset: u16, buffer: &mut [u8]) -> Result<(), FarFault>
         ensures length { length buffer.new ≡ length buffer.old }
         ensures ok { OnOk result ((far_fault self.now.handles selector offset (length buffer.old) ≡ None)
@@ -35,10 +36,12 @@ impl<A: Allocator + Copy> Global16<A> {
         ensures kept { OnErr result (buffer.new ≡ buffer.old) }
     {
         let reached = self.reach(selector, offset, buffer.len(), false)?;
-        let part = self
-            .objects
-            .part(reached.slot as u32, reached.at, buffer.len() as u32);
-        buffer.copy_from_slice(part);
+        let place = Place {
+            slot: reached.slot,
+            at: reached.at,
+            count: buffer.len() as u32,
+        };
+        buffer.copy_from_slice(self.bytes(place));
         Ok(())
     }
 

@@ -3,15 +3,13 @@ use Rattle.w16_kernel.proofs
 use proofs.Common as C
 use proofs.Common.{None, Option, Some, ◌%◌, ◌+◌, ◌/◌, IsAbsent, handle_of, Bool, Discardable, FarAnswer, FarFault, Fill, Fixed, Handles, Kind, List, Moveable, Object, Read, Write, ap, arith, bytes_at, cond, false, false≢true, far_fault, length, object_at, offset_in, refl, selector_in, sym}
 use proofs.Common.{true, ℕ, ◌<◌, ◌∙◌, ◌≡◌, Part, dword_of}
-use Rattle.w16_model.specs.declared.FarFault.TheVariants.{BadSelector, ReadOnly, NotPresent, Limit}
-use Rattle.w16_model.specs.{Effects.pointer_in, Far.is_past, Far.FarAnswer.Fault, Handles.part_of_selector}
+use Rattle.w16_model.specs.declared.FarFault.TheVariants.{BadSelector, NotPresent, Limit}
+use Rattle.w16_model.specs.{Far.is_past, Handles.part_of_selector}
 use Rattle.std.specs.FinMap as finmap
-use Rattle.w16_model.specs.Far as far
-use Rattle.w16_loading.specs.Replies as replies
 
 -- An access whose fault is that its object has no bytes: its selector leads to one without.
 module _ (handles : Handles) (selector : ℕ) where
-  by_fault : (offset n : ℕ) → far_fault handles selector offset n ≡ Some NotPresent → IsAbsent handles selector
+  pub by_fault : (offset n : ℕ) → far_fault handles selector offset n ≡ Some NotPresent → IsAbsent handles selector
   by_fault offset n e = of_part (part_of_selector handles selector) refl e
     where
       limit : (b : Bool) → ◌≡◌ {A = Option FarFault} (cond b (Some Limit) None) (Some NotPresent) → ⊥
@@ -29,32 +27,6 @@ module _ (handles : Handles) (selector : ℕ) where
       ]) ≡ Some NotPresent → IsAbsent handles selector
       of_part None named e = cc
       of_part (Some p) named e = of_bytes p named (bytes_at handles.heap p.slot) refl e
-
-  by_answer : (offset n : ℕ) (x : FarAnswer × Handles) → (x.0 ≡ Fault NotPresent → ⊥) → (p : Option FarFault) → far_fault handles selector offset n ≡ p
-      → Fault NotPresent ≡ (elim p as (λ _. FarAnswer × Handles) [ Some fault ↦ (Fault fault, handles) | None ↦ x ]).0 → IsAbsent handles selector
-  by_answer offset n x other None at e = absurd (other (sym e))
-  by_answer offset n x other (Some fault) at e = by_fault offset n (at ∙ ap Some (same fault e))
-    where
-      same : (fault : FarFault) → ◌≡◌ {A = FarAnswer} (Fault NotPresent) (Fault fault) → fault ≡ NotPresent
-      same fault e = cc
-
-  read_absent : (offset n : ℕ) → Fault NotPresent ≡ (far.far_read handles selector offset n).0 → IsAbsent handles selector
-  read_absent offset n e = by_answer offset n _ (λ e. cc) (far_fault handles selector offset n) refl e
-
-  write_absent : (offset : ℕ) (slice : List ℕ) → Fault NotPresent ≡ (far.far_write handles selector offset slice).0 → IsAbsent handles selector
-  write_absent offset slice e = turn (C.refuses_write handles selector) e
-    where
-      turn : (b : Bool) → Fault NotPresent ≡ (cond b (Fault ReadOnly, handles) (C.data_write handles selector offset slice)).0 → IsAbsent handles selector
-      turn true e = cc
-      turn false e = by_answer offset (length slice) _ (λ e. cc) (far_fault handles selector offset (length slice)) refl e
-
-pub met_absent : (old mid : C.LoadingWorld) → mid ≡ old → (command : C.FarCommand) (fault : FarFault) → C.FarReplies old.handles command (replies.Reply.Fault fault) mid.handles → fault ≡ NotPresent → IsAbsent mid.handles (selector_in (pointer_in command))
-met_absent old mid same command fault s e = rw same (here command s)
-  where
-    here : (command : C.FarCommand) → C.FarReplies old.handles command (replies.Reply.Fault fault) mid.handles → IsAbsent old.handles (selector_in (pointer_in command))
-    here (Read pointer count) s = read_absent old.handles (selector_in pointer) (offset_in pointer) count (ap Fault (sym e) ∙ s.0)
-    here (Write pointer bytes) s = write_absent old.handles (selector_in pointer) (offset_in pointer) bytes (ap Fault (sym e) ∙ s.0)
-    here (Fill pointer count byte) s = write_absent old.handles (selector_in pointer) (offset_in pointer) (C.repeated count byte) (ap Fault (sym e) ∙ s.0)
 
 pub slot_in_handle : (kind : Kind) (slot : ℕ) → handle_of kind slot / 8 ≡ slot
 slot_in_handle Fixed slot = omega arith

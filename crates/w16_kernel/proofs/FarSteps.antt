@@ -6,14 +6,8 @@ use proofs.Common.{reply_of_far, selector_in, subst, sym, true, with_handles, �
 use proofs.Stepping.{stay}
 use Rattle.w16_loading.specs.{Answers.FetchesOver, Families.access_of, Replies.Reply.Bytes, Replies.Reply.Done, Replies.Reply.Fault}
 use Rattle.w16_model.specs.Effects.{pointer_in}
-use Rattle.w16_kernel.specs.{declared.call.Reply.Reply, declared.far.Written.Written}
+use Rattle.w16_kernel.specs.{declared.call.Reply.Reply}
 use Rattle.w16_loading.specs.Replies as printed
-use Rattle.w16_kernel.specs.declared.call.Reply.TheVariants as code
-use Rattle.w16_kernel.specs.declared.far.Written.TheVariants as writes
-
-pub selector_of_write : (pointer : ℕ) (written : Written) → selector_in (pointer_in (C.write_of pointer written)) ≡ selector_in pointer
-selector_of_write pointer (writes.Bytes bytes) = refl
-selector_of_write pointer (writes.Repeated count byte) = refl
 
 -- what a reply prints, of an access to handles in whatever world has them
 given : (old : LoadingWorld) (next : Handles) (command : FarCommand) (reply : printed.Reply) → FarReplies old.handles command reply next → gives (access_of command old) reply (with_handles old next)
@@ -28,7 +22,7 @@ given old next (Fill pointer count byte) Done s = (ap reply_of_far s.0, ap (with
 given old next (Fill pointer count byte) (Fault fault) s = (ap reply_of_far s.0, ap (with_handles old) s.1)
 given old next command reply s = absurd s
 
-abbrev Makes : Type 0 → World → FarCommand → printed.Reply → World → Type 0
+abbrev pub Makes : Type 0 → World → FarCommand → printed.Reply → World → Type 0
 Makes honest old command reply new = Step honest ne_format old (C.OfLoading (OfFar command)) reply new
 
 -- the selector of an access, whether the access has to fetch, and what

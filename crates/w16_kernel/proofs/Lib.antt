@@ -4,6 +4,7 @@ pub mod Asked
 pub mod Common
 pub mod Descriptors
 pub mod FarSteps
+pub mod Lent
 pub mod Modules
 pub mod Refetching
 pub mod Rooms

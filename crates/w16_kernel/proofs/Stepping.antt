@@ -38,19 +38,19 @@ module _ (honest : Type 0) (old : World) (is : IsWorldOver honest old) where
   swept_step (OfLoading (C.OfResources command)) reply mid s = unchanged _ _ _ _ s.1 (λ e. e) s.0
 
   -- what an answered read of code tells
-  reads_code : (command : Command) (reply : printed.Reply) (new : World) → Step honest ne_format old command reply new → honest → C.ReadsCode old command reply
+  pub reads_code : (command : Command) (reply : printed.Reply) (new : World) → Step honest ne_format old command reply new → honest → C.ReadsCode old command reply
   reads_code command reply new s h = λ pointer count bytes slot handle number m c r named segment coded.
       let far : Step honest ne_format old (OfLoading (OfFar (Read pointer count))) (Bytes bytes) new = rw (c, r) at s in
       C.code_reads_law honest ne_format old.loading new.loading pointer count bytes slot handle number m h is.0.loading (is.1 h) far.0 named segment coded
 
   -- and what is asked room for
-  asks : (command : Command) (reply : printed.Reply) (new : World) → Step honest ne_format old command reply new → (asked : LoadingCommand) → command ≡ OfLoading asked → FewestOver honest ne_format old.loading asked reply new.loading
+  pub asks : (command : Command) (reply : printed.Reply) (new : World) → Step honest ne_format old command reply new → (asked : LoadingCommand) → command ≡ OfLoading asked → FewestOver honest ne_format old.loading asked reply new.loading
   asks command reply new s asked e =
       let step : Step honest ne_format old (OfLoading asked) reply new = rw e at s in
       requests_fewest_law honest ne_format old.loading new.loading asked reply is.0.loading step.0
 
   -- a step leaves a world, of its files where the store is honest
-  kept : (command : Command) (reply : printed.Reply) (new : World) → IsCommand command → Step honest ne_format old command reply new → IsWorldOver honest new
+  pub kept : (command : Command) (reply : printed.Reply) (new : World) → IsCommand command → Step honest ne_format old command reply new → IsWorldOver honest new
   kept command reply new known step = (
     C.world_law honest ne_format old new command reply is.0 known step,
     λ h. (C.files_law honest ne_format old new command reply h (is.0, is.1 h) known step).1,

@@ -10,6 +10,7 @@ use specs.declared.call.TheConstants.{MOST_READ, MOST_FILLED}
 use specs.{declared.call.Call.Call, declared.call.Label.Label, declared.call.Reply.Reply, declared.call.Answer.Answer, declared.far.Written.Written}
 use Rattle.w16_model.specs.Calls as calls
 use Rattle.w16_model.specs.Far as far
+use Rattle.w16_model.specs.Bytes as far_bytes
 use Rattle.w16_loading.specs.Replies as printed
 use Rattle.w16_loading.specs.Families as families
 use Rattle.w16_loading.specs.File as files
@@ -77,7 +78,11 @@ command_of (LockResource handle) = OfLoading (OfResources (families.ResourceComm
 command_of (FreeResource handle) = OfLoading (OfResources (families.ResourceCommand.FreeResource handle))
 command_of (SizeofResource handle place) = OfLoading (OfResources (families.ResourceCommand.SizeofResource handle place))
 
--- the command of a far write
+-- the bytes that a far write writes, and its command
+abbrev pub bytes_written : Written → List ℕ
+bytes_written (written.Bytes bytes) = bytes.now
+bytes_written (written.Repeated count byte) = far_bytes.repeated count byte
+
 abbrev pub write_of : ℕ → Written → far.FarCommand
 write_of pointer (written.Bytes bytes) = far.FarCommand.Write pointer bytes.now
 write_of pointer (written.Repeated count byte) = far.FarCommand.Fill pointer count byte

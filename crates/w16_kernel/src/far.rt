@@ -1,33 +1,34 @@
 //! Far accesses, which fetch the objects of modules that they meet without bytes.
-ghost use Rattle.std.specs.Prelude.{◌≡◌, ◌≤◌, ◌/◌, length, IfErr, IfNone, IfSome, OnErr, OnOk, None};
+ghost use Rattle.std.specs.Prelude.{◌≡◌, ◌<◌, ◌≤◌, ◌/◌, All, length, IfErr, IfNone, IfSome, OnErr, OnOk, None};
 ghost use Rattle.std.specs.FinMap as finmap;
 ghost use Rattle.w16_model.specs.Far.FarCommand.{Read};
 ghost use Rattle.w16_model.specs.Owned.{owned_at};
 ghost use Rattle.w16_model.specs.declared.FarFault.TheVariants.{NotPresent};
 ghost use Rattle.w16_global.specs.Owned.{LacksBytes};
+ghost use Rattle.w16_global.specs.Loans.{IsPlaceIn, lent_bytes, with_bytes_there};
 ghost use Rattle.w16_loading.specs.Families.LoadingCommand.{OfFar};
 ghost use Rattle.w16_loading.specs.Law.{IsLoadingWorld};
 ghost use Rattle.w16_loading.specs.Modules.{LoadingWorld, with_handles};
-ghost use Rattle.w16_loading.specs.Replies.{FarReplies};
-ghost use Rattle.w16_loading.specs.Replies.Reply.{Bytes, Done, Fault};
 ghost use Rattle.w16_format.specs.Ne.{ne_format};
 ghost use Rattle.w16_loader.specs.Fetching.{fault_in};
 ghost use Rattle.w16_loader.specs.Registry.{in_world};
 ghost use Rattle.w16_machine.specs.Machine.{Step};
 ghost use Rattle.w16_machine.specs.Machine.Command.{OfLoading};
 ghost use Rattle.w16_kernel.specs.Fetching.{IsAbsent, IsSourceFor, KernelFetch, Refetches};
+ghost use Rattle.w16_kernel.specs.Lent.{FindsPlace, FindsPlaceOnce, IsFarFault};
 ghost use Rattle.w16_kernel.specs.Parts.{IsWorldOver};
 ghost use Rattle.w16_resource.specs.Parts.{IsLoadingOver};
-ghost use Rattle.w16_kernel.specs.Runs.{IsReply, reply_of, write_of};
+ghost use Rattle.w16_kernel.specs.Runs.{IsReply, bytes_written, reply_of, write_of};
 
 use crate::call::{MOST_READ, Reply};
 use crate::parts::{Loading, Parts, sweep_all};
 use std::alloc::Allocator;
+use w16_global::Place;
 use w16_loader::{Registry, SegmentSource, fetch};
 use w16_loading::FetchFault;
 use w16_model::FarFault;
 use w16_model::names::{offset_in, selector_in, slot_of};
-use w16_store::Store;
+use w16_store::{Store, reveal_bytes};
 
 /// Where the bytes of the object in a slot come from, in which no resource is; none where it is no module's segment.
 fn segment_source<A: Allocator + Copy>(
@@ -96,7 +97,8 @@ fn fetch_selected<S: Store + Drop, A: Allocator + Copy>(
 ) -> Result<(), Reply<'static>>
     requires loading { IsLoadingOver S.is_honest loading.old }
     requires absent { IsAbsent loading.old.handles selector }
-    ensures { Refetches S.is_honest loading.old selector NotPresent result loading.new }
+    ensures fetches { Refetches S.is_honest loading.old selector NotPresent result loading.new }
+    ensures fault { IfErr result (λ reply. IsFarFault (reply_of reply)) }
 {
     // The low word is the object's handle.
     let handle = offset_in(loading.global.global_handle(selector));
@@ -119,7 +121,8 @@ fn fetch_absent<S: Store + Drop, A: Allocator + Copy>(
 ) -> Result<(), Reply<'static>>
     requires loading { IsLoadingOver S.is_honest loading.old }
     requires absent { fault ≡ NotPresent → IsAbsent loading.old.handles selector }
-    ensures { Refetches S.is_honest loading.old selector fault result loading.new }
+    ensures fetches { Refetches S.is_honest loading.old selector fault result loading.new }
+    ensures fault { IfErr result (λ reply. IsFarFault (reply_of reply)) }
 {
     match fault {
         FarFault::NotPresent => fetch_selected(loading, selector),
@@ -127,21 +130,61 @@ fn fetch_absent<S: Store + Drop, A: Allocator + Copy>(
     }
 }
 
-/// A read that fetches nothing, of as many bytes as the room has, into which they are copied.
-fn read_once<S: Store + Drop, A: Allocator + Copy>(
+/// A far access that fetches nothing: where the bytes are.
+fn find_once<S: Store + Drop, A: Allocator + Copy>(
     loading: &mut Loading<S, A>,
     pointer: u32,
-    room: &mut [u8],
-) -> Result<(), FarFault>
-    ensures length { length room.new ≡ length room.old }
-    ensures ok { OnOk result (FarReplies loading.old.handles (Read pointer (length room.old)) (Bytes room.new) loading.new.handles) }
-    ensures err { IfErr result (λ fault. FarReplies loading.old.handles (Read pointer (length room.old)) (Fault fault) loading.new.handles) }
+    count: usize,
+    write: bool,
+) -> Result<Place, FarFault>
+    ensures once { FindsPlaceOnce loading.old.handles write pointer count result loading.new.handles }
     ensures kept { OnErr result (loading.new ≡ loading.old) }
     ensures rest { loading.new ≡ with_handles loading.old loading.new.handles }
 {
     loading
         .global
-        .far_read(selector_in(pointer), offset_in(pointer), room)
+        .far_place(selector_in(pointer), offset_in(pointer), count, write)
+}
+
+/// A far access to bytes that are to be read, or to be written, with what it fetches: where they are, or its reply where there is none.
+pub fn find<S: Store + Drop, A: Allocator + Copy>(
+    parts: &mut Parts<S, A>,
+    pointer: u32,
+    count: usize,
+    write: bool,
+) -> Result<Place, Reply<'static>>
+    requires { IsWorldOver S.is_honest parts.old }
+    ensures found { FindsPlace S.is_honest parts.old write pointer count result parts.new }
+    ensures short { IfErr result (λ reply. IsReply reply) }
+    ensures fault { IfErr result (λ reply. IsFarFault (reply_of reply)) }
+{
+    match find_once(&mut parts.loading, pointer, count, write) {
+        Ok(place) => Ok(place),
+        Err(fault) => {
+            if let Err(reply) = fetch_absent(&mut parts.loading, selector_in(pointer), fault) {
+                return Err(reply);
+            }
+            let again = find_once(&mut parts.loading, pointer, count, write);
+            sweep_all(parts);
+            match again {
+                Ok(place) => Ok(place),
+                Err(fault) => Err(Reply::Fault(fault)),
+            }
+        }
+    }
+}
+
+/// Copies the bytes at a place into a room for just as many.
+fn copy_found<S: Store + Drop, A: Allocator + Copy>(
+    loading: &Loading<S, A>,
+    place: Place,
+    room: &mut [u8],
+)
+    requires there { IsPlaceIn loading.now.handles place }
+    requires long { length room.old ≡ place.count }
+    ensures { room.new ≡ lent_bytes loading.now.handles place }
+{
+    room.copy_from_slice(loading.global.bytes(place));
 }
 
 /// The reply to a far read of as many bytes as the room has, into which they are copied.
@@ -154,17 +197,11 @@ pub fn read<'r, S: Store + Drop, A: Allocator + Copy>(
     ensures step { Step S.is_honest ne_format parts.old (OfLoading (OfFar (Read pointer (length room.old)))) (reply_of result) parts.new }
     ensures short { length room.old ≤ MOST_READ → IsReply result }
 {
-    if let Err(fault) = read_once(&mut parts.loading, pointer, room) {
-        if let Err(reply) = fetch_absent(&mut parts.loading, selector_in(pointer), fault) {
-            return reply;
-        }
-        let again = read_once(&mut parts.loading, pointer, room);
-        sweep_all(parts);
-        return match again {
-            Ok(()) => Reply::Bytes(room),
-            Err(fault) => Reply::Fault(fault),
-        };
-    }
+    let place = match find(parts, pointer, room.len(), false) {
+        Ok(place) => place,
+        Err(reply) => return reply,
+    };
+    copy_found(&parts.loading, place, room);
     Reply::Bytes(room)
 }
 
@@ -176,25 +213,45 @@ pub enum Written<'a> {
     Repeated { count: u32, byte: u8 },
 }
 
-/// A far write that fetches nothing.
-fn write_once<S: Store + Drop, A: Allocator + Copy>(
-    loading: &mut Loading<S, A>,
-    pointer: u32,
-    written: Written<'_>,
-) -> Result<(), FarFault>
-    ensures ok { OnOk result (FarReplies loading.old.handles (write_of pointer written.entry) Done loading.new.handles) }
-    ensures err { IfErr result (λ fault. FarReplies loading.old.handles (write_of pointer written.entry) (Fault fault) loading.new.handles) }
-    ensures kept { OnErr result (loading.new ≡ loading.old) }
-    ensures rest { loading.new ≡ with_handles loading.old loading.new.handles }
+/// How many bytes are written.
+fn count_of(written: Written<'_>) -> usize
+    ensures { result ≡ length (bytes_written written.entry) }
 {
-    let selector = selector_in(pointer);
-    let offset = offset_in(pointer);
     match written {
-        Written::Bytes(bytes) => loading.global.far_write(selector, offset, bytes),
-        Written::Repeated { count, byte } => {
-            loading.global.far_fill(selector, offset, count, byte)
+        Written::Bytes(bytes) => bytes.len(),
+        Written::Repeated { count, byte: _ } => count as usize,
+    }
+}
+
+/// Writes them into just as many.
+fn put(written: Written<'_>, into: &mut [u8])
+    requires { length into.old ≡ length (bytes_written written) }
+    ensures value { into.new ≡ bytes_written written.entry }
+    ensures bytes { All (λ b. b < 256) into.new }
+{
+    match written {
+        Written::Bytes(bytes) => {
+            into.copy_from_slice(bytes);
+            reveal_bytes(into);
+        }
+        Written::Repeated { count: _, byte } => {
+            into.fill(byte);
+            reveal_bytes(into);
         }
     }
+}
+
+/// Writes over the bytes at a place.
+fn write_found<S: Store + Drop, A: Allocator + Copy>(
+    loading: &mut Loading<S, A>,
+    place: Place,
+    written: Written<'_>,
+)
+    requires there { IsPlaceIn loading.old.handles place }
+    requires long { length (bytes_written written) ≡ place.count }
+    ensures { loading.new ≡ with_handles loading.old (with_bytes_there loading.old.handles place (bytes_written written.entry)) }
+{
+    put(written, loading.global.bytes_mut(place));
 }
 
 /// The reply to a far write.
@@ -207,16 +264,10 @@ pub fn write<S: Store + Drop, A: Allocator + Copy>(
     ensures step { Step S.is_honest ne_format parts.old (OfLoading (OfFar (write_of pointer written.entry))) (reply_of result) parts.new }
     ensures short { IsReply result }
 {
-    if let Err(fault) = write_once(&mut parts.loading, pointer, written) {
-        if let Err(reply) = fetch_absent(&mut parts.loading, selector_in(pointer), fault) {
-            return reply;
-        }
-        let again = write_once(&mut parts.loading, pointer, written);
-        sweep_all(parts);
-        return match again {
-            Ok(()) => Reply::Done,
-            Err(fault) => Reply::Fault(fault),
-        };
-    }
+    let place = match find(parts, pointer, count_of(written), true) {
+        Ok(place) => place,
+        Err(reply) => return reply,
+    };
+    write_found(&mut parts.loading, place, written);
     Reply::Done
 }

@@ -13,6 +13,7 @@ ghost use Rattle.w16_kernel.specs.Stops.{StopsEarly};
 
 mod ask;
 pub mod facts;
+mod lent;
 pub mod modules;
 mod peek;
 pub mod why;

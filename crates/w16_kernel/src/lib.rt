@@ -21,5 +21,5 @@ pub use kernel::modules::{Export, Start};
 pub use kernel::why::Why;
 pub use machine::Machine;
 pub use sizes::{MOST_MEMORY, SizeFault, check_sizes};
-pub use w16_global::{Descriptor, GlobalAllocFlags, GlobalReAllocFlags};
+pub use w16_global::{Descriptor, GlobalAllocFlags, GlobalReAllocFlags, Place};
 pub use w16_local::{LocalAllocFlags, LocalReAllocFlags};

@@ -41,7 +41,7 @@ acted_in t s was is_local lent next next_is new new_is = record { before = t; by
 -- where that leaves the heap and its bytes as they were, nothing has changed
 pub acted_same : {handles next : Handles} {tables new : FinMap nat_cmp Table} {slot : ℕ} {does : Table → List ℕ → Table → List ℕ → Type 0} (a : ActedIn handles tables slot does next new) → a.table ≡ a.before → a.after ≡ a.bytes → (new ≡ tables) × (next ≡ handles)
 acted_same {handles} {next} {tables} {new} {slot} a table bytes =
-    let heap_same : after_write handles.heap slot 0 a.after ≡ handles.heap = ap (after_write handles.heap slot 0) bytes ∙ same_write handles.heap slot a.bytes a.had in
+    let heap_same = ap (after_write handles.heap slot 0) bytes ∙ same_write handles.heap slot a.bytes a.had in
     (a.rest.0 ∙ ap (finmap.insert tables slot) table ∙ put_same tables slot a.before a.was, a.rest.1 ∙ (λ i. record handles { heap = heap_same i }))
 
 -- what is so of a slot's heap is so of the one that DS names
@@ -68,8 +68,8 @@ lent_in is new lent = inr (rw is.is_current (rw is.had at lent))
 pub once_in : (old new : Global) {tables left : FinMap nat_cmp Table} {slot : ℕ} {does : Table → List ℕ → Table → List ℕ → Type 0} (a : ActedIn old.handles tables slot does new.handles left)
     → IsLent old slot new → WritesOnce (in_slot a.before a.bytes slot) old.written new.handles new.written
 once_in old new {slot = slot} a lent =
-    let o : (o : Object) × (C.object_at old.handles.heap slot ≡ Some o) × (o.bytes ≡ Some a.bytes) = C.object_of old.handles.heap slot a.bytes a.had in
-    let now : bytes_at new.handles.heap slot ≡ Some a.after = ap (λ (h : Handles). bytes_at h.heap slot) a.rest.1 ∙ ap bytes_in (segment_after old.handles.heap slot o.0 o.1 a.bytes o.2 a.after a.long) in (
+    let o = C.object_of old.handles.heap slot a.bytes a.had in
+    let now = ap (λ h. bytes_at h.heap slot) a.rest.1 ∙ ap bytes_in (segment_after old.handles.heap slot o.0 o.1 a.bytes o.2 a.after a.long) in (
       rw now a.long,
       rw a.had at lent,
     )

@@ -6,10 +6,10 @@ use proofs.Locals.{default_any}
 
 -- a laid list begins at its low end or above, and each other block behind its first one
 from_low : (lo hi : ℕ) (xs : List Block) → IsLaid lo hi xs → (x : Block) → Member x xs → lo ≤ x.at
-from_low lo hi xs laid x m = (C.Each-at (λ (y : Block). (lo ≤ y.at) × (0 < y.size) × (block_end y ≤ hi)) xs (C.laid_each lo hi xs laid) x m).0
+from_low lo hi xs laid x m = (C.Each-at (λ y. (lo ≤ y.at) × (0 < y.size) × (block_end y ≤ hi)) xs (C.laid_each lo hi xs laid) x m).0
 
 behind : (lo hi : ℕ) (x : Block) (xs : List Block) → IsLaid lo hi (x ∷ xs) → (y : Block) → Member y xs → x.at < y.at
-behind lo hi x xs laid y m = let some = laid.1 in let low : block_end x ≤ y.at = from_low (block_end x) hi xs laid.2 y m in omega (arith, some, low)
+behind lo hi x xs laid y m = let some = laid.1 in let low = from_low (block_end x) hi xs laid.2 y m in omega (arith, some, low)
 
 -- laid lists of the same blocks begin with the same one
 first_same : (lo hi from to : ℕ) (x y : Block) (xs ys : List Block) → IsLaid lo hi (x ∷ xs) → IsLaid from to (y ∷ ys) → Member x (y ∷ ys) → Member y (x ∷ xs) → x ≡ y
@@ -20,7 +20,7 @@ first_same lo hi from to x y xs ys p q (inr m) (inr n) = absurd (let over = behi
 -- a block behind the first one of a list is behind that of the other
 in_rest : (lo hi : ℕ) (x y z : Block) (xs ys : List Block) → IsLaid lo hi (x ∷ xs) → y ≡ x → Member z xs → Member z (y ∷ ys) → Member z ys
 in_rest lo hi x y z xs ys p same m (inr n) = n
-in_rest lo hi x y z xs ys p same m (inl e) = absurd (let over = behind lo hi x xs p z m in let here = ap (λ (b : Block). b.at) (e ∙ same) in omega (arith, over, here))
+in_rest lo hi x y z xs ys p same m (inl e) = absurd (let over = behind lo hi x xs p z m in let here = ap (λ b. b.at) (e ∙ same) in omega (arith, over, here))
 
 -- and are the same
 laid_same : (lo hi from to : ℕ) (xs ys : List Block) → IsLaid lo hi xs → IsLaid from to ys → ((x : Block) → Member x xs → Member x ys) → ((x : Block) → Member x ys → Member x xs) → xs ≡ ys
@@ -28,8 +28,8 @@ laid_same lo hi from to [] [] p q f g = refl
 laid_same lo hi from to [] (y ∷ ys) p q f g = absurd (g y (inl refl))
 laid_same lo hi from to (x ∷ xs) [] p q f g = absurd (f x (inl refl))
 laid_same lo hi from to (x ∷ xs) (y ∷ ys) p q f g =
-    let first : x ≡ y = first_same lo hi from to x y xs ys p q (f x (inl refl)) (g y (inl refl)) in
-    let rest : xs ≡ ys = laid_same (block_end x) hi (block_end y) to xs ys p.2 q.2 (λ z m. in_rest lo hi x y z xs ys p (sym first) m (f z (inr m))) (λ z m. in_rest from to y x z ys xs q first m (g z (inr m))) in
+    let first = first_same lo hi from to x y xs ys p q (f x (inl refl)) (g y (inl refl)) in
+    let rest = laid_same (block_end x) hi (block_end y) to xs ys p.2 q.2 (λ z m. in_rest lo hi x y z xs ys p (sym first) m (f z (inr m))) (λ z m. in_rest from to y x z ys xs q first m (g z (inr m))) in
     λ i. first i ∷ rest i
 
 module _ (t s : Table) (sound : C.IsSound t) (range : C.IsSameRange t s) (bytes : List ℕ) (inside : t.hi ≤ length bytes) (same : C.heap_in s bytes ≡ C.heap_in t bytes) where

@@ -56,30 +56,30 @@ module _ {used : ℕ} {kept : List ℕ} (is : AreKept used kept) where
 
 -- the rest of the entries begins with one
 ones : (used : ℕ) → used < 1024 → replicate {A = ℕ} (1024 - used) 1 ≡ 1 ∷ replicate (1024 - (used + 1)) 1
-ones used lt = ap (λ (n : ℕ). replicate {A = ℕ} n 1) (let e : 1024 - used ≡ suc (1024 - (used + 1)) = omega arith in e)
+ones used lt = ap (λ n. replicate {A = ℕ} n 1) (let e : 1024 - used ≡ suc (1024 - (used + 1)) = omega arith in e)
 
 -- one more is kept
 pub kept_more : (used y : ℕ) (kept : List ℕ) → length kept ≡ 1024 → used < 1024 → all_of (used + 1) (set kept used y) ≡ take used kept ++ y ∷ replicate (1024 - (used + 1)) 1
 kept_more used y kept many lt =
-    ap (λ (n : ℕ). take n (set kept used y) ++ replicate (1024 - (used + 1)) 1) (let e : used + 1 ≡ suc used = omega arith in e)
-    ∙ ap (λ (xs : List ℕ). xs ++ replicate (1024 - (used + 1)) 1) (take-suc-set kept used y (omega arith))
+    ap (λ n. take n (set kept used y) ++ replicate (1024 - (used + 1)) 1) (let e : used + 1 ≡ suc used = omega arith in e)
+    ∙ ap (λ xs. xs ++ replicate (1024 - (used + 1)) 1) (take-suc-set kept used y (omega arith))
     ∙ M.append_assoc (take used kept) (y ∷ []) (replicate (1024 - (used + 1)) 1)
 
 pub kept_free : (used : ℕ) (kept : List ℕ) → length kept ≡ 1024 → used < 1024 → all_of (used + 1) (set kept used 1) ≡ all_of used kept
-kept_free used kept many lt = kept_more used 1 kept many lt ∙ ap (λ (xs : List ℕ). take used kept ++ xs) (sym (ones used lt))
+kept_free used kept many lt = kept_more used 1 kept many lt ∙ ap (λ xs. take used kept ++ xs) (sym (ones used lt))
 
 pub set_last : (used y : ℕ) (kept : List ℕ) → length kept ≡ 1024 → used < 1024 → all_of (used + 1) (set kept used y) ≡ set (all_of used kept) used y
 set_last used y kept many lt =
     let a = M.length-take used kept in let e : length (take used kept) ≡ used = omega arith in
     kept_more used y kept many lt
     ∙ sym (set-append_seam (take used kept) 1 (replicate (1024 - (used + 1)) 1) y)
-    ∙ ap (λ (n : ℕ). set (take used kept ++ 1 ∷ replicate (1024 - (used + 1)) 1) n y) e
-    ∙ ap (λ (xs : List ℕ). set (take used kept ++ xs) used y) (sym (ones used lt))
+    ∙ ap (λ n. set (take used kept ++ 1 ∷ replicate (1024 - (used + 1)) 1) n y) e
+    ∙ ap (λ xs. set (take used kept ++ xs) used y) (sym (ones used lt))
 
 pub set_kept : (used i y : ℕ) (kept : List ℕ) → length kept ≡ 1024 → used ≤ 1024 → i < used → all_of used (set kept i y) ≡ set (all_of used kept) i y
 set_kept used i y kept many few lt =
     let a = M.length-take used kept in
-    ap (λ (xs : List ℕ). xs ++ replicate (1024 - used) 1) (take-set-lt used kept i y lt)
+    ap (λ xs. xs ++ replicate (1024 - used) 1) (take-set-lt used kept i y lt)
     ∙ sym (M.set-append_left (take used kept) (replicate (1024 - used) 1) i y (omega arith))
 
 -- an entry is changed, where those up to it are kept, or none after it is
@@ -87,12 +87,12 @@ pub set_at : (used free entry y : ℕ) (kept : List ℕ) → length kept ≡ 102
 set_at used free entry y kept many low ends upto inside few = elim (cases_lt entry free) [
   | inl lt ↦ elim upto [
     | inl le ↦ absurd (omega arith)
-    | inr same ↦ ap (λ (n : ℕ). all_of n (set kept entry y)) (let e : max used (entry + 1) ≡ free = omega arith in e) ∙ set_kept free entry y kept many (omega arith) lt
+    | inr same ↦ ap (λ n. all_of n (set kept entry y)) (let e : max used (entry + 1) ≡ free = omega arith in e) ∙ set_kept free entry y kept many (omega arith) lt
   ]
   | inr ge ↦
       let e : free ≡ entry = omega arith in
-      ap (λ (n : ℕ). all_of n (set kept entry y)) (let m : max used (entry + 1) ≡ entry + 1 = omega arith in m)
-      ∙ set_last entry y kept many inside ∙ ap (λ (n : ℕ). set (all_of n kept) entry y) (sym e)
+      ap (λ n. all_of n (set kept entry y)) (let m : max used (entry + 1) ≡ entry + 1 = omega arith in m)
+      ∙ set_last entry y kept many inside ∙ ap (λ n. set (all_of n kept) entry y) (sym e)
 ]
 
 pub zeros_kept : AreKept 0 (replicate 1024 0)

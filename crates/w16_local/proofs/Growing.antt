@@ -32,8 +32,8 @@ segment_there heap slot bytes had = ap C.is_some (C.object_of heap slot bytes ha
 -- and has a handle
 handle_for : (handles : Handles) (slot : ℕ) (bytes : List ℕ) → bytes_at handles.heap slot ≡ Some bytes → (handle : ℕ) × (slot_of_handle handles handle ≡ Some slot)
 handle_for handles slot bytes had =
-    let o : (o : C.Object) × (C.object_at handles.heap slot ≡ Some o) × (o.bytes ≡ Some bytes) = C.object_of handles.heap slot bytes had in
-    (handle_of o.0.kind slot, (names_law handles (handle_of o.0.kind slot) slot).0.1 (subst (λ p. IsSomeAnd p (λ (p : C.Object). handle_of o.0.kind slot ≡ handle_of p.kind slot)) (sym o.1) refl))
+    let o = C.object_of handles.heap slot bytes had in
+    (handle_of o.0.kind slot, (names_law handles (handle_of o.0.kind slot) slot).0.1 (subst (λ p. IsSomeAnd p (λ p. handle_of o.0.kind slot ≡ handle_of p.kind slot)) (sym o.1) refl))
 
 -- a growth sets nothing to zero
 no_zeros : (options : RoomOptions) (handles : Handles) (handle size answer : ℕ) → zeroed_behind handles handle size (growth_flags options) answer ≡ 0

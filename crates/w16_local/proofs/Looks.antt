@@ -8,23 +8,23 @@ use Rattle.w16_model.specs.declared.Refusal.TheVariants as refusals
 
 -- a block lies in the table's range
 pub block_inside : (t : Table) → IsLocalTable t → (id : ℕ) (x : Block) → block_with t.blocks id ≡ Some x → (t.lo ≤ x.at) × (0 < x.size) × (C.block_end x ≤ t.hi)
-block_inside t is id x e = C.Each-at (λ (y : Block). (t.lo ≤ y.at) × (0 < y.size) × (C.block_end y ≤ t.hi)) t.blocks (C.laid_each t.lo t.hi t.blocks is.sound.table.laid) x (C.member_with t.blocks id x e).0
+block_inside t is id x e = C.Each-at (λ y. (t.lo ≤ y.at) × (0 < y.size) × (C.block_end y ≤ t.hi)) t.blocks (C.laid_each t.lo t.hi t.blocks is.sound.table.laid) x (C.member_with t.blocks id x e).0
 
 -- and its places are words
 pub block_small : (t : Table) → IsLocalTable t → (id : ℕ) (x : Block) → block_with t.blocks id ≡ Some x → (x.at < 65536) × (x.size < 65536)
 block_small t is id x e =
     let i = block_inside t is id x e in
     let some = i.1 in
-    let end : x.at + x.size ≤ t.hi = i.2 in
-    let low : 4 ≤ t.lo = is.low in
-    let high : t.hi ≤ 65536 = is.high in
+    let end = i.2 in
+    let low = is.low in
+    let high = is.high in
     let from = i.0 in
     (omega (arith, some, end, high), omega (arith, end, high, low, from))
 
 -- at multiples of 4
 block_by_four : (t : Table) → IsLocalTable t → (id : ℕ) (x : Block) → block_with t.blocks id ≡ Some x → (m : ℕ) × (x.at ≡ 4 * m)
 block_by_four t is id x e =
-    let g = (C.Each-at (λ (y : Block). C.IsMultiple t.grain y.at × C.IsMultiple t.grain y.size) t.blocks (C.Each-from_All _ t.blocks is.sound.grained) x (C.member_with t.blocks id x e).0).0 in
+    let g = (C.Each-at (λ y. C.IsMultiple t.grain y.at × C.IsMultiple t.grain y.size) t.blocks (C.Each-from_All _ t.blocks is.sound.grained) x (C.member_with t.blocks id x e).0).0 in
     (g.0, g.1 ∙ ap (λ k. k * g.0) is.grain)
 
 pub none_some : {x : ℕ} → ◌≡◌ {A = Option ℕ} None (Some x) → ⊥

@@ -14,11 +14,11 @@ named_placed heap is id at placed (Some n) e = e
 named_placed heap is id at placed None e = absurd (turn (object_at heap id) refl e)
   where
     by_kind : (b : Bool) (o : Object) → (if b then finmap.get heap.places id else Some (4 * id + 2)) ≡ None → ⊥
-    by_kind true o e = let both : Some at ≡ None = sym placed ∙ e in cc
+    by_kind true o e = let both = sym placed ∙ e in cc
     by_kind false o e = cc
 
     turn : (p : Option Object) → object_at heap id ≡ p → (elim p as (λ _. Option ℕ) [ None ↦ None | Some o ↦ C.name_of heap id o ]) ≡ None → ⊥
-    turn None there e = false≢true (sym (ap (λ (p : Option Object). is_some (elim p as (λ _. Option (List ℕ)) [ Some o ↦ o.bytes | None ↦ None ])) there) ∙ sym (is.at_bytes id) ∙ ap is_some placed)
+    turn None there e = false≢true (sym (ap (λ p. is_some (elim p as (λ _. Option (List ℕ)) [ Some o ↦ o.bytes | None ↦ None ])) there) ∙ sym (is.at_bytes id) ∙ ap is_some placed)
     turn (Some o) there e = by_kind (C.is_fixed o.kind) o e
 
 -- and is there

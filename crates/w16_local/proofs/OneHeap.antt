@@ -12,7 +12,7 @@ use Rattle.w16_arena.proofs.Fresh.{no_entry}
 pub kept_new : (range : Span) → 4 ≤ range.from → range.from < range.to → range.to ≤ 65536 → C.IsMultiple 4 range.from → LocalHeapInvariant (C.empty_table LOCAL_ENTRIES range.from range.to 4) (replicate 1024 1)
 kept_new range low some high grained = record {
   is_local = record { sound = sound LOCAL_ENTRIES range.from range.to 4 (omega arith) grained; grain = refl; entries = C.length-replicate {A = Option Entry} LOCAL_ENTRIES None; low = low; high = high };
-  free_entries = record { many = C.length-replicate {A = ℕ} 1024 1; says = λ q lt. get_or-replicate 1024 q 1 0 lt ∙ sym (ap (λ (e : Option Entry). bit (is_some e)) (no_entry LOCAL_ENTRIES q)) };
+  free_entries = record { many = C.length-replicate {A = ℕ} 1024 1; says = λ q lt. get_or-replicate 1024 q 1 0 lt ∙ sym (ap (λ e. bit (is_some e)) (no_entry LOCAL_ENTRIES q)) };
 }
 
 -- Free entries.

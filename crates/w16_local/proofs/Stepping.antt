@@ -136,8 +136,8 @@ unlock_calls {handles} {tables} {ds} {name} {slot} {t} {id} n locks is {X} r new
     link : (r : Result X Refusal) → after_unlock (heap_in t n.heap.bytes) id ≡ outcome r (heap_in s.after n.heap.bytes) → answer_of r (if nat_lt 1 locks then 1 else 0) (λ _. 0) ≡ answer_of r (locks_left id (heap_in s.after n.heap.bytes)) (λ _. 0)
     link (Err e) so = refl
     link (Ok done) so =
-        let before : Heap = heap_in t n.heap.bytes in
-        let after : Heap = heap_in s.after n.heap.bytes in
+        let before = heap_in t n.heap.bytes in
+        let after = heap_in s.after n.heap.bytes in
         ap (λ b. if b then 1 else 0) (ap (nat_lt 1) (sym is) ∙ sym (more_than_one (locks_at before id)) ∙ ap (nat_lt 0) (sym (unlocked before after id so)))
 
 pub unlock_none : (handles : Handles) (tables : FinMap nat_cmp Table) (ds name : ℕ) → object_named (alone handles tables ds) name ≡ None → Calls handles tables ds (C.LocalUnlock name) 0 handles tables

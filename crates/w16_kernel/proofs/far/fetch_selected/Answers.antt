@@ -9,15 +9,15 @@ fetch_owned-requires-clause-lacks g c =
     let named = c.offset_in-handle.ensures ∙ ap offset_in c.global_handle.ensures in
     rw (← c.loading.view_is) (lacking (rw (← c.loading.view_is) at c.requires.loading) (rw (← c.loading.view_is) at c.requires.absent) c.ranges.selector.fits named owned)
 
-pub returns-in-Ok : goal.returns-in-Ok
-returns-in-Ok g c =
+pub returns-in-Ok-clause-fetches : goal.returns-in-Ok-clause-fetches
+returns-in-Ok-clause-fetches g c =
     let owned : is_owned c.loading.inside.global.handles (c.offset_in-handle.result / 8) ≡ true = search rules in
     let named = c.offset_in-handle.ensures ∙ ap offset_in c.global_handle.ensures in
     rw (← c.loading.view_is) (refetched (rw (← c.loading.view_is) at c.requires.loading) (rw (← c.loading.view_is) at c.requires.absent) c.ranges.selector.fits named owned
     (rw (← c.loading.view_is) at c.in-Ok.ensures.fetch))
 
-pub returns-in-Err : goal.returns-in-Err
-returns-in-Err g c =
+pub returns-in-Err-clause-fetches : goal.returns-in-Err-clause-fetches
+returns-in-Err-clause-fetches g c =
     let owned : is_owned c.loading.inside.global.handles (c.offset_in-handle.result / 8) ≡ true = search rules in
     let named = c.offset_in-handle.ensures ∙ ap offset_in c.global_handle.ensures in
     rw (← c.loading.view_is) (unfetched (rw (← c.loading.view_is) at c.requires.loading) (rw (← c.loading.view_is) at c.requires.absent) c.ranges.selector.fits named owned

@@ -1,22 +1,5 @@
--- An access is made once, or is ended by what it met, or is made again after a fetch.
-use Rattle.w16_kernel.proofs.Common.{refl, length, Read}
-use Rattle.w16_kernel.proofs.Absent.{met_absent}
-use Rattle.w16_kernel.proofs.FarSteps.{answered, ended_by, remade_by}
+use Rattle.w16_kernel.proofs.Lent.{read_back}
 use Rattle.w16_kernel.proofs.far.read.Goals as goal
 
-pub fetch_absent-requires-clause-absent : goal.fetch_absent-requires-clause-absent
-fetch_absent-requires-clause-absent g c = rw c.selector_in.ensures (met_absent _ _ c.in-Err.ensures.kept (Read c.args.pointer (length c.args.room.now)) _ c.in-Err.ensures.err)
-
-pub returns-in-Err-fetch_absent-clause-step : goal.returns-in-Err-fetch_absent-clause-step
-returns-in-Err-fetch_absent-clause-step g c = ended_by _ _ _ c.parts.view_is c.requires _ _ c.in-Err.ensures.kept _ c.in-Err.ensures.err _ c.selector_in.ensures _ _ c.in-Err-fetch_absent.ensures
-
-pub returns-in-Ok-clause-step : goal.returns-in-Ok-clause-step
-returns-in-Ok-clause-step g c = rw c.sweep_all.ensures
-    (remade_by _ _ _ c.parts.view_is c.requires _ _ c.in-Err.ensures.kept _ c.in-Err.ensures.err _ c.selector_in.ensures _ c.in_default-fetch_absent.ensures _ _ c.read_once-again.ensures.rest (rw c.read_once.ensures.length at c.in-Ok.ensures.ok))
-
-pub returns-in-Err-again-clause-step : goal.returns-in-Err-again-clause-step
-returns-in-Err-again-clause-step g c = rw c.sweep_all.ensures
-    (remade_by _ _ _ c.parts.view_is c.requires _ _ c.in-Err.ensures.kept _ c.in-Err.ensures.err _ c.selector_in.ensures _ c.in_default-fetch_absent.ensures _ _ c.read_once-again.ensures.rest (rw c.read_once.ensures.length at c.in-Err-again.ensures.err))
-
 pub returns-clause-step : goal.returns-clause-step
-returns-clause-step g c = answered _ _ _ c.parts.view_is c.requires _ _ refl _ c.read_once.ensures.rest c.in_default.ensures.ok
+returns-clause-step g c = read_back _ _ c.args.pointer _ c.parts.view_is c.in-Ok.place _ c.copy_found.ensures c.in-Ok.ensures.found.0.step

@@ -1,4 +1,4 @@
-use Rattle.w16_kernel.proofs.Common.{on_any, refl}
+use Rattle.w16_kernel.proofs.Common.{on_any}
 use Rattle.w16_kernel.proofs.step.local_reply.Goals as goal
 
 pub returns-in_ok-local_init-in-LocalInit-clause-step : goal.returns-in_ok-local_init-in-LocalInit-clause-step

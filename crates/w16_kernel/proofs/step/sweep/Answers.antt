@@ -1,4 +1,4 @@
-use Rattle.w16_kernel.proofs.Common.{◌≤◌, ◌∙◌, OthersStay, World, ap, has_range, refl, subst, surviving_heaps}
+use Rattle.w16_kernel.proofs.Common.{◌≤◌, ◌∙◌, OthersStay, ap, has_range, refl, subst, surviving_heaps}
 use Rattle.w16_kernel.proofs.Spared.{swept_slot}
 use Rattle.w16_kernel.proofs.step.sweep.Goals as goal
 

@@ -23,10 +23,10 @@ pub returns-clause-acted : goal.returns-clause-acted
 returns-clause-acted g c =
     let shown = here _ c.self.inside.heaps.items c.self.view_is c.args.slot (ap is_some c.requires.was) _ c.in-Some.heap (sym (c.take.ensures.value ∙ c.index_mut.ensures.value) ∙ c.in-Some.is) in
     acted_in c.as_mut.result.now c.with_bytes-answer.new.state (shown ∙ ap Some (sym c.as_mut.ensures.value)) (subst IsLocalTable c.deref.ensures c.reveal_local.ensures)
-    c.with_bytes-answer.ensures.0 c.with_bytes-answer.new.self.handles (ap (λ (g : Global). g.handles) c.with_bytes-answer.ensures.1) _
+    c.with_bytes-answer.ensures.0 c.with_bytes-answer.new.self.handles (ap (λ g. g.handles) c.with_bytes-answer.ensures.1) _
     (tables_stepped _ c.self.inside.heaps.items c.self.view_is c.args.slot (ap is_some c.requires.was) _ c.in-Some.heap (sym (c.take.ensures.value ∙ c.index_mut.ensures.value) ∙ c.in-Some.is) _ c.take.new.self)
 
 pub returns-clause-lent : goal.returns-clause-lent
 returns-clause-lent g c =
     let lent = c.with_bytes-answer.ensures.0 in
-    subst (λ b. IsSomeAnd b (λ (bytes : List ℕ). c.with_bytes-answer.new.self.written ≡ counted c.args.global.now.written (length bytes))) (sym lent.had) (ap (λ (g : Global). g.written) c.with_bytes-answer.ensures.1)
+    subst (λ b. IsSomeAnd b (λ bytes. c.with_bytes-answer.new.self.written ≡ counted c.args.global.now.written (length bytes))) (sym lent.had) (ap (λ g. g.written) c.with_bytes-answer.ensures.1)

@@ -5,7 +5,7 @@ pub unreachable-requires : goal.unreachable-requires
 unreachable-requires g c = false≢true (sym (ap is_some c.in_default.ensures.none) ∙ c.requires)
 
 pub returns-clause-found : goal.returns-clause-found
-returns-clause-found g c = subst (λ (m : Option Table). IfSome c.lowest_free.result (λ id. IsSomeAnd m (λ t. IsLowest t id))) (sym c.in-Some.ensures.some) c.lowest_free.ensures.found
+returns-clause-found g c = subst (λ m. IfSome c.lowest_free.result (λ id. IsSomeAnd m (λ t. IsLowest t id))) (sym c.in-Some.ensures.some) c.lowest_free.ensures.found
 
 pub returns-clause-none : goal.returns-clause-none
-returns-clause-none g c = subst (λ (m : Option Table). IfNone c.lowest_free.result (IsSomeAnd m IsFull)) (sym c.in-Some.ensures.some) c.lowest_free.ensures.none
+returns-clause-none g c = subst (λ m. IfNone c.lowest_free.result (IsSomeAnd m IsFull)) (sym c.in-Some.ensures.some) c.lowest_free.ensures.none

@@ -11,4 +11,4 @@ returns g c =
     lock_calls n _ (c.place_of-pointer.ensures n.heap.bytes n.heap.over) c.step-done.result c.step-done.new.self c.step-done.ensures.stepped c.step-done.ensures.refused _ c.lock_answer.ensures
 
 pub step-done-requires : goal.step-done-requires
-step-done-requires g c = let n = c.in-Some.ensures.some in subst (λ (m : Option Table). IsSomeAnd m (MayStep Lock c.in-Some.field-0.id)) (sym n.heap.kept) tt
+step-done-requires g c = let n = c.in-Some.ensures.some in subst (λ m. IsSomeAnd m (MayStep Lock c.in-Some.field-0.id)) (sym n.heap.kept) tt

@@ -9,19 +9,19 @@ pub returns-in_default-clause-step : goal.returns-in_default-clause-step
 returns-in_default-clause-step g c = realloc_none c.args.global.now.handles c.args.self.now c.args.ds c.args.name c.args.size c.args.flags.0 c.in_default.ensures.none
 
 pub step-requires : goal.step-requires
-step-requires g c = let n = c.in-Some.ensures.some in subst (λ (m : Option Table). IsSomeAnd m (MayStep (Modify c.moveable_or_discardable.result) c.in-Some.field-0.id)) (sym n.heap.kept) tt
+step-requires g c = let n = c.in-Some.ensures.some in subst (λ m. IsSomeAnd m (MayStep (Modify c.moveable_or_discardable.result) c.in-Some.field-0.id)) (sym n.heap.kept) tt
 
 pub returns-then-intersects-clause-step : goal.returns-then-intersects-clause-step
 returns-then-intersects-clause-step g c =
     modify_calls c.in-Some.ensures.some c.args.size c.args.flags.0 (sym (c.intersects.ensures tt) ∙ c.if-intersects.true) c.step.result c.step.new.self
-    (subst (λ (k : Kind). Stepped c.args.self.now c.in-Some.field-0.slot (λ a b. after_modify a c.in-Some.field-0.id k ≡ outcome c.step.result b) c.step.new.self) c.moveable_or_discardable.ensures c.step.ensures.stepped) c.step.ensures.refused
+    (subst (λ k. Stepped c.args.self.now c.in-Some.field-0.slot (λ a b. after_modify a c.in-Some.field-0.id k ≡ outcome c.step.result b) c.step.new.self) c.moveable_or_discardable.ensures c.step.ensures.stepped) c.step.ensures.refused
 
 pub serve-requires : goal.serve-requires
 serve-requires g c = let n = c.in-Some.ensures.some in may_in n.heap (Realloc c.in-Some.field-0.id c.rounded_up.result c.local_options.result) (named_there n, rounded_size c.args.size c.rounded_up.result c.rounded_up.ensures c.if-size-gt0.true)
 
 pub returns-then-size-gt0-clause-step : goal.returns-then-size-gt0-clause-step
 returns-then-size-gt0-clause-step g c = resize_calls c.in-Some.ensures.some c.args.size c.args.flags.0 (sym (c.intersects.ensures tt) ∙ c.if-intersects.false) c.serve.result c.serve.new.global.handles c.serve.new.self c.if-size-gt0.true
-    (subst (λ (r : Request). InSlot c.args.global.now.handles c.args.self.now c.in-Some.field-0.slot c.serve.new.global.handles c.serve.new.self (λ old at left. Served r old at c.serve.result left))
+    (subst (λ r. InSlot c.args.global.now.handles c.args.self.now c.in-Some.field-0.slot c.serve.new.global.handles c.serve.new.self (λ old at left. Served r old at c.serve.result left))
     (λ i. record { id = c.in-Some.field-0.id; size = c.rounded_up.ensures i; kind = None; options = c.local_options.ensures i }) c.serve.ensures.served)
 
 pub returns-then-not-intersects-clause-step : goal.returns-then-not-intersects-clause-step
@@ -60,7 +60,7 @@ pub returns-then-size-gt0-clause-written : goal.returns-then-size-gt0-clause-wri
 returns-then-size-gt0-clause-written g c =
     let n = c.in-Some.ensures.some in
     served_in n.heap c.serve.new.global c.args.flags.0 c.args.size (λ at id. id_named (heap_of at) c.args.name ≡ Some id) None c.in-Some.field-0.id n.has c.if-size-gt0.true
-    (subst (λ (r : Request). InSlot c.args.global.now.handles c.args.self.now c.in-Some.field-0.slot c.serve.new.global.handles c.serve.new.self (λ old at left. WritesServed r old at c.args.global.now.written left.loading.handles c.serve.new.global.written))
+    (subst (λ r. InSlot c.args.global.now.handles c.args.self.now c.in-Some.field-0.slot c.serve.new.global.handles c.serve.new.self (λ old at left. WritesServed r old at c.args.global.now.written left.loading.handles c.serve.new.global.written))
     (λ i. record { id = c.in-Some.field-0.id; size = c.rounded_up.ensures i; kind = None; options = c.local_options.ensures i }) c.serve.ensures.written)
 
 pub returns-clause-written : goal.returns-clause-written

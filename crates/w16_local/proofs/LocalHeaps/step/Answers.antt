@@ -14,7 +14,7 @@ unreachable-requires g c = not_none _ c.self.inside.heaps.items c.self.view_is c
 pub step-done-requires : goal.step-done-requires
 step-done-requires g c =
     let known = known_in (finmap.get c.args.self.now c.args.slot) (MayStep c.args.step c.args.id) c.requires in
-    subst (λ (t : Table). MayStep c.args.step c.args.id t) (sym c.deref_mut.ensures.value)
+    subst (λ t. MayStep c.args.step c.args.id t) (sym c.deref_mut.ensures.value)
     (holds_in (MayStep c.args.step c.args.id) (here _ c.self.inside.heaps.items c.self.view_is c.args.slot known _ c.in-Some.heap (sym (c.take.ensures.value ∙ c.index_mut.ensures.value) ∙ c.in-Some.is)) c.requires)
 
 pub index_mut-requires-2 : goal.index_mut-requires-2
@@ -30,10 +30,10 @@ returns-clause-stepped g c =
     let known = known_in (finmap.get c.args.self.now c.args.slot) (MayStep c.args.step c.args.id) c.requires in
     stepped _ c.self.inside.heaps.items c.self.view_is c.args.slot known _ c.in-Some.heap (sym (c.take.ensures.value ∙ c.index_mut.ensures.value) ∙ c.in-Some.is) _ c.take.new.self
     (subst IsLocalTable c.deref.ensures c.reveal_local.ensures)
-    (subst (λ (t : Table). Turns t c.step-done.new.self (λ old new. after_step c.args.step old c.args.id ≡ outcome c.step-done.result new)) c.deref_mut.ensures.value c.step-done.ensures.turns)
+    (subst (λ t. Turns t c.step-done.new.self (λ old new. after_step c.args.step old c.args.id ≡ outcome c.step-done.result new)) c.deref_mut.ensures.value c.step-done.ensures.turns)
 
 pub returns-clause-refused : goal.returns-clause-refused
 returns-clause-refused g c =
     let known = known_in (finmap.get c.args.self.now c.args.slot) (MayStep c.args.step c.args.id) c.requires in
     same_tables _ c.self.inside.heaps.items c.self.view_is c.args.slot known _ c.in-Some.heap (sym (c.take.ensures.value ∙ c.index_mut.ensures.value) ∙ c.in-Some.is) _ c.take.new.self c.step-done.result
-    (subst (λ (t : Table). OnErr c.step-done.result (c.step-done.new.self ≡ t)) c.deref_mut.ensures.value c.step-done.ensures.refused)
+    (subst (λ t. OnErr c.step-done.result (c.step-done.new.self ≡ t)) c.deref_mut.ensures.value c.step-done.ensures.refused)

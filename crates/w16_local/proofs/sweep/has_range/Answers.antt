@@ -18,6 +18,6 @@ returns-in_default-size_in g c =
 
 pub returns : goal.returns
 returns g c =
-    ap (λ n. nat_le n c.in-Some-size_in.size) (ap (λ (s : Span). s.to) c.bounds.ensures ∙ ap (λ (t : Table). t.hi) (c.arena.ensures ∙ c.as_ref-2.ensures))
+    ap (λ n. nat_le n c.in-Some-size_in.size) (ap (λ s. s.to) c.bounds.ensures ∙ ap (λ t. t.hi) (c.arena.ensures ∙ c.as_ref-2.ensures))
     ∙ range_told c.args.global.now.handles.heap _ c.args.slot c.in-Some.held.now.value
     (is_there _ c.args.heaps.now refl c.args.slot c.if-slot-heaps.false c.index-heaps-slot.result (Some c.in-Some.held.now) (sym (ap option_copied c.in-Some.is) ∙ c.as_ref.ensures.value ∙ c.index-heaps-slot.is)) (Some c.in-Some-size_in.size) (sym c.in-Some-size_in.is ∙ c.size_in.ensures)

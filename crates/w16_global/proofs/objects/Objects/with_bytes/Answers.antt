@@ -1,22 +1,15 @@
-use Rattle.std.proofs.Common.{refl, sym, ◌∙◌}
-use Rattle.w16_global.proofs.Lent.{no_bytes, inside, may, lent_as, lent_parts}
+use Rattle.std.proofs.Common.{sym, ◌∙◌}
+use Rattle.w16_global.proofs.Lent.{has_whole, lent_as, may, no_bytes}
 use Rattle.w16_global.proofs.objects.Objects.with_bytes.Goals as goal
 
 pub unreachable-requires : goal.unreachable-requires
-unreachable-requires g c = no_bytes c.self.invariant c.self.view_is c.args.id (λ bytes. g.W.Work.may c.args.work.now c.args.state.now bytes) c.requires (sym c.block.ensures.value ∙ c.in_default.is)
+unreachable-requires g c = no_bytes (λ bytes. g.W.Work.may c.args.work.now c.args.state.now bytes) _ c.requires (sym c.size.ensures ∙ c.in_default.is)
 
-pub view_mut-requires : goal.view_mut-requires
-view_mut-requires g c = inside c.self.invariant c.self.view_is c.args.id c.in-Some.block (sym c.block.ensures.value ∙ c.in-Some.is)
+pub lend-requires : goal.lend-requires
+lend-requires g c = has_whole c.args.self.now c.args.id _ (sym c.in-Some.is ∙ c.size.ensures)
 
-pub work_over-answer-requires-clause-may : goal.work_over-answer-requires-clause-may
-work_over-answer-requires-clause-may g c =
-    may c.self.invariant c.self.view_is c.args.id c.in-Some.block (sym c.block.ensures.value ∙ c.in-Some.is) (λ bytes. g.W.Work.may c.args.work.now c.args.state.now bytes) c.requires c.view_mut.result.now c.view_mut.ensures.value
-
-pub invariant_of-self : goal.invariant_of-self
-invariant_of-self g c =
-    lent_parts c.self.invariant c.self.view_is c.args.id c.in-Some.block (sym c.block.ensures.value ∙ c.in-Some.is) c.self.inside.memory.bytes refl c.work_over-answer.new.bytes c.view_mut.result.now c.view_mut.ensures.value c.work_over-answer.ensures.long c.reveal_bytes.ensures
+pub work_over-requires-clause-may : goal.work_over-requires-clause-may
+work_over-requires-clause-may g c = may c.args.self.now c.args.id _ (sym c.in-Some.is ∙ c.size.ensures) c.lend.ensures.value (λ bytes. g.W.Work.may c.args.work.now c.args.state.now bytes) c.requires
 
 pub returns : goal.returns
-returns g c =
-    lent_as c.self.invariant c.self.view_is c.args.id c.in-Some.block (sym c.block.ensures.value ∙ c.in-Some.is) c.self.inside.memory.bytes refl c.work_over-answer.new.bytes c.view_mut.result.now c.view_mut.ensures.value c.work_over-answer.ensures.long c.reveal_bytes.ensures
-    _ c.work_over-answer.ensures.done
+returns g c = lent_as c.args.self.now c.args.id _ (sym c.in-Some.is ∙ c.size.ensures) c.lend.ensures.value _ c.work_over.ensures.long c.work_over.ensures.bytes c.work_over.ensures.done

@@ -17,7 +17,7 @@ loop-free-preserved g c =
       low = let low = c.loop-free.invariant.low in omega arith;
       upto = inl (omega arith);
       same = ap (all_of (c.loop-free.free + 1)) c.set.ensures ∙ kept_free c.loop-free.free c.loop-free.self-inside.kept many (omega arith) ∙ c.loop-free.invariant.same;
-      rest = λ k le. ap (λ (xs : List ℕ). slice_index xs k) c.set.ensures ∙ get_or-set_other c.loop-free.self-inside.kept c.loop-free.free k 1 0 (omega arith) ∙ c.loop-free.invariant.rest k (omega arith);
+      rest = λ k le. ap (λ xs. slice_index xs k) c.set.ensures ∙ get_or-set_other c.loop-free.self-inside.kept c.loop-free.free k 1 0 (omega arith) ∙ c.loop-free.invariant.rest k (omega arith);
     }
 
 pub invariant_of-self : goal.invariant_of-self
@@ -26,7 +26,7 @@ invariant_of-self g c =
     let n = all_length c.self.invariant in let f = ap length c.self.view_is in let r = c.requires in let few = c.self.invariant.few in record {
       many = ap length c.set-2.ensures ∙ length-set c.loop-free.self-inside.kept c.args.entry c.args.value ∙ many;
       few = omega arith;
-      rest = λ k le. ap (λ (xs : List ℕ). slice_index xs k) c.set-2.ensures ∙ get_or-set_other c.loop-free.self-inside.kept c.args.entry k c.args.value 0 (omega arith) ∙ c.loop-free.invariant.rest k (elim c.loop-free.invariant.upto [ inl low ↦ omega arith | inr same ↦ omega arith ]);
+      rest = λ k le. ap (λ xs. slice_index xs k) c.set-2.ensures ∙ get_or-set_other c.loop-free.self-inside.kept c.args.entry k c.args.value 0 (omega arith) ∙ c.loop-free.invariant.rest k (elim c.loop-free.invariant.upto [ inl low ↦ omega arith | inr same ↦ omega arith ]);
     }
 
 pub returns : goal.returns
@@ -34,4 +34,4 @@ returns g c =
     let many = c.loop-free.invariant.many in let low = c.loop-free.invariant.low in let ends = c.loop-free-test.false in let used = c.loop-free.invariant.used in let most = c.max-self-inside.ensures in
     let n = all_length c.self.invariant in let f = ap length c.self.view_is in let r = c.requires in let few = c.self.invariant.few in
     rw (← c.self.view_is, c.set-2.ensures, most, used) (set_at c.self.inside.used c.loop-free.free c.args.entry c.args.value c.loop-free.self-inside.kept many low (omega arith) c.loop-free.invariant.upto (omega arith) few
-    ∙ ap (λ (xs : List ℕ). set xs c.args.entry c.args.value) c.loop-free.invariant.same)
+    ∙ ap (λ xs. set xs c.args.entry c.args.value) c.loop-free.invariant.same)

@@ -24,5 +24,5 @@ returns-clause-acted g c =
 
 pub returns-clause-written : goal.returns-clause-written
 returns-clause-written g c =
-    let next : Heap = heap_in c.compact.new.self.table (g.S.Space.bytes c.compact.new.space) in
-    c.compact.ensures.written ∙ ap (counted (g.S.Space.written c.args.space.now)) (c.compact.ensures.slid.moved ∙ ap (λ (t : Table). moved_bytes (heap_in t (g.S.Space.bytes c.args.space.now)) next) c.self.view_is)
+    let next = heap_in c.compact.new.self.table (g.S.Space.bytes c.compact.new.space) in
+    c.compact.ensures.written ∙ ap (counted (g.S.Space.written c.args.space.now)) (c.compact.ensures.slid.moved ∙ ap (λ t. moved_bytes (heap_in t (g.S.Space.bytes c.args.space.now)) next) c.self.view_is)

@@ -13,7 +13,7 @@ unreachable-requires g c =
 pub invariant_of-self : goal.invariant_of-self
 invariant_of-self g c =
     let may = may_shown c.self.view_is (g.S.Space.bytes c.args.space.now) (Free c.args.id) c.requires in
-    subst (λ (free : List ℕ). LocalHeapInvariant c.free.new.self.table free) (sym c.set.ensures) (free_kept c.self.invariant (g.S.Space.bytes c.args.space.now) may.0 c.in-Ok.ensures.ok.range c.args.id may.1.0 (c.in-Ok.ensures.ok.heaps (g.S.Space.bytes c.args.space.now) may.0))
+    subst (λ free. LocalHeapInvariant c.free.new.self.table free) (sym c.set.ensures) (free_kept c.self.invariant (g.S.Space.bytes c.args.space.now) may.0 c.in-Ok.ensures.ok.range c.args.id may.1.0 (c.in-Ok.ensures.ok.heaps (g.S.Space.bytes c.args.space.now) may.0))
 
 pub returns-clause-acted : goal.returns-clause-acted
 returns-clause-acted g c =

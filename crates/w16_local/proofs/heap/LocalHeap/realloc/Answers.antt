@@ -14,7 +14,7 @@ pub name_at-requires : goal.name_at-requires
 name_at-requires g c = is_local c.self.invariant c.realloc-placed.ensures.rest.range
 
 pub invariant_of-self : goal.invariant_of-self
-invariant_of-self g c = let same = on_err c.realloc-placed.result _ (sym c.is_err.ensures.value ∙ c.if-is_err.true) c.realloc-placed.ensures.refused in subst (λ (s : ArenaState). C.LocalHeapInvariant s.table c.self.inside.free) (sym same.0) c.self.invariant
+invariant_of-self g c = let same = on_err c.realloc-placed.result _ (sym c.is_err.ensures.value ∙ c.if-is_err.true) c.realloc-placed.ensures.refused in subst (λ s. C.LocalHeapInvariant s.table c.self.inside.free) (sym same.0) c.self.invariant
 
 pub returns-then-is_err-clause-acted : goal.returns-then-is_err-clause-acted
 returns-then-is_err-clause-acted g c =
@@ -22,12 +22,12 @@ returns-then-is_err-clause-acted g c =
     let same = on_err c.realloc-placed.result _ is c.realloc-placed.ensures.refused in
     let rest = c.realloc-placed.ensures.rest in
     M.realloc_idle c.self.view_is (g.S.Space.bytes c.args.space.now) c.realloc-placed.new.self.table (g.S.Space.bytes c.realloc-placed.new.space) rest.range rest.memory.bytes.outside
-    c.realloc-placed.result is (ap (λ (s : ArenaState). s.table) same.0) (ap g.S.Space.bytes same.1) c.args.id c.args.size c.args.options c.realloc-placed.ensures.reallocated
+    c.realloc-placed.result is (ap (λ s. s.table) same.0) (ap g.S.Space.bytes same.1) c.args.id c.args.size c.args.options c.realloc-placed.ensures.reallocated
 
 pub returns-clause-acted : goal.returns-clause-acted
 returns-clause-acted g c =
-    let bytes : List ℕ = g.S.Space.bytes c.args.space.now in
-    let after : List ℕ = g.S.Space.bytes c.realloc-placed.new.space in
+    let bytes = g.S.Space.bytes c.args.space.now in
+    let after = g.S.Space.bytes c.realloc-placed.new.space in
     let may = may_shown c.self.view_is bytes (Realloc c.args.id c.args.size c.args.options) c.requires in
     let is = sym c.is_err.ensures.value ∙ c.if-is_err.false in
     let rest = c.realloc-placed.ensures.rest in
@@ -46,13 +46,13 @@ invariant_of-self-2 g c =
 pub returns-then-is_err-clause-written : goal.returns-then-is_err-clause-written
 returns-then-is_err-clause-written g c =
     let same = on_err c.realloc-placed.result _ (sym c.is_err.ensures.value ∙ c.if-is_err.true) c.realloc-placed.ensures.refused in
-    let bytes : List ℕ = g.S.Space.bytes c.args.space.now in
-    inl (ap (λ (s : ArenaState). heap_in s.table (g.S.Space.bytes c.realloc-placed.new.space)) same.0 ∙ ap (heap_in c.self.inside.arena.table) (ap g.S.Space.bytes same.1) ∙ ap (λ (t : Table). heap_in t bytes) c.self.view_is, ap g.S.Space.written same.1)
+    let bytes = g.S.Space.bytes c.args.space.now in
+    inl (ap (λ s. heap_in s.table (g.S.Space.bytes c.realloc-placed.new.space)) same.0 ∙ ap (heap_in c.self.inside.arena.table) (ap g.S.Space.bytes same.1) ∙ ap (λ t. heap_in t bytes) c.self.view_is, ap g.S.Space.written same.1)
 
 pub returns-clause-written : goal.returns-clause-written
 returns-clause-written g c =
-    let bytes : List ℕ = g.S.Space.bytes c.args.space.now in
-    let next : Heap = heap_in c.realloc-placed.new.self.table (g.S.Space.bytes c.realloc-placed.new.space) in
-    let before : ℕ = g.S.Space.written c.args.space.now in
+    let bytes = g.S.Space.bytes c.args.space.now in
+    let next = heap_in c.realloc-placed.new.self.table (g.S.Space.bytes c.realloc-placed.new.space) in
+    let before = g.S.Space.written c.args.space.now in
     inr (M.writes_ok c.realloc-placed.result (heap_in c.self.inside.arena.table bytes) next c.args.id c.args.size before (g.S.Space.written c.realloc-placed.new.space) _ (sym c.is_err.ensures.value ∙ c.if-is_err.false) c.realloc-placed.ensures.placed c.realloc-placed.ensures.written
-    ∙ ap (λ (t : Table). C.counted (C.counted before (C.moved_bytes (heap_in t bytes) next)) (if c.args.options.zero then c.args.size - C.unwrap_or (C.option_map C.length (C.bytes_at (heap_in t bytes) c.args.id)) 0 else 0)) c.self.view_is)
+    ∙ ap (λ t. C.counted (C.counted before (C.moved_bytes (heap_in t bytes) next)) (if c.args.options.zero then c.args.size - C.unwrap_or (C.option_map C.length (C.bytes_at (heap_in t bytes) c.args.id)) 0 else 0)) c.self.view_is)
